@@ -1,0 +1,151 @@
+//! Dimensions, their attributes and the types of slowly changing attributes.
+
+ghost use Rattle.std.specs.Prelude.{◌≡◌, ◌++◌, ◌∷◌, [], map, IfOk, OnOk, OnErr};
+ghost use Rattle.wh_policy.specs.Types.{is_tracked, is_profile, is_outrigger, type_number, kinds_of};
+
+use std::alloc::{AllocError, Global};
+use std::marker::Model;
+use wh_day::Value;
+
+/// A dimension that has members.
+#[derive(Clone, Copy, Debug, PartialEq, Eq)]
+pub enum Dim {
+    Product,
+    Store,
+    Customer,
+}
+
+/// How an attribute follows its changes: the types 0 to 7 of Kimball's chapter 5, in their order.
+#[derive(Clone, Copy, Debug, PartialEq, Eq)]
+pub enum AttributeType {
+    /// Type 0: the first value that was given stays.
+    RetainOriginal,
+    /// Type 1: every row shows the newest value.
+    Overwrite,
+    /// Type 2: a change begins a row.
+    NewRow,
+    /// Type 3: every row shows the newest value, and the one before it in a second column.
+    NewAttribute,
+    /// Type 4: a part of the customer's profile, which stands in a table of its own.
+    MiniDimension,
+    /// Type 5: as type 4, and each row of the customer names the newest profile.
+    MiniDimensionOutrigger,
+    /// Type 6: as type 2, with the newest value in a second column of every row.
+    NewRowAndOverwrite,
+    /// Type 7: as type 2; the newest value is found through the durable key.
+    DualKeys,
+}
+
+impl AttributeType {
+    /// Its number, 0 to 7.
+    pub fn number(self) -> u8
+        ensures { result ≡ type_number self }
+    {
+        match self {
+            AttributeType::RetainOriginal => 0,
+            AttributeType::Overwrite => 1,
+            AttributeType::NewRow => 2,
+            AttributeType::NewAttribute => 3,
+            AttributeType::MiniDimension => 4,
+            AttributeType::MiniDimensionOutrigger => 5,
+            AttributeType::NewRowAndOverwrite => 6,
+            AttributeType::DualKeys => 7,
+        }
+    }
+
+    /// Whether a change of the attribute begins a row: types 2, 6 and 7.
+    pub fn is_tracked(self) -> bool
+        ensures { result ≡ is_tracked self }
+    {
+        match self {
+            AttributeType::NewRow | AttributeType::NewRowAndOverwrite | AttributeType::DualKeys => {
+                true
+            }
+            _ => false,
+        }
+    }
+
+    /// Whether the attribute is a part of the profile: types 4 and 5.
+    pub fn is_profile(self) -> bool
+        ensures { result ≡ is_profile self }
+    {
+        match self {
+            AttributeType::MiniDimension | AttributeType::MiniDimensionOutrigger => true,
+            _ => false,
+        }
+    }
+
+    /// Whether the rows of the dimension name the newest profile for it: type 5.
+    pub fn is_outrigger(self) -> bool
+        ensures { result ≡ is_outrigger self }
+    {
+        match self {
+            AttributeType::MiniDimensionOutrigger => true,
+            _ => false,
+        }
+    }
+}
+
+/// An attribute of a dimension.
+#[derive(Debug, Drop)]
+pub struct Attribute {
+    pub name: Value,
+    pub kind: AttributeType,
+}
+
+/// The attributes of a dimension by slot, from the first. A contract sees the list.
+#[derive(Debug, Drop)]
+pub struct Attributes {
+    list: Vec<Attribute>,
+}
+
+impl Model for Attributes {
+    ghost use Rattle.std.specs.Prelude.{List};
+    ghost use Rattle.wh_policy.specs.declared.attribute.Attribute.{Attribute};
+
+    ghost Value = { List Attribute };
+
+    ghost view = { λ a. a.list.items };
+}
+
+impl Attributes {
+    pub fn new(alloc: Global) -> Attributes
+        ensures { result ≡ [] }
+    {
+        Attributes {
+            list: Vec::new(alloc),
+        }
+    }
+
+    /// The attributes in the order of their slots.
+    pub fn as_slice(&self) -> &[Attribute]
+        ensures { result.now ≡ self.now }
+    {
+        self.list.as_slice()
+    }
+
+    /// Adds the attribute of the next slot. After an `Err` the attributes are those before.
+    pub fn push(&mut self, attribute: Attribute) -> Result<(), AllocError>
+        ensures ok { OnOk result (self.new ≡ self.old ++ attribute ∷ []) }
+        ensures err { OnErr result (self.new ≡ self.old) }
+    {
+        self.list.push(attribute)?;
+        Ok(())
+    }
+
+    /// The types by slot.
+    pub fn types(&self, alloc: Global) -> Result<Vec<AttributeType>, AllocError>
+        ensures { IfOk result (λ types. types.items ≡ kinds_of self.now) }
+    {
+        kinds(alloc, self.as_slice())
+    }
+}
+
+fn kinds(alloc: Global, attributes: &[Attribute]) -> Result<Vec<AttributeType>, AllocError>
+    ensures { IfOk result (λ types. types.items ≡ kinds_of attributes.now) }
+{
+    attributes
+        .iter()
+        .map(|attribute| attribute.kind)
+        .collect(alloc)
+}
