@@ -4,6 +4,7 @@ ghost use Rattle.wh_day.specs.Day.{is_day, day_of_number, day_of_key, digit, two
 ghost use Rattle.jiff_core.specs.Date.{IsYmd};
 
 use jiff::civil::{self, Date};
+use std::fmt;
 use std::marker::Model;
 
 /// A day from 1900-01-01 to 9999-12-31, ordered. A contract sees the number YYYYMMDD.
@@ -22,6 +23,21 @@ impl Model for Day {
     ghost invariant = { λ d. is_day d.key ≡ true };
 
     ghost inverse = { λ n. record { key = n } };
+}
+
+/// Writes `YYYY-MM-DD`.
+impl fmt::Display for Day {
+    ghost use Rattle.wh_day.specs.Day.{day_text};
+    ghost use Rattle.std.specs.Prelude.{Some};
+
+    ghost output = { λ day. Some (day_text day) };
+
+    fn fmt<W: fmt::Write>(&self, f: &mut fmt::Formatter<W>) -> fmt::Result {
+        let year = self.key / 10_000;
+        let month = self.key / 100 % 100;
+        let day = self.key % 100;
+        write!(f, "{:02}{:02}-{month:02}-{day:02}", year / 100, year % 100)
+    }
 }
 
 fn digit(byte: u8) -> Option<u32>

@@ -1,6 +1,8 @@
 //! The holidays of a calendar.
 
-ghost use Rattle.std.specs.Prelude.{◌≡◌, ◌++◌, ◌∷◌, [], OnOk, OnErr};
+ghost use Rattle.std.specs.Prelude.{◌≡◌, ◌++◌, ◌∷◌, [], false, OnOk, OnErr, option_map, option_copied, find};
+ghost use Rattle.std.specs.List.{list_any};
+ghost use Rattle.wh_day.specs.Holidays.{is_on, HaveDistinctDays, name_on};
 
 use crate::day::Day;
 use crate::value::Value;
@@ -14,7 +16,7 @@ pub struct Holiday {
     pub name: Value,
 }
 
-/// The holidays of a calendar. A contract sees the list; of two on one day the first counts.
+/// The holidays of a calendar, each day once. A contract sees the list.
 #[derive(Debug, Drop)]
 pub struct Holidays {
     list: Vec<Holiday>,
@@ -26,10 +28,15 @@ impl Model for Holidays {
 
     ghost Value = { List Holiday };
 
+    ghost use Rattle.wh_day.specs.Holidays.{HaveDistinctDays};
+
     ghost view = { λ h. h.list.items };
+
+    ghost invariant = { λ h. HaveDistinctDays h.list.items };
 }
 
 impl Holidays {
+    /// No holiday yet.
     pub fn new(alloc: Global) -> Holidays
         ensures { result ≡ [] }
     {
@@ -40,17 +47,48 @@ impl Holidays {
 
     /// The holidays in the order in which they were added.
     pub fn as_slice(&self) -> &[Holiday]
-        ensures { result.now ≡ self.now }
+        ensures value { result.now ≡ self.now }
+        ensures distinct { HaveDistinctDays self.now }
     {
         self.list.as_slice()
     }
 
-    /// Adds a holiday. After an `Err` the holidays are those before.
+    /// Whether the day is a holiday.
+    pub fn has(&self, day: Day) -> bool
+        ensures { result ≡ list_any (is_on day) self.now }
+    {
+        is_taken(self.as_slice(), day)
+    }
+
+    /// The name of the day, where it is a holiday.
+    pub fn name(&self, day: Day) -> Option<&Value>
+        ensures { option_copied result ≡ name_on self.now day }
+    {
+        match find_on(self.as_slice(), day) {
+            Some(holiday) => Some(&holiday.name),
+            None => None,
+        }
+    }
+
+    /// Adds a holiday, on a day that isn't one yet (`has`). After an `Err` the holidays are those before.
     pub fn push(&mut self, holiday: Holiday) -> Result<(), AllocError>
+        requires { list_any (is_on holiday.day) self.old ≡ false }
         ensures ok { OnOk result (self.new ≡ self.old ++ holiday ∷ []) }
         ensures err { OnErr result (self.new ≡ self.old) }
     {
         self.list.push(holiday)?;
         Ok(())
     }
+}
+
+fn is_taken(holidays: &[Holiday], day: Day) -> bool
+    ensures { result ≡ list_any (is_on day) holidays.now }
+{
+    holidays.iter().any(|holiday| holiday.day == day)
+}
+
+fn find_on(holidays: &[Holiday], day: Day) -> Option<&Holiday>
+    ensures { option_copied result ≡ find (is_on day) holidays.now }
+{
+    holidays.iter().find(|holiday| holiday.day == day)
 }

@@ -1,12 +1,15 @@
-//! Civil days and attribute values.
+//! Civil days, attribute values, and the rows of the calendar.
 #![tactic(auto)]
 
+mod calendar;
 mod day;
 mod error;
 mod holiday;
+pub mod laws;
 mod value;
 mod values;
 
+pub use calendar::{DateRow, date_row};
 pub use day::Day;
 pub use error::ReadError;
 pub use holiday::{Holiday, Holidays};

@@ -1,0 +1,94 @@
+//! The rows of the calendar dimension.
+
+ghost use Rattle.std.specs.Prelude.{◌≡◌, ◌+◌, IfOk};
+ghost use Rattle.jiff_core.specs.Weekday.{monday_zero};
+ghost use Rattle.wh_day.specs.Calendar.{calendar_row, name_of_weekday};
+ghost use Rattle.wh_day.specs.Day.{day_text};
+ghost use Rattle.wh_day.specs.Holidays.{holiday_text};
+
+use crate::day::Day;
+use crate::holiday::Holidays;
+use crate::value::Value;
+use jiff::civil::Weekday;
+use std::alloc::{AllocError, Global};
+
+/// A row of the calendar, with a field for each column.
+///
+/// After Kimball & Ross, *The Data Warehouse Toolkit*, 3rd edition, chapter 3, "Date Dimension": one row a day, and the
+/// key is the number YYYYMMDD.
+#[derive(Debug, Drop)]
+pub struct DateRow {
+    pub date_key: Day,
+    /// `YYYY-MM-DD`.
+    pub iso: Value,
+    pub year: i64,
+    /// 1 to 4.
+    pub quarter: i64,
+    /// 1 to 12.
+    pub month: i64,
+    /// 1 to 31.
+    pub day: i64,
+    /// 1 to 366.
+    pub day_of_year: i64,
+    /// 1 for Monday to 7 for Sunday.
+    pub weekday: i64,
+    /// `Monday` to `Sunday`.
+    pub weekday_name: Value,
+    /// Saturday or Sunday.
+    pub weekend: bool,
+    /// The name of the holiday, or `(none)`.
+    pub holiday: Value,
+}
+
+/// The row of a day.
+#[tactic(auto, unfolding(crate::specs::Calendar::calendar_row))]
+pub fn date_row(alloc: Global, day: Day, holidays: &Holidays) -> Result<DateRow, AllocError>
+    ensures { IfOk result (λ row. row ≡ calendar_row holidays.now day) }
+{
+    let date = day.to_date();
+    let weekday = date.weekday();
+    let number = weekday.to_monday_one_offset();
+    Ok(DateRow {
+        date_key: day,
+        iso: day_value(alloc, day)?,
+        year: date.year() as i64,
+        quarter: (date.month() as i64 + 2) / 3,
+        month: date.month() as i64,
+        day: date.day() as i64,
+        day_of_year: date.day_of_year() as i64,
+        weekday: number as i64,
+        weekday_name: Value::new(alloc, name_of(weekday))?,
+        weekend: number >= 6,
+        holiday: holiday_value(alloc, day, holidays)?,
+    })
+}
+
+fn day_value(alloc: Global, day: Day) -> Result<Value, AllocError>
+    ensures { IfOk result (λ value. value ≡ day_text day) }
+{
+    let text = format!(in alloc; "{day}")?;
+    Value::new(alloc, &text)
+}
+
+fn name_of(weekday: Weekday) -> &'static str
+    ensures { result.now ≡ name_of_weekday (monday_zero weekday + 1) }
+{
+    match weekday {
+        Weekday::Monday => "Monday",
+        Weekday::Tuesday => "Tuesday",
+        Weekday::Wednesday => "Wednesday",
+        Weekday::Thursday => "Thursday",
+        Weekday::Friday => "Friday",
+        Weekday::Saturday => "Saturday",
+        Weekday::Sunday => "Sunday",
+    }
+}
+
+fn holiday_value(alloc: Global, day: Day, holidays: &Holidays) -> Result<Value, AllocError>
+    ensures { IfOk result (λ value. value ≡ holiday_text holidays.now day) }
+{
+    match holidays.name(day) {
+        Some(name) => name.copy(),
+        None => Value::none(alloc),
+    }
+}
