@@ -253,9 +253,7 @@ unfolding day_on_literals
 march_1_of_2100 = refl
 
 new_year_is_a_holiday : list_any (is_on 20240101) holidays ≡ true
-unfolding day_on_literals
 new_year_is_a_holiday = refl
 
 boxing_day_is_none : list_any (is_on 20241226) holidays ≡ false
-unfolding day_on_literals
 boxing_day_is_none = refl

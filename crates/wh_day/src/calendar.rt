@@ -14,13 +14,16 @@ use std::alloc::{AllocError, Global};
 
 /// A row of the calendar, with a field for each column.
 ///
-/// After Kimball & Ross, *The Data Warehouse Toolkit*, 3rd edition, chapter 3, "Date Dimension": one row a day, and the
-/// key is the number YYYYMMDD.
+/// After Kimball & Ross, *The Data Warehouse Toolkit*, 3rd edition, chapter 3, "Date Dimension". What the book writes as
+/// a weekday indicator is the flag `weekend`, and its holiday indicator is the holiday's name. The ranges below are those
+/// of the rows that [`date_row`] makes; a stored row may hold any numbers.
 #[derive(Debug, Drop)]
 pub struct DateRow {
+    /// The number YYYYMMDD.
     pub date_key: Day,
     /// `YYYY-MM-DD`.
     pub iso: Value,
+    /// 1900 to 9999.
     pub year: i64,
     /// 1 to 4.
     pub quarter: i64,
@@ -40,7 +43,7 @@ pub struct DateRow {
     pub holiday: Value,
 }
 
-/// The row of a day.
+/// The row of a day in a calendar with these holidays.
 #[tactic(auto, unfolding(crate::specs::Calendar::calendar_row))]
 pub fn date_row(alloc: Global, day: Day, holidays: &Holidays) -> Result<DateRow, AllocError>
     ensures { IfOk result (λ row. row ≡ calendar_row holidays.now day) }
@@ -66,8 +69,7 @@ pub fn date_row(alloc: Global, day: Day, holidays: &Holidays) -> Result<DateRow,
 fn day_value(alloc: Global, day: Day) -> Result<Value, AllocError>
     ensures { IfOk result (λ value. value ≡ day_text day) }
 {
-    let text = format!(in alloc; "{day}")?;
-    Value::new(alloc, &text)
+    Ok(Value::of(format!(in alloc; "{day}")?))
 }
 
 fn name_of(weekday: Weekday) -> &'static str

@@ -1,3 +1,5 @@
+//! Civil days.
+
 ghost use Rattle.std.specs.Prelude.{◌≡◌, ◌≤◌, ◌≤ℤ◌, ℕ, pos, true, Some, IfSome};
 ghost use Rattle.std.specs.Coded.{coded_ℕ};
 ghost use Rattle.wh_day.specs.Day.{is_day, day_of_number, day_of_key, digit, two_digits, read_day, day_text, first_day, last_day, checked_day_before, year_of, month_of, day_of_month, date_number, IsDayBefore};
@@ -8,6 +10,9 @@ use std::fmt;
 use std::marker::Model;
 
 /// A day from 1900-01-01 to 9999-12-31, ordered. A contract sees the number YYYYMMDD.
+///
+/// That number is the key of the calendar dimension: Kimball & Ross, *The Data Warehouse Toolkit*, 3rd edition, chapter
+/// 3, "Date Dimension Smart Keys".
 #[derive(Clone, Copy, Debug, PartialEq, Eq, PartialOrd, Ord, Hash)]
 pub struct Day {
     key: u32,
@@ -27,8 +32,8 @@ impl Model for Day {
 
 /// Writes `YYYY-MM-DD`.
 impl fmt::Display for Day {
-    ghost use Rattle.wh_day.specs.Day.{day_text};
     ghost use Rattle.std.specs.Prelude.{Some};
+    ghost use Rattle.wh_day.specs.Day.{day_text};
 
     ghost output = { λ day. Some (day_text day) };
 

@@ -1,3 +1,5 @@
+//! Texts of rows.
+
 ghost use Rattle.std.specs.Prelude.{◌≡◌, List, [], ℕ, if◌then◌else◌, Some, None, IfOk, option_map, string_bytes, bytes_eq};
 ghost use Rattle.wh_day.specs.Value.{is_plain, is_printed, none_text, unknown_text, no_card_text, read_value};
 ghost use Rattle.std.specs.List.{list_all};
@@ -7,6 +9,9 @@ use std::alloc::{AllocError, Global};
 use std::marker::Model;
 
 /// A text of a row: an attribute's value, a natural key or a name. A contract sees its bytes.
+///
+/// No attribute is null. Where there is no value a row says so in words: Kimball & Ross, *The Data Warehouse Toolkit*,
+/// 3rd edition, chapter 3, "Null Foreign Keys, Attributes, and Facts".
 #[derive(Debug, Drop)]
 pub struct Value {
     text: String,
@@ -35,7 +40,7 @@ impl Value {
         }
     }
 
-    /// The text itself, whatever it is.
+    /// A text of the program's own, whatever it is. What a source sends is read by [`Value::read`].
     pub fn new(alloc: Global, text: &str) -> Result<Value, AllocError>
         ensures { IfOk result (λ value. value ≡ text.now) }
     {
@@ -44,7 +49,14 @@ impl Value {
         })
     }
 
-    /// `(none)`: what stands where a value was left out.
+    /// The text that was made for it.
+    pub(crate) fn of(text: String) -> Value
+        ensures { result ≡ string_bytes text }
+    {
+        Value { text }
+    }
+
+    /// `(none)`: what stands where a source left a value out.
     #[tactic(auto, unfolding(crate::specs::Value::none_text))]
     pub fn none(alloc: Global) -> Result<Value, AllocError>
         ensures { IfOk result (λ value. value ≡ none_text) }
@@ -77,7 +89,7 @@ impl Value {
         }
     }
 
-    /// The text.
+    /// The text, for printing and for statements.
     pub fn as_str(&self) -> &str
         ensures { result.now ≡ self.now }
     {
@@ -98,14 +110,14 @@ impl Value {
     pub fn is_none(&self) -> bool
         ensures { result ≡ bytes_eq self.now none_text }
     {
-        self.text.as_str() == "(none)"
+        self.as_str() == "(none)"
     }
 
     /// Whether both are the same text.
     pub fn is_same(&self, other: &Value) -> bool
         ensures { result ≡ bytes_eq self.now other.now }
     {
-        self.text.as_str() == other.text.as_str()
+        self.as_str() == other.as_str()
     }
 }
 

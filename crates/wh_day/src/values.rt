@@ -1,10 +1,12 @@
+//! The texts of a row's attributes.
+
 ghost use Rattle.std.specs.Prelude.{◌≡◌, ◌++◌, ◌∷◌, [], IfOk, OnOk, OnErr};
 
 use crate::value::Value;
 use std::alloc::{AllocError, Global};
 use std::marker::Model;
 
-/// Texts by slot. A contract sees the list of their bytes.
+/// Texts by slot, the place of an attribute in its dimension. A contract sees the list of their bytes.
 #[derive(Debug, Drop)]
 pub struct Values {
     texts: Vec<Value>,
@@ -19,6 +21,7 @@ impl Model for Values {
 }
 
 impl Values {
+    /// No text yet.
     pub fn new(alloc: Global) -> Values
         ensures { result ≡ [] }
     {
