@@ -1,3 +1,12 @@
+pub mod AttributeLaws
 pub mod DocumentLemmas
+pub mod FileLaws
+pub mod HolidayLaws
+pub mod Judged
 pub mod NameLemmas
+pub mod PolicyLaws
+pub mod ReadLaws
 pub mod ReadingLemmas
+pub mod TypeLemmas
+pub mod WrittenLemmas
+pub mod YearLaws
