@@ -4,9 +4,12 @@ pub mod FileLaws
 pub mod HolidayLaws
 pub mod Judged
 pub mod NameLemmas
+pub mod OnLiterals
 pub mod PolicyLaws
 pub mod ReadLaws
 pub mod ReadingLemmas
 pub mod TypeLemmas
+mod Worked
+mod WorkedTexts
 pub mod WrittenLemmas
 pub mod YearLaws
