@@ -3,6 +3,7 @@ pub mod DocumentLemmas
 pub mod FileLaws
 pub mod HolidayLaws
 pub mod Judged
+pub mod NameLaws
 pub mod NameLemmas
 pub mod OnLiterals
 pub mod PolicyLaws

@@ -29,7 +29,7 @@ pub record IsRead (members : Members) (policy : Policy) : Type 0 where
   pub years : AreYears policy.years
   pub holidays : HolidaysAre policy.years (get_member (codes "holiday") members) policy.holidays
 
-each_dim : (P : Dim → Type 0) → P Product → P Store → P Customer → (dim : Dim) → P dim
+pub each_dim : (P : Dim → Type 0) → P Product → P Store → P Customer → (dim : Dim) → P dim
 each_dim P product store customer Product = product
 each_dim P product store customer Store = store
 each_dim P product store customer Customer = customer

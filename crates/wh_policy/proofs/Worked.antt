@@ -1,12 +1,12 @@
 -- The definitions on literals whose answers are known from elsewhere: each lemma computes.
-use Rattle.std.specs.Prelude.{ℕ, true, false, pos, negsuc, codes, replicate, List, [], ◌∷◌, map, Option, Some, None, Ok, Err}
+use Rattle.std.specs.Prelude.{ℕ, true, false, pos, negsuc, codes, replicate, List, [], ◌∷◌, map, Some, None, Ok, Err}
 use Rattle.std.proofs.Common.{◌≡◌, refl}
 use Rattle.toml.specs.Data.{Data, string, integer, array, table, item, no_items, Members, member, no_members}
 use Rattle.toml.specs.View.{items_of}
 use Rattle.wh_policy.specs.declared.attribute.Attribute.{Attribute}
 use Rattle.wh_policy.specs.declared.attribute.AttributeType.TheVariants.{RetainOriginal, Overwrite, NewRow, NewAttribute, MiniDimension, MiniDimensionOutrigger, NewRowAndOverwrite, DualKeys}
 use Rattle.wh_policy.specs.declared.attribute.Dim.TheVariants.{Product, Store, Customer}
-use Rattle.wh_policy.specs.declared.fault.PolicyFault.TheVariants.{NotToml, Missing, UnknownKey, BadName, BadType, TooMany, NamedTwice, ProfileOutside, BadYears, BadHoliday}
+use Rattle.wh_policy.specs.declared.fault.PolicyFault.TheVariants.{Missing, UnknownKey, BadName, BadType, TooMany, NamedTwice, ProfileOutside, BadYears, BadHoliday}
 use Rattle.wh_policy.specs.declared.policy.Years.{Years}
 use Rattle.wh_policy.specs.Attributes.{is_name, name_at, kind_at, attributes_at}
 use Rattle.wh_policy.specs.Holidays.{day_at, title_at, holidays_at}

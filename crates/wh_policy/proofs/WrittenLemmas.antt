@@ -202,10 +202,10 @@ zip-more R S f [] (y ∷ ys) h = absurd h
 zip-more R S f (x ∷ xs) [] h = absurd h
 zip-more R S f (x ∷ xs) (y ∷ ys) h = (f x y h.0, zip-more R S f xs ys h.1)
 
-AllPairs-first : {X : Type 0} (R : X → X → Type 0) (x : X) (xs : List X) → AllPairs R (x ∷ xs) → All (R x) xs
+pub AllPairs-first : {X : Type 0} (R : X → X → Type 0) (x : X) (xs : List X) → AllPairs R (x ∷ xs) → All (R x) xs
 AllPairs-first R x xs h k d lt = h 0 (suc k) d (omega arith) (omega arith)
 
-AllPairs-rest : {X : Type 0} (R : X → X → Type 0) (x : X) (xs : List X) → AllPairs R (x ∷ xs) → AllPairs R xs
+pub AllPairs-rest : {X : Type 0} (R : X → X → Type 0) (x : X) (xs : List X) → AllPairs R (x ∷ xs) → AllPairs R xs
 AllPairs-rest R x xs h i j d below within = h (suc i) (suc j) d (omega arith) (omega arith)
 
 zip-with_first : {A B : Type 0} (R : A → B → Type 0) (P : A → Type 0) (S : B → Type 0) → ((u : A) (v : B) → R u v → S v → P u) → (xs : List A) (ys : List B) → AllZip R xs ys → All S ys → All P xs

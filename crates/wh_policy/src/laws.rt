@@ -1,6 +1,6 @@
 //! What holds of every policy file.
 
-ghost use Rattle.wh_policy.specs.Laws.{IsAcceptedExactly, FaultsAreThere, IsNotTomlExactly, IsReadAsWritten, PoliciesAreSound};
+ghost use Rattle.wh_policy.specs.Laws.{IsAcceptedExactly, FaultsAreThere, IsNotTomlExactly, IsReadAsWritten, PoliciesAreSound, TypesHaveNumbers, NamesAreFound, NoOthersAreFound, FitsExactly};
 
 /// A file is accepted exactly where it is a TOML table in which none of the faults is.
 pub fn accepted_exactly()
@@ -22,4 +22,20 @@ pub fn read_as_written()
 /// within 1900 to 2199, and holidays within them.
 pub fn policies_are_sound()
     ensures { PoliciesAreSound }
+{}
+
+/// A type is found by its number, and by no other.
+pub fn types_have_numbers()
+    ensures { TypesHaveNumbers }
+{}
+
+/// In a policy that was read each attribute is found by its name, with its slot and type, and nothing else is.
+pub fn names_are_found()
+    ensures found { NamesAreFound }
+    ensures others { NoOthersAreFound }
+{}
+
+/// A newer policy fits exactly where each dimension's names begin with the old ones, and its years hold the old ones.
+pub fn fits_exactly()
+    ensures { FitsExactly }
 {}
