@@ -1,0 +1,5 @@
+pub mod Batch
+pub mod Fields
+pub mod Keys
+pub mod Layouts
+pub mod Rows
