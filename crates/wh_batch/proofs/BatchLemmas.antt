@@ -1,6 +1,6 @@
 -- Reading the records of a batch, one after the other.
-use Rattle.std.proofs.Common.{◌≡◌, ℕ, ◌+◌, ◌<◌, ◌≤◌, List, [], ◌∷◌, ◌++◌, Ok, Err, refl}
-use Rattle.std.proofs.lemmas.Bool.{le-ltb, lt-ltb}
+use Rattle.std.proofs.Common.{◌≡◌, ℕ, ◌+◌, ◌≤◌, List, [], ◌∷◌, ◌++◌, Ok, Err, refl}
+use Rattle.std.proofs.lemmas.Bool.{le-ltb}
 use Rattle.wh_day.specs.declared.error.ReadError.{ReadError}
 use Rattle.wh_day.specs.declared.error.ReadError.TheVariants as errors
 use Rattle.wh_day.specs.Reading.{Fails}
@@ -27,7 +27,7 @@ unfolding records_after
 records-fail errors.Memory layout front earlier number fields rows le h = tt
 records-fail (errors.Fault f) layout front earlier number fields rows le h = rw (le-ltb 5000 number le, h) refl
 
-pub records-full : {R : Type 0} (layout : Layout R) (front : List R) (earlier : List Key) (number : ℕ) (fields : List (List ℕ)) (rows : Table) → 5000 < number
-    → with_front front (records_after layout earlier number (fields ∷ rows)) ≡ Err (at number TooLarge)
+pub records-full : {R : Type 0} (layout : Layout R) (front : List R) (earlier : List Key) (number : ℕ) (fields : List (List ℕ)) (rows : Table) → number ≡ 5001
+    → with_front front (records_after layout earlier number (fields ∷ rows)) ≡ Err (at 5001 TooLarge)
 unfolding records_after
-records-full layout front earlier number fields rows lt = rw (lt-ltb 5000 number lt) refl
+records-full layout front earlier number fields rows last = rw last refl

@@ -1,5 +1,5 @@
 -- Reading the fields of a record, one after the other.
-use Rattle.std.proofs.Common.{◌≡◌, ℕ, zero, suc, ◌+◌, ◌<◌, ◌≤◌, true, leb, ◌&&◌, List, [], ◌∷◌, ◌++◌, length, take, drop, get_or, map, Some, Ok, ap, arith, Bor}
+use Rattle.std.proofs.Common.{◌≡◌, ℕ, refl, zero, suc, ◌+◌, ◌<◌, ◌≤◌, true, leb, ◌&&◌, List, [], ◌∷◌, ◌++◌, length, take, drop, get_or, map, Some, Ok, ap, arith, Bor}
 use Rattle.std.specs.List.{list_all}
 use Rattle.std.specs.Str.{IsAscii, IsUtf8}
 use Rattle.std.proofs.lemmas.Bool.{and_parts}
@@ -51,3 +51,14 @@ fields-from fields i d lt = ap (map (λ f. f.now)) (drop_more fields i d lt)
 
 pub fields-past : (fields : List (Bor (List ℕ))) (i : ℕ) → length fields ≤ i → map (λ f. f.now) (drop i fields) ≡ []
 fields-past fields i le = ap (map (λ f. f.now)) (drop_all i fields le)
+
+-- no field
+abbrev pub missing : Bor (List ℕ)
+missing = record { ref_ptr = (0, 0); now = [] }
+
+-- nine fields, each by its place
+pub nine_fields : (fields : List (Bor (List ℕ))) → length fields ≡ 9 → map (λ f. f.now) fields
+    ≡ (get_or fields 0 missing).now ∷ (get_or fields 1 missing).now ∷ (get_or fields 2 missing).now ∷ (get_or fields 3 missing).now ∷ (get_or fields 4 missing).now
+    ∷ (get_or fields 5 missing).now ∷ (get_or fields 6 missing).now ∷ (get_or fields 7 missing).now ∷ (get_or fields 8 missing).now ∷ []
+nine_fields (a ∷ b ∷ c ∷ d ∷ e ∷ f ∷ g ∷ h ∷ i ∷ []) nine = refl
+nine_fields _ nine = absurd (omega arith)

@@ -1,3 +1,4 @@
 pub mod BatchLemmas
 pub mod FieldLemmas
+pub mod NumberLemmas
 pub mod RowLemmas

@@ -2,9 +2,11 @@
 
 ghost use Rattle.std.specs.Prelude.{◌≡◌, map, IfOk};
 ghost use Rattle.std.specs.List.{list_all};
+ghost use Rattle.std.specs.Str.{bytes_eq};
+ghost use Rattle.std.specs.Cmp.Lexicographic.{pointwise};
 ghost use Rattle.csv.specs.Records.{fields_of};
 ghost use Rattle.wh_day.specs.Reading.{Gives};
-ghost use Rattle.wh_batch.specs.Fields.{or_fault, is_key, is_key_byte, key_at, day_at, effective_day_at, value_at, values_at};
+ghost use Rattle.wh_batch.specs.Fields.{or_fault, is_key, is_key_byte, key_at, customer_at, day_at, effective_day_at, value_at, values_at};
 
 use crate::fault::FaultKind;
 use csv::ByteRecord;
@@ -24,7 +26,14 @@ pub(crate) fn fields_of(alloc: Global, row: &ByteRecord) -> Result<Vec<&[u8]>, A
     Ok(fields)
 }
 
-fn or_fault<T: Drop>(read: Option<T>, kind: FaultKind) -> Result<T, ReadError<FaultKind>>
+/// Whether the fields are those, each by its bytes.
+pub(crate) fn are_same(fields: &[&[u8]], others: &[&[u8]]) -> bool
+    ensures { result ≡ pointwise bytes_eq (map (λ f. f.now) fields.now) (map (λ f. f.now) others.now) }
+{
+    fields == others
+}
+
+pub(crate) fn or_fault<T: Drop>(read: Option<T>, kind: FaultKind) -> Result<T, ReadError<FaultKind>>
     ensures { Gives (λ x. x) result (or_fault kind read) }
 {
     match read {
@@ -65,6 +74,20 @@ pub(crate) fn key_of(
     match std::str::from_utf8(field) {
         Ok(key) => Ok(Value::new(alloc, key)?),
         Err(_) => Err(ReadError::Fault(FaultKind::BadKey)),
+    }
+}
+
+/// The key of the customer, whom a sale needn't have.
+#[tactic(auto, unfolding(crate::specs::Fields::customer_at))]
+pub(crate) fn customer_of(
+    alloc: Global,
+    field: &[u8],
+) -> Result<Option<Value>, ReadError<FaultKind>>
+    ensures { Gives (λ customer. customer) result (customer_at field.now) }
+{
+    match field {
+        [] => Ok(None),
+        _ => Ok(Some(key_of(alloc, 32, field)?)),
     }
 }
 

@@ -8,13 +8,18 @@ mod fields;
 mod keys;
 mod kind;
 mod layout;
+mod numbers;
+mod reader;
 mod records;
 mod rows;
+mod sale;
 
 pub use dimension::dimension_records;
 pub use fault::{BatchFault, FaultKind};
 pub use kind::{Format, Kind};
-pub use records::DimensionRecords;
+pub use reader::read;
+pub use records::{DimensionRecords, Records, SaleRecords};
+pub use sale::sale_records;
 
 #[cfg(test)]
 mod tests;

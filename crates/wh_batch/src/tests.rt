@@ -1,10 +1,11 @@
 mod dimensions;
+mod sales;
 
 use super::*;
 use std::alloc::{AllocError, Global};
 use std::test::*;
-use wh_day::{ReadError, Values};
-use wh_policy::{Dim, Policy};
+use wh_day::{Day, ReadError, Value, Values};
+use wh_policy::{Dim, DimensionRecord, Policy, SaleRecord};
 
 fn at(number: u32, kind: FaultKind) -> Option<BatchFault> {
     Some(BatchFault { kind, number })

@@ -183,3 +183,19 @@ fn number_of_bytes(rt: HostRuntime) -> Result<(), Fail> {
     );
     Ok(())
 }
+
+#[test]
+fn records_made_by_hand(rt: HostRuntime) -> Result<(), Fail> {
+    let mut records = DimensionRecords::new(rt.alloc());
+    let record = DimensionRecord {
+        natural: Value::new(rt.alloc(), "C9")?,
+        day: Day::first(),
+        values: Values::new(rt.alloc()),
+    };
+    records.push(record)?;
+    let [record] = records.as_slice() else {
+        return Err("one record")?;
+    };
+    assert_eq!(rt; record.natural.as_str(), "C9");
+    Ok(())
+}

@@ -1,7 +1,5 @@
-use Rattle.std.proofs.Common.{◌≡◌, ◌≤◌, ℕ, Err, ◌∙◌, sym, ap, arith}
+use Rattle.std.proofs.Common.{◌≤◌, ◌∙◌, sym, arith}
 use Rattle.std.proofs.lemmas.Result.{err_from_is_err_and}
-use Rattle.wh_batch.specs.declared.fault.FaultKind.TheVariants.{TooLarge}
-use Rattle.wh_batch.specs.Batch.{at}
 use Rattle.wh_batch.proofs.BatchLemmas.{records-done, records-next, records-fail, records-full}
 use Rattle.wh_batch.proofs.batch.records_below.Goals as goal
 
@@ -27,8 +25,7 @@ loop-number-preserved g c =
 pub returns-then-branch : goal.returns-then-branch
 returns-then-branch g c =
     let row = rw c.if-branch.true at c.in_ok-next-2.ensures.ok in
-    let last : c.loop-number.number ≡ 5001 = omega arith in
-    rw c.fault.ensures (sym (rw row at c.loop-number.invariant) ∙ records-full (g.L.RecordLayout.layout c.args.layout.now) c.loop-number.records.items c.loop-number.keys c.loop-number.number _ _ (omega arith) ∙ ap (λ (n : ℕ). Err (at n TooLarge)) last)
+    rw (c.fault.ensures, ← c.loop-number.invariant, row) (records-full (g.L.RecordLayout.layout c.args.layout.now) c.loop-number.records.items c.loop-number.keys c.loop-number.number _ _ (omega arith))
 
 pub returns : goal.returns
 returns g c =
