@@ -7,6 +7,7 @@ mod fault;
 mod fields;
 mod keys;
 mod kind;
+pub mod laws;
 mod layout;
 mod numbers;
 mod reader;
