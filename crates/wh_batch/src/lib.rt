@@ -14,13 +14,15 @@ mod reader;
 mod records;
 mod rows;
 mod sale;
+mod sales;
 
 pub use dimension::dimension_records;
 pub use fault::{BatchFault, FaultKind};
 pub use kind::{Format, Kind};
 pub use reader::read;
-pub use records::{DimensionRecords, Records, SaleRecords};
+pub use records::{DimensionRecords, Records};
 pub use sale::sale_records;
+pub use sales::SaleRecords;
 
 #[cfg(test)]
 mod tests;

@@ -11,7 +11,7 @@ use crate::keys::RecordKey;
 use crate::kind::Format;
 use crate::layout::RecordLayout;
 use crate::numbers::{amount_of, line_of, quantity_of};
-use crate::records::SaleRecords;
+use crate::sales::SaleRecords;
 use std::alloc::{AllocError, Global};
 use wh_day::{Day, ReadError};
 use wh_policy::{Policy, SaleRecord, Years};
