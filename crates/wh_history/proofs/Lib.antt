@@ -1,0 +1,17 @@
+pub mod Basics
+pub mod Calendar
+pub mod Steps
+pub mod Columns
+pub mod Spans
+pub mod Numbers
+pub mod Growth
+pub mod Untouched
+pub mod Plans
+pub mod Places
+pub mod Joins
+pub mod Effective
+pub mod Combinations
+pub mod Stays
+pub mod Members
+pub mod Shown
+pub mod Walks
