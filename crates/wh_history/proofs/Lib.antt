@@ -15,3 +15,4 @@ pub mod Stays
 pub mod Members
 pub mod Shown
 pub mod Walks
+pub mod Worked

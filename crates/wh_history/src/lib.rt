@@ -11,10 +11,13 @@ mod profiles;
 mod rendering;
 mod rows;
 
+#[cfg(test)]
+mod tests;
+
 pub use dated::{latest, original, prior, value_at};
 pub use facts::{Fact, FactKeys, Keys, Rekey, plan_facts};
 pub use member::{Change, Changes, Member};
 pub use plan::{Edit, Plan, plan_member, plan_rows};
-pub use profiles::Profiles;
+pub use profiles::{Profiles, number_of, profile_texts};
 pub use rendering::{render, render_types};
 pub use rows::{DimRow, row_at};
