@@ -3,7 +3,8 @@ use Rattle.std.proofs.Common.{◌≡◌, ℕ, suc, ◌+◌, ◌-◌, ◌<◌, tr
 use Rattle.wh_policy.specs.Types.{is_tracked}
 use Rattle.wh_policy.specs.declared.attribute.AttributeType.{AttributeType}
 use Rattle.wh_policy.specs.declared.attribute.AttributeType.TheVariants.{RetainOriginal, Overwrite, NewRow, NewAttribute, MiniDimension, MiniDimensionOutrigger, NewRowAndOverwrite, DualKeys}
-use Rattle.wh_history.specs.Slots.{six, columns_from}
+use Rattle.wh_day.specs.Value.{none_text}
+use Rattle.wh_history.specs.Slots.{six, padded, columns_from}
 use Rattle.wh_history.specs.Dated.{dated, at}
 use Rattle.wh_history.specs.Rows.{main_column}
 use Rattle.wh_history.specs.Rendering.{steady_column, shown_column}
@@ -14,6 +15,12 @@ pub six_more : (texts : List (List ℕ)) → length texts < 6 → six (texts ++ 
 six_more texts few =
     let left : 6 - length texts ≡ suc (6 - length (texts ++ [] ∷ [])) = simp length-append (omega arith) in
     append_assoc texts ([] ∷ []) (replicate (6 - length (texts ++ [] ∷ [])) []) ∙ ap (λ n. texts ++ replicate n []) (sym left)
+
+-- one more text for none fills as well
+pub none_more : (values : List (List ℕ)) → length values < 6 → padded none_text (values ++ none_text ∷ []) ≡ padded none_text values
+none_more values few =
+    let left : 6 - length values ≡ suc (6 - length (values ++ none_text ∷ [])) = simp length-append (omega arith) in
+    append_assoc values (none_text ∷ []) (replicate (6 - length (values ++ none_text ∷ [])) none_text) ∙ ap (λ n. values ++ replicate n none_text) (sym left)
 
 get_behind : (front back : List (List ℕ)) (text : List ℕ) → get_or (front ++ text ∷ back) (length front) [] ≡ text
 get_behind [] back text = refl

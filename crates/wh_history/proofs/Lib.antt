@@ -16,3 +16,4 @@ pub mod Members
 pub mod Shown
 pub mod Walks
 pub mod Worked
+pub mod Touching

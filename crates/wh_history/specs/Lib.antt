@@ -9,3 +9,4 @@ pub mod Plan
 pub mod Accepted
 pub mod Tables
 pub mod Laws
+pub mod Touched

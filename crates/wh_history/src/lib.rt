@@ -10,6 +10,7 @@ mod plan;
 mod profiles;
 mod rendering;
 mod rows;
+mod touched;
 
 #[cfg(test)]
 mod tests;
@@ -21,3 +22,4 @@ pub use plan::{Edit, Plan, plan_member, plan_rows};
 pub use profiles::{Profiles, number_of, profile_texts};
 pub use rendering::{render, render_types};
 pub use rows::{DimRow, row_at};
+pub use touched::{Stored, Touched, padded, touch_all};
