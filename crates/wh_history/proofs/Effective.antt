@@ -125,7 +125,7 @@ pub came_from : (dim : Dim) (commands : List Accepted) (key : ℕ) (q : DimRow) 
 came_from dim commands key q None is h = cc
 came_from dim commands key q (Some a) is h = (a, h)
 
-in_table : (dim : Dim) (commands : List Accepted) (key : ℕ) → 0 < key → dimension_row commands dim key ≡ numbered_row commands dim key
+pub in_table : (dim : Dim) (commands : List Accepted) (key : ℕ) → 0 < key → dimension_row commands dim key ≡ numbered_row commands dim key
 in_table Product commands key given = refl
 in_table Store commands key given = refl
 in_table Customer commands zero given = absurd (omega arith)

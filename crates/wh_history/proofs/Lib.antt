@@ -17,3 +17,10 @@ pub mod Shown
 pub mod Walks
 pub mod Worked
 pub mod Touching
+pub mod Lasts
+pub mod Once
+pub mod Records
+pub mod Owners
+pub mod Batches
+pub mod Mixtures
+pub mod Trials

@@ -10,3 +10,4 @@ pub mod Accepted
 pub mod Tables
 pub mod Laws
 pub mod Touched
+pub mod Picked

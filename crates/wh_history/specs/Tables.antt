@@ -1,7 +1,8 @@
 -- The tables that a list of accepted commands defines, each as a function from its keys. The calendar is not here: its rows
 -- are those of the days of the years of the policy in force.
-use Rattle.std.specs.Prelude.{ℕ, zero, suc, ◌==◌, ◌&&◌, true, cond, List, [], Option, Some, None, option_map, unwrap_or, find, bytes_eq, codes}
+use Rattle.std.specs.Prelude.{ℕ, zero, suc, ◌==◌, ◌&&◌, true, cond, List, [], ◌∷◌, length, filter_map, Option, Some, None, option_map, unwrap_or, find, bytes_eq, codes}
 use Rattle.std.specs.Option.{option_and_then}
+use Rattle.std.specs.List.{range_with_len}
 use Rattle.wh_day.specs.Value.{unknown_text, no_card_text}
 use Rattle.wh_history.specs.Keys.{at_place}
 use Rattle.wh_policy.specs.Types.{is_profile}
@@ -12,6 +13,7 @@ use Rattle.wh_history.specs.Rows.{rows}
 use Rattle.wh_history.specs.Profiles.{current_profile}
 use Rattle.wh_history.specs.Facts.{key_in}
 use Rattle.wh_history.specs.Accepted.{Accepted, Content, Governs, Describes, Sells, opening_of, day_of, types_in, sold, anchors, members, durable_key, surrogate_key, member_of, profiles_of, records_by, placeholders_by}
+use Rattle.wh_policy.specs.declared.policy.Policy.{Policy}
 use Rattle.wh_policy.specs.declared.record.DimensionRecord.{DimensionRecord}
 use Rattle.wh_policy.specs.declared.record.SaleRecord.{SaleRecord}
 use Rattle.wh_policy.specs.declared.attribute.Dim.{Dim}
@@ -105,6 +107,17 @@ dimension_row commands Product key = numbered_row commands Product key
 dimension_row commands Store key = numbered_row commands Store key
 dimension_row commands Customer zero = Some (no_card_row (types_in Customer commands))
 dimension_row commands Customer (suc n) = numbered_row commands Customer (suc n)
+
+-- the whole table of a dimension, in order of surrogate key: only the row of sales without a card has the key 0
+abbrev pub dimension_table : List Accepted → Dim → List DimRow
+dimension_table commands dim = filter_map (dimension_row commands dim) (range_with_len 0 (suc (length (anchors dim commands))))
+
+-- a trial: a making under the policy, and one batch of records; under which ids is of no account
+abbrev pub unnamed : Content → Accepted
+unnamed content = record { id = []; kind = []; bytes = []; content = content }
+
+abbrev pub trial_commands : Policy → Dim → List DimensionRecord → List Accepted
+trial_commands policy dim records = unnamed (Governs policy) ∷ unnamed (Describes dim records) ∷ []
 
 -- profile
 abbrev pub profile_row : List Accepted → ℕ → Option (List (List ℕ))

@@ -87,6 +87,10 @@ touched stored t (r ∷ rs) = touched stored (touch stored t r) rs
 abbrev pub untouched : ℕ → ℕ → Touched
 untouched members anchors = record { members = members; anchors = anchors; owners = []; list = [] }
 
+-- no member is stored
+abbrev pub nothing_stored : List ℕ → Member
+nothing_stored natural = record { durable = 0; natural = natural; opening = 0; changes = [] }
+
 -- the list with a batch
 abbrev pub with_batch : List Accepted → List ℕ → List ℕ → List ℕ → Dim → List DimensionRecord → List Accepted
 with_batch commands id kind bytes dim records = commands ++ record { id = id; kind = kind; bytes = bytes; content = Describes dim records } ∷ []

@@ -11,6 +11,7 @@ mod profiles;
 mod rendering;
 mod rows;
 mod touched;
+mod trial;
 
 #[cfg(test)]
 mod tests;
@@ -23,3 +24,4 @@ pub use profiles::{Profiles, number_of, profile_texts};
 pub use rendering::{render, render_types};
 pub use rows::{DimRow, row_at};
 pub use touched::{Stored, Touched, padded, touch_all};
+pub use trial::{no_card_row, trial_table};

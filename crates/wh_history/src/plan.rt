@@ -26,7 +26,7 @@ pub enum Edit<Row, Key> {
 }
 
 /// The row of a key.
-fn row_of(rows: &[DimRow], key: u64) -> Option<&DimRow>
+pub(crate) fn row_of(rows: &[DimRow], key: u64) -> Option<&DimRow>
     ensures { option_copied result ≡ row_of key rows.now }
 {
     rows.iter().find(|row| row.surrogate == key)

@@ -74,7 +74,7 @@ fn is_same_tracked(types: &[AttributeType], some: &Change, other: &Change) -> bo
 
 /// Fills texts up to the six columns of a table.
 #[tactic(auto, using(crate::proofs::Columns::six_more))]
-fn fill(alloc: Global, texts: &mut Values) -> Result<(), AllocError>
+pub(crate) fn fill_columns(alloc: Global, texts: &mut Values) -> Result<(), AllocError>
     ensures { OnOk result (texts.new ≡ six texts.old) }
 {
     'columns: while texts.as_slice().len() < 6 {
@@ -141,7 +141,7 @@ fn second_texts(alloc: Global, history: &History) -> Result<Values, AllocError>
     for (place, kind) in history.types.iter().enumerate() {
         texts.push(second_text(alloc, history, place, *kind)?)?;
     }
-    fill(alloc, &mut texts)?;
+    fill_columns(alloc, &mut texts)?;
     Ok(texts)
 }
 
@@ -173,7 +173,7 @@ fn main_texts(
         };
         texts.push(text)?;
     }
-    fill(alloc, &mut texts)?;
+    fill_columns(alloc, &mut texts)?;
     Ok(texts)
 }
 

@@ -6,6 +6,7 @@ ghost use Rattle.wh_history.specs.Plan.{same_frame, same_row};
 
 use crate::profiles::is_same_texts;
 use std::alloc::{AllocError, Global};
+use std::marker::Model;
 use wh_day::{Day, Value, Values};
 
 /// A row of a dimension's table: a member from one day to another.
@@ -70,6 +71,35 @@ impl DimRow {
         ensures { result ≡ holds day self.now }
     {
         self.from_day <= day && day <= self.to_day
+    }
+}
+
+/// The rows of one member, in order of their starts. A contract sees the list.
+#[derive(Debug, Drop)]
+pub(crate) struct DimRows {
+    list: Vec<DimRow>,
+}
+
+impl Model for DimRows {
+    ghost use Rattle.std.specs.Prelude.{List};
+    ghost use Rattle.wh_history.specs.declared.rows.DimRow.{DimRow};
+
+    ghost Value = { List DimRow };
+
+    ghost view = { λ r. r.list.items };
+}
+
+impl DimRows {
+    pub(crate) fn new(list: Vec<DimRow>) -> DimRows
+        ensures { result ≡ list.items }
+    {
+        DimRows { list }
+    }
+
+    pub(crate) fn as_slice(&self) -> &[DimRow]
+        ensures { result.now ≡ self.now }
+    {
+        self.list.as_slice()
     }
 }
 
