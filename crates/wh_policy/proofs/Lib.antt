@@ -1,1 +1,3 @@
-
+pub mod DocumentLemmas
+pub mod NameLemmas
+pub mod ReadingLemmas

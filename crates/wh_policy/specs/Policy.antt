@@ -1,11 +1,19 @@
 -- The policy of a warehouse.
-use Rattle.std.specs.Prelude.{ℕ, List, [], ◌∷◌, codes}
+use Rattle.std.specs.Prelude.{ℕ, List, [], ◌∷◌, codes, Result, Ok}
+use Rattle.toml.specs.Data.{Members, get_member}
+use Rattle.wh_day.specs.Reading.{◌>>=◌}
+use Rattle.wh_policy.specs.Attributes.{attributes_at}
+use Rattle.wh_policy.specs.Document.{unless_fault, document_at, has_only, required}
+use Rattle.wh_policy.specs.Holidays.{holidays_at}
 use Rattle.wh_policy.specs.Types.{kinds_of}
+use Rattle.wh_policy.specs.Years.{years_at}
 use Rattle.wh_policy.specs.declared.attribute.Attribute.{Attribute}
 use Rattle.wh_policy.specs.declared.attribute.AttributeType.{AttributeType}
 use Rattle.wh_policy.specs.declared.attribute.AttributeType.TheVariants.{Overwrite, NewRow}
 use Rattle.wh_policy.specs.declared.attribute.Dim.{Dim}
 use Rattle.wh_policy.specs.declared.attribute.Dim.TheVariants.{Product, Store, Customer}
+use Rattle.wh_policy.specs.declared.fault.PolicyFault.{PolicyFault}
+use Rattle.wh_policy.specs.declared.fault.PolicyFault.TheVariants.{UnknownKey}
 use Rattle.wh_policy.specs.declared.policy.Policy.{Policy}
 
 -- the attributes of a dimension, by slot
@@ -30,3 +38,27 @@ trial_policy = record {
   years = record { first = 2023; last = 2026 };
   holidays = [];
 }
+
+abbrev pub top_keys : List (List ℕ)
+top_keys = codes "first_year" ∷ codes "last_year" ∷ codes "product" ∷ codes "store" ∷ codes "customer" ∷ codes "holiday" ∷ []
+
+-- the policy that a table writes, or the first fault
+unfoldable pub policy_in : Members → Result Policy PolicyFault
+policy_in members = unless_fault (has_only top_keys members) UnknownKey (do
+  first_year ← required (codes "first_year") members
+  last_year ← required (codes "last_year") members
+  product_content ← required (codes "product") members
+  store_content ← required (codes "store") members
+  customer_content ← required (codes "customer") members
+  product ← attributes_at Product product_content
+  store ← attributes_at Store store_content
+  customer ← attributes_at Customer customer_content
+  years ← years_at first_year last_year
+  holidays ← holidays_at years (get_member (codes "holiday") members)
+  Ok (record { product = product; store = store; customer = customer; years = years; holidays = holidays }))
+
+-- the policy that the bytes write, or the first fault
+unfoldable pub policy_at : List ℕ → Result Policy PolicyFault
+policy_at bytes = do
+  members ← document_at bytes
+  policy_in members

@@ -1,5 +1,5 @@
 -- The types of slowly changing attributes.
-use Rattle.std.specs.Prelude.{ℕ, Bool, true, false, List, map}
+use Rattle.std.specs.Prelude.{ℕ, ℤ, pos, negsuc, Bool, true, false, ◌==◌, List, [], ◌∷◌, map, find, Option, None}
 use Rattle.wh_policy.specs.declared.attribute.Attribute.{Attribute}
 use Rattle.wh_policy.specs.declared.attribute.AttributeType.{AttributeType}
 use Rattle.wh_policy.specs.declared.attribute.AttributeType.TheVariants.{RetainOriginal, Overwrite, NewRow, NewAttribute, MiniDimension, MiniDimensionOutrigger, NewRowAndOverwrite, DualKeys}
@@ -13,6 +13,16 @@ type_number MiniDimension = 4
 type_number MiniDimensionOutrigger = 5
 type_number NewRowAndOverwrite = 6
 type_number DualKeys = 7
+
+-- all types, in the order of their numbers
+abbrev pub every_type : List AttributeType
+every_type =
+    RetainOriginal ∷ Overwrite ∷ NewRow ∷ NewAttribute ∷ MiniDimension ∷ MiniDimensionOutrigger ∷ NewRowAndOverwrite ∷ DualKeys ∷ []
+
+-- the type that has this number, if one has
+abbrev pub type_of_number : ℤ → Option AttributeType
+type_of_number (pos n) = find (λ kind. type_number kind == n) every_type
+type_of_number (negsuc n) = None
 
 -- whether a change of the attribute begins a row: types 2, 6 and 7
 abbrev pub is_tracked : AttributeType → Bool

@@ -1,7 +1,7 @@
 //! Dimensions, their attributes and the types of slowly changing attributes.
 
 ghost use Rattle.std.specs.Prelude.{◌≡◌, ◌++◌, ◌∷◌, [], map, IfOk, OnOk, OnErr};
-ghost use Rattle.wh_policy.specs.Types.{is_tracked, is_profile, is_outrigger, type_number, kinds_of};
+ghost use Rattle.wh_policy.specs.Types.{is_tracked, is_profile, is_outrigger, type_number, type_of_number, kinds_of};
 
 use std::alloc::{AllocError, Global};
 use std::marker::Model;
@@ -50,6 +50,23 @@ impl AttributeType {
             AttributeType::MiniDimensionOutrigger => 5,
             AttributeType::NewRowAndOverwrite => 6,
             AttributeType::DualKeys => 7,
+        }
+    }
+
+    /// The type of a number, 0 to 7.
+    pub fn from_number(number: i64) -> Option<AttributeType>
+        ensures { result ≡ type_of_number number }
+    {
+        match number {
+            0 => Some(AttributeType::RetainOriginal),
+            1 => Some(AttributeType::Overwrite),
+            2 => Some(AttributeType::NewRow),
+            3 => Some(AttributeType::NewAttribute),
+            4 => Some(AttributeType::MiniDimension),
+            5 => Some(AttributeType::MiniDimensionOutrigger),
+            6 => Some(AttributeType::NewRowAndOverwrite),
+            7 => Some(AttributeType::DualKeys),
+            _ => None,
         }
     }
 

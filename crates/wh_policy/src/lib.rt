@@ -3,9 +3,19 @@
 #![tactic(auto)]
 
 mod attribute;
+mod dimension;
+mod document;
+mod fault;
+mod holidays;
+mod names;
 mod policy;
 mod record;
+mod years;
 
 pub use attribute::{Attribute, AttributeType, Attributes, Dim};
+pub use fault::PolicyFault;
 pub use policy::{Policy, Years};
 pub use record::{DimensionRecord, SaleRecord};
+
+#[cfg(test)]
+mod tests;

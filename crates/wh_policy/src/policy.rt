@@ -1,11 +1,30 @@
 //! The policy of a warehouse.
 
 ghost use Rattle.std.specs.Prelude.{◌≡◌, ◌++◌, ◌∷◌, [], IfOk, OnOk};
-ghost use Rattle.wh_policy.specs.Policy.{attributes_of, types_of, trial_policy, described};
+ghost use Rattle.toml.specs.View.{table_view};
+ghost use Rattle.wh_day.specs.Reading.{Gives};
+ghost use Rattle.wh_policy.specs.Names.{slot_from, fits};
+ghost use Rattle.wh_policy.specs.Policy.{attributes_of, types_of, trial_policy, described, policy_in, policy_at};
 
 use crate::attribute::{Attribute, AttributeType, Attributes, Dim};
+use crate::dimension;
+use crate::document::{document, has_only, optional, required};
+use crate::fault::PolicyFault;
+use crate::holidays::holidays_of;
+use crate::names::{are_kept, slot_of};
+use crate::years::years_of;
 use std::alloc::{AllocError, Global};
-use wh_day::{Holidays, Value};
+use toml::Table;
+use wh_day::{Holidays, ReadError, Value};
+
+const TOP_KEYS: [&str; 6] = [
+    "first_year",
+    "last_year",
+    "product",
+    "store",
+    "customer",
+    "holiday",
+];
 
 /// The years of a calendar, from the first to the last.
 #[derive(Clone, Copy, Debug, PartialEq, Eq)]
@@ -37,18 +56,67 @@ fn add(
 }
 
 impl Policy {
+    /// The policy that the bytes of a file write, or the first fault.
+    #[tactic(auto, unfolding(crate::specs::Policy::policy_at))]
+    pub fn read(alloc: Global, bytes: &[u8]) -> Result<Policy, ReadError<PolicyFault>>
+        ensures { Gives (λ policy. policy) result (policy_at bytes.now) }
+    {
+        let table = document(alloc, bytes)?;
+        Policy::of_table(alloc, &table)
+    }
+
+    #[tactic(auto, unfolding(crate::specs::Policy::policy_in))]
+    fn of_table(alloc: Global, table: &Table) -> Result<Policy, ReadError<PolicyFault>>
+        ensures { Gives (λ policy. policy) result (policy_in (table_view table.now)) }
+    {
+        if !has_only(table, &TOP_KEYS) {
+            return Err(ReadError::Fault(PolicyFault::UnknownKey));
+        }
+        let first_year = required(table, "first_year")?;
+        let last_year = required(table, "last_year")?;
+        let product = required(table, "product")?;
+        let store = required(table, "store")?;
+        let customer = required(table, "customer")?;
+        let product = dimension::attributes_of(alloc, Dim::Product, product)?;
+        let store = dimension::attributes_of(alloc, Dim::Store, store)?;
+        let customer = dimension::attributes_of(alloc, Dim::Customer, customer)?;
+        let years = years_of(first_year, last_year)?;
+        let holidays = holidays_of(alloc, years, optional(table, "holiday"))?;
+        Ok(Policy {
+            product,
+            store,
+            customer,
+            years,
+            holidays,
+        })
+    }
+
+    /// The slot, from 1, and the number of the type of the dimension's attribute with the name.
+    pub fn attribute(&self, dim: Dim, name: &str) -> Option<(usize, u8)>
+        ensures { result ≡ slot_from 1 name.now (attributes_of self.now dim) }
+    {
+        slot_of(self.attributes(dim), name)
+    }
+
+    /// Whether a newer policy may take this one's place: each dimension's names stand in the same slots, more may follow,
+    /// and no year is lost. Types and holidays may change.
+    pub fn fits(&self, newer: &Policy) -> bool
+        ensures { result ≡ fits self.now newer.now }
+    {
+        are_kept(self.product.as_slice(), newer.product.as_slice())
+            && are_kept(self.store.as_slice(), newer.store.as_slice())
+            && are_kept(self.customer.as_slice(), newer.customer.as_slice())
+            && newer.years.first <= self.years.first
+            && self.years.last <= newer.years.last
+    }
+
     /// The policy of a trial that names none: product `description` of type 1 and `brand` of type 2, store `city` and
     /// customer `tier` of type 2, and the years 2023 to 2026 without a holiday.
     pub fn trial(alloc: Global) -> Result<Policy, AllocError>
         ensures { IfOk result (λ policy. policy ≡ trial_policy) }
     {
         let mut product = Attributes::new(alloc);
-        add(
-            alloc,
-            &mut product,
-            "description",
-            AttributeType::Overwrite,
-        )?;
+        add(alloc, &mut product, "description", AttributeType::Overwrite)?;
         add(alloc, &mut product, "brand", AttributeType::NewRow)?;
         let mut store = Attributes::new(alloc);
         add(alloc, &mut store, "city", AttributeType::NewRow)?;

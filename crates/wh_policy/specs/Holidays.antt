@@ -1,0 +1,61 @@
+-- The holidays of a calendar, as a policy file writes them.
+use Rattle.std.specs.Prelude.{ℕ, Bool, ◌&&◌, not, nat_le, codes, List, [], ◌∷◌, ◌++◌, Option, Some, None, Result, Ok, Err, option_and_then}
+use Rattle.std.specs.List.{list_any}
+use Rattle.toml.specs.Data.{Data, Members, as_str}
+use Rattle.wh_day.specs.Reading.{◌>>=◌}
+use Rattle.wh_day.specs.Day.{read_day, year_of}
+use Rattle.wh_day.specs.Holidays.{is_on}
+use Rattle.wh_day.specs.Value.{read_value}
+use Rattle.wh_day.specs.declared.holiday.Holiday.{Holiday}
+use Rattle.wh_policy.specs.declared.fault.PolicyFault.{PolicyFault}
+use Rattle.wh_policy.specs.declared.fault.PolicyFault.TheVariants.{UnknownKey, BadHoliday}
+use Rattle.wh_policy.specs.declared.policy.Years.{Years}
+use Rattle.wh_policy.specs.Document.{or_fault, unless_fault, has_only, required, tables_at}
+
+-- the day lies in these years
+abbrev pub is_within : Years → ℕ → Bool
+is_within years day = nat_le years.first (year_of day) && nat_le (year_of day) years.last
+
+abbrev pub found_day : Years → Option ℕ → Result ℕ PolicyFault
+found_day years None = Err BadHoliday
+found_day years (Some day) = unless_fault (is_within years day) BadHoliday (Ok day)
+
+-- the day within the years that a value writes
+unfoldable pub day_at : Years → Data → Result ℕ PolicyFault
+day_at years content = found_day years (option_and_then read_day (as_str content))
+
+-- a value with at least one byte
+abbrev pub read_named : List ℕ → Option (List ℕ)
+read_named [] = None
+read_named (first ∷ rest) = read_value (first ∷ rest)
+
+-- the name of a holiday that a value writes
+unfoldable pub title_at : Data → Result (List ℕ) PolicyFault
+title_at content = or_fault BadHoliday (option_and_then read_named (as_str content))
+
+abbrev pub holiday_keys : List (List ℕ)
+holiday_keys = codes "day" ∷ codes "name" ∷ []
+
+-- the holiday that a table writes, after those of the earlier tables
+unfoldable pub holiday_at : Years → List Holiday → Members → Result Holiday PolicyFault
+holiday_at years earlier members = unless_fault (has_only holiday_keys members) UnknownKey (do
+  day_content ← required (codes "day") members
+  name_content ← required (codes "name") members
+  day ← day_at years day_content
+  name ← title_at name_content
+  unless_fault (not (list_any (is_on day) earlier)) BadHoliday (Ok (record { day = day; name = name })))
+
+-- the holidays that these tables write, after the earlier ones
+unfoldable pub holidays_after : Years → List Holiday → List Members → Result (List Holiday) PolicyFault
+holidays_after years earlier [] = Ok []
+holidays_after years earlier (members ∷ tables) = do
+  first ← holiday_at years earlier members
+  others ← holidays_after years (earlier ++ first ∷ []) tables
+  Ok (first ∷ others)
+
+-- the holidays of the years: none where the key is absent
+unfoldable pub holidays_at : Years → Option Data → Result (List Holiday) PolicyFault
+holidays_at years None = Ok []
+holidays_at years (Some content) = do
+  tables ← tables_at BadHoliday content
+  holidays_after years [] tables

@@ -1,0 +1,20 @@
+-- The years of a calendar, as a policy file writes them.
+use Rattle.std.specs.Prelude.{◌+◌, ◌&&◌, nat_le, nat_lt, ℤ, pos, negsuc, Option, Some, None, Result, Ok, Err}
+use Rattle.toml.specs.Data.{Data, as_integer}
+use Rattle.wh_policy.specs.declared.fault.PolicyFault.{PolicyFault}
+use Rattle.wh_policy.specs.declared.fault.PolicyFault.TheVariants.{BadYears}
+use Rattle.wh_policy.specs.declared.policy.Years.{Years}
+use Rattle.wh_policy.specs.Document.{unless_fault}
+
+-- up to 30 years from 1900 to 2199
+abbrev pub found_years : Option ℤ → Option ℤ → Result Years PolicyFault
+found_years (Some (pos first)) (Some (pos last)) =
+    unless_fault (nat_le 1900 first && nat_le last 2199 && nat_le first last && nat_lt last (first + 30)) BadYears (Ok (record { first = first; last = last }))
+found_years (Some (pos first)) (Some (negsuc last)) = Err BadYears
+found_years (Some (pos first)) None = Err BadYears
+found_years (Some (negsuc first)) last = Err BadYears
+found_years None last = Err BadYears
+
+-- the years from one value to another
+unfoldable pub years_at : Data → Data → Result Years PolicyFault
+years_at first last = found_years (as_integer first) (as_integer last)

@@ -1,0 +1,142 @@
+//! Reads the attributes of a dimension.
+
+ghost use Rattle.std.specs.Prelude.{◌≡◌, [], map};
+ghost use Rattle.std.specs.List.{list_any, list_all};
+ghost use Rattle.wh_day.specs.Reading.{Gives};
+ghost use Rattle.toml.specs.View.{view, table_view};
+ghost use Rattle.wh_policy.specs.Attributes.{is_name_byte, is_word, is_name, name_at, kind_at, takes_profile, is_named, attribute_at, attributes_after, attributes_at};
+
+use crate::attribute::{Attribute, AttributeType, Attributes, Dim};
+use crate::document::{has_only, required, tables};
+use crate::fault::PolicyFault;
+use std::alloc::Global;
+use toml::{Table, Value as TomlValue};
+use wh_day::{ReadError, Value};
+
+fn is_name_byte(byte: u8) -> bool
+    ensures { result ≡ is_name_byte byte }
+{
+    byte.is_ascii_lowercase() || byte.is_ascii_digit() || byte == b'_'
+}
+
+fn has_name_bytes(bytes: &[u8]) -> bool
+    ensures { result ≡ list_all is_name_byte bytes.now }
+{
+    bytes.iter().all(|byte| is_name_byte(*byte))
+}
+
+fn is_word(bytes: &[u8]) -> bool
+    ensures { result ≡ is_word bytes.now }
+{
+    match bytes {
+        [] => false,
+        [first, rest @ ..] => {
+            first.is_ascii_lowercase() && has_name_bytes(rest) && rest.len() < 24
+        }
+    }
+}
+
+fn is_name(name: &str) -> bool
+    ensures { result ≡ is_name name.now }
+{
+    is_word(name.as_bytes()) && name != "id" && name != "day"
+}
+
+#[tactic(auto, unfolding(crate::specs::Attributes::name_at))]
+fn name_of(alloc: Global, value: &TomlValue) -> Result<Value, ReadError<PolicyFault>>
+    ensures { Gives (λ name. name) result (name_at (view value.now)) }
+{
+    match value.as_str() {
+        Some(name) if is_name(name) => Ok(Value::new(alloc, name)?),
+        _ => Err(ReadError::Fault(PolicyFault::BadName)),
+    }
+}
+
+#[tactic(auto, unfolding(crate::specs::Attributes::kind_at))]
+fn kind_of(value: &TomlValue) -> Result<AttributeType, ReadError<PolicyFault>>
+    ensures { Gives (λ kind. kind) result (kind_at (view value.now)) }
+{
+    let Some(number) = value.as_integer() else {
+        return Err(ReadError::Fault(PolicyFault::BadType));
+    };
+    match AttributeType::from_number(number) {
+        Some(kind) => Ok(kind),
+        None => Err(ReadError::Fault(PolicyFault::BadType)),
+    }
+}
+
+// Whether a dimension takes attributes of the profile, of types 4 and 5. None does so far.
+fn takes_profile(dim: Dim) -> bool
+    ensures { result ≡ takes_profile dim }
+{
+    match dim {
+        Dim::Product | Dim::Store | Dim::Customer => false,
+    }
+}
+
+fn has_name(attributes: &[Attribute], name: &str) -> bool
+    ensures { result ≡ list_any (is_named name.now) attributes.now }
+{
+    attributes
+        .iter()
+        .any(|attribute| attribute.name.as_str() == name)
+}
+
+#[tactic(auto, unfolding(crate::specs::Attributes::attribute_at))]
+fn attribute_of(
+    alloc: Global,
+    dim: Dim,
+    earlier: &[Attribute],
+    table: &Table,
+) -> Result<Attribute, ReadError<PolicyFault>>
+    ensures { Gives (λ attribute. attribute) result (attribute_at dim earlier.now (table_view table.now)) }
+{
+    if !has_only(table, &["name", "type"]) {
+        return Err(ReadError::Fault(PolicyFault::UnknownKey));
+    }
+    let name = required(table, "name")?;
+    let kind = required(table, "type")?;
+    let name = name_of(alloc, name)?;
+    let kind = kind_of(kind)?;
+    if kind.is_profile() && !takes_profile(dim) {
+        return Err(ReadError::Fault(PolicyFault::ProfileOutside));
+    }
+    if has_name(earlier, name.as_str()) {
+        return Err(ReadError::Fault(PolicyFault::NamedTwice));
+    }
+    Ok(Attribute { name, kind })
+}
+
+fn attribute_list(
+    alloc: Global,
+    dim: Dim,
+    tables: &[&Table],
+) -> Result<Attributes, ReadError<PolicyFault>>
+    ensures { Gives (λ attributes. attributes) result (attributes_after dim [] (map (λ t. table_view t.now) tables.now)) }
+{
+    let mut attributes = Attributes::new(alloc);
+    for table in tables {
+        let next = attribute_of(alloc, dim, attributes.as_slice(), table)?;
+        attributes.push(next)?;
+    }
+    Ok(attributes)
+}
+
+/// The attributes of a dimension, in the order of their slots.
+#[tactic(auto, unfolding(crate::specs::Attributes::attributes_at))]
+pub(crate) fn attributes_of(
+    alloc: Global,
+    dim: Dim,
+    value: &TomlValue,
+) -> Result<Attributes, ReadError<PolicyFault>>
+    ensures { Gives (λ attributes. attributes) result (attributes_at dim (view value.now)) }
+{
+    let tables = tables(alloc, PolicyFault::Missing, value)?;
+    if tables.is_empty() {
+        return Err(ReadError::Fault(PolicyFault::Missing));
+    }
+    if tables.len() > 6 {
+        return Err(ReadError::Fault(PolicyFault::TooMany));
+    }
+    attribute_list(alloc, dim, &tables)
+}

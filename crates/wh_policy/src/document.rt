@@ -1,0 +1,107 @@
+//! The tables of a policy file.
+
+ghost use Rattle.std.specs.Prelude.{◌≡◌, map, option_map, string_bytes};
+ghost use Rattle.std.specs.Str.{bytes_eq};
+ghost use Rattle.std.specs.List.{list_any, list_all};
+ghost use Rattle.std.specs.BTreeMap.{keys};
+ghost use Rattle.wh_day.specs.Reading.{Gives};
+ghost use Rattle.toml.specs.Data.{get_member};
+ghost use Rattle.toml.specs.View.{view, items_view, table_view};
+ghost use Rattle.wh_policy.specs.Document.{document_at, has_only, required, tables_in, tables_at};
+
+use crate::fault::PolicyFault;
+use std::alloc::Global;
+use toml::{Table, Value};
+use wh_day::ReadError;
+
+/// The table that the bytes write.
+#[tactic(auto, unfolding(crate::specs::Document::document_at))]
+pub(crate) fn document(alloc: Global, bytes: &[u8]) -> Result<Table, ReadError<PolicyFault>>
+    ensures { Gives table_view result (document_at bytes.now) }
+{
+    if bytes.len() > 65_536 {
+        return Err(ReadError::Fault(PolicyFault::NotToml));
+    }
+    let Ok(text) = std::str::from_utf8(bytes) else {
+        return Err(ReadError::Fault(PolicyFault::NotToml));
+    };
+    match toml::table_from_str(alloc, text) {
+        Ok(table) => Ok(table),
+        Err(error) => {
+            if error.is_memory() {
+                Err(ReadError::Memory)
+            } else {
+                Err(ReadError::Fault(PolicyFault::NotToml))
+            }
+        }
+    }
+}
+
+/// The value at a key, if it is there.
+pub(crate) fn optional<'a>(table: &'a Table, key: &str) -> Option<&'a Value>
+    ensures { option_map (λ value. view value.now) result ≡ get_member key.now (table_view table.now) }
+{
+    table.get(key)
+}
+
+/// The value at a key that has to be there.
+#[tactic(auto, unfolding(crate::specs::Document::required))]
+pub(crate) fn required<'a>(table: &'a Table, key: &str) -> Result<&'a Value, ReadError<PolicyFault>>
+    ensures { Gives (λ value. view value.now) result (required key.now (table_view table.now)) }
+{
+    match optional(table, key) {
+        Some(value) => Ok(value),
+        None => Err(ReadError::Fault(PolicyFault::Missing)),
+    }
+}
+
+/// Whether each key of the table is one of the known ones.
+pub(crate) fn has_only(table: &Table, known: &[&str]) -> bool
+    ensures { result ≡ has_only (map (λ k. k.now) known.now) (table_view table.now) }
+{
+    are_known(table, known)
+}
+
+fn are_known(table: &Table, known: &[&str]) -> bool
+    ensures { result ≡ list_all (λ key. list_any (λ name. bytes_eq (string_bytes key) name.now) known.now) (keys table.now) }
+{
+    table.keys().all(|key| is_known(known, key.as_str()))
+}
+
+fn is_known(known: &[&str], key: &str) -> bool
+    ensures { result ≡ list_any (λ name. bytes_eq key.now name.now) known.now }
+{
+    known.iter().any(|name| key == *name)
+}
+
+/// The tables of an array, each element one; else the fault.
+#[tactic(auto, unfolding(crate::specs::Document::tables_at))]
+pub(crate) fn tables(
+    alloc: Global,
+    fault: PolicyFault,
+    value: &Value,
+) -> Result<Vec<&Table>, ReadError<PolicyFault>>
+    ensures { Gives (λ tables. map (λ t. table_view t.now) tables.items) result (tables_at fault (view value.now)) }
+{
+    let Some(items) = value.as_array() else {
+        return Err(ReadError::Fault(fault));
+    };
+    table_list(alloc, fault, items)
+}
+
+fn table_list(
+    alloc: Global,
+    fault: PolicyFault,
+    items: &[Value],
+) -> Result<Vec<&Table>, ReadError<PolicyFault>>
+    ensures { Gives (λ tables. map (λ t. table_view t.now) tables.items) result (tables_in fault (items_view items.now)) }
+{
+    let mut tables = Vec::new(alloc);
+    for item in items {
+        match item.as_table() {
+            Some(table) => tables.push(table)?,
+            None => return Err(ReadError::Fault(fault)),
+        }
+    }
+    Ok(tables)
+}

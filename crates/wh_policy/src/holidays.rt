@@ -1,0 +1,107 @@
+//! Reads the holidays of a calendar.
+
+ghost use Rattle.std.specs.Prelude.{◌≡◌, [], false, map, option_map, IfOk};
+ghost use Rattle.std.specs.List.{list_any};
+ghost use Rattle.wh_day.specs.Holidays.{is_on};
+ghost use Rattle.wh_day.specs.Reading.{Gives};
+ghost use Rattle.toml.specs.View.{view, table_view};
+ghost use Rattle.wh_policy.specs.Holidays.{is_within, day_at, title_at, holiday_at, holidays_after, holidays_at};
+
+use crate::document::{has_only, required, tables};
+use crate::fault::PolicyFault;
+use crate::policy::Years;
+use std::alloc::Global;
+use toml::{Table, Value as TomlValue};
+use wh_day::{Day, Holiday, Holidays, ReadError, Value};
+
+fn is_within(years: Years, day: Day) -> bool
+    ensures { result ≡ is_within years day }
+{
+    let year = day.key() / 10_000;
+    years.first as u32 <= year && year <= years.last as u32
+}
+
+#[tactic(auto, unfolding(crate::specs::Holidays::day_at))]
+fn day_of(years: Years, value: &TomlValue) -> Result<Day, ReadError<PolicyFault>>
+    ensures { Gives (λ day. day) result (day_at years (view value.now)) }
+{
+    let Some(text) = value.as_str() else {
+        return Err(ReadError::Fault(PolicyFault::BadHoliday));
+    };
+    match Day::read(text.as_bytes()) {
+        Some(day) if is_within(years, day) => Ok(day),
+        _ => Err(ReadError::Fault(PolicyFault::BadHoliday)),
+    }
+}
+
+#[tactic(auto, unfolding(crate::specs::Holidays::title_at))]
+fn title_of(alloc: Global, value: &TomlValue) -> Result<Value, ReadError<PolicyFault>>
+    ensures { Gives (λ name. name) result (title_at (view value.now)) }
+{
+    let Some(text) = value.as_str() else {
+        return Err(ReadError::Fault(PolicyFault::BadHoliday));
+    };
+    match text.as_bytes() {
+        [] => Err(ReadError::Fault(PolicyFault::BadHoliday)),
+        bytes => match Value::read(alloc, bytes)? {
+            Some(name) => Ok(name),
+            None => Err(ReadError::Fault(PolicyFault::BadHoliday)),
+        },
+    }
+}
+
+#[tactic(auto, unfolding(crate::specs::Holidays::holiday_at))]
+fn holiday_of(
+    alloc: Global,
+    years: Years,
+    earlier: &Holidays,
+    table: &Table,
+) -> Result<Holiday, ReadError<PolicyFault>>
+    ensures value { Gives (λ holiday. holiday) result (holiday_at years earlier.now (table_view table.now)) }
+    ensures new { IfOk result (λ holiday. list_any (is_on holiday.day) earlier.now ≡ false) }
+{
+    if !has_only(table, &["day", "name"]) {
+        return Err(ReadError::Fault(PolicyFault::UnknownKey));
+    }
+    let day = required(table, "day")?;
+    let name = required(table, "name")?;
+    let day = day_of(years, day)?;
+    let name = title_of(alloc, name)?;
+    if earlier.has(day) {
+        return Err(ReadError::Fault(PolicyFault::BadHoliday));
+    }
+    Ok(Holiday { day, name })
+}
+
+fn holiday_list(
+    alloc: Global,
+    years: Years,
+    tables: &[&Table],
+) -> Result<Holidays, ReadError<PolicyFault>>
+    ensures { Gives (λ holidays. holidays) result (holidays_after years [] (map (λ t. table_view t.now) tables.now)) }
+{
+    let mut holidays = Holidays::new(alloc);
+    for table in tables {
+        let next = holiday_of(alloc, years, &holidays, table)?;
+        holidays.push(next)?;
+    }
+    Ok(holidays)
+}
+
+/// The holidays of the years, in the order of their tables; none where there is no value.
+#[tactic(auto, unfolding(crate::specs::Holidays::holidays_at))]
+pub(crate) fn holidays_of(
+    alloc: Global,
+    years: Years,
+    value: Option<&TomlValue>,
+) -> Result<Holidays, ReadError<PolicyFault>>
+    ensures { Gives (λ holidays. holidays) result (holidays_at years (option_map (λ v. view v.now) value.entry)) }
+{
+    match value {
+        None => Ok(Holidays::new(alloc)),
+        Some(value) => {
+            let tables = tables(alloc, PolicyFault::BadHoliday, value)?;
+            holiday_list(alloc, years, &tables)
+        }
+    }
+}
