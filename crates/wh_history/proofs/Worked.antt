@@ -3,7 +3,7 @@ use Rattle.std.proofs.Common.{◌≡◌, ℕ, Bool, true, false, List, [], ◌�
 use Rattle.std.specs.Prelude.{codes, pos, take}
 use Rattle.wh_day.specs.Day.{day_before}
 use Rattle.wh_day.specs.Value.{none_text, unknown_text, no_card_text}
-use Rattle.wh_policy.specs.Policy.{described}
+use Rattle.wh_policy.specs.Policy.{described, trial_policy}
 use Rattle.wh_policy.specs.declared.policy.Policy.{Policy}
 use Rattle.wh_policy.specs.declared.attribute.Dim.TheVariants.{Product, Customer}
 use Rattle.wh_policy.specs.declared.attribute.AttributeType.{AttributeType}
@@ -11,7 +11,7 @@ use Rattle.wh_policy.specs.declared.attribute.AttributeType.TheVariants.{RetainO
 use Rattle.wh_policy.specs.declared.record.DimensionRecord.{DimensionRecord}
 use Rattle.wh_policy.specs.declared.record.SaleRecord.{SaleRecord}
 use Rattle.wh_history.specs.Accepted.{Accepted, Content, Governs, Describes, Sells}
-use Rattle.wh_history.specs.Tables.{dimension_row, member_row, change_row, profile_row, fact_row, command_row}
+use Rattle.wh_history.specs.Tables.{dimension_row, member_row, change_row, profile_row, fact_row, command_row, dimension_table, trial_commands}
 use Rattle.wh_history.specs.declared.rows.DimRow.{DimRow}
 use Rattle.wh_history.specs.declared.facts.Fact.{Fact}
 
@@ -311,3 +311,22 @@ row-51 = refl
 row-52 : fact_row (take 22 commands) (codes "T2") 1 ≡ Some (fact (codes "T2") 20240610 (1, 9, 1) (1, 2, 1) 2 1 1000 700)
 unfolding none_text unknown_text no_card_text day_before
 row-52 = refl
+
+-- trials under the policy of a trial that names none
+row-53 : dimension_table (trial_commands trial_policy Product (told (codes "P1") 20240110 (codes "Cola 1l" ∷ codes "Acme" ∷ []) ∷ told (codes "P1") 20240201 (codes "Cola 1.0l" ∷ codes "Bolt" ∷ []) ∷ [])) Product ≡ dim_row 1 1 (codes "P1") 19000101 20240131 false (codes "Cola 1.0l" ∷ codes "Acme" ∷ [] ∷ [] ∷ [] ∷ [] ∷ []) ([] ∷ [] ∷ [] ∷ [] ∷ [] ∷ [] ∷ []) 0 ∷ dim_row 3 1 (codes "P1") 20240201 99991231 true (codes "Cola 1.0l" ∷ codes "Bolt" ∷ [] ∷ [] ∷ [] ∷ [] ∷ []) ([] ∷ [] ∷ [] ∷ [] ∷ [] ∷ [] ∷ []) 0 ∷ []
+unfolding none_text unknown_text no_card_text day_before
+row-53 = refl
+
+row-54 : dimension_table (trial_commands trial_policy Product (told (codes "P1") 19000101 (codes "Cola 1l" ∷ codes "Acme" ∷ []) ∷ [])) Product ≡ dim_row 1 1 (codes "P1") 19000101 99991231 true (codes "Cola 1l" ∷ codes "Acme" ∷ [] ∷ [] ∷ [] ∷ [] ∷ []) ([] ∷ [] ∷ [] ∷ [] ∷ [] ∷ [] ∷ []) 0 ∷ []
+unfolding none_text unknown_text no_card_text day_before
+row-54 = refl
+
+-- rows in order of surrogate key, where records come out of the order of their days
+row-55 : dimension_table (trial_commands usual Product (told (codes "P1") 20240110 (codes "Cola 1l" ∷ codes "Acme" ∷ codes "Drinks" ∷ codes "Grocery" ∷ none_text ∷ codes "North" ∷ []) ∷ told (codes "P1") 20240401 (codes "Cola 1l" ∷ codes "Acme" ∷ codes "Soft drinks" ∷ codes "Grocery" ∷ codes "2019" ∷ codes "North" ∷ []) ∷ told (codes "P1") 20240201 (codes "Cola 1l" ∷ codes "Acme" ∷ codes "Drinks" ∷ codes "Food" ∷ codes "2020" ∷ codes "South" ∷ []) ∷ [])) Product ≡ dim_row 1 1 (codes "P1") 19000101 20240131 false (codes "Cola 1l" ∷ codes "Acme" ∷ codes "Drinks" ∷ codes "Grocery" ∷ codes "2019" ∷ codes "North" ∷ []) ([] ∷ [] ∷ codes "Soft drinks" ∷ [] ∷ [] ∷ codes "South" ∷ []) 0 ∷ dim_row 3 1 (codes "P1") 20240401 99991231 true (codes "Cola 1l" ∷ codes "Acme" ∷ codes "Soft drinks" ∷ codes "Grocery" ∷ codes "2019" ∷ codes "North" ∷ []) ([] ∷ [] ∷ codes "Soft drinks" ∷ [] ∷ [] ∷ codes "South" ∷ []) 0 ∷ dim_row 4 1 (codes "P1") 20240201 20240331 false (codes "Cola 1l" ∷ codes "Acme" ∷ codes "Drinks" ∷ codes "Food" ∷ codes "2019" ∷ codes "North" ∷ []) ([] ∷ [] ∷ codes "Soft drinks" ∷ [] ∷ [] ∷ codes "South" ∷ []) 0 ∷ []
+unfolding none_text unknown_text no_card_text day_before
+row-55 = refl
+
+-- a table of customers begins with the row of sales without a card
+row-56 : dimension_table (trial_commands usual Customer (told (codes "C9") 20240608 (codes "Gold" ∷ codes "30-39" ∷ codes "high" ∷ []) ∷ [])) Customer ≡ dim_row 0 0 (codes "(no card)") 19000101 99991231 true (codes "(no card)" ∷ [] ∷ [] ∷ [] ∷ [] ∷ [] ∷ []) ([] ∷ [] ∷ [] ∷ [] ∷ [] ∷ [] ∷ []) 0 ∷ dim_row 1 1 (codes "C9") 19000101 99991231 true (codes "Gold" ∷ [] ∷ [] ∷ [] ∷ [] ∷ [] ∷ []) ([] ∷ [] ∷ [] ∷ [] ∷ [] ∷ [] ∷ []) 2 ∷ []
+unfolding none_text unknown_text no_card_text day_before
+row-56 = refl

@@ -67,7 +67,7 @@ pub fn newest<'a>(dated: &[&'a Change]) -> Option<&'a Change>
 }
 
 /// The value in a slot, which is the text for none where there is no such slot.
-pub fn slot_text(alloc: Global, values: &[Value], place: usize) -> Result<Value, AllocError>
+pub(crate) fn slot_text(alloc: Global, values: &[Value], place: usize) -> Result<Value, AllocError>
     ensures { IfOk result (λ t. t ≡ slot values.now place) }
 {
     match values.get(place) {
@@ -77,7 +77,7 @@ pub fn slot_text(alloc: Global, values: &[Value], place: usize) -> Result<Value,
 }
 
 /// What a change says of a slot, or that nothing is known.
-pub fn said(alloc: Global, change: Option<&Change>, place: usize) -> Result<Value, AllocError>
+pub(crate) fn said(alloc: Global, change: Option<&Change>, place: usize) -> Result<Value, AllocError>
     ensures { IfOk result (λ t. t ≡ said place (option_copied change.entry)) }
 {
     match change {
@@ -103,7 +103,7 @@ pub fn original(alloc: Global, changes: &[Change], place: usize) -> Result<Value
 }
 
 /// Of changes in order of their days, the value of the last at which it was not that text.
-pub fn last_other_than(
+pub(crate) fn last_other_than(
     alloc: Global,
     dated: &[&Change],
     place: usize,

@@ -1,8 +1,10 @@
-ghost use Rattle.std.specs.Prelude.{◌≡◌, ◌++◌, ◌∷◌, [], List, ℕ, map, IfOk, filter_map};
+//! The keys of facts, and those that a member's new rows give them.
+
+ghost use Rattle.std.specs.Prelude.{◌≡◌, map, IfOk};
 ghost use Rattle.std.specs.Option.{option_copied};
-ghost use Rattle.wh_history.specs.Dated.{dated, at};
+ghost use Rattle.wh_history.specs.Dated.{at};
 ghost use Rattle.wh_history.specs.Profiles.{current_profile};
-ghost use Rattle.wh_history.specs.Facts.{key_in, keys_with, same_keys, new_keys, rekey_of, rekeys};
+ghost use Rattle.wh_history.specs.Facts.{key_in, keys_with, same_keys, rekey_of, rekeys};
 
 use crate::dated::change_at;
 use crate::member::Change;
@@ -12,7 +14,8 @@ use std::alloc::{AllocError, Global};
 use wh_day::{Day, Value};
 use wh_policy::{AttributeType, Dim};
 
-/// The numbers of a fact that follow its members' rows.
+/// The keys of a fact that follow its members' rows: the surrogate keys of the rows that hold the sale day, and the number
+/// of the customer's profile on that day. Without a card the customer's are 0.
 #[derive(Clone, Copy, Debug, PartialEq, Eq, Drop)]
 pub struct FactKeys {
     pub store_key: u64,
@@ -21,22 +24,27 @@ pub struct FactKeys {
     pub profile: u64,
 }
 
-/// A line of a sale.
+/// A fact of the grain: one line of a ticket.
 #[derive(Debug, Drop)]
 pub struct Fact {
+    /// The ticket, which has no table of its own.
     pub ticket: Value,
+    /// The line's number on the ticket, 1 to 9999.
     pub line: u32,
     pub day: Day,
     pub keys: FactKeys,
     pub store_durable: u64,
     pub product_durable: u64,
+    /// 0 without a card.
     pub customer_durable: u64,
     pub quantity: i64,
+    /// In hundredths.
     pub amount: i64,
+    /// In hundredths.
     pub cost: i64,
 }
 
-/// Other numbers for a stored fact.
+/// Other keys for a stored fact, which its ticket and line name.
 #[derive(Debug, Drop)]
 pub struct Rekey {
     pub ticket: Value,
@@ -44,7 +52,7 @@ pub struct Rekey {
     pub keys: FactKeys,
 }
 
-/// What gives a member's facts their numbers.
+/// What gives a member's facts their keys: its rows, and its changes in order of their days.
 #[derive(Drop)]
 pub struct Keys<'a> {
     pub dim: Dim,
@@ -63,7 +71,7 @@ fn is_same_keys(a: FactKeys, b: FactKeys) -> bool
         && a.profile == b.profile
 }
 
-/// The number of the row that holds a day.
+/// The surrogate key of the row that holds a day.
 fn key_in(rows: &[DimRow], day: Day) -> u64
     ensures { result ≡ key_in rows.now day }
 {

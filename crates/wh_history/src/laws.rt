@@ -6,12 +6,14 @@ ghost use Rattle.wh_day.specs.Day.{is_day};
 ghost use Rattle.wh_policy.specs.Types.{is_outrigger, is_tracked};
 ghost use Rattle.wh_policy.specs.declared.attribute.Dim.{Dim};
 ghost use Rattle.wh_policy.specs.declared.attribute.AttributeType.{AttributeType};
+ghost use Rattle.wh_policy.specs.declared.record.DimensionRecord.{DimensionRecord};
 ghost use Rattle.wh_history.specs.Keys.{at_place};
 ghost use Rattle.wh_history.specs.Dated.{value_at};
 ghost use Rattle.wh_history.specs.Rows.{rows, holds};
 ghost use Rattle.wh_history.specs.Plan.{row_of};
-ghost use Rattle.wh_history.specs.Accepted.{Accepted, Anchor, durable_key, surrogate_key, anchors, member_of, types_in};
+ghost use Rattle.wh_history.specs.Accepted.{Accepted, Anchor, durable_key, surrogate_key, anchors, members, member_of, types_in};
 ghost use Rattle.wh_history.specs.Tables.{key_at, member_rows, numbered_row};
+ghost use Rattle.wh_history.specs.Touched.{touched, untouched, touched_by, with_batch};
 ghost use Rattle.wh_history.specs.Laws.{ChangesHaveDays, RecordsHaveDays, EachDayHasOneRow, OneRowIsCurrent, mentions_member, IsMember, IsEffective, governs};
 ghost use Rattle.wh_history.specs.declared.member.Member.{Member};
 ghost use Rattle.wh_history.specs.declared.rows.DimRow.{DimRow};
@@ -54,4 +56,10 @@ pub fn rows_by_member()
 /// The row that holds a day shows in each tracked slot the value in force on that day.
 pub fn shows_the_day()
     ensures { (kinds : List AttributeType) (combinations : List (List (List ℕ))) (m : Member) (day : ℕ) (r : DimRow) (place : ℕ) (kind : AttributeType) → ChangesHaveDays m.changes → find (holds day) (rows kinds combinations m) ≡ Some r → slice_get kinds place ≡ Some kind → is_tracked kind ≡ true → slice_get r.a place ≡ Some (value_at day place m.changes) }
+{}
+
+/// A batch is its records, one after the other: from what is stored of each member that it touches, and from how many
+/// numbers are given, they lead to the members of the list with the batch.
+pub fn record_by_record()
+    ensures { (dim : Dim) (commands : List Accepted) (id kind bytes : List ℕ) (records : List DimensionRecord) → touched (member_of dim commands) (untouched (length (members dim commands)) (length (anchors dim commands))) records ≡ touched_by dim commands (with_batch commands id kind bytes dim records) records }
 {}

@@ -1,11 +1,12 @@
-ghost use Rattle.std.specs.Prelude.{◌≡◌, ◌+◌, ◌-◌, ◌<◌, ◌≤◌, ◌++◌, ◌∷◌, [], List, ℕ, IfOk, IfSome, IfNone, OnOk, OnErr, length, filter_map};
+//! Exact plans: the edits that lead from a member's stored rows and facts to what they are to be.
+
+ghost use Rattle.std.specs.Prelude.{◌≡◌, IfOk, OnOk, filter_map};
 ghost use Rattle.std.specs.Option.{option_copied};
-ghost use Rattle.wh_history.specs.Slots.{texts_eq};
 ghost use Rattle.wh_policy.specs.Policy.{types_of};
 ghost use Rattle.wh_history.specs.Dated.{dated};
 ghost use Rattle.wh_history.specs.Rows.{rows};
 ghost use Rattle.wh_history.specs.Facts.{rekeys};
-ghost use Rattle.wh_history.specs.Plan.{IsPlan, row_of, with_key, with_keys, same_row, edit_between, edit_at};
+ghost use Rattle.wh_history.specs.Plan.{IsPlan, row_of, with_key, with_keys, edit_between, edit_at};
 
 use crate::dated::dated;
 use crate::facts::{Fact, Keys, Rekey, plan_facts};

@@ -1,8 +1,10 @@
-ghost use Rattle.std.specs.Prelude.{◌≡◌, ◌++◌, ◌∷◌, [], List, ℕ, map, IfOk, OnOk, OnErr, position, cond, unwrap_or};
+//! The profile mini-dimension: combinations of the values of types 4 and 5, and their numbers.
+
+ghost use Rattle.std.specs.Prelude.{◌≡◌, ◌++◌, ◌∷◌, [], IfOk, OnOk, position, cond, unwrap_or};
 ghost use Rattle.std.specs.List.{list_any};
 ghost use Rattle.std.specs.Option.{option_copied};
-ghost use Rattle.wh_history.specs.Slots.{picks, texts_eq};
 ghost use Rattle.wh_policy.specs.Types.{is_profile, is_outrigger};
+ghost use Rattle.wh_history.specs.Slots.{picks, texts_eq};
 ghost use Rattle.wh_history.specs.Profiles.{profile_number, current_profile};
 
 use crate::dated::slot_text;

@@ -2,7 +2,7 @@ use super::*;
 use std::alloc::{AllocError, Global};
 use std::test::Fail;
 use wh_day::{Day, Holidays, Value, Values};
-use wh_policy::{Attribute, AttributeType, Attributes, Dim, Policy, Years};
+use wh_policy::{Attribute, AttributeType, Attributes, Dim, DimensionRecord, Policy, Years};
 
 const PRODUCT: [AttributeType; 6] = [
     AttributeType::Overwrite,
@@ -211,6 +211,74 @@ fn profile_of_the_newest_record(rt: HostRuntime) -> Result<(), Fail> {
     assert_eq!(rt;
         dump(alloc, &unknown)?.as_str(),
         "4,19000101,99991231,1,(unknown),,,,,,,,,,,,1\n"
+    );
+    Ok(())
+}
+
+/// Dimension records as lines `natural,day,values`, with the day as YYYYMMDD.
+fn records(alloc: Global, lines: &[(&str, i64, &str)]) -> Result<Vec<DimensionRecord>, AllocError> {
+    let mut found = Vec::new(alloc);
+    for (natural, key, line) in lines {
+        found.push(DimensionRecord {
+            natural: Value::new(alloc, natural)?,
+            day: day(*key),
+            values: values(alloc, line)?,
+        })?;
+    }
+    Ok(found)
+}
+
+#[test]
+fn trial_of_products(rt: HostRuntime) -> Result<(), Fail> {
+    let alloc = rt.alloc();
+    let told = records(
+        alloc,
+        &[("P1", 20240110, "Cola 1l,Acme"), ("P1", 20240201, "Cola 1.0l,Bolt")],
+    )?;
+    let table = trial_table(alloc, &Policy::trial(alloc)?, Dim::Product, &told)?;
+    assert_eq!(rt;
+        dump(alloc, &table)?.as_str(),
+        "1,19000101,20240131,0,Cola 1.0l,Acme,,,,,,,,,,,0\n3,20240201,99991231,1,Cola 1.0l,Bolt,,,,,,,,,,,0\n"
+    );
+    let early = records(alloc, &[("P1", 19000101, "Cola 1l,Acme")])?;
+    let row = trial_table(alloc, &Policy::trial(alloc)?, Dim::Product, &early)?;
+    assert_eq!(rt;
+        dump(alloc, &row)?.as_str(),
+        "1,19000101,99991231,1,Cola 1l,Acme,,,,,,,,,,,0\n"
+    );
+    Ok(())
+}
+
+#[test]
+fn trial_out_of_order(rt: HostRuntime) -> Result<(), Fail> {
+    let alloc = rt.alloc();
+    let told = records(
+        alloc,
+        &[
+            ("P1", 20240110, "Cola 1l,Acme,Drinks,Grocery,,North"),
+            ("P1", 20240401, "Cola 1l,Acme,Soft drinks,Grocery,2019,North"),
+            ("P1", 20240201, "Cola 1l,Acme,Drinks,Food,2020,South"),
+        ],
+    )?;
+    let table = trial_table(alloc, &policy(alloc)?, Dim::Product, &told)?;
+    assert_eq!(rt;
+        dump(alloc, &table)?.as_str(),
+        "1,19000101,20240131,0,Cola 1l,Acme,Drinks,Grocery,2019,North,,,Soft drinks,,,South,0\n3,20240401,99991231,1,Cola 1l,Acme,Soft drinks,Grocery,2019,North,,,Soft drinks,,,South,0\n4,20240201,20240331,0,Cola 1l,Acme,Drinks,Food,2019,North,,,Soft drinks,,,South,0\n"
+    );
+    Ok(())
+}
+
+#[test]
+fn trial_of_customers(rt: HostRuntime) -> Result<(), Fail> {
+    let alloc = rt.alloc();
+    let told = records(
+        alloc,
+        &[("C9", 20240608, "Gold,30-39,high"), ("C8", 20240701, "Silver,40-49,low")],
+    )?;
+    let table = trial_table(alloc, &policy(alloc)?, Dim::Customer, &told)?;
+    assert_eq!(rt;
+        dump(alloc, &table)?.as_str(),
+        "0,19000101,99991231,1,(no card),,,,,,,,,,,,0\n1,19000101,99991231,1,Gold,,,,,,,,,,,,2\n3,19000101,99991231,1,Silver,,,,,,,,,,,,3\n"
     );
     Ok(())
 }
