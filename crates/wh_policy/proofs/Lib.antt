@@ -1,3 +1,16 @@
+pub mod AttributeLaws
 pub mod DocumentLemmas
+pub mod FileLaws
+pub mod HolidayLaws
+pub mod Judged
+pub mod NameLaws
 pub mod NameLemmas
+pub mod OnLiterals
+pub mod PolicyLaws
+pub mod ReadLaws
 pub mod ReadingLemmas
+pub mod TypeLemmas
+mod Worked
+mod WorkedTexts
+pub mod WrittenLemmas
+pub mod YearLaws

@@ -1,5 +1,5 @@
 -- The attributes of a dimension, as a policy file writes them.
-use Rattle.std.specs.Prelude.{ℕ, Bool, false, ◌&&◌, ◌||◌, not, ◌==◌, nat_le, nat_lt, codes, List, [], ◌∷◌, ◌++◌, length, Option, Some, None, Result, Ok, Err, option_and_then}
+use Rattle.std.specs.Prelude.{ℕ, Bool, false, ◌&&◌, ◌||◌, not, ◌==◌, nat_le, nat_lt, codes, List, [], ◌∷◌, length, Option, Some, None, Result, Ok, Err, option_and_then}
 use Rattle.std.specs.List.{list_any, list_all}
 use Rattle.std.specs.Char.{is_ascii_lowercase, is_ascii_digit}
 use Rattle.std.specs.Str.{bytes_eq}
@@ -11,7 +11,7 @@ use Rattle.wh_policy.specs.declared.attribute.Attribute.{Attribute}
 use Rattle.wh_policy.specs.declared.attribute.AttributeType.{AttributeType}
 use Rattle.wh_policy.specs.declared.attribute.Dim.{Dim}
 use Rattle.wh_policy.specs.declared.attribute.Dim.TheVariants.{Product, Store, Customer}
-use Rattle.wh_policy.specs.Document.{or_fault, unless_fault, has_only, required, tables_at}
+use Rattle.wh_policy.specs.Document.{or_fault, unless_fault, has_only, required, tables_at, each_after}
 use Rattle.wh_policy.specs.Types.{is_profile, type_of_number}
 
 -- a lower-case letter, a digit or '_'
@@ -61,17 +61,9 @@ attribute_at dim earlier members = unless_fault (has_only attribute_keys members
   unless_fault (takes_profile dim || not (is_profile kind)) ProfileOutside (
       unless_fault (not (list_any (is_named name) earlier)) NamedTwice (Ok (record { name = name; kind = kind }))))
 
--- the attributes that these tables write, after the earlier ones
-unfoldable pub attributes_after : Dim → List Attribute → List Members → Result (List Attribute) PolicyFault
-attributes_after dim earlier [] = Ok []
-attributes_after dim earlier (members ∷ tables) = do
-  first ← attribute_at dim earlier members
-  others ← attributes_after dim (earlier ++ first ∷ []) tables
-  Ok (first ∷ others)
-
 -- the attributes of a dimension: one to six
 unfoldable pub attributes_at : Dim → Data → Result (List Attribute) PolicyFault
 attributes_at dim content = do
   tables ← tables_at Missing content
   unless_fault (not (length tables == 0)) Missing (
-      unless_fault (nat_le (length tables) 6) TooMany (attributes_after dim [] tables))
+      unless_fault (nat_le (length tables) 6) TooMany (each_after (attribute_at dim) [] tables))

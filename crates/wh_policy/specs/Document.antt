@@ -1,5 +1,5 @@
 -- The tables of a policy file.
-use Rattle.std.specs.Prelude.{ℕ, Bool, ◌&&◌, not, true, nat_lt, if◌then◌else◌, List, [], ◌∷◌, length, Option, Some, None, Result, Ok, Err}
+use Rattle.std.specs.Prelude.{ℕ, Bool, ◌&&◌, not, true, nat_lt, if◌then◌else◌, List, [], ◌∷◌, ◌++◌, length, Option, Some, None, Result, Ok, Err}
 use Rattle.std.specs.List.{list_any}
 use Rattle.std.specs.Str.{bytes_eq, is_utf8}
 use Rattle.toml.specs.Data.{Data, Items, no_items, item, Members, no_members, member, get_member, as_array, as_table}
@@ -46,3 +46,11 @@ unfoldable pub tables_at : PolicyFault → Data → Result (List Members) Policy
 tables_at fault content = do
   items ← or_fault fault (as_array content)
   tables_in fault items
+
+-- what each of these tables gives, read after those before it
+unfoldable pub each_after : {A : Type 0} → (List A → Members → Result A PolicyFault) → List A → List Members → Result (List A) PolicyFault
+each_after read earlier [] = Ok []
+each_after read earlier (members ∷ tables) = do
+  first ← read earlier members
+  others ← each_after read (earlier ++ first ∷ []) tables
+  Ok (first ∷ others)

@@ -1,5 +1,5 @@
 -- The holidays of a calendar, as a policy file writes them.
-use Rattle.std.specs.Prelude.{ℕ, Bool, ◌&&◌, not, nat_le, codes, List, [], ◌∷◌, ◌++◌, Option, Some, None, Result, Ok, Err, option_and_then}
+use Rattle.std.specs.Prelude.{ℕ, Bool, ◌&&◌, not, nat_le, codes, List, [], ◌∷◌, Option, Some, None, Result, Ok, Err, option_and_then}
 use Rattle.std.specs.List.{list_any}
 use Rattle.toml.specs.Data.{Data, Members, as_str}
 use Rattle.wh_day.specs.Reading.{◌>>=◌}
@@ -10,7 +10,7 @@ use Rattle.wh_day.specs.declared.holiday.Holiday.{Holiday}
 use Rattle.wh_policy.specs.declared.fault.PolicyFault.{PolicyFault}
 use Rattle.wh_policy.specs.declared.fault.PolicyFault.TheVariants.{UnknownKey, BadHoliday}
 use Rattle.wh_policy.specs.declared.policy.Years.{Years}
-use Rattle.wh_policy.specs.Document.{or_fault, unless_fault, has_only, required, tables_at}
+use Rattle.wh_policy.specs.Document.{or_fault, unless_fault, has_only, required, tables_at, each_after}
 
 -- the day lies in these years
 abbrev pub is_within : Years → ℕ → Bool
@@ -45,17 +45,9 @@ holiday_at years earlier members = unless_fault (has_only holiday_keys members) 
   name ← title_at name_content
   unless_fault (not (list_any (is_on day) earlier)) BadHoliday (Ok (record { day = day; name = name })))
 
--- the holidays that these tables write, after the earlier ones
-unfoldable pub holidays_after : Years → List Holiday → List Members → Result (List Holiday) PolicyFault
-holidays_after years earlier [] = Ok []
-holidays_after years earlier (members ∷ tables) = do
-  first ← holiday_at years earlier members
-  others ← holidays_after years (earlier ++ first ∷ []) tables
-  Ok (first ∷ others)
-
 -- the holidays of the years: none where the key is absent
 unfoldable pub holidays_at : Years → Option Data → Result (List Holiday) PolicyFault
 holidays_at years None = Ok []
 holidays_at years (Some content) = do
   tables ← tables_at BadHoliday content
-  holidays_after years [] tables
+  each_after (holiday_at years) [] tables

@@ -1,7 +1,9 @@
 pub mod Attributes
 pub mod Document
 pub mod Holidays
+pub mod Laws
 pub mod Names
 pub mod Policy
 pub mod Types
+pub mod Written
 pub mod Years

@@ -4,7 +4,8 @@ ghost use Rattle.std.specs.Prelude.{◌≡◌, [], map};
 ghost use Rattle.std.specs.List.{list_any, list_all};
 ghost use Rattle.wh_day.specs.Reading.{Gives};
 ghost use Rattle.toml.specs.View.{view, table_view};
-ghost use Rattle.wh_policy.specs.Attributes.{is_name_byte, is_word, is_name, name_at, kind_at, takes_profile, is_named, attribute_at, attributes_after, attributes_at};
+ghost use Rattle.wh_policy.specs.Document.{each_after};
+ghost use Rattle.wh_policy.specs.Attributes.{is_name_byte, is_word, is_name, name_at, kind_at, takes_profile, is_named, attribute_at, attributes_at};
 
 use crate::attribute::{Attribute, AttributeType, Attributes, Dim};
 use crate::document::{has_only, required, tables};
@@ -112,7 +113,7 @@ fn attribute_list(
     dim: Dim,
     tables: &[&Table],
 ) -> Result<Attributes, ReadError<PolicyFault>>
-    ensures { Gives (λ attributes. attributes) result (attributes_after dim [] (map (λ t. table_view t.now) tables.now)) }
+    ensures { Gives (λ attributes. attributes) result (each_after (attribute_at dim) [] (map (λ t. table_view t.now) tables.now)) }
 {
     let mut attributes = Attributes::new(alloc);
     for table in tables {

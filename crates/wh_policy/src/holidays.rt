@@ -5,7 +5,8 @@ ghost use Rattle.std.specs.List.{list_any};
 ghost use Rattle.wh_day.specs.Holidays.{is_on};
 ghost use Rattle.wh_day.specs.Reading.{Gives};
 ghost use Rattle.toml.specs.View.{view, table_view};
-ghost use Rattle.wh_policy.specs.Holidays.{is_within, day_at, title_at, holiday_at, holidays_after, holidays_at};
+ghost use Rattle.wh_policy.specs.Document.{each_after};
+ghost use Rattle.wh_policy.specs.Holidays.{is_within, day_at, title_at, holiday_at, holidays_at};
 
 use crate::document::{has_only, required, tables};
 use crate::fault::PolicyFault;
@@ -78,7 +79,7 @@ fn holiday_list(
     years: Years,
     tables: &[&Table],
 ) -> Result<Holidays, ReadError<PolicyFault>>
-    ensures { Gives (λ holidays. holidays) result (holidays_after years [] (map (λ t. table_view t.now) tables.now)) }
+    ensures { Gives (λ holidays. holidays) result (each_after (holiday_at years) [] (map (λ t. table_view t.now) tables.now)) }
 {
     let mut holidays = Holidays::new(alloc);
     for table in tables {

@@ -7,6 +7,7 @@ mod dimension;
 mod document;
 mod fault;
 mod holidays;
+pub mod laws;
 mod names;
 mod policy;
 mod record;

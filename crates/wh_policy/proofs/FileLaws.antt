@@ -1,0 +1,93 @@
+-- The laws of policy files.
+use Rattle.std.proofs.Common.{◌≡◌, ◌⊎◌, ℕ, ◌≤◌, List, length, Option, Some, None, Result, Ok, Err, refl, sym, ◌∙◌, arith, inl, inr}
+use Rattle.std.specs.Str.{IsUtf8, is_utf8}
+use Rattle.std.proofs.lemmas.Bool.{cases_Bool, cases_lt, lt-ltb, both_ways, false≢true}
+use Rattle.std.proofs.lemmas.Option.{same_Some, none-some}
+use Rattle.std.proofs.lemmas.Str.{is_utf8-from_IsUtf8, IsUtf8-from_is_utf8}
+use Rattle.toml.specs.Data.{Members}
+use Rattle.toml.specs.Parse.{parse_document}
+use Rattle.wh_policy.specs.declared.fault.PolicyFault.{PolicyFault}
+use Rattle.wh_policy.specs.declared.fault.PolicyFault.TheVariants.{NotToml}
+use Rattle.wh_policy.specs.declared.policy.Policy.{Policy}
+use Rattle.wh_policy.specs.Document.{document_at}
+use Rattle.wh_policy.specs.Laws.{IsAcceptedExactly, FaultsAreThere, IsNotTomlExactly, IsReadAsWritten, PoliciesAreSound}
+use Rattle.wh_policy.specs.Policy.{policy_in, policy_at}
+use Rattle.wh_policy.specs.Written.{IsDocument}
+use Rattle.wh_policy.proofs.DocumentLemmas.{document-text, document-no_text}
+use Rattle.wh_policy.proofs.Judged.{at_ok, at_err, answers}
+use Rattle.wh_policy.proofs.PolicyLaws.{IsRead, policy_in-judged}
+use Rattle.wh_policy.proofs.ReadLaws.{is_free, writes, is_sound}
+
+document-at : (bytes : List ℕ) (members : Members) → IsDocument bytes members → document_at bytes ≡ Ok members
+document-at bytes members doc = document-text bytes doc.short doc.text ∙ rw doc.toml refl
+
+same_document : (bytes : List ℕ) (ms ns : Members) → IsDocument bytes ms → IsDocument bytes ns → ms ≡ ns
+same_document bytes ms ns a b = same_Some ms ns (sym a.toml ∙ b.toml)
+
+-- with a document the answer is that of its table
+pub at_document : (bytes : List ℕ) (members : Members) → IsDocument bytes members → policy_at bytes ≡ policy_in members
+unfolding policy_at
+at_document bytes members doc = rw (document-at bytes members doc) refl
+
+-- a file without one
+abbrev IsNoDocument : List ℕ → Type 0
+IsNoDocument bytes = (policy_at bytes ≡ Err NotToml) × ((members : Members) → ¬ IsDocument bytes members)
+
+no_document : (bytes : List ℕ) → document_at bytes ≡ Err NotToml → ((members : Members) → ¬ IsDocument bytes members) → IsNoDocument bytes
+unfolding policy_at
+no_document bytes refused none = (rw refused refl, none)
+
+ok_or_err : (policy : Policy) (fault : PolicyFault) → ◌≡◌ {A = Result Policy PolicyFault} (Ok policy) (Err fault) → ⊥
+ok_or_err policy fault e = cc
+
+parsed_or_not : (bytes : List ℕ) → length bytes ≤ 65536 → IsUtf8 bytes → (found : Option Members) → parse_document bytes ≡ found → ((members : Members) × IsDocument bytes members) ⊎ IsNoDocument bytes
+parsed_or_not bytes short text None e =
+    inr (no_document bytes (document-text bytes short text ∙ rw e refl) (λ members doc. none-some members (sym e ∙ doc.toml)))
+parsed_or_not bytes short text (Some members) e = inl (members, record { short = short; text = text; toml = e })
+
+document_or_not : (bytes : List ℕ) → ((members : Members) × IsDocument bytes members) ⊎ IsNoDocument bytes
+unfolding document_at
+document_or_not bytes = elim (cases_lt 65536 (length bytes)) [
+  | inl long ↦ inr (no_document bytes (rw (lt-ltb 65536 (length bytes) long) refl) (λ members doc. omega (arith, long, doc.short)))
+  | inr short ↦ elim (cases_Bool (is_utf8 bytes)) [
+    | inl text ↦ parsed_or_not bytes short (IsUtf8-from_is_utf8 bytes text) (parse_document bytes) refl
+    | inr other ↦ inr (no_document bytes (document-no_text bytes short (λ text. both_ways _ other (is_utf8-from_IsUtf8 bytes text))) (λ members doc. both_ways _ other (is_utf8-from_IsUtf8 bytes doc.text)))
+  ]
+]
+
+-- how the answer stands to a table
+pub ok_is : (bytes : List ℕ) (policy : Policy) → policy_at bytes ≡ Ok policy → (members : Members) × IsDocument bytes members × IsRead members policy
+ok_is bytes policy e = elim (document_or_not bytes) [
+  | inl p ↦ (p.0, p.1, at_ok (policy_in p.0) policy (policy_in-judged p.0) (sym (at_document bytes p.0 p.1) ∙ e))
+  | inr p ↦ absurd (ok_or_err policy NotToml (sym e ∙ p.0))
+]
+
+pub read_is : (bytes : List ℕ) (members : Members) (policy : Policy) → IsDocument bytes members → policy_at bytes ≡ Ok policy → IsRead members policy
+read_is bytes members policy doc e = at_ok (policy_in members) policy (policy_in-judged members) (sym (at_document bytes members doc) ∙ e)
+
+pub faults_are_there : FaultsAreThere
+faults_are_there bytes members fault doc e = at_err (policy_in members) fault (policy_in-judged members) (sym (at_document bytes members doc) ∙ e)
+
+pub not_toml_exactly : IsNotTomlExactly
+not_toml_exactly bytes = (
+  λ e members doc. faults_are_there bytes members NotToml doc e tt,
+  λ none. elim (document_or_not bytes) [ inl p ↦ absurd (none p.0 p.1) | inr p ↦ p.0 ],
+)
+
+pub accepted_exactly : IsAcceptedExactly
+accepted_exactly bytes = (
+  λ ok. elim (answers (policy_at bytes)) [
+    | inl p ↦ let (members, doc, read) = ok_is bytes p.0 p.1 in (members, doc, is_free members p.0 read)
+    | inr p ↦ absurd (false≢true (rw p.1 at ok))
+  ],
+  λ p. elim (answers (policy_at bytes)) [
+    | inl q ↦ rw q.1 refl
+    | inr q ↦ absurd (faults_are_there bytes p.0 q.0 p.1 q.1 (p.2 q.0))
+  ],
+)
+
+pub read_as_written : IsReadAsWritten
+read_as_written bytes members policy doc e = writes members policy (read_is bytes members policy doc e)
+
+pub policies_are_sound : PoliciesAreSound
+policies_are_sound bytes policy e = let (members, doc, read) = ok_is bytes policy e in is_sound members policy read

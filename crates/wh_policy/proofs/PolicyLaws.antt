@@ -1,0 +1,92 @@
+-- A whole policy file, judged.
+use Rattle.std.proofs.Common.{◌≡◌, [], Some, codes, sym, ap, ◌∙◌, arith}
+use Rattle.std.proofs.lemmas.Bool.{both_ways}
+use Rattle.std.proofs.lemmas.Option.{same_Some}
+use Rattle.toml.specs.Data.{Data, Members, get_member}
+use Rattle.wh_policy.specs.declared.fault.PolicyFault.{PolicyFault}
+use Rattle.wh_policy.specs.declared.fault.PolicyFault.TheVariants.{UnknownKey}
+use Rattle.wh_policy.specs.declared.attribute.Dim.{Dim}
+use Rattle.wh_policy.specs.declared.attribute.Dim.TheVariants.{Product, Store, Customer}
+use Rattle.wh_policy.specs.declared.policy.Policy.{Policy}
+use Rattle.wh_policy.specs.declared.policy.Years.{Years}
+use Rattle.wh_policy.specs.Attributes.{attributes_at}
+use Rattle.wh_policy.specs.Document.{has_only}
+use Rattle.wh_policy.specs.Holidays.{holidays_at}
+use Rattle.wh_policy.specs.Years.{years_at}
+use Rattle.wh_policy.specs.Policy.{attributes_of, top_keys, policy_in}
+use Rattle.wh_policy.specs.Written.{HasOnly, key_of, AreYears, WritesYears, IsFreeOf}
+use Rattle.wh_policy.proofs.Judged.{Judged, judged-ok, judged-bind, judged-more, judged-unless}
+use Rattle.wh_policy.proofs.AttributeLaws.{AreWritten, attributes_at-judged}
+use Rattle.wh_policy.proofs.HolidayLaws.{HolidaysAre, holidays_at-judged}
+use Rattle.wh_policy.proofs.WrittenLemmas.{has_only-true, has_only-from, required-judged, absent}
+use Rattle.wh_policy.proofs.YearLaws.{years_at-judged}
+
+-- the table writes the policy, and keeps what is asked of one
+pub record IsRead (members : Members) (policy : Policy) : Type 0 where
+  pub only : HasOnly top_keys members
+  pub attributes : (dim : Dim) → (content : Data) × (get_member (key_of dim) members ≡ Some content) × AreWritten content (attributes_of policy dim)
+  pub writes : WritesYears members policy.years
+  pub years : AreYears policy.years
+  pub holidays : HolidaysAre policy.years (get_member (codes "holiday") members) policy.holidays
+
+pub each_dim : (P : Dim → Type 0) → P Product → P Store → P Customer → (dim : Dim) → P dim
+each_dim P product store customer Product = product
+each_dim P product store customer Store = store
+each_dim P product store customer Customer = customer
+
+-- the fault is in the table
+abbrev pub IsIn : Members → PolicyFault → Type 0
+IsIn members fault = ¬ IsFreeOf fault members
+
+dimension-judged : (members : Members) (dim : Dim) (content : Data) → get_member (key_of dim) members ≡ Some content → Judged (AreWritten content) (IsIn members) (attributes_at dim content)
+dimension-judged members dim content there = attributes_at-judged dim content
+    (λ none whole. let (tables, has, some) = whole.dimensions dim in none tables (same_Some _ _ (sym there ∙ has)) some)
+    (λ tables is more each. more (each dim tables (there ∙ ap Some is)))
+    (λ tables is. let has = there ∙ ap Some is in record {
+      unknown = λ none keys. none (keys.attributes dim tables has);
+      missing = λ none whole. none (whole.attributes dim tables has);
+      name = λ none each. none (each dim tables has);
+      kind = λ none each. none (each dim tables has);
+      outside = λ none each. none (each dim tables has);
+      twice = λ none each. none (each dim tables has);
+    })
+
+years-judged : (members : Members) (first last : Data) → get_member (codes "first_year") members ≡ Some first → get_member (codes "last_year") members ≡ Some last
+    → Judged (λ years. WritesYears members years × AreYears years) (IsIn members) (years_at first last)
+years-judged members first last first_there last_there = judged-more _
+    (years_at-judged first last (λ none p. none p.0 (same_Some _ _ (sym first_there ∙ p.1.first)) (same_Some _ _ (sym last_there ∙ p.1.last)) p.2))
+    (λ years p. (record { first = first_there ∙ ap Some p.0; last = last_there ∙ ap Some p.1 }, p.2))
+
+holidays-judged : (members : Members) (years : Years) → WritesYears members years
+    → Judged (HolidaysAre years (get_member (codes "holiday") members)) (IsIn members) (holidays_at years (get_member (codes "holiday") members))
+holidays-judged members years writes = holidays_at-judged years (get_member (codes "holiday") members)
+    (λ content found none good. let p = rw found at good.tables in none p.0 p.1)
+    (λ content tables found is. let has = found ∙ ap Some is in record {
+      unknown = λ none keys. none (keys.holidays tables has);
+      missing = λ none whole. none (whole.holidays tables has);
+      day = λ none good. none (good.days years writes tables has);
+      name = λ none good. none (good.names tables has);
+      twice = λ none good. none (good.once tables has);
+    })
+
+pub policy_in-judged : (members : Members) → Judged (IsRead members) (IsIn members) (policy_in members)
+unfolding policy_in
+policy_in-judged members =
+    judged-unless (has_only top_keys members) UnknownKey _ (λ no keys. both_ways _ no (has_only-from top_keys members keys.top)) (λ only.
+    judged-bind {mid = λ content. get_member (codes "first_year") members ≡ Some content} _ _ (required-judged (codes "first_year") members (λ none whole. absent none (whole.top 0 [] (omega arith)))) (λ first_year first_there.
+    judged-bind {mid = λ content. get_member (codes "last_year") members ≡ Some content} _ _ (required-judged (codes "last_year") members (λ none whole. absent none (whole.top 1 [] (omega arith)))) (λ last_year last_there.
+    judged-bind {mid = λ content. get_member (codes "product") members ≡ Some content} _ _ (required-judged (codes "product") members (λ none whole. absent none (whole.top 2 [] (omega arith)))) (λ product_content product_there.
+    judged-bind {mid = λ content. get_member (codes "store") members ≡ Some content} _ _ (required-judged (codes "store") members (λ none whole. absent none (whole.top 3 [] (omega arith)))) (λ store_content store_there.
+    judged-bind {mid = λ content. get_member (codes "customer") members ≡ Some content} _ _ (required-judged (codes "customer") members (λ none whole. absent none (whole.top 4 [] (omega arith)))) (λ customer_content customer_there.
+    judged-bind {mid = AreWritten product_content} _ _ (dimension-judged members Product product_content product_there) (λ product product_is.
+    judged-bind {mid = AreWritten store_content} _ _ (dimension-judged members Store store_content store_there) (λ store store_is.
+    judged-bind {mid = AreWritten customer_content} _ _ (dimension-judged members Customer customer_content customer_there) (λ customer customer_is.
+    judged-bind {mid = λ years. WritesYears members years × AreYears years} _ _ (years-judged members first_year last_year first_there last_there) (λ years years_are.
+    judged-bind {mid = HolidaysAre years (get_member (codes "holiday") members)} _ _ (holidays-judged members years years_are.0) (λ holidays holidays_are.
+    judged-ok (record { product = product; store = store; customer = customer; years = years; holidays = holidays }) (record {
+      only = has_only-true top_keys members only;
+      attributes = each_dim _ (product_content, product_there, product_is) (store_content, store_there, store_is) (customer_content, customer_there, customer_is);
+      writes = years_are.0;
+      years = years_are.1;
+      holidays = holidays_are;
+    }))))))))))))

@@ -1,0 +1,63 @@
+-- The types of attributes and their numbers.
+use Rattle.std.proofs.Common.{◌≡◌, ◌≢◌, ◌⊎◌, ℕ, suc, zero, ◌≤◌, ℤ, pos, negsuc, Bool, true, false, List, [], ◌∷◌, Some, refl, sym, ap, arith, inl, inr, eqb}
+use Rattle.std.specs.List.{find}
+use Rattle.std.proofs.lemmas.Bool.{cases_Bool, eqb-true, true≢false}
+use Rattle.std.proofs.lemmas.Option.{same_Some, none-some}
+use Rattle.wh_policy.specs.declared.attribute.AttributeType.{AttributeType}
+use Rattle.wh_policy.specs.declared.attribute.AttributeType.TheVariants.{RetainOriginal, Overwrite, NewRow, NewAttribute, MiniDimension, MiniDimensionOutrigger, NewRowAndOverwrite, DualKeys}
+use Rattle.wh_policy.specs.Types.{every_type, type_number, type_of_number, is_profile}
+
+-- each type is found by its number
+pub type_of_number-again : (kind : AttributeType) → type_of_number (pos (type_number kind)) ≡ Some kind
+type_of_number-again RetainOriginal = refl
+type_of_number-again Overwrite = refl
+type_of_number-again NewRow = refl
+type_of_number-again NewAttribute = refl
+type_of_number-again MiniDimension = refl
+type_of_number-again MiniDimensionOutrigger = refl
+type_of_number-again NewRowAndOverwrite = refl
+type_of_number-again DualKeys = refl
+
+pub type_number-small : (kind : AttributeType) → type_number kind ≤ 7
+type_number-small RetainOriginal = omega arith
+type_number-small Overwrite = omega arith
+type_number-small NewRow = omega arith
+type_number-small NewAttribute = omega arith
+type_number-small MiniDimension = omega arith
+type_number-small MiniDimensionOutrigger = omega arith
+type_number-small NewRowAndOverwrite = omega arith
+type_number-small DualKeys = omega arith
+
+-- each number up to 7 has a type
+pub type_with : (n : ℕ) → n ≤ 7 → (kind : AttributeType) × (type_number kind ≡ n)
+type_with zero h = (RetainOriginal, refl)
+type_with (suc zero) h = (Overwrite, refl)
+type_with (suc (suc zero)) h = (NewRow, refl)
+type_with (suc (suc (suc zero))) h = (NewAttribute, refl)
+type_with (suc (suc (suc (suc zero)))) h = (MiniDimension, refl)
+type_with (suc (suc (suc (suc (suc zero))))) h = (MiniDimensionOutrigger, refl)
+type_with (suc (suc (suc (suc (suc (suc zero)))))) h = (NewRowAndOverwrite, refl)
+type_with (suc (suc (suc (suc (suc (suc (suc zero))))))) h = (DualKeys, refl)
+type_with (suc (suc (suc (suc (suc (suc (suc (suc n)))))))) h = absurd (omega arith)
+
+find_passes : {X : Type 0} (test : X → Bool) (xs : List X) (x : X) → find test xs ≡ Some x → test x ≡ true
+find_passes test [] x e = absurd (none-some x e)
+find_passes test (y ∷ ys) x e = elim (cases_Bool (test y)) [
+  | inl here ↦ rw (same_Some y x (rw here at e)) at here
+  | inr later ↦ find_passes test ys x (rw later at e)
+]
+
+-- and no other has
+pub type_of_number-is : (z : ℤ) (kind : AttributeType) → type_of_number z ≡ Some kind → z ≡ pos (type_number kind)
+type_of_number-is (negsuc n) kind e = absurd (none-some kind e)
+type_of_number-is (pos n) kind e = ap pos (sym (eqb-true _ _ (find_passes (λ (k : AttributeType). eqb (type_number k) n) every_type kind e)))
+
+pub profile_numbers : (kind : AttributeType) → is_profile kind ≡ true → (type_number kind ≡ 4) ⊎ (type_number kind ≡ 5)
+profile_numbers MiniDimension h = inl refl
+profile_numbers MiniDimensionOutrigger h = inr refl
+profile_numbers _ h = absurd cc
+
+pub other_numbers : (kind : AttributeType) → is_profile kind ≡ false → (type_number kind ≢ 4) × (type_number kind ≢ 5)
+other_numbers MiniDimension h = absurd (true≢false h)
+other_numbers MiniDimensionOutrigger h = absurd (true≢false h)
+other_numbers _ h = (λ e. omega (arith, e), λ e. omega (arith, e))
