@@ -15,6 +15,7 @@ pub record Key : Type 0 where
   pub text : List ℕ
   pub number : ℕ
 
+-- the same text and the same number
 abbrev pub is_same_key : Key → Key → Bool
 is_same_key a b = bytes_eq a.text b.text && (a.number == b.number)
 
@@ -26,6 +27,7 @@ pub record Layout (R : Type 0) : Type 0 where
   pub key : R → Key
   pub is_within : R → Bool
 
+-- the fault of this kind at the record with this number
 abbrev pub at : ℕ → FaultKind → BatchFault
 at number kind = record { kind = kind; number = number }
 

@@ -21,6 +21,7 @@ is_key_byte byte = is_ascii_alphanumeric byte || (byte == 45) || (byte == 95) ||
 abbrev pub is_key : ℕ → List ℕ → Bool
 is_key most text = nat_le 1 (length text) && nat_le (length text) most && list_all is_key_byte text
 
+-- the key that a field is
 unfoldable pub key_at : ℕ → List ℕ → Result (List ℕ) FaultKind
 key_at most field = if is_key most field then Ok field else Err BadKey
 
@@ -31,6 +32,7 @@ customer_at (first ∷ rest) = do
   key ← key_at 32 (first ∷ rest)
   Ok (Some key)
 
+-- the day that a field writes
 unfoldable pub day_at : List ℕ → Result ℕ FaultKind
 day_at field = or_fault BadDay (read_day field)
 
@@ -38,14 +40,17 @@ day_at field = or_fault BadDay (read_day field)
 abbrev pub last_effective_day : ℕ
 last_effective_day = 21991231
 
+-- the day on which a row of a dimension begins
 unfoldable pub effective_day_at : List ℕ → Result ℕ FaultKind
 effective_day_at field = do
   day ← day_at field
   if nat_le day last_effective_day then Ok day else Err BadDay
 
+-- the value that a field writes
 unfoldable pub value_at : List ℕ → Result (List ℕ) FaultKind
 value_at field = or_fault BadValue (read_value field)
 
+-- the values that fields write, one each
 unfoldable pub values_at : List (List ℕ) → Result (List (List ℕ)) FaultKind
 values_at [] = Ok []
 values_at (field ∷ fields) = do

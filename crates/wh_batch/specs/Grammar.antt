@@ -27,9 +27,11 @@ pub data WritesSigned (Writes : List ℕ → ℕ → Type 0) : List ℕ → ℤ 
   plain : (text : List ℕ) (n : ℕ) → Writes text n → WritesSigned Writes text (pos n)
   minus : (text : List ℕ) (n : ℕ) → Writes text n → WritesSigned Writes (45 ∷ text) (neg_ℤ (pos n))
 
+-- a quantity
 abbrev pub WritesQuantity : List ℕ → ℤ → Type 0
 WritesQuantity = WritesSigned (WritesDigits 1 4)
 
+-- an amount of money, in hundredths
 abbrev pub WritesAmount : List ℕ → ℤ → Type 0
 WritesAmount = WritesSigned WritesHundredths
 

@@ -40,6 +40,7 @@ dimension_key r = record { text = r.natural; number = r.day }
 abbrev pub dimension_header : List Attribute → List (List ℕ)
 dimension_header attributes = codes "id" ∷ codes "day" ∷ map (λ a. a.name) attributes
 
+-- the records of a dimension with these attributes, on any day
 abbrev pub dimension_layout : List Attribute → Layout DimensionRecord
 dimension_layout attributes = record {
   header = dimension_header attributes;
@@ -71,6 +72,7 @@ sale_record _ = Err WrongLength
 abbrev pub sale_key : SaleRecord → Key
 sale_key r = record { text = r.ticket; number = r.line }
 
+-- the names of the fields of a sale
 abbrev pub sales_header : List (List ℕ)
 sales_header = codes "ticket" ∷ codes "line" ∷ codes "day" ∷ codes "store" ∷ codes "product" ∷ codes "customer" ∷ codes "quantity" ∷ codes "amount" ∷ codes "cost" ∷ []
 
@@ -78,6 +80,7 @@ sales_header = codes "ticket" ∷ codes "line" ∷ codes "day" ∷ codes "store"
 abbrev pub is_within : Years → ℕ → Bool
 is_within years day = nat_le years.first (year_of day) && nat_le (year_of day) years.last
 
+-- sales in these years
 abbrev pub sales_layout : Years → Layout SaleRecord
 sales_layout years = record {
   header = sales_header;

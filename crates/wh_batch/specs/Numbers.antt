@@ -15,6 +15,7 @@ read_digits most text = if nat_le 1 (length text) && nat_le (length text) most &
 unfoldable pub read_fraction : List ℕ → Option ℕ
 read_fraction text = if length text == 1 then option_map (λ n. 10 * n) (read_digits 1 text) else read_digits 2 text
 
+-- a point
 abbrev pub is_point : ℕ → Bool
 is_point byte = byte == 46
 
@@ -44,11 +45,14 @@ read_quantity text = signed (read_digits 4) text
 unfoldable pub read_amount : List ℕ → Option ℤ
 read_amount text = signed read_hundredths text
 
+-- the line that a field writes
 abbrev pub line_at : List ℕ → Result ℕ FaultKind
 line_at field = or_fault BadNumber (read_line field)
 
+-- the quantity that a field writes
 abbrev pub quantity_at : List ℕ → Result ℤ FaultKind
 quantity_at field = or_fault BadNumber (read_quantity field)
 
+-- the amount that a field writes
 abbrev pub amount_at : List ℕ → Result ℤ FaultKind
 amount_at field = or_fault BadNumber (read_amount field)

@@ -17,7 +17,7 @@ use wh_day::{Day, ReadError, Value, Values};
 pub(crate) fn fields_of(alloc: Global, row: &ByteRecord) -> Result<Vec<&[u8]>, AllocError>
     ensures { IfOk result (λ fields. map (λ f. f.now) fields.items ≡ fields_of row.now) }
 {
-    let mut fields = Vec::new(alloc);
+    let mut fields = Vec::with_capacity(alloc, row.len())?;
     for i in 0..row.len() {
         if let Some(field) = row.get(i) {
             fields.push(field)?;
@@ -33,6 +33,7 @@ pub(crate) fn are_same(fields: &[&[u8]], others: &[&[u8]]) -> bool
     fields == others
 }
 
+/// What was read, or this fault.
 pub(crate) fn or_fault<T: Drop>(read: Option<T>, kind: FaultKind) -> Result<T, ReadError<FaultKind>>
     ensures { Gives (λ x. x) result (or_fault kind read) }
 {
