@@ -168,12 +168,7 @@ fn table_answer(
 }
 
 /// The table under the policy that a text writes, or the policy's first fault.
-fn answer_under(
-    alloc: Global,
-    dim: Dim,
-    policy: &[u8],
-    batch: &[u8],
-) -> Result<Answer, AllocError>
+fn answer_under(alloc: Global, dim: Dim, policy: &[u8], batch: &[u8]) -> Result<Answer, AllocError>
     ensures { IfOk result (λ answer. answer ≡ answer_under dim batch.now (policy_at policy.now)) }
 {
     match Policy::read(alloc, policy) {
@@ -186,12 +181,7 @@ fn answer_under(
 }
 
 /// A trial of the batch in a file, under the trial's own policy.
-fn plain_trial<H: Host>(
-    alloc: Global,
-    dim: Dim,
-    path: &str,
-    host: &H,
-) -> Result<Answer, AllocError>
+fn plain_trial<H: Host>(alloc: Global, dim: Dim, path: &str, host: &H) -> Result<Answer, AllocError>
     ensures { IfOk result (AnswersTrial (H.holds host.now) dim path.now None) }
 {
     let Some(batch) = file_of(alloc, path, host)? else {

@@ -60,9 +60,9 @@ fn trial_command<'a>(alloc: Global) -> Result<Command<'a>, AllocError>
     ensures app { IfOk result (λ c. app_of c ≡ trial_app) }
     ensures local { IfOk result (λ c. (out-Command c).has_globals ≡ false) }
 {
-    let policy = Arg::new(alloc, "POLICY")
-        .long("policy")
-        .help("the policy's file; without it a policy of a few attributes");
+    let policy = Arg::new(alloc, "POLICY").long("policy").help(
+        "the policy's file; without it a policy of a few attributes",
+    );
     operands_command(alloc)?.arg(policy)
 }
 

@@ -38,10 +38,7 @@ fn line_of(alloc: Global, fields: &StringRecord) -> Result<Vec<u8>, AllocError>
     ensures { IfOk result (λ line. line.items ≡ row_text default_writer (fields_of fields.now)) }
 {
     let mut writer = WriterBuilder::new().from_writer(Vec::new(alloc));
-    if writer
-        .write_byte_record(fields.as_byte_record())
-        .is_err()
-    {
+    if writer.write_byte_record(fields.as_byte_record()).is_err() {
         return Err(AllocError);
     }
     match writer.into_inner() {

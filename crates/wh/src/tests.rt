@@ -109,20 +109,8 @@ fn takes_each_line_end_and_a_mark(rt: HostRuntime) {
         b"id,day,description,brand\rP1,2024-01-10,Cola 1l,Acme\rP1,2024-02-01,Cola 1.0l,Bolt\r";
     let both =
         b"id,day,description,brand\r\nP1,2024-01-10,Cola 1l,Acme\r\nP1,2024-02-01,Cola 1.0l,Bolt\r\n";
-    expect_table(
-        &rt,
-        rt.alloc(),
-        &PRODUCT,
-        marked.as_slice(),
-        COLA_ROWS,
-    );
-    expect_table(
-        &rt,
-        rt.alloc(),
-        &PRODUCT,
-        carriage.as_slice(),
-        COLA_ROWS,
-    );
+    expect_table(&rt, rt.alloc(), &PRODUCT, marked.as_slice(), COLA_ROWS);
+    expect_table(&rt, rt.alloc(), &PRODUCT, carriage.as_slice(), COLA_ROWS);
     expect_table(&rt, rt.alloc(), &PRODUCT, both.as_slice(), COLA_ROWS);
 }
 
@@ -259,7 +247,13 @@ fn refuses_other_words(rt: HostRuntime) {
     expect_run(&rt, rt.alloc(), [].as_slice(), 4, "");
     expect_run(&rt, rt.alloc(), ["trial"].as_slice(), 4, "");
     expect_run(&rt, rt.alloc(), ["trial", "product"].as_slice(), 4, "");
-    expect_run(&rt, rt.alloc(), ["trial", "shop", "p.csv"].as_slice(), 4, "");
+    expect_run(
+        &rt,
+        rt.alloc(),
+        ["trial", "shop", "p.csv"].as_slice(),
+        4,
+        "",
+    );
     expect_run(
         &rt,
         rt.alloc(),
@@ -267,7 +261,13 @@ fn refuses_other_words(rt: HostRuntime) {
         4,
         "",
     );
-    expect_run(&rt, rt.alloc(), ["trial", "product", "-x"].as_slice(), 4, "");
+    expect_run(
+        &rt,
+        rt.alloc(),
+        ["trial", "product", "-x"].as_slice(),
+        4,
+        "",
+    );
     expect_run(&rt, rt.alloc(), ["load", "w", "product"].as_slice(), 4, "");
 }
 
@@ -276,6 +276,148 @@ fn gives_help(rt: HostRuntime) {
     expect_run(&rt, rt.alloc(), ["--help"].as_slice(), 0, "");
     expect_run(&rt, rt.alloc(), ["help", "trial"].as_slice(), 0, "");
     expect_run(&rt, rt.alloc(), ["trial", "--help"].as_slice(), 0, "");
+}
+
+/// A policy of six product attributes of the types 1, 2, 6, 7, 0 and 3, one of a store and one of a customer.
+fn policy(
+    alloc: Global,
+    last_year: &str,
+    first_type: &str,
+    holiday: &str,
+) -> Result<String, AllocError> {
+    let mut text = format!(in alloc;
+        "first_year = 2023\nlast_year = {last_year}\n[[product]]\nname = \"description\"\ntype = {first_type}\n"
+    )?;
+    let attributes =
+        "[[product]]\nname = \"brand\"\ntype = 2\n[[product]]\nname = \"category\"\ntype = 6\n[[product]]\nname = \"department\"\ntype = 7\n[[product]]\nname = \"launched\"\ntype = 0\n[[product]]\nname = \"supplier\"\ntype = 3\n[[store]]\nname = \"city\"\ntype = 2\n[[customer]]\nname = \"tier\"\ntype = 2\n";
+    text.push_str(attributes)?;
+    let last = format!(in alloc; "[[holiday]]\nday = \"{holiday}\"\nname = \"Christmas Day\"\n")?;
+    text.push_str(last.as_str())?;
+    Ok(text)
+}
+
+const UNDER: [&str; 5] = ["trial", "product", "p.csv", "--policy", "p.toml"];
+
+const DRINKS: &[u8] =
+    b"id,day,description,brand,category,department,launched,supplier\nP1,2024-01-10,Cola 1l,Acme,Drinks,Grocery,,North\nP1,2024-04-01,Cola 1l,Acme,Soft drinks,Grocery,2019,North\nP1,2024-02-01,Cola 1l,Acme,Drinks,Food,2020,South\n";
+
+fn expect_under(
+    rt: &impl Abort,
+    alloc: Global,
+    policy: &[u8],
+    batch: &[u8],
+    status: u8,
+    text: &str,
+) {
+    let files = [("p.toml", policy), ("p.csv", batch)];
+    let mut host = MemoryHost { files: &files };
+    let mut out = Page::new(ROOM, ROOM, ROOM);
+    let answered = run(alloc, &UNDER, &mut host, &mut out);
+    assert!(rt; out.text() == text.as_bytes(), "{answered}");
+    assert_eq!(rt; answered, status);
+}
+
+/// The original is the first value in order of acceptance; the prior value is that of the day before the newest that
+/// differs, also where it came last.
+#[test]
+fn prints_a_table_under_a_policy(rt: HostRuntime) -> Result<(), Fail> {
+    let flat = policy(rt.alloc(), "2026", "1", "2024-12-25")?;
+    let rows =
+        "1,1,P1,19000101,20240131,0,Cola 1l,Acme,Drinks,Grocery,2019,North,,,Soft drinks,,,South,0\n3,1,P1,20240401,99991231,1,Cola 1l,Acme,Soft drinks,Grocery,2019,North,,,Soft drinks,,,South,0\n4,1,P1,20240201,20240331,0,Cola 1l,Acme,Drinks,Food,2019,North,,,Soft drinks,,,South,0\n";
+    let table = format!(in rt.alloc(); "{COLUMNS}{rows}")?;
+    expect_under(&rt, rt.alloc(), flat.as_bytes(), DRINKS, 0, table.as_str());
+    Ok(())
+}
+
+/// The policy's fault comes before the batch's.
+#[test]
+fn tells_the_fault_of_a_policy(rt: HostRuntime) -> Result<(), Fail> {
+    let bad_type = policy(rt.alloc(), "2026", "8", "2024-12-25")?;
+    expect_under(
+        &rt,
+        rt.alloc(),
+        bad_type.as_bytes(),
+        b"",
+        2,
+        "refused: E4 policy, P5 bad type\n",
+    );
+    let too_long = policy(rt.alloc(), "2053", "1", "2024-12-25")?;
+    expect_under(
+        &rt,
+        rt.alloc(),
+        too_long.as_bytes(),
+        DRINKS,
+        2,
+        "refused: E4 policy, P10 bad years\n",
+    );
+    Ok(())
+}
+
+#[test]
+fn tells_a_holiday_that_is_no_day(rt: HostRuntime) -> Result<(), Fail> {
+    let text = policy(rt.alloc(), "2026", "1", "2023-02-29")?;
+    expect_under(
+        &rt,
+        rt.alloc(),
+        text.as_bytes(),
+        DRINKS,
+        2,
+        "refused: E4 policy, P11 bad holiday\n",
+    );
+    Ok(())
+}
+
+#[test]
+fn tells_a_text_that_is_cut(rt: HostRuntime) {
+    expect_under(
+        &rt,
+        rt.alloc(),
+        b"first_year = 2023\nlast_year = 2026\n[[product]]\nname = \"desc",
+        DRINKS,
+        2,
+        "refused: E4 policy, P1 not toml\n",
+    );
+}
+
+/// Thirty years are the most.
+#[test]
+fn takes_thirty_years(rt: HostRuntime) -> Result<(), Fail> {
+    let text = policy(rt.alloc(), "2052", "1", "2024-12-25")?;
+    expect_under(
+        &rt,
+        rt.alloc(),
+        text.as_bytes(),
+        b"id,day,description,brand,category,department,launched,supplier",
+        0,
+        COLUMNS,
+    );
+    Ok(())
+}
+
+/// The policy's file is asked for first.
+#[test]
+fn tells_a_missing_policy(rt: HostRuntime) {
+    expect_run(
+        &rt,
+        rt.alloc(),
+        ["trial", "product", "none.csv", "--policy", "none.toml"].as_slice(),
+        3,
+        "failed: F1 file, none.toml\n",
+    );
+    expect_run(
+        &rt,
+        rt.alloc(),
+        ["trial", "product", "none.csv", "--policy", "p.csv"].as_slice(),
+        3,
+        "failed: F1 file, none.csv\n",
+    );
+    expect_run(
+        &rt,
+        rt.alloc(),
+        ["trial", "product", "p.csv", "--policy"].as_slice(),
+        4,
+        "",
+    );
 }
 
 fn is_beginning(part: &[u8], whole: &[u8]) -> bool {
