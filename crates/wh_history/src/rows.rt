@@ -2,7 +2,8 @@
 
 ghost use Rattle.std.specs.Prelude.{◌≡◌, IfOk, position};
 ghost use Rattle.wh_history.specs.Rows.{holds};
-ghost use Rattle.wh_history.specs.Plan.{same_frame, same_row};
+ghost use Rattle.std.specs.Option.{option_copied};
+ghost use Rattle.wh_history.specs.Plan.{row_of, same_frame, same_row};
 
 use crate::profiles::is_same_texts;
 use std::alloc::{AllocError, Global};
@@ -101,6 +102,13 @@ impl DimRows {
     {
         self.list.as_slice()
     }
+}
+
+/// The row of a key.
+pub(crate) fn row_of(rows: &[DimRow], key: u64) -> Option<&DimRow>
+    ensures { option_copied result ≡ row_of key rows.now }
+{
+    rows.iter().find(|row| row.surrogate == key)
 }
 
 /// The first row that holds the day.

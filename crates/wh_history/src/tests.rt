@@ -282,3 +282,65 @@ fn trial_of_customers(rt: HostRuntime) -> Result<(), Fail> {
     );
     Ok(())
 }
+
+/// A sale of the product on a day, under the product's key.
+fn fact(alloc: Global, ticket: &str, key: i64, product_key: u64) -> Result<Fact, AllocError> {
+    Ok(Fact {
+        ticket: Value::new(alloc, ticket)?,
+        line: 1,
+        day: day(key),
+        keys: FactKeys {
+            store_key: 1,
+            product_key,
+            customer_key: 0,
+            profile: 0,
+        },
+        store_durable: 1,
+        product_durable: 1,
+        customer_durable: 0,
+        quantity: 2,
+        amount: 500,
+        cost: 320,
+    })
+}
+
+/// Edits as `put KEY` and `remove KEY`.
+fn edits(alloc: Global, plan: &Plan) -> Result<String, AllocError> {
+    let mut out = String::new(alloc);
+    for edit in &plan.rows {
+        let line = match edit {
+            Edit::Put(row) => format!(in alloc; "put {}\n", row.surrogate)?,
+            Edit::Remove(key) => format!(in alloc; "remove {}\n", *key)?,
+        };
+        out.push_str(line.as_str())?;
+    }
+    for rekey in &plan.facts {
+        let line = format!(in alloc; "rekey {} {}\n", rekey.ticket.as_str(), rekey.keys.product_key)?;
+        out.push_str(line.as_str())?;
+    }
+    Ok(out)
+}
+
+#[test]
+fn plan_of_a_backdated_record(rt: HostRuntime) -> Result<(), Fail> {
+    let alloc = rt.alloc();
+    let none = Profiles::new(alloc);
+    let before = member(alloc, "P1", (1, 1), &LONG[..2])?;
+    let after = member(alloc, "P1", (1, 1), &LONG[..3])?;
+    let stored = render_types(alloc, &PRODUCT, &before, &none)?;
+    let facts = [fact(alloc, "T0", 20231231, 1)?, fact(alloc, "T1", 20240205, 3)?];
+    let plan = plan_member(
+        alloc,
+        &policy(alloc)?,
+        Dim::Product,
+        &stored,
+        &facts,
+        &after,
+        &none,
+    )?;
+    assert_eq!(rt;
+        edits(alloc, &plan)?.as_str(),
+        "put 1\nremove 3\nput 4\nrekey T1 4\n"
+    );
+    Ok(())
+}
