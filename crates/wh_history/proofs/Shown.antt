@@ -1,13 +1,10 @@
 -- The row that holds a day shows the values in force on that day.
-use Rattle.std.proofs.Common.{◌≡◌, ℕ, zero, suc, ◌+◌, ◌-◌, ◌<◌, ◌≤◌, Bool, true, false, cond, List, [], ◌∷◌, ◌++◌, map, Option, Some, None, refl, sym, ◌∙◌, ap, subst, arith, inl, inr, nat_le}
+use Rattle.std.proofs.Common.{◌≡◌, ℕ, zero, suc, ◌+◌, ◌<◌, ◌≤◌, Bool, true, false, cond, List, [], ◌∷◌, ◌++◌, map, Some, None, refl, sym, ◌∙◌, ap, subst, arith, inl, inr, nat_le}
 use Rattle.std.specs.Prelude.{slice_get, find}
-use Rattle.std.specs.Bool.{Decides}
-use Rattle.std.specs.List.{AllByRecursion}
 use Rattle.std.proofs.lemmas.Bool.{cases_lt}
 use Rattle.std.proofs.lemmas.Bool.Decides.{nat_tests}
-use Rattle.std.proofs.lemmas.Slice.Eq.{bytes_eq-Decides, slice_eq-Decides}
 use Rattle.wh_policy.specs.Types.{is_tracked}
-use Rattle.wh_history.specs.Slots.{slot, columns_from, picked, picks, texts_eq}
+use Rattle.wh_history.specs.Slots.{slot, columns_from, picked, picks}
 use Rattle.wh_history.specs.Dated.{dated, in_force, at, value_at, said}
 use Rattle.wh_history.specs.Rows.{starts, later_starts, same_tracked, spans, row, rows, holds, main_column}
 use Rattle.wh_day.specs.Day.{last_day}
