@@ -1,5 +1,5 @@
 -- The row that holds a day shows the values in force on that day.
-use Rattle.std.proofs.Common.{◌≡◌, ℕ, zero, suc, ◌+◌, ◌<◌, ◌≤◌, Bool, true, false, cond, List, [], ◌∷◌, ◌++◌, map, Some, None, refl, sym, ◌∙◌, ap, subst, arith, inl, inr, nat_le}
+use Rattle.std.proofs.Common.{◌≡◌, ℕ, zero, suc, ◌+◌, ◌<◌, ◌≤◌, ◌-◌, length, replicate, Bool, true, false, cond, List, [], ◌∷◌, ◌++◌, map, Some, None, refl, sym, ◌∙◌, ap, subst, arith, inl, inr, nat_le}
 use Rattle.std.specs.Prelude.{slice_get, find}
 use Rattle.std.proofs.lemmas.Bool.{cases_lt}
 use Rattle.std.proofs.lemmas.Bool.Decides.{nat_tests}
@@ -128,7 +128,8 @@ shows_the_day kinds combinations m day r place kind ends found is counts =
     let s : ℕ × ℕ = span.0 in
     let after : s.0 ≤ day = subst (λ (q : DimRow). q.from_day ≤ day) span.2 (from_held day r span.3) in
     let before : day ≤ s.1 = subst (λ (q : DimRow). day ≤ q.to_day) span.2 (to_held day r span.3) in
-    let shown = get_column (main_column m.changes s.0) kinds 0 place kind _ is in
+    let columns = columns_from (main_column m.changes s.0) 0 kinds in
+    let shown = get_column (main_column m.changes s.0) kinds 0 place kind (replicate (6 - length columns) []) is in
     let zero_left : 0 + place ≡ place = omega arith in
     let value : main_column m.changes s.0 place kind ≡ value_at day place m.changes =
     tracked_shows m.changes s.0 place kind counts ∙ sym (same_value kinds (dated m.changes) day s place kind (InOrder-dated m.changes ends) span.1 after before is counts) in
