@@ -1,6 +1,5 @@
 -- Steps of the loops over columns.
-use Rattle.std.proofs.Common.{◌≡◌, ℕ, suc, ◌+◌, ◌-◌, ◌<◌, true, false, cond, List, [], ◌∷◌, ◌++◌, length, replicate, get_or, refl, sym, ◌∙◌, ap, append_assoc, length-append, arith}
-use Rattle.wh_policy.specs.Types.{is_tracked}
+use Rattle.std.proofs.Common.{◌≡◌, ℕ, suc, ◌-◌, ◌<◌, List, [], ◌∷◌, ◌++◌, length, replicate, get_or, refl, sym, ◌∙◌, ap, append_assoc, length-append, arith}
 use Rattle.wh_policy.specs.declared.attribute.AttributeType.{AttributeType}
 use Rattle.wh_policy.specs.declared.attribute.AttributeType.TheVariants.{RetainOriginal, Overwrite, NewRow, NewAttribute, MiniDimension, MiniDimensionOutrigger, NewRowAndOverwrite, DualKeys}
 use Rattle.wh_day.specs.Value.{none_text}

@@ -1,5 +1,5 @@
 -- A member's rows stand in the table under their numbers.
-use Rattle.std.proofs.Common.{◌≡◌, ◌⊎◌, ℕ, ◌<◌, ◌≤◌, ◌==◌, Bool, true, false, cond, ◌||◌, List, [], ◌∷◌, ◌++◌, map, Option, Some, None, refl, sym, ◌∙◌, ap, subst, arith, inl, inr, nat_lt, nat_le}
+use Rattle.std.proofs.Common.{◌≡◌, ◌⊎◌, ℕ, ◌<◌, ◌≤◌, ◌==◌, Bool, true, false, cond, List, [], ◌∷◌, ◌++◌, map, Option, Some, None, refl, sym, ◌∙◌, ap, subst, arith, inl, inr, nat_lt, nat_le}
 use Rattle.std.specs.Prelude.{filter, flat_map, bytes_eq, find}
 use Rattle.std.specs.List.{list_any, AllByRecursion}
 use Rattle.std.proofs.lemmas.Bool.{eq-eqb, ne_eqb, cases_eq}
@@ -221,7 +221,7 @@ module _ (dim : Dim) (commands : List Accepted) (natural : List ℕ) where
 
     -- under its number the row of a span is found
     pub find_by_key : (s : ℕ × ℕ) (from : ℕ) (more : List ℕ) → Rises from more → ((t : ℕ × ℕ) → InSpans t from more → Keyed t.0) → InSpans s from more → find (λ r. r.surrogate == start_key (member_of dim commands natural) s.0) (map made_row (spans from more)) ≡ Some (made_row s)
-    find_by_key s from [] up keyed here = rw (here, eq-eqb _ _ refl) refl
+    find_by_key s from [] up keyed here = rw (here, eq-eqb (start_key (member_of dim commands natural) from) (start_key (member_of dim commands natural) from) refl) refl
     find_by_key s from (next ∷ more) up keyed here =
         elim here [
           | inl first ↦ rw (first, eq-eqb _ _ refl) refl

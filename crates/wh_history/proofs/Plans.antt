@@ -1,13 +1,17 @@
 -- The edits of all keys make the exact plan.
-use Rattle.std.proofs.Common.{◌≡◌, ℕ, ◌<◌, ◌==◌, Bool, true, false, cond, ◌||◌, ◌&&◌, List, [], ◌∷◌, Option, Some, None, refl, sym, ◌∙◌, ap, arith, inl, inr, nat_lt}
+use Rattle.std.proofs.Common.{◌≡◌, ℕ, ◌<◌, ◌==◌, Bool, true, false, cond, ◌||◌, List, [], ◌∷◌, Option, Some, None, refl, sym, ◌∙◌, ap, arith, drop, get_or, length, ◌+◌, ◌-◌, ◌≤◌, inl, inr, nat_lt}
 use Rattle.std.specs.Prelude.{filter_map, find, bytes_eq}
-use Rattle.std.specs.Bool.{Decides}
 use Rattle.std.specs.List.{list_any, cons_option}
 use Rattle.std.proofs.lemmas.Bool.{cases_lt, cases_eq, lt-ltb, le-ltb, eq-eqb, ne_eqb, eqb-true}
-use Rattle.std.proofs.lemmas.Slice.Eq.{bytes_eq-Decides, slice_eq-Decides}
+use Rattle.std.proofs.lemmas.Slice.Eq.{bytes_eq-Decides}
+use Rattle.std.proofs.lemmas.List.{drop_more}
+use Rattle.std.specs.BTreeSet.{insert_key}
+use Rattle.std.specs.Ordering.{nat_cmp}
+use Rattle.std.specs.Cmp.{nat_cmp_is}
+use Rattle.std.specs.declared.cmp.Ordering.TheVariants as Ordering
 use Rattle.wh_history.specs.Slots.{texts_eq}
 use Rattle.wh_history.proofs.Basics.{or_none, both_true, texts_decide}
-use Rattle.wh_history.specs.Plan.{Needs, edited, Above, Ascends, IsPlan, row_of, with_key, with_keys, same_flag, same_frame, same_row, edit_between, edit_at}
+use Rattle.wh_history.specs.Plan.{Needs, edited, Above, Ascends, IsPlan, row_of, with_key, with_keys, same_flag, same_frame, same_row, edit_between, edit_in, edit_at}
 use Rattle.wh_history.specs.declared.plan.Edit.{Edit}
 use Rattle.wh_history.specs.declared.plan.Edit.TheVariants.{Put, Remove}
 use Rattle.wh_history.specs.declared.rows.DimRow.{DimRow}
@@ -241,3 +245,34 @@ is_plan stored after =
             rw (first.0, second.0, none_found f of_key key keys absent) refl
       ] refl;
     }
+
+-- a set of numbers takes a key at its place, as the definition does
+pub with_key-insert : (key : ℕ) (keys : List ℕ) → insert_key nat_cmp keys key ≡ with_key key keys
+with_key-insert key [] = refl
+with_key-insert key (x ∷ xs) =
+    elim (cases_lt key x) [
+      | inl less ↦ rw (sym (nat_cmp_is key x Ordering.Less less), lt-ltb key x less) refl
+      | inr late ↦ elim (cases_eq key x) [
+        | inl same ↦ rw (sym (nat_cmp_is key x Ordering.Equal same), le-ltb key x late, eq-eqb key x same) refl
+        | inr other ↦ rw (sym (nat_cmp_is key x Ordering.Greater (omega arith)), le-ltb key x late, ne_eqb key x other) (ap (λ ks. x ∷ ks) (with_key-insert key xs))
+      ]
+    ]
+
+-- the step of a loop over rows from the last on
+pub keys_more : (rows : List DimRow) (left : ℕ) (row : DimRow) (keys before after : List ℕ) → 0 < left → left ≤ length rows → keys ≡ with_keys (drop left rows) before
+    → after ≡ insert_key nat_cmp keys (get_or rows (left - 1) row).surrogate → after ≡ with_keys (drop (left - 1) rows) before
+keys_more rows left row keys before after low high so_far inserted =
+    let back : left - 1 + 1 ≡ left = omega arith in
+    let next : drop (left - 1) rows ≡ get_or rows (left - 1) row ∷ drop left rows = drop_more rows (left - 1) row (omega arith) ∙ ap (λ n. get_or rows (left - 1) row ∷ drop n rows) back in
+    inserted ∙ with_key-insert (get_or rows (left - 1) row).surrogate keys ∙ ap (with_key (get_or rows (left - 1) row).surrogate) so_far ∙ ap (λ rs. with_keys rs before) (sym next)
+
+filter_map_same : (f g : ℕ → Option (Edit DimRow ℕ)) → ((key : ℕ) → f key ≡ g key) → (keys : List ℕ) → filter_map f keys ≡ filter_map g keys
+filter_map_same f g same [] = refl
+filter_map_same f g same (key ∷ keys) = let here = same key in let rest = filter_map_same f g same keys in rw (here, rest) refl
+
+-- the same by maps that have the rows of the lists
+pub plan_by_maps : (stored after : List DimRow) (old new : ℕ → Option DimRow) (keys : List ℕ) (edits : List (Edit DimRow ℕ)) → ((key : ℕ) → old key ≡ row_of key stored) → ((key : ℕ) → new key ≡ row_of key after)
+    → keys ≡ with_keys stored (with_keys after []) → edits ≡ filter_map (edit_in old new) keys → IsPlan (λ r. r.surrogate) (λ key. row_of key stored) (λ key. row_of key after) edits
+plan_by_maps stored after old new keys edits olds news keys_are made =
+    let same : (key : ℕ) → edit_in old new key ≡ edit_at stored after key = λ key. let o = olds key in let n = news key in rw (o, n) refl in
+    rw (made, filter_map_same (edit_in old new) (edit_at stored after) same keys, keys_are) (is_plan stored after)

@@ -1,13 +1,10 @@
 -- The row that holds a day shows the values in force on that day.
-use Rattle.std.proofs.Common.{◌≡◌, ℕ, zero, suc, ◌+◌, ◌-◌, ◌<◌, ◌≤◌, Bool, true, false, cond, List, [], ◌∷◌, ◌++◌, map, Option, Some, None, refl, sym, ◌∙◌, ap, subst, arith, inl, inr, nat_le}
+use Rattle.std.proofs.Common.{◌≡◌, ℕ, zero, suc, ◌+◌, ◌<◌, ◌≤◌, ◌-◌, length, replicate, Bool, true, false, cond, List, [], ◌∷◌, ◌++◌, map, Some, None, refl, sym, ◌∙◌, ap, subst, arith, inl, inr, nat_le}
 use Rattle.std.specs.Prelude.{slice_get, find}
-use Rattle.std.specs.Bool.{Decides}
-use Rattle.std.specs.List.{AllByRecursion}
 use Rattle.std.proofs.lemmas.Bool.{cases_lt}
 use Rattle.std.proofs.lemmas.Bool.Decides.{nat_tests}
-use Rattle.std.proofs.lemmas.Slice.Eq.{bytes_eq-Decides, slice_eq-Decides}
 use Rattle.wh_policy.specs.Types.{is_tracked}
-use Rattle.wh_history.specs.Slots.{slot, columns_from, picked, picks, texts_eq}
+use Rattle.wh_history.specs.Slots.{slot, columns_from, picked, picks}
 use Rattle.wh_history.specs.Dated.{dated, in_force, at, value_at, said}
 use Rattle.wh_history.specs.Rows.{starts, later_starts, same_tracked, spans, row, rows, holds, main_column}
 use Rattle.wh_day.specs.Day.{last_day}
@@ -131,7 +128,8 @@ shows_the_day kinds combinations m day r place kind ends found is counts =
     let s : ℕ × ℕ = span.0 in
     let after : s.0 ≤ day = subst (λ (q : DimRow). q.from_day ≤ day) span.2 (from_held day r span.3) in
     let before : day ≤ s.1 = subst (λ (q : DimRow). day ≤ q.to_day) span.2 (to_held day r span.3) in
-    let shown = get_column (main_column m.changes s.0) kinds 0 place kind _ is in
+    let columns = columns_from (main_column m.changes s.0) 0 kinds in
+    let shown = get_column (main_column m.changes s.0) kinds 0 place kind (replicate (6 - length columns) []) is in
     let zero_left : 0 + place ≡ place = omega arith in
     let value : main_column m.changes s.0 place kind ≡ value_at day place m.changes =
     tracked_shows m.changes s.0 place kind counts ∙ sym (same_value kinds (dated m.changes) day s place kind (InOrder-dated m.changes ends) span.1 after before is counts) in

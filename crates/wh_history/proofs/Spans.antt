@@ -10,8 +10,7 @@ use Rattle.wh_history.specs.declared.rows.DimRow.{DimRow}
 use Rattle.wh_history.specs.declared.member.Change.{Change}
 use Rattle.wh_history.specs.declared.member.Member.{Member}
 use Rattle.wh_history.specs.Dated.{keep, dated}
-use Rattle.wh_history.specs.Rows.{starts, later_starts, same_tracked, spans, row, rows, holds}
-use Rattle.wh_history.specs.Profiles.{profile_now}
+use Rattle.wh_history.specs.Rows.{starts, later_starts, same_tracked, spans, row, holds}
 use Rattle.wh_history.specs.Laws.{ChangesHaveDays, EachDayHasOneRow, OneRowIsCurrent}
 use Rattle.wh_day.proofs.Days.{from_first, to_last}
 use Rattle.wh_history.proofs.Calendar.{EndsBefore, ends_before}

@@ -1,5 +1,5 @@
 -- The place of a member among those that were touched.
-use Rattle.std.proofs.Common.{◌≡◌, ◌+◌, ◌-◌, ◌<◌, ℕ, zero, suc, get_or, replicate, Bool, true, false, cond, not, ◌||◌, List, [], ◌∷◌, ◌++◌, map, length, slice_set, Option, Some, None, refl, sym, ◌∙◌, ap, arith}
+use Rattle.std.proofs.Common.{◌≡◌, ◌+◌, ◌-◌, ◌<◌, ℕ, zero, suc, get_or, replicate, Bool, true, false, cond, not, ◌||◌, List, [], ◌∷◌, ◌++◌, map, length, slice_set, Option, Some, refl, sym, ◌∙◌, ap, arith}
 use Rattle.std.specs.Prelude.{bytes_eq, find, slice_get, unwrap_or}
 use Rattle.std.specs.List.{list_any, position_or_len}
 use Rattle.std.proofs.lemmas.Slice.Eq.{bytes_eq-Decides}

@@ -1,7 +1,7 @@
 -- The table of a trial, by the members of its records.
-use Rattle.std.proofs.Common.{◌≡◌, ℕ, zero, suc, ◌+◌, ◌-◌, ◌<◌, ◌==◌, Bool, true, false, cond, not, List, [], ◌∷◌, ◌++◌, map, length, Option, Some, None, refl, sym, ◌∙◌, ap, subst, arith, append-nil, length-append}
-use Rattle.std.specs.Prelude.{filter, filter_map, find, flat_map, bytes_eq, slice_get}
-use Rattle.std.specs.Option.{option_and_then, option_map}
+use Rattle.std.proofs.Common.{◌≡◌, ℕ, zero, suc, ◌+◌, ◌<◌, Bool, true, false, cond, not, List, [], ◌∷◌, ◌++◌, map, length, Option, Some, None, refl, sym, ◌∙◌, ap, arith, append-nil, length-append}
+use Rattle.std.specs.Prelude.{filter, filter_map, flat_map, bytes_eq, slice_get}
+use Rattle.std.specs.Option.{option_and_then}
 use Rattle.std.specs.List.{range_with_len, cons_option, AllByRecursion}
 use Rattle.std.proofs.lemmas.List.{append_assoc}
 use Rattle.std.proofs.lemmas.Simd.{map-map}
@@ -15,11 +15,10 @@ use Rattle.wh_history.specs.Keys.{distinct, at_place}
 use Rattle.wh_history.specs.Profiles.{combinations_of}
 use Rattle.wh_history.specs.Rows.{rows}
 use Rattle.wh_history.specs.Plan.{row_of}
-use Rattle.wh_history.specs.Accepted.{Accepted, Content, Governs, Anchor, anchors_of_record, mentions, anchors, members, described, durable_key, member_of, types_in, profiles_of}
-use Rattle.wh_history.specs.Tables.{member_rows, numbered_row, dimension_row, no_card_row, dimension_table, unnamed, trial_commands}
-use Rattle.wh_history.specs.Touched.{Touched, touched, untouched, touched_by, nothing_stored}
+use Rattle.wh_history.specs.Accepted.{Accepted, Governs, Anchor, anchors_of_record, anchors, members, durable_key, member_of, types_in, profiles_of}
+use Rattle.wh_history.specs.Tables.{member_rows, numbered_row, dimension_row, dimension_table, unnamed, trial_commands}
+use Rattle.wh_history.specs.Touched.{Touched, touched, untouched, nothing_stored}
 use Rattle.wh_history.specs.Picked.{first_rows, profiles_in, owned_row, picked_from}
-use Rattle.wh_history.specs.declared.member.Member.{Member}
 use Rattle.wh_history.specs.declared.rows.DimRow.{DimRow}
 use Rattle.wh_history.proofs.Places.{at_place-place}
 use Rattle.wh_history.proofs.Members.{row_of_member_now}

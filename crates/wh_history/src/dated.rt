@@ -77,7 +77,11 @@ pub(crate) fn slot_text(alloc: Global, values: &[Value], place: usize) -> Result
 }
 
 /// What a change says of a slot, or that nothing is known.
-pub(crate) fn said(alloc: Global, change: Option<&Change>, place: usize) -> Result<Value, AllocError>
+pub(crate) fn said(
+    alloc: Global,
+    change: Option<&Change>,
+    place: usize,
+) -> Result<Value, AllocError>
     ensures { IfOk result (λ t. t ≡ said place (option_copied change.entry)) }
 {
     match change {

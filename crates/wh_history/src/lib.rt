@@ -13,9 +13,6 @@ mod rows;
 mod touched;
 mod trial;
 
-#[cfg(test)]
-mod tests;
-
 pub use dated::{latest, original, prior, value_at};
 pub use facts::{Fact, FactKeys, Keys, Rekey, plan_facts};
 pub use member::{Change, Changes, Member};
@@ -25,3 +22,6 @@ pub use rendering::{render, render_types};
 pub use rows::{DimRow, row_at};
 pub use touched::{Stored, Touched, padded, touch_all};
 pub use trial::{no_card_row, trial_table};
+
+#[cfg(test)]
+mod tests;

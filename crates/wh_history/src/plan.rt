@@ -1,12 +1,14 @@
 //! Exact plans: the edits that lead from a member's stored rows and facts to what they are to be.
 
-ghost use Rattle.std.specs.Prelude.{◌≡◌, IfOk, OnOk, filter_map};
+ghost use Rattle.std.specs.Prelude.{◌≡◌, ℕ, IfOk, OnOk, filter_map};
+ghost use Rattle.std.specs.BTreeMap.{get};
+ghost use Rattle.std.specs.Ordering.{nat_cmp};
 ghost use Rattle.std.specs.Option.{option_copied};
 ghost use Rattle.wh_policy.specs.Policy.{types_of};
 ghost use Rattle.wh_history.specs.Dated.{dated};
 ghost use Rattle.wh_history.specs.Rows.{rows};
 ghost use Rattle.wh_history.specs.Facts.{rekeys};
-ghost use Rattle.wh_history.specs.Plan.{IsPlan, row_of, with_key, with_keys, edit_between, edit_at};
+ghost use Rattle.wh_history.specs.Plan.{IsPlan, row_of, with_keys, edit_between, edit_in};
 
 use crate::dated::dated;
 use crate::facts::{Fact, Keys, Rekey, plan_facts};
@@ -15,6 +17,7 @@ use crate::profiles::Profiles;
 use crate::rendering::render_types;
 use crate::rows::DimRow;
 use std::alloc::{AllocError, Global};
+use std::collections::{BTreeMap, BTreeSet};
 use wh_policy::{Dim, Policy};
 
 /// A change of one key of a table.
@@ -26,36 +29,27 @@ pub enum Edit<Row, Key> {
     Remove(Key),
 }
 
-/// The row of a key.
-pub(crate) fn row_of(rows: &[DimRow], key: u64) -> Option<&DimRow>
-    ensures { option_copied result ≡ row_of key rows.now }
+/// Rows by their keys. Of two rows with one key the first counts.
+fn by_key(alloc: Global, rows: &[DimRow]) -> Result<BTreeMap<u64, &DimRow>, AllocError>
+    ensures { IfOk result (λ found. (key : ℕ) → option_copied (get nat_cmp found key) ≡ row_of key rows.now) }
 {
-    rows.iter().find(|row| row.surrogate == key)
-}
-
-/// Adds a key in order, unless it is there.
-fn add_key(keys: &mut Vec<u64>, key: u64) -> Result<(), AllocError>
-    ensures { OnOk result (keys.new.items ≡ with_key key keys.old.items) }
-{
-    let mut place = 0;
-    while place < keys.len() && keys[place] < key {
-        place += 1;
+    let mut found = BTreeMap::new(alloc);
+    let mut left = rows.len();
+    while left > 0 {
+        left -= 1;
+        found.insert(rows[left].surrogate, &rows[left])?;
     }
-    if place < keys.len() && keys[place] == key {
-        return Ok(());
-    }
-    keys.insert(place, key)?;
-    Ok(())
+    Ok(found)
 }
 
 /// Adds the keys of rows.
-fn add_keys(keys: &mut Vec<u64>, rows: &[DimRow]) -> Result<(), AllocError>
-    ensures { OnOk result (keys.new.items ≡ with_keys rows.now keys.old.items) }
+fn add_keys(keys: &mut BTreeSet<u64>, rows: &[DimRow]) -> Result<(), AllocError>
+    ensures { OnOk result (keys.new.keys ≡ with_keys rows.now keys.old.keys) }
 {
     let mut left = rows.len();
     while left > 0 {
         left -= 1;
-        add_key(keys, rows[left].surrogate)?;
+        keys.insert(rows[left].surrogate)?;
     }
     Ok(())
 }
@@ -86,15 +80,15 @@ fn edit_of(
 /// The edits of keys, in their order.
 fn edits_of(
     alloc: Global,
-    keys: &[u64],
-    stored: &[DimRow],
-    after: &[DimRow],
+    keys: &BTreeSet<u64>,
+    old: &BTreeMap<u64, &DimRow>,
+    new: &BTreeMap<u64, &DimRow>,
 ) -> Result<Vec<Edit<DimRow, u64>>, AllocError>
-    ensures { IfOk result (λ edits. edits.items ≡ filter_map (edit_at stored.now after.now) keys.now) }
+    ensures { IfOk result (λ edits. edits.items ≡ filter_map (edit_in (λ key. option_copied (get nat_cmp old.now key)) (λ key. option_copied (get nat_cmp new.now key))) keys.now.keys) }
 {
     let mut edits = Vec::new(alloc);
-    for key in keys {
-        if let Some(edit) = edit_of(alloc, *key, row_of(stored, *key), row_of(after, *key))? {
+    for key in keys.iter() {
+        if let Some(edit) = edit_of(alloc, *key, old.get(key).copied(), new.get(key).copied())? {
             edits.push(edit)?;
         }
     }
@@ -102,7 +96,6 @@ fn edits_of(
 }
 
 /// The edits that lead from some rows to others, in order of their keys.
-#[tactic(auto, using(crate::proofs::Plans::is_plan))]
 pub fn plan_rows(
     alloc: Global,
     stored: &[DimRow],
@@ -110,10 +103,12 @@ pub fn plan_rows(
 ) -> Result<Vec<Edit<DimRow, u64>>, AllocError>
     ensures { IfOk result (λ edits. IsPlan (λ r. r.surrogate) (λ key. row_of key stored.now) (λ key. row_of key after.now) edits.items) }
 {
-    let mut keys = Vec::new(alloc);
+    let mut keys = BTreeSet::new(alloc);
     add_keys(&mut keys, after)?;
     add_keys(&mut keys, stored)?;
-    edits_of(alloc, &keys, stored, after)
+    let old = by_key(alloc, stored)?;
+    let new = by_key(alloc, after)?;
+    edits_of(alloc, &keys, &old, &new)
 }
 
 /// The edits of one member: of its rows in order of their keys, and of its facts in their order.

@@ -1,8 +1,9 @@
 //! The rows of a dimension's table.
 
-ghost use Rattle.std.specs.Prelude.{◌≡◌, IfOk, position};
+ghost use Rattle.std.specs.Prelude.{◌≡◌, IfOk, IsSome, position, count_by};
 ghost use Rattle.wh_history.specs.Rows.{holds};
-ghost use Rattle.wh_history.specs.Plan.{same_frame, same_row};
+ghost use Rattle.std.specs.Option.{option_copied};
+ghost use Rattle.wh_history.specs.Plan.{row_of, same_frame, same_row};
 
 use crate::profiles::is_same_texts;
 use std::alloc::{AllocError, Global};
@@ -103,8 +104,23 @@ impl DimRows {
     }
 }
 
+/// The row of a key.
+pub(crate) fn row_of(rows: &[DimRow], key: u64) -> Option<&DimRow>
+    ensures { option_copied result ≡ row_of key rows.now }
+{
+    rows.iter().find(|row| row.surrogate == key)
+}
+
 /// The first row that holds the day.
 pub fn row_at(rows: &[DimRow], day: Day) -> Option<usize>
+    ensures first { result ≡ position (holds day) rows.now }
+    // Of a member's rows one does.
+    ensures found { count_by (holds day) rows.now ≡ 1 → IsSome result }
+{
+    first_that_holds(rows, day)
+}
+
+fn first_that_holds(rows: &[DimRow], day: Day) -> Option<usize>
     ensures { result ≡ position (holds day) rows.now }
 {
     rows.iter().position(|row| row.holds(day))

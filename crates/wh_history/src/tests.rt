@@ -168,8 +168,14 @@ fn values_of_a_slot(rt: HostRuntime) -> Result<(), Fail> {
     let alloc = rt.alloc();
     let p1 = member(alloc, "P1", (1, 1), &LONG)?;
     let changes = p1.changes.as_slice();
-    assert_eq!(rt; value_at(alloc, changes, 1, day(20240119))?.as_str(), "Acme");
-    assert_eq!(rt; value_at(alloc, changes, 1, day(20240120))?.as_str(), "Bolt");
+    assert_eq!(rt;
+        value_at(alloc, changes, 1, day(20240119))?.as_str(),
+        "Acme"
+    );
+    assert_eq!(rt;
+        value_at(alloc, changes, 1, day(20240120))?.as_str(),
+        "Bolt"
+    );
     assert_eq!(rt; latest(alloc, changes, 5)?.as_str(), "South");
     assert_eq!(rt; prior(alloc, changes, 5)?.as_str(), "East");
     assert_eq!(rt; original(alloc, changes, 4)?.as_str(), "2019");
@@ -180,7 +186,13 @@ fn values_of_a_slot(rt: HostRuntime) -> Result<(), Fail> {
 fn placeholder_and_first_day(rt: HostRuntime) -> Result<(), Fail> {
     let alloc = rt.alloc();
     let p9 = member(alloc, "P9", (2, 9), &[])?;
-    let rows = render(alloc, &policy(alloc)?, Dim::Product, &p9, &Profiles::new(alloc))?;
+    let rows = render(
+        alloc,
+        &policy(alloc)?,
+        Dim::Product,
+        &p9,
+        &Profiles::new(alloc),
+    )?;
     assert_eq!(rt;
         dump(alloc, &rows)?.as_str(),
         "9,19000101,99991231,1,(unknown),(unknown),(unknown),(unknown),(unknown),(unknown),,,(unknown),,,(none),0\n"
@@ -198,14 +210,20 @@ fn placeholder_and_first_day(rt: HostRuntime) -> Result<(), Fail> {
 fn profile_of_the_newest_record(rt: HostRuntime) -> Result<(), Fail> {
     let alloc = rt.alloc();
     let mut profiles = Profiles::new(alloc);
-    let told = [(20240608, 2, "Gold,30-39,high"), (20240701, 3, "Gold,40-49,high")];
+    let told = [
+        (20240608, 2, "Gold,30-39,high"),
+        (20240701, 3, "Gold,40-49,high"),
+    ];
     let c9 = member(alloc, "C9", (1, 1), &told)?;
     for change in c9.changes.as_slice() {
         profiles.add(profile_texts(alloc, &CUSTOMER, change.values.as_slice())?)?;
         profiles.add(profile_texts(alloc, &CUSTOMER, change.values.as_slice())?)?;
     }
     let rows = render(alloc, &policy(alloc)?, Dim::Customer, &c9, &profiles)?;
-    assert_eq!(rt; dump(alloc, &rows)?.as_str(), "1,19000101,99991231,1,Gold,,,,,,,,,,,,3\n");
+    assert_eq!(rt;
+        dump(alloc, &rows)?.as_str(),
+        "1,19000101,99991231,1,Gold,,,,,,,,,,,,3\n"
+    );
     let c8 = member(alloc, "C8", (2, 4), &[])?;
     let unknown = render(alloc, &policy(alloc)?, Dim::Customer, &c8, &profiles)?;
     assert_eq!(rt;
@@ -233,7 +251,10 @@ fn trial_of_products(rt: HostRuntime) -> Result<(), Fail> {
     let alloc = rt.alloc();
     let told = records(
         alloc,
-        &[("P1", 20240110, "Cola 1l,Acme"), ("P1", 20240201, "Cola 1.0l,Bolt")],
+        &[
+            ("P1", 20240110, "Cola 1l,Acme"),
+            ("P1", 20240201, "Cola 1.0l,Bolt"),
+        ],
     )?;
     let table = trial_table(alloc, &Policy::trial(alloc)?, Dim::Product, &told)?;
     assert_eq!(rt;
@@ -256,7 +277,11 @@ fn trial_out_of_order(rt: HostRuntime) -> Result<(), Fail> {
         alloc,
         &[
             ("P1", 20240110, "Cola 1l,Acme,Drinks,Grocery,,North"),
-            ("P1", 20240401, "Cola 1l,Acme,Soft drinks,Grocery,2019,North"),
+            (
+                "P1",
+                20240401,
+                "Cola 1l,Acme,Soft drinks,Grocery,2019,North",
+            ),
             ("P1", 20240201, "Cola 1l,Acme,Drinks,Food,2020,South"),
         ],
     )?;
@@ -273,12 +298,84 @@ fn trial_of_customers(rt: HostRuntime) -> Result<(), Fail> {
     let alloc = rt.alloc();
     let told = records(
         alloc,
-        &[("C9", 20240608, "Gold,30-39,high"), ("C8", 20240701, "Silver,40-49,low")],
+        &[
+            ("C9", 20240608, "Gold,30-39,high"),
+            ("C8", 20240701, "Silver,40-49,low"),
+        ],
     )?;
     let table = trial_table(alloc, &policy(alloc)?, Dim::Customer, &told)?;
     assert_eq!(rt;
         dump(alloc, &table)?.as_str(),
         "0,19000101,99991231,1,(no card),,,,,,,,,,,,0\n1,19000101,99991231,1,Gold,,,,,,,,,,,,2\n3,19000101,99991231,1,Silver,,,,,,,,,,,,3\n"
+    );
+    Ok(())
+}
+
+/// A sale of the product on a day, under the product's key.
+fn fact(alloc: Global, ticket: &str, key: i64, product_key: u64) -> Result<Fact, AllocError> {
+    Ok(Fact {
+        ticket: Value::new(alloc, ticket)?,
+        line: 1,
+        day: day(key),
+        keys: FactKeys {
+            store_key: 1,
+            product_key,
+            customer_key: 0,
+            profile: 0,
+        },
+        store_durable: 1,
+        product_durable: 1,
+        customer_durable: 0,
+        quantity: 2,
+        amount: 500,
+        cost: 320,
+    })
+}
+
+/// Edits as `put KEY` and `remove KEY`.
+fn edits(alloc: Global, plan: &Plan) -> Result<String, AllocError> {
+    let mut out = String::new(alloc);
+    for edit in &plan.rows {
+        let line = match edit {
+            Edit::Put(row) => format!(in alloc; "put {}\n", row.surrogate)?,
+            Edit::Remove(key) => format!(in alloc; "remove {}\n", *key)?,
+        };
+        out.push_str(line.as_str())?;
+    }
+    for rekey in &plan.facts {
+        let line = format!(in alloc;
+            "rekey {} {}\n",
+            rekey.ticket.as_str(),
+            rekey.keys.product_key
+        )?;
+        out.push_str(line.as_str())?;
+    }
+    Ok(out)
+}
+
+#[test]
+fn plan_of_a_backdated_record(rt: HostRuntime) -> Result<(), Fail> {
+    let alloc = rt.alloc();
+    let none = Profiles::new(alloc);
+    let before = member(alloc, "P1", (1, 1), &LONG[..2])?;
+    let after = member(alloc, "P1", (1, 1), &LONG[..3])?;
+    let stored = render_types(alloc, &PRODUCT, &before, &none)?;
+    let facts = [
+        fact(alloc, "T0", 20231231, 1)?,
+        fact(alloc, "T1", 20240205, 3)?,
+    ];
+    let plan = plan_member(
+        alloc,
+        &policy(alloc)?,
+        Dim::Product,
+        &stored,
+        &facts,
+        &after,
+        &none,
+    )?;
+    assert_eq!(rt;
+        edits(alloc, &plan)?.as_str(),
+        "put 1\nremove 3\nput 4\nrekey T1 4\n"
     );
     Ok(())
 }

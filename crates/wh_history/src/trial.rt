@@ -11,10 +11,9 @@ ghost use Rattle.wh_history.specs.Touched.{touched, untouched, nothing_stored};
 ghost use Rattle.wh_history.specs.Picked.{owned_row, picked_from, first_rows, profiles_in};
 
 use crate::member::{Changes, Member};
-use crate::plan::row_of;
 use crate::profiles::{Profiles, profile_texts};
 use crate::rendering::{fill_columns, render_types};
-use crate::rows::{DimRow, DimRows};
+use crate::rows::{DimRow, DimRows, row_of};
 use crate::touched::{Stored, Touched, touch_all};
 use std::alloc::{AllocError, Global};
 use wh_day::{Day, ReadError, Value, Values};
@@ -141,11 +140,7 @@ pub fn no_card_row(alloc: Global, types: &[AttributeType]) -> Result<DimRow, All
 }
 
 /// The rows that a dimension's table has before the first key: that of sales without a card among the customers.
-fn first_rows(
-    alloc: Global,
-    dim: Dim,
-    types: &[AttributeType],
-) -> Result<Vec<DimRow>, AllocError>
+fn first_rows(alloc: Global, dim: Dim, types: &[AttributeType]) -> Result<Vec<DimRow>, AllocError>
     ensures { IfOk result (λ found. found.items ≡ first_rows dim types.now) }
 {
     let mut found = Vec::new(alloc);

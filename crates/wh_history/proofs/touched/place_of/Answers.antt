@@ -1,8 +1,7 @@
-use Rattle.std.proofs.Common.{◌≡◌, ◌++◌, ◌∷◌, [], List, ℕ, Bool, not, true, false, refl, sym, ◌∙◌, ap, map, String, Global}
+use Rattle.std.proofs.Common.{◌≡◌, ◌++◌, ◌∷◌, [], List, ℕ, true, false, refl, sym, ◌∙◌, ap, map}
 use Rattle.std.specs.Prelude.{string_bytes, string_eq, bytes_eq}
 use Rattle.std.specs.List.{list_any, position_or_len}
 use Rattle.std.proofs.lemmas.List.{map-append}
-use Rattle.wh_history.specs.Touched.{with_stored, current}
 use Rattle.wh_history.specs.declared.member.Member.{Member}
 use Rattle.wh_history.proofs.Touching.{index_by, any_by, current_natural, current_stored, not_new, is_new}
 use Rattle.wh_history.proofs.touched.place_of.Goals as goal

@@ -1,4 +1,4 @@
-use Rattle.std.proofs.Common.{◌≡◌, ◌∙◌, sym, ap, arith}
+use Rattle.std.proofs.Common.{◌∙◌, sym, arith}
 use Rattle.wh_history.specs.Touched.{Touched}
 use Rattle.wh_history.proofs.Touching.{place_within, naturals_stay, touched_one}
 use Rattle.wh_history.proofs.touched.touch.Goals as goal
