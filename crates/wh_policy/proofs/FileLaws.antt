@@ -18,66 +18,66 @@ use Rattle.wh_policy.proofs.Judged.{at_ok, at_err, answers}
 use Rattle.wh_policy.proofs.PolicyLaws.{IsRead, policy_in-judged}
 use Rattle.wh_policy.proofs.ReadLaws.{is_free, writes, is_sound}
 
-document-at : (bytes : List ℕ) (members : Members) → IsDocument bytes members → document_at bytes ≡ Ok members
-document-at bytes members doc = document-text bytes doc.short doc.text ∙ rw doc.toml refl
+document-at : (bytes : List ℕ) (ms : Members) → IsDocument bytes ms → document_at bytes ≡ Ok ms
+document-at bytes ms doc = document-text bytes doc.short doc.text ∙ rw doc.toml refl
 
 same_document : (bytes : List ℕ) (ms ns : Members) → IsDocument bytes ms → IsDocument bytes ns → ms ≡ ns
 same_document bytes ms ns a b = same_Some ms ns (sym a.toml ∙ b.toml)
 
 -- with a document the answer is that of its table
-pub at_document : (bytes : List ℕ) (members : Members) → IsDocument bytes members → policy_at bytes ≡ policy_in members
+pub at_document : (bytes : List ℕ) (ms : Members) → IsDocument bytes ms → policy_at bytes ≡ policy_in ms
 unfolding policy_at
-at_document bytes members doc = rw (document-at bytes members doc) refl
+at_document bytes ms doc = rw (document-at bytes ms doc) refl
 
 -- a file without one
 abbrev IsNoDocument : List ℕ → Type 0
-IsNoDocument bytes = (policy_at bytes ≡ Err NotToml) × ((members : Members) → ¬ IsDocument bytes members)
+IsNoDocument bytes = (policy_at bytes ≡ Err NotToml) × ((ms : Members) → ¬ IsDocument bytes ms)
 
-no_document : (bytes : List ℕ) → document_at bytes ≡ Err NotToml → ((members : Members) → ¬ IsDocument bytes members) → IsNoDocument bytes
+no_document : (bytes : List ℕ) → document_at bytes ≡ Err NotToml → ((ms : Members) → ¬ IsDocument bytes ms) → IsNoDocument bytes
 unfolding policy_at
 no_document bytes refused none = (rw refused refl, none)
 
 ok_or_err : (policy : Policy) (fault : PolicyFault) → ◌≡◌ {A = Result Policy PolicyFault} (Ok policy) (Err fault) → ⊥
 ok_or_err policy fault e = cc
 
-parsed_or_not : (bytes : List ℕ) → length bytes ≤ 65536 → IsUtf8 bytes → (found : Option Members) → parse_document bytes ≡ found → ((members : Members) × IsDocument bytes members) ⊎ IsNoDocument bytes
+parsed_or_not : (bytes : List ℕ) → length bytes ≤ 65536 → IsUtf8 bytes → (found : Option Members) → parse_document bytes ≡ found → ((ms : Members) × IsDocument bytes ms) ⊎ IsNoDocument bytes
 parsed_or_not bytes short text None e =
-    inr (no_document bytes (document-text bytes short text ∙ rw e refl) (λ members doc. none-some members (sym e ∙ doc.toml)))
-parsed_or_not bytes short text (Some members) e = inl (members, record { short = short; text = text; toml = e })
+    inr (no_document bytes (document-text bytes short text ∙ rw e refl) (λ ms doc. none-some ms (sym e ∙ doc.toml)))
+parsed_or_not bytes short text (Some ms) e = inl (ms, record { short = short; text = text; toml = e })
 
-document_or_not : (bytes : List ℕ) → ((members : Members) × IsDocument bytes members) ⊎ IsNoDocument bytes
+document_or_not : (bytes : List ℕ) → ((ms : Members) × IsDocument bytes ms) ⊎ IsNoDocument bytes
 unfolding document_at
 document_or_not bytes = elim (cases_lt 65536 (length bytes)) [
-  | inl long ↦ inr (no_document bytes (rw (lt-ltb 65536 (length bytes) long) refl) (λ members doc. omega (arith, long, doc.short)))
+  | inl long ↦ inr (no_document bytes (rw (lt-ltb 65536 (length bytes) long) refl) (λ ms doc. omega (arith, long, doc.short)))
   | inr short ↦ elim (cases_Bool (is_utf8 bytes)) [
     | inl text ↦ parsed_or_not bytes short (IsUtf8-from_is_utf8 bytes text) (parse_document bytes) refl
-    | inr other ↦ inr (no_document bytes (document-no_text bytes short (λ text. both_ways _ other (is_utf8-from_IsUtf8 bytes text))) (λ members doc. both_ways _ other (is_utf8-from_IsUtf8 bytes doc.text)))
+    | inr other ↦ inr (no_document bytes (document-no_text bytes short (λ text. both_ways _ other (is_utf8-from_IsUtf8 bytes text))) (λ ms doc. both_ways _ other (is_utf8-from_IsUtf8 bytes doc.text)))
   ]
 ]
 
 -- how the answer stands to a table
-pub ok_is : (bytes : List ℕ) (policy : Policy) → policy_at bytes ≡ Ok policy → (members : Members) × IsDocument bytes members × IsRead members policy
+pub ok_is : (bytes : List ℕ) (policy : Policy) → policy_at bytes ≡ Ok policy → (ms : Members) × IsDocument bytes ms × IsRead ms policy
 ok_is bytes policy e = elim (document_or_not bytes) [
   | inl p ↦ (p.0, p.1, at_ok (policy_in p.0) policy (policy_in-judged p.0) (sym (at_document bytes p.0 p.1) ∙ e))
   | inr p ↦ absurd (ok_or_err policy NotToml (sym e ∙ p.0))
 ]
 
-pub read_is : (bytes : List ℕ) (members : Members) (policy : Policy) → IsDocument bytes members → policy_at bytes ≡ Ok policy → IsRead members policy
-read_is bytes members policy doc e = at_ok (policy_in members) policy (policy_in-judged members) (sym (at_document bytes members doc) ∙ e)
+pub read_is : (bytes : List ℕ) (ms : Members) (policy : Policy) → IsDocument bytes ms → policy_at bytes ≡ Ok policy → IsRead ms policy
+read_is bytes ms policy doc e = at_ok (policy_in ms) policy (policy_in-judged ms) (sym (at_document bytes ms doc) ∙ e)
 
 pub faults_are_there : FaultsAreThere
-faults_are_there bytes members fault doc e = at_err (policy_in members) fault (policy_in-judged members) (sym (at_document bytes members doc) ∙ e)
+faults_are_there bytes ms fault doc e = at_err (policy_in ms) fault (policy_in-judged ms) (sym (at_document bytes ms doc) ∙ e)
 
 pub not_toml_exactly : IsNotTomlExactly
 not_toml_exactly bytes = (
-  λ e members doc. faults_are_there bytes members NotToml doc e tt,
+  λ e ms doc. faults_are_there bytes ms NotToml doc e tt,
   λ none. elim (document_or_not bytes) [ inl p ↦ absurd (none p.0 p.1) | inr p ↦ p.0 ],
 )
 
 pub accepted_exactly : IsAcceptedExactly
 accepted_exactly bytes = (
   λ ok. elim (answers (policy_at bytes)) [
-    | inl p ↦ let (members, doc, read) = ok_is bytes p.0 p.1 in (members, doc, is_free members p.0 read)
+    | inl p ↦ let (ms, doc, read) = ok_is bytes p.0 p.1 in (ms, doc, is_free ms p.0 read)
     | inr p ↦ absurd (false≢true (rw p.1 at ok))
   ],
   λ p. elim (answers (policy_at bytes)) [
@@ -87,7 +87,7 @@ accepted_exactly bytes = (
 )
 
 pub read_as_written : IsReadAsWritten
-read_as_written bytes members policy doc e = writes members policy (read_is bytes members policy doc e)
+read_as_written bytes ms policy doc e = writes ms policy (read_is bytes ms policy doc e)
 
 pub policies_are_sound : PoliciesAreSound
-policies_are_sound bytes policy e = let (members, doc, read) = ok_is bytes policy e in is_sound members policy read
+policies_are_sound bytes policy e = let (ms, doc, read) = ok_is bytes policy e in is_sound ms policy read

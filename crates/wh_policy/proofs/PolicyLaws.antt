@@ -22,12 +22,12 @@ use Rattle.wh_policy.proofs.WrittenLemmas.{has_only-true, has_only-from, require
 use Rattle.wh_policy.proofs.YearLaws.{years_at-judged}
 
 -- the table writes the policy, and keeps what is asked of one
-pub record IsRead (members : Members) (policy : Policy) : Type 0 where
-  pub only : HasOnly top_keys members
-  pub attributes : (dim : Dim) → (content : Data) × (get_member (key_of dim) members ≡ Some content) × AreWritten content (attributes_of policy dim)
-  pub writes : WritesYears members policy.years
+pub record IsRead (ms : Members) (policy : Policy) : Type 0 where
+  pub only : HasOnly top_keys ms
+  pub attributes : (dim : Dim) → (content : Data) × (get_member (key_of dim) ms ≡ Some content) × AreWritten content (attributes_of policy dim)
+  pub writes : WritesYears ms policy.years
   pub years : AreYears policy.years
-  pub holidays : HolidaysAre policy.years (get_member (codes "holiday") members) policy.holidays
+  pub holidays : HolidaysAre policy.years (get_member (codes "holiday") ms) policy.holidays
 
 pub each_dim : (P : Dim → Type 0) → P Product → P Store → P Customer → (dim : Dim) → P dim
 each_dim P product store customer Product = product
@@ -36,10 +36,10 @@ each_dim P product store customer Customer = customer
 
 -- the fault is in the table
 abbrev pub IsIn : Members → PolicyFault → Type 0
-IsIn members fault = ¬ IsFreeOf fault members
+IsIn ms fault = ¬ IsFreeOf fault ms
 
-dimension-judged : (members : Members) (dim : Dim) (content : Data) → get_member (key_of dim) members ≡ Some content → Judged (AreWritten content) (IsIn members) (attributes_at dim content)
-dimension-judged members dim content there = attributes_at-judged dim content
+dimension-judged : (ms : Members) (dim : Dim) (content : Data) → get_member (key_of dim) ms ≡ Some content → Judged (AreWritten content) (IsIn ms) (attributes_at dim content)
+dimension-judged ms dim content there = attributes_at-judged dim content
     (λ none whole. let (tables, has, some) = whole.dimensions dim in none tables (same_Some _ _ (sym there ∙ has)) some)
     (λ tables is more each. more (each dim tables (there ∙ ap Some is)))
     (λ tables is. let has = there ∙ ap Some is in record {
@@ -51,15 +51,15 @@ dimension-judged members dim content there = attributes_at-judged dim content
       twice = λ none each. none (each dim tables has);
     })
 
-years-judged : (members : Members) (first last : Data) → get_member (codes "first_year") members ≡ Some first → get_member (codes "last_year") members ≡ Some last
-    → Judged (λ years. WritesYears members years × AreYears years) (IsIn members) (years_at first last)
-years-judged members first last first_there last_there = judged-more _
+years-judged : (ms : Members) (first last : Data) → get_member (codes "first_year") ms ≡ Some first → get_member (codes "last_year") ms ≡ Some last
+    → Judged (λ years. WritesYears ms years × AreYears years) (IsIn ms) (years_at first last)
+years-judged ms first last first_there last_there = judged-more _
     (years_at-judged first last (λ none p. none p.0 (same_Some _ _ (sym first_there ∙ p.1.first)) (same_Some _ _ (sym last_there ∙ p.1.last)) p.2))
     (λ years p. (record { first = first_there ∙ ap Some p.0; last = last_there ∙ ap Some p.1 }, p.2))
 
-holidays-judged : (members : Members) (years : Years) → WritesYears members years
-    → Judged (HolidaysAre years (get_member (codes "holiday") members)) (IsIn members) (holidays_at years (get_member (codes "holiday") members))
-holidays-judged members years writes = holidays_at-judged years (get_member (codes "holiday") members)
+holidays-judged : (ms : Members) (years : Years) → WritesYears ms years
+    → Judged (HolidaysAre years (get_member (codes "holiday") ms)) (IsIn ms) (holidays_at years (get_member (codes "holiday") ms))
+holidays-judged ms years writes = holidays_at-judged years (get_member (codes "holiday") ms)
     (λ content found none good. let p = rw found at good.tables in none p.0 p.1)
     (λ content tables found is. let has = found ∙ ap Some is in record {
       unknown = λ none keys. none (keys.holidays tables has);
@@ -69,22 +69,22 @@ holidays-judged members years writes = holidays_at-judged years (get_member (cod
       twice = λ none good. none (good.once tables has);
     })
 
-pub policy_in-judged : (members : Members) → Judged (IsRead members) (IsIn members) (policy_in members)
+pub policy_in-judged : (ms : Members) → Judged (IsRead ms) (IsIn ms) (policy_in ms)
 unfolding policy_in
-policy_in-judged members =
-    judged-unless (has_only top_keys members) UnknownKey _ (λ no keys. both_ways _ no (has_only-from top_keys members keys.top)) (λ only.
-    judged-bind {mid = λ content. get_member (codes "first_year") members ≡ Some content} _ _ (required-judged (codes "first_year") members (λ none whole. absent none (whole.top 0 [] (omega arith)))) (λ first_year first_there.
-    judged-bind {mid = λ content. get_member (codes "last_year") members ≡ Some content} _ _ (required-judged (codes "last_year") members (λ none whole. absent none (whole.top 1 [] (omega arith)))) (λ last_year last_there.
-    judged-bind {mid = λ content. get_member (codes "product") members ≡ Some content} _ _ (required-judged (codes "product") members (λ none whole. absent none (whole.top 2 [] (omega arith)))) (λ product_content product_there.
-    judged-bind {mid = λ content. get_member (codes "store") members ≡ Some content} _ _ (required-judged (codes "store") members (λ none whole. absent none (whole.top 3 [] (omega arith)))) (λ store_content store_there.
-    judged-bind {mid = λ content. get_member (codes "customer") members ≡ Some content} _ _ (required-judged (codes "customer") members (λ none whole. absent none (whole.top 4 [] (omega arith)))) (λ customer_content customer_there.
-    judged-bind {mid = AreWritten product_content} _ _ (dimension-judged members Product product_content product_there) (λ product product_is.
-    judged-bind {mid = AreWritten store_content} _ _ (dimension-judged members Store store_content store_there) (λ store store_is.
-    judged-bind {mid = AreWritten customer_content} _ _ (dimension-judged members Customer customer_content customer_there) (λ customer customer_is.
-    judged-bind {mid = λ years. WritesYears members years × AreYears years} _ _ (years-judged members first_year last_year first_there last_there) (λ years years_are.
-    judged-bind {mid = HolidaysAre years (get_member (codes "holiday") members)} _ _ (holidays-judged members years years_are.0) (λ holidays holidays_are.
+policy_in-judged ms =
+    judged-unless (has_only top_keys ms) UnknownKey _ (λ no keys. both_ways _ no (has_only-from top_keys ms keys.top)) (λ only.
+    judged-bind {mid = λ content. get_member (codes "first_year") ms ≡ Some content} _ _ (required-judged (codes "first_year") ms (λ none whole. absent none (whole.top 0 [] (omega arith)))) (λ first_year first_there.
+    judged-bind {mid = λ content. get_member (codes "last_year") ms ≡ Some content} _ _ (required-judged (codes "last_year") ms (λ none whole. absent none (whole.top 1 [] (omega arith)))) (λ last_year last_there.
+    judged-bind {mid = λ content. get_member (codes "product") ms ≡ Some content} _ _ (required-judged (codes "product") ms (λ none whole. absent none (whole.top 2 [] (omega arith)))) (λ product_content product_there.
+    judged-bind {mid = λ content. get_member (codes "store") ms ≡ Some content} _ _ (required-judged (codes "store") ms (λ none whole. absent none (whole.top 3 [] (omega arith)))) (λ store_content store_there.
+    judged-bind {mid = λ content. get_member (codes "customer") ms ≡ Some content} _ _ (required-judged (codes "customer") ms (λ none whole. absent none (whole.top 4 [] (omega arith)))) (λ customer_content customer_there.
+    judged-bind {mid = AreWritten product_content} _ _ (dimension-judged ms Product product_content product_there) (λ product product_is.
+    judged-bind {mid = AreWritten store_content} _ _ (dimension-judged ms Store store_content store_there) (λ store store_is.
+    judged-bind {mid = AreWritten customer_content} _ _ (dimension-judged ms Customer customer_content customer_there) (λ customer customer_is.
+    judged-bind {mid = λ years. WritesYears ms years × AreYears years} _ _ (years-judged ms first_year last_year first_there last_there) (λ years years_are.
+    judged-bind {mid = HolidaysAre years (get_member (codes "holiday") ms)} _ _ (holidays-judged ms years years_are.0) (λ holidays holidays_are.
     judged-ok (record { product = product; store = store; customer = customer; years = years; holidays = holidays }) (record {
-      only = has_only-true top_keys members only;
+      only = has_only-true top_keys ms only;
       attributes = each_dim _ (product_content, product_there, product_is) (store_content, store_there, store_is) (customer_content, customer_there, customer_is);
       writes = years_are.0;
       years = years_are.1;

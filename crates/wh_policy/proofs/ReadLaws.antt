@@ -33,24 +33,24 @@ there : {content : Data} {found : Option Data} → found ≡ Some content → Is
 there e = rw e refl
 
 -- the tables of a dimension are those that were read
-dimension_tables : (members : Members) (policy : Policy) → IsRead members policy → (dim : Dim) (tables : List Members) → HasTables (key_of dim) members tables
+dimension_tables : (ms : Members) (policy : Policy) → IsRead ms policy → (dim : Dim) (tables : List Members) → HasTables (key_of dim) ms tables
     → AllZip IsAttribute tables (attributes_of policy dim)
-dimension_tables members policy read dim tables has =
+dimension_tables ms policy read dim tables has =
     let (content, found, written) = read.attributes dim in
     let is : content ≡ array _ = same_Some _ _ (sym found ∙ has) in
     rw (arrays_same content written.tables tables written.array is) at written.each
 
-each_attribute : (P : Members → Type 0) → ((t : Members) (a : Attribute) → IsAttribute t a → P t) → (members : Members) (policy : Policy) → IsRead members policy → EachAttribute P members
-each_attribute P f members policy read dim tables has = zip-all IsAttribute P f tables (attributes_of policy dim) (dimension_tables members policy read dim tables has)
+each_attribute : (P : Members → Type 0) → ((t : Members) (a : Attribute) → IsAttribute t a → P t) → (ms : Members) (policy : Policy) → IsRead ms policy → EachAttribute P ms
+each_attribute P f ms policy read dim tables has = zip-all IsAttribute P f tables (attributes_of policy dim) (dimension_tables ms policy read dim tables has)
 
-holiday_tables : (members : Members) (policy : Policy) → IsRead members policy → (tables : List Members) → HasTables (codes "holiday") members tables
+holiday_tables : (ms : Members) (policy : Policy) → IsRead ms policy → (tables : List Members) → HasTables (codes "holiday") ms tables
     → AllZip (IsHoliday policy.years) tables policy.holidays × AllPairs (λ g h. g.day ≢ h.day) policy.holidays
-holiday_tables members policy read tables has =
+holiday_tables ms policy read tables has =
     let h = rw has at read.holidays in
     (rw (arrays_same _ h.0 tables h.1 refl) at h.2, h.3)
 
-each_holiday : (P : Members → Type 0) → (members : Members) (policy : Policy) → ((t : Members) (h : Holiday) → IsHoliday policy.years t h → P t) → IsRead members policy → EachHoliday P members
-each_holiday P members policy f read tables has = zip-all (IsHoliday policy.years) P f tables policy.holidays (holiday_tables members policy read tables has).0
+each_holiday : (P : Members → Type 0) → (ms : Members) (policy : Policy) → ((t : Members) (h : Holiday) → IsHoliday policy.years t h → P t) → IsRead ms policy → EachHoliday P ms
+each_holiday P ms policy f read tables has = zip-all (IsHoliday policy.years) P f tables policy.holidays (holiday_tables ms policy read tables has).0
 
 has_attribute_keys : (t : Members) (a : Attribute) → IsAttribute t a → HasAll attribute_keys t
 has_attribute_keys t a is = All-from_recursion (λ key. HasKey key t) attribute_keys (there is.writes.name, (there is.writes.kind, tt))
@@ -58,23 +58,23 @@ has_attribute_keys t a is = All-from_recursion (λ key. HasKey key t) attribute_
 has_holiday_keys : (years : Years) (t : Members) (h : Holiday) → IsHoliday years t h → HasAll holiday_keys t
 has_holiday_keys years t h is = All-from_recursion (λ key. HasKey key t) holiday_keys (there is.writes.day, (there is.writes.name, tt))
 
-keys_are_known : (members : Members) (policy : Policy) → IsRead members policy → KeysAreKnown members
-keys_are_known members policy read = record {
+keys_are_known : (ms : Members) (policy : Policy) → IsRead ms policy → KeysAreKnown ms
+keys_are_known ms policy read = record {
   top = read.only;
-  attributes = each_attribute (HasOnly attribute_keys) (λ t a is. is.only) members policy read;
-  holidays = each_holiday (HasOnly holiday_keys) members policy (λ t h is. is.only) read;
+  attributes = each_attribute (HasOnly attribute_keys) (λ t a is. is.only) ms policy read;
+  holidays = each_holiday (HasOnly holiday_keys) ms policy (λ t h is. is.only) read;
 }
 
-is_whole : (members : Members) (policy : Policy) → IsRead members policy → IsWhole members
-is_whole members policy read =
+is_whole : (ms : Members) (policy : Policy) → IsRead ms policy → IsWhole ms
+is_whole ms policy read =
     let product = read.attributes Product in
     let store = read.attributes Store in
     let customer = read.attributes Customer in
     record {
-      top = All-from_recursion (λ key. HasKey key members) needed_keys (there read.writes.first, (there read.writes.last, (there product.1, (there store.1, (there customer.1, tt)))));
+      top = All-from_recursion (λ key. HasKey key ms) needed_keys (there read.writes.first, (there read.writes.last, (there product.1, (there store.1, (there customer.1, tt)))));
       dimensions = λ dim. let (content, found, written) = read.attributes dim in (written.tables, found ∙ ap Some written.array, written.some);
-      attributes = each_attribute (HasAll attribute_keys) has_attribute_keys members policy read;
-      holidays = each_holiday (HasAll holiday_keys) members policy (has_holiday_keys policy.years) read;
+      attributes = each_attribute (HasAll attribute_keys) has_attribute_keys ms policy read;
+      holidays = each_holiday (HasAll holiday_keys) ms policy (has_holiday_keys policy.years) read;
     }
 
 is_name_data : (t : Members) (a : Attribute) → IsAttribute t a → At (codes "name") IsNameData t
@@ -100,8 +100,8 @@ days_differ years t u g h is_g is_h differ text here there =
     let second = string_same _ _ (same_Some _ _ (sym is_h.writes.day ∙ there)) in
     differ (same_Some _ _ (sym (read_day-text g.day is_g.day) ∙ ap read_day (first ∙ sym second) ∙ read_day-text h.day is_h.day))
 
-years_same : (members : Members) (y z : Years) → WritesYears members y → WritesYears members z → y ≡ z
-years_same members y z a b =
+years_same : (ms : Members) (y z : Years) → WritesYears ms y → WritesYears ms z → y ≡ z
+years_same ms y z a b =
     let first : y.first ≡ z.first = ap unsigned_abs (integer_same _ _ (same_Some _ _ (sym a.first ∙ b.first))) in
     let last : y.last ≡ z.last = ap unsigned_abs (integer_same _ _ (same_Some _ _ (sym a.last ∙ b.last))) in
     let both : record { first = y.first; last = y.last } ≡ record { first = z.first; last = z.last } = rw (first, last) refl in
@@ -111,46 +111,46 @@ is_array : (years : Years) (found : Option Data) (holidays : List Holiday) → H
 is_array years None holidays h = tt
 is_array years (Some content) holidays h = (h.0, h.1)
 
-holidays_are_good : (members : Members) (policy : Policy) → IsRead members policy → HolidaysAreGood members
-holidays_are_good members policy read = record {
-  tables = is_array policy.years (get_member (codes "holiday") members) policy.holidays read.holidays;
-  days = λ years writes. rw (years_same members years policy.years writes read.writes)
-      (each_holiday (At (codes "day") (IsDayData policy.years)) members policy (λ t h is. rw is.writes.day (h.day, refl, is.day, is.within)) read);
-  names = each_holiday (At (codes "name") IsTitleData) members policy (λ t h is. rw is.writes.name (h.name, refl, is.some, is.name)) read;
-  once = λ tables has. let p = holiday_tables members policy read tables has in
+holidays_are_good : (ms : Members) (policy : Policy) → IsRead ms policy → HolidaysAreGood ms
+holidays_are_good ms policy read = record {
+  tables = is_array policy.years (get_member (codes "holiday") ms) policy.holidays read.holidays;
+  days = λ years writes. rw (years_same ms years policy.years writes read.writes)
+      (each_holiday (At (codes "day") (IsDayData policy.years)) ms policy (λ t h is. rw is.writes.day (h.day, refl, is.day, is.within)) read);
+  names = each_holiday (At (codes "name") IsTitleData) ms policy (λ t h is. rw is.writes.name (h.name, refl, is.some, is.name)) read;
+  once = λ tables has. let p = holiday_tables ms policy read tables has in
       zip-pairs (IsHoliday policy.years) (DifferAt (codes "day")) (λ g h. g.day ≢ h.day) (days_differ policy.years) tables policy.holidays p.0 p.1;
 }
 
 -- what is read has no fault
-pub is_free : (members : Members) (policy : Policy) → IsRead members policy → (fault : PolicyFault) → IsFreeOf fault members
-is_free members policy read NotToml = tt
-is_free members policy read Missing = is_whole members policy read
-is_free members policy read UnknownKey = keys_are_known members policy read
-is_free members policy read BadName = each_attribute (At (codes "name") IsNameData) is_name_data members policy read
-is_free members policy read BadType = each_attribute (At (codes "type") IsTypeData) is_type_data members policy read
-is_free members policy read TooMany = λ dim tables has.
+pub is_free : (ms : Members) (policy : Policy) → IsRead ms policy → (fault : PolicyFault) → IsFreeOf fault ms
+is_free ms policy read NotToml = tt
+is_free ms policy read Missing = is_whole ms policy read
+is_free ms policy read UnknownKey = keys_are_known ms policy read
+is_free ms policy read BadName = each_attribute (At (codes "name") IsNameData) is_name_data ms policy read
+is_free ms policy read BadType = each_attribute (At (codes "type") IsTypeData) is_type_data ms policy read
+is_free ms policy read TooMany = λ dim tables has.
     let (content, found, written) = read.attributes dim in
     let read_long = AllZip-long IsAttribute _ _ written.each in
-    let here_long = AllZip-long IsAttribute _ _ (dimension_tables members policy read dim tables has) in
+    let here_long = AllZip-long IsAttribute _ _ (dimension_tables ms policy read dim tables has) in
     rw (← read_long, here_long) at written.few
-is_free members policy read NamedTwice = λ dim tables has. let (content, found, written) = read.attributes dim in
-    zip-pairs IsAttribute (DifferAt (codes "name")) (λ a b. a.name ≢ b.name) names_differ tables (attributes_of policy dim) (dimension_tables members policy read dim tables has) written.once
-is_free members policy read ProfileOutside = each_attribute IsOutsideProfile is_outside members policy read
-is_free members policy read ProfileMixed = tt
-is_free members policy read BadYears = (policy.years, read.writes, read.years)
-is_free members policy read BadHoliday = holidays_are_good members policy read
+is_free ms policy read NamedTwice = λ dim tables has. let (content, found, written) = read.attributes dim in
+    zip-pairs IsAttribute (DifferAt (codes "name")) (λ a b. a.name ≢ b.name) names_differ tables (attributes_of policy dim) (dimension_tables ms policy read dim tables has) written.once
+is_free ms policy read ProfileOutside = each_attribute IsOutsideProfile is_outside ms policy read
+is_free ms policy read ProfileMixed = tt
+is_free ms policy read BadYears = (policy.years, read.writes, read.years)
+is_free ms policy read BadHoliday = holidays_are_good ms policy read
 
 writes_holidays : (years : Years) (found : Option Data) (holidays : List Holiday) → HolidaysAre years found holidays → WritesHolidays found holidays
 writes_holidays years None holidays h = h
 writes_holidays years (Some content) holidays h = (h.0, h.1, zip-more (IsHoliday years) WritesHoliday (λ t g is. is.writes) _ _ h.2)
 
 -- it is what the file writes
-pub writes : (members : Members) (policy : Policy) → IsRead members policy → Writes members policy
-writes members policy read = record {
+pub writes : (ms : Members) (policy : Policy) → IsRead ms policy → Writes ms policy
+writes ms policy read = record {
   attributes = λ dim. let (content, found, written) = read.attributes dim in
       (written.tables, found ∙ ap Some written.array, zip-more IsAttribute WritesAttribute (λ t a is. is.writes) _ _ written.each);
   years = read.writes;
-  holidays = writes_holidays policy.years (get_member (codes "holiday") members) policy.holidays read.holidays;
+  holidays = writes_holidays policy.years (get_member (codes "holiday") ms) policy.holidays read.holidays;
 }
 
 are_attributes : (attributes : List Attribute) (content : Data) → AreWritten content attributes → AreAttributes attributes
@@ -173,10 +173,10 @@ are_distinct years None holidays h = rw h (λ i j d below within. absurd (omega 
 are_distinct years (Some content) holidays h = h.3
 
 -- and sound
-pub is_sound : (members : Members) (policy : Policy) → IsRead members policy → IsSound policy
-is_sound members policy read = record {
+pub is_sound : (ms : Members) (policy : Policy) → IsRead ms policy → IsSound policy
+is_sound ms policy read = record {
   attributes = λ dim. are_attributes (attributes_of policy dim) (read.attributes dim).0 (read.attributes dim).2;
   years = read.years;
-  holidays = are_within policy.years (get_member (codes "holiday") members) policy.holidays read.holidays;
-  once = are_distinct policy.years (get_member (codes "holiday") members) policy.holidays read.holidays;
+  holidays = are_within policy.years (get_member (codes "holiday") ms) policy.holidays read.holidays;
+  once = are_distinct policy.years (get_member (codes "holiday") ms) policy.holidays read.holidays;
 }

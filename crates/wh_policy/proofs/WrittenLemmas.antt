@@ -37,9 +37,9 @@ pub as_array-is : (content : Data) (items : Items) → as_array content ≡ Some
 as_array-is (array ds) items e = ap array (same_Some _ _ e)
 as_array-is _ items e = absurd cc
 
-pub as_table-is : (content : Data) (members : Members) → as_table content ≡ Some members → content ≡ table members
-as_table-is (table ms) members e = ap table (same_Some _ _ e)
-as_table-is _ members e = absurd cc
+pub as_table-is : (content : Data) (t : Members) → as_table content ≡ Some t → content ≡ table t
+as_table-is (table ms) t e = ap table (same_Some _ _ e)
+as_table-is _ t e = absurd cc
 
 -- constructors are one to one
 

@@ -3,7 +3,10 @@ use std::alloc::{AllocError, Global};
 use std::test::*;
 use wh_day::ReadError;
 
-mod read;
+mod bytes;
+mod faults;
+mod order;
+mod policies;
 
 /// The text of examples/flat.toml.
 const FLAT: &str = r#"first_year = 2023
@@ -50,4 +53,23 @@ fn fault(alloc: Global, text: &[u8]) -> Result<Option<PolicyFault>, AllocError> 
 fn fault_with(alloc: Global, from: &str, to: &str) -> Result<Option<PolicyFault>, AllocError> {
     let text = FLAT.replace(alloc, from, to)?;
     fault(alloc, text.as_bytes())
+}
+
+/// The fault of FLAT with two texts in two others' places.
+fn fault_with_both(
+    alloc: Global,
+    first: (&str, &str),
+    second: (&str, &str),
+) -> Result<Option<PolicyFault>, AllocError> {
+    let text = FLAT.replace(alloc, first.0, first.1)?;
+    let text = text.as_str().replace(alloc, second.0, second.1)?;
+    fault(alloc, text.as_bytes())
+}
+
+/// The policy of a text, which has to be one.
+fn policy(alloc: Global, text: &str) -> Result<Policy, Fail> {
+    match Policy::read(alloc, text.as_bytes()) {
+        Ok(policy) => Ok(policy),
+        Err(_) => Err(Fail::from("a policy")),
+    }
 }
