@@ -1,5 +1,5 @@
 -- The laws of policy files.
-use Rattle.std.proofs.Common.{◌≡◌, ◌⊎◌, ℕ, ◌≤◌, List, length, Option, Some, None, Result, Ok, Err, refl, sym, ◌∙◌, arith, inl, inr}
+use Rattle.std.proofs.Common.{ap, ◌≡◌, ◌⊎◌, ℕ, ◌≤◌, List, length, Option, Some, None, Result, Ok, Err, refl, sym, ◌∙◌, arith, inl, inr}
 use Rattle.std.specs.Str.{IsUtf8, is_utf8}
 use Rattle.std.proofs.lemmas.Bool.{cases_Bool, cases_lt, lt-ltb, both_ways, false≢true}
 use Rattle.std.proofs.lemmas.Option.{same_Some, none-some}
@@ -16,6 +16,7 @@ use Rattle.wh_policy.specs.Written.{IsDocument}
 use Rattle.wh_policy.proofs.DocumentLemmas.{document-text, document-no_text}
 use Rattle.wh_policy.proofs.Judged.{at_ok, at_err, answers}
 use Rattle.wh_policy.proofs.PolicyLaws.{IsRead, policy_in-judged}
+use Rattle.wh_policy.proofs.WrittenOnce.{writes_once}
 use Rattle.wh_policy.proofs.ReadLaws.{is_free, writes, is_sound}
 
 document-at : (bytes : List ℕ) (ms : Members) → IsDocument bytes ms → document_at bytes ≡ Ok ms
@@ -87,7 +88,13 @@ accepted_exactly bytes = (
 )
 
 pub read_as_written : IsReadAsWritten
-read_as_written bytes ms policy doc e = writes ms policy (read_is bytes ms policy doc e)
+read_as_written bytes policy = (
+  λ e. let (ms, doc, read) = ok_is bytes policy e in (ms, doc, is_free ms policy read, writes ms policy read),
+  λ p. elim (answers (policy_at bytes)) [
+    | inl q ↦ q.1 ∙ ap (λ (r : Policy). Ok r) (writes_once p.0 q.0 policy (writes p.0 q.0 (read_is bytes p.0 q.0 p.1 q.1)) p.3)
+    | inr q ↦ absurd (faults_are_there bytes p.0 q.0 p.1 q.1 (p.2 q.0))
+  ],
+)
 
 pub policies_are_sound : PoliciesAreSound
 policies_are_sound bytes policy e = let (ms, doc, read) = ok_is bytes policy e in is_sound ms policy read

@@ -13,4 +13,5 @@ pub mod TypeLemmas
 mod Worked
 mod WorkedTexts
 pub mod WrittenLemmas
+pub mod WrittenOnce
 pub mod YearLaws

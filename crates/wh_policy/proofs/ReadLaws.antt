@@ -22,11 +22,12 @@ use Rattle.wh_policy.specs.Attributes.{attribute_keys, is_name}
 use Rattle.wh_policy.specs.Holidays.{holiday_keys}
 use Rattle.wh_policy.specs.Policy.{attributes_of}
 use Rattle.wh_policy.specs.Types.{is_profile, type_number}
-use Rattle.wh_policy.specs.Written.{HasKey, HasOnly, HasAll, HasTables, IsArrayOf, EachAttribute, EachHoliday, KeysAreKnown, needed_keys, IsWhole, At, IsNameData, IsTypeData, IsWithin, IsDayData, IsTitleData, DifferAt, IsOutsideProfile, WritesYears, HolidaysAreGood, IsFreeOf, WritesAttribute, WritesHoliday, WritesHolidays, Writes, AreAttributes, IsSound, key_of}
+use Rattle.wh_policy.specs.Written.{HasKey, HasOnly, HasAll, HasTables, IsArrayOf, EachAttribute, EachHoliday, KeysAreKnown, needed_keys, IsWhole, At, IsNameData, IsTypeData, IsWithin, IsDayData, IsTitleData, DifferAt, IsOutsideProfile, HolidaysAreGood, IsFreeOf, WritesAttribute, WritesHoliday, WritesHolidays, Writes, AreAttributes, IsSound, key_of}
 use Rattle.wh_policy.proofs.AttributeLaws.{IsAttribute, AreWritten}
 use Rattle.wh_policy.proofs.HolidayLaws.{IsHoliday, HolidaysAre}
 use Rattle.wh_policy.proofs.PolicyLaws.{IsRead}
 use Rattle.wh_policy.proofs.TypeLemmas.{type_number-small, other_numbers}
+use Rattle.wh_policy.proofs.WrittenOnce.{years_once}
 use Rattle.wh_policy.proofs.WrittenLemmas.{string_same, integer_same, arrays_same, zip-all, zip-all_right, zip-more, zip-pairs}
 
 there : {content : Data} {found : Option Data} → found ≡ Some content → IsSome found
@@ -100,13 +101,6 @@ days_differ years t u g h is_g is_h differ text here there =
     let second = string_same _ _ (same_Some _ _ (sym is_h.writes.day ∙ there)) in
     differ (same_Some _ _ (sym (read_day-text g.day is_g.day) ∙ ap read_day (first ∙ sym second) ∙ read_day-text h.day is_h.day))
 
-years_same : (ms : Members) (y z : Years) → WritesYears ms y → WritesYears ms z → y ≡ z
-years_same ms y z a b =
-    let first : y.first ≡ z.first = ap unsigned_abs (integer_same _ _ (same_Some _ _ (sym a.first ∙ b.first))) in
-    let last : y.last ≡ z.last = ap unsigned_abs (integer_same _ _ (same_Some _ _ (sym a.last ∙ b.last))) in
-    let both : record { first = y.first; last = y.last } ≡ record { first = z.first; last = z.last } = rw (first, last) refl in
-    both
-
 is_array : (years : Years) (found : Option Data) (holidays : List Holiday) → HolidaysAre years found holidays → IfSome found (λ content. (tables : List Members) × IsArrayOf tables content)
 is_array years None holidays h = tt
 is_array years (Some content) holidays h = (h.0, h.1)
@@ -114,7 +108,7 @@ is_array years (Some content) holidays h = (h.0, h.1)
 holidays_are_good : (ms : Members) (policy : Policy) → IsRead ms policy → HolidaysAreGood ms
 holidays_are_good ms policy read = record {
   tables = is_array policy.years (get_member (codes "holiday") ms) policy.holidays read.holidays;
-  days = λ years writes. rw (years_same ms years policy.years writes read.writes)
+  days = λ years writes. rw (years_once ms years policy.years writes read.writes)
       (each_holiday (At (codes "day") (IsDayData policy.years)) ms policy (λ t h is. rw is.writes.day (h.day, refl, is.day, is.within)) read);
   names = each_holiday (At (codes "name") IsTitleData) ms policy (λ t h is. rw is.writes.name (h.name, refl, is.some, is.name)) read;
   once = λ tables has. let p = holiday_tables ms policy read tables has in

@@ -24,9 +24,10 @@ FaultsAreThere = (bytes : List ℕ) (members : Members) (fault : PolicyFault) �
 abbrev pub IsNotTomlExactly : Type 0
 IsNotTomlExactly = (bytes : List ℕ) → (policy_at bytes ≡ Err NotToml) ↔ ((members : Members) → ¬ IsDocument bytes members)
 
--- what is read is what the file writes
+-- and it is read as exactly the policy that it writes
 abbrev pub IsReadAsWritten : Type 0
-IsReadAsWritten = (bytes : List ℕ) (members : Members) (policy : Policy) → IsDocument bytes members → policy_at bytes ≡ Ok policy → Writes members policy
+IsReadAsWritten = (bytes : List ℕ) (policy : Policy)
+    → (policy_at bytes ≡ Ok policy) ↔ ((members : Members) × IsDocument bytes members × ((fault : PolicyFault) → IsFreeOf fault members) × Writes members policy)
 
 -- every policy that is read has one to six attributes a dimension with names of their own, up to 30 years, and its holidays within them
 abbrev pub PoliciesAreSound : Type 0

@@ -13,7 +13,7 @@ pub fn faults_are_there()
     ensures not_toml { IsNotTomlExactly }
 {}
 
-/// What is read is what the file writes: attributes by slot, years and holidays.
+/// Such a file is read as the policy that its table writes: attributes by slot, years and holidays.
 pub fn read_as_written()
     ensures { IsReadAsWritten }
 {}
