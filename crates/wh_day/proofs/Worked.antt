@@ -1,5 +1,5 @@
 -- The definitions on days and texts whose answers are known from elsewhere: each lemma computes.
-use Rattle.std.specs.Prelude.{ℕ, Bool, true, false, pos, negsuc, codes, replicate, List, [], ◌∷◌, ◌++◌, Option, Some, None}
+use Rattle.std.specs.Prelude.{ℕ, Bool, true, false, pos, negsuc, codes, replicate, List, [], ◌∷◌, Some, None}
 use Rattle.std.specs.List.{list_any}
 use Rattle.std.proofs.Common.{◌≡◌, refl}
 use Rattle.wh_day.proofs.OnLiterals.{day_on_literals}

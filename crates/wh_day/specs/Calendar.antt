@@ -18,6 +18,7 @@ day_in_year day = day_of_year (pos (year_of day)) (month_of day) (day_of_month d
 abbrev pub weekday_of : ℕ → ℕ
 weekday_of day = weekday_number (days_from_civil (pos (year_of day)) (month_of day) (day_of_month day)) + 1
 
+-- from Monday on
 abbrev pub weekday_names : List (List ℕ)
 weekday_names =
     codes "Monday" ∷ codes "Tuesday" ∷ codes "Wednesday" ∷ codes "Thursday" ∷ codes "Friday" ∷ codes "Saturday" ∷ codes "Sunday" ∷ []

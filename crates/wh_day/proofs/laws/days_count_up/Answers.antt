@@ -1,4 +1,4 @@
-use Rattle.std.proofs.Common.{◌∙◌, arith, refl}
+use Rattle.std.proofs.Common.{◌∙◌, arith}
 use Rattle.jiff_core.proofs.CalendarLemmas.{day_of_year-january}
 use Rattle.wh_day.proofs.Days.{parts, follows}
 use Rattle.wh_day.proofs.laws.days_count_up.Goals as goal

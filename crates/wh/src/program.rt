@@ -1,0 +1,64 @@
+//! One run of the program.
+
+ghost use Rattle.std.specs.Prelude.{◌≡◌, ◌≢◌, ◌⊎◌, ℕ, List, Option, map, true};
+ghost use Rattle.wh.specs.Answer.{Printed, AnswersTrial};
+ghost use Rattle.wh.specs.CommandLine.{trial_words, is_operand, is_operand_or_none};
+ghost use Rattle.wh.specs.Request.{dim_word};
+ghost use Rattle.wh_policy.specs.declared.attribute.Dim.{Dim};
+ghost use Rattle.wh.specs.Run.{Prints, out_of_memory};
+
+use crate::answer::{Status, answer_to};
+use crate::host::Host;
+use crate::output::write_whole;
+use std::alloc::Global;
+use std::convert::AsStr;
+use std::io;
+use std::io::Write;
+
+const MEMORY_LINE: &[u8] = b"failed: E8 memory\n";
+
+const WRITE_LINE: &[u8] = b"failed: G4 write\n";
+
+/// Prints a text, and answers the status. Where the writer fails the status is that of a failure, and a line says so
+/// if it can still be written.
+fn print<W: Write>(out: &mut W, status: u8, text: &[u8]) -> u8
+    ensures { Prints (W.contents out.old) (W.contents out.new) result (record { status = status; text = text.now }) }
+{
+    if write_whole(out, text).is_ok() {
+        return status;
+    }
+    let _ = write_whole(out, WRITE_LINE);
+    Status::Failed.code()
+}
+
+/// One run of the program: answers the words after its name, and tells the status to exit with.
+pub fn run<S: AsStr, H: Host, W: Write>(alloc: Global, words: &[S], host: &mut H, out: &mut W) -> u8
+    // What a trial of a dimension prints, with its status, under its own policy or the one in a file.
+    ensures trial { (dim : Dim) (path : List ℕ) (policy : Option (List ℕ))
+        → map S.text words.now ≡ trial_words (dim_word dim) path policy → is_operand path ≡ true → is_operand_or_none policy ≡ true
+        → Prints (W.contents out.old) (W.contents out.new) result out_of_memory
+        ⊎ ((answer : Printed) × AnswersTrial (H.holds host.old) dim path policy answer
+        × Prints (W.contents out.old) (W.contents out.new) result answer) }
+
+    // Such words are right.
+    ensures right_words { (dim : Dim) (path : List ℕ) (policy : Option (List ℕ))
+        → map S.text words.now ≡ trial_words (dim_word dim) path policy → is_operand path ≡ true → is_operand_or_none policy ≡ true
+        → result ≢ 4 }
+{
+    match answer_to(alloc, words, host) {
+        Ok(answer) => print(out, answer.code(), answer.text()),
+        Err(_) => print(out, Status::Failed.code(), MEMORY_LINE),
+    }
+}
+
+/// A run whose words could not be had: they are no text, or memory ran out.
+pub fn run_without_words<W: Write>(error: &io::Error, out: &mut W) -> u8 {
+    match error.kind() {
+        io::ErrorKind::OutOfMemory => print(out, Status::Failed.code(), MEMORY_LINE),
+        _ => print(
+            out,
+            Status::Usage.code(),
+            b"error: an argument is no text\n",
+        ),
+    }
+}

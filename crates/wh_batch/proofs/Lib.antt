@@ -1,0 +1,9 @@
+pub mod BatchLemmas
+pub mod FieldLemmas
+pub mod GoodLemmas
+pub mod GrammarLemmas
+pub mod MoreLemmas
+pub mod NumberLemmas
+pub mod OnLiterals
+pub mod RowLemmas
+pub mod Worked

@@ -1,0 +1,153 @@
+-- The definitions at values that were worked out by hand.
+use Rattle.std.proofs.Common.{◌≡◌, ℕ, ◌++◌, pos, negsuc, List, [], ◌∷◌, codes, Some, None, Ok, Err, refl, replicate}
+use Rattle.std.proofs.lemmas.Str.{is_utf8-from_IsUtf8}
+use Rattle.wh_policy.specs.Policy.{trial_policy}
+use Rattle.wh_policy.specs.declared.attribute.Dim.TheVariants.{Product}
+use Rattle.wh_policy.specs.declared.record.SaleRecord.{SaleRecord}
+use Rattle.wh_batch.specs.declared.fault.FaultKind.TheVariants.{WrongHeader, WrongLength, BadKey, BadDay, BadValue, BadNumber, TwiceInBatch, OutsideCalendar}
+use Rattle.wh_batch.specs.declared.kind.Format.TheVariants.{One}
+use Rattle.wh_batch.specs.Batch.{at, records_after}
+use Rattle.wh_batch.specs.Fields.{key_at, customer_at, day_at, effective_day_at, value_at}
+use Rattle.wh_batch.specs.Numbers.{read_line, read_quantity, read_amount}
+use Rattle.wh_batch.specs.Layouts.{dimension_record, dimension_records, sale_record, sale_records, sales_layout}
+use Rattle.wh_batch.proofs.FieldLemmas.{key_is_text}
+use Rattle.wh_batch.proofs.OnLiterals.{batch_on_literals}
+
+-- amounts of money
+least_amount : read_amount (codes "-9999999.99") ≡ Some (negsuc 999999998)
+unfolding batch_on_literals
+least_amount = refl
+
+one_decimal : read_amount (codes "12.5") ≡ Some (pos 1250)
+unfolding batch_on_literals
+one_decimal = refl
+
+minus_nothing : read_amount (codes "-0") ≡ Some (pos 0)
+unfolding batch_on_literals
+minus_nothing = refl
+
+eight_digits : read_amount (codes "10000000") ≡ None
+unfolding batch_on_literals
+eight_digits = refl
+
+three_decimals : read_amount (codes "1.234") ≡ None
+unfolding batch_on_literals
+three_decimals = refl
+
+plus : read_amount (codes "+1") ≡ None
+unfolding batch_on_literals
+plus = refl
+
+nothing_before_the_point : read_amount (codes ".5") ≡ None
+unfolding batch_on_literals
+nothing_before_the_point = refl
+
+nothing_behind_the_point : read_amount (codes "1.") ≡ None
+unfolding batch_on_literals
+nothing_behind_the_point = refl
+
+no_amount : read_amount [] ≡ None
+unfolding batch_on_literals
+no_amount = refl
+
+-- lines and quantities
+zeros_in_front : (read_line (codes "0001") ≡ Some 1) × (read_quantity (codes "-0099") ≡ Some (negsuc 98))
+unfolding batch_on_literals
+zeros_in_front = (refl, refl)
+
+no_lines : (read_line (codes "0") ≡ None) × (read_line (codes "10000") ≡ None) × (read_line [] ≡ None)
+unfolding batch_on_literals
+no_lines = (refl, refl, refl)
+
+-- keys
+keys : (key_at 32 (codes "P.1-_x") ≡ Ok (codes "P.1-_x")) × (key_at 32 (codes "S 1") ≡ Err BadKey) × (key_at 32 [] ≡ Err BadKey) × (customer_at [] ≡ Ok None)
+unfolding batch_on_literals
+keys = (refl, refl, refl, refl)
+
+-- days
+days : (day_at (codes "2023-02-29") ≡ Err BadDay) × (day_at (codes "2200-01-01") ≡ Ok 22000101) × (effective_day_at (codes "2199-12-31") ≡ Ok 21991231) × (effective_day_at (codes "2200-01-01") ≡ Err BadDay)
+unfolding batch_on_literals
+days = (refl, refl, refl, refl)
+
+-- values: sixty letters are one, and sixty-one aren't
+sixty_letters : value_at (replicate 60 120) ≡ Ok (replicate 60 120)
+unfolding batch_on_literals
+sixty_letters = rw (is_utf8-from_IsUtf8 (replicate 60 120) (key_is_text 60 (replicate 60 120) refl)) refl
+
+sixty_one_letters : value_at (replicate 61 120) ≡ Err BadValue
+unfolding batch_on_literals
+sixty_one_letters = refl
+
+-- a record that was cut off
+cut : dimension_record 2 (codes "P1" ∷ codes "2024-08-01" ∷ codes "Cola" ∷ []) ≡ Err WrongLength
+unfolding batch_on_literals
+cut = refl
+
+-- sales, of a store, a product and a quantity and amounts of 1
+abbrev sale : List ℕ → List ℕ → List ℕ → List ℕ → List (List ℕ)
+sale ticket line day store = ticket ∷ line ∷ day ∷ store ∷ codes "P1" ∷ [] ∷ codes "1" ∷ codes "1" ∷ codes "1" ∷ []
+
+line_before_day : sale_record (sale (codes "T1") (codes "0") (codes "2024-13-01") (codes "S1")) ≡ Err BadNumber
+unfolding batch_on_literals
+line_before_day = refl
+
+day_before_store : sale_record (sale (codes "T1") (codes "1") (codes "2024-13-01") (codes "S 1")) ≡ Err BadDay
+unfolding batch_on_literals
+day_before_store = refl
+
+long_line : sale_record (sale (codes "T1") (codes "10000") (codes "2024-01-05") (codes "S1")) ≡ Err BadNumber
+unfolding batch_on_literals
+long_line = refl
+
+returned : sale_record (codes "T1" ∷ codes "0001" ∷ codes "2024-01-05" ∷ codes "S1" ∷ codes "P1" ∷ [] ∷ codes "-0099" ∷ codes "1" ∷ codes "1" ∷ [])
+    ≡ Ok (record { ticket = codes "T1"; line = 1; day = 20240105; store = codes "S1"; product = codes "P1"; customer = None; quantity = negsuc 98; amount = pos 100; cost = pos 100 })
+unfolding batch_on_literals
+returned = refl
+
+-- a line that is there comes before a day outside the calendar
+twice : records_after (sales_layout trial_policy.years) [] 1 (sale (codes "T5") (codes "1") (codes "2024-01-05") (codes "S1") ∷ sale (codes "T5") (codes "0001") (codes "2027-01-01") (codes "S1") ∷ []) ≡ Err (at 2 TwiceInBatch)
+unfolding batch_on_literals
+twice = refl
+
+outside : records_after (sales_layout trial_policy.years) [] 1 (sale (codes "T5") (codes "1") (codes "2027-01-01") (codes "S1") ∷ []) ≡ Err (at 1 OutsideCalendar)
+unfolding batch_on_literals
+outside = refl
+
+-- whole batches, as bytes
+no_bytes : dimension_records Product trial_policy One [] ≡ Err (at 0 WrongHeader)
+unfolding batch_on_literals
+no_bytes = refl
+
+header_alone : dimension_records Product trial_policy One (codes "id,day,description,brand") ≡ Ok []
+unfolding batch_on_literals
+header_alone = refl
+
+cut_file : dimension_records Product trial_policy One (codes "id,day,description,brand" ++ 10 ∷ codes "P1,2024-08-01,Cola") ≡ Err (at 1 WrongLength)
+unfolding batch_on_literals
+cut_file = refl
+
+-- sales, with the line end given
+abbrev two_sales : List ℕ → List ℕ
+two_sales end =
+    codes "ticket,line,day,store,product,customer,quantity,amount,cost" ++ end ++ codes "T1,1,2024-02-05,S1,P1,,2,5.00,3.20" ++ end
+    ++ codes "T0,1,2023-12-31,S1,P1,C9,1,2.5,\"1.60\"" ++ end
+
+abbrev two_records : List SaleRecord
+two_records = record { ticket = codes "T1"; line = 1; day = 20240205; store = codes "S1"; product = codes "P1"; customer = None; quantity = pos 2; amount = pos 500; cost = pos 320 }
+    ∷ record { ticket = codes "T0"; line = 1; day = 20231231; store = codes "S1"; product = codes "P1"; customer = Some (codes "C9"); quantity = pos 1; amount = pos 250; cost = pos 160 } ∷ []
+
+line_feeds : sale_records trial_policy One (two_sales (10 ∷ [])) ≡ Ok two_records
+unfolding batch_on_literals
+line_feeds = refl
+
+carriage_returns : sale_records trial_policy One (two_sales (13 ∷ [])) ≡ Ok two_records
+unfolding batch_on_literals
+carriage_returns = refl
+
+both_and_a_mark : sale_records trial_policy One (239 ∷ 187 ∷ 191 ∷ two_sales (13 ∷ 10 ∷ [])) ≡ Ok two_records
+unfolding batch_on_literals
+both_and_a_mark = refl
+
+repeated_line : sale_records trial_policy One (two_sales (10 ∷ []) ++ codes "T1,01,2024-02-06,S1,P1,,2,5,3") ≡ Err (at 3 TwiceInBatch)
+unfolding batch_on_literals
+repeated_line = refl

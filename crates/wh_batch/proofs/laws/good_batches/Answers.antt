@@ -1,0 +1,12 @@
+use Rattle.wh_policy.specs.Policy.{attributes_of}
+use Rattle.wh_batch.specs.Layouts.{dimension_layout, sales_layout, dimension_records, sale_records}
+use Rattle.wh_batch.proofs.GoodLemmas.{reads_batches}
+use Rattle.wh_batch.proofs.laws.good_batches.Goals as goal
+
+pub returns-clause-dimensions : goal.returns-clause-dimensions
+unfolding dimension_records
+returns-clause-dimensions c = λ dim policy. reads_batches (dimension_layout (attributes_of policy dim))
+
+pub returns-clause-sales : goal.returns-clause-sales
+unfolding sale_records
+returns-clause-sales c = λ policy. reads_batches (sales_layout policy.years)

@@ -1,0 +1,59 @@
+-- The fields of a record that aren't numbers.
+use Rattle.std.specs.Prelude.{ℕ, Bool, ◌&&◌, ◌||◌, ◌==◌, nat_le, if◌then◌else◌, List, [], ◌∷◌, length, Option, Some, None, Result, Ok, Err}
+use Rattle.std.specs.List.{list_all}
+use Rattle.std.specs.Char.{is_ascii_alphanumeric}
+use Rattle.wh_day.specs.Day.{read_day}
+use Rattle.wh_day.specs.Value.{read_value}
+use Rattle.wh_day.specs.Reading.{◌>>=◌}
+use Rattle.wh_batch.specs.declared.fault.FaultKind.{FaultKind}
+use Rattle.wh_batch.specs.declared.fault.FaultKind.TheVariants.{BadKey, BadDay, BadValue}
+
+-- what was read, or this fault
+abbrev pub or_fault : {A : Type 0} → FaultKind → Option A → Result A FaultKind
+or_fault kind (Some x) = Ok x
+or_fault kind None = Err kind
+
+-- a letter, a digit, '-', '_' or '.'
+abbrev pub is_key_byte : ℕ → Bool
+is_key_byte byte = is_ascii_alphanumeric byte || (byte == 45) || (byte == 95) || (byte == 46)
+
+-- one up to `most` such bytes
+abbrev pub is_key : ℕ → List ℕ → Bool
+is_key most text = nat_le 1 (length text) && nat_le (length text) most && list_all is_key_byte text
+
+-- the key that a field is
+unfoldable pub key_at : ℕ → List ℕ → Result (List ℕ) FaultKind
+key_at most field = if is_key most field then Ok field else Err BadKey
+
+-- the key of the customer, whom a sale needn't have
+unfoldable pub customer_at : List ℕ → Result (Option (List ℕ)) FaultKind
+customer_at [] = Ok None
+customer_at (first ∷ rest) = do
+  key ← key_at 32 (first ∷ rest)
+  Ok (Some key)
+
+-- the day that a field writes
+unfoldable pub day_at : List ℕ → Result ℕ FaultKind
+day_at field = or_fault BadDay (read_day field)
+
+-- the last day on which a row of a dimension can begin
+abbrev pub last_effective_day : ℕ
+last_effective_day = 21991231
+
+-- the day on which a row of a dimension begins
+unfoldable pub effective_day_at : List ℕ → Result ℕ FaultKind
+effective_day_at field = do
+  day ← day_at field
+  if nat_le day last_effective_day then Ok day else Err BadDay
+
+-- the value that a field writes
+unfoldable pub value_at : List ℕ → Result (List ℕ) FaultKind
+value_at field = or_fault BadValue (read_value field)
+
+-- the values that fields write, one each
+unfoldable pub values_at : List (List ℕ) → Result (List (List ℕ)) FaultKind
+values_at [] = Ok []
+values_at (field ∷ fields) = do
+  value ← value_at field
+  values ← values_at fields
+  Ok (value ∷ values)

@@ -1,0 +1,106 @@
+//! Reading a batch of records.
+
+ghost use Rattle.std.specs.Prelude.{◌≡◌, ◌++◌, ◌∷◌, [], IfOk};
+ghost use Rattle.csv.specs.Records.{fields_of};
+ghost use Rattle.wh_day.specs.Reading.{Gives};
+ghost use Rattle.wh_batch.specs.Batch.{next_record, numbered, records_after, batch_of};
+
+use crate::fault::{BatchFault, FaultKind};
+use crate::fields::fields_of;
+use crate::keys::Keys;
+use crate::layout::RecordLayout;
+use crate::rows::Rows;
+use csv::ByteRecord;
+use std::alloc::Global;
+use wh_day::ReadError;
+
+/// The records of a batch, in order. `Memory` comes where a growth was refused, or where the CSV reader gave up.
+#[tactic(auto, unfolding(crate::specs::Batch::batch_of, crate::specs::Batch::below_header))]
+pub(crate) fn batch_of<L: RecordLayout>(
+    alloc: Global,
+    layout: &L,
+    bytes: &[u8],
+) -> Result<Vec<L::Record>, ReadError<BatchFault>>
+    ensures { Gives (λ records. records.items) result (batch_of (L.layout layout.now) bytes.now) }
+{
+    if bytes.len() > 1_000_000 {
+        return Err(fault(0, FaultKind::TooLarge));
+    }
+    let mut rows = Rows::new(alloc, bytes);
+    let mut row = ByteRecord::new(alloc);
+    if !rows.next(&mut row)? {
+        return Err(fault(0, FaultKind::WrongHeader));
+    }
+    let header = fields_of(alloc, &row)?;
+    if !layout.is_header(&header) {
+        return Err(fault(0, FaultKind::WrongHeader));
+    }
+    records_below(alloc, layout, &mut rows)
+}
+
+fn records_below<L: RecordLayout>(
+    alloc: Global,
+    layout: &L,
+    rows: &mut Rows,
+) -> Result<Vec<L::Record>, ReadError<BatchFault>>
+    ensures { Gives (λ records. records.items) result (records_after (L.layout layout.now) [] 1 rows.old) }
+{
+    let mut row = ByteRecord::new(alloc);
+    let mut keys = Keys::new(alloc);
+    let mut records = Vec::new(alloc);
+    for number in 1..5001 {
+        if !rows.next(&mut row)? {
+            return Ok(records);
+        }
+        let record = numbered_record(alloc, layout, number, &mut keys, &row)?;
+        records.push(record)?;
+    }
+    if rows.next(&mut row)? {
+        return Err(fault(5001, FaultKind::TooLarge));
+    }
+    Ok(records)
+}
+
+fn numbered_record<L: RecordLayout>(
+    alloc: Global,
+    layout: &L,
+    number: u32,
+    keys: &mut Keys,
+    row: &ByteRecord,
+) -> Result<L::Record, ReadError<BatchFault>>
+    ensures reads { Gives (λ r. r) result (numbered number (next_record (L.layout layout.now) keys.old (fields_of row.now))) }
+    ensures keeps { IfOk result (λ r. keys.new ≡ keys.old ++ (L.layout layout.now).key r ∷ []) }
+{
+    match next_record(alloc, layout, keys, row) {
+        Ok(record) => Ok(record),
+        Err(ReadError::Memory) => Err(ReadError::Memory),
+        Err(ReadError::Fault(kind)) => Err(fault(number, kind)),
+    }
+}
+
+#[tactic(auto, unfolding(crate::specs::Batch::next_record))]
+fn next_record<L: RecordLayout>(
+    alloc: Global,
+    layout: &L,
+    keys: &mut Keys,
+    row: &ByteRecord,
+) -> Result<L::Record, ReadError<FaultKind>>
+    ensures reads { Gives (λ r. r) result (next_record (L.layout layout.now) keys.old (fields_of row.now)) }
+    ensures keeps { IfOk result (λ r. keys.new ≡ keys.old ++ (L.layout layout.now).key r ∷ []) }
+{
+    let fields = fields_of(alloc, row)?;
+    let record = layout.read(alloc, &fields)?;
+    if !keys.insert(layout.key(alloc, &record)?)? {
+        return Err(ReadError::Fault(FaultKind::TwiceInBatch));
+    }
+    if !layout.is_within(&record) {
+        return Err(ReadError::Fault(FaultKind::OutsideCalendar));
+    }
+    Ok(record)
+}
+
+fn fault(number: u32, kind: FaultKind) -> ReadError<BatchFault>
+    ensures { result ≡ ReadError.Fault (record { kind = kind; number = number }) }
+{
+    ReadError::Fault(BatchFault { kind, number })
+}

@@ -1,0 +1,113 @@
+//! Batches for dimensions.
+
+ghost use Rattle.std.specs.Prelude.{◌≡◌, map, length};
+ghost use Rattle.std.specs.Str.{bytes_eq};
+ghost use Rattle.std.specs.Cmp.Lexicographic.{pointwise};
+ghost use Rattle.wh_day.specs.Reading.{Gives};
+ghost use Rattle.wh_batch.specs.Layouts.{dimension_record, dimension_records};
+
+use crate::batch::batch_of;
+use crate::fault::{BatchFault, FaultKind};
+use crate::fields::{effective_day_of, key_of, values_of};
+use crate::keys::RecordKey;
+use crate::kind::Format;
+use crate::layout::RecordLayout;
+use crate::records::DimensionRecords;
+use std::alloc::{AllocError, Global};
+use wh_day::ReadError;
+use wh_policy::{Attribute, Dim, DimensionRecord, Policy};
+
+/// The records of a batch for a dimension, in order. `Memory` comes where a growth was refused, or where the CSV reader
+/// gave up.
+#[tactic(auto, unfolding(crate::specs::Layouts::dimension_records))]
+pub fn dimension_records(
+    alloc: Global,
+    dim: Dim,
+    policy: &Policy,
+    format: Format,
+    bytes: &[u8],
+) -> Result<DimensionRecords, ReadError<BatchFault>>
+    ensures { Gives (λ records. records) result (dimension_records dim policy.now format bytes.now) }
+{
+    match format {
+        Format::One => {
+            let layout = DimensionLayout {
+                attributes: policy.attributes(dim),
+            };
+            Ok(DimensionRecords::of(batch_of(alloc, &layout, bytes)?))
+        }
+    }
+}
+
+/// A record has an id, a day, and a value for each attribute.
+#[derive(Drop)]
+struct DimensionLayout<'a> {
+    attributes: &'a [Attribute],
+}
+
+impl<'a> RecordLayout for DimensionLayout<'a> {
+    ghost use Rattle.wh_batch.specs.Layouts.{dimension_layout};
+
+    type Record = DimensionRecord;
+
+    ghost layout = { λ d. dimension_layout d.attributes.now };
+
+    fn is_header(&self, fields: &[&[u8]]) -> bool {
+        let [id, day, fields @ ..] = fields else {
+            return false;
+        };
+        *id == b"id".as_slice() && *day == b"day".as_slice() && are_names(self.attributes, fields)
+    }
+
+    fn read(
+        &self,
+        alloc: Global,
+        fields: &[&[u8]],
+    ) -> Result<DimensionRecord, ReadError<FaultKind>> {
+        dimension_record(alloc, self.attributes.len(), fields)
+    }
+
+    fn key(&self, alloc: Global, record: &DimensionRecord) -> Result<RecordKey, AllocError> {
+        RecordKey::new(alloc, &record.natural, record.day.key())
+    }
+
+    fn is_within(&self, _record: &DimensionRecord) -> bool {
+        true
+    }
+}
+
+#[tactic(auto, unfolding(crate::specs::Layouts::dimension_record))]
+fn dimension_record(
+    alloc: Global,
+    attributes: usize,
+    fields: &[&[u8]],
+) -> Result<DimensionRecord, ReadError<FaultKind>>
+    ensures { Gives (λ r. r) result (dimension_record attributes (map (λ f. f.now) fields.now)) }
+{
+    let [id, day, values @ ..] = fields else {
+        return Err(ReadError::Fault(FaultKind::WrongLength));
+    };
+    if values.len() != attributes {
+        return Err(ReadError::Fault(FaultKind::WrongLength));
+    }
+    let natural = key_of(alloc, 32, id)?;
+    let day = effective_day_of(day)?;
+    let values = values_of(alloc, values)?;
+    Ok(DimensionRecord {
+        natural,
+        day,
+        values,
+    })
+}
+
+fn are_names(attributes: &[Attribute], fields: &[&[u8]]) -> bool
+    ensures { result ≡ pointwise bytes_eq (map (λ f. f.now) fields.now) (map (λ a. a.name) attributes.now) }
+{
+    match (fields, attributes) {
+        ([], []) => true,
+        ([field, fields @ ..], [attribute, attributes @ ..]) => {
+            *field == attribute.name.as_str().as_bytes() && are_names(attributes, fields)
+        }
+        _ => false,
+    }
+}

@@ -1,0 +1,129 @@
+//! Reading the fields of a record.
+
+ghost use Rattle.std.specs.Prelude.{◌≡◌, map, IfOk};
+ghost use Rattle.std.specs.List.{list_all};
+ghost use Rattle.std.specs.Str.{bytes_eq};
+ghost use Rattle.std.specs.Cmp.Lexicographic.{pointwise};
+ghost use Rattle.csv.specs.Records.{fields_of};
+ghost use Rattle.wh_day.specs.Reading.{Gives};
+ghost use Rattle.wh_batch.specs.Fields.{or_fault, is_key, is_key_byte, key_at, customer_at, day_at, effective_day_at, value_at, values_at};
+
+use crate::fault::FaultKind;
+use csv::ByteRecord;
+use std::alloc::{AllocError, Global};
+use wh_day::{Day, ReadError, Value, Values};
+
+/// The fields of a row.
+pub(crate) fn fields_of(alloc: Global, row: &ByteRecord) -> Result<Vec<&[u8]>, AllocError>
+    ensures { IfOk result (λ fields. map (λ f. f.now) fields.items ≡ fields_of row.now) }
+{
+    let mut fields = Vec::with_capacity(alloc, row.len())?;
+    for i in 0..row.len() {
+        if let Some(field) = row.get(i) {
+            fields.push(field)?;
+        }
+    }
+    Ok(fields)
+}
+
+/// Whether the fields are those, each by its bytes.
+pub(crate) fn are_same(fields: &[&[u8]], others: &[&[u8]]) -> bool
+    ensures { result ≡ pointwise bytes_eq (map (λ f. f.now) fields.now) (map (λ f. f.now) others.now) }
+{
+    fields == others
+}
+
+/// What was read, or this fault.
+pub(crate) fn or_fault<T: Drop>(read: Option<T>, kind: FaultKind) -> Result<T, ReadError<FaultKind>>
+    ensures { Gives (λ x. x) result (or_fault kind read) }
+{
+    match read {
+        Some(x) => Ok(x),
+        None => Err(ReadError::Fault(kind)),
+    }
+}
+
+fn is_key_byte(byte: u8) -> bool
+    ensures { result ≡ is_key_byte byte }
+{
+    byte.is_ascii_alphanumeric() || byte == b'-' || byte == b'_' || byte == b'.'
+}
+
+fn has_key_bytes(field: &[u8]) -> bool
+    ensures { result ≡ list_all is_key_byte field.now }
+{
+    field.iter().all(|byte| is_key_byte(*byte))
+}
+
+fn is_key(most: usize, field: &[u8]) -> bool
+    ensures { result ≡ is_key most field.now }
+{
+    1 <= field.len() && field.len() <= most && has_key_bytes(field)
+}
+
+#[tactic(auto, unfolding(crate::specs::Fields::key_at))]
+pub(crate) fn key_of(
+    alloc: Global,
+    most: usize,
+    field: &[u8],
+) -> Result<Value, ReadError<FaultKind>>
+    ensures { Gives (λ key. key) result (key_at most field.now) }
+{
+    if !is_key(most, field) {
+        return Err(ReadError::Fault(FaultKind::BadKey));
+    }
+    match std::str::from_utf8(field) {
+        Ok(key) => Ok(Value::new(alloc, key)?),
+        Err(_) => Err(ReadError::Fault(FaultKind::BadKey)),
+    }
+}
+
+/// The key of the customer, whom a sale needn't have.
+#[tactic(auto, unfolding(crate::specs::Fields::customer_at))]
+pub(crate) fn customer_of(
+    alloc: Global,
+    field: &[u8],
+) -> Result<Option<Value>, ReadError<FaultKind>>
+    ensures { Gives (λ customer. customer) result (customer_at field.now) }
+{
+    match field {
+        [] => Ok(None),
+        _ => Ok(Some(key_of(alloc, 32, field)?)),
+    }
+}
+
+#[tactic(auto, unfolding(crate::specs::Fields::day_at))]
+pub(crate) fn day_of(field: &[u8]) -> Result<Day, ReadError<FaultKind>>
+    ensures { Gives (λ day. day) result (day_at field.now) }
+{
+    or_fault(Day::read(field), FaultKind::BadDay)
+}
+
+#[tactic(auto, unfolding(crate::specs::Fields::effective_day_at))]
+pub(crate) fn effective_day_of(field: &[u8]) -> Result<Day, ReadError<FaultKind>>
+    ensures { Gives (λ day. day) result (effective_day_at field.now) }
+{
+    let day = day_of(field)?;
+    if day.key() <= 21_991_231 {
+        Ok(day)
+    } else {
+        Err(ReadError::Fault(FaultKind::BadDay))
+    }
+}
+
+#[tactic(auto, unfolding(crate::specs::Fields::value_at))]
+fn value_of(alloc: Global, field: &[u8]) -> Result<Value, ReadError<FaultKind>>
+    ensures { Gives (λ value. value) result (value_at field.now) }
+{
+    or_fault(Value::read(alloc, field)?, FaultKind::BadValue)
+}
+
+pub(crate) fn values_of(alloc: Global, fields: &[&[u8]]) -> Result<Values, ReadError<FaultKind>>
+    ensures { Gives (λ values. values) result (values_at (map (λ f. f.now) fields.now)) }
+{
+    let mut values = Values::new(alloc);
+    for field in fields {
+        values.push(value_of(alloc, field)?)?;
+    }
+    Ok(values)
+}

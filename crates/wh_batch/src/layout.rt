@@ -1,0 +1,34 @@
+//! How the records of a kind are laid out.
+
+ghost use Rattle.std.specs.Prelude.{◌≡◌, map, IfOk};
+ghost use Rattle.std.specs.Str.{bytes_eq};
+ghost use Rattle.std.specs.Cmp.Lexicographic.{pointwise};
+ghost use Rattle.wh_day.specs.Reading.{Gives};
+ghost use Rattle.wh_batch.specs.Batch.{Layout};
+ghost use Rattle.wh_batch.specs.Keys.{key_of};
+
+use crate::fault::FaultKind;
+use crate::keys::RecordKey;
+use std::alloc::{AllocError, Global};
+use wh_day::ReadError;
+
+/// How the records of a kind are laid out.
+pub(crate) trait RecordLayout {
+    type Record: Drop;
+
+    ghost layout: { Self → Layout Self.Record };
+
+    fn is_header(&self, fields: &[&[u8]]) -> bool
+        ensures { result ≡ pointwise bytes_eq (map (λ f. f.now) fields.now) (layout self.now).header };
+
+    /// The record of these fields.
+    fn read(&self, alloc: Global, fields: &[&[u8]]) -> Result<Self::Record, ReadError<FaultKind>>
+        ensures { Gives (λ r. r) result ((layout self.now).read (map (λ f. f.now) fields.now)) };
+
+    fn key(&self, alloc: Global, record: &Self::Record) -> Result<RecordKey, AllocError>
+        ensures { IfOk result (λ key. key_of key ≡ (layout self.now).key «record».now) };
+
+    /// Whether the calendar has the record's day.
+    fn is_within(&self, record: &Self::Record) -> bool
+        ensures { result ≡ (layout self.now).is_within «record».now };
+}

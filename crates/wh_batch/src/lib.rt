@@ -1,0 +1,28 @@
+//! Batches of records that a source sends, as CSV.
+#![tactic(auto)]
+
+mod batch;
+mod dimension;
+mod fault;
+mod fields;
+mod keys;
+mod kind;
+pub mod laws;
+mod layout;
+mod numbers;
+mod reader;
+mod records;
+mod rows;
+mod sale;
+mod sales;
+
+pub use dimension::dimension_records;
+pub use fault::{BatchFault, FaultKind};
+pub use kind::{Format, Kind};
+pub use reader::read;
+pub use records::{DimensionRecords, Records};
+pub use sale::sale_records;
+pub use sales::SaleRecords;
+
+#[cfg(test)]
+mod tests;

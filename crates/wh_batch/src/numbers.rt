@@ -1,0 +1,131 @@
+//! Reading the fields of a record that are numbers.
+
+ghost use Rattle.std.specs.Prelude.{◌≡◌, ◌^◌, ◌<◌, ◌≤◌, true, length, position, IfSome};
+ghost use Rattle.std.specs.Char.{is_ascii_digit};
+ghost use Rattle.std.specs.List.{list_all};
+ghost use Rattle.std.specs.Str.Parse.{digits_value};
+ghost use Rattle.wh_day.specs.Reading.{Gives};
+ghost use Rattle.wh_batch.specs.Numbers.{is_point, read_digits, read_fraction, read_hundredths, read_line, read_quantity, read_amount, line_at, quantity_at, amount_at};
+
+use crate::fault::FaultKind;
+use crate::fields::or_fault;
+use wh_day::ReadError;
+
+fn is_all_digits(text: &[u8]) -> bool
+    ensures { result ≡ list_all is_ascii_digit text.now }
+{
+    text.iter().all(|byte| byte.is_ascii_digit())
+}
+
+// The number that these digits write.
+fn parsed(text: &[u8]) -> Option<u32>
+    requires digits { list_all is_ascii_digit text.now ≡ true }
+    requires some { 1 ≤ length text.now }
+    requires few { length text.now ≤ 9 }
+    ensures { result ≡ Some (digits_value 10 text.now) }
+{
+    match std::str::from_utf8(text) {
+        Ok(text) => text.parse().ok(),
+        Err(_) => None,
+    }
+}
+
+// The number that one up to `most` digits write.
+#[tactic(auto, unfolding(crate::specs::Numbers::read_digits))]
+fn read_digits(most: usize, text: &[u8]) -> Option<u32>
+    requires { most ≤ 9 }
+    ensures value { result ≡ read_digits most text.now }
+    ensures bound { IfSome result (λ n. n < 10 ^ most) }
+{
+    if 1 <= text.len() && text.len() <= most && is_all_digits(text) {
+        parsed(text)
+    } else {
+        None
+    }
+}
+
+#[tactic(auto, unfolding(crate::specs::Numbers::read_fraction))]
+fn read_fraction(text: &[u8]) -> Option<u32>
+    ensures value { result ≡ read_fraction text.now }
+    ensures bound { IfSome result (λ n. n < 100) }
+{
+    if text.len() == 1 {
+        Some(10 * read_digits(1, text)?)
+    } else {
+        read_digits(2, text)
+    }
+}
+
+fn point_of(text: &[u8]) -> Option<usize>
+    ensures value { result ≡ position is_point text.now }
+{
+    text.iter().position(|byte| *byte == b'.')
+}
+
+// The hundredths that an amount without a sign writes.
+#[tactic(auto, unfolding(crate::specs::Numbers::read_hundredths))]
+fn read_hundredths(text: &[u8]) -> Option<u32>
+    ensures value { result ≡ read_hundredths text.now }
+    ensures bound { IfSome result (λ n. n < 10 ^ 9) }
+{
+    match point_of(text) {
+        None => Some(100 * read_digits(7, text)?),
+        Some(point) => {
+            let whole = read_digits(7, &text[..point])?;
+            let part = read_fraction(&text[point + 1..])?;
+            Some(100 * whole + part)
+        }
+    }
+}
+
+#[tactic(auto, unfolding(crate::specs::Numbers::read_line))]
+fn read_line(text: &[u8]) -> Option<u32>
+    ensures { result ≡ read_line text.now }
+{
+    match read_digits(4, text)? {
+        0 => None,
+        line => Some(line),
+    }
+}
+
+#[tactic(auto, unfolding(crate::specs::Numbers::read_quantity))]
+fn read_quantity(text: &[u8]) -> Option<i64>
+    ensures { result ≡ read_quantity text.now }
+{
+    match text {
+        [] => None,
+        [b'-', digits @ ..] => Some(-(read_digits(4, digits)? as i64)),
+        _ => Some(read_digits(4, text)? as i64),
+    }
+}
+
+#[tactic(auto, unfolding(crate::specs::Numbers::read_amount))]
+fn read_amount(text: &[u8]) -> Option<i64>
+    ensures { result ≡ read_amount text.now }
+{
+    match text {
+        [] => None,
+        [b'-', amount @ ..] => Some(-(read_hundredths(amount)? as i64)),
+        _ => Some(read_hundredths(text)? as i64),
+    }
+}
+
+/// The number of a line on its ticket, 1 to 9999.
+pub(crate) fn line_of(field: &[u8]) -> Result<u32, ReadError<FaultKind>>
+    ensures { Gives (λ line. line) result (line_at field.now) }
+{
+    or_fault(read_line(field), FaultKind::BadNumber)
+}
+
+pub(crate) fn quantity_of(field: &[u8]) -> Result<i64, ReadError<FaultKind>>
+    ensures { Gives (λ quantity. quantity) result (quantity_at field.now) }
+{
+    or_fault(read_quantity(field), FaultKind::BadNumber)
+}
+
+/// An amount of money, in hundredths.
+pub(crate) fn amount_of(field: &[u8]) -> Result<i64, ReadError<FaultKind>>
+    ensures { Gives (λ amount. amount) result (amount_at field.now) }
+{
+    or_fault(read_amount(field), FaultKind::BadNumber)
+}

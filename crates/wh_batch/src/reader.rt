@@ -1,0 +1,34 @@
+//! Reading a batch of either kind.
+
+ghost use Rattle.std.specs.Prelude.{◌≡◌};
+ghost use Rattle.wh_day.specs.Reading.{Gives};
+ghost use Rattle.wh_batch.specs.Layouts.{records_of};
+
+use crate::dimension::dimension_records;
+use crate::fault::BatchFault;
+use crate::kind::{Format, Kind};
+use crate::records::Records;
+use crate::sale::sale_records;
+use std::alloc::Global;
+use wh_day::ReadError;
+use wh_policy::Policy;
+
+/// The records of a batch of this kind, in order. `Memory` comes where a growth was refused, or where the CSV reader
+/// gave up.
+#[tactic(auto, unfolding(crate::specs::Layouts::records_of))]
+pub fn read(
+    alloc: Global,
+    kind: Kind,
+    policy: &Policy,
+    format: Format,
+    bytes: &[u8],
+) -> Result<Records, ReadError<BatchFault>>
+    ensures { Gives (λ records. records) result (records_of kind policy.now format bytes.now) }
+{
+    match kind {
+        Kind::Dimension(dim) => Ok(Records::Dimension(dimension_records(
+            alloc, dim, policy, format, bytes,
+        )?)),
+        Kind::Sales => Ok(Records::Sales(sale_records(alloc, policy, format, bytes)?)),
+    }
+}

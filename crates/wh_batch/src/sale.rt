@@ -1,0 +1,116 @@
+//! Batches of sales.
+
+ghost use Rattle.std.specs.Prelude.{◌≡◌, map};
+ghost use Rattle.wh_day.specs.Reading.{Gives};
+ghost use Rattle.wh_batch.specs.Layouts.{is_within, sale_record, sale_records};
+
+use crate::batch::batch_of;
+use crate::fault::{BatchFault, FaultKind};
+use crate::fields::{are_same, customer_of, day_of, key_of};
+use crate::keys::RecordKey;
+use crate::kind::Format;
+use crate::layout::RecordLayout;
+use crate::numbers::{amount_of, line_of, quantity_of};
+use crate::sales::SaleRecords;
+use std::alloc::{AllocError, Global};
+use wh_day::{Day, ReadError};
+use wh_policy::{Policy, SaleRecord, Years};
+
+/// The records of a batch of sales, in order. `Memory` comes where a growth was refused, or where the CSV reader gave up.
+#[tactic(auto, unfolding(crate::specs::Layouts::sale_records))]
+pub fn sale_records(
+    alloc: Global,
+    policy: &Policy,
+    format: Format,
+    bytes: &[u8],
+) -> Result<SaleRecords, ReadError<BatchFault>>
+    ensures { Gives (λ records. records) result (sale_records policy.now format bytes.now) }
+{
+    match format {
+        Format::One => {
+            let layout = SalesLayout {
+                years: policy.years,
+            };
+            Ok(SaleRecords::of(batch_of(alloc, &layout, bytes)?))
+        }
+    }
+}
+
+/// A record has a ticket and a line, a day, a store, a product and perhaps a customer, a quantity, an amount and a cost.
+#[derive(Drop)]
+struct SalesLayout {
+    years: Years,
+}
+
+impl RecordLayout for SalesLayout {
+    ghost use Rattle.wh_batch.specs.Layouts.{sales_layout};
+
+    type Record = SaleRecord;
+
+    ghost layout = { λ s. sales_layout s.years };
+
+    fn is_header(&self, fields: &[&[u8]]) -> bool {
+        let names: [&[u8]; 9] = [
+            b"ticket",
+            b"line",
+            b"day",
+            b"store",
+            b"product",
+            b"customer",
+            b"quantity",
+            b"amount",
+            b"cost",
+        ];
+        are_same(fields, &names)
+    }
+
+    fn read(&self, alloc: Global, fields: &[&[u8]]) -> Result<SaleRecord, ReadError<FaultKind>> {
+        sale_record(alloc, fields)
+    }
+
+    fn key(&self, alloc: Global, record: &SaleRecord) -> Result<RecordKey, AllocError> {
+        RecordKey::new(alloc, &record.ticket, record.line)
+    }
+
+    fn is_within(&self, record: &SaleRecord) -> bool {
+        is_within(self.years, record.day)
+    }
+}
+
+fn is_within(years: Years, day: Day) -> bool
+    ensures { result ≡ is_within years day }
+{
+    let year = day.key() / 10_000;
+    years.first as u32 <= year && year <= years.last as u32
+}
+
+#[tactic(auto, using(crate::proofs::FieldLemmas::nine_fields), unfolding(crate::specs::Layouts::sale_record))]
+fn sale_record(alloc: Global, fields: &[&[u8]]) -> Result<SaleRecord, ReadError<FaultKind>>
+    ensures { Gives (λ r. r) result (sale_record (map (λ f. f.now) fields.now)) }
+{
+    let [
+        ticket,
+        line,
+        day,
+        store,
+        product,
+        customer,
+        quantity,
+        amount,
+        cost,
+    ] = fields
+    else {
+        return Err(ReadError::Fault(FaultKind::WrongLength));
+    };
+    Ok(SaleRecord {
+        ticket: key_of(alloc, 20, ticket)?,
+        line: line_of(line)?,
+        day: day_of(day)?,
+        store: key_of(alloc, 32, store)?,
+        product: key_of(alloc, 32, product)?,
+        customer: customer_of(alloc, customer)?,
+        quantity: quantity_of(quantity)?,
+        amount: amount_of(amount)?,
+        cost: amount_of(cost)?,
+    })
+}

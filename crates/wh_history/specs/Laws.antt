@@ -1,0 +1,48 @@
+-- What holds of the rows of every member.
+use Rattle.std.specs.Prelude.{◌≡◌, ℕ, List, count_by, Bool, true, false, Some, bytes_eq}
+use Rattle.std.specs.List.{list_any, AllByRecursion}
+use Rattle.wh_day.specs.Day.{is_day}
+use Rattle.wh_policy.specs.declared.attribute.Dim.{Dim}
+use Rattle.wh_history.specs.Rows.{holds}
+use Rattle.wh_history.specs.Accepted.{Accepted, Content, Governs, Describes, Sells, anchors_by, described, mentions, same_anchor, opening_of}
+use Rattle.wh_history.specs.Tables.{dimension_row}
+use Rattle.wh_history.specs.declared.member.Change.{Change}
+use Rattle.wh_history.specs.declared.rows.DimRow.{DimRow}
+
+-- each change has a day from 1900-01-01 to 9999-12-31
+abbrev pub ChangesHaveDays : List Change → Type 0
+ChangesHaveDays changes = AllByRecursion (λ c. is_day c.day ≡ true) changes
+
+-- and so has each dimension record that was accepted
+abbrev pub RecordsHaveDays : List Accepted → Type 0
+RecordsHaveDays commands = (dim : Dim) → AllByRecursion (λ r. is_day r.day ≡ true) (described dim commands)
+
+-- exactly one row holds each day from 1900-01-01 to 9999-12-31: no two overlap, and no day is left out
+abbrev pub EachDayHasOneRow : List DimRow → Type 0
+EachDayHasOneRow rows = (day : ℕ) → is_day day ≡ true → count_by (holds day) rows ≡ 1
+
+-- exactly one row is current
+abbrev pub OneRowIsCurrent : List DimRow → Type 0
+OneRowIsCurrent rows = count_by (λ r. r.is_current) rows ≡ 1
+
+-- whether a command mentions a member
+abbrev pub mentions_member : Dim → Accepted → List ℕ → Bool
+mentions_member dim c natural = list_any (λ a. bytes_eq a.natural natural) (anchors_by dim c.content)
+
+-- a command mentions the member
+abbrev pub IsMember : Dim → List Accepted → List ℕ → Type 0
+IsMember dim commands natural = list_any (λ a. same_anchor a (opening_of natural)) (mentions dim commands) ≡ true
+
+-- the key is that of the one row of the member that holds the day
+pub record IsEffective (commands : List Accepted) (dim : Dim) (durable day key : ℕ) : Type 0 where
+  pub row : DimRow
+  pub there : dimension_row commands dim key ≡ Some row
+  pub of_member : row.durable ≡ durable
+  pub holds_day : holds day row ≡ true
+  pub only : (other : ℕ) (q : DimRow) → dimension_row commands dim other ≡ Some q → q.durable ≡ durable → holds day q ≡ true → other ≡ key
+
+-- whether a command gives a policy
+abbrev pub governs : Content → Bool
+governs (Governs policy) = true
+governs (Describes dim records) = false
+governs (Sells sales) = false

@@ -1,0 +1,13 @@
+pub mod Keys
+pub mod Slots
+pub mod Dated
+pub mod Profiles
+pub mod Rows
+pub mod Rendering
+pub mod Facts
+pub mod Plan
+pub mod Accepted
+pub mod Tables
+pub mod Laws
+pub mod Touched
+pub mod Picked

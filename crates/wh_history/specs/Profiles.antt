@@ -1,0 +1,33 @@
+-- The combinations of profile values, and their numbers.
+use Rattle.std.specs.Prelude.{ℕ, zero, suc, cond, List, map, Option, Some, None, unwrap_or}
+use Rattle.std.specs.List.{list_any}
+use Rattle.wh_policy.specs.Types.{is_profile, is_outrigger}
+use Rattle.wh_policy.specs.declared.attribute.AttributeType.{AttributeType}
+use Rattle.wh_policy.specs.declared.record.DimensionRecord.{DimensionRecord}
+use Rattle.wh_history.specs.Keys.{distinct, place}
+use Rattle.wh_history.specs.Slots.{picks, texts_eq}
+use Rattle.wh_history.specs.Dated.{dated, newest}
+use Rattle.wh_history.specs.declared.member.Change.{Change}
+use Rattle.wh_history.specs.declared.member.Member.{Member}
+
+-- the distinct combinations of profile values of records, in order of first acceptance
+abbrev pub combinations_of : List AttributeType → List DimensionRecord → List (List (List ℕ))
+combinations_of kinds records = distinct texts_eq (map (λ r. picks is_profile kinds r.values) records)
+
+-- the number of a place behind those of no card and unknown: the first combination has 2
+abbrev pub behind_unknown : ℕ → Option ℕ
+behind_unknown zero = None
+behind_unknown (suc n) = Some (suc (suc n))
+
+-- the number of a combination of profile values among those that were accepted, in order
+abbrev pub profile_number : List (List (List ℕ)) → List (List ℕ) → Option ℕ
+profile_number combinations texts = behind_unknown (place texts_eq texts combinations)
+
+-- the number of a change's combination, and 1 where no change says one
+abbrev pub current_profile : List AttributeType → List (List (List ℕ)) → Option Change → ℕ
+current_profile kinds combinations None = 1
+current_profile kinds combinations (Some c) = unwrap_or (profile_number combinations (picks is_profile kinds c.values)) 0
+
+-- the number that a member's rows show: that of the greatest day's combination, where an attribute is of type 5
+abbrev pub profile_now : List AttributeType → List (List (List ℕ)) → Member → ℕ
+profile_now kinds combinations m = cond (list_any is_outrigger kinds) (current_profile kinds combinations (newest (dated m.changes))) 0

@@ -1,0 +1,79 @@
+-- The rows of a member.
+use Rattle.std.specs.Prelude.{ℕ, Bool, cond, ◌==◌, ◌&&◌, nat_le, List, [], ◌∷◌, map, option_map, unwrap_or}
+use Rattle.wh_day.specs.Day.{first_day, last_day, day_before}
+use Rattle.wh_policy.specs.Types.{is_tracked}
+use Rattle.wh_policy.specs.declared.attribute.AttributeType.{AttributeType}
+use Rattle.wh_policy.specs.declared.attribute.AttributeType.TheVariants.{RetainOriginal, Overwrite, NewRow, NewAttribute, MiniDimension, MiniDimensionOutrigger, NewRowAndOverwrite, DualKeys}
+use Rattle.wh_history.specs.Slots.{columns_from, picks, six, texts_eq}
+use Rattle.wh_history.specs.Dated.{dated, at, value_at, latest, original, prior}
+use Rattle.wh_history.specs.Profiles.{profile_now}
+use Rattle.wh_history.specs.declared.member.Change.{Change}
+use Rattle.wh_history.specs.declared.member.Member.{Member}
+use Rattle.wh_history.specs.declared.rows.DimRow.{DimRow}
+
+-- whether no tracked value differs between two changes
+abbrev pub same_tracked : List AttributeType → Change → Change → Bool
+same_tracked kinds c d = texts_eq (picks is_tracked kinds c.values) (picks is_tracked kinds d.values)
+
+-- the days at which a tracked value differs from that of the change before
+abbrev pub later_starts : List AttributeType → Change → List Change → List ℕ
+later_starts kinds c [] = []
+later_starts kinds c (d ∷ ds) = cond (same_tracked kinds c d) (later_starts kinds d ds) (d.day ∷ later_starts kinds d ds)
+
+-- the days at which rows begin, behind the opening
+abbrev pub starts : List AttributeType → List Change → List ℕ
+starts kinds [] = []
+starts kinds (c ∷ cs) = later_starts kinds c cs
+
+-- from a day on, each start's row reaches to the day before the next, and the last one to the last day
+abbrev pub spans : ℕ → List ℕ → List (ℕ × ℕ)
+spans from [] = (from, last_day) ∷ []
+spans from (next ∷ more) = (from, day_before next) ∷ spans next more
+
+-- what a row that begins at that day shows of a slot in the column a
+abbrev pub main_column : List Change → ℕ → ℕ → AttributeType → List ℕ
+main_column changes start place RetainOriginal = original place changes
+main_column changes start place Overwrite = latest place changes
+main_column changes start place NewRow = value_at start place changes
+main_column changes start place NewAttribute = latest place changes
+main_column changes start place MiniDimension = []
+main_column changes start place MiniDimensionOutrigger = []
+main_column changes start place NewRowAndOverwrite = value_at start place changes
+main_column changes start place DualKeys = value_at start place changes
+
+-- and in the column b
+abbrev pub second_column : List Change → ℕ → AttributeType → List ℕ
+second_column changes place RetainOriginal = []
+second_column changes place Overwrite = []
+second_column changes place NewRow = []
+second_column changes place NewAttribute = prior place changes
+second_column changes place MiniDimension = []
+second_column changes place MiniDimensionOutrigger = []
+second_column changes place NewRowAndOverwrite = latest place changes
+second_column changes place DualKeys = []
+
+-- the number of a start: that of the opening, or of the change of its day
+abbrev pub start_key : Member → ℕ → ℕ
+start_key m day = cond (day == first_day) m.opening (unwrap_or (option_map (λ c. c.anchor) (at day (dated m.changes))) 0)
+
+-- the row from a day to another
+abbrev pub row : List AttributeType → ℕ → Member → ℕ × ℕ → DimRow
+row kinds profile_now m span = record {
+  surrogate = start_key m span.0;
+  durable = m.durable;
+  natural = m.natural;
+  from_day = span.0;
+  to_day = span.1;
+  is_current = span.1 == last_day;
+  a = six (columns_from (main_column m.changes span.0) 0 kinds);
+  b = six (columns_from (second_column m.changes) 0 kinds);
+  profile_now = profile_now;
+}
+
+-- a member's rows, in order of their starts
+abbrev pub rows : List AttributeType → List (List (List ℕ)) → Member → List DimRow
+rows kinds combinations m = map (row kinds (profile_now kinds combinations m) m) (spans first_day (starts kinds (dated m.changes)))
+
+-- whether a row holds a day
+abbrev pub holds : ℕ → DimRow → Bool
+holds day r = nat_le r.from_day day && nat_le day r.to_day

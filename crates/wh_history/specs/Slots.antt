@@ -1,0 +1,34 @@
+-- The slots of a dimension's attributes, and the values that stand in them.
+use Rattle.std.specs.Prelude.{ℕ, ◌-◌, suc, Bool, cond, List, [], ◌∷◌, ◌++◌, length, replicate, slice_index_or, bytes_eq}
+use Rattle.std.specs.Cmp.Lexicographic.{pointwise}
+use Rattle.wh_day.specs.Value.{none_text}
+use Rattle.wh_policy.specs.declared.attribute.AttributeType.{AttributeType}
+
+-- the value in a slot; a record that was accepted before the slot was there has none
+abbrev pub slot : List (List ℕ) → ℕ → List ℕ
+slot values place = slice_index_or values place none_text
+
+-- a text for each slot from that place on
+abbrev pub columns_from : (ℕ → AttributeType → List ℕ) → ℕ → List AttributeType → List (List ℕ)
+columns_from column place [] = []
+columns_from column place (kind ∷ kinds) = column place kind ∷ columns_from column (suc place) kinds
+
+-- the value in a slot that counts, and no text in another
+abbrev pub picked : (AttributeType → Bool) → List (List ℕ) → ℕ → AttributeType → List ℕ
+picked counts values place kind = cond (counts kind) (slot values place) []
+
+-- the values in the slots that count
+abbrev pub picks : (AttributeType → Bool) → List AttributeType → List (List ℕ) → List (List ℕ)
+picks counts kinds values = columns_from (picked counts values) 0 kinds
+
+-- whether two lists of texts are the same
+abbrev pub texts_eq : List (List ℕ) → List (List ℕ) → Bool
+texts_eq = pointwise bytes_eq
+
+-- texts for six slots, with a text for those that are not there
+abbrev pub padded : List ℕ → List (List ℕ) → List (List ℕ)
+padded text texts = texts ++ replicate (6 - length texts) text
+
+-- the texts of a table's six columns
+abbrev pub six : List (List ℕ) → List (List ℕ)
+six texts = padded [] texts

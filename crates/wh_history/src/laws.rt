@@ -1,0 +1,65 @@
+//! Laws that every member's rows keep. They speak of the definitions alone and do nothing.
+
+ghost use Rattle.std.specs.Prelude.{◌≡◌, ◌<◌, ◌++◌, ◌∷◌, [], ℕ, List, length, false, true, Some, find, slice_get};
+ghost use Rattle.std.specs.List.{list_any};
+ghost use Rattle.wh_day.specs.Day.{is_day};
+ghost use Rattle.wh_policy.specs.Types.{is_outrigger, is_tracked};
+ghost use Rattle.wh_policy.specs.declared.attribute.Dim.{Dim};
+ghost use Rattle.wh_policy.specs.declared.attribute.AttributeType.{AttributeType};
+ghost use Rattle.wh_policy.specs.declared.record.DimensionRecord.{DimensionRecord};
+ghost use Rattle.wh_history.specs.Keys.{at_place};
+ghost use Rattle.wh_history.specs.Dated.{value_at};
+ghost use Rattle.wh_history.specs.Rows.{rows, holds};
+ghost use Rattle.wh_history.specs.Plan.{row_of};
+ghost use Rattle.wh_history.specs.Accepted.{Accepted, Anchor, durable_key, surrogate_key, anchors, members, member_of, types_in};
+ghost use Rattle.wh_history.specs.Tables.{key_at, member_rows, numbered_row};
+ghost use Rattle.wh_history.specs.Touched.{touched, untouched, touched_by, with_batch};
+ghost use Rattle.wh_history.specs.Laws.{ChangesHaveDays, RecordsHaveDays, EachDayHasOneRow, OneRowIsCurrent, mentions_member, IsMember, IsEffective, governs};
+ghost use Rattle.wh_history.specs.declared.member.Member.{Member};
+ghost use Rattle.wh_history.specs.declared.rows.DimRow.{DimRow};
+
+/// Whatever was accepted of a member, and under whatever types, each day has one row of the member,
+/// and one of its rows is current.
+pub fn one_row_a_day()
+    ensures days { (kinds : List AttributeType) (combinations : List (List (List ℕ))) (m : Member) → ChangesHaveDays m.changes → EachDayHasOneRow (rows kinds combinations m) }
+    ensures current { (kinds : List AttributeType) (combinations : List (List (List ℕ))) (m : Member) → ChangesHaveDays m.changes → OneRowIsCurrent (rows kinds combinations m) }
+{}
+
+/// A number that was given to a member or an anchor stays, whatever is accepted after; numbers that are
+/// given later are greater than all before.
+pub fn numbers_stay()
+    ensures durable { (dim : Dim) (old new : List Accepted) (natural : List ℕ) → 0 < durable_key dim old natural → durable_key dim (old ++ new) natural ≡ durable_key dim old natural }
+    ensures surrogate { (dim : Dim) (old new : List Accepted) (anchor : Anchor) → 0 < surrogate_key dim old anchor → surrogate_key dim (old ++ new) anchor ≡ surrogate_key dim old anchor }
+    ensures next { (dim : Dim) (old new : List Accepted) (anchor : Anchor) → surrogate_key dim old anchor ≡ 0 → 0 < surrogate_key dim (old ++ new) anchor → length (anchors dim old) < surrogate_key dim (old ++ new) anchor }
+{}
+
+/// A command leaves each member that it does not mention as it was: all that was accepted of it, and all its numbers.
+pub fn unmentioned_member_stays()
+    ensures member { (dim : Dim) (commands : List Accepted) (c : Accepted) (natural : List ℕ) → mentions_member dim c natural ≡ false → member_of dim (commands ++ c ∷ []) natural ≡ member_of dim commands natural }
+    // Under a batch it keeps every row, in a dimension whose rows show no profile, and as a customer.
+    ensures rows { (dim : Dim) (commands : List Accepted) (c : Accepted) (natural : List ℕ) → governs c.content ≡ false → list_any is_outrigger (types_in dim commands) ≡ false → mentions_member dim c natural ≡ false → member_rows (commands ++ c ∷ []) dim natural ≡ member_rows commands dim natural }
+    ensures customer { (commands : List Accepted) (c : Accepted) (natural : List ℕ) → governs c.content ≡ false → mentions_member Dim.Customer c natural ≡ false → member_rows (commands ++ c ∷ []) Dim.Customer natural ≡ member_rows commands Dim.Customer natural }
+{}
+
+/// On each day exactly one row of each member holds the day, and a fact of that day has its key.
+pub fn effective()
+    ensures { (commands : List Accepted) (dim : Dim) (natural : List ℕ) (day : ℕ) → RecordsHaveDays commands → IsMember dim commands natural → is_day day ≡ true → IsEffective commands dim (durable_key dim commands natural) day (key_at commands dim day natural) }
+{}
+
+/// Each number of a dimension is that of one member's anchor, and what the table has under it, now and before
+/// later commands, is what that member's rows have. So the exact plan of a table is that of its members' rows.
+pub fn rows_by_member()
+    ensures now { (dim : Dim) (commands : List Accepted) (key : ℕ) (a : Anchor) → at_place key (anchors dim commands) ≡ Some a → numbered_row commands dim key ≡ row_of key (member_rows commands dim a.natural) }
+    ensures before { (dim : Dim) (old new : List Accepted) (key : ℕ) (a : Anchor) → RecordsHaveDays old → at_place key (anchors dim (old ++ new)) ≡ Some a → numbered_row old dim key ≡ row_of key (member_rows old dim a.natural) }
+{}
+
+/// The row that holds a day shows in each tracked slot the value in force on that day.
+pub fn shows_the_day()
+    ensures { (kinds : List AttributeType) (combinations : List (List (List ℕ))) (m : Member) (day : ℕ) (r : DimRow) (place : ℕ) (kind : AttributeType) → ChangesHaveDays m.changes → find (holds day) (rows kinds combinations m) ≡ Some r → slice_get kinds place ≡ Some kind → is_tracked kind ≡ true → slice_get r.a place ≡ Some (value_at day place m.changes) }
+{}
+
+/// A batch is its records, one after the other: from what is stored of each member that it touches, and from how many
+/// numbers are given, they lead to the members of the list with the batch.
+pub fn record_by_record()
+    ensures { (dim : Dim) (commands : List Accepted) (id kind bytes : List ℕ) (records : List DimensionRecord) → touched (member_of dim commands) (untouched (length (members dim commands)) (length (anchors dim commands))) records ≡ touched_by dim commands (with_batch commands id kind bytes dim records) records }
+{}

@@ -1,0 +1,72 @@
+//! A member and all that was accepted of it.
+
+ghost use Rattle.std.specs.Prelude.{◌≡◌, ◌++◌, ◌∷◌, [], OnOk, OnErr};
+
+use std::alloc::{AllocError, Global};
+use std::marker::Model;
+use wh_day::{Day, Value, Values};
+
+/// What a dimension record says of its member from a day on.
+#[derive(Debug, Drop)]
+pub struct Change {
+    /// The effective day.
+    pub day: Day,
+    /// The surrogate key that was drawn for the member and this day.
+    pub anchor: u64,
+    /// The values by slot.
+    pub values: Values,
+}
+
+/// Changes in the order in which they were accepted. A contract sees the list.
+#[derive(Debug, Drop)]
+pub struct Changes {
+    list: Vec<Change>,
+}
+
+impl Model for Changes {
+    ghost use Rattle.std.specs.Prelude.{List};
+    ghost use Rattle.wh_history.specs.declared.member.Change.{Change};
+
+    ghost Value = { List Change };
+
+    ghost view = { λ c. c.list.items };
+}
+
+impl Changes {
+    pub fn new(alloc: Global) -> Changes
+        ensures { result ≡ [] }
+    {
+        Changes {
+            list: Vec::new(alloc),
+        }
+    }
+
+    /// The changes in order of acceptance.
+    pub fn as_slice(&self) -> &[Change]
+        ensures { result.now ≡ self.now }
+    {
+        self.list.as_slice()
+    }
+
+    /// Adds a change that was accepted after the others. After an `Err` the changes are those before.
+    pub fn push(&mut self, change: Change) -> Result<(), AllocError>
+        ensures ok { OnOk result (self.new ≡ self.old ++ change ∷ []) }
+        ensures err { OnErr result (self.new ≡ self.old) }
+    {
+        self.list.push(change)?;
+        Ok(())
+    }
+}
+
+/// A member of a dimension.
+#[derive(Debug, Drop)]
+pub struct Member {
+    /// The durable key: its place, from 1, among the dimension's members in order of first mention.
+    pub durable: u64,
+    /// The natural key: its name in the source.
+    pub natural: Value,
+    /// The surrogate key of its opening.
+    pub opening: u64,
+    /// All that was accepted of it.
+    pub changes: Changes,
+}

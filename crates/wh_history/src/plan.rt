@@ -1,0 +1,148 @@
+//! Exact plans: the edits that lead from a member's stored rows and facts to what they are to be.
+
+ghost use Rattle.std.specs.Prelude.{◌≡◌, ℕ, IfOk, OnOk, filter_map};
+ghost use Rattle.std.specs.BTreeMap.{get};
+ghost use Rattle.std.specs.Ordering.{nat_cmp};
+ghost use Rattle.std.specs.Option.{option_copied};
+ghost use Rattle.wh_policy.specs.Policy.{types_of};
+ghost use Rattle.wh_history.specs.Dated.{dated};
+ghost use Rattle.wh_history.specs.Rows.{rows};
+ghost use Rattle.wh_history.specs.Facts.{rekeys};
+ghost use Rattle.wh_history.specs.Plan.{IsPlan, row_of, with_keys, edit_between, edit_in};
+
+use crate::dated::dated;
+use crate::facts::{Fact, Keys, Rekey, plan_facts};
+use crate::member::Member;
+use crate::profiles::Profiles;
+use crate::rendering::render_types;
+use crate::rows::DimRow;
+use std::alloc::{AllocError, Global};
+use std::collections::{BTreeMap, BTreeSet};
+use wh_policy::{Dim, Policy};
+
+/// A change of one key of a table.
+#[derive(Debug, Drop)]
+pub enum Edit<Row, Key> {
+    /// The key's row is new, or is there with other contents.
+    Put(Row),
+    /// The key's row is no longer there.
+    Remove(Key),
+}
+
+/// Rows by their keys. Of two rows with one key the first counts.
+fn by_key(alloc: Global, rows: &[DimRow]) -> Result<BTreeMap<u64, &DimRow>, AllocError>
+    ensures { IfOk result (λ found. (key : ℕ) → option_copied (get nat_cmp found key) ≡ row_of key rows.now) }
+{
+    let mut found = BTreeMap::new(alloc);
+    let mut left = rows.len();
+    while left > 0 {
+        left -= 1;
+        found.insert(rows[left].surrogate, &rows[left])?;
+    }
+    Ok(found)
+}
+
+/// Adds the keys of rows.
+fn add_keys(keys: &mut BTreeSet<u64>, rows: &[DimRow]) -> Result<(), AllocError>
+    ensures { OnOk result (keys.new.keys ≡ with_keys rows.now keys.old.keys) }
+{
+    let mut left = rows.len();
+    while left > 0 {
+        left -= 1;
+        keys.insert(rows[left].surrogate)?;
+    }
+    Ok(())
+}
+
+/// The edit of one key.
+fn edit_of(
+    alloc: Global,
+    key: u64,
+    old: Option<&DimRow>,
+    new: Option<&DimRow>,
+) -> Result<Option<Edit<DimRow, u64>>, AllocError>
+    ensures { IfOk result (λ edit. edit ≡ edit_between key (option_copied old.entry) (option_copied new.entry)) }
+{
+    match (old, new) {
+        (None, None) => Ok(None),
+        (Some(_), None) => Ok(Some(Edit::Remove(key))),
+        (None, Some(new)) => Ok(Some(Edit::Put(new.copy(alloc)?))),
+        (Some(old), Some(new)) => {
+            if old.is_same(new) {
+                Ok(None)
+            } else {
+                Ok(Some(Edit::Put(new.copy(alloc)?)))
+            }
+        }
+    }
+}
+
+/// The edits of keys, in their order.
+fn edits_of(
+    alloc: Global,
+    keys: &BTreeSet<u64>,
+    old: &BTreeMap<u64, &DimRow>,
+    new: &BTreeMap<u64, &DimRow>,
+) -> Result<Vec<Edit<DimRow, u64>>, AllocError>
+    ensures { IfOk result (λ edits. edits.items ≡ filter_map (edit_in (λ key. option_copied (get nat_cmp old.now key)) (λ key. option_copied (get nat_cmp new.now key))) keys.now.keys) }
+{
+    let mut edits = Vec::new(alloc);
+    for key in keys.iter() {
+        if let Some(edit) = edit_of(alloc, *key, old.get(key).copied(), new.get(key).copied())? {
+            edits.push(edit)?;
+        }
+    }
+    Ok(edits)
+}
+
+/// The edits that lead from some rows to others, in order of their keys.
+pub fn plan_rows(
+    alloc: Global,
+    stored: &[DimRow],
+    after: &[DimRow],
+) -> Result<Vec<Edit<DimRow, u64>>, AllocError>
+    ensures { IfOk result (λ edits. IsPlan (λ r. r.surrogate) (λ key. row_of key stored.now) (λ key. row_of key after.now) edits.items) }
+{
+    let mut keys = BTreeSet::new(alloc);
+    add_keys(&mut keys, after)?;
+    add_keys(&mut keys, stored)?;
+    let old = by_key(alloc, stored)?;
+    let new = by_key(alloc, after)?;
+    edits_of(alloc, &keys, &old, &new)
+}
+
+/// The edits of one member: of its rows in order of their keys, and of its facts in their order.
+#[derive(Debug, Drop)]
+pub struct Plan {
+    pub rows: Vec<Edit<DimRow, u64>>,
+    pub facts: Vec<Rekey>,
+}
+
+/// The edits that lead from a member's stored rows and facts to what they are to be.
+pub fn plan_member(
+    alloc: Global,
+    policy: &Policy,
+    dim: Dim,
+    stored: &[DimRow],
+    facts: &[Fact],
+    after: &Member,
+    profiles: &Profiles,
+) -> Result<Plan, AllocError>
+    ensures rows { IfOk result (λ plan. IsPlan (λ r. r.surrogate) (λ key. row_of key stored.now) (λ key. row_of key (rows (types_of policy.now dim) profiles.now after.now)) plan.rows.items) }
+    ensures facts { IfOk result (λ plan. plan.facts.items ≡ rekeys (types_of policy.now dim) profiles.now dim (rows (types_of policy.now dim) profiles.now after.now) (dated after.now.changes) facts.now) }
+{
+    let types = policy.types(alloc, dim)?;
+    let rows = render_types(alloc, &types, after, profiles)?;
+    let dated = dated(alloc, after.changes.as_slice())?;
+    let keys = Keys {
+        dim,
+        types: &types,
+        profiles,
+        rows: &rows,
+        dated: &dated,
+    };
+    Ok(Plan {
+        rows: plan_rows(alloc, stored, &rows)?,
+        facts: plan_facts(alloc, &keys, facts)?,
+    })
+}

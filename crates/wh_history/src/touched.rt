@@ -1,0 +1,256 @@
+//! The members that a batch touches, record by record.
+
+ghost use Rattle.std.specs.Prelude.{◌≡◌, ◌+◌, ◌-◌, ◌*◌, ◌^◌, ◌<◌, ◌++◌, ◌∷◌, [], suc, map, length, replicate, drop, IfOk, OnOk, string_bytes, bytes_eq};
+ghost use Rattle.std.specs.List.{position_or_len};
+ghost use Rattle.wh_day.specs.Value.{none_text};
+ghost use Rattle.wh_history.specs.Slots.{padded};
+ghost use Rattle.wh_history.specs.Touched.{given_or, grown, anchor_of_day, with_record, anchors_with, current, with_stored, touch, touched, untouched};
+
+use crate::member::{Change, Changes, Member};
+use indexmap::IndexSet;
+use std::alloc::{AllocError, Global};
+use std::marker::Model;
+use wh_day::{Day, ReadError, Value, Values};
+use wh_policy::DimensionRecord;
+
+const SLOTS: usize = 6;
+
+/// Where the members stand that a batch may touch.
+pub trait Stored {
+    ghost use Rattle.std.specs.Prelude.{ℕ, List};
+    ghost use Rattle.wh_history.specs.declared.member.Member.{Member};
+
+    /// Why a member can't be read.
+    type Fault;
+
+    ghost stored: { Self → List ℕ → Member };
+
+    /// The member with a natural key, as it is stored. Of one that isn't all numbers are 0, and no change is there.
+    fn member(&self, alloc: Global, natural: &Value) -> Result<Member, ReadError<Self::Fault>>
+        ensures member { IfOk result (λ m. m ≡ stored self.now natural.now) }
+        ensures natural { IfOk result (λ m. m.natural ≡ natural.now) };
+}
+
+/// The members that were touched, in order of first mention, and how many numbers are given.
+#[derive(Debug, Drop)]
+pub struct Touched {
+    members: u64,
+    anchors: u64,
+    owners: Vec<u64>,
+    list: Vec<Member>,
+}
+
+impl Model for Touched {
+    ghost use Rattle.wh_history.specs.Touched.{Touched as Members};
+
+    ghost Value = { Members };
+
+    ghost view = { λ t. record { members = t.members; anchors = t.anchors; owners = t.owners.items; list = t.list.items } };
+}
+
+impl Touched {
+    /// How many members have durable keys.
+    pub fn members(&self) -> u64
+        ensures { result ≡ self.now.members }
+    {
+        self.members
+    }
+
+    /// How many anchors have surrogate keys.
+    pub fn anchors(&self) -> u64
+        ensures { result ≡ self.now.anchors }
+    {
+        self.anchors
+    }
+
+    /// For each anchor that the batch gave a surrogate key, in their order, the durable key of its member.
+    pub fn owners(&self) -> &[u64]
+        ensures { result.now ≡ self.now.owners }
+    {
+        self.owners.as_slice()
+    }
+
+    /// The members, in order of first mention.
+    pub fn as_slice(&self) -> &[Member]
+        ensures { result.now ≡ self.now.list }
+    {
+        self.list.as_slice()
+    }
+}
+
+/// What was touched so far. The place of a natural key in the set is that of its member in the list.
+#[derive(Drop)]
+struct Touching {
+    naturals: IndexSet<String>,
+    members: u64,
+    anchors: u64,
+    owners: Vec<u64>,
+    list: Vec<Member>,
+}
+
+/// The number that was given, or else the next one.
+fn number(given: u64, count: &mut u64) -> u64
+    requires { count.old + 1 < 2 ^ 64 }
+    ensures given { result ≡ given_or given (suc count.old) }
+    ensures counted { count.new ≡ grown given count.old }
+{
+    if given > 0 {
+        return given;
+    }
+    *count += 1;
+    *count
+}
+
+/// The number of a member's day, and 0 where none of its changes has the day.
+pub fn anchor_of_day(changes: &[Change], day: Day) -> u64
+    ensures { result ≡ anchor_of_day day changes.now }
+{
+    match changes.iter().find(|change| change.day == day) {
+        Some(change) => change.anchor,
+        None => 0,
+    }
+}
+
+/// Fills values up, with the text for none in the slots that are not there.
+#[tactic(auto, using(crate::proofs::Columns::none_more))]
+fn fill(alloc: Global, values: &mut Values) -> Result<(), AllocError>
+    ensures { OnOk result (values.new ≡ padded none_text values.old) }
+{
+    'slots: while values.as_slice().len() < SLOTS {
+        values.push(Value::none(alloc)?)?;
+    }
+    Ok(())
+}
+
+/// A record's values, with the text for none in the slots that it has not.
+pub fn padded(alloc: Global, values: &Values) -> Result<Values, AllocError>
+    ensures { IfOk result (λ all. all ≡ padded none_text values.now) }
+{
+    let mut all = values.copy(alloc)?;
+    fill(alloc, &mut all)?;
+    Ok(all)
+}
+
+/// Adds a record to its member.
+fn add_record(
+    alloc: Global,
+    member: &mut Member,
+    members: &mut u64,
+    anchors: &mut u64,
+    told: &DimensionRecord,
+) -> Result<(), AllocError>
+    requires members { members.old + 1 < 2 ^ 64 }
+    requires anchors { anchors.old + 2 < 2 ^ 64 }
+    ensures member { OnOk result (member.new ≡ with_record members.old anchors.old member.old told.now) }
+    ensures members { OnOk result (members.new ≡ grown member.old.durable members.old) }
+    ensures anchors { OnOk result (anchors.new ≡ anchors_with anchors.old member.old told.now) }
+{
+    member.durable = number(member.durable, members);
+    member.opening = number(member.opening, anchors);
+    let given = anchor_of_day(member.changes.as_slice(), told.day);
+    let anchor = number(given, anchors);
+    let values = padded(alloc, &told.values)?;
+    member.changes.push(Change {
+        day: told.day,
+        anchor,
+        values,
+    })?;
+    Ok(())
+}
+
+/// The place of the member with a natural key. One that was not touched before comes from where it is stored.
+fn place_of<S: Stored>(
+    alloc: Global,
+    stored: &S,
+    naturals: &mut IndexSet<String>,
+    list: &mut Vec<Member>,
+    natural: &Value,
+) -> Result<usize, ReadError<S::Fault>>
+    requires { map (λ n. string_bytes n) naturals.old.keys ≡ map (λ m. m.natural) list.old.items }
+    ensures naturals { OnOk result (map (λ n. string_bytes n) naturals.new.keys ≡ map (λ m. m.natural) list.new.items) }
+    ensures list { OnOk result (list.new.items ≡ with_stored (S.stored stored.now) list.old.items natural.now) }
+    ensures place { IfOk result (λ place. place ≡ position_or_len (λ m. bytes_eq m.natural natural.now) list.old.items) }
+    ensures natural { OnOk result ((current (S.stored stored.now) list.old.items natural.now).natural ≡ natural.now) }
+{
+    let (place, is_new) = naturals.insert_full(String::from_str(alloc, natural.as_str())?)?;
+    if !is_new {
+        return Ok(place);
+    }
+    list.push(stored.member(alloc, natural)?)?;
+    Ok(place)
+}
+
+/// Notes the owner of so many anchors.
+fn add_owners(owners: &mut Vec<u64>, count: u64, owner: u64) -> Result<(), AllocError>
+    ensures { OnOk result (owners.new.items ≡ owners.old.items ++ replicate count owner) }
+{
+    for _place in 0..count {
+        owners.push(owner)?;
+    }
+    Ok(())
+}
+
+/// Adds a record to its member, and notes the anchors that got surrogate keys.
+fn touch<S: Stored>(
+    alloc: Global,
+    stored: &S,
+    touching: &mut Touching,
+    told: &DimensionRecord,
+) -> Result<(), ReadError<S::Fault>>
+    requires naturals { map (λ n. string_bytes n) touching.old.naturals.keys ≡ map (λ m. m.natural) touching.old.list.items }
+    requires members { touching.old.members + 1 < 2 ^ 64 }
+    requires anchors { touching.old.anchors + 2 < 2 ^ 64 }
+    ensures naturals { OnOk result (map (λ n. string_bytes n) touching.new.naturals.keys ≡ map (λ m. m.natural) touching.new.list.items) }
+    ensures touched { OnOk result (record { members = touching.new.members; anchors = touching.new.anchors; owners = touching.new.owners.items; list = touching.new.list.items } ≡ touch (S.stored stored.now) (record { members = touching.old.members; anchors = touching.old.anchors; owners = touching.old.owners.items; list = touching.old.list.items }) told.now) }
+{
+    let given = touching.anchors;
+    let place = place_of(
+        alloc,
+        stored,
+        &mut touching.naturals,
+        &mut touching.list,
+        &told.natural,
+    )?;
+    let member = &mut touching.list[place];
+    add_record(
+        alloc,
+        member,
+        &mut touching.members,
+        &mut touching.anchors,
+        told,
+    )?;
+    let durable = member.durable;
+    add_owners(&mut touching.owners, touching.anchors - given, durable)?;
+    Ok(())
+}
+
+/// The members that a batch touches, as they are behind it, where so many members have durable keys and so many anchors
+/// surrogate keys before it.
+pub fn touch_all<S: Stored>(
+    alloc: Global,
+    stored: &S,
+    members: u64,
+    anchors: u64,
+    records: &[DimensionRecord],
+) -> Result<Touched, ReadError<S::Fault>>
+    requires members { members + length records.now < 2 ^ 64 }
+    requires anchors { anchors + 2 * length records.now < 2 ^ 64 }
+    ensures { IfOk result (λ t. t ≡ touched (S.stored stored.now) (untouched members anchors) records.now) }
+{
+    let mut touching = Touching {
+        naturals: IndexSet::new(alloc),
+        members,
+        anchors,
+        owners: Vec::new(alloc),
+        list: Vec::new(alloc),
+    };
+    for told in records {
+        touch(alloc, stored, &mut touching, told)?;
+    }
+    Ok(Touched {
+        members: touching.members,
+        anchors: touching.anchors,
+        owners: touching.owners,
+        list: touching.list,
+    })
+}

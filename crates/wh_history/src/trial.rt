@@ -1,0 +1,217 @@
+//! The table of a dimension as it is after the making of a warehouse and one batch.
+
+ghost use Rattle.std.specs.Prelude.{◌≡◌, ◌+◌, ◌*◌, ◌^◌, ◌<◌, ◌++◌, [], length, map, zero, IfOk, OnOk};
+ghost use Rattle.std.specs.Option.{option_copied};
+ghost use Rattle.wh_policy.specs.Policy.{types_of};
+ghost use Rattle.wh_history.specs.Slots.{six, columns_from};
+ghost use Rattle.wh_history.specs.Profiles.{combinations_of};
+ghost use Rattle.wh_history.specs.Rows.{rows};
+ghost use Rattle.wh_history.specs.Tables.{no_card_main, no_card_second, no_card_row, dimension_table, trial_commands};
+ghost use Rattle.wh_history.specs.Touched.{touched, untouched, nothing_stored};
+ghost use Rattle.wh_history.specs.Picked.{owned_row, picked_from, first_rows, profiles_in};
+
+use crate::member::{Changes, Member};
+use crate::profiles::{Profiles, profile_texts};
+use crate::rendering::{fill_columns, render_types};
+use crate::rows::{DimRow, DimRows, row_of};
+use crate::touched::{Stored, Touched, touch_all};
+use std::alloc::{AllocError, Global};
+use wh_day::{Day, ReadError, Value, Values};
+use wh_policy::{AttributeType, Dim, DimensionRecord, Policy};
+
+/// A warehouse that holds no member yet.
+struct NothingStored;
+
+impl Stored for NothingStored {
+    ghost use Rattle.wh_history.specs.Touched.{nothing_stored};
+
+    type Fault = AllocError;
+
+    ghost stored = { λ _. nothing_stored };
+
+    fn member(&self, alloc: Global, natural: &Value) -> Result<Member, ReadError<AllocError>> {
+        Ok(Member {
+            durable: 0,
+            natural: natural.copy()?,
+            opening: 0,
+            changes: Changes::new(alloc),
+        })
+    }
+}
+
+/// The members of the records, which are the first that the dimension gets.
+fn first_members(alloc: Global, records: &[DimensionRecord]) -> Result<Touched, AllocError>
+    ensures { IfOk result (λ t. t ≡ touched nothing_stored (untouched 0 0) records.now) }
+{
+    match touch_all(alloc, &NothingStored, 0, 0, records) {
+        Ok(members) => Ok(members),
+        Err(_) => Err(AllocError),
+    }
+}
+
+/// The combinations of profile values of the records of customers.
+fn profiles_of(
+    alloc: Global,
+    types: &[AttributeType],
+    records: &[DimensionRecord],
+) -> Result<Profiles, AllocError>
+    ensures { IfOk result (λ found. found ≡ combinations_of types.now records.now) }
+{
+    let mut found = Profiles::new(alloc);
+    for told in records {
+        found.add(profile_texts(alloc, types, told.values.as_slice())?)?;
+    }
+    Ok(found)
+}
+
+/// The profiles that a batch of a dimension brings: a batch of products or stores brings none.
+fn profiles_in(
+    alloc: Global,
+    dim: Dim,
+    types: &[AttributeType],
+    records: &[DimensionRecord],
+) -> Result<Profiles, AllocError>
+    ensures { IfOk result (λ found. found ≡ profiles_in dim types.now records.now) }
+{
+    match dim {
+        Dim::Product | Dim::Store => Ok(Profiles::new(alloc)),
+        Dim::Customer => profiles_of(alloc, types, records),
+    }
+}
+
+/// What the row of sales without a card shows of a slot in its main column.
+fn no_card_main(alloc: Global, kind: AttributeType) -> Result<Value, AllocError>
+    ensures { IfOk result (λ t. t ≡ no_card_main zero kind) }
+{
+    if kind.is_profile() {
+        Ok(Value::empty(alloc))
+    } else {
+        Value::no_card(alloc)
+    }
+}
+
+/// And in its second column.
+fn no_card_second(alloc: Global, kind: AttributeType) -> Result<Value, AllocError>
+    ensures { IfOk result (λ t. t ≡ no_card_second zero kind) }
+{
+    match kind {
+        AttributeType::NewAttribute | AttributeType::NewRowAndOverwrite => Value::no_card(alloc),
+        _ => Ok(Value::empty(alloc)),
+    }
+}
+
+fn no_card_mains(alloc: Global, types: &[AttributeType]) -> Result<Values, AllocError>
+    ensures { IfOk result (λ v. v ≡ six (columns_from no_card_main 0 types.now)) }
+{
+    let mut texts = Values::new(alloc);
+    for kind in types {
+        texts.push(no_card_main(alloc, *kind)?)?;
+    }
+    fill_columns(alloc, &mut texts)?;
+    Ok(texts)
+}
+
+fn no_card_seconds(alloc: Global, types: &[AttributeType]) -> Result<Values, AllocError>
+    ensures { IfOk result (λ v. v ≡ six (columns_from no_card_second 0 types.now)) }
+{
+    let mut texts = Values::new(alloc);
+    for kind in types {
+        texts.push(no_card_second(alloc, *kind)?)?;
+    }
+    fill_columns(alloc, &mut texts)?;
+    Ok(texts)
+}
+
+/// The row of the customer table that stands for sales without a card.
+pub fn no_card_row(alloc: Global, types: &[AttributeType]) -> Result<DimRow, AllocError>
+    ensures { IfOk result (λ r. r ≡ no_card_row types.now) }
+{
+    Ok(DimRow {
+        surrogate: 0,
+        durable: 0,
+        natural: Value::no_card(alloc)?,
+        from_day: Day::first(),
+        to_day: Day::last(),
+        is_current: true,
+        a: no_card_mains(alloc, types)?,
+        b: no_card_seconds(alloc, types)?,
+        profile_now: 0,
+    })
+}
+
+/// The rows that a dimension's table has before the first key: that of sales without a card among the customers.
+fn first_rows(alloc: Global, dim: Dim, types: &[AttributeType]) -> Result<Vec<DimRow>, AllocError>
+    ensures { IfOk result (λ found. found.items ≡ first_rows dim types.now) }
+{
+    let mut found = Vec::new(alloc);
+    match dim {
+        Dim::Product | Dim::Store => {}
+        Dim::Customer => found.push(no_card_row(alloc, types)?)?,
+    }
+    Ok(found)
+}
+
+/// The rows of each member.
+fn member_rows(
+    alloc: Global,
+    types: &[AttributeType],
+    profiles: &Profiles,
+    members: &[Member],
+) -> Result<Vec<DimRows>, AllocError>
+    ensures { IfOk result (λ found. found.items ≡ map (rows types.now profiles.now) members.now) }
+{
+    let mut found = Vec::new(alloc);
+    for member in members {
+        found.push(DimRows::new(render_types(alloc, types, member, profiles)?))?;
+    }
+    Ok(found)
+}
+
+/// The row under a key among those of the member with a durable key.
+fn owned_row(rows: &[DimRows], key: u64, owner: u64) -> Option<&DimRow>
+    ensures { option_copied result ≡ owned_row rows.now key owner }
+{
+    if owner == 0 {
+        return None;
+    }
+    match rows.get(owner as usize - 1) {
+        Some(of_member) => row_of(of_member.as_slice(), key),
+        None => None,
+    }
+}
+
+/// Adds the rows of the keys from 1 on, whose owners are these.
+fn pick(
+    alloc: Global,
+    table: &mut Vec<DimRow>,
+    rows: &[DimRows],
+    owners: &[u64],
+) -> Result<(), AllocError>
+    ensures { OnOk result (table.new.items ≡ table.old.items ++ picked_from rows.now 1 owners.now) }
+{
+    for (place, owner) in owners.iter().enumerate() {
+        if let Some(row) = owned_row(rows, place as u64 + 1, *owner) {
+            table.push(row.copy(alloc)?)?;
+        }
+    }
+    Ok(())
+}
+
+/// The table of a dimension, in order of surrogate key, as it is after the making of a warehouse under a policy and one
+/// batch of records.
+pub fn trial_table(
+    alloc: Global,
+    policy: &Policy,
+    dim: Dim,
+    records: &[DimensionRecord],
+) -> Result<Vec<DimRow>, AllocError>
+    ensures { IfOk result (λ table. table.items ≡ dimension_table (trial_commands policy.now dim records.now) dim) }
+{
+    let types = policy.types(alloc, dim)?;
+    let members = first_members(alloc, records)?;
+    let profiles = profiles_in(alloc, dim, &types, records)?;
+    let rows = member_rows(alloc, &types, &profiles, members.as_slice())?;
+    let mut table = first_rows(alloc, dim, &types)?;
+    pick(alloc, &mut table, &rows, members.owners())?;
+    Ok(table)
+}
