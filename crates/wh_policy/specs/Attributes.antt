@@ -27,6 +27,7 @@ is_word (first ∷ rest) = is_ascii_lowercase first && list_all is_name_byte res
 abbrev pub is_name : List ℕ → Bool
 is_name name = is_word name && not (bytes_eq name (codes "id")) && not (bytes_eq name (codes "day"))
 
+-- a string that is a name
 abbrev pub found_name : Option (List ℕ) → Result (List ℕ) PolicyFault
 found_name None = Err BadName
 found_name (Some name) = unless_fault (is_name name) BadName (Ok name)
@@ -45,9 +46,11 @@ takes_profile Product = false
 takes_profile Store = false
 takes_profile Customer = false
 
+-- the keys of an attribute's table
 abbrev pub attribute_keys : List (List ℕ)
 attribute_keys = codes "name" ∷ codes "type" ∷ []
 
+-- the attribute has this name
 abbrev pub is_named : List ℕ → Attribute → Bool
 is_named name attribute = bytes_eq attribute.name name
 

@@ -16,6 +16,7 @@ use Rattle.wh_policy.specs.Document.{or_fault, unless_fault, has_only, required,
 abbrev pub is_within : Years → ℕ → Bool
 is_within years day = nat_le years.first (year_of day) && nat_le (year_of day) years.last
 
+-- a day that lies in the years
 abbrev pub found_day : Years → Option ℕ → Result ℕ PolicyFault
 found_day years None = Err BadHoliday
 found_day years (Some day) = unless_fault (is_within years day) BadHoliday (Ok day)
@@ -33,6 +34,7 @@ read_named (first ∷ rest) = read_value (first ∷ rest)
 unfoldable pub title_at : Data → Result (List ℕ) PolicyFault
 title_at content = or_fault BadHoliday (option_and_then read_named (as_str content))
 
+-- the keys of a holiday's table
 abbrev pub holiday_keys : List (List ℕ)
 holiday_keys = codes "day" ∷ codes "name" ∷ []
 

@@ -53,6 +53,7 @@ NamesAreFound = (policy : Policy) (dim : Dim) (name : List ℕ) (place number : 
 abbrev pub NoOthersAreFound : Type 0
 NoOthersAreFound = (policy : Policy) (dim : Dim) (name : List ℕ) → (slot_from 1 name (attributes_of policy dim) ≡ None) ↔ All (λ a. a.name ≢ name) (attributes_of policy dim)
 
+-- the names of a dimension, by slot
 abbrev pub names_of : Policy → Dim → List (List ℕ)
 names_of policy dim = map (λ a. a.name) (attributes_of policy dim)
 
@@ -62,5 +63,6 @@ pub record IsFit (old new : Policy) : Type 0 where
   pub from : new.years.first ≤ old.years.first
   pub to : old.years.last ≤ new.years.last
 
+-- that is what fits
 abbrev pub FitsExactly : Type 0
 FitsExactly = (old new : Policy) → IsTrue (fits old new) ↔ IsFit old new

@@ -26,6 +26,7 @@ attributes_of policy Customer = policy.customer
 abbrev pub types_of : Policy → Dim → List AttributeType
 types_of policy dim = kinds_of (attributes_of policy dim)
 
+-- an attribute by its name and type
 abbrev pub described : List ℕ → AttributeType → Attribute
 described name kind = record { name = name; kind = kind }
 
@@ -39,6 +40,7 @@ trial_policy = record {
   holidays = [];
 }
 
+-- the keys that a policy file may have
 abbrev pub top_keys : List (List ℕ)
 top_keys = codes "first_year" ∷ codes "last_year" ∷ codes "product" ∷ codes "store" ∷ codes "customer" ∷ codes "holiday" ∷ []
 

@@ -4,6 +4,7 @@ use Rattle.wh_policy.specs.declared.attribute.Attribute.{Attribute}
 use Rattle.wh_policy.specs.declared.attribute.AttributeType.{AttributeType}
 use Rattle.wh_policy.specs.declared.attribute.AttributeType.TheVariants.{RetainOriginal, Overwrite, NewRow, NewAttribute, MiniDimension, MiniDimensionOutrigger, NewRowAndOverwrite, DualKeys}
 
+-- the number of a type
 abbrev pub type_number : AttributeType → ℕ
 type_number RetainOriginal = 0
 type_number Overwrite = 1

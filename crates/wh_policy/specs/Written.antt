@@ -53,22 +53,25 @@ key_of Product = codes "product"
 key_of Store = codes "store"
 key_of Customer = codes "customer"
 
--- P holds of the tables of each dimension, of each table of each dimension, and of each holiday's table
+-- P holds of the tables of each dimension
 abbrev pub EachDimension : (List Members → Type 0) → Members → Type 0
 EachDimension P members = (dim : Dim) (tables : List Members) → HasTables (key_of dim) members tables → P tables
 
+-- P holds of each attribute's table
 abbrev pub EachAttribute : (Members → Type 0) → Members → Type 0
 EachAttribute P members = EachDimension (All P) members
 
+-- P holds of each holiday's table
 abbrev pub EachHoliday : (Members → Type 0) → Members → Type 0
 EachHoliday P members = (tables : List Members) → HasTables (codes "holiday") members tables → All P tables
 
--- the keys that a policy file may have, in its tables, and nowhere another one
+-- no table has a key that has no meaning there
 pub record KeysAreKnown (members : Members) : Type 0 where
   pub top : HasOnly top_keys members
   pub attributes : EachAttribute (HasOnly attribute_keys) members
   pub holidays : EachHoliday (HasOnly holiday_keys) members
 
+-- the keys that a policy file has to have
 abbrev pub needed_keys : List (List ℕ)
 needed_keys = codes "first_year" ∷ codes "last_year" ∷ codes "product" ∷ codes "store" ∷ codes "customer" ∷ []
 
@@ -79,20 +82,24 @@ pub record IsWhole (members : Members) : Type 0 where
   pub attributes : EachAttribute (HasAll attribute_keys) members
   pub holidays : EachHoliday (HasAll holiday_keys) members
 
--- the value is a name of an attribute; a type's number; the text of a real day within the years; a value of one byte or more
+-- the value is the name of an attribute
 abbrev pub IsNameData : Data → Type 0
 IsNameData content = (name : List ℕ) × (content ≡ string name) × IsTrue (is_name name)
 
+-- the value is the number of a type
 abbrev pub IsTypeData : Data → Type 0
 IsTypeData content = (n : ℕ) × (content ≡ integer (pos n)) × (n ≤ 7)
 
+-- the day lies in the years
 pub record IsWithin (years : Years) (day : ℕ) : Type 0 where
   pub from : years.first ≤ year_of day
   pub to : year_of day ≤ years.last
 
+-- the value is the text of a real day within the years
 abbrev pub IsDayData : Years → Data → Type 0
 IsDayData years content = (day : ℕ) × (content ≡ string (day_text day)) × IsTrue (is_day day) × IsWithin years day
 
+-- the value is a name of a holiday: a value, in the sense of rows, of at least one byte
 abbrev pub IsTitleData : Data → Type 0
 IsTitleData content = (name : List ℕ) × (content ≡ string name) × (name ≢ []) × (read_value name ≡ Some name)
 
@@ -127,7 +134,7 @@ pub record HolidaysAreGood (members : Members) : Type 0 where
   pub names : EachHoliday (At (codes "name") IsTitleData) members
   pub once : (tables : List Members) → HasTables (codes "holiday") members tables → AllPairs (DifferAt (codes "day")) tables
 
--- the table is free of a fault
+-- the table is free of a fault: what it keeps, for each fault by itself
 abbrev pub IsFreeOf : PolicyFault → Members → Type 0
 IsFreeOf NotToml _ = ⊤
 IsFreeOf Missing members = IsWhole members
@@ -141,15 +148,17 @@ IsFreeOf ProfileMixed _ = ⊤
 IsFreeOf BadYears members = (years : Years) × WritesYears members years × AreYears years
 IsFreeOf BadHoliday members = HolidaysAreGood members
 
--- the table writes this attribute, this holiday
+-- the table writes this attribute
 pub record WritesAttribute (members : Members) (attribute : Attribute) : Type 0 where
   pub name : get_member (codes "name") members ≡ Some (string attribute.name)
   pub kind : get_member (codes "type") members ≡ Some (integer (pos (type_number attribute.kind)))
 
+-- the table writes this holiday
 pub record WritesHoliday (members : Members) (holiday : Holiday) : Type 0 where
   pub day : get_member (codes "day") members ≡ Some (string (day_text holiday.day))
   pub name : get_member (codes "name") members ≡ Some (string holiday.name)
 
+-- the value writes these holidays; where there is none, there are none
 abbrev pub WritesHolidays : Option Data → List Holiday → Type 0
 WritesHolidays None holidays = holidays ≡ []
 WritesHolidays (Some content) holidays = (tables : List Members) × IsArrayOf tables content × AllZip WritesHoliday tables holidays
@@ -160,7 +169,7 @@ pub record Writes (members : Members) (policy : Policy) : Type 0 where
   pub years : WritesYears members policy.years
   pub holidays : WritesHolidays (get_member (codes "holiday") members) policy.holidays
 
--- one to six attributes, each with a name of its own
+-- one to six attributes, each with a name of its own and none of the profile
 pub record AreAttributes (attributes : List Attribute) : Type 0 where
   pub some : 1 ≤ length attributes
   pub few : length attributes ≤ 6

@@ -56,7 +56,9 @@ fn add(
 }
 
 impl Policy {
-    /// The policy that the bytes of a file write, or the first fault.
+    /// The policy that the bytes of a file write: a TOML text of at most 65,536 bytes, as docs/formats-policy.md says.
+    ///
+    /// The fault is the first one in the order told there; [`ReadError::Memory`] where memory ran out.
     #[tactic(auto, unfolding(crate::specs::Policy::policy_at))]
     pub fn read(alloc: Global, bytes: &[u8]) -> Result<Policy, ReadError<PolicyFault>>
         ensures { Gives (λ policy. policy) result (policy_at bytes.now) }
@@ -91,7 +93,7 @@ impl Policy {
         })
     }
 
-    /// The slot, from 1, and the number of the type of the dimension's attribute with the name.
+    /// The slot, from 1, and the number of the type, 0 to 7, of the dimension's attribute with the name. Takes no memory.
     pub fn attribute(&self, dim: Dim, name: &str) -> Option<(usize, u8)>
         ensures { result ≡ slot_from 1 name.now (attributes_of self.now dim) }
     {
@@ -99,7 +101,7 @@ impl Policy {
     }
 
     /// Whether a newer policy may take this one's place: each dimension's names stand in the same slots, more may follow,
-    /// and no year is lost. Types and holidays may change.
+    /// and no year is lost. Types and holidays may change. Takes no memory.
     pub fn fits(&self, newer: &Policy) -> bool
         ensures { result ≡ fits self.now newer.now }
     {

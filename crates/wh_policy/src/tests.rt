@@ -70,6 +70,7 @@ fn fault_with_both(
 fn policy(alloc: Global, text: &str) -> Result<Policy, Fail> {
     match Policy::read(alloc, text.as_bytes()) {
         Ok(policy) => Ok(policy),
-        Err(_) => Err(Fail::from("a policy")),
+        Err(ReadError::Memory) => Err(Fail::from("memory")),
+        Err(ReadError::Fault(_)) => Err(Fail::from("a policy")),
     }
 }

@@ -44,6 +44,14 @@ fn no_text(rt: HostRuntime) -> Result<(), Fail> {
 }
 
 #[test]
+fn a_mark_in_front(rt: HostRuntime) -> Result<(), Fail> {
+    let mut text = Vec::from_slice(rt.alloc(), b"\xef\xbb\xbf")?;
+    text.extend_from_slice(FLAT.as_bytes())?;
+    assert_eq!(rt; fault(rt.alloc(), &text)?, None);
+    Ok(())
+}
+
+#[test]
 fn no_toml(rt: HostRuntime) -> Result<(), Fail> {
     let texts = [
         "first_year",
