@@ -56,7 +56,7 @@ fn add(
 }
 
 impl Policy {
-    /// The policy that the bytes of a file write: a TOML text of at most 65,536 bytes, as docs/formats-policy.md says.
+    /// The policy that the bytes of a file write: a TOML text of at most 65,536 bytes, as docs/formats.md says.
     ///
     /// The fault is the first one in the order told there; [`ReadError::Memory`] where memory ran out.
     #[tactic(auto, unfolding(crate::specs::Policy::policy_at))]
