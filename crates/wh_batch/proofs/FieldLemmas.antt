@@ -33,18 +33,6 @@ take-field [] i field e = absurd cc
 take-field (f ∷ fs) zero field e = ap (λ (x : List ℕ). x ∷ []) (cc)
 take-field (f ∷ fs) (suc i) field e = ap (λ (xs : List (List ℕ)). f ∷ xs) (take-field fs i field e)
 
-key_byte-ascii : (byte : ℕ) → is_key_byte byte ≡ true → byte < 128
-key_byte-ascii byte h = grind (arith, nat_tests)
-
-key_bytes-ascii : (field : List ℕ) → list_all is_key_byte field ≡ true → IsAscii field
-key_bytes-ascii [] h i = omega arith
-key_bytes-ascii (byte ∷ bytes) h zero = key_byte-ascii byte (and_parts (is_key_byte byte) (list_all is_key_byte bytes) h).0
-key_bytes-ascii (byte ∷ bytes) h (suc i) = key_bytes-ascii bytes (and_parts (is_key_byte byte) (list_all is_key_byte bytes) h).1 i
-
--- a key is text
-pub key_is_text : (most : ℕ) (field : List ℕ) → is_key most field ≡ true → IsUtf8 field
-key_is_text most field h = IsUtf8-from_ascii field (key_bytes-ascii field (and_parts (leb 1 (length field) && leb (length field) most) (list_all is_key_byte field) h).1)
-
 -- the fields from a place on
 pub fields-from : (fields : List (Bor (List ℕ))) (i : ℕ) (d : Bor (List ℕ)) → i < length fields → map (λ f. f.now) (drop i fields) ≡ (get_or fields i d).now ∷ map (λ f. f.now) (drop (i + 1) fields)
 fields-from fields i d lt = ap (map (λ f. f.now)) (drop_more fields i d lt)

@@ -88,9 +88,8 @@ fn next_record<L: RecordLayout>(
     ensures reads { Gives (λ r. r) result (next_record (L.layout layout.now) keys.old (fields_of row.now)) }
     ensures keeps { IfOk result (λ r. keys.new ≡ keys.old ++ (L.layout layout.now).key r ∷ []) }
 {
-    let fields = fields_of(alloc, row)?;
-    let record = layout.read(alloc, &fields)?;
-    if !keys.insert(layout.key(alloc, &record)?)? {
+    let record = layout.read(alloc, row)?;
+    if !keys.insert(layout.key(&record))? {
         return Err(ReadError::Fault(FaultKind::TwiceInBatch));
     }
     if !layout.is_within(&record) {
