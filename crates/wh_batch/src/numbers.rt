@@ -12,6 +12,7 @@ use crate::fields::or_fault;
 use wh_day::ReadError;
 
 // The number that one up to `most` digits write.
+#[tactic(auto, unfolding(crate::specs::Numbers::read_digits))]
 fn read_digits(most: usize, text: &[u8]) -> Option<u32>
     requires { most ≤ 9 }
     ensures value { result ≡ read_digits most text.now }

@@ -1,6 +1,6 @@
 //! Batches of sales.
 
-ghost use Rattle.std.specs.Prelude.{◌≡◌, ◌==◌, if◌then◌else◌, Some, None, map, length, option_map};
+ghost use Rattle.std.specs.Prelude.{◌≡◌, map, length};
 ghost use Rattle.csv.specs.Records.{fields_of};
 ghost use Rattle.wh_day.specs.Reading.{Gives};
 ghost use Rattle.wh_batch.specs.Layouts.{is_within, sale_record, sale_records};
@@ -67,10 +67,7 @@ impl RecordLayout for SalesLayout {
     }
 
     fn read(&self, _alloc: Global, row: &ByteRecord) -> Result<SaleRecord, ReadError<FaultKind>> {
-        match nine_fields(row) {
-            Some(fields) => sale_record(&fields),
-            None => Err(ReadError::Fault(FaultKind::WrongLength)),
-        }
+        read_sale(row)
     }
 
     fn key(&self, record: &SaleRecord) -> RecordKey {
@@ -89,20 +86,28 @@ fn is_within(years: Years, day: Day) -> bool
     years.first as u32 <= year && year <= years.last as u32
 }
 
-/// The fields of a row, if there are nine.
-fn nine_fields(row: &ByteRecord) -> Option<[&[u8]; 9]>
-    ensures { option_map (map (λ f. f.now)) result ≡ (if length (fields_of row.now) == 9 then Some (fields_of row.now) else None) }
+#[tactic(auto, using(crate::proofs::FieldLemmas::other_than_nine))]
+fn read_sale(row: &ByteRecord) -> Result<SaleRecord, ReadError<FaultKind>>
+    ensures { Gives (λ r. r) result (sale_record (fields_of row.now)) }
 {
     if row.len() != 9 {
-        return None;
+        return Err(ReadError::Fault(FaultKind::WrongLength));
     }
+    sale_record(&nine_fields(row))
+}
+
+// The fields of a row that has nine.
+fn nine_fields(row: &ByteRecord) -> [&[u8]; 9]
+    requires { length (fields_of row.now) ≡ 9 }
+    ensures { map (λ f. f.now) result ≡ fields_of row.now }
+{
     let mut fields: [&[u8]; 9] = [&[]; 9];
     for i in 0..9 {
         if let Some(field) = row.get(i) {
             fields[i] = field;
         }
     }
-    Some(fields)
+    fields
 }
 
 #[tactic(auto, using(crate::proofs::FieldLemmas::nine_fields), unfolding(crate::specs::Layouts::sale_record))]
