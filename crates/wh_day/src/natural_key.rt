@@ -21,7 +21,7 @@ use std::str;
 #[derive(Drop)]
 pub struct NaturalKey {
     bytes: [u8; 32],
-    len: u8,
+    len: usize,
 }
 
 impl Model for NaturalKey {
@@ -43,17 +43,14 @@ impl NaturalKey {
         let len = field.len();
         let mut bytes = [0; 32];
         bytes[..len].copy_from_slice(field);
-        Some(NaturalKey {
-            bytes,
-            len: len as u8,
-        })
+        Some(NaturalKey { bytes, len })
     }
 
     fn as_bytes(&self) -> &[u8]
         ensures same { result.now ≡ self.now }
         ensures key { list_all is_key_byte result.now ≡ true }
     {
-        &self.bytes[..self.len as usize]
+        &self.bytes[..self.len]
     }
 
     /// The text, for printing and for statements.
