@@ -48,12 +48,13 @@ impl Model for Keys {
 impl Keys {
     ghost use Rattle.wh_batch.specs.Keys.{key_of};
 
-    pub(crate) fn new(alloc: Global) -> Keys
-        ensures { result ≡ [] }
+    /// No key yet, and room for so many.
+    pub(crate) fn with_capacity(alloc: Global, room: usize) -> Result<Keys, AllocError>
+        ensures { IfOk result (λ keys. keys ≡ []) }
     {
-        Keys {
-            set: IndexSet::new(alloc),
-        }
+        Ok(Keys {
+            set: IndexSet::with_capacity(alloc, room)?,
+        })
     }
 
     /// Adds a key, and tells whether it is new.
