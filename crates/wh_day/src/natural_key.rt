@@ -8,10 +8,9 @@ ghost use Rattle.std.specs.Cmp.Rules.{hashing};
 ghost use Rattle.std.proofs.Common.{rules};
 ghost use Rattle.wh_day.specs.NaturalKey.{is_key, is_key_byte};
 
-use std::fmt;
 use std::hash::{Hash, Hasher};
 use std::marker::Model;
-use std::str;
+use std::{fmt, str};
 
 /// A key that a source gives, as the name of a member or the number of a ticket: 1 to 32 letters, digits, `-`, `_` and
 /// `.`, in the value itself. A contract sees its bytes.
