@@ -1,17 +1,14 @@
 -- Reading the fields of a record, one after the other.
-use Rattle.std.proofs.Common.{◌≡◌, ℕ, refl, zero, suc, ◌+◌, ◌<◌, ◌≤◌, true, leb, ◌&&◌, List, [], ◌∷◌, ◌++◌, length, take, drop, get_or, map, Some, Ok, ap, arith, Bor}
-use Rattle.std.specs.List.{list_all}
-use Rattle.std.specs.Str.{IsAscii, IsUtf8}
-use Rattle.std.proofs.lemmas.Bool.{and_parts}
-use Rattle.std.proofs.lemmas.Bool.Decides.{nat_tests}
+use Rattle.std.proofs.Common.{◌≡◌, ℕ, refl, zero, suc, ◌+◌, ◌<◌, ◌≤◌, List, [], ◌∷◌, ◌++◌, length, take, drop, get_or, map, Some, Ok, Err, ap, arith, Bor}
 use Rattle.std.proofs.lemmas.List.{drop_more, drop_all}
-use Rattle.std.proofs.lemmas.Str.{IsUtf8-from_ascii}
 use Rattle.csv.specs.Records.{field_at}
 use Rattle.wh_day.specs.declared.error.ReadError.{ReadError}
 use Rattle.wh_day.specs.Reading.{Fails}
 use Rattle.wh_day.proofs.Loops.{with_front, with_front-cons, with_front-nil, with_front-fails}
 use Rattle.wh_batch.specs.declared.fault.FaultKind.{FaultKind}
-use Rattle.wh_batch.specs.Fields.{is_key, is_key_byte, value_at, values_at}
+use Rattle.wh_batch.specs.declared.fault.FaultKind.TheVariants.{WrongLength}
+use Rattle.wh_batch.specs.Fields.{value_at, values_at}
+use Rattle.wh_batch.specs.Layouts.{sale_record}
 
 pub values-next : (front : List (List ℕ)) (field : List ℕ) (rest : List (List ℕ)) (value : List ℕ) → value_at field ≡ Ok value
     → with_front front (values_at (field ∷ rest)) ≡ with_front (front ++ value ∷ []) (values_at rest)
@@ -33,18 +30,6 @@ take-field [] i field e = absurd cc
 take-field (f ∷ fs) zero field e = ap (λ (x : List ℕ). x ∷ []) (cc)
 take-field (f ∷ fs) (suc i) field e = ap (λ (xs : List (List ℕ)). f ∷ xs) (take-field fs i field e)
 
-key_byte-ascii : (byte : ℕ) → is_key_byte byte ≡ true → byte < 128
-key_byte-ascii byte h = grind (arith, nat_tests)
-
-key_bytes-ascii : (field : List ℕ) → list_all is_key_byte field ≡ true → IsAscii field
-key_bytes-ascii [] h i = omega arith
-key_bytes-ascii (byte ∷ bytes) h zero = key_byte-ascii byte (and_parts (is_key_byte byte) (list_all is_key_byte bytes) h).0
-key_bytes-ascii (byte ∷ bytes) h (suc i) = key_bytes-ascii bytes (and_parts (is_key_byte byte) (list_all is_key_byte bytes) h).1 i
-
--- a key is text
-pub key_is_text : (most : ℕ) (field : List ℕ) → is_key most field ≡ true → IsUtf8 field
-key_is_text most field h = IsUtf8-from_ascii field (key_bytes-ascii field (and_parts (leb 1 (length field) && leb (length field) most) (list_all is_key_byte field) h).1)
-
 -- the fields from a place on
 pub fields-from : (fields : List (Bor (List ℕ))) (i : ℕ) (d : Bor (List ℕ)) → i < length fields → map (λ f. f.now) (drop i fields) ≡ (get_or fields i d).now ∷ map (λ f. f.now) (drop (i + 1) fields)
 fields-from fields i d lt = ap (map (λ f. f.now)) (drop_more fields i d lt)
@@ -62,3 +47,18 @@ pub nine_fields : (fields : List (Bor (List ℕ))) → length fields ≡ 9 → m
     ∷ (get_or fields 5 missing).now ∷ (get_or fields 6 missing).now ∷ (get_or fields 7 missing).now ∷ (get_or fields 8 missing).now ∷ []
 nine_fields (a ∷ b ∷ c ∷ d ∷ e ∷ f ∷ g ∷ h ∷ i ∷ []) nine = refl
 nine_fields _ nine = absurd (omega arith)
+
+-- only nine fields are a sale
+pub other_than_nine : (fields : List (List ℕ)) → ¬ (length fields ≡ 9) → sale_record fields ≡ Err WrongLength
+unfolding sale_record
+other_than_nine [] other = refl
+other_than_nine (a ∷ []) other = refl
+other_than_nine (a ∷ b ∷ []) other = refl
+other_than_nine (a ∷ b ∷ c ∷ []) other = refl
+other_than_nine (a ∷ b ∷ c ∷ d ∷ []) other = refl
+other_than_nine (a ∷ b ∷ c ∷ d ∷ e ∷ []) other = refl
+other_than_nine (a ∷ b ∷ c ∷ d ∷ e ∷ f ∷ []) other = refl
+other_than_nine (a ∷ b ∷ c ∷ d ∷ e ∷ f ∷ g ∷ []) other = refl
+other_than_nine (a ∷ b ∷ c ∷ d ∷ e ∷ f ∷ g ∷ h ∷ []) other = refl
+other_than_nine (a ∷ b ∷ c ∷ d ∷ e ∷ f ∷ g ∷ h ∷ i ∷ []) other = absurd (other refl)
+other_than_nine (a ∷ b ∷ c ∷ d ∷ e ∷ f ∷ g ∷ h ∷ i ∷ j ∷ more) other = refl

@@ -1,6 +1,7 @@
 -- The definitions at values that were worked out by hand.
 use Rattle.std.proofs.Common.{◌≡◌, ℕ, ◌++◌, pos, negsuc, List, [], ◌∷◌, codes, Some, None, Ok, Err, refl, replicate}
 use Rattle.std.proofs.lemmas.Str.{is_utf8-from_IsUtf8}
+use Rattle.wh_day.proofs.KeyBytes.{key_is_text}
 use Rattle.wh_policy.specs.Policy.{trial_policy}
 use Rattle.wh_policy.specs.declared.attribute.Dim.TheVariants.{Product}
 use Rattle.wh_policy.specs.declared.record.SaleRecord.{SaleRecord}
@@ -10,7 +11,6 @@ use Rattle.wh_batch.specs.Batch.{at, records_after}
 use Rattle.wh_batch.specs.Fields.{key_at, customer_at, day_at, effective_day_at, value_at}
 use Rattle.wh_batch.specs.Numbers.{read_line, read_quantity, read_amount}
 use Rattle.wh_batch.specs.Layouts.{dimension_record, dimension_records, sale_record, sale_records, sales_layout}
-use Rattle.wh_batch.proofs.FieldLemmas.{key_is_text}
 use Rattle.wh_batch.proofs.OnLiterals.{batch_on_literals}
 
 -- amounts of money
@@ -72,7 +72,7 @@ days = (refl, refl, refl, refl)
 -- values: sixty letters are one, and sixty-one aren't
 sixty_letters : value_at (replicate 60 120) ≡ Ok (replicate 60 120)
 unfolding batch_on_literals
-sixty_letters = rw (is_utf8-from_IsUtf8 (replicate 60 120) (key_is_text 60 (replicate 60 120) refl)) refl
+sixty_letters = rw (is_utf8-from_IsUtf8 (replicate 60 120) (key_is_text (replicate 60 120) refl)) refl
 
 sixty_one_letters : value_at (replicate 61 120) ≡ Err BadValue
 unfolding batch_on_literals

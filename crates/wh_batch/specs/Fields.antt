@@ -1,8 +1,7 @@
 -- The fields of a record that aren't numbers.
-use Rattle.std.specs.Prelude.{ℕ, Bool, ◌&&◌, ◌||◌, ◌==◌, nat_le, if◌then◌else◌, List, [], ◌∷◌, length, Option, Some, None, Result, Ok, Err}
-use Rattle.std.specs.List.{list_all}
-use Rattle.std.specs.Char.{is_ascii_alphanumeric}
+use Rattle.std.specs.Prelude.{ℕ, nat_le, if◌then◌else◌, List, [], ◌∷◌, Option, Some, None, Result, Ok, Err}
 use Rattle.wh_day.specs.Day.{read_day}
+use Rattle.wh_day.specs.NaturalKey.{is_key}
 use Rattle.wh_day.specs.Value.{read_value}
 use Rattle.wh_day.specs.Reading.{◌>>=◌}
 use Rattle.wh_batch.specs.declared.fault.FaultKind.{FaultKind}
@@ -12,14 +11,6 @@ use Rattle.wh_batch.specs.declared.fault.FaultKind.TheVariants.{BadKey, BadDay, 
 abbrev pub or_fault : {A : Type 0} → FaultKind → Option A → Result A FaultKind
 or_fault kind (Some x) = Ok x
 or_fault kind None = Err kind
-
--- a letter, a digit, '-', '_' or '.'
-abbrev pub is_key_byte : ℕ → Bool
-is_key_byte byte = is_ascii_alphanumeric byte || (byte == 45) || (byte == 95) || (byte == 46)
-
--- one up to `most` such bytes
-abbrev pub is_key : ℕ → List ℕ → Bool
-is_key most text = nat_le 1 (length text) && nat_le (length text) most && list_all is_key_byte text
 
 -- the key that a field is
 unfoldable pub key_at : ℕ → List ℕ → Result (List ℕ) FaultKind

@@ -3,7 +3,7 @@
 ghost use Rattle.std.specs.Prelude.{◌≡◌, ◌++◌, ◌∷◌, [], IfOk};
 ghost use Rattle.csv.specs.Records.{fields_of};
 ghost use Rattle.wh_day.specs.Reading.{Gives};
-ghost use Rattle.wh_batch.specs.Batch.{next_record, numbered, records_after, batch_of};
+ghost use Rattle.wh_batch.specs.Batch.{next_record, records_after, batch_of};
 
 use crate::fault::{BatchFault, FaultKind};
 use crate::fields::fields_of;
@@ -35,47 +35,36 @@ pub(crate) fn batch_of<L: RecordLayout>(
     if !layout.is_header(&header) {
         return Err(fault(0, FaultKind::WrongHeader));
     }
-    records_below(alloc, layout, &mut rows)
+    // A record seldom has fewer than 32 bytes.
+    let room = (bytes.len() / 32).min(5000);
+    records_below(alloc, layout, room, &mut rows)
 }
 
 fn records_below<L: RecordLayout>(
     alloc: Global,
     layout: &L,
+    room: usize,
     rows: &mut Rows,
 ) -> Result<Vec<L::Record>, ReadError<BatchFault>>
     ensures { Gives (λ records. records.items) result (records_after (L.layout layout.now) [] 1 rows.old) }
 {
     let mut row = ByteRecord::new(alloc);
-    let mut keys = Keys::new(alloc);
-    let mut records = Vec::new(alloc);
+    let mut keys = Keys::with_capacity(alloc, room)?;
+    let mut records = Vec::with_capacity(alloc, room)?;
     for number in 1..5001 {
         if !rows.next(&mut row)? {
             return Ok(records);
         }
-        let record = numbered_record(alloc, layout, number, &mut keys, &row)?;
-        records.push(record)?;
+        match next_record(alloc, layout, &mut keys, &row) {
+            Ok(record) => records.push(record)?,
+            Err(ReadError::Memory) => return Err(ReadError::Memory),
+            Err(ReadError::Fault(kind)) => return Err(fault(number, kind)),
+        }
     }
     if rows.next(&mut row)? {
         return Err(fault(5001, FaultKind::TooLarge));
     }
     Ok(records)
-}
-
-fn numbered_record<L: RecordLayout>(
-    alloc: Global,
-    layout: &L,
-    number: u32,
-    keys: &mut Keys,
-    row: &ByteRecord,
-) -> Result<L::Record, ReadError<BatchFault>>
-    ensures reads { Gives (λ r. r) result (numbered number (next_record (L.layout layout.now) keys.old (fields_of row.now))) }
-    ensures keeps { IfOk result (λ r. keys.new ≡ keys.old ++ (L.layout layout.now).key r ∷ []) }
-{
-    match next_record(alloc, layout, keys, row) {
-        Ok(record) => Ok(record),
-        Err(ReadError::Memory) => Err(ReadError::Memory),
-        Err(ReadError::Fault(kind)) => Err(fault(number, kind)),
-    }
 }
 
 #[tactic(auto, unfolding(crate::specs::Batch::next_record))]
@@ -88,9 +77,8 @@ fn next_record<L: RecordLayout>(
     ensures reads { Gives (λ r. r) result (next_record (L.layout layout.now) keys.old (fields_of row.now)) }
     ensures keeps { IfOk result (λ r. keys.new ≡ keys.old ++ (L.layout layout.now).key r ∷ []) }
 {
-    let fields = fields_of(alloc, row)?;
-    let record = layout.read(alloc, &fields)?;
-    if !keys.insert(layout.key(alloc, &record)?)? {
+    let record = layout.read(alloc, row)?;
+    if !keys.insert(layout.key(&record))? {
         return Err(ReadError::Fault(FaultKind::TwiceInBatch));
     }
     if !layout.is_within(&record) {

@@ -8,12 +8,13 @@ ghost use Rattle.wh_batch.specs.Layouts.{dimension_record, dimension_records};
 
 use crate::batch::batch_of;
 use crate::fault::{BatchFault, FaultKind};
-use crate::fields::{effective_day_of, key_of, values_of};
+use crate::fields::{effective_day_of, fields_of, key_of, values_of};
 use crate::keys::RecordKey;
 use crate::kind::Format;
 use crate::layout::RecordLayout;
 use crate::records::DimensionRecords;
-use std::alloc::{AllocError, Global};
+use csv::ByteRecord;
+use std::alloc::Global;
 use wh_day::ReadError;
 use wh_policy::{Attribute, Dim, DimensionRecord, Policy};
 
@@ -62,13 +63,14 @@ impl<'a> RecordLayout for DimensionLayout<'a> {
     fn read(
         &self,
         alloc: Global,
-        fields: &[&[u8]],
+        row: &ByteRecord,
     ) -> Result<DimensionRecord, ReadError<FaultKind>> {
-        dimension_record(alloc, self.attributes.len(), fields)
+        let fields = fields_of(alloc, row)?;
+        dimension_record(alloc, self.attributes.len(), &fields)
     }
 
-    fn key(&self, alloc: Global, record: &DimensionRecord) -> Result<RecordKey, AllocError> {
-        RecordKey::new(alloc, &record.natural, record.day.key())
+    fn key(&self, record: &DimensionRecord) -> RecordKey {
+        RecordKey::new(&record.natural, record.day.key())
     }
 
     fn is_within(&self, _record: &DimensionRecord) -> bool {
@@ -90,7 +92,7 @@ fn dimension_record(
     if values.len() != attributes {
         return Err(ReadError::Fault(FaultKind::WrongLength));
     }
-    let natural = key_of(alloc, 32, id)?;
+    let natural = key_of(32, id)?;
     let day = effective_day_of(day)?;
     let values = values_of(alloc, values)?;
     Ok(DimensionRecord {

@@ -1,17 +1,16 @@
 //! Reading the fields of a record.
 
-ghost use Rattle.std.specs.Prelude.{◌≡◌, map, IfOk};
-ghost use Rattle.std.specs.List.{list_all};
+ghost use Rattle.std.specs.Prelude.{◌≡◌, ◌≤◌, map, IfOk};
 ghost use Rattle.std.specs.Str.{bytes_eq};
 ghost use Rattle.std.specs.Cmp.Lexicographic.{pointwise};
 ghost use Rattle.csv.specs.Records.{fields_of};
 ghost use Rattle.wh_day.specs.Reading.{Gives};
-ghost use Rattle.wh_batch.specs.Fields.{or_fault, is_key, is_key_byte, key_at, customer_at, day_at, effective_day_at, value_at, values_at};
+ghost use Rattle.wh_batch.specs.Fields.{or_fault, key_at, customer_at, day_at, effective_day_at, value_at, values_at};
 
 use crate::fault::FaultKind;
 use csv::ByteRecord;
 use std::alloc::{AllocError, Global};
-use wh_day::{Day, ReadError, Value, Values};
+use wh_day::{Day, NaturalKey, ReadError, Value, Values};
 
 /// The fields of a row.
 pub(crate) fn fields_of(alloc: Global, row: &ByteRecord) -> Result<Vec<&[u8]>, AllocError>
@@ -43,52 +42,23 @@ pub(crate) fn or_fault<T: Drop>(read: Option<T>, kind: FaultKind) -> Result<T, R
     }
 }
 
-fn is_key_byte(byte: u8) -> bool
-    ensures { result ≡ is_key_byte byte }
-{
-    byte.is_ascii_alphanumeric() || byte == b'-' || byte == b'_' || byte == b'.'
-}
-
-fn has_key_bytes(field: &[u8]) -> bool
-    ensures { result ≡ list_all is_key_byte field.now }
-{
-    field.iter().all(|byte| is_key_byte(*byte))
-}
-
-fn is_key(most: usize, field: &[u8]) -> bool
-    ensures { result ≡ is_key most field.now }
-{
-    1 <= field.len() && field.len() <= most && has_key_bytes(field)
-}
-
+/// The key of at most so many bytes that a field is.
 #[tactic(auto, unfolding(crate::specs::Fields::key_at))]
-pub(crate) fn key_of(
-    alloc: Global,
-    most: usize,
-    field: &[u8],
-) -> Result<Value, ReadError<FaultKind>>
+pub(crate) fn key_of(most: usize, field: &[u8]) -> Result<NaturalKey, ReadError<FaultKind>>
+    requires { most ≤ 32 }
     ensures { Gives (λ key. key) result (key_at most field.now) }
 {
-    if !is_key(most, field) {
-        return Err(ReadError::Fault(FaultKind::BadKey));
-    }
-    match std::str::from_utf8(field) {
-        Ok(key) => Ok(Value::new(alloc, key)?),
-        Err(_) => Err(ReadError::Fault(FaultKind::BadKey)),
-    }
+    or_fault(NaturalKey::read(most, field), FaultKind::BadKey)
 }
 
 /// The key of the customer, whom a sale needn't have.
 #[tactic(auto, unfolding(crate::specs::Fields::customer_at))]
-pub(crate) fn customer_of(
-    alloc: Global,
-    field: &[u8],
-) -> Result<Option<Value>, ReadError<FaultKind>>
+pub(crate) fn customer_of(field: &[u8]) -> Result<Option<NaturalKey>, ReadError<FaultKind>>
     ensures { Gives (λ customer. customer) result (customer_at field.now) }
 {
     match field {
         [] => Ok(None),
-        _ => Ok(Some(key_of(alloc, 32, field)?)),
+        _ => Ok(Some(key_of(32, field)?)),
     }
 }
 

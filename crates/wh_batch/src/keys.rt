@@ -7,25 +7,25 @@ ghost use Rattle.wh_batch.specs.Batch.{is_same_key};
 use indexmap::IndexSet;
 use std::alloc::{AllocError, Global};
 use std::marker::Model;
-use wh_day::Value;
+use wh_day::NaturalKey;
 
 /// What no two records of a batch share: the member and the day, or the ticket and the line.
 #[derive(Debug, PartialEq, Eq, Hash, Drop)]
 pub(crate) struct RecordKey {
-    text: String,
+    text: NaturalKey,
     number: u32,
 }
 
 impl RecordKey {
     ghost use Rattle.wh_batch.specs.Keys.{key_of};
 
-    pub(crate) fn new(alloc: Global, text: &Value, number: u32) -> Result<RecordKey, AllocError>
-        ensures { IfOk result (λ key. key_of key ≡ record { text = text.now; number = number }) }
+    pub(crate) fn new(text: &NaturalKey, number: u32) -> RecordKey
+        ensures { key_of result ≡ record { text = text.now; number = number } }
     {
-        Ok(RecordKey {
-            text: String::from_str(alloc, text.as_str())?,
+        RecordKey {
+            text: text.copy(),
             number,
-        })
+        }
     }
 }
 
@@ -48,12 +48,13 @@ impl Model for Keys {
 impl Keys {
     ghost use Rattle.wh_batch.specs.Keys.{key_of};
 
-    pub(crate) fn new(alloc: Global) -> Keys
-        ensures { result ≡ [] }
+    /// No key yet, and room for so many.
+    pub(crate) fn with_capacity(alloc: Global, room: usize) -> Result<Keys, AllocError>
+        ensures { IfOk result (λ keys. keys ≡ []) }
     {
-        Keys {
-            set: IndexSet::new(alloc),
-        }
+        Ok(Keys {
+            set: IndexSet::with_capacity(alloc, room)?,
+        })
     }
 
     /// Adds a key, and tells whether it is new.

@@ -1,15 +1,17 @@
 //! How the records of a kind are laid out.
 
-ghost use Rattle.std.specs.Prelude.{◌≡◌, map, IfOk};
+ghost use Rattle.std.specs.Prelude.{◌≡◌, map};
 ghost use Rattle.std.specs.Str.{bytes_eq};
 ghost use Rattle.std.specs.Cmp.Lexicographic.{pointwise};
+ghost use Rattle.csv.specs.Records.{fields_of};
 ghost use Rattle.wh_day.specs.Reading.{Gives};
 ghost use Rattle.wh_batch.specs.Batch.{Layout};
 ghost use Rattle.wh_batch.specs.Keys.{key_of};
 
 use crate::fault::FaultKind;
 use crate::keys::RecordKey;
-use std::alloc::{AllocError, Global};
+use csv::ByteRecord;
+use std::alloc::Global;
 use wh_day::ReadError;
 
 /// How the records of a kind are laid out.
@@ -21,12 +23,12 @@ pub(crate) trait RecordLayout {
     fn is_header(&self, fields: &[&[u8]]) -> bool
         ensures { result ≡ pointwise bytes_eq (map (λ f. f.now) fields.now) (layout self.now).header };
 
-    /// The record of these fields.
-    fn read(&self, alloc: Global, fields: &[&[u8]]) -> Result<Self::Record, ReadError<FaultKind>>
-        ensures { Gives (λ r. r) result ((layout self.now).read (map (λ f. f.now) fields.now)) };
+    /// The record of a row.
+    fn read(&self, alloc: Global, row: &ByteRecord) -> Result<Self::Record, ReadError<FaultKind>>
+        ensures { Gives (λ r. r) result ((layout self.now).read (fields_of row.now)) };
 
-    fn key(&self, alloc: Global, record: &Self::Record) -> Result<RecordKey, AllocError>
-        ensures { IfOk result (λ key. key_of key ≡ (layout self.now).key «record».now) };
+    fn key(&self, record: &Self::Record) -> RecordKey
+        ensures { key_of result ≡ (layout self.now).key «record».now };
 
     /// Whether the calendar has the record's day.
     fn is_within(&self, record: &Self::Record) -> bool

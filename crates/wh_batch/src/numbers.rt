@@ -11,25 +11,6 @@ use crate::fault::FaultKind;
 use crate::fields::or_fault;
 use wh_day::ReadError;
 
-fn is_all_digits(text: &[u8]) -> bool
-    ensures { result ≡ list_all is_ascii_digit text.now }
-{
-    text.iter().all(|byte| byte.is_ascii_digit())
-}
-
-// The number that these digits write.
-fn parsed(text: &[u8]) -> Option<u32>
-    requires digits { list_all is_ascii_digit text.now ≡ true }
-    requires some { 1 ≤ length text.now }
-    requires few { length text.now ≤ 9 }
-    ensures { result ≡ Some (digits_value 10 text.now) }
-{
-    match std::str::from_utf8(text) {
-        Ok(text) => text.parse().ok(),
-        Err(_) => None,
-    }
-}
-
 // The number that one up to `most` digits write.
 #[tactic(auto, unfolding(crate::specs::Numbers::read_digits))]
 fn read_digits(most: usize, text: &[u8]) -> Option<u32>
@@ -37,11 +18,17 @@ fn read_digits(most: usize, text: &[u8]) -> Option<u32>
     ensures value { result ≡ read_digits most text.now }
     ensures bound { IfSome result (λ n. n < 10 ^ most) }
 {
-    if 1 <= text.len() && text.len() <= most && is_all_digits(text) {
-        parsed(text)
-    } else {
-        None
+    if text.is_empty() || text.len() > most {
+        return None;
     }
+    let mut number = 0;
+    for byte in text {
+        if !byte.is_ascii_digit() {
+            return None;
+        }
+        number = 10 * number + (*byte - b'0') as u32;
+    }
+    Some(number)
 }
 
 #[tactic(auto, unfolding(crate::specs::Numbers::read_fraction))]

@@ -1,6 +1,7 @@
 //! Batches of sales.
 
-ghost use Rattle.std.specs.Prelude.{◌≡◌, map};
+ghost use Rattle.std.specs.Prelude.{◌≡◌, map, length};
+ghost use Rattle.csv.specs.Records.{fields_of};
 ghost use Rattle.wh_day.specs.Reading.{Gives};
 ghost use Rattle.wh_batch.specs.Layouts.{is_within, sale_record, sale_records};
 
@@ -12,7 +13,8 @@ use crate::kind::Format;
 use crate::layout::RecordLayout;
 use crate::numbers::{amount_of, line_of, quantity_of};
 use crate::sales::SaleRecords;
-use std::alloc::{AllocError, Global};
+use csv::ByteRecord;
+use std::alloc::Global;
 use wh_day::{Day, ReadError};
 use wh_policy::{Policy, SaleRecord, Years};
 
@@ -64,12 +66,12 @@ impl RecordLayout for SalesLayout {
         are_same(fields, &names)
     }
 
-    fn read(&self, alloc: Global, fields: &[&[u8]]) -> Result<SaleRecord, ReadError<FaultKind>> {
-        sale_record(alloc, fields)
+    fn read(&self, _alloc: Global, row: &ByteRecord) -> Result<SaleRecord, ReadError<FaultKind>> {
+        read_sale(row)
     }
 
-    fn key(&self, alloc: Global, record: &SaleRecord) -> Result<RecordKey, AllocError> {
-        RecordKey::new(alloc, &record.ticket, record.line)
+    fn key(&self, record: &SaleRecord) -> RecordKey {
+        RecordKey::new(&record.ticket, record.line)
     }
 
     fn is_within(&self, record: &SaleRecord) -> bool {
@@ -84,8 +86,32 @@ fn is_within(years: Years, day: Day) -> bool
     years.first as u32 <= year && year <= years.last as u32
 }
 
+#[tactic(auto, using(crate::proofs::FieldLemmas::other_than_nine))]
+fn read_sale(row: &ByteRecord) -> Result<SaleRecord, ReadError<FaultKind>>
+    ensures { Gives (λ r. r) result (sale_record (fields_of row.now)) }
+{
+    if row.len() != 9 {
+        return Err(ReadError::Fault(FaultKind::WrongLength));
+    }
+    sale_record(&nine_fields(row))
+}
+
+// The fields of a row that has nine.
+fn nine_fields(row: &ByteRecord) -> [&[u8]; 9]
+    requires { length (fields_of row.now) ≡ 9 }
+    ensures { map (λ f. f.now) result ≡ fields_of row.now }
+{
+    let mut fields: [&[u8]; 9] = [&[]; 9];
+    for i in 0..9 {
+        if let Some(field) = row.get(i) {
+            fields[i] = field;
+        }
+    }
+    fields
+}
+
 #[tactic(auto, using(crate::proofs::FieldLemmas::nine_fields), unfolding(crate::specs::Layouts::sale_record))]
-fn sale_record(alloc: Global, fields: &[&[u8]]) -> Result<SaleRecord, ReadError<FaultKind>>
+fn sale_record(fields: &[&[u8]; 9]) -> Result<SaleRecord, ReadError<FaultKind>>
     ensures { Gives (λ r. r) result (sale_record (map (λ f. f.now) fields.now)) }
 {
     let [
@@ -98,17 +124,14 @@ fn sale_record(alloc: Global, fields: &[&[u8]]) -> Result<SaleRecord, ReadError<
         quantity,
         amount,
         cost,
-    ] = fields
-    else {
-        return Err(ReadError::Fault(FaultKind::WrongLength));
-    };
+    ] = fields;
     Ok(SaleRecord {
-        ticket: key_of(alloc, 20, ticket)?,
+        ticket: key_of(20, ticket)?,
         line: line_of(line)?,
         day: day_of(day)?,
-        store: key_of(alloc, 32, store)?,
-        product: key_of(alloc, 32, product)?,
-        customer: customer_of(alloc, customer)?,
+        store: key_of(32, store)?,
+        product: key_of(32, product)?,
+        customer: customer_of(customer)?,
         quantity: quantity_of(quantity)?,
         amount: amount_of(amount)?,
         cost: amount_of(cost)?,

@@ -4,7 +4,7 @@ mod sales;
 use super::*;
 use std::alloc::{AllocError, Global};
 use std::test::*;
-use wh_day::{Day, ReadError, Value, Values};
+use wh_day::{Day, NaturalKey, ReadError, Values};
 use wh_policy::{Dim, DimensionRecord, Policy, SaleRecord};
 
 fn at(number: u32, kind: FaultKind) -> Option<BatchFault> {
@@ -25,6 +25,10 @@ fn records(alloc: Global, dim: Dim, bytes: &[u8]) -> Result<DimensionRecords, Fa
     let policy = Policy::trial(alloc)?;
     let records = dimension_records(alloc, dim, &policy, Format::One, bytes).ok();
     Ok(records.ok_or("a good batch")?)
+}
+
+fn key(text: &str) -> Result<NaturalKey, Fail> {
+    Ok(NaturalKey::read(32, text.as_bytes()).ok_or("a key")?)
 }
 
 // The values, with a bar behind each.

@@ -6,6 +6,7 @@ mod day;
 mod error;
 mod holiday;
 pub mod laws;
+mod natural_key;
 mod value;
 mod values;
 
@@ -13,6 +14,7 @@ pub use calendar::{DateRow, date_row};
 pub use day::Day;
 pub use error::ReadError;
 pub use holiday::{Holiday, Holidays};
+pub use natural_key::NaturalKey;
 pub use value::Value;
 pub use values::Values;
 

@@ -1,7 +1,7 @@
 use super::*;
 use std::alloc::{AllocError, Global};
 use std::test::Fail;
-use wh_day::{Day, Holidays, Value, Values};
+use wh_day::{Day, Holidays, NaturalKey, Value, Values};
 use wh_policy::{Attribute, AttributeType, Attributes, Dim, DimensionRecord, Policy, Years};
 
 const PRODUCT: [AttributeType; 6] = [
@@ -234,11 +234,11 @@ fn profile_of_the_newest_record(rt: HostRuntime) -> Result<(), Fail> {
 }
 
 /// Dimension records as lines `natural,day,values`, with the day as YYYYMMDD.
-fn records(alloc: Global, lines: &[(&str, i64, &str)]) -> Result<Vec<DimensionRecord>, AllocError> {
+fn records(alloc: Global, lines: &[(&str, i64, &str)]) -> Result<Vec<DimensionRecord>, Fail> {
     let mut found = Vec::new(alloc);
     for (natural, key, line) in lines {
         found.push(DimensionRecord {
-            natural: Value::new(alloc, natural)?,
+            natural: NaturalKey::read(32, natural.as_bytes()).ok_or("a key")?,
             day: day(*key),
             values: values(alloc, line)?,
         })?;

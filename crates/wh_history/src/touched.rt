@@ -10,7 +10,7 @@ use crate::member::{Change, Changes, Member};
 use indexmap::IndexSet;
 use std::alloc::{AllocError, Global};
 use std::marker::Model;
-use wh_day::{Day, ReadError, Value, Values};
+use wh_day::{Day, NaturalKey, ReadError, Value, Values};
 use wh_policy::DimensionRecord;
 
 const SLOTS: usize = 6;
@@ -158,13 +158,25 @@ fn add_record(
     Ok(())
 }
 
+fn stored_member<S: Stored>(
+    alloc: Global,
+    stored: &S,
+    natural: &NaturalKey,
+) -> Result<Member, ReadError<S::Fault>>
+    ensures member { IfOk result (λ m. m ≡ S.stored stored.now natural.now) }
+    ensures natural { IfOk result (λ m. m.natural ≡ natural.now) }
+{
+    let natural = Value::new(alloc, natural.as_str())?;
+    stored.member(alloc, &natural)
+}
+
 /// The place of the member with a natural key. One that was not touched before comes from where it is stored.
 fn place_of<S: Stored>(
     alloc: Global,
     stored: &S,
     naturals: &mut IndexSet<String>,
     list: &mut Vec<Member>,
-    natural: &Value,
+    natural: &NaturalKey,
 ) -> Result<usize, ReadError<S::Fault>>
     requires { map (λ n. string_bytes n) naturals.old.keys ≡ map (λ m. m.natural) list.old.items }
     ensures naturals { OnOk result (map (λ n. string_bytes n) naturals.new.keys ≡ map (λ m. m.natural) list.new.items) }
@@ -176,7 +188,7 @@ fn place_of<S: Stored>(
     if !is_new {
         return Ok(place);
     }
-    list.push(stored.member(alloc, natural)?)?;
+    list.push(stored_member(alloc, stored, natural)?)?;
     Ok(place)
 }
 

@@ -188,7 +188,7 @@ fn number_of_bytes(rt: HostRuntime) -> Result<(), Fail> {
 fn records_made_by_hand(rt: HostRuntime) -> Result<(), Fail> {
     let mut records = DimensionRecords::new(rt.alloc());
     let record = DimensionRecord {
-        natural: Value::new(rt.alloc(), "C9")?,
+        natural: key("C9")?,
         day: Day::first(),
         values: Values::new(rt.alloc()),
     };

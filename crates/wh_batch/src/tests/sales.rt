@@ -205,11 +205,11 @@ fn number_of_records(rt: HostRuntime) -> Result<(), Fail> {
 fn records_made_by_hand(rt: HostRuntime) -> Result<(), Fail> {
     let mut records = SaleRecords::new(rt.alloc());
     let sale = SaleRecord {
-        ticket: Value::new(rt.alloc(), "T1")?,
+        ticket: key("T1")?,
         line: 1,
         day: Day::last(),
-        store: Value::new(rt.alloc(), "S1")?,
-        product: Value::new(rt.alloc(), "P1")?,
+        store: key("S1")?,
+        product: key("P1")?,
         customer: None,
         quantity: -1,
         amount: -250,

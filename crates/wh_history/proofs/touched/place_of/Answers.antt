@@ -33,10 +33,10 @@ returns g c =
     let missing : list_any (string_eq name) c.args.naturals.now.keys ≡ false = is_new c.in_ok-place.is_new _ e.added c.if-not-is_new.false in
     let any : list_any (λ (m : Member). bytes_eq m.natural n) list ≡ false =
     ap (λ (t : List ℕ). list_any (λ (m : Member). bytes_eq m.natural t) list) (sym named) ∙ sym (any_by string_bytes (string_bytes name) c.args.naturals.now.keys list c.requires) ∙ missing in
-    let new = c.in_ok-member.ensures in
+    let new = c.in_ok-stored_member.ensures in
     let seen = λ (m : Member). m.natural in
     record {
-      naturals = rw (e.keys, missing, c.in_ok-push.ensures.items) (map-append string_bytes c.args.naturals.now.keys (name ∷ []) ∙ rw (named, c.requires) (sym (map-append seen list (c.in_ok-member.field-0 ∷ []) ∙ ap (λ (t : List ℕ). map seen list ++ t ∷ []) new.natural)));
+      naturals = rw (e.keys, missing, c.in_ok-push.ensures.items) (map-append string_bytes c.args.naturals.now.keys (name ∷ []) ∙ rw (named, c.requires) (sym (map-append seen list (c.in_ok-stored_member.field-0 ∷ []) ∙ ap (λ (t : List ℕ). map seen list ++ t ∷ []) new.natural)));
       list = c.in_ok-push.ensures.items ∙ rw (any, new.member) refl;
       place = e.index ∙ index_by string_bytes (string_bytes name) c.args.naturals.now.keys list c.requires ∙ ap (λ (t : List ℕ). position_or_len (λ (m : Member). bytes_eq m.natural t) list) named;
       natural = ap seen (current_stored (g.S.Stored.stored c.args.stored.now) n list any ∙ sym new.member) ∙ new.natural;
