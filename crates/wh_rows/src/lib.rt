@@ -1,0 +1,10 @@
+//! The rows of the warehouse's ten tables, as values of their own types and as the columns of stored rows.
+#![tactic(auto)]
+
+mod limits;
+mod rows;
+mod table;
+
+pub use limits::Limits;
+pub use rows::{ChangeRow, CommandRow, MemberRow, MetaRow, ProfileRow, TableRow};
+pub use table::Table;
