@@ -1,2 +1,11 @@
 pub mod Names
 pub mod Limits
+pub mod Types
+pub mod Schema
+pub mod Holds
+pub mod Rows
+pub mod Tables
+pub mod Statements
+pub mod Change
+pub mod Meaning
+pub mod Makes
