@@ -1,4 +1,4 @@
--- The schema of the warehouse: ten tables and their keys.
+-- The schema of the warehouse: ten tables, their keys, and the indexes that members' rows, changes and facts are found by.
 use Rattle.std.specs.Prelude.{ℕ, List, [], ◌∷◌, codes, map, Option, Some, None, Bool, false, true}
 use Rattle.sqlite.specs.Collation.TheVariants.{Binary}
 use Rattle.sqlite_value.specs.declared.value.Value.TheVariants.{Null}
@@ -78,6 +78,33 @@ create_calendar = codes "CREATE TABLE calendar (date_key INTEGER PRIMARY KEY NOT
 
 abbrev pub create_fact : List ℕ
 create_fact = codes "CREATE TABLE fact (ticket TEXT NOT NULL, line INTEGER NOT NULL, day INTEGER NOT NULL, store_key INTEGER NOT NULL, product_key INTEGER NOT NULL, customer_key INTEGER NOT NULL, store_durable INTEGER NOT NULL, product_durable INTEGER NOT NULL, customer_durable INTEGER NOT NULL, profile INTEGER NOT NULL, quantity INTEGER NOT NULL, amount INTEGER NOT NULL, cost INTEGER NOT NULL, PRIMARY KEY (ticket, line))"
+
+abbrev pub create_change_by_member : List ℕ
+create_change_by_member = codes "CREATE INDEX change_by_member ON change (dim, durable)"
+
+abbrev pub create_change_by_anchor : List ℕ
+create_change_by_anchor = codes "CREATE INDEX change_by_anchor ON change (dim, anchor)"
+
+abbrev pub create_product_by_durable : List ℕ
+create_product_by_durable = codes "CREATE INDEX product_by_durable ON product (durable)"
+
+abbrev pub create_store_by_durable : List ℕ
+create_store_by_durable = codes "CREATE INDEX store_by_durable ON store (durable)"
+
+abbrev pub create_customer_by_durable : List ℕ
+create_customer_by_durable = codes "CREATE INDEX customer_by_durable ON customer (durable)"
+
+abbrev pub create_fact_by_store : List ℕ
+create_fact_by_store = codes "CREATE INDEX fact_by_store ON fact (store_durable, day)"
+
+abbrev pub create_fact_by_product : List ℕ
+create_fact_by_product = codes "CREATE INDEX fact_by_product ON fact (product_durable, day)"
+
+abbrev pub create_fact_by_customer : List ℕ
+create_fact_by_customer = codes "CREATE INDEX fact_by_customer ON fact (customer_durable, day)"
+
+abbrev pub create_profile_by_values : List ℕ
+create_profile_by_values = codes "CREATE INDEX profile_by_values ON profile (v1, v2, v3, v4, v5, v6)"
 
 -- ---- the tables
 
@@ -232,7 +259,16 @@ warehouse = record {
     ∷ index (codes "sqlite_autoindex_member_1") 5 4 (1 ∷ 2 ∷ []) true
     ∷ index (codes "sqlite_autoindex_member_2") 6 4 (1 ∷ 3 ∷ []) true
     ∷ index (codes "sqlite_autoindex_change_1") 8 7 (1 ∷ 2 ∷ []) true
-    ∷ index (codes "sqlite_autoindex_fact_1") 15 14 (1 ∷ 2 ∷ []) true ∷ [];
+    ∷ index (codes "sqlite_autoindex_fact_1") 15 14 (1 ∷ 2 ∷ []) true
+    ∷ index (codes "change_by_member") 16 7 (3 ∷ 4 ∷ []) false
+    ∷ index (codes "change_by_anchor") 17 7 (3 ∷ 6 ∷ []) false
+    ∷ index (codes "product_by_durable") 18 9 (2 ∷ []) false
+    ∷ index (codes "store_by_durable") 19 10 (2 ∷ []) false
+    ∷ index (codes "customer_by_durable") 20 11 (2 ∷ []) false
+    ∷ index (codes "fact_by_store") 21 14 (7 ∷ 3 ∷ []) false
+    ∷ index (codes "fact_by_product") 22 14 (8 ∷ 3 ∷ []) false
+    ∷ index (codes "fact_by_customer") 23 14 (9 ∷ 3 ∷ []) false
+    ∷ index (codes "profile_by_values") 24 12 (2 ∷ 3 ∷ 4 ∷ 5 ∷ 6 ∷ 7 ∷ []) false ∷ [];
   views = [];
 }
 
