@@ -9,3 +9,5 @@ pub mod Statements
 pub mod Change
 pub mod Meaning
 pub mod Makes
+pub mod Columns
+pub mod Stored

@@ -1,10 +1,13 @@
 //! The rows of the warehouse's ten tables, as values of their own types and as the columns of stored rows.
 #![tactic(auto)]
 
+mod columns;
 mod limits;
 mod rows;
+mod stored;
 mod table;
 
+pub use columns::Damaged;
 pub use limits::Limits;
 pub use rows::{ChangeRow, CommandRow, MemberRow, MetaRow, ProfileRow, TableRow};
 pub use table::Table;
