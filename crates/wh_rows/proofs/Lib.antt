@@ -22,3 +22,5 @@ pub mod Customers
 pub mod Profiles
 pub mod Calendars
 pub mod Facts
+pub mod ColumnLemmas
+pub mod Exact
