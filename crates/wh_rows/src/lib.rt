@@ -6,8 +6,10 @@ mod limits;
 mod rows;
 mod stored;
 mod table;
+pub mod tables;
 
 pub use columns::Damaged;
 pub use limits::Limits;
 pub use rows::{ChangeRow, CommandRow, MemberRow, MetaRow, ProfileRow, TableRow};
 pub use table::Table;
+pub use tables::Stored;

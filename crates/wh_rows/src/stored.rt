@@ -14,7 +14,7 @@ use wh_policy::Dim;
 
 /// A row of meta.
 #[tactic(auto, unfolding(crate::specs::Stored::meta_of))]
-fn read_meta(
+pub(crate) fn read_meta(
     alloc: Global,
     row: &Row,
 ) -> Result<MetaRow, ReadError<Damaged>>
@@ -33,7 +33,7 @@ fn read_meta(
 
 /// A row of command.
 #[tactic(auto, unfolding(crate::specs::Stored::command_of))]
-fn read_command(
+pub(crate) fn read_command(
     alloc: Global,
     row: &Row,
 ) -> Result<CommandRow, ReadError<Damaged>>
@@ -60,7 +60,7 @@ fn read_command(
 
 /// A row of member.
 #[tactic(auto, unfolding(crate::specs::Stored::member_of))]
-fn read_member(
+pub(crate) fn read_member(
     alloc: Global,
     row: &Row,
 ) -> Result<MemberRow, ReadError<Damaged>>
@@ -83,7 +83,7 @@ fn read_member(
 
 /// A row of change.
 #[tactic(auto, unfolding(crate::specs::Stored::change_of))]
-fn read_change(
+pub(crate) fn read_change(
     alloc: Global,
     row: &Row,
 ) -> Result<ChangeRow, ReadError<Damaged>>
@@ -112,7 +112,7 @@ fn read_change(
 
 /// A row of product, store or customer.
 #[tactic(auto, unfolding(crate::specs::Stored::dimension_of))]
-fn read_dimension(
+pub(crate) fn read_dimension(
     alloc: Global,
     dim: Dim,
     row: &Row,
@@ -146,7 +146,7 @@ fn read_dimension(
 
 /// A row of profile.
 #[tactic(auto, unfolding(crate::specs::Stored::profile_of))]
-fn read_profile(
+pub(crate) fn read_profile(
     alloc: Global,
     row: &Row,
 ) -> Result<ProfileRow, ReadError<Damaged>>
@@ -165,7 +165,7 @@ fn read_profile(
 
 /// A row of calendar.
 #[tactic(auto, unfolding(crate::specs::Stored::date_of))]
-fn read_date(
+pub(crate) fn read_date(
     alloc: Global,
     row: &Row,
 ) -> Result<DateRow, ReadError<Damaged>>
@@ -202,7 +202,7 @@ fn read_date(
 
 /// A row of fact.
 #[tactic(auto, unfolding(crate::specs::Stored::fact_of))]
-fn read_fact(
+pub(crate) fn read_fact(
     alloc: Global,
     row: &Row,
 ) -> Result<Fact, ReadError<Damaged>>
