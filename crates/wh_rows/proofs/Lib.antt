@@ -24,3 +24,9 @@ pub mod Calendars
 pub mod Facts
 pub mod ColumnLemmas
 pub mod Exact
+pub mod ReadAll
+pub mod Orders
+pub mod Places
+pub mod Queries
+pub mod Calls
+pub mod OnTables

@@ -11,3 +11,4 @@ pub mod Meaning
 pub mod Makes
 pub mod Columns
 pub mod Stored
+pub mod Place

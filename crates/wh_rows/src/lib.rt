@@ -1,6 +1,7 @@
 //! The rows of the warehouse's ten tables, as values of their own types and as the columns of stored rows.
 #![tactic(auto)]
 
+pub mod bound;
 mod columns;
 mod limits;
 mod rows;
@@ -12,4 +13,4 @@ pub use columns::Damaged;
 pub use limits::Limits;
 pub use rows::{ChangeRow, CommandRow, MemberRow, MetaRow, ProfileRow, TableRow};
 pub use table::Table;
-pub use tables::Stored;
+pub use tables::{Stored, read_all};
