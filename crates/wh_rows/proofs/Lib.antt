@@ -30,3 +30,4 @@ pub mod Places
 pub mod Queries
 pub mod Calls
 pub mod OnTables
+pub mod Making

@@ -12,3 +12,4 @@ pub mod Makes
 pub mod Columns
 pub mod Stored
 pub mod Place
+pub mod Making
