@@ -31,3 +31,5 @@ pub mod Queries
 pub mod Calls
 pub mod OnTables
 pub mod Making
+pub mod OnLiterals
+pub mod Worked

@@ -44,6 +44,27 @@ impl Limits {
         }
     }
 
+    /// The most commands.
+    pub fn commands(self) -> u64
+        ensures { result ≡ self.commands }
+    {
+        self.commands
+    }
+
+    /// The most changes of members.
+    pub fn changes(self) -> u64
+        ensures { result ≡ self.changes }
+    {
+        self.changes
+    }
+
+    /// The most facts.
+    pub fn facts(self) -> u64
+        ensures { result ≡ self.facts }
+    {
+        self.facts
+    }
+
     /// The greatest limits.
     pub fn greatest() -> Limits
         ensures { result ≡ greatest_limits }
