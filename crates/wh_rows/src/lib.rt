@@ -14,3 +14,6 @@ pub use limits::Limits;
 pub use rows::{ChangeRow, CommandRow, MemberRow, MetaRow, ProfileRow, TableRow};
 pub use table::Table;
 pub use tables::{Stored, read_all};
+
+#[cfg(test)]
+mod tests;
