@@ -33,3 +33,4 @@ pub mod OnTables
 pub mod Making
 pub mod OnLiterals
 pub mod Worked
+pub mod Firsts

@@ -30,7 +30,7 @@ module _ {K V : Type 0} (layout : Layout K V) where
   below k (e ∷ es) keyed low =
       let parts = both_true _ _ low in (ap (layout.order k) (sym keyed.0) ∙ less_is _ parts.0, below k es keyed.1 parts.1)
 
-  rising : (es : List (K × V)) → AllByRecursion (λ e. e.0 ≡ layout.key e.1) es → T (is_sorted layout.order es) → IsAscending Below (map (λ e. e.1) es)
+  pub rising : (es : List (K × V)) → AllByRecursion (λ e. e.0 ≡ layout.key e.1) es → T (is_sorted layout.order es) → IsAscending Below (map (λ e. e.1) es)
   rising [] keyed sorted = tt
   rising (e ∷ es) keyed sorted =
       let parts = both_true _ _ sorted in

@@ -13,3 +13,4 @@ pub mod Columns
 pub mod Stored
 pub mod Place
 pub mod Making
+pub mod Firsts
