@@ -1,12 +1,12 @@
 -- The statements on calendar.
-use Rattle.std.proofs.Common.{ℕ, List, [], ◌∷◌, codes, map, drop, pos, true, ◌&&◌, refl, ◌∙◌}
-use Rattle.std.specs.Ordering.{eq_by_cmp}
+use Rattle.std.proofs.Common.{ℕ, List, [], ◌∷◌, codes, map, drop, pos, true, false, ◌&&◌, refl, ◌∙◌}
+use Rattle.std.specs.Ordering.{is_gt, eq_by_cmp, nat_cmp}
 use Rattle.sqlite_value.specs.declared.value.Value.TheVariants.{Null, Int}
 use Rattle.sqlite_value.specs.declared.keys.Key.{Key}
 use Rattle.sqlite_value.specs.Keys.{first_key, ascending}
 use Rattle.sqlite_value.proofs.OrderLemmas.{then-Equal}
 use Rattle.sqlite_sql.specs.declared.ops.BinaryOp.TheVariants.{Compare}
-use Rattle.sqlite_sql.specs.declared.ops.CompareOp.TheVariants.{Eq}
+use Rattle.sqlite_sql.specs.declared.ops.CompareOp.TheVariants.{Eq, Gt}
 use Rattle.sqlite_schema.specs.Rules.{equal}
 use Rattle.sqlite_tied.specs.Compute.{everything}
 use Rattle.sqlite.specs.Collation.TheVariants.{Binary}
@@ -14,9 +14,10 @@ use Rattle.sqlite.specs.Order.{Row, column}
 use Rattle.sqlite.specs.Term.{Term, lit, col, op2}
 use Rattle.sqlite.specs.Listing.{understood}
 use Rattle.wh_rows.specs.Rows as row
-use Rattle.wh_rows.specs.Meaning.{any, PutsOne, RemovesOne, ReadsSome}
+use Rattle.wh_rows.specs.Meaning.{any, PutsOne, RemovesOne, ReadsSome, CountsAll}
+use Rattle.wh_rows.specs.Firsts.{ReadsFirst}
 use Rattle.wh_rows.proofs.Cast.{cast_row_own}
-use Rattle.wh_rows.proofs.Keys.{and-true, trimmed, equal-Nat, sorted-Nat}
+use Rattle.wh_rows.proofs.Keys.{and-true, trimmed, equal-Nat, sorted-Nat, greater, greater-Nat}
 
 -- ---- put
 
@@ -115,3 +116,56 @@ get k = record {
   shows = λ r. refl;
   in_order = λ v w. then-Equal _ ∙ sorted-Nat v.date_key w.date_key;
 }
+
+-- the row of the greatest key
+abbrev pub greatest_text : List ℕ
+greatest_text = codes "SELECT * FROM calendar ORDER BY date_key DESC LIMIT 1"
+
+pub greatest : ReadsFirst row.calendar ([]) (λ r. true) 1 true greatest_text
+unfolding understood everything
+greatest = record {
+  tests = [];
+  project = shown;
+  order = (col 1 0, record { collation = Binary; descending = true }) ∷ [];
+  names = map (λ c. c.name) row.calendar.table.columns;
+  command = refl;
+  plain = (refl, refl);
+  unlisted = refl;
+  test = λ r. true;
+  hits = λ r. refl;
+  agree = λ w. refl;
+  sorted_by = λ r. column r 0 ∷ [];
+  shows = λ r. refl;
+  in_order = λ v w. then-Equal _ ∙ sorted-Nat w.date_key v.date_key;
+}
+
+-- the next rows after a key
+abbrev pub after_text : List ℕ
+after_text = codes "SELECT * FROM calendar WHERE date_key > ?1 ORDER BY date_key LIMIT 256"
+
+pub after : (k : ℕ) → ReadsFirst row.calendar (Int (pos k) ∷ []) (λ r. is_gt (nat_cmp r.date_key k)) 256 false after_text
+unfolding understood everything
+after k = record {
+  tests = op2 (Compare Gt Binary) (col 1 0) (col 0 0) ∷ [];
+  project = shown;
+  order = by_key;
+  names = map (λ c. c.name) row.calendar.table.columns;
+  command = refl;
+  plain = (refl, refl);
+  unlisted = refl;
+  test = λ r. greater (column r 0) (Int (pos k)) && true;
+  hits = λ r. refl;
+  agree = λ w. and-true _ ∙ greater-Nat w.date_key k;
+  sorted_by = λ r. column r 0 ∷ [];
+  shows = λ r. refl;
+  in_order = λ v w. then-Equal _ ∙ sorted-Nat v.date_key w.date_key;
+}
+
+-- ---- count
+
+abbrev pub count_text : List ℕ
+count_text = codes "SELECT count(*) FROM calendar"
+
+pub count : CountsAll row.calendar count_text
+unfolding understood everything
+count = record { names = codes "count(*)" ∷ []; command = refl; plain = (refl, refl); unlisted = refl }

@@ -1,12 +1,12 @@
 -- The statements on change.
-use Rattle.std.proofs.Common.{ℕ, List, [], ◌∷◌, codes, map, pos, true, ◌&&◌, refl, sym, ap₂, ◌∙◌}
-use Rattle.std.specs.Ordering.{eq_by_cmp, nat_cmp, ordering_then}
+use Rattle.std.proofs.Common.{ℕ, List, [], ◌∷◌, codes, map, pos, true, false, ◌&&◌, refl, sym, ap₂, ◌∙◌}
+use Rattle.std.specs.Ordering.{is_gt, eq_by_cmp, nat_cmp, ordering_then}
 use Rattle.sqlite_value.specs.declared.value.Value.TheVariants.{Null, Int}
 use Rattle.sqlite_value.specs.declared.keys.Key.{Key}
 use Rattle.sqlite_value.specs.Keys.{first_key, ascending}
 use Rattle.sqlite_value.proofs.OrderLemmas.{then-Equal}
 use Rattle.sqlite_sql.specs.declared.ops.BinaryOp.TheVariants.{Compare}
-use Rattle.sqlite_sql.specs.declared.ops.CompareOp.TheVariants.{Eq}
+use Rattle.sqlite_sql.specs.declared.ops.CompareOp.TheVariants.{Eq, Gt}
 use Rattle.sqlite_sql.specs.declared.ops.UnaryOp.TheVariants.{ToNumeric}
 use Rattle.sqlite_sql.specs.Ops.{unary}
 use Rattle.sqlite_schema.specs.Rules.{equal}
@@ -20,9 +20,10 @@ use Rattle.wh_policy.specs.declared.attribute.Dim.{Dim}
 use Rattle.wh_rows.specs.Types.{dim_number}
 use Rattle.wh_rows.specs.Rows.{ChangeKey}
 use Rattle.wh_rows.specs.Rows as row
-use Rattle.wh_rows.specs.Meaning.{any, PutsOne, RemovesOne, ReadsSome}
+use Rattle.wh_rows.specs.Meaning.{any, PutsOne, RemovesOne, ReadsSome, CountsAll}
+use Rattle.wh_rows.specs.Firsts.{ReadsFirst}
 use Rattle.wh_rows.proofs.Cast.{cast_row_own}
-use Rattle.wh_rows.proofs.Keys.{and-true, trimmed_pair, free_rowid, equal-Nat, sorted-Nat, then_eq}
+use Rattle.wh_rows.proofs.Keys.{and-true, trimmed_pair, free_rowid, equal-Nat, sorted-Nat, greater, greater-Nat, then_eq}
 
 -- ---- put
 
@@ -165,3 +166,56 @@ of_anchor dim anchor = record {
   shows = λ r. refl;
   in_order = λ v w. ap₂ ordering_then (sorted-Nat v.command w.command) (then-Equal _ ∙ sorted-Nat v.place w.place);
 }
+
+-- the next rows after all of a command
+abbrev pub after_text : List ℕ
+after_text = codes "SELECT * FROM change WHERE command > ?1 ORDER BY command, record LIMIT 256"
+
+pub after : (command : ℕ) → ReadsFirst row.change (Int (pos command) ∷ []) (λ r. is_gt (nat_cmp r.command command)) 256 false after_text
+unfolding understood everything unary
+after command = record {
+  tests = op2 (Compare Gt Binary) (col 1 1) (op1 ToNumeric (col 0 0)) ∷ [];
+  project = shown;
+  order = by_key;
+  names = map (λ c. c.name) row.change.table.columns;
+  command = refl;
+  plain = (refl, refl);
+  unlisted = refl;
+  test = λ r. greater (column r 0) (Int (pos command)) && true;
+  hits = λ r. refl;
+  agree = λ w. and-true _ ∙ greater-Nat w.command command;
+  sorted_by = λ r. column r 0 ∷ column r 1 ∷ [];
+  shows = λ r. refl;
+  in_order = λ v w. ap₂ ordering_then (sorted-Nat v.command w.command) (then-Equal _ ∙ sorted-Nat v.place w.place);
+}
+
+-- the next rows of that command after a key
+abbrev pub rest_text : List ℕ
+rest_text = codes "SELECT * FROM change WHERE command = ?1 AND record > ?2 ORDER BY command, record LIMIT 256"
+
+pub rest : (k : ChangeKey) → ReadsFirst row.change (bind k) (λ r. eq_by_cmp nat_cmp k.command r.command && is_gt (nat_cmp r.place k.place)) 256 false rest_text
+unfolding understood everything unary
+rest k = record {
+  tests = op2 (Compare Eq Binary) (col 1 1) (op1 ToNumeric (col 0 0)) ∷ op2 (Compare Gt Binary) (col 1 2) (op1 ToNumeric (col 0 1)) ∷ [];
+  project = shown;
+  order = by_key;
+  names = map (λ c. c.name) row.change.table.columns;
+  command = refl;
+  plain = (refl, refl);
+  unlisted = refl;
+  test = λ r. equal Binary (column r 0) (Int (pos k.command)) && (greater (column r 1) (Int (pos k.place)) && true);
+  hits = λ r. refl;
+  agree = λ w. ap₂ ◌&&◌ (equal-Nat w.command k.command) (and-true _ ∙ greater-Nat w.place k.place);
+  sorted_by = λ r. column r 0 ∷ column r 1 ∷ [];
+  shows = λ r. refl;
+  in_order = λ v w. ap₂ ordering_then (sorted-Nat v.command w.command) (then-Equal _ ∙ sorted-Nat v.place w.place);
+}
+
+-- ---- count
+
+abbrev pub count_text : List ℕ
+count_text = codes "SELECT count(*) FROM change"
+
+pub count : CountsAll row.change count_text
+unfolding understood everything
+count = record { names = codes "count(*)" ∷ []; command = refl; plain = (refl, refl); unlisted = refl }

@@ -1,6 +1,6 @@
 -- The statements on command.
-use Rattle.std.proofs.Common.{◌≡◌, ℕ, List, [], ◌∷◌, codes, map, drop, pos, true, ◌&&◌, ◌||◌, refl, sym, ap, ap₂, ◌∙◌}
-use Rattle.std.specs.Ordering.{is_eq, eq_by_cmp, nat_cmp}
+use Rattle.std.proofs.Common.{◌≡◌, ℕ, List, [], ◌∷◌, codes, map, drop, pos, true, false, ◌&&◌, ◌||◌, refl, sym, ap, ap₂, ◌∙◌}
+use Rattle.std.specs.Ordering.{is_eq, is_gt, eq_by_cmp, nat_cmp}
 use Rattle.std.specs.Cmp.{tied_itself}
 use Rattle.std.proofs.lemmas.Cmp.{nat_cmp_total}
 use Rattle.std.specs.Cmp.Lexicographic.{slice_cmp}
@@ -10,7 +10,7 @@ use Rattle.sqlite_value.specs.declared.keys.Key.{Key}
 use Rattle.sqlite_value.specs.Keys.{first_key, ascending}
 use Rattle.sqlite_value.proofs.OrderLemmas.{then-Equal}
 use Rattle.sqlite_sql.specs.declared.ops.BinaryOp.TheVariants.{Compare}
-use Rattle.sqlite_sql.specs.declared.ops.CompareOp.TheVariants.{Eq}
+use Rattle.sqlite_sql.specs.declared.ops.CompareOp.TheVariants.{Eq, Gt}
 use Rattle.sqlite_schema.specs.Rules.{equal}
 use Rattle.sqlite_tied.specs.Compute.{everything}
 use Rattle.sqlite.specs.Collation.TheVariants.{Binary}
@@ -19,9 +19,10 @@ use Rattle.sqlite.specs.Term.{Term, lit, col, op2}
 use Rattle.sqlite.specs.Listing.{understood}
 use Rattle.wh_rows.specs.declared.rows.CommandRow.{CommandRow}
 use Rattle.wh_rows.specs.Rows as row
-use Rattle.wh_rows.specs.Meaning.{PutsOne, RemovesOne, ReadsSome}
+use Rattle.wh_rows.specs.Meaning.{PutsOne, RemovesOne, ReadsSome, CountsAll}
+use Rattle.wh_rows.specs.Firsts.{ReadsFirst}
 use Rattle.wh_rows.proofs.Cast.{cast_row_own}
-use Rattle.wh_rows.proofs.Keys.{and-true, trimmed_or, equal-Nat, equal-Text, sorted-Nat, equal_is, implied}
+use Rattle.wh_rows.proofs.Keys.{and-true, trimmed_or, equal-Nat, equal-Text, sorted-Nat, greater, greater-Nat, equal_is, implied}
 
 -- ---- put
 
@@ -151,3 +152,56 @@ of_id id = record {
   shows = λ r. refl;
   in_order = λ v w. then-Equal _ ∙ sorted-Nat v.number w.number;
 }
+
+-- the row of the greatest key
+abbrev pub greatest_text : List ℕ
+greatest_text = codes "SELECT * FROM command ORDER BY number DESC LIMIT 1"
+
+pub greatest : ReadsFirst row.command ([]) (λ r. true) 1 true greatest_text
+unfolding understood everything
+greatest = record {
+  tests = [];
+  project = shown;
+  order = (col 1 0, record { collation = Binary; descending = true }) ∷ [];
+  names = map (λ c. c.name) row.command.table.columns;
+  command = refl;
+  plain = (refl, refl);
+  unlisted = refl;
+  test = λ r. true;
+  hits = λ r. refl;
+  agree = λ w. refl;
+  sorted_by = λ r. column r 0 ∷ [];
+  shows = λ r. refl;
+  in_order = λ v w. then-Equal _ ∙ sorted-Nat w.number v.number;
+}
+
+-- the next rows after a key
+abbrev pub after_text : List ℕ
+after_text = codes "SELECT * FROM command WHERE number > ?1 ORDER BY number LIMIT 256"
+
+pub after : (k : ℕ) → ReadsFirst row.command (Int (pos k) ∷ []) (λ r. is_gt (nat_cmp r.number k)) 256 false after_text
+unfolding understood everything
+after k = record {
+  tests = op2 (Compare Gt Binary) (col 1 0) (col 0 0) ∷ [];
+  project = shown;
+  order = by_key;
+  names = map (λ c. c.name) row.command.table.columns;
+  command = refl;
+  plain = (refl, refl);
+  unlisted = refl;
+  test = λ r. greater (column r 0) (Int (pos k)) && true;
+  hits = λ r. refl;
+  agree = λ w. and-true _ ∙ greater-Nat w.number k;
+  sorted_by = λ r. column r 0 ∷ [];
+  shows = λ r. refl;
+  in_order = λ v w. then-Equal _ ∙ sorted-Nat v.number w.number;
+}
+
+-- ---- count
+
+abbrev pub count_text : List ℕ
+count_text = codes "SELECT count(*) FROM command"
+
+pub count : CountsAll row.command count_text
+unfolding understood everything
+count = record { names = codes "count(*)" ∷ []; command = refl; plain = (refl, refl); unlisted = refl }

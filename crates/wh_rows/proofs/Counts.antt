@@ -21,33 +21,10 @@ use Rattle.sqlite.specs.State.{State, Shown}
 use Rattle.sqlite.proofs.Callers.{IsPlain, command_of, reads_as, one_permutation}
 use Rattle.sqlite_tied.specs.Compute.{everything}
 use Rattle.wh_rows.specs.Schema.{warehouse}
+use Rattle.wh_rows.specs.Statements.{counted, grouping, counting}
 use Rattle.wh_rows.specs.Holds.{Layout, values_of, Holds}
 use Rattle.wh_rows.specs.Meaning.{passes}
 use Rattle.wh_rows.proofs.Answers.{overlay_none, one_each}
-
-abbrev pub counted : Aggregate
-counted = record { op = CountRows; distinct = false; collation = Binary; argument = lit Null }
-
-abbrev pub grouping : Grouping
-grouping = record { keys = []; collations = []; aggregates = counted ∷ []; having = [] }
-
--- how many rows of the tree pass the tests
-abbrev pub counting : ℕ → List Term → Query
-counting tree tests = record {
-  from = inner tree end;
-  filter = tests;
-  group = Some grouping;
-  project = col 1 0 ∷ [];
-  distinct = false;
-  collations = [];
-  order = [];
-  limit = lit (Int (negsuc 0));
-  offset = lit (Int (pos 0));
-}
-
-pub count_facts : command_of (understood warehouse (codes "SELECT count(*) FROM fact")) ≡ Select (record { lets = []; body = counting 14 [] }) (codes "count(*)" ∷ [])
-unfolding understood everything
-count_facts = refl
 
 abbrev order_of_all : Trees → Row → ℕ → List Term → List Env
 order_of_all db params tree tests = flat_map (λ r. cond (passes params tests r) ((params ∷ r ∷ []) ∷ []) []) (overlay db [] tree)

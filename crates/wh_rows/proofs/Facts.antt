@@ -1,13 +1,13 @@
 -- The statements on fact.
-use Rattle.std.proofs.Common.{ℕ, List, [], ◌∷◌, codes, map, pos, true, ◌&&◌, refl, sym, ap₂, ◌∙◌}
-use Rattle.std.specs.Ordering.{eq_by_cmp, nat_cmp, ordering_then}
+use Rattle.std.proofs.Common.{ℕ, List, [], ◌∷◌, codes, map, pos, true, false, ◌&&◌, refl, sym, ap₂, ◌∙◌}
+use Rattle.std.specs.Ordering.{is_gt, eq_by_cmp, nat_cmp, ordering_then}
 use Rattle.std.specs.Cmp.Lexicographic.{slice_cmp}
 use Rattle.sqlite_value.specs.declared.value.Value.TheVariants.{Null, Int, Text}
 use Rattle.sqlite_value.specs.declared.keys.Key.{Key}
 use Rattle.sqlite_value.specs.Keys.{first_key, ascending}
 use Rattle.sqlite_value.proofs.OrderLemmas.{then-Equal, value_cmp-Text}
 use Rattle.sqlite_sql.specs.declared.ops.BinaryOp.TheVariants.{Compare}
-use Rattle.sqlite_sql.specs.declared.ops.CompareOp.TheVariants.{Eq}
+use Rattle.sqlite_sql.specs.declared.ops.CompareOp.TheVariants.{Eq, Gt}
 use Rattle.sqlite_sql.specs.declared.ops.UnaryOp.TheVariants.{ToNumeric}
 use Rattle.sqlite_sql.specs.Ops.{unary}
 use Rattle.sqlite_schema.specs.Rules.{equal}
@@ -19,9 +19,10 @@ use Rattle.sqlite.specs.Term.{Term, lit, col, op1, op2}
 use Rattle.sqlite.specs.Listing.{understood}
 use Rattle.wh_rows.specs.Rows.{LineKey}
 use Rattle.wh_rows.specs.Rows as row
-use Rattle.wh_rows.specs.Meaning.{any, PutsOne, RemovesOne, ReadsSome}
+use Rattle.wh_rows.specs.Meaning.{any, PutsOne, RemovesOne, ReadsSome, CountsAll}
+use Rattle.wh_rows.specs.Firsts.{ReadsFirst}
 use Rattle.wh_rows.proofs.Cast.{cast_row_own}
-use Rattle.wh_rows.proofs.Keys.{and-true, trimmed_pair, free_rowid, equal-Nat, equal-Text, sorted-Nat, then_eq}
+use Rattle.wh_rows.proofs.Keys.{and-true, trimmed_pair, free_rowid, equal-Nat, equal-Text, sorted-Nat, greater, greater-Nat, greater-Text, then_eq}
 
 -- ---- put
 
@@ -186,3 +187,56 @@ of_customer durable = record {
   shows = λ r. refl;
   in_order = λ v w. ap₂ ordering_then (value_cmp-Text v.ticket w.ticket) (then-Equal _ ∙ sorted-Nat v.line w.line);
 }
+
+-- the next rows after all of a ticket
+abbrev pub after_text : List ℕ
+after_text = codes "SELECT * FROM fact WHERE ticket > ?1 ORDER BY ticket, line LIMIT 256"
+
+pub after : (ticket : List ℕ) → ReadsFirst row.fact (Text ticket ∷ []) (λ r. is_gt (slice_cmp nat_cmp r.ticket ticket)) 256 false after_text
+unfolding understood everything
+after ticket = record {
+  tests = op2 (Compare Gt Binary) (col 1 1) (col 0 0) ∷ [];
+  project = shown;
+  order = by_key;
+  names = map (λ c. c.name) row.fact.table.columns;
+  command = refl;
+  plain = (refl, refl);
+  unlisted = refl;
+  test = λ r. greater (column r 0) (Text ticket) && true;
+  hits = λ r. refl;
+  agree = λ w. and-true _ ∙ greater-Text w.ticket ticket;
+  sorted_by = λ r. column r 0 ∷ column r 1 ∷ [];
+  shows = λ r. refl;
+  in_order = λ v w. ap₂ ordering_then (value_cmp-Text v.ticket w.ticket) (then-Equal _ ∙ sorted-Nat v.line w.line);
+}
+
+-- the next rows of that ticket after a key
+abbrev pub rest_text : List ℕ
+rest_text = codes "SELECT * FROM fact WHERE ticket = ?1 AND line > ?2 ORDER BY ticket, line LIMIT 256"
+
+pub rest : (k : LineKey) → ReadsFirst row.fact (bind k) (λ r. eq_by_cmp (slice_cmp nat_cmp) k.ticket r.ticket && is_gt (nat_cmp r.line k.line)) 256 false rest_text
+unfolding understood everything unary
+rest k = record {
+  tests = op2 (Compare Eq Binary) (col 1 1) (col 0 0) ∷ op2 (Compare Gt Binary) (col 1 2) (op1 ToNumeric (col 0 1)) ∷ [];
+  project = shown;
+  order = by_key;
+  names = map (λ c. c.name) row.fact.table.columns;
+  command = refl;
+  plain = (refl, refl);
+  unlisted = refl;
+  test = λ r. equal Binary (column r 0) (Text k.ticket) && (greater (column r 1) (Int (pos k.line)) && true);
+  hits = λ r. refl;
+  agree = λ w. ap₂ ◌&&◌ (equal-Text w.ticket k.ticket) (and-true _ ∙ greater-Nat w.line k.line);
+  sorted_by = λ r. column r 0 ∷ column r 1 ∷ [];
+  shows = λ r. refl;
+  in_order = λ v w. ap₂ ordering_then (value_cmp-Text v.ticket w.ticket) (then-Equal _ ∙ sorted-Nat v.line w.line);
+}
+
+-- ---- count
+
+abbrev pub count_text : List ℕ
+count_text = codes "SELECT count(*) FROM fact"
+
+pub count : CountsAll row.fact count_text
+unfolding understood everything
+count = record { names = codes "count(*)" ∷ []; command = refl; plain = (refl, refl); unlisted = refl }

@@ -1,7 +1,7 @@
 -- Keys as SQL compares them.
 use Rattle.std.proofs.Common.{arith, ◌≡◌, inl, inr, ℕ, ℤ, pos, List, [], ◌∷◌, Bool, true, false, Some, ◌&&◌, ◌||◌, refl, sym, ap, ◌∙◌, Ordering, Less, Equal, Greater}
 use Rattle.std.specs.Prelude.{unwrap_or, ◌<◌, ◌<ℤ◌}
-use Rattle.std.specs.Ordering.{is_eq, eq_by_cmp, int_cmp, nat_cmp, MatchOrdering}
+use Rattle.std.specs.Ordering.{is_eq, is_gt, eq_by_cmp, int_cmp, nat_cmp, MatchOrdering}
 use Rattle.std.specs.Cmp.{eq_by_cmp_equiv, ranks, int_cmp_is}
 use Rattle.std.specs.Cmp.Lexicographic.{slice_cmp, nat_list_cmp_total}
 use Rattle.std.proofs.lemmas.Cmp.{int_cmp_total}
@@ -21,7 +21,10 @@ use Rattle.sqlite_rules.proofs.ListLemmas.{all_has}
 use Rattle.sqlite_rules.proofs.TableLemmas.{int_is}
 use Rattle.sqlite_rules.proofs.PlaceLemmas.{next_is_free}
 use Rattle.wh_rows.specs.Holds.{IsRising}
-use Rattle.sqlite_sql.specs.Ops.{binary, truth, from_truth}
+use Rattle.sqlite_sql.specs.Ops.{binary, truth, from_truth, is_true}
+use Rattle.sqlite_sql.specs.declared.ops.BinaryOp.TheVariants.{Compare}
+use Rattle.sqlite_sql.specs.declared.ops.CompareOp.TheVariants.{Gt}
+use Rattle.sqlite_value.specs.declared.value.Value.{Value}
 use Rattle.sqlite_schema.specs.Rules.{equal}
 
 pub trimmed : (b : Bool) → ((b && true) || false) ≡ b
@@ -55,6 +58,18 @@ sorted-Nat a b = value_cmp-Int (pos a) (pos b) ∙ cmp-pos a b
 
 pub equal-Nat : (a b : ℕ) → equal Binary (Int (pos a)) (Int (pos b)) ≡ eq_by_cmp nat_cmp b a
 equal-Nat a b = equal-Int (pos a) (pos b) ∙ ap is_eq (cmp-pos b a)
+
+-- whether SQL's > is true of two values
+abbrev pub greater : Value → Value → Bool
+greater a b = is_true (binary (Compare Gt Binary) a b)
+
+pub greater-Nat : (a b : ℕ) → greater (Int (pos a)) (Int (pos b)) ≡ is_gt (nat_cmp a b)
+unfolding binary
+greater-Nat a b = truth_is (is_gt (value_cmp (Int (pos a)) (Int (pos b)))) ∙ ap is_gt (sorted-Nat a b)
+
+pub greater-Text : (s t : List ℕ) → greater (Text s) (Text t) ≡ is_gt (slice_cmp nat_cmp s t)
+unfolding binary
+greater-Text s t = truth_is (is_gt (value_cmp (Text s) (Text t))) ∙ ap is_gt (value_cmp-Text s t)
 
 -- ---- a rowid that is chosen meets no other
 

@@ -1,6 +1,6 @@
 -- The statements on member.
-use Rattle.std.proofs.Common.{◌≡◌, ℕ, List, [], ◌∷◌, codes, map, pos, true, ◌&&◌, ◌||◌, refl, sym, ap, ap₂, ◌∙◌}
-use Rattle.std.specs.Ordering.{is_eq, eq_by_cmp, nat_cmp, ordering_then}
+use Rattle.std.proofs.Common.{◌≡◌, ℕ, List, [], ◌∷◌, codes, map, pos, true, false, ◌&&◌, ◌||◌, refl, sym, ap, ap₂, ◌∙◌}
+use Rattle.std.specs.Ordering.{is_eq, is_gt, eq_by_cmp, nat_cmp, ordering_then}
 use Rattle.std.specs.Cmp.{tied_itself}
 use Rattle.std.proofs.lemmas.Cmp.{nat_cmp_total}
 use Rattle.std.specs.Cmp.Lexicographic.{slice_cmp}
@@ -10,7 +10,7 @@ use Rattle.sqlite_value.specs.declared.keys.Key.{Key}
 use Rattle.sqlite_value.specs.Keys.{first_key, ascending}
 use Rattle.sqlite_value.proofs.OrderLemmas.{then-Equal}
 use Rattle.sqlite_sql.specs.declared.ops.BinaryOp.TheVariants.{Compare}
-use Rattle.sqlite_sql.specs.declared.ops.CompareOp.TheVariants.{Eq}
+use Rattle.sqlite_sql.specs.declared.ops.CompareOp.TheVariants.{Eq, Gt}
 use Rattle.sqlite_sql.specs.declared.ops.UnaryOp.TheVariants.{ToNumeric}
 use Rattle.sqlite_sql.specs.Ops.{unary}
 use Rattle.sqlite_schema.specs.Rules.{equal}
@@ -25,9 +25,10 @@ use Rattle.wh_rows.specs.declared.rows.MemberRow.{MemberRow}
 use Rattle.wh_rows.specs.Types.{dim_number}
 use Rattle.wh_rows.specs.Rows.{MemberKey}
 use Rattle.wh_rows.specs.Rows as row
-use Rattle.wh_rows.specs.Meaning.{PutsOne, RemovesOne, ReadsSome}
+use Rattle.wh_rows.specs.Meaning.{PutsOne, RemovesOne, ReadsSome, CountsAll}
+use Rattle.wh_rows.specs.Firsts.{ReadsFirst}
 use Rattle.wh_rows.proofs.Cast.{cast_row_own}
-use Rattle.wh_rows.proofs.Keys.{and-true, trimmed_both, free_rowid, equal-Nat, equal-Text, sorted-Nat, then_eq, equal_is, absorbed}
+use Rattle.wh_rows.proofs.Keys.{and-true, trimmed_both, free_rowid, equal-Nat, equal-Text, sorted-Nat, greater, greater-Nat, then_eq, equal_is, absorbed}
 
 -- ---- put
 
@@ -162,3 +163,78 @@ of_natural dim natural = record {
   shows = λ r. refl;
   in_order = λ v w. ap₂ ordering_then (sorted-Nat (dim_number v.dim) (dim_number w.dim)) (then-Equal _ ∙ sorted-Nat v.durable w.durable);
 }
+
+-- the member of a dimension with the greatest durable key
+abbrev pub greatest_text : List ℕ
+greatest_text = codes "SELECT * FROM member WHERE dim = ?1 ORDER BY dim DESC, durable DESC LIMIT 1"
+
+pub greatest : (dim : Dim) → ReadsFirst row.member (Int (pos (dim_number dim)) ∷ []) (λ r. eq_by_cmp nat_cmp (dim_number dim) (dim_number r.dim)) 1 true greatest_text
+unfolding understood everything unary
+greatest dim = record {
+  tests = op2 (Compare Eq Binary) (col 1 1) (op1 ToNumeric (col 0 0)) ∷ [];
+  project = shown;
+  order = (col 1 1, record { collation = Binary; descending = true }) ∷ (col 1 2, record { collation = Binary; descending = true }) ∷ [];
+  names = map (λ c. c.name) row.member.table.columns;
+  command = refl;
+  plain = (refl, refl);
+  unlisted = refl;
+  test = λ r. equal Binary (column r 0) (Int (pos (dim_number dim))) && true;
+  hits = λ r. refl;
+  agree = λ w. and-true _ ∙ equal-Nat (dim_number w.dim) (dim_number dim);
+  sorted_by = λ r. column r 0 ∷ column r 1 ∷ [];
+  shows = λ r. refl;
+  in_order = λ v w. ap₂ ordering_then (sorted-Nat (dim_number w.dim) (dim_number v.dim)) (then-Equal _ ∙ sorted-Nat w.durable v.durable);
+}
+
+-- the next rows after all of a dimension
+abbrev pub after_text : List ℕ
+after_text = codes "SELECT * FROM member WHERE dim > ?1 ORDER BY dim, durable LIMIT 256"
+
+pub after : (dim : Dim) → ReadsFirst row.member (Int (pos (dim_number dim)) ∷ []) (λ r. is_gt (nat_cmp (dim_number r.dim) (dim_number dim))) 256 false after_text
+unfolding understood everything unary
+after dim = record {
+  tests = op2 (Compare Gt Binary) (col 1 1) (op1 ToNumeric (col 0 0)) ∷ [];
+  project = shown;
+  order = by_key;
+  names = map (λ c. c.name) row.member.table.columns;
+  command = refl;
+  plain = (refl, refl);
+  unlisted = refl;
+  test = λ r. greater (column r 0) (Int (pos (dim_number dim))) && true;
+  hits = λ r. refl;
+  agree = λ w. and-true _ ∙ greater-Nat (dim_number w.dim) (dim_number dim);
+  sorted_by = λ r. column r 0 ∷ column r 1 ∷ [];
+  shows = λ r. refl;
+  in_order = λ v w. ap₂ ordering_then (sorted-Nat (dim_number v.dim) (dim_number w.dim)) (then-Equal _ ∙ sorted-Nat v.durable w.durable);
+}
+
+-- the next rows of that dimension after a key
+abbrev pub rest_text : List ℕ
+rest_text = codes "SELECT * FROM member WHERE dim = ?1 AND durable > ?2 ORDER BY dim, durable LIMIT 256"
+
+pub rest : (k : MemberKey) → ReadsFirst row.member (bind k) (λ r. eq_by_cmp nat_cmp (dim_number k.dim) (dim_number r.dim) && is_gt (nat_cmp r.durable k.durable)) 256 false rest_text
+unfolding understood everything unary
+rest k = record {
+  tests = op2 (Compare Eq Binary) (col 1 1) (op1 ToNumeric (col 0 0)) ∷ op2 (Compare Gt Binary) (col 1 2) (op1 ToNumeric (col 0 1)) ∷ [];
+  project = shown;
+  order = by_key;
+  names = map (λ c. c.name) row.member.table.columns;
+  command = refl;
+  plain = (refl, refl);
+  unlisted = refl;
+  test = λ r. equal Binary (column r 0) (Int (pos (dim_number k.dim))) && (greater (column r 1) (Int (pos k.durable)) && true);
+  hits = λ r. refl;
+  agree = λ w. ap₂ ◌&&◌ (equal-Nat (dim_number w.dim) (dim_number k.dim)) (and-true _ ∙ greater-Nat w.durable k.durable);
+  sorted_by = λ r. column r 0 ∷ column r 1 ∷ [];
+  shows = λ r. refl;
+  in_order = λ v w. ap₂ ordering_then (sorted-Nat (dim_number v.dim) (dim_number w.dim)) (then-Equal _ ∙ sorted-Nat v.durable w.durable);
+}
+
+-- ---- count
+
+abbrev pub count_text : List ℕ
+count_text = codes "SELECT count(*) FROM member"
+
+pub count : CountsAll row.member count_text
+unfolding understood everything
+count = record { names = codes "count(*)" ∷ []; command = refl; plain = (refl, refl); unlisted = refl }

@@ -15,7 +15,7 @@ use Rattle.sqlite.specs.Order.{Row, column}
 use Rattle.sqlite.specs.Term.{Term, lit, col, op2}
 use Rattle.sqlite.specs.Listing.{understood}
 use Rattle.wh_rows.specs.Rows as row
-use Rattle.wh_rows.specs.Meaning.{any, PutsOne, RemovesOne, ReadsSome}
+use Rattle.wh_rows.specs.Meaning.{any, PutsOne, RemovesOne, ReadsSome, CountsAll}
 use Rattle.wh_rows.proofs.Cast.{cast_row_own}
 use Rattle.wh_rows.proofs.Keys.{and-true, trimmed_one, free_rowid, equal-Text}
 
@@ -116,3 +116,12 @@ get k = record {
   shows = λ r. refl;
   in_order = λ v w. then-Equal _ ∙ value_cmp-Text v.name w.name;
 }
+
+-- ---- count
+
+abbrev pub count_text : List ℕ
+count_text = codes "SELECT count(*) FROM meta"
+
+pub count : CountsAll row.meta count_text
+unfolding understood everything
+count = record { names = codes "count(*)" ∷ []; command = refl; plain = (refl, refl); unlisted = refl }

@@ -28,7 +28,7 @@ use Rattle.sqlite.specs.Rows.{mended}
 use Rattle.sqlite.specs.Given.{IsPlain}
 use Rattle.sqlite.specs.Listing.{understood, reads_listing}
 use Rattle.wh_rows.specs.Schema.{warehouse}
-use Rattle.wh_rows.specs.Statements.{reading}
+use Rattle.wh_rows.specs.Statements.{reading, counting}
 use Rattle.wh_rows.specs.Holds.{Layout, values_of, IsRising}
 
 abbrev pub command_of : Result Compiled CompileError → Command
@@ -98,3 +98,10 @@ pub record ReadsSome {K V : Type 0} (layout : Layout K V) (params : Row) (keep :
   pub sorted_by : Row → Row
   pub shows : (r : Row) → ◌≡◌ {A = Output} (output (reading layout.table.tree tests project order) (params ∷ r ∷ [])) (sorted_by (values_of layout.table r), values_of layout.table r)
   pub in_order : (v w : V) → output_cmp (reading layout.table.tree tests project order) (sorted_by (layout.encode v), layout.encode v) (sorted_by (layout.encode w), layout.encode w) ≡ layout.order (layout.key v) (layout.key w)
+
+-- what a text has to mean, to count the rows of a table
+pub record CountsAll {K V : Type 0} (layout : Layout K V) (text : List ℕ) : Type 0 where
+  pub names : List (List ℕ)
+  pub command : command_of (understood warehouse text) ≡ Select (record { lets = []; body = counting layout.table.tree [] }) names
+  pub plain : IsPlain (understood warehouse text)
+  pub unlisted : reads_listing warehouse text ≡ false
