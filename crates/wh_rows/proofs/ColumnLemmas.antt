@@ -1,9 +1,9 @@
 -- What the columns of a row are read as.
-use Rattle.std.proofs.Common.{◌≡◌, ◌≤◌, ◌<◌, ◌+◌, ◌⊎◌, arith, ℕ, ℤ, zero, suc, pos, negsuc, Bool, true, false, ◌&&◌, ◌||◌, ◌==◌, not, List, [], ◌∷◌, length, map, slice_index_or, Option, Some, None, Ok, Err, Result, inl, inr, refl, sym, ap, subst, ◌∙◌}
+use Rattle.std.proofs.Common.{◌≡◌, ◌<◌, ◌+◌, ◌⊎◌, arith, ℕ, ℤ, zero, suc, pos, negsuc, Bool, true, false, ◌&&◌, ◌||◌, ◌==◌, not, List, [], ◌∷◌, length, map, slice_index_or, Some, None, Ok, Err, Result, inl, inr, refl, sym, ap, subst, ◌∙◌}
 use Rattle.std.specs.Prelude.{if◌then◌else◌, nat_lt}
 use Rattle.std.specs.List.{list_all, list_any, range_with_len, AllByRecursion}
-use Rattle.std.specs.Str.{is_utf8, IsUtf8, IsAscii}
-use Rattle.std.proofs.lemmas.Bool.{and_parts, cases_Bool, eqb-true}
+use Rattle.std.specs.Str.{is_utf8, IsAscii}
+use Rattle.std.proofs.lemmas.Bool.{and_parts, eqb-true}
 use Rattle.std.proofs.lemmas.Bool.Decides.{nat_tests}
 use Rattle.std.proofs.lemmas.Str.{IsUtf8-from_ascii, is_utf8-from_IsUtf8}
 use Rattle.std.proofs.lemmas.List.{ext_get_or}
@@ -12,21 +12,19 @@ use Rattle.sqlite_value.specs.declared.value.Value.{Value}
 use Rattle.sqlite_value.specs.declared.value.Value.TheVariants.{Null, Int, Real, Text, Blob}
 use Rattle.sqlite.specs.Order.{Row, column}
 use Rattle.wh_day.specs.Day.{is_day}
-use Rattle.wh_day.specs.Value.{read_value, is_plain, is_printed, none_text, unknown_text, no_card_text}
+use Rattle.wh_day.specs.Value.{read_value, is_plain, none_text, unknown_text, no_card_text}
 use Rattle.wh_day.specs.Reading.{◌>>=◌}
 use Rattle.wh_policy.specs.declared.attribute.Dim.{Dim}
 use Rattle.wh_policy.specs.declared.attribute.Dim.TheVariants.{Product, Store, Customer}
 use Rattle.wh_policy.proofs.WrittenLemmas.{same_bytes}
 use Rattle.std.specs.Str.{bytes_eq}
 use Rattle.wh_rows.specs.declared.columns.Damaged.{Damaged}
+use Rattle.wh_rows.proofs.Edits.{same_value}
 use Rattle.wh_rows.specs.Types.{is_number, is_line, is_measure, is_key_byte, is_key, is_kind, kinds, is_special, is_given, is_slot, are_slots, dim_number}
 use Rattle.wh_rows.specs.Rows.{flag, slot_column, is_natural}
 use Rattle.wh_rows.specs.Columns.{damaged, of_type, or_damaged, integer_of, number_of, line_of, measure_of, day_of, flag_of, dim_of, blob_of, text_of, tested_of, slot_of, slots_of}
 
 -- ---- reading in steps
-
-pub same_value : {A E : Type 0} {a b : A} → ◌≡◌ {A = Result A E} (Ok a) (Ok b) → a ≡ b
-same_value e = cc
 
 pub bind_ok : {A B : Type 0} (m : Result A Damaged) (f : A → Result B Damaged) (y : B) → (m >>= f) ≡ Ok y → (x : A) × (m ≡ Ok x) × (f x ≡ Ok y)
 bind_ok (Ok x) f y h = (x, refl, h)

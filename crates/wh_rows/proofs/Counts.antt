@@ -1,25 +1,22 @@
 -- Counting the rows of one table.
-use Rattle.std.proofs.Common.{◌≡◌, ℕ, pos, negsuc, List, [], ◌∷◌, map, filter, length, false, cond, Some, refl, sym, ap, subst, ◌∙◌, codes}
+use Rattle.std.proofs.Common.{◌≡◌, ℕ, List, [], ◌∷◌, map, filter, length, false, cond, Some, refl, sym, ap, subst, ◌∙◌}
 use Rattle.std.specs.List.{AllZip, flat_map, list_all}
 use Rattle.std.specs.List.Sorted.{IsPermutation}
 use Rattle.std.specs.FinMap.{FinMap, entries, values, len, len-entries}
 use Rattle.std.proofs.lemmas.List.Sorted.{length_permutation}
-use Rattle.sqlite_value.specs.declared.value.Value.TheVariants.{Null, Int}
-use Rattle.sqlite_sql.specs.declared.aggregate.AggregateOp.TheVariants.{CountRows}
+use Rattle.sqlite_value.specs.declared.value.Value.TheVariants.{Null}
 use Rattle.sqlite_sql.specs.Aggregate.{count}
 use Rattle.std.proofs.lemmas.List.{length-map}
-use Rattle.sqlite_sql.specs.Group.{Aggregate, Grouping, IsSummary, value_over}
-use Rattle.sqlite.specs.Collation.TheVariants.{Binary}
+use Rattle.sqlite_sql.specs.Group.{IsSummary, value_over}
 use Rattle.sqlite.specs.Order.{Row}
 use Rattle.sqlite.specs.Tree.{Trees}
-use Rattle.sqlite.specs.Term.{Term, Env, eval, holds, lit, col}
-use Rattle.sqlite.specs.Query.{Query, Output, inner, end, output, IsAnswerAs}
+use Rattle.sqlite.specs.Term.{Term, Env, eval, holds, lit}
+use Rattle.sqlite.specs.Query.{Output, output, IsAnswerAs}
 use Rattle.sqlite.specs.Program.{overlay, IsProgramAnswer}
 use Rattle.sqlite.specs.Command.TheVariants.{Select}
 use Rattle.sqlite.specs.Listing.{understood, reads_listing}
 use Rattle.sqlite.specs.State.{State, Shown}
 use Rattle.sqlite.proofs.Callers.{IsPlain, command_of, reads_as, one_permutation}
-use Rattle.sqlite_tied.specs.Compute.{everything}
 use Rattle.wh_rows.specs.Schema.{warehouse}
 use Rattle.wh_rows.specs.Statements.{counted, grouping, counting}
 use Rattle.wh_rows.specs.Holds.{Layout, values_of, Holds}

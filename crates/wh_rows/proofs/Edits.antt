@@ -1,5 +1,5 @@
 -- What a statement that writes makes of a table.
-use Rattle.std.proofs.Common.{◌≡◌, ◌≢◌, ◌⊎◌, inl, inr, ℕ, ℤ, List, [], ◌∷◌, filter, slice_get, Bool, true, false, not, cond, ◌&&◌, ◌||◌, None, Some, Ok, Err, Option, Result, refl, sym, ap, subst, subst₂, ◌∙◌, Less, Equal, Greater, Ordering}
+use Rattle.std.proofs.Common.{◌≡◌, ◌≢◌, ◌⊎◌, inl, inr, ℕ, ℤ, List, [], ◌∷◌, filter, slice_get, Bool, true, false, not, cond, ◌&&◌, ◌||◌, None, Some, Ok, Err, Option, Result, refl, sym, ap, subst, subst₂, ◌∙◌, Equal}
 use Rattle.std.specs.List.{AllByRecursion, list_any}
 use Rattle.std.specs.List.Sorted.{IsPermutation}
 use Rattle.std.specs.Ordering.{is_eq}
@@ -33,14 +33,10 @@ use Rattle.wh_rows.specs.Statements.{reading}
 use Rattle.wh_rows.specs.Change.{ChangesOnly}
 use Rattle.wh_rows.specs.Holds.{IsRising}
 use Rattle.wh_rows.proofs.Answers.{map-map, is_read}
+use Rattle.wh_rows.proofs.Keys.{equal_is}
 use Rattle.wh_rows.specs.Meaning.{passes}
 
 -- ---- rowids
-
-equal_is : (o : Ordering) → is_eq o ≡ true → o ≡ Equal
-equal_is Less h = absurd (cc)
-equal_is Equal h = refl
-equal_is Greater h = absurd (cc)
 
 pub filter_all : {X : Type 0} (xs : List X) → filter (λ _. true) xs ≡ xs
 filter_all [] = refl

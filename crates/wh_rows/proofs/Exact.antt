@@ -1,5 +1,5 @@
 -- A stored row is read exactly where it is a row of the table with values of their types.
-use Rattle.std.proofs.Common.{◌≡◌, ◌≢◌, ℕ, ℤ, pos, Bool, true, false, ◌&&◌, ◌==◌, List, [], ◌∷◌, length, Ok, Err, Result, IfOk, IfErr, refl, sym, ap, ap₂, subst, ◌∙◌}
+use Rattle.std.proofs.Common.{◌≡◌, ◌≢◌, Bool, true, ◌&&◌, ◌==◌, ◌∷◌, length, Ok, Err, Result, IfOk, IfErr, refl, sym, ap, ap₂, subst, ◌∙◌}
 use Rattle.std.specs.Prelude.{IsTrue}
 use Rattle.std.specs.Str.{is_utf8}
 use Rattle.std.proofs.lemmas.Bool.{and_parts, eqb-true}
@@ -23,7 +23,8 @@ use Rattle.wh_rows.specs.Types.{is_number, is_line, is_measure, is_key, is_kind,
 use Rattle.wh_rows.specs.Rows.{encode_meta, encode_command, encode_member, encode_change, encode_dimension, encode_profile, encode_date, encode_fact, is_meta, is_command, is_member, is_change, is_natural, is_dimension, is_profile, is_date, is_fact}
 use Rattle.wh_rows.specs.Columns.{integer_of, number_of, line_of, measure_of, day_of, flag_of, dim_of, blob_of, text_of, tested_of, slots_of}
 use Rattle.wh_rows.specs.Stored.{meta_columns, command_columns, member_columns, change_columns, dimension_columns, profile_columns, date_columns, fact_columns, meta_of, command_of, member_of, change_of, dimension_of, profile_of, date_of, fact_of}
-use Rattle.wh_rows.proofs.ColumnLemmas.{when_ok, bind_ok, bind_is, same_value, both, whole, integer_so, integer_is, number_so, number_is, line_so, line_is, measure_so, measure_is, day_so, day_is, flag_so, flag_is, dim_so, dim_is, blob_so, blob_is, text_so, text_is, tested_so, tested_is, key_text, kind_text, natural_text, slots_so, slots_is}
+use Rattle.wh_rows.proofs.Edits.{same_value}
+use Rattle.wh_rows.proofs.ColumnLemmas.{when_ok, bind_ok, bind_is, both, whole, integer_so, integer_is, number_so, number_is, line_so, line_is, measure_so, measure_is, day_so, day_is, flag_so, flag_is, dim_so, dim_is, blob_so, blob_is, text_so, text_is, tested_so, tested_is, key_text, kind_text, natural_text, slots_so, slots_is}
 
 -- what a function that reads gives, by what it reads
 module _ {V : Type 0} (of : Row → Result V Damaged) (encode : V → Row) (is_valid : V → Bool)

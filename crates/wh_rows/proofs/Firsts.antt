@@ -1,5 +1,5 @@
 -- Reading the first rows of an answer.
-use Rattle.std.proofs.Common.{◌≡◌, ℕ, List, [], ◌∷◌, map, filter, take, reverse, Bool, true, false, T, refl, sym, ap, subst, ◌∙◌, Ordering, Less}
+use Rattle.std.proofs.Common.{◌≡◌, ℕ, List, [], ◌∷◌, map, filter, take, Bool, true, false, sym, ap, subst, ◌∙◌, Ordering, Less}
 use Rattle.std.specs.List.Sorted.{IsPermutation, IsSorted}
 use Rattle.std.specs.FinMap.{FinMap, entries, values, entries_sorted}
 use Rattle.std.proofs.lemmas.List.Sorted.{IsPermutation-map, IsPermutation-trans, IsPermutation-sym, IsPermutation-reverse}

@@ -1,5 +1,5 @@
 -- Making the ten tables and their indexes.
-use Rattle.std.proofs.Common.{◌≡◌, ℕ, codes, List, [], ◌∷◌, ◌++◌, map, length, slice_get, arith, Ordering, inl, inr, None, Some, Ok, false, refl, sym, ap, subst, ◌∙◌}
+use Rattle.std.proofs.Common.{◌≡◌, ℕ, codes, List, [], ◌∷◌, ◌++◌, map, length, arith, Ordering, inl, inr, None, Ok, false, refl, sym, ap, subst, ◌∙◌}
 use Rattle.std.specs.Prelude.{IsTrue}
 use Rattle.std.specs.List.{AllByRecursion}
 use Rattle.std.specs.List.Sorted.{IsPermutation}
@@ -9,14 +9,13 @@ use Rattle.sqlite.specs.Table.{Table}
 use Rattle.sqlite.specs.Tree.{Trees}
 use Rattle.sqlite.specs.Schema.{Schema}
 use Rattle.sqlite.specs.Change.{created, indexed, next_tree, KeepsRows}
-use Rattle.sqlite.specs.Compile.{table_defined_by, index_defined_by}
 use Rattle.sqlite.specs.Command.TheVariants.{CreateTable, CreateIndex}
 use Rattle.sqlite.specs.Effect.{Database, IsDatabase}
 use Rattle.sqlite.specs.Does.{Tally, Does, AtPlace, Defines, lacks_sequence}
 use Rattle.sqlite.specs.Does.{MakesIndex as MadeIndex}
 use Rattle.sqlite.specs.Listing.{understood}
 use Rattle.sqlite.specs.State.{State, Executes, Writes, mode_of}
-use Rattle.sqlite.proofs.Callers.{IsPlain, command_of, statement_of, runs_as}
+use Rattle.sqlite.proofs.Callers.{runs_as}
 use Rattle.sqlite_schema.specs.declared.schema.Index.{Index}
 use Rattle.sqlite_tied.specs.Compute.{everything}
 use Rattle.wh_rows.specs.Schema as schema
@@ -300,24 +299,80 @@ extended from text to (inr it) old new count has none ran =
 
 -- the texts make the warehouse in a database with no object
 pub makes_all : Leads no_schema making_texts warehouse
-makes_all =
-    (with_1, inl makes_meta,
-    (with_2, inl makes_command,
-    (with_3, inl makes_member,
-    (with_4, inl makes_change,
-    (with_5, inl makes_product,
-    (with_6, inl makes_store,
-    (with_7, inl makes_customer,
-    (with_8, inl makes_profile,
-    (with_9, inl makes_calendar,
-    (with_10, inl makes_fact,
-    (with_11, inr makes_change_by_member,
-    (with_12, inr makes_change_by_anchor,
-    (with_13, inr makes_product_by_durable,
-    (with_14, inr makes_store_by_durable,
-    (with_15, inr makes_customer_by_durable,
-    (with_16, inr makes_fact_by_store,
-    (with_17, inr makes_fact_by_product,
-    (with_18, inr makes_fact_by_customer,
-    (with_19, inr makes_profile_by_values,
-    all_made)))))))))))))))))))
+makes_all = (
+  with_1,
+  inl makes_meta,
+  (
+    with_2,
+    inl makes_command,
+    (
+      with_3,
+      inl makes_member,
+      (
+        with_4,
+        inl makes_change,
+        (
+          with_5,
+          inl makes_product,
+          (
+            with_6,
+            inl makes_store,
+            (
+              with_7,
+              inl makes_customer,
+              (
+                with_8,
+                inl makes_profile,
+                (
+                  with_9,
+                  inl makes_calendar,
+                  (
+                    with_10,
+                    inl makes_fact,
+                    (
+                      with_11,
+                      inr makes_change_by_member,
+                      (
+                        with_12,
+                        inr makes_change_by_anchor,
+                        (
+                          with_13,
+                          inr makes_product_by_durable,
+                          (
+                            with_14,
+                            inr makes_store_by_durable,
+                            (
+                              with_15,
+                              inr makes_customer_by_durable,
+                              (
+                                with_16,
+                                inr makes_fact_by_store,
+                                (
+                                  with_17,
+                                  inr makes_fact_by_product,
+                                  (
+                                    with_18,
+                                    inr makes_fact_by_customer,
+                                    (
+                                      with_19,
+                                      inr makes_profile_by_values,
+                                      all_made,
+                                    ),
+                                  ),
+                                ),
+                              ),
+                            ),
+                          ),
+                        ),
+                      ),
+                    ),
+                  ),
+                ),
+              ),
+            ),
+          ),
+        ),
+      ),
+    ),
+  ),
+)

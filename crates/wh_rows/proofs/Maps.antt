@@ -158,6 +158,7 @@ module _ {K V : Type 0} (R : K → K → Ordering) (total : IsTotalOrder R) (key
     where
       parts : (below_all R e.0 es ≡ true) × T (is_sorted R es)
       parts = both_true _ _ sorted
+
       go : (o : Ordering) → R k e.0 ≡ o → filter (λ v. eq_by_cmp R k (key v)) (map (λ e. e.1) es) ≡ option_to_list (find R k es)
           → cond (is_eq o) (e.1 ∷ filter (λ v. eq_by_cmp R k (key v)) (map (λ e. e.1) es)) (filter (λ v. eq_by_cmp R k (key v)) (map (λ e. e.1) es)) ≡ option_to_list (cond (is_eq o) (Some e.1) (find R k es))
       go Less is rest = rest

@@ -1,6 +1,5 @@
 -- Tables and their names.
-use Rattle.std.proofs.Common.{◌≡◌, ℕ, List, Option, Some, None, IfSome, true, refl, sym}
-use Rattle.std.specs.List.{find}
+use Rattle.std.proofs.Common.{◌≡◌, ℕ, List, Option, Some, None, IfSome, refl, sym}
 use Rattle.std.specs.Str.{bytes_eq}
 use Rattle.wh_policy.proofs.WrittenLemmas.{same_bytes}
 use Rattle.wh_history.proofs.Basics.{find_passes}

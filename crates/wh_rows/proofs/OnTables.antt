@@ -1,20 +1,26 @@
 -- What the statements on a table make of the ten tables, and what they show.
-use Rattle.std.proofs.Common.{◌≡◌, ◌≢◌, ℕ, List, [], ◌∷◌, map, filter, length, Bool, true, false, cond, Ok, Option, refl, sym, ap, subst, ◌∙◌}
+use Rattle.std.proofs.Common.{◌≡◌, ℕ, List, [], ◌∷◌, map, filter, take, reverse, zero, suc, Bool, true, false, cond, Ok, refl, ap, ◌∙◌}
 use Rattle.std.specs.Prelude.{IsTrue}
 use Rattle.std.specs.List.{list_all}
 use Rattle.std.specs.Ordering.{eq_by_cmp}
 use Rattle.std.specs.Option.{option_to_list}
-use Rattle.std.specs.FinMap.{FinMap, entries, values, get, insert, remove}
+use Rattle.std.specs.FinMap.{FinMap, entries, values, get, insert, remove, len}
 use Rattle.std.specs.List.{AllByRecursion}
 use Rattle.sqlite.specs.Order.{Row}
-use Rattle.sqlite.specs.Listing.{understood}
 use Rattle.sqlite.specs.State.{State, Executes, IsUnchanged, Survives, Shown, CommitsShowing}
 use Rattle.sqlite_rules.specs.Lists.{Has}
 use Rattle.wh_rows.specs.Schema.{warehouse}
 use Rattle.wh_rows.specs.Holds.{Layout}
 use Rattle.wh_rows.specs.Place.{IsPlaced}
 use Rattle.wh_rows.specs.Tables.{Tables, Stores}
-use Rattle.wh_rows.specs.Meaning.{PutsOne, RemovesOne, ReadsSome}
+use Rattle.wh_rows.specs.Meaning.{PutsOne, RemovesOne, ReadsSome, CountsAll}
+use Rattle.wh_rows.specs.Firsts.{from_end, ReadsFirst}
+use Rattle.sqlite_sql.specs.Aggregate.{count as number_of_rows}
+use Rattle.std.specs.List.{take-map}
+use Rattle.std.proofs.lemmas.Grind.{reverse_onto}
+use Rattle.std.proofs.lemmas.List.Folds.{list_all-append}
+use Rattle.wh_rows.proofs.Firsts.{reads_first}
+use Rattle.wh_rows.proofs.Counts.{counts_rows}
 use Rattle.std.proofs.lemmas.Bool.{and_parts}
 use Rattle.wh_rows.proofs.ColumnLemmas.{both}
 use Rattle.wh_rows.proofs.Maps.{filter-get}
@@ -62,6 +68,23 @@ module _ {K V : Type 0} (layout : Layout K V) (rows : Tables → FinMap layout.o
       answer_is params (λ r. eq_by_cmp layout.order k (layout.key r)) reads answer t stored shown
       ∙ ap (map layout.encode) (filter-get layout.order placed.total layout.key (rows t) k (placed.held old.now t stored).keyed)
 
+  -- the first rows that are kept, in order of their keys, from either end
+  module _ (params : Row) (keep : V → Bool) (most : ℕ) (backwards : Bool) (reads : ReadsFirst layout params keep most backwards text) where
+    pub first_is : (answer : List Row) (t : Tables) → Stores old.now t → Shown text params old new answer → answer ≡ map layout.encode (take most (from_end backwards (filter keep (values (rows t)))))
+    first_is answer t stored shown =
+        reads_first layout params keep most backwards text reads old new answer stored.schema shown (rows t) (placed.held old.now t stored)
+        ∙ take-map layout.encode most (from_end backwards (filter keep (values (rows t))))
+
+    pub first_keeps : (answer : List Row) → old.now.schema ≡ warehouse → Shown text params old new answer → IsUnchanged old new
+    first_keeps answer is shown = query_keeps text params old new is reads.plain answer shown
+
+    pub first_commits_nothing : old.now.schema ≡ warehouse → Survives old new (CommitsShowing text params old) → Survives old new (λ _. ⊥)
+    first_commits_nothing is = query_commits_nothing text params old new is reads.plain
+
+  -- how many rows there are
+  pub count_is : CountsAll layout text → (answer : List Row) (t : Tables) → Stores old.now t → Shown text [] old new answer → answer ≡ (number_of_rows (len (rows t)) ∷ []) ∷ []
+  count_is counts answer t stored shown = counts_rows layout text counts.names old new answer counts.command counts.plain counts.unlisted stored.schema shown (rows t) (placed.held old.now t stored)
+
 -- ---- a table's rows are valid
 
 valid_rows : {K V : Type 0} (is_valid : V → Bool) (es : List (K × V)) → AllByRecursion (λ e. IsTrue (is_valid e.1)) es → list_all is_valid (map (λ e. e.1) es) ≡ true
@@ -83,3 +106,24 @@ kept_rows is_valid keep (v ∷ vs) h = go (keep v) (kept_rows is_valid keep vs p
 pub valid_answer : {K V : Type 0} (layout : Layout K V) (rows : Tables → FinMap layout.order V) (with_rows : FinMap layout.order V → Tables → Tables) → IsPlaced layout rows with_rows → (keep : V → Bool)
     (state : State) (t : Tables) → Stores state.now t → IsTrue (list_all layout.is_valid (filter keep (values (rows t))))
 valid_answer layout rows with_rows placed keep state t stored = kept_rows layout.is_valid keep (values (rows t)) (valid_rows layout.is_valid (entries (rows t)) (placed.held state.now t stored).valid)
+
+first_rows : {V : Type 0} (is_valid : V → Bool) (most : ℕ) (vs : List V) → list_all is_valid vs ≡ true → list_all is_valid (take most vs) ≡ true
+first_rows is_valid zero vs h = refl
+first_rows is_valid (suc most) [] h = refl
+first_rows is_valid (suc most) (v ∷ vs) h = let parts = and_parts (is_valid v) (list_all is_valid vs) h in both parts.0 (first_rows is_valid most vs parts.1)
+
+reversed_rows : {V : Type 0} (is_valid : V → Bool) (vs : List V) → list_all is_valid vs ≡ true → list_all is_valid (reverse vs) ≡ true
+reversed_rows is_valid [] h = refl
+reversed_rows is_valid (v ∷ vs) h =
+    let parts = and_parts (is_valid v) (list_all is_valid vs) h in
+    ap (list_all is_valid) (reverse_onto vs v []) ∙ list_all-append is_valid (reverse vs) (v ∷ []) ∙ both (reversed_rows is_valid vs parts.1) (both parts.0 refl)
+
+end_rows : {V : Type 0} (is_valid : V → Bool) (backwards : Bool) (vs : List V) → list_all is_valid vs ≡ true → list_all is_valid (from_end backwards vs) ≡ true
+end_rows is_valid true vs h = reversed_rows is_valid vs h
+end_rows is_valid false vs h = h
+
+pub valid_first : {K V : Type 0} (layout : Layout K V) (rows : Tables → FinMap layout.order V) (with_rows : FinMap layout.order V → Tables → Tables) → IsPlaced layout rows with_rows → (keep : V → Bool)
+    (most : ℕ) (backwards : Bool) (state : State) (t : Tables) → Stores state.now t → IsTrue (list_all layout.is_valid (take most (from_end backwards (filter keep (values (rows t))))))
+valid_first layout rows with_rows placed keep most backwards state t stored =
+    first_rows layout.is_valid most (from_end backwards (filter keep (values (rows t))))
+    (end_rows layout.is_valid backwards (filter keep (values (rows t))) (valid_answer layout rows with_rows placed keep state t stored))

@@ -1,9 +1,5 @@
 -- What a query of the warehouse leaves, and its rows as rows of a type.
-use Rattle.std.proofs.Common.{◌≡◌, ℕ, ℤ, pos, List, [], ◌∷◌, map, Bool, true, false, not, Ok, Err, Result, IfOk, OnOk, refl, sym, ap₂, subst, ◌∙◌}
-use Rattle.std.specs.List.{AllZip}
-use Rattle.std.specs.Ordering.{int_eq}
-use Rattle.std.specs.Prelude.{if◌then◌else◌}
-use Rattle.sqlite_value.specs.declared.value.Value.TheVariants.{Int, Text}
+use Rattle.std.proofs.Common.{◌≡◌, ℕ, List, Ok, Err, Result, IfOk, OnOk, sym, subst}
 use Rattle.sqlite.specs.Order.{Row}
 use Rattle.sqlite.specs.Listing.{understood}
 use Rattle.sqlite.specs.State.{State, IsUnchanged, Survives, Shown, ShowsRows, CommitsShowing}

@@ -1,5 +1,5 @@
 -- Reading rows one after the other.
-use Rattle.std.proofs.Common.{◌≡◌, ◌≢◌, ℕ, ◌+◌, ◌<◌, ◌≤◌, Bool, true, ◌&&◌, List, [], ◌∷◌, ◌++◌, length, map, drop, get_or, refl, sym, ap, ap₂, subst, ◌∙◌}
+use Rattle.std.proofs.Common.{◌≡◌, ◌≢◌, ℕ, ◌+◌, ◌<◌, ◌≤◌, Bool, true, List, [], ◌∷◌, ◌++◌, length, map, drop, get_or, refl, sym, ap, ◌∙◌}
 use Rattle.std.specs.List.{list_all}
 use Rattle.std.proofs.lemmas.Bool.{and_parts}
 use Rattle.std.proofs.lemmas.List.{drop_more, drop_all}
@@ -15,7 +15,7 @@ module _ {V C : Type 0} (encode : V → C) (is_valid : V → Bool) where
       → (list_all is_valid read ≡ true) × (rows ≡ map encode read ++ drop i rows) → (list_all is_valid (read ++ v ∷ []) ≡ true) × (rows ≡ map encode (read ++ v ∷ []) ++ drop (i + 1) rows)
   one_more rows i read d v lt valid is h = (
     list_all-append is_valid read (v ∷ []) ∙ both h.0 (both valid refl),
-    h.1 ∙ ap (λ l. map encode read ++ l) (drop_more rows i d lt ∙ ap (λ c. c ∷ drop (i + 1) rows) is) ∙ shifted read v (drop (i + 1) rows)
+    h.1 ∙ ap (λ l. map encode read ++ l) (drop_more rows i d lt ∙ ap (λ c. c ∷ drop (i + 1) rows) is) ∙ shifted read v (drop (i + 1) rows),
   )
 
   pub all_read : (rows : List C) (i : ℕ) (read : List V) → length rows ≤ i → rows ≡ map encode read ++ drop i rows → rows ≡ map encode read

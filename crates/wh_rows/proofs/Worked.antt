@@ -1,21 +1,12 @@
 -- The definitions on stored rows whose readings are known: each lemma computes.
-use Rattle.std.specs.Prelude.{ℕ, ℤ, Bool, true, false, pos, negsuc, codes, replicate, List, [], ◌∷◌, ◌++◌, Result, Ok, Some, None}
+use Rattle.std.specs.Prelude.{true, false, pos, negsuc, codes, replicate, [], ◌∷◌, Ok, Some, None}
 use Rattle.std.proofs.Common.{◌≡◌, refl}
-use Rattle.sqlite_value.specs.declared.value.Value.TheVariants.{Null, Int, Real, Text, Blob}
-use Rattle.sqlite.specs.Order.{Row}
-use Rattle.wh_day.specs.declared.calendar.DateRow.{DateRow}
+use Rattle.sqlite_value.specs.declared.value.Value.TheVariants.{Null, Int, Text, Blob}
 use Rattle.wh_policy.specs.declared.attribute.Dim.TheVariants.{Product, Store, Customer}
-use Rattle.wh_history.specs.declared.rows.DimRow.{DimRow}
-use Rattle.wh_history.specs.declared.facts.Fact.{Fact}
-use Rattle.wh_rows.specs.declared.rows.MetaRow.{MetaRow}
-use Rattle.wh_rows.specs.declared.rows.CommandRow.{CommandRow}
-use Rattle.wh_rows.specs.declared.rows.MemberRow.{MemberRow}
-use Rattle.wh_rows.specs.declared.rows.ChangeRow.{ChangeRow}
-use Rattle.wh_rows.specs.declared.rows.ProfileRow.{ProfileRow}
 use Rattle.wh_rows.specs.Names.{table_named}
 use Rattle.wh_rows.specs.declared.table.Table.TheVariants.{Fact as FactTable}
 use Rattle.wh_rows.specs.Limits.{limits_of, greatest_limits}
-use Rattle.wh_rows.specs.Types.{is_key, is_kind, is_slot}
+use Rattle.wh_rows.specs.Types.{is_key, is_kind}
 use Rattle.wh_rows.specs.Columns.{damaged, integer_of, number_of, line_of, measure_of, day_of, flag_of, dim_of, blob_of, text_of, slot_of}
 use Rattle.wh_rows.specs.Stored.{meta_of, command_of, member_of, change_of, dimension_of, profile_of, date_of, fact_of}
 use Rattle.wh_rows.proofs.OnLiterals.{rows_on_literals}

@@ -1,5 +1,5 @@
 -- What a stored value is read as, by the type of its column.
-use Rattle.std.specs.Prelude.{ℕ, ◌+◌, ℤ, pos, Bool, true, false, ◌&&◌, ◌||◌, ◌==◌, if◌then◌else◌, codes, List, [], ◌∷◌, Option, Some, None, Result, Ok, Err, bytes_eq}
+use Rattle.std.specs.Prelude.{ℕ, ◌+◌, ℤ, pos, Bool, true, false, ◌==◌, if◌then◌else◌, List, [], ◌∷◌, Option, Some, None, Result, Ok, Err}
 use Rattle.std.specs.Str.{is_utf8}
 use Rattle.sqlite_value.specs.declared.value.Value.{Value}
 use Rattle.sqlite_value.specs.declared.value.Value.TheVariants.{Int, Text, Blob}
@@ -10,8 +10,7 @@ use Rattle.wh_day.specs.Reading.{◌>>=◌}
 use Rattle.wh_policy.specs.declared.attribute.Dim.{Dim}
 use Rattle.wh_policy.specs.declared.attribute.Dim.TheVariants.{Product, Store, Customer}
 use Rattle.wh_rows.specs.declared.columns.Damaged.{Damaged}
-use Rattle.wh_rows.specs.Types.{is_number, is_line, is_measure, is_key, is_kind, is_special}
-use Rattle.wh_rows.specs.Rows.{is_natural}
+use Rattle.wh_rows.specs.Types.{is_number, is_line, is_measure, is_special}
 
 -- not a value of the type
 abbrev pub damaged : {A : Type 0} → Result A Damaged

@@ -255,20 +255,20 @@ abbrev pub warehouse : Schema
 warehouse = record {
   tables = meta ∷ command ∷ member ∷ change ∷ product ∷ store ∷ customer ∷ profile ∷ calendar ∷ fact ∷ [];
   indexes = index (codes "sqlite_autoindex_meta_1") 1 0 (1 ∷ []) true
-    ∷ index (codes "sqlite_autoindex_command_1") 3 2 (2 ∷ []) true
-    ∷ index (codes "sqlite_autoindex_member_1") 5 4 (1 ∷ 2 ∷ []) true
-    ∷ index (codes "sqlite_autoindex_member_2") 6 4 (1 ∷ 3 ∷ []) true
-    ∷ index (codes "sqlite_autoindex_change_1") 8 7 (1 ∷ 2 ∷ []) true
-    ∷ index (codes "sqlite_autoindex_fact_1") 15 14 (1 ∷ 2 ∷ []) true
-    ∷ index (codes "change_by_member") 16 7 (3 ∷ 4 ∷ []) false
-    ∷ index (codes "change_by_anchor") 17 7 (3 ∷ 6 ∷ []) false
-    ∷ index (codes "product_by_durable") 18 9 (2 ∷ []) false
-    ∷ index (codes "store_by_durable") 19 10 (2 ∷ []) false
-    ∷ index (codes "customer_by_durable") 20 11 (2 ∷ []) false
-    ∷ index (codes "fact_by_store") 21 14 (7 ∷ 3 ∷ []) false
-    ∷ index (codes "fact_by_product") 22 14 (8 ∷ 3 ∷ []) false
-    ∷ index (codes "fact_by_customer") 23 14 (9 ∷ 3 ∷ []) false
-    ∷ index (codes "profile_by_values") 24 12 (2 ∷ 3 ∷ 4 ∷ 5 ∷ 6 ∷ 7 ∷ []) false ∷ [];
+      ∷ index (codes "sqlite_autoindex_command_1") 3 2 (2 ∷ []) true
+      ∷ index (codes "sqlite_autoindex_member_1") 5 4 (1 ∷ 2 ∷ []) true
+      ∷ index (codes "sqlite_autoindex_member_2") 6 4 (1 ∷ 3 ∷ []) true
+      ∷ index (codes "sqlite_autoindex_change_1") 8 7 (1 ∷ 2 ∷ []) true
+      ∷ index (codes "sqlite_autoindex_fact_1") 15 14 (1 ∷ 2 ∷ []) true
+      ∷ index (codes "change_by_member") 16 7 (3 ∷ 4 ∷ []) false
+      ∷ index (codes "change_by_anchor") 17 7 (3 ∷ 6 ∷ []) false
+      ∷ index (codes "product_by_durable") 18 9 (2 ∷ []) false
+      ∷ index (codes "store_by_durable") 19 10 (2 ∷ []) false
+      ∷ index (codes "customer_by_durable") 20 11 (2 ∷ []) false
+      ∷ index (codes "fact_by_store") 21 14 (7 ∷ 3 ∷ []) false
+      ∷ index (codes "fact_by_product") 22 14 (8 ∷ 3 ∷ []) false
+      ∷ index (codes "fact_by_customer") 23 14 (9 ∷ 3 ∷ []) false
+      ∷ index (codes "profile_by_values") 24 12 (2 ∷ 3 ∷ 4 ∷ 5 ∷ 6 ∷ 7 ∷ []) false ∷ [];
   views = [];
 }
 

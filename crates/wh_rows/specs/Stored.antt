@@ -1,5 +1,5 @@
 -- What a stored row is read as: a row of the table, where it has the columns and each value is of its type.
-use Rattle.std.specs.Prelude.{ℕ, ◌==◌, if◌then◌else◌, length, Result, Ok}
+use Rattle.std.specs.Prelude.{◌==◌, if◌then◌else◌, length, Result, Ok}
 use Rattle.sqlite.specs.Order.{Row, column}
 use Rattle.wh_day.specs.Reading.{◌>>=◌}
 use Rattle.wh_day.specs.declared.calendar.DateRow.{DateRow}

@@ -12,7 +12,7 @@ use Rattle.wh_rows.specs.declared.rows.MemberRow.{MemberRow}
 use Rattle.wh_rows.specs.declared.rows.ChangeRow.{ChangeRow}
 use Rattle.wh_rows.specs.declared.rows.ProfileRow.{ProfileRow}
 use Rattle.wh_rows.specs.Schema.{warehouse}
-use Rattle.wh_rows.specs.Holds.{Layout, Holds, IsRising}
+use Rattle.wh_rows.specs.Holds.{Holds, IsRising}
 use Rattle.wh_rows.specs.Rows as row
 
 -- each table, from its keys to its rows

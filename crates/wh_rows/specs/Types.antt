@@ -1,5 +1,5 @@
 -- Which values are of the types of the columns.
-use Rattle.std.specs.Prelude.{ℕ, ℤ, Bool, true, false, ◌&&◌, ◌||◌, ◌==◌, not, nat_le, codes, List, [], ◌∷◌, length, bytes_eq, unsigned_abs}
+use Rattle.std.specs.Prelude.{ℕ, ℤ, Bool, false, ◌&&◌, ◌||◌, ◌==◌, not, nat_le, codes, List, [], ◌∷◌, length, bytes_eq, unsigned_abs}
 use Rattle.std.specs.List.{list_all, list_any}
 use Rattle.std.specs.Char.{is_ascii_alphanumeric}
 use Rattle.wh_day.specs.Value.{is_plain, none_text, unknown_text, no_card_text}

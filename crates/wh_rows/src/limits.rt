@@ -32,7 +32,9 @@ impl Limits {
     pub fn new(commands: u64, changes: u64, facts: u64) -> Option<Limits>
         ensures { result ≡ limits_of commands changes facts }
     {
-        if is_limit(100_000, commands) && is_limit(1_000_000, changes) && is_limit(1_000_000, facts)
+        if is_limit(100_000, commands)
+            && is_limit(1_000_000, changes)
+            && is_limit(1_000_000, facts)
         {
             Some(Limits {
                 commands,

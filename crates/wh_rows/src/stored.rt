@@ -14,10 +14,7 @@ use wh_policy::Dim;
 
 /// A row of meta.
 #[tactic(auto, unfolding(crate::specs::Stored::meta_of))]
-pub(crate) fn read_meta(
-    alloc: Global,
-    row: &Row,
-) -> Result<MetaRow, ReadError<Damaged>>
+pub(crate) fn read_meta(alloc: Global, row: &Row) -> Result<MetaRow, ReadError<Damaged>>
     ensures { Gives (λ r. r) result (meta_of row.now) }
 {
     if row.column_count() != 2 {
@@ -25,18 +22,12 @@ pub(crate) fn read_meta(
     }
     let name = columns::text(alloc, row, 0)?;
     let value = columns::integer(row, 1)?;
-    Ok(MetaRow {
-        name,
-        value,
-    })
+    Ok(MetaRow { name, value })
 }
 
 /// A row of command.
 #[tactic(auto, unfolding(crate::specs::Stored::command_of))]
-pub(crate) fn read_command(
-    alloc: Global,
-    row: &Row,
-) -> Result<CommandRow, ReadError<Damaged>>
+pub(crate) fn read_command(alloc: Global, row: &Row) -> Result<CommandRow, ReadError<Damaged>>
     ensures { Gives (λ r. r) result (command_of row.now) }
 {
     if row.column_count() != 6 {
@@ -60,10 +51,7 @@ pub(crate) fn read_command(
 
 /// A row of member.
 #[tactic(auto, unfolding(crate::specs::Stored::member_of))]
-pub(crate) fn read_member(
-    alloc: Global,
-    row: &Row,
-) -> Result<MemberRow, ReadError<Damaged>>
+pub(crate) fn read_member(alloc: Global, row: &Row) -> Result<MemberRow, ReadError<Damaged>>
     ensures { Gives (λ r. r) result (member_of row.now) }
 {
     if row.column_count() != 4 {
@@ -83,10 +71,7 @@ pub(crate) fn read_member(
 
 /// A row of change.
 #[tactic(auto, unfolding(crate::specs::Stored::change_of))]
-pub(crate) fn read_change(
-    alloc: Global,
-    row: &Row,
-) -> Result<ChangeRow, ReadError<Damaged>>
+pub(crate) fn read_change(alloc: Global, row: &Row) -> Result<ChangeRow, ReadError<Damaged>>
     ensures { Gives (λ r. r) result (change_of row.now) }
 {
     if row.column_count() != 12 {
@@ -146,10 +131,7 @@ pub(crate) fn read_dimension(
 
 /// A row of profile.
 #[tactic(auto, unfolding(crate::specs::Stored::profile_of))]
-pub(crate) fn read_profile(
-    alloc: Global,
-    row: &Row,
-) -> Result<ProfileRow, ReadError<Damaged>>
+pub(crate) fn read_profile(alloc: Global, row: &Row) -> Result<ProfileRow, ReadError<Damaged>>
     ensures { Gives (λ r. r) result (profile_of row.now) }
 {
     if row.column_count() != 7 {
@@ -157,18 +139,12 @@ pub(crate) fn read_profile(
     }
     let number = columns::number(row, 0)?;
     let values = columns::slots(alloc, row, 1)?;
-    Ok(ProfileRow {
-        number,
-        values,
-    })
+    Ok(ProfileRow { number, values })
 }
 
 /// A row of calendar.
 #[tactic(auto, unfolding(crate::specs::Stored::date_of))]
-pub(crate) fn read_date(
-    alloc: Global,
-    row: &Row,
-) -> Result<DateRow, ReadError<Damaged>>
+pub(crate) fn read_date(alloc: Global, row: &Row) -> Result<DateRow, ReadError<Damaged>>
     ensures { Gives (λ r. r) result (date_of row.now) }
 {
     if row.column_count() != 11 {
@@ -202,10 +178,7 @@ pub(crate) fn read_date(
 
 /// A row of fact.
 #[tactic(auto, unfolding(crate::specs::Stored::fact_of))]
-pub(crate) fn read_fact(
-    alloc: Global,
-    row: &Row,
-) -> Result<Fact, ReadError<Damaged>>
+pub(crate) fn read_fact(alloc: Global, row: &Row) -> Result<Fact, ReadError<Damaged>>
     ensures { Gives (λ r. r) result (fact_of row.now) }
 {
     if row.column_count() != 13 {

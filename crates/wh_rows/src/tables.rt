@@ -209,10 +209,7 @@ impl Stored for Fact {
 }
 
 /// Each stored row as a row of the table, in their order.
-pub fn read_all<T: Stored>(
-    alloc: Global,
-    rows: &[Row],
-) -> Result<Vec<T::Row>, ReadError<Damaged>>
+pub fn read_all<T: Stored>(alloc: Global, rows: &[Row]) -> Result<Vec<T::Row>, ReadError<Damaged>>
     ensures ok { IfOk result (λ read. IsTrue (list_all T.layout.is_valid read.items) × (rows.now ≡ map T.layout.encode read.items)) }
     ensures err { IfErr result (λ e. e ≢ Memory → (read : List T.Row) → IsTrue (list_all T.layout.is_valid read) → rows.now ≢ map T.layout.encode read) }
 {

@@ -1,4 +1,4 @@
-use Rattle.std.proofs.Common.{◌≡◌, ◌≢◌, ◌++◌, drop, map, ◌+◌, true, sym, ◌∙◌, subst}
+use Rattle.std.proofs.Common.{◌≡◌, ◌++◌, drop, map, ◌+◌, true, sym, ◌∙◌, subst}
 use Rattle.std.specs.List.{list_all}
 use Rattle.wh_rows.proofs.ReadAll.{one_more, all_read, refused}
 use Rattle.wh_rows.proofs.tables.read_all.Goals as goal
