@@ -38,6 +38,11 @@ module _ {V : Type 0} (of : Row → Result V Damaged) (encode : V → Row) (is_v
   read_err (Err Memory) gives = λ fault. absurd (fault refl)
   read_err (Err (Fault f)) gives = λ fault r valid is. let one = sym gives ∙ ap of is ∙ complete r valid in absurd (cc)
 
+-- no two valid rows stand alike in the columns, since they are read again
+pub once_read : {V : Type 0} (of : Row → Result V Damaged) (encode : V → Row) (is_valid : V → Bool) → ((r : V) → is_valid r ≡ true → of (encode r) ≡ Ok r)
+    → (v w : V) → IsTrue (is_valid v) → IsTrue (is_valid w) → encode v ≡ encode w → v ≡ w
+once_read of encode is_valid complete v w valid_v valid_w same = same_value (sym (complete v valid_v) ∙ ap of same ∙ complete w valid_w)
+
 -- ---- meta
 
 pub meta_sound : (row : Row) (r : MetaRow) → meta_of row ≡ Ok r → (is_meta r ≡ true) × (row ≡ encode_meta r)

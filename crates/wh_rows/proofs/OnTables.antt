@@ -1,5 +1,5 @@
 -- What the statements on a table make of the ten tables, and what they show.
-use Rattle.std.proofs.Common.{◌≡◌, ℕ, List, [], ◌∷◌, map, filter, take, reverse, zero, suc, Bool, true, false, cond, Ok, refl, ap, ◌∙◌}
+use Rattle.std.proofs.Common.{◌≡◌, ℕ, List, [], ◌∷◌, map, filter, take, reverse, zero, suc, Bool, true, false, cond, Ok, refl, sym, ap, ap₂, ◌∙◌}
 use Rattle.std.specs.Prelude.{IsTrue}
 use Rattle.std.specs.List.{list_all}
 use Rattle.std.specs.Ordering.{eq_by_cmp}
@@ -127,3 +127,22 @@ pub valid_first : {K V : Type 0} (layout : Layout K V) (rows : Tables → FinMap
 valid_first layout rows with_rows placed keep most backwards state t stored =
     first_rows layout.is_valid most (from_end backwards (filter keep (values (rows t))))
     (end_rows layout.is_valid backwards (filter keep (values (rows t))) (valid_answer layout rows with_rows placed keep state t stored))
+
+-- ---- rows that were read are the rows that were stored
+
+read_back : {V : Type 0} (encode : V → Row) (is_valid : V → Bool) → ((v w : V) → IsTrue (is_valid v) → IsTrue (is_valid w) → encode v ≡ encode w → v ≡ w)
+    → (vs ws : List V) → list_all is_valid vs ≡ true → list_all is_valid ws ≡ true → map encode vs ≡ map encode ws → vs ≡ ws
+read_back encode is_valid once [] [] p q same = refl
+read_back encode is_valid once [] (w ∷ ws) p q same = absurd (cc)
+read_back encode is_valid once (v ∷ vs) [] p q same = absurd (cc)
+read_back encode is_valid once (v ∷ vs) (w ∷ ws) p q same =
+    let pv = and_parts (is_valid v) (list_all is_valid vs) p in
+    let pw = and_parts (is_valid w) (list_all is_valid ws) q in
+    let first : encode v ≡ encode w = cc in
+    let rest : map encode vs ≡ map encode ws = cc in
+    ap₂ ◌∷◌ (once v w pv.0 pw.0 first) (read_back encode is_valid once vs ws pv.1 pw.1 rest)
+
+-- what was read from an answer of valid rows is those rows
+pub read_is : {K V : Type 0} (layout : Layout K V) (rows : Tables → FinMap layout.order V) (with_rows : FinMap layout.order V → Tables → Tables) → IsPlaced layout rows with_rows
+    → (answer : List Row) (read stored : List V) → IsTrue (list_all layout.is_valid read) → answer ≡ map layout.encode read → IsTrue (list_all layout.is_valid stored) → answer ≡ map layout.encode stored → read ≡ stored
+read_is layout rows with_rows placed answer read stored valid is valid_stored was = read_back layout.encode layout.is_valid placed.once read stored valid valid_stored (sym is ∙ was)

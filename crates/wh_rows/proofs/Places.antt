@@ -3,6 +3,10 @@ use Rattle.std.proofs.Common.{refl}
 use Rattle.std.proofs.lemmas.Cmp.{nat_cmp_total}
 use Rattle.std.specs.Cmp.Lexicographic.{nat_list_cmp_total}
 use Rattle.std.specs.FinMap.{nat_cmp-IsAntisymmetric}
+use Rattle.wh_policy.specs.declared.attribute.Dim.TheVariants.{Product, Store, Customer}
+use Rattle.wh_rows.specs.Rows.{encode_meta, encode_command, encode_member, encode_change, encode_dimension, encode_profile, encode_date, encode_fact, is_meta, is_command, is_member, is_change, is_dimension, is_profile, is_date, is_fact}
+use Rattle.wh_rows.specs.Stored.{meta_of, command_of, member_of, change_of, dimension_of, profile_of, date_of, fact_of}
+use Rattle.wh_rows.proofs.Exact.{once_read, meta_complete, command_complete, member_complete, change_complete, dimension_complete, profile_complete, date_complete, fact_complete}
 use Rattle.wh_rows.specs.Schema.{warehouse}
 use Rattle.wh_rows.specs.Holds.{IsRising}
 use Rattle.wh_rows.specs.Place.{IsPlaced}
@@ -12,6 +16,7 @@ use Rattle.wh_rows.proofs.Others.{at_place, meta_changed, command_changed, membe
 
 pub meta : IsPlaced row.meta (λ t. t.meta) (λ m t. record t { meta = m })
 meta = record {
+  once = once_read meta_of encode_meta is_meta meta_complete;
   total = nat_list_cmp_total;
   same = text_cmp-IsAntisymmetric;
   held = λ db t stored. stored.meta;
@@ -21,6 +26,7 @@ meta = record {
 
 pub command : IsPlaced row.command (λ t. t.command) (λ m t. record t { command = m })
 command = record {
+  once = once_read command_of encode_command is_command command_complete;
   total = nat_cmp_total;
   same = nat_cmp-IsAntisymmetric;
   held = λ db t stored. stored.command;
@@ -30,6 +36,7 @@ command = record {
 
 pub member : IsPlaced row.member (λ t. t.member) (λ m t. record t { member = m })
 member = record {
+  once = once_read member_of encode_member is_member member_complete;
   total = member_cmp_total;
   same = member_cmp-IsAntisymmetric;
   held = λ db t stored. stored.member;
@@ -39,6 +46,7 @@ member = record {
 
 pub change : IsPlaced row.change (λ t. t.change) (λ m t. record t { change = m })
 change = record {
+  once = once_read change_of encode_change is_change change_complete;
   total = change_cmp_total;
   same = change_cmp-IsAntisymmetric;
   held = λ db t stored. stored.change;
@@ -48,6 +56,7 @@ change = record {
 
 pub product : IsPlaced row.product (λ t. t.product) (λ m t. record t { product = m })
 product = record {
+  once = once_read (dimension_of Product) encode_dimension (is_dimension Product) (dimension_complete Product);
   total = nat_cmp_total;
   same = nat_cmp-IsAntisymmetric;
   held = λ db t stored. stored.product;
@@ -57,6 +66,7 @@ product = record {
 
 pub store : IsPlaced row.store (λ t. t.store) (λ m t. record t { store = m })
 store = record {
+  once = once_read (dimension_of Store) encode_dimension (is_dimension Store) (dimension_complete Store);
   total = nat_cmp_total;
   same = nat_cmp-IsAntisymmetric;
   held = λ db t stored. stored.store;
@@ -66,6 +76,7 @@ store = record {
 
 pub customer : IsPlaced row.customer (λ t. t.customer) (λ m t. record t { customer = m })
 customer = record {
+  once = once_read (dimension_of Customer) encode_dimension (is_dimension Customer) (dimension_complete Customer);
   total = nat_cmp_total;
   same = nat_cmp-IsAntisymmetric;
   held = λ db t stored. stored.customer;
@@ -75,6 +86,7 @@ customer = record {
 
 pub profile : IsPlaced row.profile (λ t. t.profile) (λ m t. record t { profile = m })
 profile = record {
+  once = once_read profile_of encode_profile is_profile profile_complete;
   total = nat_cmp_total;
   same = nat_cmp-IsAntisymmetric;
   held = λ db t stored. stored.profile;
@@ -84,6 +96,7 @@ profile = record {
 
 pub calendar : IsPlaced row.calendar (λ t. t.calendar) (λ m t. record t { calendar = m })
 calendar = record {
+  once = once_read date_of encode_date is_date date_complete;
   total = nat_cmp_total;
   same = nat_cmp-IsAntisymmetric;
   held = λ db t stored. stored.calendar;
@@ -93,6 +106,7 @@ calendar = record {
 
 pub fact : IsPlaced row.fact (λ t. t.fact) (λ m t. record t { fact = m })
 fact = record {
+  once = once_read fact_of encode_fact is_fact fact_complete;
   total = line_cmp_total;
   same = line_cmp-IsAntisymmetric;
   held = λ db t stored. stored.fact;

@@ -1,4 +1,5 @@
 -- A table's place among the ten.
+use Rattle.std.specs.Prelude.{◌≡◌, IsTrue}
 use Rattle.std.specs.Cmp.{IsTotalOrder}
 use Rattle.std.specs.FinMap.{FinMap, IsAntisymmetric}
 use Rattle.sqlite.specs.Effect.{Database}
@@ -8,6 +9,8 @@ use Rattle.wh_rows.specs.Tables.{Tables, Stores}
 
 -- which of the ten has this layout, and that a change of its rows leaves the nine others
 pub record IsPlaced {K V : Type 0} (layout : Layout K V) (rows : Tables → FinMap layout.order V) (with_rows : FinMap layout.order V → Tables → Tables) : Type 0 where
+  -- no two valid rows stand alike in the columns
+  pub once : (v w : V) → IsTrue (layout.is_valid v) → IsTrue (layout.is_valid w) → layout.encode v ≡ layout.encode w → v ≡ w
   pub total : IsTotalOrder layout.order
   pub same : IsAntisymmetric layout.order
   pub held : (db : Database) (t : Tables) → Stores db t → Holds layout db.trees (rows t)

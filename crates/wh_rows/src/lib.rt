@@ -13,7 +13,7 @@ pub use columns::Damaged;
 pub use limits::Limits;
 pub use rows::{ChangeRow, CommandRow, MemberRow, MetaRow, ProfileRow, TableRow};
 pub use table::Table;
-pub use tables::{Stored, read_all};
+pub use tables::{StoredTable, read_all};
 
 #[cfg(test)]
 mod tests;

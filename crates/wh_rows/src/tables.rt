@@ -15,7 +15,7 @@ use wh_history::DimRow;
 use wh_policy::Dim;
 
 /// A table, and the type of its rows.
-pub trait Stored {
+pub trait StoredTable {
     type Row: Drop;
 
     // The type of its keys, and how its rows stand in their columns.
@@ -34,7 +34,7 @@ pub trait Stored {
 /// The table meta.
 pub struct Meta;
 
-impl Stored for Meta {
+impl StoredTable for Meta {
     ghost use Rattle.std.specs.Prelude.{ℕ, List};
     ghost use Rattle.wh_rows.specs.Rows.{meta};
 
@@ -52,7 +52,7 @@ impl Stored for Meta {
 /// The table command.
 pub struct Command;
 
-impl Stored for Command {
+impl StoredTable for Command {
     ghost use Rattle.std.specs.Prelude.{ℕ};
     ghost use Rattle.wh_rows.specs.Rows.{command};
 
@@ -70,7 +70,7 @@ impl Stored for Command {
 /// The table member.
 pub struct Member;
 
-impl Stored for Member {
+impl StoredTable for Member {
     ghost use Rattle.wh_rows.specs.Rows.{member, MemberKey};
 
     type Row = MemberRow;
@@ -87,7 +87,7 @@ impl Stored for Member {
 /// The table change.
 pub struct Change;
 
-impl Stored for Change {
+impl StoredTable for Change {
     ghost use Rattle.wh_rows.specs.Rows.{change, ChangeKey};
 
     type Row = ChangeRow;
@@ -104,7 +104,7 @@ impl Stored for Change {
 /// The table product.
 pub struct Product;
 
-impl Stored for Product {
+impl StoredTable for Product {
     ghost use Rattle.std.specs.Prelude.{ℕ};
     ghost use Rattle.wh_rows.specs.Rows.{product};
 
@@ -122,7 +122,7 @@ impl Stored for Product {
 /// The table store.
 pub struct Store;
 
-impl Stored for Store {
+impl StoredTable for Store {
     ghost use Rattle.std.specs.Prelude.{ℕ};
     ghost use Rattle.wh_rows.specs.Rows.{store};
 
@@ -140,7 +140,7 @@ impl Stored for Store {
 /// The table customer.
 pub struct Customer;
 
-impl Stored for Customer {
+impl StoredTable for Customer {
     ghost use Rattle.std.specs.Prelude.{ℕ};
     ghost use Rattle.wh_rows.specs.Rows.{customer};
 
@@ -158,7 +158,7 @@ impl Stored for Customer {
 /// The table profile.
 pub struct Profile;
 
-impl Stored for Profile {
+impl StoredTable for Profile {
     ghost use Rattle.std.specs.Prelude.{ℕ};
     ghost use Rattle.wh_rows.specs.Rows.{profile};
 
@@ -176,7 +176,7 @@ impl Stored for Profile {
 /// The table calendar.
 pub struct Calendar;
 
-impl Stored for Calendar {
+impl StoredTable for Calendar {
     ghost use Rattle.std.specs.Prelude.{ℕ};
     ghost use Rattle.wh_rows.specs.Rows.{calendar};
 
@@ -194,7 +194,7 @@ impl Stored for Calendar {
 /// The table fact.
 pub struct Fact;
 
-impl Stored for Fact {
+impl StoredTable for Fact {
     ghost use Rattle.wh_rows.specs.Rows.{fact, LineKey};
 
     type Row = wh_history::Fact;
@@ -209,7 +209,10 @@ impl Stored for Fact {
 }
 
 /// Each stored row as a row of the table, in their order.
-pub fn read_all<T: Stored>(alloc: Global, rows: &[Row]) -> Result<Vec<T::Row>, ReadError<Damaged>>
+pub fn read_all<T: StoredTable>(
+    alloc: Global,
+    rows: &[Row],
+) -> Result<Vec<T::Row>, ReadError<Damaged>>
     ensures ok { IfOk result (λ read. IsTrue (list_all T.layout.is_valid read.items) × (rows.now ≡ map T.layout.encode read.items)) }
     ensures err { IfErr result (λ e. e ≢ Memory → (read : List T.Row) → IsTrue (list_all T.layout.is_valid read) → rows.now ≢ map T.layout.encode read) }
 {

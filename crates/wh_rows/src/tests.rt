@@ -14,11 +14,11 @@ fn shown(alloc: Global, text: &str) -> Result<Row, Error> {
 }
 
 // Whether the row that a query shows is a row of the table; without one of memory.
-fn is_read<T: Stored>(alloc: Global, text: &str) -> Result<bool, Error> {
+fn is_read<T: StoredTable>(alloc: Global, text: &str) -> Result<bool, Error> {
     Ok(T::read(alloc, &shown(alloc, text)?).is_ok())
 }
 
-fn is_damaged<T: Stored>(alloc: Global, text: &str) -> Result<bool, Error> {
+fn is_damaged<T: StoredTable>(alloc: Global, text: &str) -> Result<bool, Error> {
     Ok(matches!(
         T::read(alloc, &shown(alloc, text)?),
         Err(ReadError::Fault(_))

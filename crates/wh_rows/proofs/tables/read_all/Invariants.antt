@@ -5,4 +5,4 @@ use Rattle.wh_rows.proofs.tables.read_all.Given as goal
 
 -- the rows read so far, before those that are left, are all
 abbrev pub invariant-rows : goal.invariant-rows
-invariant-rows g l = IsTrue (list_all g.T.Stored.layout.is_valid l.read.items) × (l.rows ≡ map g.T.Stored.layout.encode l.read.items ++ drop l.row-index l.rows)
+invariant-rows g l = IsTrue (list_all g.T.StoredTable.layout.is_valid l.read.items) × (l.rows ≡ map g.T.StoredTable.layout.encode l.read.items ++ drop l.row-index l.rows)

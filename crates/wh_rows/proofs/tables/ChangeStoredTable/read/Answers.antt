@@ -1,7 +1,7 @@
 use Rattle.wh_rows.specs.Rows.{encode_change, is_change}
 use Rattle.wh_rows.specs.Stored.{change_of}
 use Rattle.wh_rows.proofs.Exact.{read_ok, read_err, change_sound, change_complete}
-use Rattle.wh_rows.proofs.tables.ChangeStored.read.Goals as goal
+use Rattle.wh_rows.proofs.tables.ChangeStoredTable.read.Goals as goal
 
 pub returns-clause-ok : goal.returns-clause-ok
 returns-clause-ok c = read_ok change_of encode_change is_change change_sound change_complete c.args.row.now c.read_change.result c.read_change.ensures
