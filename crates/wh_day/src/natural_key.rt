@@ -15,8 +15,8 @@ use std::{fmt, str};
 /// A key that a source gives, as the name of a member or the number of a ticket: 1 to 32 letters, digits, `-`, `_` and
 /// `.`, in the value itself. A contract sees its bytes.
 ///
-/// Kimball & Ross, *The Data Warehouse Toolkit*, 3rd edition, chapter 3, "Natural, Durable, and Supernatural Keys" and
-/// "Degenerate Dimensions".
+/// Kimball & Ross, *The Data Warehouse Toolkit*, 3rd edition, chapter 3, "Dimension Natural and Durable
+/// Supernatural Keys" and "Degenerate Dimensions for Transaction Numbers".
 #[derive(Drop)]
 pub struct NaturalKey {
     bytes: [u8; 32],

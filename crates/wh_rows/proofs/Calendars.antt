@@ -1,0 +1,171 @@
+-- The statements on calendar.
+use Rattle.std.proofs.Common.{ℕ, List, [], ◌∷◌, codes, map, drop, pos, true, false, ◌&&◌, refl, ◌∙◌}
+use Rattle.std.specs.Ordering.{is_gt, eq_by_cmp, nat_cmp}
+use Rattle.sqlite_value.specs.declared.value.Value.TheVariants.{Null, Int}
+use Rattle.sqlite_value.specs.declared.keys.Key.{Key}
+use Rattle.sqlite_value.specs.Keys.{first_key, ascending}
+use Rattle.sqlite_value.proofs.OrderLemmas.{then-Equal}
+use Rattle.sqlite_sql.specs.declared.ops.BinaryOp.TheVariants.{Compare}
+use Rattle.sqlite_sql.specs.declared.ops.CompareOp.TheVariants.{Eq, Gt}
+use Rattle.sqlite_schema.specs.Rules.{equal}
+use Rattle.sqlite_tied.specs.Compute.{everything}
+use Rattle.sqlite.specs.Collation.TheVariants.{Binary}
+use Rattle.sqlite.specs.Order.{Row, column}
+use Rattle.sqlite.specs.Term.{Term, lit, col, op2}
+use Rattle.sqlite.specs.Listing.{understood}
+use Rattle.wh_rows.specs.Rows as row
+use Rattle.wh_rows.specs.Meaning.{any, PutsOne, RemovesOne, ReadsSome, CountsAll}
+use Rattle.wh_rows.specs.Firsts.{ReadsFirst}
+use Rattle.wh_rows.proofs.Cast.{cast_row_own}
+use Rattle.wh_rows.proofs.Keys.{and-true, trimmed, equal-Nat, sorted-Nat, greater, greater-Nat}
+
+-- ---- put
+
+abbrev pub put_text : List ℕ
+put_text = codes "INSERT OR REPLACE INTO calendar VALUES (?1, ?2, ?3, ?4, ?5, ?6, ?7, ?8, ?9, ?10, ?11)"
+
+pub put : PutsOne row.calendar any put_text
+unfolding understood everything first_key
+put = record {
+  at = 8;
+  table = record { has = refl; uncounted = refl; unstamped = refl; idle = λ keys olds news. refl };
+  terms = col 0 0 ∷ lit Null ∷ col 0 1 ∷ col 0 2 ∷ col 0 3 ∷ col 0 4 ∷ col 0 5 ∷ col 0 6 ∷ col 0 7 ∷ col 0 8 ∷ col 0 9 ∷ col 0 10 ∷ [];
+  width = 12;
+  command = refl;
+  plain = (refl, refl);
+  source = λ v. Int (pos v.date_key) ∷ Null ∷ drop 1 (row.calendar.encode v);
+  given = λ v. refl;
+  whole = λ v. refl;
+  own = λ v. cast_row_own row.calendar.table (Int (pos v.date_key)) (Null ∷ drop 1 (row.calendar.encode v)) refl refl;
+  kept = λ v rows. cast_row_own row.calendar.table (Int (pos v.date_key)) (Null ∷ drop 1 (row.calendar.encode v)) refl refl;
+  numbered = λ v rows. refl;
+  shows = λ v rows. refl;
+  test = λ v r. equal Binary (column r 0) (Int (pos v.date_key));
+  hits = λ v rows rising r here. trimmed _;
+  agree = λ v w stands. equal-Nat w.date_key v.date_key;
+}
+
+-- ---- remove
+
+-- a key as parameters
+abbrev pub bind : ℕ → Row
+bind k = Int (pos k) ∷ []
+
+abbrev pub remove_text : List ℕ
+remove_text = codes "DELETE FROM calendar WHERE date_key = ?1"
+
+pub remove : RemovesOne row.calendar bind remove_text
+unfolding understood everything
+remove = record {
+  at = 8;
+  table = record { has = refl; uncounted = refl; unstamped = refl; idle = λ keys olds news. refl };
+  tests = op2 (Compare Eq Binary) (col 1 0) (col 0 0) ∷ [];
+  command = refl;
+  plain = (refl, refl);
+  test = λ k r. equal Binary (column r 0) (Int (pos k)) && true;
+  hits = λ k r. refl;
+  agree = λ k w. and-true _ ∙ equal-Nat w.date_key k;
+}
+
+-- ---- read, in order of key
+
+abbrev shown : List Term
+shown = col 1 0 ∷ col 1 2 ∷ col 1 3 ∷ col 1 4 ∷ col 1 5 ∷ col 1 6 ∷ col 1 7 ∷ col 1 8 ∷ col 1 9 ∷ col 1 10 ∷ col 1 11 ∷ []
+
+abbrev by_key : List (Term × Key)
+by_key = (col 1 0, ascending Binary) ∷ []
+
+abbrev pub all_text : List ℕ
+all_text = codes "SELECT * FROM calendar ORDER BY date_key"
+
+pub all : ReadsSome row.calendar [] (λ r. true) all_text
+unfolding understood everything
+all = record {
+  tests = [];
+  project = shown;
+  order = by_key;
+  names = map (λ c. c.name) row.calendar.table.columns;
+  command = refl;
+  plain = (refl, refl);
+  unlisted = refl;
+  test = λ r. true;
+  hits = λ r. refl;
+  agree = λ v. refl;
+  sorted_by = λ r. column r 0 ∷ [];
+  shows = λ r. refl;
+  in_order = λ v w. then-Equal _ ∙ sorted-Nat v.date_key w.date_key;
+}
+
+abbrev pub get_text : List ℕ
+get_text = codes "SELECT * FROM calendar WHERE date_key = ?1 ORDER BY date_key"
+
+pub get : (k : ℕ) → ReadsSome row.calendar (bind k) (λ r. eq_by_cmp row.calendar.order k (row.calendar.key r)) get_text
+unfolding understood everything
+get k = record {
+  tests = op2 (Compare Eq Binary) (col 1 0) (col 0 0) ∷ [];
+  project = shown;
+  order = by_key;
+  names = map (λ c. c.name) row.calendar.table.columns;
+  command = refl;
+  plain = (refl, refl);
+  unlisted = refl;
+  test = λ r. equal Binary (column r 0) (Int (pos k)) && true;
+  hits = λ r. refl;
+  agree = λ w. and-true _ ∙ equal-Nat w.date_key k;
+  sorted_by = λ r. column r 0 ∷ [];
+  shows = λ r. refl;
+  in_order = λ v w. then-Equal _ ∙ sorted-Nat v.date_key w.date_key;
+}
+
+-- the row of the greatest key
+abbrev pub greatest_text : List ℕ
+greatest_text = codes "SELECT * FROM calendar ORDER BY date_key DESC LIMIT 1"
+
+pub greatest : ReadsFirst row.calendar ([]) (λ r. true) 1 true greatest_text
+unfolding understood everything
+greatest = record {
+  tests = [];
+  project = shown;
+  order = (col 1 0, record { collation = Binary; descending = true }) ∷ [];
+  names = map (λ c. c.name) row.calendar.table.columns;
+  command = refl;
+  plain = (refl, refl);
+  unlisted = refl;
+  test = λ r. true;
+  hits = λ r. refl;
+  agree = λ w. refl;
+  sorted_by = λ r. column r 0 ∷ [];
+  shows = λ r. refl;
+  in_order = λ v w. then-Equal _ ∙ sorted-Nat w.date_key v.date_key;
+}
+
+-- the next rows after a key
+abbrev pub after_text : List ℕ
+after_text = codes "SELECT * FROM calendar WHERE date_key > ?1 ORDER BY date_key LIMIT 256"
+
+pub after : (k : ℕ) → ReadsFirst row.calendar (Int (pos k) ∷ []) (λ r. is_gt (nat_cmp r.date_key k)) 256 false after_text
+unfolding understood everything
+after k = record {
+  tests = op2 (Compare Gt Binary) (col 1 0) (col 0 0) ∷ [];
+  project = shown;
+  order = by_key;
+  names = map (λ c. c.name) row.calendar.table.columns;
+  command = refl;
+  plain = (refl, refl);
+  unlisted = refl;
+  test = λ r. greater (column r 0) (Int (pos k)) && true;
+  hits = λ r. refl;
+  agree = λ w. and-true _ ∙ greater-Nat w.date_key k;
+  sorted_by = λ r. column r 0 ∷ [];
+  shows = λ r. refl;
+  in_order = λ v w. then-Equal _ ∙ sorted-Nat v.date_key w.date_key;
+}
+
+-- ---- count
+
+abbrev pub count_text : List ℕ
+count_text = codes "SELECT count(*) FROM calendar"
+
+pub count : CountsAll row.calendar count_text
+unfolding understood everything
+count = record { names = codes "count(*)" ∷ []; command = refl; plain = (refl, refl); unlisted = refl }

@@ -1,0 +1,207 @@
+-- The statements on command.
+use Rattle.std.proofs.Common.{◌≡◌, ℕ, List, [], ◌∷◌, codes, map, drop, pos, true, false, ◌&&◌, ◌||◌, refl, sym, ap, ap₂, ◌∙◌}
+use Rattle.std.specs.Ordering.{is_eq, is_gt, eq_by_cmp, nat_cmp}
+use Rattle.std.specs.Cmp.{tied_itself}
+use Rattle.std.proofs.lemmas.Cmp.{nat_cmp_total}
+use Rattle.std.specs.Cmp.Lexicographic.{slice_cmp}
+use Rattle.std.specs.FinMap.{nat_cmp-IsAntisymmetric, slice_cmp-IsAntisymmetric}
+use Rattle.sqlite_value.specs.declared.value.Value.TheVariants.{Null, Int, Text}
+use Rattle.sqlite_value.specs.declared.keys.Key.{Key}
+use Rattle.sqlite_value.specs.Keys.{first_key, ascending}
+use Rattle.sqlite_value.proofs.OrderLemmas.{then-Equal}
+use Rattle.sqlite_sql.specs.declared.ops.BinaryOp.TheVariants.{Compare}
+use Rattle.sqlite_sql.specs.declared.ops.CompareOp.TheVariants.{Eq, Gt}
+use Rattle.sqlite_schema.specs.Rules.{equal}
+use Rattle.sqlite_tied.specs.Compute.{everything}
+use Rattle.sqlite.specs.Collation.TheVariants.{Binary}
+use Rattle.sqlite.specs.Order.{Row, column}
+use Rattle.sqlite.specs.Term.{Term, lit, col, op2}
+use Rattle.sqlite.specs.Listing.{understood}
+use Rattle.wh_rows.specs.declared.rows.CommandRow.{CommandRow}
+use Rattle.wh_rows.specs.Rows as row
+use Rattle.wh_rows.specs.Meaning.{PutsOne, RemovesOne, ReadsSome, CountsAll}
+use Rattle.wh_rows.specs.Firsts.{ReadsFirst}
+use Rattle.wh_rows.proofs.Cast.{cast_row_own}
+use Rattle.wh_rows.proofs.Keys.{and-true, trimmed_or, equal-Nat, equal-Text, sorted-Nat, greater, greater-Nat, equal_is, implied}
+
+-- ---- put
+
+abbrev pub put_text : List ℕ
+put_text = codes "INSERT OR REPLACE INTO command VALUES (?1, ?2, ?3, ?4, ?5, ?6)"
+
+-- only the command itself has its id
+abbrev pub may_stand : CommandRow → CommandRow → Type 0
+may_stand v w = v.id ≡ w.id → v.number ≡ w.number
+
+same_id : (v w : CommandRow) → may_stand v w → (is_eq (nat_cmp v.number w.number) || is_eq (slice_cmp nat_cmp v.id w.id)) ≡ is_eq (nat_cmp v.number w.number)
+same_id v w stands = implied _ _ (λ one.
+    let same = slice_cmp-IsAntisymmetric nat_cmp-IsAntisymmetric v.id w.id (equal_is _ one) in
+    ap (λ n. is_eq (nat_cmp v.number n)) (sym (stands same)) ∙ ap is_eq (tied_itself nat_cmp_total v.number))
+
+pub put : PutsOne row.command may_stand put_text
+unfolding understood everything first_key
+put = record {
+  at = 1;
+  table = record { has = refl; uncounted = refl; unstamped = refl; idle = λ keys olds news. refl };
+  terms = col 0 0 ∷ lit Null ∷ col 0 1 ∷ col 0 2 ∷ col 0 3 ∷ col 0 4 ∷ col 0 5 ∷ [];
+  width = 7;
+  command = refl;
+  plain = (refl, refl);
+  source = λ v. Int (pos v.number) ∷ Null ∷ drop 1 (row.command.encode v);
+  given = λ v. refl;
+  whole = λ v. refl;
+  own = λ v. cast_row_own row.command.table (Int (pos v.number)) (Null ∷ drop 1 (row.command.encode v)) refl refl;
+  kept = λ v rows. cast_row_own row.command.table (Int (pos v.number)) (Null ∷ drop 1 (row.command.encode v)) refl refl;
+  numbered = λ v rows. refl;
+  shows = λ v rows. refl;
+  test = λ v r. equal Binary (column r 0) (Int (pos v.number)) || equal Binary (column r 1) (Text v.id);
+  hits = λ v rows rising r here. trimmed_or _ _;
+  agree = λ v w stands. ap₂ ◌||◌ (equal-Nat w.number v.number) (equal-Text w.id v.id) ∙ same_id v w stands;
+}
+
+-- ---- remove
+
+-- a key as parameters
+abbrev pub bind : ℕ → Row
+bind k = Int (pos k) ∷ []
+
+abbrev pub remove_text : List ℕ
+remove_text = codes "DELETE FROM command WHERE number = ?1"
+
+pub remove : RemovesOne row.command bind remove_text
+unfolding understood everything
+remove = record {
+  at = 1;
+  table = record { has = refl; uncounted = refl; unstamped = refl; idle = λ keys olds news. refl };
+  tests = op2 (Compare Eq Binary) (col 1 0) (col 0 0) ∷ [];
+  command = refl;
+  plain = (refl, refl);
+  test = λ k r. equal Binary (column r 0) (Int (pos k)) && true;
+  hits = λ k r. refl;
+  agree = λ k w. and-true _ ∙ equal-Nat w.number k;
+}
+
+-- ---- read, in order of key
+
+abbrev shown : List Term
+shown = col 1 0 ∷ col 1 2 ∷ col 1 3 ∷ col 1 4 ∷ col 1 5 ∷ col 1 6 ∷ []
+
+abbrev by_key : List (Term × Key)
+by_key = (col 1 0, ascending Binary) ∷ []
+
+abbrev pub all_text : List ℕ
+all_text = codes "SELECT * FROM command ORDER BY number"
+
+pub all : ReadsSome row.command [] (λ r. true) all_text
+unfolding understood everything
+all = record {
+  tests = [];
+  project = shown;
+  order = by_key;
+  names = map (λ c. c.name) row.command.table.columns;
+  command = refl;
+  plain = (refl, refl);
+  unlisted = refl;
+  test = λ r. true;
+  hits = λ r. refl;
+  agree = λ v. refl;
+  sorted_by = λ r. column r 0 ∷ [];
+  shows = λ r. refl;
+  in_order = λ v w. then-Equal _ ∙ sorted-Nat v.number w.number;
+}
+
+abbrev pub get_text : List ℕ
+get_text = codes "SELECT * FROM command WHERE number = ?1 ORDER BY number"
+
+pub get : (k : ℕ) → ReadsSome row.command (bind k) (λ r. eq_by_cmp row.command.order k (row.command.key r)) get_text
+unfolding understood everything
+get k = record {
+  tests = op2 (Compare Eq Binary) (col 1 0) (col 0 0) ∷ [];
+  project = shown;
+  order = by_key;
+  names = map (λ c. c.name) row.command.table.columns;
+  command = refl;
+  plain = (refl, refl);
+  unlisted = refl;
+  test = λ r. equal Binary (column r 0) (Int (pos k)) && true;
+  hits = λ r. refl;
+  agree = λ w. and-true _ ∙ equal-Nat w.number k;
+  sorted_by = λ r. column r 0 ∷ [];
+  shows = λ r. refl;
+  in_order = λ v w. then-Equal _ ∙ sorted-Nat v.number w.number;
+}
+
+-- the command that the sender calls so
+abbrev pub of_id_text : List ℕ
+of_id_text = codes "SELECT * FROM command WHERE id = ?1 ORDER BY number"
+
+pub of_id : (id : List ℕ) → ReadsSome row.command (Text id ∷ []) (λ r. eq_by_cmp (slice_cmp nat_cmp) id r.id) of_id_text
+unfolding understood everything
+of_id id = record {
+  tests = op2 (Compare Eq Binary) (col 1 2) (col 0 0) ∷ [];
+  project = shown;
+  order = by_key;
+  names = map (λ c. c.name) row.command.table.columns;
+  command = refl;
+  plain = (refl, refl);
+  unlisted = refl;
+  test = λ r. equal Binary (column r 1) (Text id) && true;
+  hits = λ r. refl;
+  agree = λ w. and-true _ ∙ equal-Text w.id id;
+  sorted_by = λ r. column r 0 ∷ [];
+  shows = λ r. refl;
+  in_order = λ v w. then-Equal _ ∙ sorted-Nat v.number w.number;
+}
+
+-- the row of the greatest key
+abbrev pub greatest_text : List ℕ
+greatest_text = codes "SELECT * FROM command ORDER BY number DESC LIMIT 1"
+
+pub greatest : ReadsFirst row.command ([]) (λ r. true) 1 true greatest_text
+unfolding understood everything
+greatest = record {
+  tests = [];
+  project = shown;
+  order = (col 1 0, record { collation = Binary; descending = true }) ∷ [];
+  names = map (λ c. c.name) row.command.table.columns;
+  command = refl;
+  plain = (refl, refl);
+  unlisted = refl;
+  test = λ r. true;
+  hits = λ r. refl;
+  agree = λ w. refl;
+  sorted_by = λ r. column r 0 ∷ [];
+  shows = λ r. refl;
+  in_order = λ v w. then-Equal _ ∙ sorted-Nat w.number v.number;
+}
+
+-- the next rows after a key
+abbrev pub after_text : List ℕ
+after_text = codes "SELECT * FROM command WHERE number > ?1 ORDER BY number LIMIT 256"
+
+pub after : (k : ℕ) → ReadsFirst row.command (Int (pos k) ∷ []) (λ r. is_gt (nat_cmp r.number k)) 256 false after_text
+unfolding understood everything
+after k = record {
+  tests = op2 (Compare Gt Binary) (col 1 0) (col 0 0) ∷ [];
+  project = shown;
+  order = by_key;
+  names = map (λ c. c.name) row.command.table.columns;
+  command = refl;
+  plain = (refl, refl);
+  unlisted = refl;
+  test = λ r. greater (column r 0) (Int (pos k)) && true;
+  hits = λ r. refl;
+  agree = λ w. and-true _ ∙ greater-Nat w.number k;
+  sorted_by = λ r. column r 0 ∷ [];
+  shows = λ r. refl;
+  in_order = λ v w. then-Equal _ ∙ sorted-Nat v.number w.number;
+}
+
+-- ---- count
+
+abbrev pub count_text : List ℕ
+count_text = codes "SELECT count(*) FROM command"
+
+pub count : CountsAll row.command count_text
+unfolding understood everything
+count = record { names = codes "count(*)" ∷ []; command = refl; plain = (refl, refl); unlisted = refl }

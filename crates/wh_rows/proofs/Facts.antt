@@ -1,0 +1,242 @@
+-- The statements on fact.
+use Rattle.std.proofs.Common.{ℕ, List, [], ◌∷◌, codes, map, pos, true, false, ◌&&◌, refl, sym, ap₂, ◌∙◌}
+use Rattle.std.specs.Ordering.{is_gt, eq_by_cmp, nat_cmp, ordering_then}
+use Rattle.std.specs.Cmp.Lexicographic.{slice_cmp}
+use Rattle.sqlite_value.specs.declared.value.Value.TheVariants.{Null, Int, Text}
+use Rattle.sqlite_value.specs.declared.keys.Key.{Key}
+use Rattle.sqlite_value.specs.Keys.{first_key, ascending}
+use Rattle.sqlite_value.proofs.OrderLemmas.{then-Equal, value_cmp-Text}
+use Rattle.sqlite_sql.specs.declared.ops.BinaryOp.TheVariants.{Compare}
+use Rattle.sqlite_sql.specs.declared.ops.CompareOp.TheVariants.{Eq, Gt}
+use Rattle.sqlite_sql.specs.declared.ops.UnaryOp.TheVariants.{ToNumeric}
+use Rattle.sqlite_sql.specs.Ops.{unary}
+use Rattle.sqlite_schema.specs.Rules.{equal}
+use Rattle.sqlite_rules.specs.Edit.{next_rowid}
+use Rattle.sqlite_tied.specs.Compute.{everything}
+use Rattle.sqlite.specs.Collation.TheVariants.{Binary}
+use Rattle.sqlite.specs.Order.{Row, column}
+use Rattle.sqlite.specs.Term.{Term, lit, col, op1, op2}
+use Rattle.sqlite.specs.Listing.{understood}
+use Rattle.wh_rows.specs.Rows.{LineKey}
+use Rattle.wh_rows.specs.Rows as row
+use Rattle.wh_rows.specs.Meaning.{any, PutsOne, RemovesOne, ReadsSome, CountsAll}
+use Rattle.wh_rows.specs.Firsts.{ReadsFirst}
+use Rattle.wh_rows.proofs.Cast.{cast_row_own}
+use Rattle.wh_rows.proofs.Keys.{and-true, trimmed_pair, free_rowid, equal-Nat, equal-Text, sorted-Nat, greater, greater-Nat, greater-Text, then_eq}
+
+-- ---- put
+
+abbrev pub put_text : List ℕ
+put_text = codes "INSERT OR REPLACE INTO fact VALUES (?1, ?2, ?3, ?4, ?5, ?6, ?7, ?8, ?9, ?10, ?11, ?12, ?13)"
+
+pub put : PutsOne row.fact any put_text
+unfolding understood everything first_key
+put = record {
+  at = 9;
+  table = record { has = refl; uncounted = refl; unstamped = refl; idle = λ keys olds news. refl };
+  terms = lit Null ∷ col 0 0 ∷ col 0 1 ∷ col 0 2 ∷ col 0 3 ∷ col 0 4 ∷ col 0 5 ∷ col 0 6 ∷ col 0 7 ∷ col 0 8 ∷ col 0 9 ∷ col 0 10 ∷ col 0 11 ∷ col 0 12 ∷ [];
+  width = 14;
+  command = refl;
+  plain = (refl, refl);
+  source = λ v. Null ∷ row.fact.encode v;
+  given = λ v. refl;
+  whole = λ v. refl;
+  own = λ v. cast_row_own row.fact.table Null (row.fact.encode v) refl refl;
+  kept = λ v rows. cast_row_own row.fact.table (Int (next_rowid rows)) (row.fact.encode v) refl refl;
+  numbered = λ v rows. refl;
+  shows = λ v rows. refl;
+  test = λ v r. equal Binary (column r 0) (Text v.ticket) && equal Binary (column r 1) (Int (pos v.line));
+  hits = λ v rows rising r here. trimmed_pair _ _ _ (free_rowid rows rising r here);
+  agree = λ v w stands. ap₂ ◌&&◌ (equal-Text w.ticket v.ticket) (equal-Nat w.line v.line) ∙ sym (then_eq (slice_cmp nat_cmp v.ticket w.ticket) (nat_cmp v.line w.line));
+}
+
+-- ---- remove
+
+-- a key as parameters
+abbrev pub bind : LineKey → Row
+bind k = Text k.ticket ∷ Int (pos k.line) ∷ []
+
+abbrev pub remove_text : List ℕ
+remove_text = codes "DELETE FROM fact WHERE ticket = ?1 AND line = ?2"
+
+pub remove : RemovesOne row.fact bind remove_text
+unfolding understood everything unary
+remove = record {
+  at = 9;
+  table = record { has = refl; uncounted = refl; unstamped = refl; idle = λ keys olds news. refl };
+  tests = op2 (Compare Eq Binary) (col 1 1) (col 0 0) ∷ op2 (Compare Eq Binary) (col 1 2) (op1 ToNumeric (col 0 1)) ∷ [];
+  command = refl;
+  plain = (refl, refl);
+  test = λ k r. equal Binary (column r 0) (Text k.ticket) && (equal Binary (column r 1) (Int (pos k.line)) && true);
+  hits = λ k r. refl;
+  agree = λ k w. ap₂ ◌&&◌ (equal-Text w.ticket k.ticket) (and-true _ ∙ equal-Nat w.line k.line) ∙ sym (then_eq (slice_cmp nat_cmp k.ticket w.ticket) (nat_cmp k.line w.line));
+}
+
+-- ---- read, in order of key
+
+abbrev shown : List Term
+shown = col 1 1 ∷ col 1 2 ∷ col 1 3 ∷ col 1 4 ∷ col 1 5 ∷ col 1 6 ∷ col 1 7 ∷ col 1 8 ∷ col 1 9 ∷ col 1 10 ∷ col 1 11 ∷ col 1 12 ∷ col 1 13 ∷ []
+
+abbrev by_key : List (Term × Key)
+by_key = (col 1 1, ascending Binary) ∷ (col 1 2, ascending Binary) ∷ []
+
+abbrev pub all_text : List ℕ
+all_text = codes "SELECT * FROM fact ORDER BY ticket, line"
+
+pub all : ReadsSome row.fact [] (λ r. true) all_text
+unfolding understood everything
+all = record {
+  tests = [];
+  project = shown;
+  order = by_key;
+  names = map (λ c. c.name) row.fact.table.columns;
+  command = refl;
+  plain = (refl, refl);
+  unlisted = refl;
+  test = λ r. true;
+  hits = λ r. refl;
+  agree = λ v. refl;
+  sorted_by = λ r. column r 0 ∷ column r 1 ∷ [];
+  shows = λ r. refl;
+  in_order = λ v w. ap₂ ordering_then (value_cmp-Text v.ticket w.ticket) (then-Equal _ ∙ sorted-Nat v.line w.line);
+}
+
+abbrev pub get_text : List ℕ
+get_text = codes "SELECT * FROM fact WHERE ticket = ?1 AND line = ?2 ORDER BY ticket, line"
+
+pub get : (k : LineKey) → ReadsSome row.fact (bind k) (λ r. eq_by_cmp row.fact.order k (row.fact.key r)) get_text
+unfolding understood everything unary
+get k = record {
+  tests = op2 (Compare Eq Binary) (col 1 1) (col 0 0) ∷ op2 (Compare Eq Binary) (col 1 2) (op1 ToNumeric (col 0 1)) ∷ [];
+  project = shown;
+  order = by_key;
+  names = map (λ c. c.name) row.fact.table.columns;
+  command = refl;
+  plain = (refl, refl);
+  unlisted = refl;
+  test = λ r. equal Binary (column r 0) (Text k.ticket) && (equal Binary (column r 1) (Int (pos k.line)) && true);
+  hits = λ r. refl;
+  agree = λ w. ap₂ ◌&&◌ (equal-Text w.ticket k.ticket) (and-true _ ∙ equal-Nat w.line k.line) ∙ sym (then_eq (slice_cmp nat_cmp k.ticket w.ticket) (nat_cmp k.line w.line));
+  sorted_by = λ r. column r 0 ∷ column r 1 ∷ [];
+  shows = λ r. refl;
+  in_order = λ v w. ap₂ ordering_then (value_cmp-Text v.ticket w.ticket) (then-Equal _ ∙ sorted-Nat v.line w.line);
+}
+
+-- the facts of a store
+abbrev pub of_store_text : List ℕ
+of_store_text = codes "SELECT * FROM fact WHERE store_durable = ?1 ORDER BY ticket, line"
+
+pub of_store : (durable : ℕ) → ReadsSome row.fact (Int (pos durable) ∷ []) (λ r. eq_by_cmp nat_cmp durable r.store_durable) of_store_text
+unfolding understood everything unary
+of_store durable = record {
+  tests = op2 (Compare Eq Binary) (col 1 7) (op1 ToNumeric (col 0 0)) ∷ [];
+  project = shown;
+  order = by_key;
+  names = map (λ c. c.name) row.fact.table.columns;
+  command = refl;
+  plain = (refl, refl);
+  unlisted = refl;
+  test = λ r. equal Binary (column r 6) (Int (pos durable)) && true;
+  hits = λ r. refl;
+  agree = λ w. and-true _ ∙ equal-Nat w.store_durable durable;
+  sorted_by = λ r. column r 0 ∷ column r 1 ∷ [];
+  shows = λ r. refl;
+  in_order = λ v w. ap₂ ordering_then (value_cmp-Text v.ticket w.ticket) (then-Equal _ ∙ sorted-Nat v.line w.line);
+}
+
+-- the facts of a product
+abbrev pub of_product_text : List ℕ
+of_product_text = codes "SELECT * FROM fact WHERE product_durable = ?1 ORDER BY ticket, line"
+
+pub of_product : (durable : ℕ) → ReadsSome row.fact (Int (pos durable) ∷ []) (λ r. eq_by_cmp nat_cmp durable r.product_durable) of_product_text
+unfolding understood everything unary
+of_product durable = record {
+  tests = op2 (Compare Eq Binary) (col 1 8) (op1 ToNumeric (col 0 0)) ∷ [];
+  project = shown;
+  order = by_key;
+  names = map (λ c. c.name) row.fact.table.columns;
+  command = refl;
+  plain = (refl, refl);
+  unlisted = refl;
+  test = λ r. equal Binary (column r 7) (Int (pos durable)) && true;
+  hits = λ r. refl;
+  agree = λ w. and-true _ ∙ equal-Nat w.product_durable durable;
+  sorted_by = λ r. column r 0 ∷ column r 1 ∷ [];
+  shows = λ r. refl;
+  in_order = λ v w. ap₂ ordering_then (value_cmp-Text v.ticket w.ticket) (then-Equal _ ∙ sorted-Nat v.line w.line);
+}
+
+-- the facts of a customer
+abbrev pub of_customer_text : List ℕ
+of_customer_text = codes "SELECT * FROM fact WHERE customer_durable = ?1 ORDER BY ticket, line"
+
+pub of_customer : (durable : ℕ) → ReadsSome row.fact (Int (pos durable) ∷ []) (λ r. eq_by_cmp nat_cmp durable r.customer_durable) of_customer_text
+unfolding understood everything unary
+of_customer durable = record {
+  tests = op2 (Compare Eq Binary) (col 1 9) (op1 ToNumeric (col 0 0)) ∷ [];
+  project = shown;
+  order = by_key;
+  names = map (λ c. c.name) row.fact.table.columns;
+  command = refl;
+  plain = (refl, refl);
+  unlisted = refl;
+  test = λ r. equal Binary (column r 8) (Int (pos durable)) && true;
+  hits = λ r. refl;
+  agree = λ w. and-true _ ∙ equal-Nat w.customer_durable durable;
+  sorted_by = λ r. column r 0 ∷ column r 1 ∷ [];
+  shows = λ r. refl;
+  in_order = λ v w. ap₂ ordering_then (value_cmp-Text v.ticket w.ticket) (then-Equal _ ∙ sorted-Nat v.line w.line);
+}
+
+-- the next rows after all of a ticket
+abbrev pub after_text : List ℕ
+after_text = codes "SELECT * FROM fact WHERE ticket > ?1 ORDER BY ticket, line LIMIT 256"
+
+pub after : (ticket : List ℕ) → ReadsFirst row.fact (Text ticket ∷ []) (λ r. is_gt (slice_cmp nat_cmp r.ticket ticket)) 256 false after_text
+unfolding understood everything
+after ticket = record {
+  tests = op2 (Compare Gt Binary) (col 1 1) (col 0 0) ∷ [];
+  project = shown;
+  order = by_key;
+  names = map (λ c. c.name) row.fact.table.columns;
+  command = refl;
+  plain = (refl, refl);
+  unlisted = refl;
+  test = λ r. greater (column r 0) (Text ticket) && true;
+  hits = λ r. refl;
+  agree = λ w. and-true _ ∙ greater-Text w.ticket ticket;
+  sorted_by = λ r. column r 0 ∷ column r 1 ∷ [];
+  shows = λ r. refl;
+  in_order = λ v w. ap₂ ordering_then (value_cmp-Text v.ticket w.ticket) (then-Equal _ ∙ sorted-Nat v.line w.line);
+}
+
+-- the next rows of that ticket after a key
+abbrev pub rest_text : List ℕ
+rest_text = codes "SELECT * FROM fact WHERE ticket = ?1 AND line > ?2 ORDER BY ticket, line LIMIT 256"
+
+pub rest : (k : LineKey) → ReadsFirst row.fact (bind k) (λ r. eq_by_cmp (slice_cmp nat_cmp) k.ticket r.ticket && is_gt (nat_cmp r.line k.line)) 256 false rest_text
+unfolding understood everything unary
+rest k = record {
+  tests = op2 (Compare Eq Binary) (col 1 1) (col 0 0) ∷ op2 (Compare Gt Binary) (col 1 2) (op1 ToNumeric (col 0 1)) ∷ [];
+  project = shown;
+  order = by_key;
+  names = map (λ c. c.name) row.fact.table.columns;
+  command = refl;
+  plain = (refl, refl);
+  unlisted = refl;
+  test = λ r. equal Binary (column r 0) (Text k.ticket) && (greater (column r 1) (Int (pos k.line)) && true);
+  hits = λ r. refl;
+  agree = λ w. ap₂ ◌&&◌ (equal-Text w.ticket k.ticket) (and-true _ ∙ greater-Nat w.line k.line);
+  sorted_by = λ r. column r 0 ∷ column r 1 ∷ [];
+  shows = λ r. refl;
+  in_order = λ v w. ap₂ ordering_then (value_cmp-Text v.ticket w.ticket) (then-Equal _ ∙ sorted-Nat v.line w.line);
+}
+
+-- ---- count
+
+abbrev pub count_text : List ℕ
+count_text = codes "SELECT count(*) FROM fact"
+
+pub count : CountsAll row.fact count_text
+unfolding understood everything
+count = record { names = codes "count(*)" ∷ []; command = refl; plain = (refl, refl); unlisted = refl }

@@ -1,0 +1,378 @@
+-- Making the ten tables and their indexes.
+use Rattle.std.proofs.Common.{◌≡◌, ℕ, codes, List, [], ◌∷◌, ◌++◌, map, length, arith, Ordering, inl, inr, None, Ok, false, refl, sym, ap, subst, ◌∙◌}
+use Rattle.std.specs.Prelude.{IsTrue}
+use Rattle.std.specs.List.{AllByRecursion}
+use Rattle.std.specs.List.Sorted.{IsPermutation}
+use Rattle.std.specs.FinMap.{empty, entries, len-entries, len-empty}
+use Rattle.std.proofs.lemmas.List.Sorted.{IsPermutation-refl}
+use Rattle.sqlite.specs.Table.{Table}
+use Rattle.sqlite.specs.Tree.{Trees}
+use Rattle.sqlite.specs.Schema.{Schema}
+use Rattle.sqlite.specs.Change.{created, indexed, next_tree, KeepsRows}
+use Rattle.sqlite.specs.Command.TheVariants.{CreateTable, CreateIndex}
+use Rattle.sqlite.specs.Effect.{Database, IsDatabase}
+use Rattle.sqlite.specs.Does.{Tally, Does, AtPlace, Defines, lacks_sequence}
+use Rattle.sqlite.specs.Does.{MakesIndex as MadeIndex}
+use Rattle.sqlite.specs.Listing.{understood}
+use Rattle.sqlite.specs.State.{State, Executes, Writes, mode_of}
+use Rattle.sqlite.proofs.Callers.{runs_as}
+use Rattle.sqlite_schema.specs.declared.schema.Index.{Index}
+use Rattle.sqlite_tied.specs.Compute.{everything}
+use Rattle.wh_rows.specs.Schema as schema
+use Rattle.wh_rows.specs.Schema.{no_schema, warehouse}
+use Rattle.wh_rows.specs.Holds.{Layout, Holds, IsRising}
+use Rattle.wh_rows.specs.Tables.{Tables, Stores}
+use Rattle.wh_rows.specs.Rows as row
+use Rattle.wh_rows.specs.Making.{AreEmpty, MakesTable, MakesIndex, Extends, Leads, making_texts}
+use Rattle.wh_rows.proofs.Edits.{went, same_value}
+
+-- the table is there and has no row, and the others are as they were
+pub record IsMade (old new : Schema) (before after : Database) : Type 0 where
+  pub schema : after.schema ≡ new
+  pub empty : after.trees (next_tree old) ≡ []
+  pub kept : KeepsRows old.tables before.trees after.trees
+
+module _ (from : Schema) (text : List ℕ) (to : Schema) (it : MakesTable from text to) (old new : State) (count : ℕ) (has : old.now.schema ≡ from) (ran : Executes text [] old new (Ok count)) where
+  pub made : IsMade from to old.now new.now
+  made =
+      let w = subst (λ t. Writes old new None CreateTable t [] count) it.whole (runs_as text [] old new from has CreateTable it.command it.plain count ran) in
+      let all = went w.changed in
+      let first = went all.1 in
+      let it_made = first.1 in
+      let both : Ok it_made.table ≡ Ok it.table = sym it_made.defined ∙ it.defined in
+      let same : it_made.table ≡ it.table = same_value both in
+      let schema_is : first.0.schema ≡ to = it_made.is ∙ ap (λ s. created s it_made.table) has ∙ ap (created from) same ∙ it.is in
+      let none : lacks_sequence first.0.schema ≡ false = ap lacks_sequence schema_is ∙ it.uncounted in
+      let now : new.now ≡ first.0 = ap (λ (p : Tally × Database). p.1) (same_value all.2) ∙ same_value (rw none at first.2) in
+      record {
+        schema = ap (λ (d : Database). d.schema) now ∙ schema_is;
+        empty = ap (λ (d : Database). d.trees (next_tree from)) now ∙ subst (λ s. first.0.trees (next_tree s) ≡ []) has it_made.empty;
+        kept = subst (λ (d : Database). KeepsRows from.tables old.now.trees d.trees) (sym now) (subst (λ s. KeepsRows s.tables old.now.trees first.0.trees) has it_made.others);
+      }
+
+module _ (from : Schema) (text : List ℕ) (to : Schema) (it : MakesIndex from text to) (old new : State) (count : ℕ) (has : old.now.schema ≡ from) (ran : Executes text [] old new (Ok count)) where
+  pub indexes : (new.now.schema ≡ to) × KeepsRows from.tables old.now.trees new.now.trees
+  indexes =
+      let w = subst (λ t. Writes old new None (CreateIndex it.at) t [] count) it.whole (runs_as text [] old new from has (CreateIndex it.at) it.command it.plain count ran) in
+      let db : Database = record { schema = from; trees = old.now.trees } in
+      let changed = subst (λ s. Does old.step_limit (mode_of old) [] (record old.now { schema = s }) text None (CreateIndex it.at) (Ok (w.tally, new.now))) has w.changed in
+      let made = went (subst (λ place. AtPlace (λ table. Defines (mode_of old) (MadeIndex text db table)) place (Ok (w.tally, new.now))) it.has changed) in
+      let first = made.1 in
+      let now : new.now ≡ made.0 = ap (λ (p : Tally × Database). p.1) (same_value made.2) in
+      let same : first.index ≡ it.index = same_value (sym first.defined ∙ it.defined) in
+      let schema_is : made.0.schema ≡ to = first.is ∙ ap (indexed from it.table) same ∙ it.is in
+      subst (λ (d : Database). (d.schema ≡ to) × KeepsRows from.tables old.now.trees d.trees) (sym now) (schema_is, first.rows)
+
+-- ---- the schemas on the way
+
+abbrev with_0 : Schema
+with_0 = no_schema
+
+abbrev with_1 : Schema
+with_1 = created with_0 (record schema.meta { tree = 0 })
+
+abbrev with_2 : Schema
+with_2 = created with_1 (record schema.command { tree = 0 })
+
+abbrev with_3 : Schema
+with_3 = created with_2 (record schema.member { tree = 0 })
+
+abbrev with_4 : Schema
+with_4 = created with_3 (record schema.change { tree = 0 })
+
+abbrev with_5 : Schema
+with_5 = created with_4 (record schema.product { tree = 0 })
+
+abbrev with_6 : Schema
+with_6 = created with_5 (record schema.store { tree = 0 })
+
+abbrev with_7 : Schema
+with_7 = created with_6 (record schema.customer { tree = 0 })
+
+abbrev with_8 : Schema
+with_8 = created with_7 (record schema.profile { tree = 0 })
+
+abbrev with_9 : Schema
+with_9 = created with_8 (record schema.calendar { tree = 0 })
+
+abbrev with_10 : Schema
+with_10 = created with_9 (record schema.fact { tree = 0 })
+
+abbrev change_by_member : Index
+change_by_member = schema.index (codes "change_by_member") 0 schema.change.tree (3 ∷ 4 ∷ []) false
+
+abbrev with_11 : Schema
+with_11 = indexed with_10 schema.change change_by_member
+
+abbrev change_by_anchor : Index
+change_by_anchor = schema.index (codes "change_by_anchor") 0 schema.change.tree (3 ∷ 6 ∷ []) false
+
+abbrev with_12 : Schema
+with_12 = indexed with_11 schema.change change_by_anchor
+
+abbrev product_by_durable : Index
+product_by_durable = schema.index (codes "product_by_durable") 0 schema.product.tree (2 ∷ []) false
+
+abbrev with_13 : Schema
+with_13 = indexed with_12 schema.product product_by_durable
+
+abbrev store_by_durable : Index
+store_by_durable = schema.index (codes "store_by_durable") 0 schema.store.tree (2 ∷ []) false
+
+abbrev with_14 : Schema
+with_14 = indexed with_13 schema.store store_by_durable
+
+abbrev customer_by_durable : Index
+customer_by_durable = schema.index (codes "customer_by_durable") 0 schema.customer.tree (2 ∷ []) false
+
+abbrev with_15 : Schema
+with_15 = indexed with_14 schema.customer customer_by_durable
+
+abbrev fact_by_store : Index
+fact_by_store = schema.index (codes "fact_by_store") 0 schema.fact.tree (7 ∷ 3 ∷ []) false
+
+abbrev with_16 : Schema
+with_16 = indexed with_15 schema.fact fact_by_store
+
+abbrev fact_by_product : Index
+fact_by_product = schema.index (codes "fact_by_product") 0 schema.fact.tree (8 ∷ 3 ∷ []) false
+
+abbrev with_17 : Schema
+with_17 = indexed with_16 schema.fact fact_by_product
+
+abbrev fact_by_customer : Index
+fact_by_customer = schema.index (codes "fact_by_customer") 0 schema.fact.tree (9 ∷ 3 ∷ []) false
+
+abbrev with_18 : Schema
+with_18 = indexed with_17 schema.fact fact_by_customer
+
+abbrev profile_by_values : Index
+profile_by_values = schema.index (codes "profile_by_values") 0 schema.profile.tree (2 ∷ 3 ∷ 4 ∷ 5 ∷ 6 ∷ 7 ∷ []) false
+
+abbrev with_19 : Schema
+with_19 = indexed with_18 schema.profile profile_by_values
+
+makes_meta : MakesTable with_0 schema.create_meta with_1
+unfolding understood everything
+makes_meta = record { command = refl; whole = refl; plain = (refl, refl); table = record schema.meta { tree = 0 }; defined = refl; is = refl; uncounted = refl }
+
+makes_command : MakesTable with_1 schema.create_command with_2
+unfolding understood everything
+makes_command = record { command = refl; whole = refl; plain = (refl, refl); table = record schema.command { tree = 0 }; defined = refl; is = refl; uncounted = refl }
+
+makes_member : MakesTable with_2 schema.create_member with_3
+unfolding understood everything
+makes_member = record { command = refl; whole = refl; plain = (refl, refl); table = record schema.member { tree = 0 }; defined = refl; is = refl; uncounted = refl }
+
+makes_change : MakesTable with_3 schema.create_change with_4
+unfolding understood everything
+makes_change = record { command = refl; whole = refl; plain = (refl, refl); table = record schema.change { tree = 0 }; defined = refl; is = refl; uncounted = refl }
+
+makes_product : MakesTable with_4 schema.create_product with_5
+unfolding understood everything
+makes_product = record { command = refl; whole = refl; plain = (refl, refl); table = record schema.product { tree = 0 }; defined = refl; is = refl; uncounted = refl }
+
+makes_store : MakesTable with_5 schema.create_store with_6
+unfolding understood everything
+makes_store = record { command = refl; whole = refl; plain = (refl, refl); table = record schema.store { tree = 0 }; defined = refl; is = refl; uncounted = refl }
+
+makes_customer : MakesTable with_6 schema.create_customer with_7
+unfolding understood everything
+makes_customer = record { command = refl; whole = refl; plain = (refl, refl); table = record schema.customer { tree = 0 }; defined = refl; is = refl; uncounted = refl }
+
+makes_profile : MakesTable with_7 schema.create_profile with_8
+unfolding understood everything
+makes_profile = record { command = refl; whole = refl; plain = (refl, refl); table = record schema.profile { tree = 0 }; defined = refl; is = refl; uncounted = refl }
+
+makes_calendar : MakesTable with_8 schema.create_calendar with_9
+unfolding understood everything
+makes_calendar = record { command = refl; whole = refl; plain = (refl, refl); table = record schema.calendar { tree = 0 }; defined = refl; is = refl; uncounted = refl }
+
+makes_fact : MakesTable with_9 schema.create_fact with_10
+unfolding understood everything
+makes_fact = record { command = refl; whole = refl; plain = (refl, refl); table = record schema.fact { tree = 0 }; defined = refl; is = refl; uncounted = refl }
+
+makes_change_by_member : MakesIndex with_10 schema.create_change_by_member with_11
+unfolding understood everything
+makes_change_by_member = record { at = 3; table = schema.change; has = refl; command = refl; whole = refl; plain = (refl, refl); index = change_by_member; defined = refl; is = refl }
+
+makes_change_by_anchor : MakesIndex with_11 schema.create_change_by_anchor with_12
+unfolding understood everything
+makes_change_by_anchor = record { at = 3; table = schema.change; has = refl; command = refl; whole = refl; plain = (refl, refl); index = change_by_anchor; defined = refl; is = refl }
+
+makes_product_by_durable : MakesIndex with_12 schema.create_product_by_durable with_13
+unfolding understood everything
+makes_product_by_durable = record { at = 4; table = schema.product; has = refl; command = refl; whole = refl; plain = (refl, refl); index = product_by_durable; defined = refl; is = refl }
+
+makes_store_by_durable : MakesIndex with_13 schema.create_store_by_durable with_14
+unfolding understood everything
+makes_store_by_durable = record { at = 5; table = schema.store; has = refl; command = refl; whole = refl; plain = (refl, refl); index = store_by_durable; defined = refl; is = refl }
+
+makes_customer_by_durable : MakesIndex with_14 schema.create_customer_by_durable with_15
+unfolding understood everything
+makes_customer_by_durable = record { at = 6; table = schema.customer; has = refl; command = refl; whole = refl; plain = (refl, refl); index = customer_by_durable; defined = refl; is = refl }
+
+makes_fact_by_store : MakesIndex with_15 schema.create_fact_by_store with_16
+unfolding understood everything
+makes_fact_by_store = record { at = 9; table = schema.fact; has = refl; command = refl; whole = refl; plain = (refl, refl); index = fact_by_store; defined = refl; is = refl }
+
+makes_fact_by_product : MakesIndex with_16 schema.create_fact_by_product with_17
+unfolding understood everything
+makes_fact_by_product = record { at = 9; table = schema.fact; has = refl; command = refl; whole = refl; plain = (refl, refl); index = fact_by_product; defined = refl; is = refl }
+
+makes_fact_by_customer : MakesIndex with_17 schema.create_fact_by_customer with_18
+unfolding understood everything
+makes_fact_by_customer = record { at = 9; table = schema.fact; has = refl; command = refl; whole = refl; plain = (refl, refl); index = fact_by_customer; defined = refl; is = refl }
+
+makes_profile_by_values : MakesIndex with_18 schema.create_profile_by_values with_19
+unfolding understood everything
+makes_profile_by_values = record { at = 7; table = schema.profile; has = refl; command = refl; whole = refl; plain = (refl, refl); index = profile_by_values; defined = refl; is = refl }
+
+all_made : with_19 ≡ warehouse
+unfolding everything
+all_made = refl
+
+-- ---- no table has a row
+
+still_empty : (tables : List Table) (old new : Trees) → KeepsRows tables old new → AreEmpty tables old → AreEmpty tables new
+still_empty [] old new kept none = tt
+still_empty (t ∷ ts) old new kept none = (kept.0 ∙ none.0, still_empty ts old new kept.1 none.1)
+
+one_more : (tables : List Table) (t : Table) (trees : Trees) → AreEmpty tables trees → trees t.tree ≡ [] → AreEmpty (tables ++ t ∷ []) trees
+one_more [] t trees none last = (last, tt)
+one_more (x ∷ xs) t trees none last = (none.0, one_more xs t trees none.1 last)
+
+pub made_empty : (from : Schema) (table : Table) (before after : Database) → IsMade from (created from table) before after → AreEmpty from.tables before.trees → AreEmpty (created from table).tables after.trees
+made_empty from table before after made none = one_more from.tables _ after.trees (still_empty from.tables before.trees after.trees made.kept none) made.empty
+
+no_values : {K V : Type 0} (R : K → K → Ordering) → entries (empty {K = K} {X = V} {R = R}) ≡ []
+no_values {K} {V} R = no_entries (entries (empty {K = K} {X = V} {R = R})) (sym (len-entries (empty {K = K} {X = V} {R = R})) ∙ len-empty R V)
+  where
+    no_entries : (es : List (K × V)) → length es ≡ 0 → es ≡ []
+    no_entries [] e = refl
+    no_entries (x ∷ es) e = absurd (omega arith)
+
+holds_none : {K V : Type 0} (layout : Layout K V) (db : Trees) → db layout.table.tree ≡ [] → Holds layout db empty
+holds_none {K} {V} layout db none = record {
+  rows_are = rw none (subst (λ (es : List (K × V)). IsPermutation [] (map layout.encode (map (λ e. e.1) es))) (sym (no_values layout.order)) (IsPermutation-refl []));
+  keyed = subst (AllByRecursion (λ (e : K × V). e.0 ≡ layout.key e.1)) (sym (no_values layout.order)) tt;
+  valid = subst (AllByRecursion (λ (e : K × V). IsTrue (layout.is_valid e.1))) (sym (no_values layout.order)) tt;
+}
+
+all_rising : (tables : List Table) (trees : Trees) → AreEmpty tables trees → AllByRecursion (λ t. IsRising (trees t.tree)) tables
+all_rising [] trees none = tt
+all_rising (t ∷ ts) trees none = (subst IsRising (sym none.0) (tt, tt), all_rising ts trees none.1)
+
+-- the ten tables with no row
+pub no_tables : Tables
+no_tables = record { meta = empty; command = empty; member = empty; change = empty; product = empty; store = empty; customer = empty; profile = empty; calendar = empty; fact = empty }
+
+pub stores_none : (db : Database) → db.schema ≡ warehouse → IsDatabase db → AreEmpty warehouse.tables db.trees → Stores db no_tables
+unfolding no_tables
+stores_none db is sound none = record {
+  schema = is;
+  sound = sound;
+  rising = all_rising warehouse.tables db.trees none;
+  meta = holds_none row.meta db.trees none.0;
+  command = holds_none row.command db.trees none.1.0;
+  member = holds_none row.member db.trees none.1.1.0;
+  change = holds_none row.change db.trees none.1.1.1.0;
+  product = holds_none row.product db.trees none.1.1.1.1.0;
+  store = holds_none row.store db.trees none.1.1.1.1.1.0;
+  customer = holds_none row.customer db.trees none.1.1.1.1.1.1.0;
+  profile = holds_none row.profile db.trees none.1.1.1.1.1.1.1.0;
+  calendar = holds_none row.calendar db.trees none.1.1.1.1.1.1.1.1.0;
+  fact = holds_none row.fact db.trees none.1.1.1.1.1.1.1.1.1.0;
+}
+
+-- ---- all of it
+
+-- run where the one schema stands over empty tables, the text leaves the other schema over empty tables
+pub extended : (from : Schema) (text : List ℕ) (to : Schema) → Extends from text to → (old new : State) (count : ℕ) → old.now.schema ≡ from → AreEmpty from.tables old.now.trees → Executes text [] old new (Ok count)
+    → (new.now.schema ≡ to) × AreEmpty to.tables new.now.trees
+extended from text to (inl it) old new count has none ran =
+    let done = made from text to it old new count has ran in
+    (done.schema, subst (λ (s : Schema). AreEmpty s.tables new.now.trees) it.is (made_empty from it.table old.now new.now (subst (λ s. IsMade from s old.now new.now) (sym it.is) done) none))
+extended from text to (inr it) old new count has none ran =
+    let done = indexes from text to it old new count has ran in
+    (done.0, subst (λ (s : Schema). AreEmpty s.tables new.now.trees) it.is (still_empty from.tables old.now.trees new.now.trees done.1 none))
+
+-- the texts make the warehouse in a database with no object
+pub makes_all : Leads no_schema making_texts warehouse
+makes_all = (
+  with_1,
+  inl makes_meta,
+  (
+    with_2,
+    inl makes_command,
+    (
+      with_3,
+      inl makes_member,
+      (
+        with_4,
+        inl makes_change,
+        (
+          with_5,
+          inl makes_product,
+          (
+            with_6,
+            inl makes_store,
+            (
+              with_7,
+              inl makes_customer,
+              (
+                with_8,
+                inl makes_profile,
+                (
+                  with_9,
+                  inl makes_calendar,
+                  (
+                    with_10,
+                    inl makes_fact,
+                    (
+                      with_11,
+                      inr makes_change_by_member,
+                      (
+                        with_12,
+                        inr makes_change_by_anchor,
+                        (
+                          with_13,
+                          inr makes_product_by_durable,
+                          (
+                            with_14,
+                            inr makes_store_by_durable,
+                            (
+                              with_15,
+                              inr makes_customer_by_durable,
+                              (
+                                with_16,
+                                inr makes_fact_by_store,
+                                (
+                                  with_17,
+                                  inr makes_fact_by_product,
+                                  (
+                                    with_18,
+                                    inr makes_fact_by_customer,
+                                    (
+                                      with_19,
+                                      inr makes_profile_by_values,
+                                      all_made,
+                                    ),
+                                  ),
+                                ),
+                              ),
+                            ),
+                          ),
+                        ),
+                      ),
+                    ),
+                  ),
+                ),
+              ),
+            ),
+          ),
+        ),
+      ),
+    ),
+  ),
+)

@@ -1,0 +1,240 @@
+-- The statements on member.
+use Rattle.std.proofs.Common.{◌≡◌, ℕ, List, [], ◌∷◌, codes, map, pos, true, false, ◌&&◌, ◌||◌, refl, sym, ap, ap₂, ◌∙◌}
+use Rattle.std.specs.Ordering.{is_eq, is_gt, eq_by_cmp, nat_cmp, ordering_then}
+use Rattle.std.specs.Cmp.{tied_itself}
+use Rattle.std.proofs.lemmas.Cmp.{nat_cmp_total}
+use Rattle.std.specs.Cmp.Lexicographic.{slice_cmp}
+use Rattle.std.specs.FinMap.{nat_cmp-IsAntisymmetric, slice_cmp-IsAntisymmetric}
+use Rattle.sqlite_value.specs.declared.value.Value.TheVariants.{Null, Int, Text}
+use Rattle.sqlite_value.specs.declared.keys.Key.{Key}
+use Rattle.sqlite_value.specs.Keys.{first_key, ascending}
+use Rattle.sqlite_value.proofs.OrderLemmas.{then-Equal}
+use Rattle.sqlite_sql.specs.declared.ops.BinaryOp.TheVariants.{Compare}
+use Rattle.sqlite_sql.specs.declared.ops.CompareOp.TheVariants.{Eq, Gt}
+use Rattle.sqlite_sql.specs.declared.ops.UnaryOp.TheVariants.{ToNumeric}
+use Rattle.sqlite_sql.specs.Ops.{unary}
+use Rattle.sqlite_schema.specs.Rules.{equal}
+use Rattle.sqlite_rules.specs.Edit.{next_rowid}
+use Rattle.sqlite_tied.specs.Compute.{everything}
+use Rattle.sqlite.specs.Collation.TheVariants.{Binary}
+use Rattle.sqlite.specs.Order.{Row, column}
+use Rattle.sqlite.specs.Term.{Term, lit, col, op1, op2}
+use Rattle.sqlite.specs.Listing.{understood}
+use Rattle.wh_policy.specs.declared.attribute.Dim.{Dim}
+use Rattle.wh_rows.specs.declared.rows.MemberRow.{MemberRow}
+use Rattle.wh_rows.specs.Types.{dim_number}
+use Rattle.wh_rows.specs.Rows.{MemberKey}
+use Rattle.wh_rows.specs.Rows as row
+use Rattle.wh_rows.specs.Meaning.{PutsOne, RemovesOne, ReadsSome, CountsAll}
+use Rattle.wh_rows.specs.Firsts.{ReadsFirst}
+use Rattle.wh_rows.proofs.Cast.{cast_row_own}
+use Rattle.wh_rows.proofs.Keys.{and-true, trimmed_both, free_rowid, equal-Nat, equal-Text, sorted-Nat, greater, greater-Nat, then_eq, equal_is, absorbed}
+
+-- ---- put
+
+abbrev pub put_text : List ℕ
+put_text = codes "INSERT OR REPLACE INTO member VALUES (?1, ?2, ?3, ?4)"
+
+-- only the member itself has its natural key in its dimension
+abbrev pub may_stand : MemberRow → MemberRow → Type 0
+may_stand v w = dim_number v.dim ≡ dim_number w.dim → v.natural ≡ w.natural → v.durable ≡ w.durable
+
+same_natural : (v w : MemberRow) → may_stand v w
+    → ((is_eq (nat_cmp (dim_number v.dim) (dim_number w.dim)) && is_eq (nat_cmp v.durable w.durable)) || (is_eq (nat_cmp (dim_number v.dim) (dim_number w.dim)) && is_eq (slice_cmp nat_cmp v.natural w.natural)))
+    ≡ (is_eq (nat_cmp (dim_number v.dim) (dim_number w.dim)) && is_eq (nat_cmp v.durable w.durable))
+same_natural v w stands = absorbed _ _ _ (λ one three.
+    let first = nat_cmp-IsAntisymmetric (dim_number v.dim) (dim_number w.dim) (equal_is _ one) in
+    let same = slice_cmp-IsAntisymmetric nat_cmp-IsAntisymmetric v.natural w.natural (equal_is _ three) in
+    ap (λ n. is_eq (nat_cmp v.durable n)) (sym (stands first same)) ∙ ap is_eq (tied_itself nat_cmp_total v.durable))
+
+pub put : PutsOne row.member may_stand put_text
+unfolding understood everything first_key
+put = record {
+  at = 2;
+  table = record { has = refl; uncounted = refl; unstamped = refl; idle = λ keys olds news. refl };
+  terms = lit Null ∷ col 0 0 ∷ col 0 1 ∷ col 0 2 ∷ col 0 3 ∷ [];
+  width = 5;
+  command = refl;
+  plain = (refl, refl);
+  source = λ v. Null ∷ row.member.encode v;
+  given = λ v. refl;
+  whole = λ v. refl;
+  own = λ v. cast_row_own row.member.table Null (row.member.encode v) refl refl;
+  kept = λ v rows. cast_row_own row.member.table (Int (next_rowid rows)) (row.member.encode v) refl refl;
+  numbered = λ v rows. refl;
+  shows = λ v rows. refl;
+  test = λ v r. (equal Binary (column r 0) (Int (pos (dim_number v.dim))) && equal Binary (column r 1) (Int (pos v.durable))) || (equal Binary (column r 0) (Int (pos (dim_number v.dim))) && equal Binary (column r 2) (Text v.natural));
+  hits = λ v rows rising r here. trimmed_both _ _ _ _ (free_rowid rows rising r here);
+  agree = λ v w stands.
+      ap₂ ◌||◌ (ap₂ ◌&&◌ (equal-Nat (dim_number w.dim) (dim_number v.dim)) (equal-Nat w.durable v.durable)) (ap₂ ◌&&◌ (equal-Nat (dim_number w.dim) (dim_number v.dim)) (equal-Text w.natural v.natural))
+      ∙ same_natural v w stands ∙ sym (then_eq (nat_cmp (dim_number v.dim) (dim_number w.dim)) (nat_cmp v.durable w.durable));
+}
+
+-- ---- remove
+
+-- a key as parameters
+abbrev pub bind : MemberKey → Row
+bind k = Int (pos (dim_number k.dim)) ∷ Int (pos k.durable) ∷ []
+
+abbrev pub remove_text : List ℕ
+remove_text = codes "DELETE FROM member WHERE dim = ?1 AND durable = ?2"
+
+pub remove : RemovesOne row.member bind remove_text
+unfolding understood everything unary
+remove = record {
+  at = 2;
+  table = record { has = refl; uncounted = refl; unstamped = refl; idle = λ keys olds news. refl };
+  tests = op2 (Compare Eq Binary) (col 1 1) (op1 ToNumeric (col 0 0)) ∷ op2 (Compare Eq Binary) (col 1 2) (op1 ToNumeric (col 0 1)) ∷ [];
+  command = refl;
+  plain = (refl, refl);
+  test = λ k r. equal Binary (column r 0) (Int (pos (dim_number k.dim))) && (equal Binary (column r 1) (Int (pos k.durable)) && true);
+  hits = λ k r. refl;
+  agree = λ k w. ap₂ ◌&&◌ (equal-Nat (dim_number w.dim) (dim_number k.dim)) (and-true _ ∙ equal-Nat w.durable k.durable) ∙ sym (then_eq (nat_cmp (dim_number k.dim) (dim_number w.dim)) (nat_cmp k.durable w.durable));
+}
+
+-- ---- read, in order of key
+
+abbrev shown : List Term
+shown = col 1 1 ∷ col 1 2 ∷ col 1 3 ∷ col 1 4 ∷ []
+
+abbrev by_key : List (Term × Key)
+by_key = (col 1 1, ascending Binary) ∷ (col 1 2, ascending Binary) ∷ []
+
+abbrev pub all_text : List ℕ
+all_text = codes "SELECT * FROM member ORDER BY dim, durable"
+
+pub all : ReadsSome row.member [] (λ r. true) all_text
+unfolding understood everything
+all = record {
+  tests = [];
+  project = shown;
+  order = by_key;
+  names = map (λ c. c.name) row.member.table.columns;
+  command = refl;
+  plain = (refl, refl);
+  unlisted = refl;
+  test = λ r. true;
+  hits = λ r. refl;
+  agree = λ v. refl;
+  sorted_by = λ r. column r 0 ∷ column r 1 ∷ [];
+  shows = λ r. refl;
+  in_order = λ v w. ap₂ ordering_then (sorted-Nat (dim_number v.dim) (dim_number w.dim)) (then-Equal _ ∙ sorted-Nat v.durable w.durable);
+}
+
+abbrev pub get_text : List ℕ
+get_text = codes "SELECT * FROM member WHERE dim = ?1 AND durable = ?2 ORDER BY dim, durable"
+
+pub get : (k : MemberKey) → ReadsSome row.member (bind k) (λ r. eq_by_cmp row.member.order k (row.member.key r)) get_text
+unfolding understood everything unary
+get k = record {
+  tests = op2 (Compare Eq Binary) (col 1 1) (op1 ToNumeric (col 0 0)) ∷ op2 (Compare Eq Binary) (col 1 2) (op1 ToNumeric (col 0 1)) ∷ [];
+  project = shown;
+  order = by_key;
+  names = map (λ c. c.name) row.member.table.columns;
+  command = refl;
+  plain = (refl, refl);
+  unlisted = refl;
+  test = λ r. equal Binary (column r 0) (Int (pos (dim_number k.dim))) && (equal Binary (column r 1) (Int (pos k.durable)) && true);
+  hits = λ r. refl;
+  agree = λ w. ap₂ ◌&&◌ (equal-Nat (dim_number w.dim) (dim_number k.dim)) (and-true _ ∙ equal-Nat w.durable k.durable) ∙ sym (then_eq (nat_cmp (dim_number k.dim) (dim_number w.dim)) (nat_cmp k.durable w.durable));
+  sorted_by = λ r. column r 0 ∷ column r 1 ∷ [];
+  shows = λ r. refl;
+  in_order = λ v w. ap₂ ordering_then (sorted-Nat (dim_number v.dim) (dim_number w.dim)) (then-Equal _ ∙ sorted-Nat v.durable w.durable);
+}
+
+-- the member that the source calls so
+abbrev pub of_natural_text : List ℕ
+of_natural_text = codes "SELECT * FROM member WHERE dim = ?1 AND natural = ?2 ORDER BY dim, durable"
+
+pub of_natural : (dim : Dim) (natural : List ℕ) → ReadsSome row.member (Int (pos (dim_number dim)) ∷ Text natural ∷ []) (λ r. eq_by_cmp nat_cmp (dim_number dim) (dim_number r.dim) && eq_by_cmp (slice_cmp nat_cmp) natural r.natural) of_natural_text
+unfolding understood everything unary
+of_natural dim natural = record {
+  tests = op2 (Compare Eq Binary) (col 1 1) (op1 ToNumeric (col 0 0)) ∷ op2 (Compare Eq Binary) (col 1 3) (col 0 1) ∷ [];
+  project = shown;
+  order = by_key;
+  names = map (λ c. c.name) row.member.table.columns;
+  command = refl;
+  plain = (refl, refl);
+  unlisted = refl;
+  test = λ r. equal Binary (column r 0) (Int (pos (dim_number dim))) && (equal Binary (column r 2) (Text natural) && true);
+  hits = λ r. refl;
+  agree = λ w. ap₂ ◌&&◌ (equal-Nat (dim_number w.dim) (dim_number dim)) (and-true _ ∙ equal-Text w.natural natural);
+  sorted_by = λ r. column r 0 ∷ column r 1 ∷ [];
+  shows = λ r. refl;
+  in_order = λ v w. ap₂ ordering_then (sorted-Nat (dim_number v.dim) (dim_number w.dim)) (then-Equal _ ∙ sorted-Nat v.durable w.durable);
+}
+
+-- the member of a dimension with the greatest durable key
+abbrev pub greatest_text : List ℕ
+greatest_text = codes "SELECT * FROM member WHERE dim = ?1 ORDER BY dim DESC, durable DESC LIMIT 1"
+
+pub greatest : (dim : Dim) → ReadsFirst row.member (Int (pos (dim_number dim)) ∷ []) (λ r. eq_by_cmp nat_cmp (dim_number dim) (dim_number r.dim)) 1 true greatest_text
+unfolding understood everything unary
+greatest dim = record {
+  tests = op2 (Compare Eq Binary) (col 1 1) (op1 ToNumeric (col 0 0)) ∷ [];
+  project = shown;
+  order = (col 1 1, record { collation = Binary; descending = true }) ∷ (col 1 2, record { collation = Binary; descending = true }) ∷ [];
+  names = map (λ c. c.name) row.member.table.columns;
+  command = refl;
+  plain = (refl, refl);
+  unlisted = refl;
+  test = λ r. equal Binary (column r 0) (Int (pos (dim_number dim))) && true;
+  hits = λ r. refl;
+  agree = λ w. and-true _ ∙ equal-Nat (dim_number w.dim) (dim_number dim);
+  sorted_by = λ r. column r 0 ∷ column r 1 ∷ [];
+  shows = λ r. refl;
+  in_order = λ v w. ap₂ ordering_then (sorted-Nat (dim_number w.dim) (dim_number v.dim)) (then-Equal _ ∙ sorted-Nat w.durable v.durable);
+}
+
+-- the next rows after all of a dimension
+abbrev pub after_text : List ℕ
+after_text = codes "SELECT * FROM member WHERE dim > ?1 ORDER BY dim, durable LIMIT 256"
+
+pub after : (dim : Dim) → ReadsFirst row.member (Int (pos (dim_number dim)) ∷ []) (λ r. is_gt (nat_cmp (dim_number r.dim) (dim_number dim))) 256 false after_text
+unfolding understood everything unary
+after dim = record {
+  tests = op2 (Compare Gt Binary) (col 1 1) (op1 ToNumeric (col 0 0)) ∷ [];
+  project = shown;
+  order = by_key;
+  names = map (λ c. c.name) row.member.table.columns;
+  command = refl;
+  plain = (refl, refl);
+  unlisted = refl;
+  test = λ r. greater (column r 0) (Int (pos (dim_number dim))) && true;
+  hits = λ r. refl;
+  agree = λ w. and-true _ ∙ greater-Nat (dim_number w.dim) (dim_number dim);
+  sorted_by = λ r. column r 0 ∷ column r 1 ∷ [];
+  shows = λ r. refl;
+  in_order = λ v w. ap₂ ordering_then (sorted-Nat (dim_number v.dim) (dim_number w.dim)) (then-Equal _ ∙ sorted-Nat v.durable w.durable);
+}
+
+-- the next rows of that dimension after a key
+abbrev pub rest_text : List ℕ
+rest_text = codes "SELECT * FROM member WHERE dim = ?1 AND durable > ?2 ORDER BY dim, durable LIMIT 256"
+
+pub rest : (k : MemberKey) → ReadsFirst row.member (bind k) (λ r. eq_by_cmp nat_cmp (dim_number k.dim) (dim_number r.dim) && is_gt (nat_cmp r.durable k.durable)) 256 false rest_text
+unfolding understood everything unary
+rest k = record {
+  tests = op2 (Compare Eq Binary) (col 1 1) (op1 ToNumeric (col 0 0)) ∷ op2 (Compare Gt Binary) (col 1 2) (op1 ToNumeric (col 0 1)) ∷ [];
+  project = shown;
+  order = by_key;
+  names = map (λ c. c.name) row.member.table.columns;
+  command = refl;
+  plain = (refl, refl);
+  unlisted = refl;
+  test = λ r. equal Binary (column r 0) (Int (pos (dim_number k.dim))) && (greater (column r 1) (Int (pos k.durable)) && true);
+  hits = λ r. refl;
+  agree = λ w. ap₂ ◌&&◌ (equal-Nat (dim_number w.dim) (dim_number k.dim)) (and-true _ ∙ greater-Nat w.durable k.durable);
+  sorted_by = λ r. column r 0 ∷ column r 1 ∷ [];
+  shows = λ r. refl;
+  in_order = λ v w. ap₂ ordering_then (sorted-Nat (dim_number v.dim) (dim_number w.dim)) (then-Equal _ ∙ sorted-Nat v.durable w.durable);
+}
+
+-- ---- count
+
+abbrev pub count_text : List ℕ
+count_text = codes "SELECT count(*) FROM member"
+
+pub count : CountsAll row.member count_text
+unfolding understood everything
+count = record { names = codes "count(*)" ∷ []; command = refl; plain = (refl, refl); unlisted = refl }

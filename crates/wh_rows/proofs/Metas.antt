@@ -1,0 +1,127 @@
+-- The statements on meta.
+use Rattle.std.proofs.Common.{ℕ, List, [], ◌∷◌, codes, map, true, ◌&&◌, refl, ◌∙◌}
+use Rattle.std.specs.Ordering.{eq_by_cmp}
+use Rattle.sqlite_value.specs.declared.value.Value.TheVariants.{Null, Int, Text}
+use Rattle.sqlite_value.specs.declared.keys.Key.{Key}
+use Rattle.sqlite_value.specs.Keys.{first_key, ascending}
+use Rattle.sqlite_value.proofs.OrderLemmas.{then-Equal, value_cmp-Text}
+use Rattle.sqlite_sql.specs.declared.ops.BinaryOp.TheVariants.{Compare}
+use Rattle.sqlite_sql.specs.declared.ops.CompareOp.TheVariants.{Eq}
+use Rattle.sqlite_schema.specs.Rules.{equal}
+use Rattle.sqlite_rules.specs.Edit.{next_rowid}
+use Rattle.sqlite_tied.specs.Compute.{everything}
+use Rattle.sqlite.specs.Collation.TheVariants.{Binary}
+use Rattle.sqlite.specs.Order.{Row, column}
+use Rattle.sqlite.specs.Term.{Term, lit, col, op2}
+use Rattle.sqlite.specs.Listing.{understood}
+use Rattle.wh_rows.specs.Rows as row
+use Rattle.wh_rows.specs.Meaning.{any, PutsOne, RemovesOne, ReadsSome, CountsAll}
+use Rattle.wh_rows.proofs.Cast.{cast_row_own}
+use Rattle.wh_rows.proofs.Keys.{and-true, trimmed_one, free_rowid, equal-Text}
+
+-- ---- put
+
+abbrev pub put_text : List ℕ
+put_text = codes "INSERT OR REPLACE INTO meta VALUES (?1, ?2)"
+
+pub put : PutsOne row.meta any put_text
+unfolding understood everything first_key
+put = record {
+  at = 0;
+  table = record { has = refl; uncounted = refl; unstamped = refl; idle = λ keys olds news. refl };
+  terms = lit Null ∷ col 0 0 ∷ col 0 1 ∷ [];
+  width = 3;
+  command = refl;
+  plain = (refl, refl);
+  source = λ v. Null ∷ row.meta.encode v;
+  given = λ v. refl;
+  whole = λ v. refl;
+  own = λ v. cast_row_own row.meta.table Null (row.meta.encode v) refl refl;
+  kept = λ v rows. cast_row_own row.meta.table (Int (next_rowid rows)) (row.meta.encode v) refl refl;
+  numbered = λ v rows. refl;
+  shows = λ v rows. refl;
+  test = λ v r. equal Binary (column r 0) (Text v.name);
+  hits = λ v rows rising r here. trimmed_one _ _ (free_rowid rows rising r here);
+  agree = λ v w stands. equal-Text w.name v.name;
+}
+
+-- ---- remove
+
+-- a key as parameters
+abbrev pub bind : List ℕ → Row
+bind k = Text k ∷ []
+
+abbrev pub remove_text : List ℕ
+remove_text = codes "DELETE FROM meta WHERE name = ?1"
+
+pub remove : RemovesOne row.meta bind remove_text
+unfolding understood everything
+remove = record {
+  at = 0;
+  table = record { has = refl; uncounted = refl; unstamped = refl; idle = λ keys olds news. refl };
+  tests = op2 (Compare Eq Binary) (col 1 1) (col 0 0) ∷ [];
+  command = refl;
+  plain = (refl, refl);
+  test = λ k r. equal Binary (column r 0) (Text k) && true;
+  hits = λ k r. refl;
+  agree = λ k w. and-true _ ∙ equal-Text w.name k;
+}
+
+-- ---- read, in order of key
+
+abbrev shown : List Term
+shown = col 1 1 ∷ col 1 2 ∷ []
+
+abbrev by_key : List (Term × Key)
+by_key = (col 1 1, ascending Binary) ∷ []
+
+abbrev pub all_text : List ℕ
+all_text = codes "SELECT * FROM meta ORDER BY name"
+
+pub all : ReadsSome row.meta [] (λ r. true) all_text
+unfolding understood everything
+all = record {
+  tests = [];
+  project = shown;
+  order = by_key;
+  names = map (λ c. c.name) row.meta.table.columns;
+  command = refl;
+  plain = (refl, refl);
+  unlisted = refl;
+  test = λ r. true;
+  hits = λ r. refl;
+  agree = λ v. refl;
+  sorted_by = λ r. column r 0 ∷ [];
+  shows = λ r. refl;
+  in_order = λ v w. then-Equal _ ∙ value_cmp-Text v.name w.name;
+}
+
+abbrev pub get_text : List ℕ
+get_text = codes "SELECT * FROM meta WHERE name = ?1 ORDER BY name"
+
+pub get : (k : List ℕ) → ReadsSome row.meta (bind k) (λ r. eq_by_cmp row.meta.order k (row.meta.key r)) get_text
+unfolding understood everything
+get k = record {
+  tests = op2 (Compare Eq Binary) (col 1 1) (col 0 0) ∷ [];
+  project = shown;
+  order = by_key;
+  names = map (λ c. c.name) row.meta.table.columns;
+  command = refl;
+  plain = (refl, refl);
+  unlisted = refl;
+  test = λ r. equal Binary (column r 0) (Text k) && true;
+  hits = λ r. refl;
+  agree = λ w. and-true _ ∙ equal-Text w.name k;
+  sorted_by = λ r. column r 0 ∷ [];
+  shows = λ r. refl;
+  in_order = λ v w. then-Equal _ ∙ value_cmp-Text v.name w.name;
+}
+
+-- ---- count
+
+abbrev pub count_text : List ℕ
+count_text = codes "SELECT count(*) FROM meta"
+
+pub count : CountsAll row.meta count_text
+unfolding understood everything
+count = record { names = codes "count(*)" ∷ []; command = refl; plain = (refl, refl); unlisted = refl }

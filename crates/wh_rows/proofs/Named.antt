@@ -1,0 +1,29 @@
+-- Tables and their names.
+use Rattle.std.proofs.Common.{◌≡◌, ℕ, List, Option, Some, None, IfSome, refl, sym}
+use Rattle.std.specs.Str.{bytes_eq}
+use Rattle.wh_policy.proofs.WrittenLemmas.{same_bytes}
+use Rattle.wh_history.proofs.Basics.{find_passes}
+use Rattle.wh_rows.specs.declared.table.Table.{Table}
+use Rattle.wh_rows.specs.declared.table.Table.TheVariants.{Meta, Command, Member, Change, Product, Store, Customer, Profile, Calendar, Fact}
+use Rattle.wh_rows.specs.Names.{table_name, table_named, every_table}
+
+named : (name : List ℕ) (found : Option Table) → table_named name ≡ found → IfSome found (λ table. table_name table ≡ name)
+named name None is = tt
+named name (Some table) is = sym (same_bytes name (table_name table) (find_passes (λ t. bytes_eq name (table_name t)) table every_table is))
+
+-- what a name finds has it
+pub named_so : (name : List ℕ) → IfSome (table_named name) (λ table. table_name table ≡ name)
+named_so name = named name (table_named name) refl
+
+-- a table is found by its name
+pub finds_it : (table : Table) → table_named (table_name table) ≡ Some table
+finds_it Meta = refl
+finds_it Command = refl
+finds_it Member = refl
+finds_it Change = refl
+finds_it Product = refl
+finds_it Store = refl
+finds_it Customer = refl
+finds_it Profile = refl
+finds_it Calendar = refl
+finds_it Fact = refl

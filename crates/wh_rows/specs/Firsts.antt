@@ -1,0 +1,39 @@
+-- Reading the first rows of an answer, from either end of a table.
+use Rattle.std.specs.Prelude.{◌≡◌, ℕ, pos, Bool, false, if◌then◌else◌, List, [], ◌∷◌, reverse}
+use Rattle.sqlite.specs.Order.{Row}
+use Rattle.sqlite_value.specs.declared.value.Value.TheVariants.{Int}
+use Rattle.sqlite_value.specs.declared.keys.Key.{Key}
+use Rattle.sqlite.specs.Term.{Term, lit}
+use Rattle.sqlite.specs.Query.{Query, Output, output, output_cmp}
+use Rattle.sqlite.specs.Command.TheVariants.{Select}
+use Rattle.sqlite.specs.Given.{IsPlain}
+use Rattle.sqlite.specs.Listing.{understood, reads_listing}
+use Rattle.wh_rows.specs.Schema.{warehouse}
+use Rattle.wh_rows.specs.Statements.{reading}
+use Rattle.wh_rows.specs.Holds.{Layout, values_of}
+use Rattle.wh_rows.specs.Meaning.{command_of, passes}
+
+-- up to so many rows of one tree that pass the tests, in this order
+abbrev pub reading_first : ℕ → ℕ → List Term → List Term → List (Term × Key) → Query
+reading_first most tree tests project order = record (reading tree tests project order) { limit = lit (Int (pos most)) }
+
+-- a list, from its end if so
+abbrev pub from_end : {X : Type 0} → Bool → List X → List X
+from_end backwards xs = if backwards then reverse xs else xs
+
+-- What a text has to mean, to show up to so many of the rows that pass a test, in the order of their keys, or backwards from the greatest key.
+pub record ReadsFirst {K V : Type 0} (layout : Layout K V) (params : Row) (keep : V → Bool) (most : ℕ) (backwards : Bool) (text : List ℕ) : Type 0 where
+  pub tests : List Term
+  pub project : List Term
+  pub order : List (Term × Key)
+  pub names : List (List ℕ)
+  pub command : command_of (understood warehouse text) ≡ Select (record { lets = []; body = reading_first most layout.table.tree tests project order }) names
+  pub plain : IsPlain (understood warehouse text)
+  pub unlisted : reads_listing warehouse text ≡ false
+  pub test : Row → Bool
+  pub hits : (r : Row) → passes params tests r ≡ test (values_of layout.table r)
+  pub agree : (v : V) → test (layout.encode v) ≡ keep v
+  pub sorted_by : Row → Row
+  pub shows : (r : Row) → ◌≡◌ {A = Output} (output (reading_first most layout.table.tree tests project order) (params ∷ r ∷ [])) (sorted_by (values_of layout.table r), values_of layout.table r)
+  pub in_order : (v w : V) → output_cmp (reading_first most layout.table.tree tests project order) (sorted_by (layout.encode v), layout.encode v) (sorted_by (layout.encode w), layout.encode w)
+      ≡ (if backwards then layout.order (layout.key w) (layout.key v) else layout.order (layout.key v) (layout.key w))

@@ -1,0 +1,16 @@
+pub mod Names
+pub mod Limits
+pub mod Types
+pub mod Schema
+pub mod Holds
+pub mod Rows
+pub mod Tables
+pub mod Statements
+pub mod Change
+pub mod Meaning
+pub mod Makes
+pub mod Columns
+pub mod Stored
+pub mod Place
+pub mod Making
+pub mod Firsts

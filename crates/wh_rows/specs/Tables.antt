@@ -1,0 +1,45 @@
+-- The ten tables as finite maps, and the database that holds them.
+use Rattle.std.specs.Prelude.{◌≡◌}
+use Rattle.std.specs.FinMap.{FinMap}
+use Rattle.std.specs.List.{AllByRecursion}
+use Rattle.sqlite.specs.Effect.{Database, IsDatabase}
+use Rattle.wh_day.specs.declared.calendar.DateRow.{DateRow}
+use Rattle.wh_history.specs.declared.rows.DimRow.{DimRow}
+use Rattle.wh_history.specs.declared.facts.Fact.{Fact}
+use Rattle.wh_rows.specs.declared.rows.MetaRow.{MetaRow}
+use Rattle.wh_rows.specs.declared.rows.CommandRow.{CommandRow}
+use Rattle.wh_rows.specs.declared.rows.MemberRow.{MemberRow}
+use Rattle.wh_rows.specs.declared.rows.ChangeRow.{ChangeRow}
+use Rattle.wh_rows.specs.declared.rows.ProfileRow.{ProfileRow}
+use Rattle.wh_rows.specs.Schema.{warehouse}
+use Rattle.wh_rows.specs.Holds.{Holds, IsRising}
+use Rattle.wh_rows.specs.Rows as row
+
+-- each table, from its keys to its rows
+pub record Tables : Type 0 where
+  pub meta : FinMap row.meta.order MetaRow
+  pub command : FinMap row.command.order CommandRow
+  pub member : FinMap row.member.order MemberRow
+  pub change : FinMap row.change.order ChangeRow
+  pub product : FinMap row.product.order DimRow
+  pub store : FinMap row.store.order DimRow
+  pub customer : FinMap row.customer.order DimRow
+  pub profile : FinMap row.profile.order ProfileRow
+  pub calendar : FinMap row.calendar.order DateRow
+  pub fact : FinMap row.fact.order Fact
+
+-- the database is a warehouse, which holds these tables and no other
+pub record Stores (db : Database) (tables : Tables) : Type 0 where
+  pub schema : db.schema ≡ warehouse
+  pub sound : IsDatabase db
+  pub rising : AllByRecursion (λ t. IsRising (db.trees t.tree)) warehouse.tables
+  pub meta : Holds row.meta db.trees tables.meta
+  pub command : Holds row.command db.trees tables.command
+  pub member : Holds row.member db.trees tables.member
+  pub change : Holds row.change db.trees tables.change
+  pub product : Holds row.product db.trees tables.product
+  pub store : Holds row.store db.trees tables.store
+  pub customer : Holds row.customer db.trees tables.customer
+  pub profile : Holds row.profile db.trees tables.profile
+  pub calendar : Holds row.calendar db.trees tables.calendar
+  pub fact : Holds row.fact db.trees tables.fact

@@ -1,0 +1,86 @@
+//! How much a warehouse holds at most.
+
+ghost use Rattle.std.specs.Prelude.{◌≡◌};
+ghost use Rattle.wh_rows.specs.Limits.{is_limit, limits_of, greatest_limits};
+
+use std::marker::Model;
+
+/// How many commands, changes of members and facts a warehouse takes. They are chosen at its making, and kept.
+#[derive(Clone, Copy, Debug, PartialEq, Eq)]
+pub struct Limits {
+    commands: u64,
+    changes: u64,
+    facts: u64,
+}
+
+impl Model for Limits {
+    ghost use Rattle.std.specs.Prelude.{◌≡◌, true};
+    ghost use Rattle.wh_history.specs.Tables.{Limits as Counts};
+    ghost use Rattle.wh_rows.specs.Limits.{are_limits};
+
+    ghost Value = { Counts };
+
+    ghost view = { λ l. record { commands = l.commands; changes = l.changes; facts = l.facts } };
+
+    ghost invariant = { λ l. are_limits (record { commands = l.commands; changes = l.changes; facts = l.facts }) ≡ true };
+
+    ghost inverse = { λ v. record { commands = v.commands; changes = v.changes; facts = v.facts } };
+}
+
+impl Limits {
+    /// These limits, where each is from 1 to its greatest: 100,000 commands, 1,000,000 changes, 1,000,000 facts.
+    pub fn new(commands: u64, changes: u64, facts: u64) -> Option<Limits>
+        ensures { result ≡ limits_of commands changes facts }
+    {
+        if is_limit(100_000, commands)
+            && is_limit(1_000_000, changes)
+            && is_limit(1_000_000, facts)
+        {
+            Some(Limits {
+                commands,
+                changes,
+                facts,
+            })
+        } else {
+            None
+        }
+    }
+
+    /// The most commands.
+    pub fn commands(self) -> u64
+        ensures { result ≡ self.commands }
+    {
+        self.commands
+    }
+
+    /// The most changes of members.
+    pub fn changes(self) -> u64
+        ensures { result ≡ self.changes }
+    {
+        self.changes
+    }
+
+    /// The most facts.
+    pub fn facts(self) -> u64
+        ensures { result ≡ self.facts }
+    {
+        self.facts
+    }
+
+    /// The greatest limits.
+    pub fn greatest() -> Limits
+        ensures { result ≡ greatest_limits }
+    {
+        Limits {
+            commands: 100_000,
+            changes: 1_000_000,
+            facts: 1_000_000,
+        }
+    }
+}
+
+fn is_limit(most: u64, count: u64) -> bool
+    ensures { result ≡ is_limit most count }
+{
+    1 <= count && count <= most
+}

@@ -1,0 +1,83 @@
+//! The rows of the tables. Those of the dimensions are `wh_history`'s [`DimRow`], those of the facts its [`Fact`], and those of the
+//! calendar `wh_day`'s [`DateRow`].
+
+use sqlite_value::value::Bytes;
+use wh_day::{DateRow, Day, Value, Values};
+use wh_history::{DimRow, Fact};
+use wh_policy::Dim;
+
+/// A row of meta: a limit or the format, under its name.
+#[derive(Debug, Drop)]
+pub struct MetaRow {
+    pub name: Value,
+    pub value: i64,
+}
+
+/// A row of command: an accepted command, with what its receipt says.
+#[derive(Debug, Drop)]
+pub struct CommandRow {
+    /// From 1, in order of acceptance.
+    pub number: u64,
+    /// What the sender calls it, which no two commands share.
+    pub id: Value,
+    /// `init`, `migrate`, `product`, `store`, `customer` or `sales`.
+    pub kind: Value,
+    /// The policy or the batch, as it came.
+    pub bytes: Bytes,
+    /// How many records it has.
+    pub records: u64,
+    /// How many members it mentions that no record has described.
+    pub placeholders: u64,
+}
+
+/// A row of member: what the source calls a member of a dimension.
+#[derive(Debug, Drop)]
+pub struct MemberRow {
+    pub dim: Dim,
+    pub durable: u64,
+    pub natural: Value,
+    /// The surrogate key of the member's first row.
+    pub opening: u64,
+}
+
+/// A row of change: an accepted record of a member.
+#[derive(Debug, Drop)]
+pub struct ChangeRow {
+    /// The number of the command that brought the record.
+    pub command: u64,
+    /// The record's place in that command, from 1. The column is called `record`.
+    pub place: u64,
+    pub dim: Dim,
+    pub durable: u64,
+    /// The day from which on the values hold.
+    pub day: Day,
+    /// The surrogate key of the member on that day.
+    pub anchor: u64,
+    /// The values of the six slots, empty where the policy had no attribute.
+    pub values: Values,
+}
+
+/// A row of profile: a combination of the values of the customer's attributes of types 4 and 5.
+///
+/// After Kimball & Ross, *The Data Warehouse Toolkit*, 3rd edition, chapter 5, "Type 4: Add Mini-Dimension".
+#[derive(Debug, Drop)]
+pub struct ProfileRow {
+    pub number: u64,
+    /// The texts of the six slots, empty where the attribute is of another type.
+    pub values: Values,
+}
+
+/// A row of any table.
+#[derive(Debug, Drop)]
+pub enum TableRow {
+    Meta(MetaRow),
+    Command(CommandRow),
+    Member(MemberRow),
+    Change(ChangeRow),
+    Product(DimRow),
+    Store(DimRow),
+    Customer(DimRow),
+    Profile(ProfileRow),
+    Calendar(DateRow),
+    Fact(Fact),
+}

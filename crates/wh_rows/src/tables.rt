@@ -1,0 +1,227 @@
+//! The tables as types, for code that is the same for each of them.
+
+ghost use Rattle.std.specs.Prelude.{◌≡◌, ◌≢◌, List, map, IsTrue, IfOk, IfErr};
+ghost use Rattle.std.specs.List.{list_all};
+ghost use Rattle.wh_day.specs.declared.error.ReadError.TheVariants.{Memory};
+ghost use Rattle.wh_rows.specs.Holds.{Layout};
+
+use crate::columns::Damaged;
+use crate::rows::{ChangeRow, CommandRow, MemberRow, MetaRow, ProfileRow};
+use crate::stored;
+use sqlite::Row;
+use std::alloc::Global;
+use wh_day::{DateRow, ReadError};
+use wh_history::DimRow;
+use wh_policy::Dim;
+
+/// A table, and the type of its rows.
+pub trait StoredTable {
+    type Row: Drop;
+
+    // The type of its keys, and how its rows stand in their columns.
+    ghost Key: { Type 0 };
+
+    ghost layout: { Layout Key Self.Row };
+
+    /// Reads a stored row. `Damaged`: it hasn't the columns of the table, or a value is out of its type.
+    fn read(alloc: Global, row: &Row) -> Result<Self::Row, ReadError<Damaged>>
+        // What is read is of its types, and stands so in the columns.
+        ensures ok { IfOk result (λ r. IsTrue (layout.is_valid r) × (row.now ≡ layout.encode r)) }
+        // Refused are the columns in which no such row stands.
+        ensures err { IfErr result (λ e. e ≢ Memory → (r : Self.Row) → IsTrue (layout.is_valid r) → row.now ≢ layout.encode r) };
+}
+
+/// The table meta.
+pub struct Meta;
+
+impl StoredTable for Meta {
+    ghost use Rattle.std.specs.Prelude.{ℕ, List};
+    ghost use Rattle.wh_rows.specs.Rows.{meta};
+
+    type Row = MetaRow;
+
+    ghost Key = { List ℕ };
+
+    ghost layout = { meta };
+
+    fn read(alloc: Global, row: &Row) -> Result<MetaRow, ReadError<Damaged>> {
+        stored::read_meta(alloc, row)
+    }
+}
+
+/// The table command.
+pub struct Command;
+
+impl StoredTable for Command {
+    ghost use Rattle.std.specs.Prelude.{ℕ};
+    ghost use Rattle.wh_rows.specs.Rows.{command};
+
+    type Row = CommandRow;
+
+    ghost Key = { ℕ };
+
+    ghost layout = { command };
+
+    fn read(alloc: Global, row: &Row) -> Result<CommandRow, ReadError<Damaged>> {
+        stored::read_command(alloc, row)
+    }
+}
+
+/// The table member.
+pub struct Member;
+
+impl StoredTable for Member {
+    ghost use Rattle.wh_rows.specs.Rows.{member, MemberKey};
+
+    type Row = MemberRow;
+
+    ghost Key = { MemberKey };
+
+    ghost layout = { member };
+
+    fn read(alloc: Global, row: &Row) -> Result<MemberRow, ReadError<Damaged>> {
+        stored::read_member(alloc, row)
+    }
+}
+
+/// The table change.
+pub struct Change;
+
+impl StoredTable for Change {
+    ghost use Rattle.wh_rows.specs.Rows.{change, ChangeKey};
+
+    type Row = ChangeRow;
+
+    ghost Key = { ChangeKey };
+
+    ghost layout = { change };
+
+    fn read(alloc: Global, row: &Row) -> Result<ChangeRow, ReadError<Damaged>> {
+        stored::read_change(alloc, row)
+    }
+}
+
+/// The table product.
+pub struct Product;
+
+impl StoredTable for Product {
+    ghost use Rattle.std.specs.Prelude.{ℕ};
+    ghost use Rattle.wh_rows.specs.Rows.{product};
+
+    type Row = DimRow;
+
+    ghost Key = { ℕ };
+
+    ghost layout = { product };
+
+    fn read(alloc: Global, row: &Row) -> Result<DimRow, ReadError<Damaged>> {
+        stored::read_dimension(alloc, Dim::Product, row)
+    }
+}
+
+/// The table store.
+pub struct Store;
+
+impl StoredTable for Store {
+    ghost use Rattle.std.specs.Prelude.{ℕ};
+    ghost use Rattle.wh_rows.specs.Rows.{store};
+
+    type Row = DimRow;
+
+    ghost Key = { ℕ };
+
+    ghost layout = { store };
+
+    fn read(alloc: Global, row: &Row) -> Result<DimRow, ReadError<Damaged>> {
+        stored::read_dimension(alloc, Dim::Store, row)
+    }
+}
+
+/// The table customer.
+pub struct Customer;
+
+impl StoredTable for Customer {
+    ghost use Rattle.std.specs.Prelude.{ℕ};
+    ghost use Rattle.wh_rows.specs.Rows.{customer};
+
+    type Row = DimRow;
+
+    ghost Key = { ℕ };
+
+    ghost layout = { customer };
+
+    fn read(alloc: Global, row: &Row) -> Result<DimRow, ReadError<Damaged>> {
+        stored::read_dimension(alloc, Dim::Customer, row)
+    }
+}
+
+/// The table profile.
+pub struct Profile;
+
+impl StoredTable for Profile {
+    ghost use Rattle.std.specs.Prelude.{ℕ};
+    ghost use Rattle.wh_rows.specs.Rows.{profile};
+
+    type Row = ProfileRow;
+
+    ghost Key = { ℕ };
+
+    ghost layout = { profile };
+
+    fn read(alloc: Global, row: &Row) -> Result<ProfileRow, ReadError<Damaged>> {
+        stored::read_profile(alloc, row)
+    }
+}
+
+/// The table calendar.
+pub struct Calendar;
+
+impl StoredTable for Calendar {
+    ghost use Rattle.std.specs.Prelude.{ℕ};
+    ghost use Rattle.wh_rows.specs.Rows.{calendar};
+
+    type Row = DateRow;
+
+    ghost Key = { ℕ };
+
+    ghost layout = { calendar };
+
+    fn read(alloc: Global, row: &Row) -> Result<DateRow, ReadError<Damaged>> {
+        stored::read_date(alloc, row)
+    }
+}
+
+/// The table fact.
+pub struct Fact;
+
+impl StoredTable for Fact {
+    ghost use Rattle.wh_rows.specs.Rows.{fact, LineKey};
+
+    type Row = wh_history::Fact;
+
+    ghost Key = { LineKey };
+
+    ghost layout = { fact };
+
+    fn read(alloc: Global, row: &Row) -> Result<wh_history::Fact, ReadError<Damaged>> {
+        stored::read_fact(alloc, row)
+    }
+}
+
+/// Each stored row as a row of the table, in their order.
+pub fn read_all<T: StoredTable>(
+    alloc: Global,
+    rows: &[Row],
+) -> Result<Vec<T::Row>, ReadError<Damaged>>
+    ensures ok { IfOk result (λ read. IsTrue (list_all T.layout.is_valid read.items) × (rows.now ≡ map T.layout.encode read.items)) }
+    ensures err { IfErr result (λ e. e ≢ Memory → (read : List T.Row) → IsTrue (list_all T.layout.is_valid read) → rows.now ≢ map T.layout.encode read) }
+{
+    let mut read = Vec::new(alloc);
+    'rows: for row in rows {
+        match T::read(alloc, row) {
+            Ok(row) => read.push(row)?,
+            Err(error) => return Err(error),
+        }
+    }
+    Ok(read)
+}
