@@ -14,3 +14,4 @@ pub mod Stored
 pub mod Place
 pub mod Making
 pub mod Firsts
+pub mod Cause

@@ -20,6 +20,9 @@ use Rattle.wh_rows.specs.declared.rows.CommandRow.{CommandRow}
 use Rattle.wh_rows.specs.declared.rows.MemberRow.{MemberRow}
 use Rattle.wh_rows.specs.declared.rows.ChangeRow.{ChangeRow}
 use Rattle.wh_rows.specs.declared.rows.ProfileRow.{ProfileRow}
+pub use Rattle.wh_rows.specs.declared.key.MemberKey.{MemberKey}
+pub use Rattle.wh_rows.specs.declared.key.ChangeKey.{ChangeKey}
+pub use Rattle.wh_rows.specs.declared.key.LineKey.{LineKey}
 use Rattle.wh_rows.specs.Types.{is_number, is_line, is_measure, is_key, is_kind, are_slots, dim_number}
 use Rattle.wh_rows.specs.Holds.{Layout}
 use Rattle.wh_rows.specs.Schema as schema
@@ -63,11 +66,6 @@ command = record { table = schema.command; order = nat_cmp; key = λ r. r.number
 
 -- ---- member
 
--- the dimension and the durable key
-pub record MemberKey : Type 0 where
-  pub dim : Dim
-  pub durable : ℕ
-
 -- dimensions by their numbers, then durable keys
 abbrev pub member_cmp : MemberKey → MemberKey → Ordering
 member_cmp = then_cmp (on (λ k. dim_number k.dim) nat_cmp) (on (λ k. k.durable) nat_cmp)
@@ -82,11 +80,6 @@ abbrev pub member : Layout MemberKey MemberRow
 member = record { table = schema.member; order = member_cmp; key = λ r. record { dim = r.dim; durable = r.durable }; encode = encode_member; is_valid = is_member }
 
 -- ---- change
-
--- the command's number and the record's place in it
-pub record ChangeKey : Type 0 where
-  pub command : ℕ
-  pub place : ℕ
 
 -- commands by their numbers, then records by their places
 abbrev pub change_cmp : ChangeKey → ChangeKey → Ordering
@@ -160,11 +153,6 @@ abbrev pub calendar : Layout ℕ DateRow
 calendar = record { table = schema.calendar; order = nat_cmp; key = λ r. r.date_key; encode = encode_date; is_valid = is_date }
 
 -- ---- fact
-
--- the ticket and the line
-pub record LineKey : Type 0 where
-  pub ticket : List ℕ
-  pub line : ℕ
 
 -- tickets by their bytes, then lines
 abbrev pub line_cmp : LineKey → LineKey → Ordering

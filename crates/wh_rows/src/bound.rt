@@ -1,24 +1,30 @@
 //! Rows as the values of their columns, to be bound to the parameters of a statement.
 
-ghost use Rattle.std.specs.Prelude.{◌≡◌, true, pos};
+ghost use Rattle.std.specs.Prelude.{◌≡◌, ◌≢◌, false, pos, IfOk, IfErr};
 ghost use Rattle.sqlite_value.specs.Value.{owned};
 ghost use Rattle.sqlite_value.specs.declared.value.Value.TheVariants.{Int, Text};
 ghost use Rattle.sqlite.specs.Values.{bound};
+ghost use Rattle.wh_rows.specs.declared.cause.Cause.TheVariants.{Memory, Size};
 ghost use Rattle.wh_rows.specs.Types.{is_number, dim_number};
 ghost use Rattle.wh_rows.specs.Rows.{flag, slot_column, encode_meta, encode_command, encode_member, encode_change, encode_dimension, encode_profile, encode_date, encode_fact, is_command, is_member, is_change, is_dimension, is_profile, is_fact};
 
+use crate::cause::Cause;
 use crate::rows::{ChangeRow, CommandRow, MemberRow, MetaRow, ProfileRow};
 use sqlite::types::ValueRef;
+use std::alloc::Global;
 use wh_day::{DateRow, Day, Value, Values};
 use wh_history::{DimRow, Fact};
 use wh_policy::Dim;
 
 /// A key, a number or a count.
-pub fn number(number: u64) -> ValueRef<'static>
-    requires { is_number number ≡ true }
-    ensures { owned result ≡ Int (pos number) }
+pub fn number(number: u64) -> Result<ValueRef<'static>, Cause>
+    ensures ok { IfOk result (λ value. owned value ≡ Int (pos number)) }
+    ensures err { IfErr result (λ cause. (cause ≡ Size) × (is_number number ≡ false)) }
 {
-    ValueRef::Int(number as i64)
+    match i64::try_from(number) {
+        Ok(number) => Ok(ValueRef::Int(number)),
+        Err(_) => Err(Cause::Size),
+    }
 }
 
 /// A day.
@@ -62,136 +68,179 @@ fn slot<'a>(texts: &'a Values, slot: usize) -> ValueRef<'a>
     }
 }
 
-pub fn meta<'a>(row: &'a MetaRow) -> [ValueRef<'a>; 2]
-    ensures { bound result ≡ encode_meta row.now }
+pub fn meta<'a>(alloc: Global, row: &'a MetaRow) -> Result<Vec<ValueRef<'a>>, Cause>
+    ensures ok { IfOk result (λ values. bound values.items ≡ encode_meta row.now) }
+    ensures err { IfErr result (λ cause. cause ≡ Memory) }
 {
-    [text(&row.name), ValueRef::Int(row.value)]
+    let values = Vec::from_array(alloc, [text(&row.name), ValueRef::Int(row.value)])?;
+    Ok(values)
 }
 
-pub fn command<'a>(row: &'a CommandRow) -> [ValueRef<'a>; 6]
-    requires { is_command row.now ≡ true }
-    ensures { bound result ≡ encode_command row.now }
+pub fn command<'a>(alloc: Global, row: &'a CommandRow) -> Result<Vec<ValueRef<'a>>, Cause>
+    ensures ok { IfOk result (λ values. bound values.items ≡ encode_command row.now) }
+    ensures err { IfErr result (λ cause. cause ≢ Memory → (cause ≡ Size) × (is_command row.now ≡ false)) }
 {
-    [
-        number(row.number),
-        text(&row.id),
-        text(&row.kind),
-        ValueRef::Blob(row.bytes.as_slice()),
-        number(row.records),
-        number(row.placeholders),
-    ]
+    let key = number(row.number)?;
+    let records = number(row.records)?;
+    let placeholders = number(row.placeholders)?;
+    let values = Vec::from_array(
+        alloc,
+        [
+            key,
+            text(&row.id),
+            text(&row.kind),
+            ValueRef::Blob(row.bytes.as_slice()),
+            records,
+            placeholders,
+        ],
+    )?;
+    Ok(values)
 }
 
-pub fn member<'a>(row: &'a MemberRow) -> [ValueRef<'a>; 4]
-    requires { is_member row.now ≡ true }
-    ensures { bound result ≡ encode_member row.now }
+pub fn member<'a>(alloc: Global, row: &'a MemberRow) -> Result<Vec<ValueRef<'a>>, Cause>
+    ensures ok { IfOk result (λ values. bound values.items ≡ encode_member row.now) }
+    ensures err { IfErr result (λ cause. cause ≢ Memory → (cause ≡ Size) × (is_member row.now ≡ false)) }
 {
-    [
-        dim(row.dim),
-        number(row.durable),
-        text(&row.natural),
-        number(row.opening),
-    ]
+    let durable = number(row.durable)?;
+    let opening = number(row.opening)?;
+    let values = Vec::from_array(alloc, [dim(row.dim), durable, text(&row.natural), opening])?;
+    Ok(values)
 }
 
-pub fn change<'a>(row: &'a ChangeRow) -> [ValueRef<'a>; 12]
-    requires { is_change row.now ≡ true }
-    ensures { bound result ≡ encode_change row.now }
+pub fn change<'a>(alloc: Global, row: &'a ChangeRow) -> Result<Vec<ValueRef<'a>>, Cause>
+    ensures ok { IfOk result (λ values. bound values.items ≡ encode_change row.now) }
+    ensures err { IfErr result (λ cause. cause ≢ Memory → (cause ≡ Size) × (is_change row.now ≡ false)) }
 {
-    [
-        number(row.command),
-        number(row.place),
-        dim(row.dim),
-        number(row.durable),
-        day(row.day),
-        number(row.anchor),
-        slot(&row.values, 0),
-        slot(&row.values, 1),
-        slot(&row.values, 2),
-        slot(&row.values, 3),
-        slot(&row.values, 4),
-        slot(&row.values, 5),
-    ]
+    let command = number(row.command)?;
+    let place = number(row.place)?;
+    let durable = number(row.durable)?;
+    let anchor = number(row.anchor)?;
+    let values = Vec::from_array(
+        alloc,
+        [
+            command,
+            place,
+            dim(row.dim),
+            durable,
+            day(row.day),
+            anchor,
+            slot(&row.values, 0),
+            slot(&row.values, 1),
+            slot(&row.values, 2),
+            slot(&row.values, 3),
+            slot(&row.values, 4),
+            slot(&row.values, 5),
+        ],
+    )?;
+    Ok(values)
 }
 
 /// A row of product, store or customer.
-pub fn dimension<'a>(of: Dim, row: &'a DimRow) -> [ValueRef<'a>; 19]
-    requires { is_dimension of row.now ≡ true }
-    ensures { bound result ≡ encode_dimension row.now }
+pub fn dimension<'a>(alloc: Global, of: Dim, row: &'a DimRow) -> Result<Vec<ValueRef<'a>>, Cause>
+    ensures ok { IfOk result (λ values. bound values.items ≡ encode_dimension row.now) }
+    ensures err { IfErr result (λ cause. cause ≢ Memory → (cause ≡ Size) × (is_dimension of row.now ≡ false)) }
 {
-    [
-        number(row.surrogate),
-        number(row.durable),
-        text(&row.natural),
-        day(row.from_day),
-        day(row.to_day),
-        flag(row.is_current),
-        slot(&row.a, 0),
-        slot(&row.a, 1),
-        slot(&row.a, 2),
-        slot(&row.a, 3),
-        slot(&row.a, 4),
-        slot(&row.a, 5),
-        slot(&row.b, 0),
-        slot(&row.b, 1),
-        slot(&row.b, 2),
-        slot(&row.b, 3),
-        slot(&row.b, 4),
-        slot(&row.b, 5),
-        number(row.profile_now),
-    ]
+    let surrogate = number(row.surrogate)?;
+    let durable = number(row.durable)?;
+    let profile_now = number(row.profile_now)?;
+    let values = Vec::from_array(
+        alloc,
+        [
+            surrogate,
+            durable,
+            text(&row.natural),
+            day(row.from_day),
+            day(row.to_day),
+            flag(row.is_current),
+            slot(&row.a, 0),
+            slot(&row.a, 1),
+            slot(&row.a, 2),
+            slot(&row.a, 3),
+            slot(&row.a, 4),
+            slot(&row.a, 5),
+            slot(&row.b, 0),
+            slot(&row.b, 1),
+            slot(&row.b, 2),
+            slot(&row.b, 3),
+            slot(&row.b, 4),
+            slot(&row.b, 5),
+            profile_now,
+        ],
+    )?;
+    Ok(values)
 }
 
-pub fn profile<'a>(row: &'a ProfileRow) -> [ValueRef<'a>; 7]
-    requires { is_profile row.now ≡ true }
-    ensures { bound result ≡ encode_profile row.now }
+pub fn profile<'a>(alloc: Global, row: &'a ProfileRow) -> Result<Vec<ValueRef<'a>>, Cause>
+    ensures ok { IfOk result (λ values. bound values.items ≡ encode_profile row.now) }
+    ensures err { IfErr result (λ cause. cause ≢ Memory → (cause ≡ Size) × (is_profile row.now ≡ false)) }
 {
-    [
-        number(row.number),
-        slot(&row.values, 0),
-        slot(&row.values, 1),
-        slot(&row.values, 2),
-        slot(&row.values, 3),
-        slot(&row.values, 4),
-        slot(&row.values, 5),
-    ]
+    let key = number(row.number)?;
+    let values = Vec::from_array(
+        alloc,
+        [
+            key,
+            slot(&row.values, 0),
+            slot(&row.values, 1),
+            slot(&row.values, 2),
+            slot(&row.values, 3),
+            slot(&row.values, 4),
+            slot(&row.values, 5),
+        ],
+    )?;
+    Ok(values)
 }
 
-pub fn date<'a>(row: &'a DateRow) -> [ValueRef<'a>; 11]
-    ensures { bound result ≡ encode_date row.now }
+pub fn date<'a>(alloc: Global, row: &'a DateRow) -> Result<Vec<ValueRef<'a>>, Cause>
+    ensures ok { IfOk result (λ values. bound values.items ≡ encode_date row.now) }
+    ensures err { IfErr result (λ cause. cause ≡ Memory) }
 {
-    [
-        day(row.date_key),
-        text(&row.iso),
-        ValueRef::Int(row.year),
-        ValueRef::Int(row.quarter),
-        ValueRef::Int(row.month),
-        ValueRef::Int(row.day),
-        ValueRef::Int(row.day_of_year),
-        ValueRef::Int(row.weekday),
-        text(&row.weekday_name),
-        flag(row.weekend),
-        text(&row.holiday),
-    ]
+    let values = Vec::from_array(
+        alloc,
+        [
+            day(row.date_key),
+            text(&row.iso),
+            ValueRef::Int(row.year),
+            ValueRef::Int(row.quarter),
+            ValueRef::Int(row.month),
+            ValueRef::Int(row.day),
+            ValueRef::Int(row.day_of_year),
+            ValueRef::Int(row.weekday),
+            text(&row.weekday_name),
+            flag(row.weekend),
+            text(&row.holiday),
+        ],
+    )?;
+    Ok(values)
 }
 
-pub fn fact<'a>(row: &'a Fact) -> [ValueRef<'a>; 13]
-    requires { is_fact row.now ≡ true }
-    ensures { bound result ≡ encode_fact row.now }
+pub fn fact<'a>(alloc: Global, row: &'a Fact) -> Result<Vec<ValueRef<'a>>, Cause>
+    ensures ok { IfOk result (λ values. bound values.items ≡ encode_fact row.now) }
+    ensures err { IfErr result (λ cause. cause ≢ Memory → (cause ≡ Size) × (is_fact row.now ≡ false)) }
 {
-    [
-        text(&row.ticket),
-        ValueRef::Int(row.line as i64),
-        day(row.day),
-        number(row.keys.store_key),
-        number(row.keys.product_key),
-        number(row.keys.customer_key),
-        number(row.store_durable),
-        number(row.product_durable),
-        number(row.customer_durable),
-        number(row.keys.profile),
-        ValueRef::Int(row.quantity),
-        ValueRef::Int(row.amount),
-        ValueRef::Int(row.cost),
-    ]
+    let store_key = number(row.keys.store_key)?;
+    let product_key = number(row.keys.product_key)?;
+    let customer_key = number(row.keys.customer_key)?;
+    let store_durable = number(row.store_durable)?;
+    let product_durable = number(row.product_durable)?;
+    let customer_durable = number(row.customer_durable)?;
+    let profile = number(row.keys.profile)?;
+    let values = Vec::from_array(
+        alloc,
+        [
+            text(&row.ticket),
+            ValueRef::Int(row.line as i64),
+            day(row.day),
+            store_key,
+            product_key,
+            customer_key,
+            store_durable,
+            product_durable,
+            customer_durable,
+            profile,
+            ValueRef::Int(row.quantity),
+            ValueRef::Int(row.amount),
+            ValueRef::Int(row.cost),
+        ],
+    )?;
+    Ok(values)
 }

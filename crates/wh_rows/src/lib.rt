@@ -2,14 +2,18 @@
 #![tactic(auto)]
 
 pub mod bound;
+mod cause;
 mod columns;
+mod key;
 mod limits;
 mod rows;
 mod stored;
 mod table;
 pub mod tables;
 
+pub use cause::Cause;
 pub use columns::Damaged;
+pub use key::{ChangeKey, LineKey, MemberKey};
 pub use limits::Limits;
 pub use rows::{ChangeRow, CommandRow, MemberRow, MetaRow, ProfileRow, TableRow};
 pub use table::Table;

@@ -6,22 +6,23 @@ ghost use Rattle.wh_day.specs.declared.error.ReadError.TheVariants.{Memory};
 ghost use Rattle.wh_rows.specs.Holds.{Layout};
 
 use crate::columns::Damaged;
+use crate::key::{ChangeKey, LineKey, MemberKey};
 use crate::rows::{ChangeRow, CommandRow, MemberRow, MetaRow, ProfileRow};
 use crate::stored;
 use sqlite::Row;
 use std::alloc::Global;
-use wh_day::{DateRow, ReadError};
+use wh_day::{DateRow, Day, ReadError, Value};
 use wh_history::DimRow;
 use wh_policy::Dim;
 
-/// A table, and the type of its rows.
+/// A table, and the types of its rows and of their keys.
 pub trait StoredTable {
     type Row: Drop;
 
-    // The type of its keys, and how its rows stand in their columns.
-    ghost Key: { Type 0 };
+    type Key: Drop;
 
-    ghost layout: { Layout Key Self.Row };
+    // How its rows stand in their columns.
+    ghost layout: { Layout Self.Key Self.Row };
 
     /// Reads a stored row. `Damaged`: it hasn't the columns of the table, or a value is out of its type.
     fn read(alloc: Global, row: &Row) -> Result<Self::Row, ReadError<Damaged>>
@@ -35,12 +36,11 @@ pub trait StoredTable {
 pub struct Meta;
 
 impl StoredTable for Meta {
-    ghost use Rattle.std.specs.Prelude.{ℕ, List};
     ghost use Rattle.wh_rows.specs.Rows.{meta};
 
     type Row = MetaRow;
 
-    ghost Key = { List ℕ };
+    type Key = Value;
 
     ghost layout = { meta };
 
@@ -53,12 +53,11 @@ impl StoredTable for Meta {
 pub struct Command;
 
 impl StoredTable for Command {
-    ghost use Rattle.std.specs.Prelude.{ℕ};
     ghost use Rattle.wh_rows.specs.Rows.{command};
 
     type Row = CommandRow;
 
-    ghost Key = { ℕ };
+    type Key = u64;
 
     ghost layout = { command };
 
@@ -71,11 +70,11 @@ impl StoredTable for Command {
 pub struct Member;
 
 impl StoredTable for Member {
-    ghost use Rattle.wh_rows.specs.Rows.{member, MemberKey};
+    ghost use Rattle.wh_rows.specs.Rows.{member};
 
     type Row = MemberRow;
 
-    ghost Key = { MemberKey };
+    type Key = MemberKey;
 
     ghost layout = { member };
 
@@ -88,11 +87,11 @@ impl StoredTable for Member {
 pub struct Change;
 
 impl StoredTable for Change {
-    ghost use Rattle.wh_rows.specs.Rows.{change, ChangeKey};
+    ghost use Rattle.wh_rows.specs.Rows.{change};
 
     type Row = ChangeRow;
 
-    ghost Key = { ChangeKey };
+    type Key = ChangeKey;
 
     ghost layout = { change };
 
@@ -105,12 +104,11 @@ impl StoredTable for Change {
 pub struct Product;
 
 impl StoredTable for Product {
-    ghost use Rattle.std.specs.Prelude.{ℕ};
     ghost use Rattle.wh_rows.specs.Rows.{product};
 
     type Row = DimRow;
 
-    ghost Key = { ℕ };
+    type Key = u64;
 
     ghost layout = { product };
 
@@ -123,12 +121,11 @@ impl StoredTable for Product {
 pub struct Store;
 
 impl StoredTable for Store {
-    ghost use Rattle.std.specs.Prelude.{ℕ};
     ghost use Rattle.wh_rows.specs.Rows.{store};
 
     type Row = DimRow;
 
-    ghost Key = { ℕ };
+    type Key = u64;
 
     ghost layout = { store };
 
@@ -141,12 +138,11 @@ impl StoredTable for Store {
 pub struct Customer;
 
 impl StoredTable for Customer {
-    ghost use Rattle.std.specs.Prelude.{ℕ};
     ghost use Rattle.wh_rows.specs.Rows.{customer};
 
     type Row = DimRow;
 
-    ghost Key = { ℕ };
+    type Key = u64;
 
     ghost layout = { customer };
 
@@ -159,12 +155,11 @@ impl StoredTable for Customer {
 pub struct Profile;
 
 impl StoredTable for Profile {
-    ghost use Rattle.std.specs.Prelude.{ℕ};
     ghost use Rattle.wh_rows.specs.Rows.{profile};
 
     type Row = ProfileRow;
 
-    ghost Key = { ℕ };
+    type Key = u64;
 
     ghost layout = { profile };
 
@@ -177,12 +172,11 @@ impl StoredTable for Profile {
 pub struct Calendar;
 
 impl StoredTable for Calendar {
-    ghost use Rattle.std.specs.Prelude.{ℕ};
     ghost use Rattle.wh_rows.specs.Rows.{calendar};
 
     type Row = DateRow;
 
-    ghost Key = { ℕ };
+    type Key = Day;
 
     ghost layout = { calendar };
 
@@ -195,11 +189,11 @@ impl StoredTable for Calendar {
 pub struct Fact;
 
 impl StoredTable for Fact {
-    ghost use Rattle.wh_rows.specs.Rows.{fact, LineKey};
+    ghost use Rattle.wh_rows.specs.Rows.{fact};
 
     type Row = wh_history::Fact;
 
-    ghost Key = { LineKey };
+    type Key = LineKey;
 
     ghost layout = { fact };
 
