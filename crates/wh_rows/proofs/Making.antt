@@ -21,7 +21,7 @@ use Rattle.sqlite_tied.specs.Compute.{everything}
 use Rattle.wh_rows.specs.Schema as schema
 use Rattle.wh_rows.specs.Schema.{no_schema, warehouse}
 use Rattle.wh_rows.specs.Holds.{Layout, Holds, IsRising}
-use Rattle.wh_rows.specs.Tables.{Tables, Stores}
+use Rattle.wh_rows.specs.Tables.{no_tables, Tables, Stores}
 use Rattle.wh_rows.specs.Rows as row
 use Rattle.wh_rows.specs.Making.{AreEmpty, MakesTable, MakesIndex, Extends, Leads, making_texts}
 use Rattle.wh_rows.proofs.Edits.{went, same_value}
@@ -263,12 +263,7 @@ all_rising : (tables : List Table) (trees : Trees) → AreEmpty tables trees →
 all_rising [] trees none = tt
 all_rising (t ∷ ts) trees none = (subst IsRising (sym none.0) (tt, tt), all_rising ts trees none.1)
 
--- the ten tables with no row
-pub no_tables : Tables
-no_tables = record { meta = empty; command = empty; member = empty; change = empty; product = empty; store = empty; customer = empty; profile = empty; calendar = empty; fact = empty }
-
 pub stores_none : (db : Database) → db.schema ≡ warehouse → IsDatabase db → AreEmpty warehouse.tables db.trees → Stores db no_tables
-unfolding no_tables
 stores_none db is sound none = record {
   schema = is;
   sound = sound;

@@ -15,3 +15,4 @@ pub mod Place
 pub mod Making
 pub mod Firsts
 pub mod Cause
+pub mod AtRest

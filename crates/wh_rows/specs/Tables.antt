@@ -1,6 +1,6 @@
 -- The ten tables as finite maps, and the database that holds them.
 use Rattle.std.specs.Prelude.{◌≡◌}
-use Rattle.std.specs.FinMap.{FinMap}
+use Rattle.std.specs.FinMap.{FinMap, empty}
 use Rattle.std.specs.List.{AllByRecursion}
 use Rattle.sqlite.specs.Effect.{Database, IsDatabase}
 use Rattle.wh_day.specs.declared.calendar.DateRow.{DateRow}
@@ -27,6 +27,10 @@ pub record Tables : Type 0 where
   pub profile : FinMap row.profile.order ProfileRow
   pub calendar : FinMap row.calendar.order DateRow
   pub fact : FinMap row.fact.order Fact
+
+-- the ten tables with no row
+abbrev pub no_tables : Tables
+no_tables = record { meta = empty; command = empty; member = empty; change = empty; product = empty; store = empty; customer = empty; profile = empty; calendar = empty; fact = empty }
 
 -- the database is a warehouse, which holds these tables and no other
 pub record Stores (db : Database) (tables : Tables) : Type 0 where
