@@ -1,5 +1,5 @@
 -- Reading the first rows of an answer, from either end of a table.
-use Rattle.std.specs.Prelude.{◌≡◌, ℕ, pos, Bool, false, if◌then◌else◌, List, [], ◌∷◌, reverse}
+use Rattle.std.specs.Prelude.{◌≡◌, ℕ, pos, Bool, false, if◌then◌else◌, List, [], ◌∷◌, reverse, take, Option, None, Some}
 use Rattle.sqlite.specs.Order.{Row}
 use Rattle.sqlite_value.specs.declared.value.Value.TheVariants.{Int}
 use Rattle.sqlite_value.specs.declared.keys.Key.{Key}
@@ -11,7 +11,7 @@ use Rattle.sqlite.specs.Listing.{understood, reads_listing}
 use Rattle.wh_rows.specs.Schema.{warehouse}
 use Rattle.wh_rows.specs.Statements.{reading}
 use Rattle.wh_rows.specs.Holds.{Layout, values_of}
-use Rattle.wh_rows.specs.Meaning.{command_of, passes}
+use Rattle.wh_rows.specs.Meaning.{command_of, passes, ReadsSome}
 
 -- up to so many rows of one tree that pass the tests, in this order
 abbrev pub reading_first : ℕ → ℕ → List Term → List Term → List (Term × Key) → Query
@@ -20,6 +20,16 @@ reading_first most tree tests project order = record (reading tree tests project
 -- a list, from its end if so
 abbrev pub from_end : {X : Type 0} → Bool → List X → List X
 from_end backwards xs = if backwards then reverse xs else xs
+
+-- how many rows of an answer are asked for, and from which end
+pub record Front : Type 0 where
+  pub most : ℕ
+  pub backwards : Bool
+
+-- the part of an answer that is asked for, which may be all of it
+abbrev pub part : {X : Type 0} → Option Front → List X → List X
+part None xs = xs
+part (Some front) xs = take front.most (from_end front.backwards xs)
 
 -- What a text has to mean, to show up to so many of the rows that pass a test, in the order of their keys, or backwards from the greatest key.
 pub record ReadsFirst {K V : Type 0} (layout : Layout K V) (params : Row) (keep : V → Bool) (most : ℕ) (backwards : Bool) (text : List ℕ) : Type 0 where
@@ -37,3 +47,8 @@ pub record ReadsFirst {K V : Type 0} (layout : Layout K V) (params : Row) (keep 
   pub shows : (r : Row) → ◌≡◌ {A = Output} (output (reading_first most layout.table.tree tests project order) (params ∷ r ∷ [])) (sorted_by (values_of layout.table r), values_of layout.table r)
   pub in_order : (v w : V) → output_cmp (reading_first most layout.table.tree tests project order) (sorted_by (layout.encode v), layout.encode v) (sorted_by (layout.encode w), layout.encode w)
       ≡ (if backwards then layout.order (layout.key w) (layout.key v) else layout.order (layout.key v) (layout.key w))
+
+-- what a text has to mean, to show that part of the rows that pass a test
+abbrev pub ReadsPart : {K V : Type 0} → Option Front → Layout K V → Row → (V → Bool) → List ℕ → Type 0
+ReadsPart None layout params keep text = ReadsSome layout params keep text
+ReadsPart (Some front) layout params keep text = ReadsFirst layout params keep front.most front.backwards text

@@ -3,7 +3,9 @@
 ghost use Rattle.std.specs.Prelude.{◌≡◌, ◌≢◌, List, map, IsTrue, IfOk, IfErr};
 ghost use Rattle.std.specs.List.{list_all};
 ghost use Rattle.wh_day.specs.declared.error.ReadError.TheVariants.{Memory};
+ghost use Rattle.std.specs.FinMap.{FinMap};
 ghost use Rattle.wh_rows.specs.Holds.{Layout};
+ghost use Rattle.wh_rows.specs.Tables.{Tables};
 
 use crate::columns::Damaged;
 use crate::key::{ChangeKey, LineKey, MemberKey};
@@ -23,6 +25,11 @@ pub trait StoredTable {
 
     // How its rows stand in their columns.
     ghost layout: { Layout Self.Key Self.Row };
+
+    // Its rows among those of the ten tables, and the tables with other rows in it.
+    ghost rows: { Tables → FinMap layout.order Self.Row };
+
+    ghost with_rows: { FinMap layout.order Self.Row → Tables → Tables };
 
     /// Reads a stored row. `Damaged`: it hasn't the columns of the table, or a value is out of its type.
     fn read(alloc: Global, row: &Row) -> Result<Self::Row, ReadError<Damaged>>
@@ -44,6 +51,10 @@ impl StoredTable for Meta {
 
     ghost layout = { meta };
 
+    ghost rows = { λ t. t.meta };
+
+    ghost with_rows = { λ rows t. record t { meta = rows } };
+
     fn read(alloc: Global, row: &Row) -> Result<MetaRow, ReadError<Damaged>> {
         stored::read_meta(alloc, row)
     }
@@ -60,6 +71,10 @@ impl StoredTable for Command {
     type Key = u64;
 
     ghost layout = { command };
+
+    ghost rows = { λ t. t.command };
+
+    ghost with_rows = { λ rows t. record t { command = rows } };
 
     fn read(alloc: Global, row: &Row) -> Result<CommandRow, ReadError<Damaged>> {
         stored::read_command(alloc, row)
@@ -78,6 +93,10 @@ impl StoredTable for Member {
 
     ghost layout = { member };
 
+    ghost rows = { λ t. t.member };
+
+    ghost with_rows = { λ rows t. record t { member = rows } };
+
     fn read(alloc: Global, row: &Row) -> Result<MemberRow, ReadError<Damaged>> {
         stored::read_member(alloc, row)
     }
@@ -94,6 +113,10 @@ impl StoredTable for Change {
     type Key = ChangeKey;
 
     ghost layout = { change };
+
+    ghost rows = { λ t. t.change };
+
+    ghost with_rows = { λ rows t. record t { change = rows } };
 
     fn read(alloc: Global, row: &Row) -> Result<ChangeRow, ReadError<Damaged>> {
         stored::read_change(alloc, row)
@@ -112,6 +135,10 @@ impl StoredTable for Product {
 
     ghost layout = { product };
 
+    ghost rows = { λ t. t.product };
+
+    ghost with_rows = { λ rows t. record t { product = rows } };
+
     fn read(alloc: Global, row: &Row) -> Result<DimRow, ReadError<Damaged>> {
         stored::read_dimension(alloc, Dim::Product, row)
     }
@@ -128,6 +155,10 @@ impl StoredTable for Store {
     type Key = u64;
 
     ghost layout = { store };
+
+    ghost rows = { λ t. t.store };
+
+    ghost with_rows = { λ rows t. record t { store = rows } };
 
     fn read(alloc: Global, row: &Row) -> Result<DimRow, ReadError<Damaged>> {
         stored::read_dimension(alloc, Dim::Store, row)
@@ -146,6 +177,10 @@ impl StoredTable for Customer {
 
     ghost layout = { customer };
 
+    ghost rows = { λ t. t.customer };
+
+    ghost with_rows = { λ rows t. record t { customer = rows } };
+
     fn read(alloc: Global, row: &Row) -> Result<DimRow, ReadError<Damaged>> {
         stored::read_dimension(alloc, Dim::Customer, row)
     }
@@ -162,6 +197,10 @@ impl StoredTable for Profile {
     type Key = u64;
 
     ghost layout = { profile };
+
+    ghost rows = { λ t. t.profile };
+
+    ghost with_rows = { λ rows t. record t { profile = rows } };
 
     fn read(alloc: Global, row: &Row) -> Result<ProfileRow, ReadError<Damaged>> {
         stored::read_profile(alloc, row)
@@ -180,6 +219,10 @@ impl StoredTable for Calendar {
 
     ghost layout = { calendar };
 
+    ghost rows = { λ t. t.calendar };
+
+    ghost with_rows = { λ rows t. record t { calendar = rows } };
+
     fn read(alloc: Global, row: &Row) -> Result<DateRow, ReadError<Damaged>> {
         stored::read_date(alloc, row)
     }
@@ -196,6 +239,10 @@ impl StoredTable for Fact {
     type Key = LineKey;
 
     ghost layout = { fact };
+
+    ghost rows = { λ t. t.fact };
+
+    ghost with_rows = { λ rows t. record t { fact = rows } };
 
     fn read(alloc: Global, row: &Row) -> Result<wh_history::Fact, ReadError<Damaged>> {
         stored::read_fact(alloc, row)

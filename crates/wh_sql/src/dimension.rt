@@ -1,0 +1,85 @@
+//! What product, store and customer have in common.
+
+ghost use Rattle.std.specs.Prelude.{◌≡◌, ℕ, List, [], ◌∷◌, pos};
+ghost use Rattle.std.specs.Ordering.{eq_by_cmp, nat_cmp};
+ghost use Rattle.sqlite_value.specs.declared.value.Value.TheVariants.{Int};
+ghost use Rattle.wh_policy.specs.declared.attribute.Dim.{Dim};
+ghost use Rattle.wh_rows.specs.Meaning.{ReadsSome};
+
+use crate::keeps::Keeps;
+use wh_history::DimRow;
+use wh_policy::Dim;
+use wh_rows::tables;
+
+/// The table of a dimension. Its key is the surrogate key.
+pub trait Dimension: Keeps<Row = DimRow, Key = u64> {
+    ghost dimension: { Dim };
+
+    ghost rows_of_means: { List ℕ };
+
+    fn dim() -> Dim
+        ensures { result ≡ dimension };
+
+    fn rows_of_text() -> &'static str
+        ensures { result.now ≡ rows_of_means };
+
+    // What the text means.
+    ghost finds_rows: { (durable : ℕ) → ReadsSome Self.StoredTable.layout (Int (pos durable) ∷ []) (λ row. eq_by_cmp nat_cmp durable row.durable) rows_of_means };
+}
+
+impl Dimension for tables::Product {
+    ghost use Rattle.wh_policy.specs.declared.attribute.Dim.TheVariants.{Product};
+    ghost use Rattle.wh_rows.proofs.Products.{of_durable_text, of_durable};
+
+    ghost dimension = { Product };
+
+    ghost rows_of_means = { of_durable_text };
+
+    fn dim() -> Dim {
+        Dim::Product
+    }
+
+    fn rows_of_text() -> &'static str {
+        "SELECT * FROM product WHERE durable = ?1 ORDER BY surrogate"
+    }
+
+    ghost finds_rows = { of_durable };
+}
+
+impl Dimension for tables::Store {
+    ghost use Rattle.wh_policy.specs.declared.attribute.Dim.TheVariants.{Store};
+    ghost use Rattle.wh_rows.proofs.Stores.{of_durable_text, of_durable};
+
+    ghost dimension = { Store };
+
+    ghost rows_of_means = { of_durable_text };
+
+    fn dim() -> Dim {
+        Dim::Store
+    }
+
+    fn rows_of_text() -> &'static str {
+        "SELECT * FROM store WHERE durable = ?1 ORDER BY surrogate"
+    }
+
+    ghost finds_rows = { of_durable };
+}
+
+impl Dimension for tables::Customer {
+    ghost use Rattle.wh_policy.specs.declared.attribute.Dim.TheVariants.{Customer};
+    ghost use Rattle.wh_rows.proofs.Customers.{of_durable_text, of_durable};
+
+    ghost dimension = { Customer };
+
+    ghost rows_of_means = { of_durable_text };
+
+    fn dim() -> Dim {
+        Dim::Customer
+    }
+
+    fn rows_of_text() -> &'static str {
+        "SELECT * FROM customer WHERE durable = ?1 ORDER BY surrogate"
+    }
+
+    ghost finds_rows = { of_durable };
+}

@@ -1,0 +1,80 @@
+//! What the ten tables have in common: rows that stand at keys.
+
+ghost use Rattle.std.specs.Prelude.{◌≡◌, ◌≢◌, ℕ, List, [], true, false, IfOk, IfErr};
+ghost use Rattle.std.specs.Ordering.{eq_by_cmp};
+ghost use Rattle.sqlite_value.specs.declared.value.Value.TheVariants.{Int};
+ghost use Rattle.wh_rows.specs.Types.{is_number};
+ghost use Rattle.sqlite.specs.Order.{Row as Columns};
+ghost use Rattle.sqlite.specs.Values.{bound};
+ghost use Rattle.wh_rows.specs.declared.cause.Cause.TheVariants.{Memory, Size};
+ghost use Rattle.wh_rows.specs.declared.table.Table.{Table};
+ghost use Rattle.wh_rows.specs.Place.{IsPlaced};
+ghost use Rattle.wh_rows.specs.Meaning.{PutsOne, RemovesOne, ReadsSome, CountsAll};
+
+use sqlite::types::ValueRef;
+use std::alloc::Global;
+use wh_history::DimRow;
+use wh_policy::Dim;
+use wh_rows::{Cause, StoredTable, Table, bound};
+
+/// One of the ten tables, with the texts of its statements.
+pub trait Keeps: StoredTable {
+    // Beside which other rows a row may stand.
+    ghost may_stand: { Self.Row → Self.Row → Type 0 };
+
+    // A key as the parameters of a statement.
+    ghost bind: { Self.Key → Columns };
+
+    ghost name: { Table };
+
+    ghost put_means: { List ℕ };
+
+    ghost remove_means: { List ℕ };
+
+    ghost all_means: { List ℕ };
+
+    ghost get_means: { List ℕ };
+
+    ghost count_means: { List ℕ };
+
+    fn table() -> Table
+        ensures { result ≡ name };
+
+    fn put_text() -> &'static str
+        ensures { result.now ≡ put_means };
+
+    fn remove_text() -> &'static str
+        ensures { result.now ≡ remove_means };
+
+    fn all_text() -> &'static str
+        ensures { result.now ≡ all_means };
+
+    fn get_text() -> &'static str
+        ensures { result.now ≡ get_means };
+
+    fn count_text() -> &'static str
+        ensures { result.now ≡ count_means };
+
+    /// The row as the parameters of a statement. `Size`: a number is greater than any that can be stored.
+    fn row<'a>(alloc: Global, row: &'a Self::Row) -> Result<Vec<ValueRef<'a>>, Cause>
+        ensures ok { IfOk result (λ values. bound values.items ≡ Self.layout.encode row.now) }
+        ensures err { IfErr result (λ cause. cause ≢ Memory → (cause ≡ Size) × (Self.layout.is_valid row.now ≡ false)) };
+
+    /// The key as the parameters of a statement.
+    fn key<'a>(alloc: Global, key: &'a Self::Key) -> Result<Vec<ValueRef<'a>>, Cause>
+        ensures ok { IfOk result (λ values. bound values.items ≡ bind key.now) }
+        ensures err { IfErr result (λ cause. cause ≢ Memory → (cause ≡ Size) × ((row : Self.Row) → Self.layout.is_valid row ≡ true → Self.layout.key row ≢ key.now)) };
+
+    // What the texts mean.
+    ghost puts: { PutsOne Self.layout may_stand put_means };
+
+    ghost removes: { RemovesOne Self.layout bind remove_means };
+
+    ghost lists: { ReadsSome Self.layout [] (λ row. true) all_means };
+
+    ghost finds: { (key : Self.Key) → ReadsSome Self.layout (bind key) (λ row. eq_by_cmp Self.layout.order key (Self.layout.key row)) get_means };
+
+    ghost counts: { CountsAll Self.layout count_means };
+
+    ghost placed: { IsPlaced Self.layout Self.rows Self.with_rows };
+}

@@ -1,0 +1,76 @@
+//! Keys as the parameters of statements.
+
+ghost use Rattle.std.specs.Prelude.{◌≡◌, ◌≢◌, ◌⊎◌, [], ◌∷◌, false, pos, IfOk, IfErr};
+ghost use Rattle.sqlite_value.specs.declared.value.Value.TheVariants.{Int, Text};
+ghost use Rattle.sqlite.specs.Values.{bound};
+ghost use Rattle.wh_rows.specs.declared.cause.Cause.TheVariants.{Memory, Size};
+ghost use Rattle.wh_rows.specs.Types.{is_number, dim_number};
+
+use sqlite::types::ValueRef;
+use std::alloc::Global;
+use wh_day::{Day, Value};
+use wh_policy::Dim;
+use wh_rows::{Cause, ChangeKey, LineKey, bound};
+
+/// A key that is a number.
+pub(crate) fn number_key(alloc: Global, key: &u64) -> Result<Vec<ValueRef<'static>>, Cause>
+    ensures ok { IfOk result (λ values. bound values.items ≡ Int (pos key.now) ∷ []) }
+    ensures err { IfErr result (λ cause. cause ≢ Memory → (cause ≡ Size) × (is_number key.now ≡ false)) }
+{
+    let number = bound::number(*key)?;
+    let values = Vec::from_array(alloc, [number])?;
+    Ok(values)
+}
+
+/// A key that is a text.
+pub(crate) fn text_key<'a>(alloc: Global, key: &'a Value) -> Result<Vec<ValueRef<'a>>, Cause>
+    ensures ok { IfOk result (λ values. bound values.items ≡ Text key.now ∷ []) }
+    ensures err { IfErr result (λ cause. cause ≡ Memory) }
+{
+    let values = Vec::from_array(alloc, [bound::text(key)])?;
+    Ok(values)
+}
+
+/// A key that is a day.
+pub(crate) fn day_key(alloc: Global, key: &Day) -> Result<Vec<ValueRef<'static>>, Cause>
+    ensures ok { IfOk result (λ values. bound values.items ≡ Int (pos key.now) ∷ []) }
+    ensures err { IfErr result (λ cause. cause ≡ Memory) }
+{
+    let values = Vec::from_array(alloc, [bound::day(*key)])?;
+    Ok(values)
+}
+
+/// A dimension and a number.
+pub(crate) fn dim_and_number(
+    alloc: Global,
+    dim: Dim,
+    number: u64,
+) -> Result<Vec<ValueRef<'static>>, Cause>
+    ensures ok { IfOk result (λ values. bound values.items ≡ Int (pos (dim_number dim)) ∷ Int (pos number) ∷ []) }
+    ensures err { IfErr result (λ cause. cause ≢ Memory → (cause ≡ Size) × (is_number number ≡ false)) }
+{
+    let number = bound::number(number)?;
+    let values = Vec::from_array(alloc, [bound::dim(dim), number])?;
+    Ok(values)
+}
+
+/// The key of change.
+pub(crate) fn change_key(alloc: Global, key: &ChangeKey) -> Result<Vec<ValueRef<'static>>, Cause>
+    ensures ok { IfOk result (λ values. bound values.items ≡ Int (pos key.now.command) ∷ Int (pos key.now.place) ∷ []) }
+    ensures err { IfErr result (λ cause. cause ≢ Memory → (cause ≡ Size) × ((is_number key.now.command ≡ false) ⊎ (is_number key.now.place ≡ false))) }
+{
+    let command = bound::number(key.command)?;
+    let place = bound::number(key.place)?;
+    let values = Vec::from_array(alloc, [command, place])?;
+    Ok(values)
+}
+
+/// The key of fact.
+pub(crate) fn line_key<'a>(alloc: Global, key: &'a LineKey) -> Result<Vec<ValueRef<'a>>, Cause>
+    ensures ok { IfOk result (λ values. bound values.items ≡ Text key.now.ticket ∷ Int (pos key.now.line) ∷ []) }
+    ensures err { IfErr result (λ cause. cause ≡ Memory) }
+{
+    let line = ValueRef::Int(key.line as i64);
+    let values = Vec::from_array(alloc, [bound::text(&key.ticket), line])?;
+    Ok(values)
+}

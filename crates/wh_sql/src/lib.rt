@@ -1,0 +1,20 @@
+//! The statements of the warehouse: each call runs one.
+#![tactic(auto)]
+
+mod dimension;
+mod keeps;
+mod keys;
+mod question;
+mod questions;
+mod read;
+mod refusal;
+mod tables;
+mod write;
+
+pub use dimension::Dimension;
+pub use keeps::Keeps;
+pub use question::{Question, ask};
+pub use questions::{RecordsOf, RowsOf};
+pub use read::{all, count, get};
+pub use refusal::Refusal;
+pub use write::{put, remove};

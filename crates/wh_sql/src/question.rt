@@ -1,0 +1,66 @@
+//! Questions about one table, each with the rows that answer it.
+
+ghost use Rattle.std.specs.Prelude.{◌≡◌, ◌≢◌, ℕ, Bool, List, filter, Err, Option, Some, IfOk, IfErr};
+ghost use Rattle.std.specs.FinMap.{values};
+ghost use Rattle.sqlite.specs.Held.{state};
+ghost use Rattle.sqlite.specs.Order.{Row as Columns};
+ghost use Rattle.sqlite.specs.Values.{bound};
+ghost use Rattle.sqlite.specs.State.{HasCleanDisk};
+ghost use Rattle.wh_rows.specs.declared.cause.Cause.TheVariants.{Memory, Size};
+ghost use Rattle.wh_rows.specs.Firsts.{Front, part, ReadsPart};
+ghost use Rattle.wh_rows.specs.Tables.{Tables, Stores};
+ghost use Rattle.wh_rows.specs.AtRest.{IsAtRest, Leaves};
+ghost use Rattle.wh_sql.specs.Refusal.{IsWhole, Shows, FailsToShow};
+ghost use Rattle.wh_sql.specs.declared.refusal.Refusal.TheVariants.{Damaged};
+
+use crate::keeps::Keeps;
+use crate::read::rows_shown;
+use crate::refusal::Refusal;
+use sqlite::types::ValueRef;
+use sqlite::{Alter, Connection};
+use std::alloc::Global;
+use wh_rows::Cause;
+
+/// A question about the rows of one table.
+pub trait Question<T: Keeps> {
+    // Which rows of the table answer it, and which part of them is asked for, in the order of their keys.
+    ghost keep: { Self → T.Row → Bool };
+
+    ghost front: { Option Front };
+
+    // What it asks for as the parameters of a statement, and whether it can be asked.
+    ghost bind: { Self → Columns };
+
+    ghost can_be_asked: { Self → Type 0 };
+
+    ghost means: { Self → List ℕ };
+
+    fn text(&self) -> &'static str
+        ensures { result.now ≡ means self.now };
+
+    /// What is asked for, as the parameters of a statement. `Size`: a number is greater than any that is stored.
+    fn values<'a>(&'a self, alloc: Global) -> Result<Vec<ValueRef<'a>>, Cause>
+        ensures ok { IfOk result (λ values. bound values.items ≡ bind self.now) }
+        ensures err { IfErr result (λ cause. cause ≢ Memory → (cause ≡ Size) × ¬ can_be_asked self.now) };
+
+    // What the text means.
+    ghost reads: { (question : Self) → ReadsPart front T.layout (bind question) (keep question) (means question) };
+}
+
+/// The rows that answer the question, in the order of their keys.
+pub fn ask<T: Keeps, Q: Question<T>, S: Alter>(
+    alloc: Global,
+    conn: &mut Connection<S>,
+    question: &Q,
+) -> Result<Vec<T::Row>, Refusal>
+    ensures clean { HasCleanDisk (state S.Store conn.new) → HasCleanDisk (state S.Store conn.old) }
+    ensures rows { HasCleanDisk (state S.Store conn.new) → (t : Tables) → Stores (state S.Store conn.old).now t → IfOk result (λ rows. rows.items ≡ part Q.front (filter (Q.keep question.now) (values (T.rows t)))) }
+    ensures sound { HasCleanDisk (state S.Store conn.new) → (t : Tables) → Stores (state S.Store conn.old).now t → result ≢ Err (Damaged T.name) }
+    ensures same { HasCleanDisk (state S.Store conn.new) → (t : Tables) → IsAtRest (Some t) (state S.Store conn.old) → IsWhole result → IsAtRest (Some t) (state S.Store conn.new) }
+    ensures left { HasCleanDisk (state S.Store conn.new) → (t : Tables) → IsAtRest (Some t) (state S.Store conn.old) → Leaves (Some t) (state S.Store conn.new) }
+    ensures shows { HasCleanDisk (state S.Store conn.new) → IfOk result (λ rows. Shows T.layout (Q.means question.now) (Q.bind question.now) (state S.Store conn.old) (state S.Store conn.new) rows.items) }
+    ensures refused { HasCleanDisk (state S.Store conn.new) → Q.can_be_asked question.now → IfErr result (FailsToShow T.layout T.name (Q.means question.now) (Q.bind question.now) (state S.Store conn.old) (state S.Store conn.new)) }
+{
+    let values = question.values(alloc)?;
+    rows_shown::<T, S>(alloc, conn, question.text(), &values)
+}

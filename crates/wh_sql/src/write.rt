@@ -1,0 +1,59 @@
+//! Writing one row of a table, inside a transaction.
+
+ghost use Rattle.std.specs.Prelude.{◌≡◌, ◌≢◌, false, Option, Some, Err, IsTrue, IfErr, OnOk};
+ghost use Rattle.std.specs.FinMap.{insert, remove};
+ghost use Rattle.sqlite.specs.Held.{state};
+ghost use Rattle.sqlite.specs.State.{HasCleanDisk};
+ghost use Rattle.wh_rows.specs.declared.cause.Cause.TheVariants.{Memory, Disk};
+ghost use Rattle.wh_rows.specs.Tables.{Tables};
+ghost use Rattle.wh_rows.specs.AtRest.{IsWriting, Leaves, IsCauseOf};
+ghost use Rattle.wh_sql.specs.Fits.{MayBePut};
+
+use crate::keeps::Keeps;
+use sqlite::{Alter, Connection};
+use std::alloc::Global;
+use wh_rows::Cause;
+
+/// Puts the row at its key, in place of the one that was there. Outside a transaction it is refused.
+pub fn put<T: Keeps, S: Alter>(
+    alloc: Global,
+    conn: &mut Connection<S>,
+    row: &T::Row,
+) -> Result<(), Cause>
+    ensures clean { HasCleanDisk (state S.Store conn.new) → HasCleanDisk (state S.Store conn.old) }
+    ensures put { HasCleanDisk (state S.Store conn.new) → (before : Option Tables) (made : Tables) → IsWriting before (Some made) (state S.Store conn.old)
+        → MayBePut T.layout T.may_stand row.now (T.rows made) → OnOk result (IsWriting before (Some (T.with_rows (insert (T.rows made) (T.layout.key row.now) row.now) made)) (state S.Store conn.new)) }
+    ensures left { HasCleanDisk (state S.Store conn.new) → (before : Option Tables) (made : Tables) → IsWriting before (Some made) (state S.Store conn.old) → Leaves before (state S.Store conn.new) }
+    ensures cause { HasCleanDisk (state S.Store conn.new) → IsTrue (state S.Store conn.old).in_transaction → IsTrue (T.layout.is_valid row.now)
+        → IfErr result (λ cause. cause ≢ Memory → IsCauseOf T.put_means (T.layout.encode row.now) (state S.Store conn.old) (state S.Store conn.new) cause) }
+    ensures late { conn.old.in_transaction ≡ false → (result ≡ Err Disk) × (conn.new ≡ conn.old) }
+{
+    if conn.is_autocommit() {
+        return Err(Cause::Disk);
+    }
+    let values = T::row(alloc, row)?;
+    conn.execute(T::put_text(), &values)?;
+    Ok(())
+}
+
+/// Takes out the row at the key, if one is there. Outside a transaction it is refused.
+pub fn remove<T: Keeps, S: Alter>(
+    alloc: Global,
+    conn: &mut Connection<S>,
+    key: &T::Key,
+) -> Result<(), Cause>
+    ensures clean { HasCleanDisk (state S.Store conn.new) → HasCleanDisk (state S.Store conn.old) }
+    ensures removed { HasCleanDisk (state S.Store conn.new) → (before : Option Tables) (made : Tables) → IsWriting before (Some made) (state S.Store conn.old)
+        → OnOk result (IsWriting before (Some (T.with_rows (remove (T.rows made) key.now) made)) (state S.Store conn.new)) }
+    ensures left { HasCleanDisk (state S.Store conn.new) → (before : Option Tables) (made : Tables) → IsWriting before (Some made) (state S.Store conn.old) → Leaves before (state S.Store conn.new) }
+    ensures cause { HasCleanDisk (state S.Store conn.new) → IsTrue (state S.Store conn.old).in_transaction → (row : T.Row) → IsTrue (T.layout.is_valid row) → T.layout.key row ≡ key.now
+        → IfErr result (λ cause. cause ≢ Memory → IsCauseOf T.remove_means (T.bind key.now) (state S.Store conn.old) (state S.Store conn.new) cause) }
+    ensures late { conn.old.in_transaction ≡ false → (result ≡ Err Disk) × (conn.new ≡ conn.old) }
+{
+    if conn.is_autocommit() {
+        return Err(Cause::Disk);
+    }
+    let values = T::key(alloc, key)?;
+    conn.execute(T::remove_text(), &values)?;
+    Ok(())
+}
