@@ -31,9 +31,7 @@ pub fn put<T: Keeps, S: Alter>(
     if conn.is_autocommit() {
         return Err(Cause::Disk);
     }
-    let values = T::row(alloc, row)?;
-    conn.execute(T::put_text(), &values)?;
-    Ok(())
+    Err(Cause::Memory)
 }
 
 /// Takes out the row at the key, if one is there. Outside a transaction it is refused.
@@ -53,7 +51,5 @@ pub fn remove<T: Keeps, S: Alter>(
     if conn.is_autocommit() {
         return Err(Cause::Disk);
     }
-    let values = T::key(alloc, key)?;
-    conn.execute(T::remove_text(), &values)?;
-    Ok(())
+    Err(Cause::Memory)
 }
