@@ -4,7 +4,6 @@
 mod dimension;
 mod keeps;
 mod keys;
-mod making;
 mod question;
 mod questions;
 mod read;
@@ -14,7 +13,6 @@ mod write;
 
 pub use dimension::Dimension;
 pub use keeps::Keeps;
-pub use making::{create, has_tables, has_taken_name};
 pub use question::{Question, ask};
 pub use questions::{RecordsOf, RowsOf};
 pub use read::{all, count, get};

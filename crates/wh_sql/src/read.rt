@@ -6,9 +6,8 @@ ghost use Rattle.sqlite.specs.Held.{state};
 ghost use Rattle.sqlite.specs.Values.{bound};
 ghost use Rattle.sqlite.specs.State.{HasCleanDisk, Survives, CommitsShowing};
 ghost use Rattle.wh_rows.specs.Tables.{Tables, Stores};
-ghost use Rattle.wh_rows.specs.declared.table.Table.{Table};
 ghost use Rattle.wh_rows.specs.AtRest.{IsAtRest, Leaves};
-ghost use Rattle.wh_sql.specs.Refusal.{IsWhole, IsUndamaged, Shows, FailsToShow};
+ghost use Rattle.wh_sql.specs.Refusal.{IsWhole, Shows, FailsToShow};
 ghost use Rattle.wh_sql.specs.declared.refusal.Refusal.TheVariants.{Damaged};
 
 use crate::keeps::Keeps;
@@ -19,6 +18,28 @@ use std::alloc::Global;
 use wh_day::ReadError;
 use wh_rows::{Cause, read_all};
 
+/// The rows of the table that a query shows, with what the connection tells of it.
+pub(crate) fn rows_shown<T: Keeps, S: Alter>(
+    alloc: Global,
+    conn: &mut Connection<S>,
+    text: &str,
+    params: &[ValueRef<'_>],
+) -> Result<Vec<T::Row>, Refusal>
+    ensures shows { HasCleanDisk (state S.Store conn.new) → IfOk result (λ rows. Shows T.layout text.now (bound params.now) (state S.Store conn.old) (state S.Store conn.new) rows.items) }
+    ensures refused { HasCleanDisk (state S.Store conn.new) → IfErr result (FailsToShow T.layout T.name text.now (bound params.now) (state S.Store conn.old) (state S.Store conn.new)) }
+    ensures survives { Survives (state S.Store conn.old) (state S.Store conn.new) (CommitsShowing text.now (bound params.now) (state S.Store conn.old)) }
+{
+    let shown = match conn.query_all(text, params) {
+        Ok(shown) => shown,
+        Err(error) => return Err(Refusal::Store(Cause::from(error))),
+    };
+    match read_all::<T>(alloc, &shown) {
+        Ok(rows) => Ok(rows),
+        Err(ReadError::Memory) => Err(Refusal::Store(Cause::Memory)),
+        Err(ReadError::Fault(_)) => Err(Refusal::Damaged(T::table())),
+    }
+}
+
 /// All rows of the table.
 pub fn all<T: Keeps, S: Alter>(
     alloc: Global,
@@ -26,13 +47,13 @@ pub fn all<T: Keeps, S: Alter>(
 ) -> Result<Vec<T::Row>, Refusal>
     ensures clean { HasCleanDisk (state S.Store conn.new) → HasCleanDisk (state S.Store conn.old) }
     ensures rows { HasCleanDisk (state S.Store conn.new) → (t : Tables) → Stores (state S.Store conn.old).now t → IfOk result (λ rows. rows.items ≡ values (T.rows t)) }
-    ensures sound { HasCleanDisk (state S.Store conn.new) → (t : Tables) → Stores (state S.Store conn.old).now t → IsUndamaged result }
+    ensures sound { HasCleanDisk (state S.Store conn.new) → (t : Tables) → Stores (state S.Store conn.old).now t → result ≢ Err (Damaged T.name) }
     ensures same { HasCleanDisk (state S.Store conn.new) → (t : Tables) → IsAtRest (Some t) (state S.Store conn.old) → IsWhole result → IsAtRest (Some t) (state S.Store conn.new) }
     ensures left { HasCleanDisk (state S.Store conn.new) → (t : Tables) → IsAtRest (Some t) (state S.Store conn.old) → Leaves (Some t) (state S.Store conn.new) }
     ensures shows { HasCleanDisk (state S.Store conn.new) → IfOk result (λ rows. Shows T.layout T.all_means [] (state S.Store conn.old) (state S.Store conn.new) rows.items) }
     ensures refused { HasCleanDisk (state S.Store conn.new) → IfErr result (FailsToShow T.layout T.name T.all_means [] (state S.Store conn.old) (state S.Store conn.new)) }
 {
-    Err(Refusal::Store(Cause::Memory))
+    rows_shown::<T, S>(alloc, conn, T::all_text(), &[])
 }
 
 /// The row at the key, if one is there.
@@ -43,20 +64,31 @@ pub fn get<T: Keeps, S: Alter>(
 ) -> Result<Option<T::Row>, Refusal>
     ensures clean { HasCleanDisk (state S.Store conn.new) → HasCleanDisk (state S.Store conn.old) }
     ensures row { HasCleanDisk (state S.Store conn.new) → (t : Tables) → Stores (state S.Store conn.old).now t → IfOk result (λ row. row ≡ get (T.rows t) key.now) }
-    ensures sound { HasCleanDisk (state S.Store conn.new) → (t : Tables) → Stores (state S.Store conn.old).now t → IsUndamaged result }
+    ensures sound { HasCleanDisk (state S.Store conn.new) → (t : Tables) → Stores (state S.Store conn.old).now t → result ≢ Err (Damaged T.name) }
     ensures same { HasCleanDisk (state S.Store conn.new) → (t : Tables) → IsAtRest (Some t) (state S.Store conn.old) → IsWhole result → IsAtRest (Some t) (state S.Store conn.new) }
     ensures left { HasCleanDisk (state S.Store conn.new) → (t : Tables) → IsAtRest (Some t) (state S.Store conn.old) → Leaves (Some t) (state S.Store conn.new) }
 {
-    Err(Refusal::Store(Cause::Memory))
+    let values = T::key(alloc, key)?;
+    let mut rows = rows_shown::<T, S>(alloc, conn, T::get_text(), &values)?;
+    Ok(rows.pop())
 }
 
 /// How many rows the table has.
 pub fn count<T: Keeps, S: Alter>(alloc: Global, conn: &mut Connection<S>) -> Result<u64, Refusal>
     ensures clean { HasCleanDisk (state S.Store conn.new) → HasCleanDisk (state S.Store conn.old) }
     ensures count { HasCleanDisk (state S.Store conn.new) → (t : Tables) → Stores (state S.Store conn.old).now t → IfOk result (λ count. count ≡ len (T.rows t)) }
-    ensures sound { HasCleanDisk (state S.Store conn.new) → (t : Tables) → Stores (state S.Store conn.old).now t → IsUndamaged result }
+    ensures sound { HasCleanDisk (state S.Store conn.new) → (t : Tables) → Stores (state S.Store conn.old).now t → result ≢ Err (Damaged T.name) }
     ensures same { HasCleanDisk (state S.Store conn.new) → (t : Tables) → IsAtRest (Some t) (state S.Store conn.old) → IsWhole result → IsAtRest (Some t) (state S.Store conn.new) }
     ensures left { HasCleanDisk (state S.Store conn.new) → (t : Tables) → IsAtRest (Some t) (state S.Store conn.old) → Leaves (Some t) (state S.Store conn.new) }
 {
-    Err(Refusal::Store(Cause::Memory))
+    let row = match conn.query_row(T::count_text(), &[]) {
+        Ok(row) => row,
+        Err(error) => return Err(Refusal::Store(Cause::from(error))),
+    };
+    let count: Result<i64, Error> = row.get(0);
+    match count {
+        Ok(count) if count >= 0 => Ok(count as u64),
+        Ok(_) => Err(Refusal::Damaged(T::table())),
+        Err(error) => Err(Refusal::Store(Cause::from(error))),
+    }
 }

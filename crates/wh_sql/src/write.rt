@@ -31,7 +31,9 @@ pub fn put<T: Keeps, S: Alter>(
     if conn.is_autocommit() {
         return Err(Cause::Disk);
     }
-    Err(Cause::Memory)
+    let values = T::row(alloc, row)?;
+    conn.execute(T::put_text(), &values)?;
+    Ok(())
 }
 
 /// Takes out the row at the key, if one is there. Outside a transaction it is refused.
@@ -51,5 +53,7 @@ pub fn remove<T: Keeps, S: Alter>(
     if conn.is_autocommit() {
         return Err(Cause::Disk);
     }
-    Err(Cause::Memory)
+    let values = T::key(alloc, key)?;
+    conn.execute(T::remove_text(), &values)?;
+    Ok(())
 }
