@@ -1,7 +1,7 @@
 use Rattle.std.proofs.Common.{ap, ◌∙◌}
 use Rattle.sqlite.specs.Held.{state}
 use Rattle.sqlite.specs.Values.{bound}
-use Rattle.wh_sql.proofs.Changes.{remove_leaves, removes_on}
+use Rattle.wh_sql.proofs.Writing.{remove_leaves, removes_on}
 use Rattle.wh_sql.proofs.write.remove.Goals as goal
 
 pub returns-in_err-execute-clause-left : goal.returns-in_err-execute-clause-left

@@ -3,13 +3,13 @@ use Rattle.std.proofs.Common.{◌≡◌, ℕ, List, Some, Ok, Option}
 use Rattle.std.specs.FinMap.{FinMap, insert, remove}
 use Rattle.sqlite.specs.Order.{Row}
 use Rattle.sqlite.specs.State.{State, HasCleanDisk, Survives, Executes, CommitsBy}
-use Rattle.wh_rows.specs.Schema.{warehouse}
-use Rattle.wh_rows.specs.Holds.{Layout}
-use Rattle.wh_rows.specs.Place.{IsPlaced}
 use Rattle.sqlite.specs.Command.{Command}
 use Rattle.sqlite.specs.Calls.{IsWrite}
 use Rattle.sqlite.specs.Listing.{understood}
 use Rattle.sqlite.proofs.Callers.{IsPlain, command_of}
+use Rattle.wh_rows.specs.Schema.{warehouse}
+use Rattle.wh_rows.specs.Holds.{Layout}
+use Rattle.wh_rows.specs.Place.{IsPlaced}
 use Rattle.wh_rows.specs.Meaning.{PutsOne, RemovesOne}
 use Rattle.wh_rows.specs.Tables.{Tables, Stores}
 use Rattle.wh_rows.specs.AtRest.{Leaves, IsWriting}
@@ -19,14 +19,15 @@ use Rattle.wh_sql.proofs.Inside.{leaves_inside, stays_inside, writes_on, has_tab
 
 module _ (text : List ℕ) (params : Row) (old new : State) (before : Option Tables) (t : Tables) (at : IsWriting before (Some t) old) (clean : HasCleanDisk new) (survives : Survives old new (CommitsBy text params old)) where
   module _ (command : Command) (is : command_of (understood warehouse text) ≡ command) (plain : IsPlain (understood warehouse text)) (write : IsWrite command) where
+    -- a crash in the middle leaves what the transaction began with
     leaves : Leaves before new
     leaves = leaves_inside text params old new warehouse at.now.schema command is plain write at.inside clean survives before at.left
 
+    -- the transaction has made these tables
     makes : (count : ℕ) → Executes text params old new (Ok count) → (now : Tables) → Stores new.now now → IsWriting before (Some now) new
     makes count ran now stored = writes_on before (Some t) (Some now) old new at (stays_inside text params old new warehouse at.now.schema command is plain write at.inside count ran) leaves (has_tables new.now now stored)
 
   module _ {K V : Type 0} (layout : Layout K V) where
-    -- a crash in the middle leaves what the transaction began with
     pub put_leaves : (may_stand : V → V → Type 0) → PutsOne layout may_stand text → Leaves before new
     put_leaves may_stand puts = leaves _ puts.command puts.plain tt
 
