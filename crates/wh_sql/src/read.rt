@@ -1,22 +1,24 @@
 //! Reading rows of the tables, in the order of their keys.
 
-ghost use Rattle.std.specs.Prelude.{◌≡◌, ◌≢◌, Err, [], Some, IfOk, IfErr};
+ghost use Rattle.std.specs.Prelude.{◌≡◌, ◌≢◌, ℕ, Err, [], ◌∷◌, Some, MatchResult, IfOk, IfErr};
 ghost use Rattle.std.specs.FinMap.{values, get, len};
+ghost use Rattle.sqlite_sql.specs.Aggregate.{count as number_of};
 ghost use Rattle.sqlite.specs.Held.{state};
 ghost use Rattle.sqlite.specs.Values.{bound};
 ghost use Rattle.sqlite.specs.State.{HasCleanDisk, Survives, CommitsShowing};
 ghost use Rattle.wh_rows.specs.Tables.{Tables, Stores};
 ghost use Rattle.wh_rows.specs.AtRest.{IsAtRest, Leaves};
 ghost use Rattle.wh_sql.specs.Refusal.{IsWhole, Shows, FailsToShow};
-ghost use Rattle.wh_sql.specs.declared.refusal.Refusal.TheVariants.{Damaged};
+ghost use Rattle.wh_sql.specs.declared.refusal.Refusal.TheVariants.{Damaged, Store};
+ghost use Rattle.wh_rows.specs.declared.cause.Cause.TheVariants.{Size};
 
 use crate::keeps::Keeps;
 use crate::refusal::Refusal;
 use sqlite::types::ValueRef;
-use sqlite::{Alter, Connection, Error};
+use sqlite::{Alter, Connection, Row};
 use std::alloc::Global;
 use wh_day::ReadError;
-use wh_rows::{Cause, read_all};
+use wh_rows::{Cause, Table, read_all};
 
 /// The rows of the table that a query shows, with what the connection tells of it.
 pub(crate) fn rows_shown<T: Keeps, S: Alter>(
@@ -73,7 +75,7 @@ pub fn get<T: Keeps, S: Alter>(
     Ok(rows.pop())
 }
 
-/// How many rows the table has.
+/// How many rows the table has. `Size`: more than the store counts.
 pub fn count<T: Keeps, S: Alter>(alloc: Global, conn: &mut Connection<S>) -> Result<u64, Refusal>
     ensures clean { HasCleanDisk (state S.Store conn.new) → HasCleanDisk (state S.Store conn.old) }
     ensures count { HasCleanDisk (state S.Store conn.new) → (t : Tables) → Stores (state S.Store conn.old).now t → IfOk result (λ count. count ≡ len (T.rows t)) }
@@ -81,14 +83,23 @@ pub fn count<T: Keeps, S: Alter>(alloc: Global, conn: &mut Connection<S>) -> Res
     ensures same { HasCleanDisk (state S.Store conn.new) → (t : Tables) → IsAtRest (Some t) (state S.Store conn.old) → IsWhole result → IsAtRest (Some t) (state S.Store conn.new) }
     ensures left { HasCleanDisk (state S.Store conn.new) → (t : Tables) → IsAtRest (Some t) (state S.Store conn.old) → Leaves (Some t) (state S.Store conn.new) }
 {
-    let row = match conn.query_row(T::count_text(), &[]) {
-        Ok(row) => row,
+    let shown = match conn.query_all(T::count_text(), &[]) {
+        Ok(shown) => shown,
         Err(error) => return Err(Refusal::Store(Cause::from(error))),
     };
-    let count: Result<i64, Error> = row.get(0);
-    match count {
-        Ok(count) if count >= 0 => Ok(count as u64),
-        Ok(_) => Err(Refusal::Damaged(T::table())),
-        Err(error) => Err(Refusal::Store(Cause::from(error))),
+    count_shown(T::table(), &shown)
+}
+
+/// The number that a query shows in its only row. `Size`: the store counts no further.
+fn count_shown(table: Table, shown: &[Row]) -> Result<u64, Refusal>
+    ensures { (rows : ℕ) → shown.now ≡ (number_of rows ∷ []) ∷ [] → MatchResult result (λ count. count ≡ rows) (λ refusal. refusal ≡ Store Size) }
+{
+    let Some(row) = shown.first() else {
+        return Err(Refusal::Damaged(table));
+    };
+    match row.get_ref(0) {
+        Ok(ValueRef::Int(i64::MAX)) => Err(Refusal::Store(Cause::Size)),
+        Ok(ValueRef::Int(count)) if 0 <= count => Ok(count as u64),
+        _ => Err(Refusal::Damaged(table)),
     }
 }

@@ -1,0 +1,122 @@
+-- What a reading of one table gives, and what it leaves.
+use Rattle.std.proofs.Common.{◌≡◌, ◌≢◌, ◌↔◌, ◌<◌, ℕ, List, [], ◌∷◌, ◌++◌, map, filter, length, Bool, Option, None, Some, Result, Ok, Err, IsSome, IfOk, IfErr, IsTrue, true, false, inl, inr, refl, sym, ap, subst, ◌∙◌, arith, length-append}
+use Rattle.std.specs.List.{list_all}
+use Rattle.std.specs.Option.{option_to_list}
+use Rattle.std.specs.FinMap.{FinMap, values, get}
+use Rattle.std.specs.Ordering.{eq_by_cmp}
+use Rattle.std.specs.Prelude.{Vec}
+use Rattle.std.specs.declared.alloc.Global.{Global}
+use Rattle.sqlite.specs.Order.{Row}
+use Rattle.sqlite.specs.Listing.{understood}
+use Rattle.sqlite.specs.State.{State, HasCleanDisk, IsUnchanged, Survives, Shown, CommitsShowing}
+use Rattle.sqlite.proofs.Callers.{IsPlain}
+use Rattle.wh_rows.specs.Schema.{warehouse}
+use Rattle.wh_rows.specs.Holds.{Layout}
+use Rattle.wh_rows.specs.Place.{IsPlaced}
+use Rattle.wh_rows.specs.Tables.{Tables, Stores}
+use Rattle.wh_rows.specs.AtRest.{Has, IsAtRest, Leaves}
+use Rattle.wh_rows.specs.Meaning.{ReadsSome}
+use Rattle.wh_rows.specs.Firsts.{Front, part, ReadsPart}
+use Rattle.wh_rows.specs.declared.table.Table.{Table}
+use Rattle.wh_rows.proofs.Edits.{filter_all}
+use Rattle.wh_rows.proofs.Maps.{filter-get}
+use Rattle.wh_rows.proofs.Queries.{query_keeps, query_commits_nothing}
+use Rattle.wh_rows.proofs.OnTables.{answer_is, first_is, valid_answer, valid_first, read_is}
+use Rattle.wh_sql.specs.Refusal.{IsWhole, Shows, FailsToShow}
+use Rattle.wh_sql.specs.declared.refusal.Refusal.{Refusal}
+use Rattle.wh_sql.specs.declared.refusal.Refusal.TheVariants.{Damaged, Store}
+
+-- ---- a text that shows what is there
+
+module _ (text : List ℕ) (params : Row) (plain : IsPlain (understood warehouse text)) (t : Tables) (old new : State) (at : IsAtRest (Some t) old)
+    (survives : Survives old new (CommitsShowing text params old)) (clean : HasCleanDisk new) where
+  pub leaves_same : Leaves (Some t) new
+  leaves_same = record { each = λ trees may. elim ((query_commits_nothing text params old new at.now.schema plain survives).crash clean trees may) [ inl before ↦ at.left.each trees before | inr none ↦ absurd none ] }
+
+  pub still_rests : (answer : List Row) → Shown text params old new answer → IsAtRest (Some t) new
+  still_rests answer shown =
+      let same : IsUnchanged old new = query_keeps text params old new at.now.schema plain answer shown in
+      record {
+        is_open = same.0.is_open;
+        autocommit = same.0.mode ∙ at.autocommit;
+        unmarked = same.2 ∙ at.unmarked;
+        now = subst (Has (Some t)) (sym same.0.now_is) at.now;
+        committed = same.0.committed_is ∙ (at.committed ∙ sym same.0.now_is);
+        left = leaves_same;
+      }
+
+-- ---- a text that shows rows of one table
+
+-- Of the tables that the database stores it shows these rows, all of values of their types, and no two of them stand alike.
+pub record IsAnswered {K V : Type 0} (layout : Layout K V) (text : List ℕ) (params : Row) (old new : State) (wanted : Tables → List V) : Type 0 where
+  pub plain : IsPlain (understood warehouse text)
+  pub shows : (answer : List Row) (t : Tables) → Stores old.now t → Shown text params old new answer → answer ≡ map layout.encode (wanted t)
+  pub valid : (t : Tables) → Stores old.now t → IsTrue (list_all layout.is_valid (wanted t))
+  pub once : (answer : List Row) (read stored : List V) → IsTrue (list_all layout.is_valid read) → answer ≡ map layout.encode read → IsTrue (list_all layout.is_valid stored) → answer ≡ map layout.encode stored → read ≡ stored
+
+-- the same rows, said otherwise
+otherwise : {K V : Type 0} {layout : Layout K V} {text : List ℕ} {params : Row} {old new : State} {wanted again : Tables → List V} → IsAnswered layout text params old new wanted
+    → ((t : Tables) → Stores old.now t → wanted t ≡ again t) → IsAnswered layout text params old new again
+otherwise {layout = layout} asked same = record {
+  plain = asked.plain;
+  shows = λ answer t stored shown. asked.shows answer t stored shown ∙ ap (map layout.encode) (same t stored);
+  valid = λ t stored. subst (λ vs. IsTrue (list_all layout.is_valid vs)) (same t stored) (asked.valid t stored);
+  once = asked.once;
+}
+
+module _ {K V : Type 0} {layout : Layout K V} {rows : Tables → FinMap layout.order V} {with_rows : FinMap layout.order V → Tables → Tables} (placed : IsPlaced layout rows with_rows) (old new : State) where
+  -- a text that means a part of the rows that pass a test shows that part
+  pub part_answered : (text : List ℕ) (params : Row) (front : Option Front) (keep : V → Bool) → ReadsPart front layout params keep text → IsAnswered layout text params old new (λ t. part front (filter keep (values (rows t))))
+  part_answered text params None keep reads = record {
+    plain = reads.plain;
+    shows = answer_is layout rows with_rows placed text old new params keep reads;
+    valid = valid_answer layout rows with_rows placed keep old;
+    once = read_is layout rows with_rows placed;
+  }
+  part_answered text params (Some front) keep reads = record {
+    plain = reads.plain;
+    shows = first_is layout rows with_rows placed text old new params keep front.most front.backwards reads;
+    valid = valid_first layout rows with_rows placed keep front.most front.backwards old;
+    once = read_is layout rows with_rows placed;
+  }
+
+  -- one that means all rows shows them all
+  pub all_answered : {text : List ℕ} → ReadsSome layout [] (λ row. true) text → IsAnswered layout text [] old new (λ t. values (rows t))
+  all_answered {text = text} reads = otherwise (part_answered text [] None (λ row. true) reads) (λ t stored. filter_all (values (rows t)))
+
+  -- one that means the rows of a key shows the row there
+  pub key_answered : {text : List ℕ} {params : Row} (key : K) → ReadsSome layout params (λ row. eq_by_cmp layout.order key (layout.key row)) text → IsAnswered layout text params old new (λ t. option_to_list (get (rows t) key))
+  key_answered {text = text} {params = params} key reads =
+      otherwise (part_answered text params None (λ row. eq_by_cmp layout.order key (layout.key row)) reads) (λ t stored. filter-get layout.order placed.total layout.key (rows t) key (placed.held old.now t stored).keyed)
+
+module _ {K V : Type 0} {layout : Layout K V} {text : List ℕ} {params : Row} {old new : State} {wanted : Tables → List V} (asked : IsAnswered layout text params old new wanted) where
+  -- what is read is what was asked for
+  pub rows_are : (result : Result (Vec V Global) Refusal) → IfOk result (λ rows. Shows layout text params old new rows.items) → (t : Tables) → Stores old.now t → IfOk result (λ rows. rows.items ≡ wanted t)
+  rows_are (Err refusal) shows t stored = tt
+  rows_are (Ok rows) shows t stored = asked.once (map layout.encode rows.items) rows.items (wanted t) shows.0 refl (asked.valid t stored) (asked.shows (map layout.encode rows.items) t stored shows.1)
+
+  -- and no row is out of its type
+  pub never_damaged : (table : Table) (refusal : Refusal) → FailsToShow layout table text params old new refusal → (t : Tables) → Stores old.now t → (which : Table) → refusal ≢ Damaged which
+  never_damaged table (Damaged met) fails t stored which is = fails.3 (wanted t) (asked.valid t stored) (asked.shows fails.1 t stored fails.2)
+  never_damaged table (Store cause) fails t stored which is = cc
+
+  pub never_damaged_in : {A : Type 0} (result : Result A Refusal) (table : Table) → IfErr result (FailsToShow layout table text params old new) → (t : Tables) → Stores old.now t → (which : Table) → result ≢ Err (Damaged which)
+  never_damaged_in (Ok x) table fails t stored which is = cc
+  never_damaged_in (Err refusal) table fails t stored which is = never_damaged table refusal fails t stored which (cc)
+
+  module _ (t : Tables) (at : IsAtRest (Some t) old) (survives : Survives old new (CommitsShowing text params old)) (clean : HasCleanDisk new) where
+    pub leaves_held : Leaves (Some t) new
+    leaves_held = leaves_same text params asked.plain t old new at survives clean
+
+    pub rests_whole : (result : Result (Vec V Global) Refusal) (table : Table) → IfOk result (λ rows. Shows layout text params old new rows.items) → IfErr result (FailsToShow layout table text params old new) → IsWhole result → IsAtRest (Some t) new
+    rests_whole (Ok rows) table shows fails whole = still_rests text params asked.plain t old new at survives clean (map layout.encode rows.items) shows.1
+    rests_whole (Err (Damaged which)) table shows fails whole = still_rests text params asked.plain t old new at survives clean fails.1 fails.2
+    rests_whole (Err (Store cause)) table shows fails whole = absurd whole
+
+-- the last of no row or one row is that row
+pub last_is : {V : Type 0} (found last : Option V) (items before : List V) (n : ℕ) → n ≡ length items → items ≡ option_to_list found → items ≡ before ++ option_to_list last → (IsSome last ↔ (0 < n)) → last ≡ found
+last_is None None items before n len is at some = refl
+last_is None (Some w) items before n len is at some = absurd (omega (arith, some.0 refl, ap length is))
+last_is (Some v) None items before n len is at some = let never : false ≡ true = some.1 (omega (arith, ap length is)) in cc
+last_is (Some v) (Some w) items [] n len is at some = let same : v ∷ [] ≡ w ∷ [] = sym is ∙ at in cc
+last_is (Some v) (Some w) items (x ∷ before) n len is at some = absurd (omega (arith, ap length is, ap length at, length-append before (w ∷ [])))

@@ -1,0 +1,25 @@
+-- The text means all rows.
+use Rattle.sqlite.specs.Held.{state}
+use Rattle.wh_sql.proofs.Reading.{all_answered, rows_are, never_damaged_in, leaves_held, rests_whole}
+use Rattle.wh_sql.proofs.read.all.Goals as goal
+
+pub returns-clause-rows : goal.returns-clause-rows
+returns-clause-rows g c clean t stored =
+    let asked = all_answered g.met.T.Keeps.placed (state g.S.Store c.args.conn.now) (state g.S.Store c.rows_shown.new.conn) g.met.T.Keeps.lists in
+    rows_are asked c.rows_shown.result (rw c.all_text.ensures at (c.rows_shown.ensures.shows clean)) t stored
+
+pub returns-clause-sound : goal.returns-clause-sound
+returns-clause-sound g c clean t stored =
+    let asked = all_answered g.met.T.Keeps.placed (state g.S.Store c.args.conn.now) (state g.S.Store c.rows_shown.new.conn) g.met.T.Keeps.lists in
+    never_damaged_in asked c.rows_shown.result g.T.Keeps.name (rw c.all_text.ensures at (c.rows_shown.ensures.refused clean)) t stored g.T.Keeps.name
+
+pub returns-clause-same : goal.returns-clause-same
+returns-clause-same g c clean t at =
+    let asked = all_answered g.met.T.Keeps.placed (state g.S.Store c.args.conn.now) (state g.S.Store c.rows_shown.new.conn) g.met.T.Keeps.lists in
+    rests_whole asked t at (rw c.all_text.ensures at c.rows_shown.ensures.survives) clean c.rows_shown.result g.T.Keeps.name (rw c.all_text.ensures at (c.rows_shown.ensures.shows clean))
+    (rw c.all_text.ensures at (c.rows_shown.ensures.refused clean))
+
+pub returns-clause-left : goal.returns-clause-left
+returns-clause-left g c clean t at =
+    let asked = all_answered g.met.T.Keeps.placed (state g.S.Store c.args.conn.now) (state g.S.Store c.rows_shown.new.conn) g.met.T.Keeps.lists in
+    leaves_held asked t at (rw c.all_text.ensures at c.rows_shown.ensures.survives) clean
