@@ -1,3 +1,4 @@
 pub mod Inside
 pub mod Writing
 pub mod Reading
+mod Creating

@@ -4,6 +4,7 @@
 mod dimension;
 mod keeps;
 mod keys;
+mod making;
 mod question;
 mod questions;
 mod read;
@@ -13,6 +14,7 @@ mod write;
 
 pub use dimension::Dimension;
 pub use keeps::Keeps;
+pub use making::create;
 pub use question::{Question, ask};
 pub use questions::{RecordsOf, RowsOf};
 pub use read::{all, count, get};
