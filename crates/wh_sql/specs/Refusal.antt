@@ -18,6 +18,12 @@ IsWhole (Ok answer) = Unit {0}
 IsWhole (Err (Damaged table)) = Unit {0}
 IsWhole (Err (Store cause)) = ⊥
 
+-- no row out of its type was met
+abbrev pub IsUndamaged : {A : Type 0} → Result A Refusal → Type 0
+IsUndamaged (Ok answer) = Unit {0}
+IsUndamaged (Err (Damaged table)) = ⊥
+IsUndamaged (Err (Store cause)) = Unit {0}
+
 -- the query, asked with these parameters, shows these rows, all of values of their types
 abbrev pub Shows : {K V : Type 0} → Layout K V → List ℕ → Row → State → State → List V → Type 0
 Shows layout text params old new rows = IsTrue (list_all layout.is_valid rows) × Shown text params old new (map layout.encode rows)
