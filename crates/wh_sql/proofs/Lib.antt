@@ -1,1 +1,2 @@
 mod Creating
+pub mod Worked
