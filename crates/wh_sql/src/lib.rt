@@ -14,7 +14,7 @@ mod write;
 
 pub use dimension::Dimension;
 pub use keeps::Keeps;
-pub use making::create;
+pub use making::{create, has_tables, has_taken_name};
 pub use question::{Question, ask};
 pub use questions::{RecordsOf, RowsOf};
 pub use read::{all, count, get};
