@@ -1,2 +1,3 @@
 pub mod Fits
 pub mod Refusal
+pub mod Asked
