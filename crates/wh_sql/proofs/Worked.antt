@@ -1,7 +1,6 @@
 -- Which tables some schemas have, by computation.
 use Rattle.std.proofs.Common.{◌≡◌, codes, [], ◌∷◌, None, true, false, refl}
 use Rattle.sqlite_schema.specs.Names.{same_name}
-use Rattle.sqlite.specs.Schema.{Schema}
 use Rattle.wh_rows.specs.Schema as schema
 use Rattle.wh_rows.specs.Schema.{no_schema, warehouse}
 use Rattle.wh_sql.specs.Present.{is_any_taken, are_all_there}
