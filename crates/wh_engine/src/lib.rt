@@ -1,0 +1,2 @@
+//! The engine of a warehouse: commands, and what they make of the tables.
+#![tactic(auto)]
