@@ -1,10 +1,11 @@
 -- What a reading of one table gives, and what it leaves.
-use Rattle.std.proofs.Common.{◌≡◌, ◌≢◌, ◌↔◌, ◌<◌, ℕ, List, [], ◌∷◌, ◌++◌, map, filter, length, Bool, Option, None, Some, Result, Ok, Err, IsSome, IfOk, IfErr, IsTrue, true, false, inl, inr, refl, sym, ap, subst, ◌∙◌, arith, length-append}
+use Rattle.std.proofs.Common.{◌≡◌, ◌↔◌, ◌<◌, ℕ, List, [], ◌∷◌, ◌++◌, map, filter, length, Bool, Option, None, Some, Result, Ok, Err, IsSome, IfOk, IfErr, IsTrue, true, false, inl, inr, refl, sym, ap, subst, ◌∙◌, arith, length-append}
 use Rattle.std.specs.List.{list_all}
 use Rattle.std.specs.Option.{option_to_list}
 use Rattle.std.specs.FinMap.{FinMap, values, get}
 use Rattle.std.specs.Ordering.{eq_by_cmp}
-use Rattle.std.specs.Prelude.{Vec}
+use Rattle.std.specs.Prelude.{Vec, MatchResult}
+use Rattle.wh_rows.specs.declared.cause.Cause.TheVariants.{Size}
 use Rattle.std.specs.declared.alloc.Global.{Global}
 use Rattle.sqlite.specs.Order.{Row}
 use Rattle.sqlite.specs.Listing.{understood}
@@ -22,7 +23,7 @@ use Rattle.wh_rows.proofs.Edits.{filter_all}
 use Rattle.wh_rows.proofs.Maps.{filter-get}
 use Rattle.wh_rows.proofs.Queries.{query_keeps, query_commits_nothing}
 use Rattle.wh_rows.proofs.OnTables.{answer_is, first_is, valid_answer, valid_first, read_is}
-use Rattle.wh_sql.specs.Refusal.{IsWhole, Shows, FailsToShow}
+use Rattle.wh_sql.specs.Refusal.{IsWhole, IsUndamaged, Shows, FailsToShow}
 use Rattle.wh_sql.specs.declared.refusal.Refusal.{Refusal}
 use Rattle.wh_sql.specs.declared.refusal.Refusal.TheVariants.{Damaged, Store}
 
@@ -96,13 +97,10 @@ module _ {K V : Type 0} {layout : Layout K V} {text : List ℕ} {params : Row} {
   rows_are (Ok rows) shows t stored = asked.once (map layout.encode rows.items) rows.items (wanted t) shows.0 refl (asked.valid t stored) (asked.shows (map layout.encode rows.items) t stored shows.1)
 
   -- and no row is out of its type
-  pub never_damaged : (table : Table) (refusal : Refusal) → FailsToShow layout table text params old new refusal → (t : Tables) → Stores old.now t → (which : Table) → refusal ≢ Damaged which
-  never_damaged table (Damaged met) fails t stored which is = fails.3 (wanted t) (asked.valid t stored) (asked.shows fails.1 t stored fails.2)
-  never_damaged table (Store cause) fails t stored which is = cc
-
-  pub never_damaged_in : {A : Type 0} (result : Result A Refusal) (table : Table) → IfErr result (FailsToShow layout table text params old new) → (t : Tables) → Stores old.now t → (which : Table) → result ≢ Err (Damaged which)
-  never_damaged_in (Ok x) table fails t stored which is = cc
-  never_damaged_in (Err refusal) table fails t stored which is = never_damaged table refusal fails t stored which (cc)
+  pub undamaged : {A : Type 0} (result : Result A Refusal) (table : Table) → IfErr result (FailsToShow layout table text params old new) → (t : Tables) → Stores old.now t → IsUndamaged result
+  undamaged (Ok x) table fails t stored = tt
+  undamaged (Err (Damaged met)) table fails t stored = fails.3 (wanted t) (asked.valid t stored) (asked.shows fails.1 t stored fails.2)
+  undamaged (Err (Store cause)) table fails t stored = tt
 
   module _ (t : Tables) (at : IsAtRest (Some t) old) (survives : Survives old new (CommitsShowing text params old)) (clean : HasCleanDisk new) where
     pub leaves_held : Leaves (Some t) new
@@ -112,6 +110,12 @@ module _ {K V : Type 0} {layout : Layout K V} {text : List ℕ} {params : Row} {
     rests_whole (Ok rows) table shows fails whole = still_rests text params asked.plain t old new at survives clean (map layout.encode rows.items) shows.1
     rests_whole (Err (Damaged which)) table shows fails whole = still_rests text params asked.plain t old new at survives clean fails.1 fails.2
     rests_whole (Err (Store cause)) table shows fails whole = absurd whole
+
+-- a number that is too great is no damage
+pub too_great : {A : Type 0} (P : A → Type 0) (result : Result A Refusal) → MatchResult result P (λ refusal. refusal ≡ Store Size) → IsUndamaged result
+too_great P (Ok x) told = tt
+too_great P (Err (Damaged table)) told = cc
+too_great P (Err (Store cause)) told = tt
 
 -- the last of no row or one row is that row
 pub last_is : {V : Type 0} (found last : Option V) (items before : List V) (n : ℕ) → n ≡ length items → items ≡ option_to_list found → items ≡ before ++ option_to_list last → (IsSome last ↔ (0 < n)) → last ≡ found

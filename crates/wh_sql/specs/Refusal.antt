@@ -4,7 +4,6 @@ use Rattle.std.specs.List.{list_all}
 use Rattle.sqlite.specs.Order.{Row}
 use Rattle.sqlite.specs.State.{State, Shown, FailsToQuery}
 use Rattle.sqlite.specs.declared.error.Error.{Error}
-use Rattle.wh_rows.specs.declared.cause.Cause.{Cause}
 use Rattle.wh_rows.specs.Cause.{cause_of}
 use Rattle.wh_rows.specs.Holds.{Layout}
 use Rattle.wh_rows.specs.declared.table.Table.{Table}
@@ -17,6 +16,12 @@ abbrev pub IsWhole : {A : Type 0} → Result A Refusal → Type 0
 IsWhole (Ok answer) = Unit {0}
 IsWhole (Err (Damaged table)) = Unit {0}
 IsWhole (Err (Store cause)) = ⊥
+
+-- no row out of its type was met
+abbrev pub IsUndamaged : {A : Type 0} → Result A Refusal → Type 0
+IsUndamaged (Ok answer) = Unit {0}
+IsUndamaged (Err (Damaged table)) = ⊥
+IsUndamaged (Err (Store cause)) = Unit {0}
 
 -- the query, asked with these parameters, shows these rows, all of values of their types
 abbrev pub Shows : {K V : Type 0} → Layout K V → List ℕ → Row → State → State → List V → Type 0

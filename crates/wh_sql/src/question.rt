@@ -10,7 +10,7 @@ ghost use Rattle.wh_rows.specs.declared.cause.Cause.TheVariants.{Memory, Size};
 ghost use Rattle.wh_rows.specs.Firsts.{Front, part, ReadsPart};
 ghost use Rattle.wh_rows.specs.Tables.{Tables, Stores};
 ghost use Rattle.wh_rows.specs.AtRest.{IsAtRest, Leaves};
-ghost use Rattle.wh_sql.specs.Refusal.{IsWhole, Shows, FailsToShow};
+ghost use Rattle.wh_sql.specs.Refusal.{IsWhole, IsUndamaged, Shows, FailsToShow};
 ghost use Rattle.wh_sql.specs.declared.refusal.Refusal.TheVariants.{Damaged};
 
 use crate::keeps::Keeps;
@@ -55,7 +55,7 @@ pub fn ask<T: Keeps, Q: Question<T>, S: Alter>(
 ) -> Result<Vec<T::Row>, Refusal>
     ensures clean { HasCleanDisk (state S.Store conn.new) → HasCleanDisk (state S.Store conn.old) }
     ensures rows { HasCleanDisk (state S.Store conn.new) → (t : Tables) → Stores (state S.Store conn.old).now t → IfOk result (λ rows. rows.items ≡ part Q.front (filter (Q.keep question.now) (values (T.rows t)))) }
-    ensures sound { HasCleanDisk (state S.Store conn.new) → (t : Tables) → Stores (state S.Store conn.old).now t → result ≢ Err (Damaged T.name) }
+    ensures sound { HasCleanDisk (state S.Store conn.new) → (t : Tables) → Stores (state S.Store conn.old).now t → IsUndamaged result }
     ensures same { HasCleanDisk (state S.Store conn.new) → (t : Tables) → IsAtRest (Some t) (state S.Store conn.old) → IsWhole result → IsAtRest (Some t) (state S.Store conn.new) }
     ensures left { HasCleanDisk (state S.Store conn.new) → (t : Tables) → IsAtRest (Some t) (state S.Store conn.old) → Leaves (Some t) (state S.Store conn.new) }
     ensures shows { HasCleanDisk (state S.Store conn.new) → IfOk result (λ rows. Shows T.layout (Q.means question.now) (Q.bind question.now) (state S.Store conn.old) (state S.Store conn.new) rows.items) }

@@ -1,6 +1,6 @@
 -- The text means all rows.
 use Rattle.sqlite.specs.Held.{state}
-use Rattle.wh_sql.proofs.Reading.{all_answered, rows_are, never_damaged_in, leaves_held, rests_whole}
+use Rattle.wh_sql.proofs.Reading.{all_answered, rows_are, undamaged, leaves_held, rests_whole}
 use Rattle.wh_sql.proofs.read.all.Goals as goal
 
 pub returns-clause-rows : goal.returns-clause-rows
@@ -11,7 +11,7 @@ returns-clause-rows g c clean t stored =
 pub returns-clause-sound : goal.returns-clause-sound
 returns-clause-sound g c clean t stored =
     let asked = all_answered g.met.T.Keeps.placed (state g.S.Store c.args.conn.now) (state g.S.Store c.rows_shown.new.conn) g.met.T.Keeps.lists in
-    never_damaged_in asked c.rows_shown.result g.T.Keeps.name (rw c.all_text.ensures at (c.rows_shown.ensures.refused clean)) t stored g.T.Keeps.name
+    undamaged asked c.rows_shown.result g.T.Keeps.name (rw c.all_text.ensures at (c.rows_shown.ensures.refused clean)) t stored
 
 pub returns-clause-same : goal.returns-clause-same
 returns-clause-same g c clean t at =

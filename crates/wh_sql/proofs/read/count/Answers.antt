@@ -1,11 +1,10 @@
 -- The text means the number of all rows.
 use Rattle.std.proofs.Common.{[], ◌∙◌}
-use Rattle.std.proofs.lemmas.Result.{MatchResult-at_err, MatchResult-weaker}
+use Rattle.std.proofs.lemmas.Result.{MatchResult-weaker}
 use Rattle.std.specs.FinMap.{len}
 use Rattle.sqlite.specs.Held.{state}
 use Rattle.wh_rows.proofs.OnTables.{count_is}
-use Rattle.wh_sql.specs.declared.refusal.Refusal.TheVariants.{Damaged}
-use Rattle.wh_sql.proofs.Reading.{leaves_same, still_rests}
+use Rattle.wh_sql.proofs.Reading.{too_great, leaves_same, still_rests}
 use Rattle.wh_sql.proofs.read.count.Goals as goal
 
 pub returns-in-Err-clause-left : goal.returns-in-Err-clause-left
@@ -26,7 +25,7 @@ returns-clause-sound g c clean t stored =
     let shown = rw c.count_text.ensures at (c.in-Ok.ensures.ok clean) in
     let is = count_is d.layout d.rows d.with_rows g.met.T.Keeps.placed g.T.Keeps.count_means (state g.S.Store c.args.conn.now) (state g.S.Store c.query_all.new.self) g.met.T.Keeps.counts c.in-Ok.shown.items t stored shown in
     let told = c.count_shown.ensures (len (d.rows t)) (c.deref.ensures.value ∙ is) in
-    λ damaged. let size = MatchResult-at_err _ _ (Damaged g.T.Keeps.name) damaged told in cc
+    too_great _ c.count_shown.result told
 
 pub returns-clause-same : goal.returns-clause-same
 returns-clause-same g c clean t at whole =

@@ -1,10 +1,10 @@
 -- The text means the rows of the key.
-use Rattle.std.proofs.Common.{Ok, Err, arith, ◌≡◌, length}
+use Rattle.std.proofs.Common.{ℕ, Ok, Err, arith, ◌≡◌, length}
 use Rattle.std.proofs.lemmas.Result.{err_from_is_err_and}
 use Rattle.std.specs.Prelude.{vec_len}
 use Rattle.std.specs.FinMap.{get}
 use Rattle.sqlite.specs.Held.{state}
-use Rattle.wh_sql.proofs.Reading.{key_answered, rows_are, never_damaged, leaves_held, rests_whole, last_is}
+use Rattle.wh_sql.proofs.Reading.{key_answered, rows_are, undamaged, leaves_held, rests_whole, last_is}
 use Rattle.wh_sql.proofs.read.get.Goals as goal
 
 pub returns-in_err-rows-clause-sound : goal.returns-in_err-rows-clause-sound
@@ -12,7 +12,7 @@ returns-in_err-rows-clause-sound g c clean t stored =
     let asked = key_answered g.met.T.Keeps.placed (state g.S.Store c.args.conn.now) (state g.S.Store c.rows_shown.new.conn) c.args.key.now (g.met.T.Keeps.finds c.args.key.now) in
     let p = err_from_is_err_and c.from_residual-in_err-rows.result c.from_residual-in_err-rows.ensures.1 in
     let refused = rw (c.get_text.ensures, c.deref.ensures.value, c.in_ok-values.ensures.ok) at (c.in_err-rows.ensures.refused clean) in
-    rw (p.1, p.2) (λ is. never_damaged asked g.T.Keeps.name c.in_err-rows.field-0.0 refused t stored g.T.Keeps.name (cc))
+    rw (p.1, p.2) (undamaged asked {A = ℕ} (Err c.in_err-rows.field-0.0) g.T.Keeps.name refused t stored)
 
 pub returns-in_err-rows-clause-same : goal.returns-in_err-rows-clause-same
 returns-in_err-rows-clause-same g c clean t at =

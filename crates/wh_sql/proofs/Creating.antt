@@ -1,0 +1,86 @@
+-- What the texts that make tables and indexes do inside a transaction.
+use Rattle.std.proofs.Common.{◌≡◌, inl, inr, ℕ, ◌+◌, ◌<◌, List, [], ◌∷◌, length, map, drop, get_or, add-one, cond, None, Some, Ok, sym, ap, subst, ◌∙◌}
+use Rattle.std.specs.Prelude.{IsTrue}
+use Rattle.std.proofs.Math.Seq.{drop-cons}
+use Rattle.std.proofs.lemmas.Bool.{both_ways}
+use Rattle.sqlite.specs.Tree.{Trees}
+use Rattle.sqlite.specs.Schema.{Schema}
+use Rattle.sqlite.specs.Command.{Command}
+use Rattle.sqlite.specs.Command.TheVariants.{CreateTable, CreateIndex}
+use Rattle.sqlite.specs.Calls.{IsWrite}
+use Rattle.sqlite.specs.Listing.{understood}
+use Rattle.sqlite.specs.State.{State, HasCleanDisk, Survives, Writes, Executes, CommitsBy}
+use Rattle.sqlite.proofs.Callers.{command_of, runs_as}
+use Rattle.wh_rows.specs.Schema.{no_schema, warehouse}
+use Rattle.wh_rows.specs.Tables.{no_tables}
+use Rattle.wh_rows.specs.Making.{Extends, Leads}
+use Rattle.wh_rows.specs.AtRest.{Has, Leaves, IsWriting}
+use Rattle.wh_rows.proofs.Making.{extended, stores_none}
+use Rattle.wh_sql.specs.Present.{IsMaking}
+
+-- the text is a write
+writes : (from : Schema) (text : List ℕ) (to : Schema) → Extends from text to → IsWrite (command_of (understood from text))
+writes from text to (inl it) = subst IsWrite (sym it.command) tt
+writes from text to (inr it) = subst IsWrite (sym it.command) tt
+
+-- run, it has made its change
+written : (from : Schema) (text : List ℕ) (to : Schema) → Extends from text to → (old new : State) (count : ℕ) → old.now.schema ≡ from → Executes text [] old new (Ok count)
+    → (command : Command) × (statement : List ℕ) × Writes old new None command statement [] count
+written from text to (inl it) old new count has ran = (CreateTable, _, runs_as text [] old new from has CreateTable it.command it.plain count ran)
+written from text to (inr it) old new count has ran = (CreateIndex it.at, _, runs_as text [] old new from has (CreateIndex it.at) it.command it.plain count ran)
+
+-- inside a transaction a write commits nothing
+commits_none : (s : State) (text : List ℕ) (trees : Trees) → IsWrite (command_of (understood s.now.schema text)) → IsTrue s.in_transaction → ¬ CommitsBy text [] s trees
+unfolding CommitsBy
+commits_none s text trees write inside (c, it, may) =
+    let wrote : IsWrite c.command = subst IsWrite (ap command_of it.is) write in
+    elim may [
+      | inl ends ↦ elim ends.0 [ inl same ↦ subst IsWrite same wrote | inr named ↦ subst IsWrite named.2 wrote ]
+      | inr outside ↦ both_ways _ outside.0 inside
+    ]
+
+-- the text leaves what could be left before
+pub leaves_none : (from : Schema) (text : List ℕ) (to : Schema) → Extends from text to → (old new : State) → HasCleanDisk new → Survives old new (CommitsBy text [] old) → IsMaking from old → Leaves None new
+leaves_none from text to extends old new clean survives at = record {
+  each = λ trees may. elim (survives.crash clean trees may) [
+    | inl was ↦ at.left.each trees was
+    | inr commits ↦ absurd (commits_none old text trees (subst (λ s. IsWrite (command_of (understood s text))) (sym at.schema) (writes from text to extends)) at.inside commits)
+  ];
+}
+
+-- run where the one schema stands over empty tables, the text leaves the other schema over empty tables
+pub makes_on : (from : Schema) (text : List ℕ) (to : Schema) → Extends from text to → (old new : State) (count : ℕ) → HasCleanDisk new → Survives old new (CommitsBy text [] old) → Executes text [] old new (Ok count)
+    → IsMaking from old → IsMaking to new
+makes_on from text to extends old new count clean survives ran at =
+    let made = extended from text to extends old new count at.schema at.empty ran in
+    let wrote = (written from text to extends old new count at.schema ran).2 in
+    let committed : new.committed ≡ old.committed = subst (λ b. new.committed ≡ cond b old.committed new.now) at.inside wrote.shown.committed_is in
+    record {
+      is_open = wrote.shown.is_open;
+      inside = wrote.shown.mode ∙ at.inside;
+      schema = made.0;
+      sound = wrote.sound;
+      empty = made.1;
+      committed = subst (Has None) (sym committed) at.committed;
+      left = leaves_none from text to extends old new clean survives at;
+    }
+
+-- where texts are left, the next one extends the schema, and those after it lead on
+pub next_extends : {A : Type 0} (text_of : A → List ℕ) (texts : List A) (at : ℕ) (none : A) (from to : Schema) → at < length texts → Leads from (map text_of (drop at texts)) to
+    → (next : Schema) × Extends from (text_of (get_or texts at none)) next × Leads next (map text_of (drop (at + 1) texts)) to
+next_extends text_of texts at none from to within leads =
+    subst (λ left. Leads from (map text_of left) to) (drop-cons texts at none within ∙ ap (λ n. get_or texts at none ∷ drop n texts) (sym (add-one at))) leads
+
+-- at first there is no object
+pub making_none : (s : State) → IsWriting None None s → IsMaking no_schema s
+making_none s at = record { is_open = at.is_open; inside = at.inside; schema = at.now.schema; sound = at.now.sound; empty = tt; committed = at.committed; left = at.left }
+
+-- at last there are the ten tables with no row
+pub made_all : (s : State) → IsMaking warehouse s → IsWriting None (Some no_tables) s
+made_all s at = record {
+  is_open = at.is_open;
+  inside = at.inside;
+  now = record { schema = at.schema; sound = at.sound; tables = stores_none s.now at.schema at.sound at.empty };
+  committed = at.committed;
+  left = at.left;
+}

@@ -1,0 +1,16 @@
+use Rattle.std.proofs.Common.{◌≡◌, Some, OnOk, subst, ap, ◌∙◌, pos, true}
+use Rattle.sqlite.specs.Held.{state}
+use Rattle.wh_rows.specs.AtRest.{IsWriting}
+use Rattle.wh_rows.specs.declared.rows.MetaRow.{MetaRow}
+use Rattle.std.specs.Str.{is_utf8}
+use Rattle.std.specs.FinMap.{insert}
+use Rattle.std.proofs.lemmas.Str.{is_utf8-from_IsUtf8}
+use Rattle.wh_store.proofs.writing.Writing.put_number.Goals as goal
+
+-- src/writing.rt:99:5
+pub returns-clause-put : goal.returns-clause-put
+returns-clause-put g c clean before made at =
+    let same : c.in_ok-row.row ≡ (record { name = c.args.name.now; value = pos c.args.count }) = c.in_ok-row.ensures.ok in
+    let utf8 : is_utf8 c.args.name.now ≡ true = is_utf8-from_IsUtf8 c.args.name.now c.utf8.name in
+    let put = c.put.ensures.put clean before made at (record { valid = ap (λ (r : MetaRow). is_utf8 r.name) same ∙ utf8; stands = λ other has. tt }) in
+    subst (λ (r : MetaRow). OnOk c.put.result (IsWriting before (Some (record made { meta = insert made.meta r.name r })) (state g.S.Store c.put.new.self.tables.now.conn))) same put

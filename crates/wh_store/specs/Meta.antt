@@ -1,0 +1,41 @@
+-- The rows of meta: the format and the limits of a warehouse.
+use Rattle.std.specs.Prelude.{ℕ, ℤ, pos, codes, List, if◌then◌else◌, Option, Some, None, Result, Ok, Err, int_lt}
+use Rattle.std.specs.FinMap.{insert, get}
+use Rattle.wh_history.specs.Tables.{Limits}
+use Rattle.wh_rows.specs.Limits.{limits_of}
+use Rattle.wh_rows.specs.declared.rows.MetaRow.{MetaRow}
+use Rattle.wh_rows.specs.Tables.{Tables, no_tables}
+use Rattle.wh_store.specs.declared.fault.OpenFault.{OpenFault}
+use Rattle.wh_store.specs.declared.fault.OpenFault.TheVariants.{NotAWarehouse, OldFormat, NewFormat}
+
+-- the number of a row that may be there
+abbrev pub number_of : Option MetaRow → Option ℤ
+number_of (Some row) = Some row.value
+number_of None = None
+
+-- the number under a name
+abbrev pub number_in : Tables → List ℕ → Option ℤ
+number_in t name = number_of (get t.meta name)
+
+-- one more row
+abbrev pub with_number : List ℕ → ℤ → Tables → Tables
+with_number name value t = record t { meta = insert t.meta name (record { name = name; value = value }) }
+
+-- the ten tables of a new warehouse of format 1, with these limits and no other row
+abbrev pub made_with : Limits → Tables
+made_with limits =
+    with_number (codes "format") (pos 1) (with_number (codes "facts_max") (pos limits.facts) (with_number (codes "commands_max") (pos limits.commands) (with_number (codes "changes_max") (pos limits.changes) no_tables)))
+
+-- the fault of a format, which is 1 where there is none
+abbrev pub fault_of : Option ℤ → Result (Unit {0}) OpenFault
+fault_of None = Err NotAWarehouse
+fault_of (Some format) = if int_lt format (pos 1) then Err OldFormat else if int_lt (pos 1) format then Err NewFormat else Ok tt
+
+-- the limits of three numbers, where they are there and good
+abbrev pub limits_of_numbers : Option ℤ → Option ℤ → Option ℤ → Option Limits
+limits_of_numbers (Some (pos commands)) (Some (pos changes)) (Some (pos facts)) = limits_of commands changes facts
+limits_of_numbers _ _ _ = None
+
+-- the limits that the tables keep
+abbrev pub limits_in : Tables → Option Limits
+limits_in t = limits_of_numbers (number_in t (codes "commands_max")) (number_in t (codes "changes_max")) (number_in t (codes "facts_max"))

@@ -1,0 +1,18 @@
+-- What opening a warehouse answers.
+use Rattle.std.specs.Prelude.{◌≡◌, Some, Ok, Err, codes}
+use Rattle.sqlite.specs.State.{State}
+use Rattle.wh_rows.specs.Tables.{Tables}
+use Rattle.wh_rows.specs.AtRest.{IsAtRest}
+use Rattle.wh_store.specs.declared.fault.OpenFault.{OpenFault}
+use Rattle.wh_store.specs.declared.fault.OpenFault.TheVariants.{Damaged, Store}
+use Rattle.wh_store.specs.Meta.{number_in, fault_of}
+
+-- it is taken for a warehouse: the format is 1
+abbrev pub IsTaken : Tables → Type 0
+IsTaken t = fault_of (number_in t (codes "format")) ≡ Ok tt
+
+-- It is refused with this fault: the store refused a statement, or it is the format's fault and nothing changed. No row of a warehouse is damaged.
+abbrev pub IsRefusedWith : Tables → State → OpenFault → Type 0
+IsRefusedWith t new (Store cause) = Unit {0}
+IsRefusedWith t new (Damaged table) = ⊥
+IsRefusedWith t new fault = (fault_of (number_in t (codes "format")) ≡ Err fault) × IsAtRest (Some t) new

@@ -1,0 +1,14 @@
+//! The ten tables of a warehouse over a connection, written in whole transactions.
+#![tactic(auto)]
+
+mod fault;
+mod meta;
+mod tables;
+mod transaction;
+mod writing;
+
+pub use fault::{MakeFault, OpenFault};
+pub use tables::Tables;
+pub use wh_rows::{Cause, Limits, Table};
+pub use wh_sql::{Dimension, Keeps, Question, Refusal};
+pub use writing::Writing;

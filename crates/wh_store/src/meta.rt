@@ -1,0 +1,88 @@
+//! The rows of meta: the format and the limits.
+
+ghost use Rattle.std.specs.Prelude.{◌≡◌, pos, codes, Some, Err, IfOk, IfErr, OnOk};
+ghost use Rattle.sqlite.specs.Held.{state};
+ghost use Rattle.sqlite.specs.State.{HasCleanDisk};
+ghost use Rattle.wh_rows.specs.declared.table.Table.{Table};
+ghost use Rattle.wh_rows.specs.AtRest.{IsAtRest, Leaves};
+ghost use Rattle.wh_rows.specs.Tables.{Tables};
+ghost use Rattle.wh_sql.specs.Refusal.{IsWhole, IsUndamaged};
+ghost use Rattle.wh_sql.specs.declared.refusal.Refusal.TheVariants.{Damaged};
+ghost use Rattle.wh_store.specs.Meta.{number_in, limits_of_numbers};
+ghost use Rattle.wh_store.specs.Opening.{IsTaken, IsRefusedWith};
+
+use crate::fault::OpenFault;
+use sqlite::{Alter, Connection};
+use std::alloc::Global;
+use wh_day::Value;
+use wh_rows::tables::Meta;
+use wh_rows::{Cause, Limits, MetaRow, Table};
+use wh_sql::{Refusal, get};
+
+/// The number under a name, if there is one.
+pub(crate) fn number<S: Alter>(
+    alloc: Global,
+    conn: &mut Connection<S>,
+    name: &str,
+) -> Result<Option<i64>, Refusal>
+    ensures clean { HasCleanDisk (state S.Store conn.new) → HasCleanDisk (state S.Store conn.old) }
+    ensures number { HasCleanDisk (state S.Store conn.new) → (t : Tables) → IsAtRest (Some t) (state S.Store conn.old) → IfOk result (λ number. number ≡ number_in t name.now) }
+    ensures sound { HasCleanDisk (state S.Store conn.new) → (t : Tables) → IsAtRest (Some t) (state S.Store conn.old) → IsUndamaged result }
+    ensures same { HasCleanDisk (state S.Store conn.new) → (t : Tables) → IsAtRest (Some t) (state S.Store conn.old) → IsWhole result → IsAtRest (Some t) (state S.Store conn.new) }
+    ensures left { HasCleanDisk (state S.Store conn.new) → (t : Tables) → IsAtRest (Some t) (state S.Store conn.old) → Leaves (Some t) (state S.Store conn.new) }
+{
+    let name = match Value::new(alloc, name) {
+        Ok(name) => name,
+        Err(_) => return Err(Refusal::Store(Cause::Memory)),
+    };
+    match get::<Meta, S>(alloc, conn, &name) {
+        Ok(Some(row)) => Ok(Some(row.value)),
+        Ok(None) => Ok(None),
+        Err(refusal) => Err(refusal),
+    }
+}
+
+/// Whether the format is the one that this program knows.
+pub(crate) fn check_format<S: Alter>(
+    alloc: Global,
+    conn: &mut Connection<S>,
+) -> Result<(), OpenFault>
+    ensures clean { HasCleanDisk (state S.Store conn.new) → HasCleanDisk (state S.Store conn.old) }
+    ensures taken { HasCleanDisk (state S.Store conn.new) → (t : Tables) → IsAtRest (Some t) (state S.Store conn.old) → OnOk result (IsTaken t × IsAtRest (Some t) (state S.Store conn.new)) }
+    ensures refused { HasCleanDisk (state S.Store conn.new) → (t : Tables) → IsAtRest (Some t) (state S.Store conn.old) → IfErr result (IsRefusedWith t (state S.Store conn.new)) }
+    ensures left { HasCleanDisk (state S.Store conn.new) → (t : Tables) → IsAtRest (Some t) (state S.Store conn.old) → Leaves (Some t) (state S.Store conn.new) }
+{
+    match number(alloc, conn, "format") {
+        Ok(None) => Err(OpenFault::NotAWarehouse),
+        Ok(Some(format)) if format < 1 => Err(OpenFault::OldFormat),
+        Ok(Some(format)) if format > 1 => Err(OpenFault::NewFormat),
+        Ok(Some(_)) => Ok(()),
+        Err(Refusal::Damaged(table)) => Err(OpenFault::Damaged(table)),
+        Err(Refusal::Store(cause)) => Err(OpenFault::Store(cause)),
+    }
+}
+
+/// A row of meta.
+pub(crate) fn row(alloc: Global, name: &str, count: u64) -> Result<MetaRow, Cause>
+    ensures ok { IfOk result (λ row. row ≡ record { name = name.now; value = pos count }) }
+{
+    let name = Value::new(alloc, name)?;
+    match i64::try_from(count) {
+        Ok(value) => Ok(MetaRow { name, value }),
+        Err(_) => Err(Cause::Size),
+    }
+}
+
+/// The limits of these numbers, where the three are there and good.
+pub(crate) fn limits(
+    commands: Option<i64>,
+    changes: Option<i64>,
+    facts: Option<i64>,
+) -> Option<Limits>
+    ensures { result ≡ limits_of_numbers commands changes facts }
+{
+    let commands = u64::try_from(commands?).ok()?;
+    let changes = u64::try_from(changes?).ok()?;
+    let facts = u64::try_from(facts?).ok()?;
+    Limits::new(commands, changes, facts)
+}

@@ -1,0 +1,157 @@
+//! The tables over one connection.
+
+ghost use Rattle.std.specs.Prelude.{◌≡◌, ◌≢◌, ◌⊎◌, true, false, filter, Err, Some, None, Option, IsTrue, IfOk, IfErr};
+ghost use Rattle.std.specs.Borrow.{sem, RestsIfErr};
+ghost use Rattle.std.specs.FinMap.{values, get, len};
+ghost use Rattle.sqlite.specs.Held.{state};
+ghost use Rattle.sqlite.specs.State.{HasCleanDisk, Survives};
+ghost use Rattle.wh_rows.specs.declared.table.Table.{Table};
+ghost use Rattle.wh_rows.specs.AtRest.{IsAtRest, IsWriting, Leaves};
+ghost use Rattle.wh_rows.specs.Tables.{Tables as Rows};
+ghost use Rattle.wh_rows.specs.Firsts.{part};
+ghost use Rattle.wh_sql.specs.Refusal.{IsWhole, IsUndamaged};
+ghost use Rattle.wh_sql.specs.Present.{is_any_taken, are_all_there};
+ghost use Rattle.wh_sql.specs.declared.refusal.Refusal.TheVariants.{Damaged};
+ghost use Rattle.wh_store.specs.Meta.{limits_in};
+ghost use Rattle.wh_store.specs.Opening.{IsTaken, IsRefusedWith};
+
+use crate::fault::{MakeFault, OpenFault};
+use crate::meta;
+use crate::transaction::begin;
+use crate::writing::Writing;
+use sqlite::{Alter, Connection};
+use std::alloc::Global;
+use wh_rows::{Cause, Limits, Table};
+use wh_sql::{Keeps, Question, Refusal, all, ask, count, get, has_tables, has_taken_name};
+
+/// The ten tables over one connection.
+#[derive(Drop)]
+pub struct Tables<S: Alter> {
+    pub(crate) conn: Connection<S>,
+}
+
+impl<S: Alter> Tables<S> {
+    ghost use Rattle.wh_store.specs.contracts.tables.Tables.{the_row};
+
+    /// Takes a connection to a database in which the names of the ten tables are free. `Writing::make` then makes them.
+    pub fn make(conn: Connection<S>) -> Result<Tables<S>, (MakeFault, Connection<S>)>
+        ensures same { IfOk result (λ tables. tables.conn ≡ conn) }
+        ensures back { IfErr result (λ e. e.1 ≡ conn) }
+        ensures free { IfOk result (λ tables. is_any_taken (state S.Store conn).now.schema ≡ false) }
+        ensures taken { IfErr result (λ e. ((e.0 ≡ MakeFault.NotEmpty) × (is_any_taken (state S.Store conn).now.schema ≡ true)) ⊎ ((e.0 ≡ MakeFault.Store Cause.Disk) × IsTrue conn.in_transaction)) }
+    {
+        if !conn.is_autocommit() {
+            return Err((MakeFault::Store(Cause::Disk), conn));
+        }
+        if has_taken_name(&conn) {
+            return Err((MakeFault::NotEmpty, conn));
+        }
+        Ok(Tables { conn })
+    }
+
+    /// Takes a connection to a warehouse of format 1.
+    pub fn open(
+        alloc: Global,
+        mut conn: Connection<S>,
+    ) -> Result<Tables<S>, (OpenFault, Connection<S>)>
+        ensures taken { IfOk result (λ tables. HasCleanDisk (state S.Store tables.conn) → (t : Rows) → IsAtRest (Some t) (state S.Store conn) → IsTaken t × IsAtRest (Some t) (state S.Store tables.conn)) }
+        ensures refused { IfErr result (λ e. HasCleanDisk (state S.Store e.1) → (t : Rows) → IsAtRest (Some t) (state S.Store conn) → are_all_there (state S.Store conn).now.schema ≡ true → IsRefusedWith t (state S.Store e.1) e.0) }
+        ensures left { IfErr result (λ e. HasCleanDisk (state S.Store e.1) → (t : Rows) → IsAtRest (Some t) (state S.Store conn) → Leaves (Some t) (state S.Store e.1)) }
+        ensures missing { conn.in_transaction ≡ false → are_all_there (state S.Store conn).now.schema ≡ false → result ≡ Err (OpenFault.NotAWarehouse, conn) }
+    {
+        if !conn.is_autocommit() {
+            return Err((OpenFault::Store(Cause::Disk), conn));
+        }
+        if !has_tables(&conn) {
+            return Err((OpenFault::NotAWarehouse, conn));
+        }
+        match meta::check_format(alloc, &mut conn) {
+            Ok(()) => Ok(Tables { conn }),
+            Err(fault) => Err((fault, conn)),
+        }
+    }
+
+    /// The limits that were chosen at the making. Damaged is meta where one of the three isn't there or isn't good.
+    pub fn limits(&mut self, alloc: Global) -> Result<Limits, Refusal>
+        ensures clean { HasCleanDisk (state S.Store self.new.conn) → HasCleanDisk (state S.Store self.old.conn) }
+        ensures limits { HasCleanDisk (state S.Store self.new.conn) → (t : Rows) → IsAtRest (Some t) (state S.Store self.old.conn) → IfOk result (λ limits. limits_in t ≡ Some limits) }
+        ensures damaged { HasCleanDisk (state S.Store self.new.conn) → (t : Rows) → IsAtRest (Some t) (state S.Store self.old.conn) → (table : Table) → result ≡ Err (Damaged table) → (table ≡ Table.Meta) × (limits_in t ≡ None) }
+        ensures same { HasCleanDisk (state S.Store self.new.conn) → (t : Rows) → IsAtRest (Some t) (state S.Store self.old.conn) → IsWhole result → IsAtRest (Some t) (state S.Store self.new.conn) }
+        ensures left { HasCleanDisk (state S.Store self.new.conn) → (t : Rows) → IsAtRest (Some t) (state S.Store self.old.conn) → Leaves (Some t) (state S.Store self.new.conn) }
+    {
+        let commands = meta::number(alloc, &mut self.conn, "commands_max")?;
+        let changes = meta::number(alloc, &mut self.conn, "changes_max")?;
+        let facts = meta::number(alloc, &mut self.conn, "facts_max")?;
+        match meta::limits(commands, changes, facts) {
+            Some(limits) => Ok(limits),
+            None => Err(Refusal::Damaged(Table::Meta)),
+        }
+    }
+
+    /// All rows of a table, in the order of their keys.
+    pub fn all<T: Keeps>(&mut self, alloc: Global) -> Result<Vec<T::Row>, Refusal>
+        ensures clean { HasCleanDisk (state S.Store self.new.conn) → HasCleanDisk (state S.Store self.old.conn) }
+        ensures rows { HasCleanDisk (state S.Store self.new.conn) → (t : Rows) → IsAtRest (Some t) (state S.Store self.old.conn) → IfOk result (λ rows. rows.items ≡ values (T.rows t)) }
+        ensures sound { HasCleanDisk (state S.Store self.new.conn) → (t : Rows) → IsAtRest (Some t) (state S.Store self.old.conn) → IsUndamaged result }
+        ensures same { HasCleanDisk (state S.Store self.new.conn) → (t : Rows) → IsAtRest (Some t) (state S.Store self.old.conn) → IsWhole result → IsAtRest (Some t) (state S.Store self.new.conn) }
+        ensures left { HasCleanDisk (state S.Store self.new.conn) → (t : Rows) → IsAtRest (Some t) (state S.Store self.old.conn) → Leaves (Some t) (state S.Store self.new.conn) }
+    {
+        all::<T, S>(alloc, &mut self.conn)
+    }
+
+    /// The row at a key, if one is there.
+    pub fn get<T: Keeps>(&mut self, alloc: Global, key: &T::Key) -> Result<Option<T::Row>, Refusal>
+        ensures clean { HasCleanDisk (state S.Store self.new.conn) → HasCleanDisk (state S.Store self.old.conn) }
+        ensures row { HasCleanDisk (state S.Store self.new.conn) → (t : Rows) → IsAtRest (Some t) (state S.Store self.old.conn) → IfOk result (λ row. row ≡ get (T.rows t) key.now) }
+        ensures sound { HasCleanDisk (state S.Store self.new.conn) → (t : Rows) → IsAtRest (Some t) (state S.Store self.old.conn) → IsUndamaged result }
+        ensures same { HasCleanDisk (state S.Store self.new.conn) → (t : Rows) → IsAtRest (Some t) (state S.Store self.old.conn) → IsWhole result → IsAtRest (Some t) (state S.Store self.new.conn) }
+        ensures left { HasCleanDisk (state S.Store self.new.conn) → (t : Rows) → IsAtRest (Some t) (state S.Store self.old.conn) → Leaves (Some t) (state S.Store self.new.conn) }
+    {
+        get::<T, S>(alloc, &mut self.conn, key)
+    }
+
+    /// How many rows a table has.
+    pub fn count<T: Keeps>(&mut self, alloc: Global) -> Result<u64, Refusal>
+        ensures clean { HasCleanDisk (state S.Store self.new.conn) → HasCleanDisk (state S.Store self.old.conn) }
+        ensures count { HasCleanDisk (state S.Store self.new.conn) → (t : Rows) → IsAtRest (Some t) (state S.Store self.old.conn) → IfOk result (λ count. count ≡ len (T.rows t)) }
+        ensures sound { HasCleanDisk (state S.Store self.new.conn) → (t : Rows) → IsAtRest (Some t) (state S.Store self.old.conn) → IsUndamaged result }
+        ensures same { HasCleanDisk (state S.Store self.new.conn) → (t : Rows) → IsAtRest (Some t) (state S.Store self.old.conn) → IsWhole result → IsAtRest (Some t) (state S.Store self.new.conn) }
+        ensures left { HasCleanDisk (state S.Store self.new.conn) → (t : Rows) → IsAtRest (Some t) (state S.Store self.old.conn) → Leaves (Some t) (state S.Store self.new.conn) }
+    {
+        count::<T, S>(alloc, &mut self.conn)
+    }
+
+    /// The rows that answer a question about one table.
+    pub fn ask<T: Keeps, Q: Question<T>>(
+        &mut self,
+        alloc: Global,
+        question: &Q,
+    ) -> Result<Vec<T::Row>, Refusal>
+        ensures clean { HasCleanDisk (state S.Store self.new.conn) → HasCleanDisk (state S.Store self.old.conn) }
+        ensures rows { HasCleanDisk (state S.Store self.new.conn) → (t : Rows) → IsAtRest (Some t) (state S.Store self.old.conn) → IfOk result (λ rows. rows.items ≡ part Q.front (filter (Q.keep question.now) (values (T.rows t)))) }
+        ensures sound { HasCleanDisk (state S.Store self.new.conn) → (t : Rows) → IsAtRest (Some t) (state S.Store self.old.conn) → IsUndamaged result }
+        ensures same { HasCleanDisk (state S.Store self.new.conn) → (t : Rows) → IsAtRest (Some t) (state S.Store self.old.conn) → IsWhole result → IsAtRest (Some t) (state S.Store self.new.conn) }
+        ensures left { HasCleanDisk (state S.Store self.new.conn) → (t : Rows) → IsAtRest (Some t) (state S.Store self.old.conn) → Leaves (Some t) (state S.Store self.new.conn) }
+    {
+        ask::<T, Q, S>(alloc, &mut self.conn, question)
+    }
+
+    /// Begins a transaction, to which the tables belong until it ends.
+    pub fn begin(&mut self) -> Result<Writing<'_, S>, Cause>
+        ensures* refused { sem 𝓛 (RestsIfErr (the_row S.row S.Store) self.entry (λ writing. writing.tables.ghost_name) result (λ last. Survives (state S.Store self.old.conn) (state S.Store last.conn) (λ _. ⊥))) }
+        ensures same_reference { IfOk result (λ writing. writing.tables.ghost_name ≡ self.entry.ghost_name) }
+        ensures begun { IfOk result (λ writing. HasCleanDisk (state S.Store writing.tables.now.conn) → (held : Option Rows) → IsAtRest held (state S.Store self.old.conn) → IsWriting held held (state S.Store writing.tables.now.conn)) }
+        ensures survives { IfOk result (λ writing. Survives (state S.Store self.old.conn) (state S.Store writing.tables.now.conn) (λ _. ⊥)) }
+        ensures counted { IfOk result (λ writing. writing.writes ≡ 0) }
+    {
+        begin(&mut self.conn)?;
+        Ok(Writing::new(self))
+    }
+
+    /// Hands the connection back.
+    pub fn close(self) -> Connection<S>
+        ensures { result ≡ self.conn }
+    {
+        self.conn
+    }
+}

@@ -1,0 +1,133 @@
+//! Edits that are kept together, or not at all.
+
+ghost use Rattle.std.specs.Prelude.{◌≡◌, ◌⊎◌, ◌+◌, pos, Option, None, Some, IsTrue, IfOk, OnOk};
+ghost use Rattle.std.specs.FinMap.{insert, remove};
+ghost use Rattle.sqlite.specs.Held.{state};
+ghost use Rattle.sqlite.specs.State.{HasCleanDisk, Survives};
+ghost use Rattle.wh_rows.specs.AtRest.{AreTrees, IsAtRest, IsWriting, Leaves};
+ghost use Rattle.wh_rows.specs.Tables.{Tables as Rows};
+ghost use Rattle.wh_sql.specs.Fits.{MayBePut};
+ghost use Rattle.wh_store.specs.Meta.{made_with, with_number};
+
+use crate::meta;
+use crate::tables::Tables;
+use crate::transaction::{commit, roll_back};
+use sqlite::Alter;
+use std::alloc::Global;
+use wh_rows::tables::Meta;
+use wh_rows::{Cause, Limits};
+use wh_sql::{Keeps, create, put, remove};
+
+/// Edits of the tables. They are kept by `commit` alone: where it is dropped before that, it leaves nothing.
+pub struct Writing<'t, S: Alter> {
+    tables: &'t mut Tables<S>,
+    /// How many keys it has written.
+    writes: u64,
+}
+
+impl<'t, S: Alter> Writing<'t, S> {
+    pub(crate) fn new(tables: &'t mut Tables<S>) -> Writing<'t, S>
+        ensures same_reference { result.tables.ghost_name ≡ tables.entry.ghost_name }
+        ensures same { result.tables.now ≡ tables.old }
+        ensures counted { result.writes ≡ 0 }
+    {
+        Writing { tables, writes: 0 }
+    }
+
+    /// How many keys it has written.
+    pub fn writes(&self) -> u64
+        ensures { result ≡ self.now.writes }
+    {
+        self.writes
+    }
+
+    /// How many keys it will have written after one more.
+    fn one_more(&self) -> Result<u64, Cause>
+        ensures { IfOk result (λ writes. writes ≡ self.now.writes + 1) }
+    {
+        match self.writes.checked_add(1) {
+            Some(writes) => Ok(writes),
+            None => Err(Cause::Size),
+        }
+    }
+
+    /// Puts the row at its key, in place of the one that was there.
+    pub fn put<T: Keeps>(&mut self, alloc: Global, row: &T::Row) -> Result<(), Cause>
+        ensures same_reference { self.new.tables.ghost_name ≡ self.old.tables.ghost_name }
+        ensures clean { HasCleanDisk (state S.Store self.new.tables.now.conn) → HasCleanDisk (state S.Store self.old.tables.now.conn) }
+        ensures put { HasCleanDisk (state S.Store self.new.tables.now.conn) → (before : Option Rows) (made : Rows) → IsWriting before (Some made) (state S.Store self.old.tables.now.conn)
+            → MayBePut T.layout T.may_stand row.now (T.rows made) → OnOk result (IsWriting before (Some (T.with_rows (insert (T.rows made) (T.layout.key row.now) row.now) made)) (state S.Store self.new.tables.now.conn)) }
+        ensures left { HasCleanDisk (state S.Store self.new.tables.now.conn) → (before : Option Rows) (made : Rows) → IsWriting before (Some made) (state S.Store self.old.tables.now.conn) → Leaves before (state S.Store self.new.tables.now.conn) }
+        ensures counted { OnOk result (self.new.writes ≡ self.old.writes + 1) }
+    {
+        let writes = self.one_more()?;
+        put::<T, S>(alloc, &mut self.tables.conn, row)?;
+        self.writes = writes;
+        Ok(())
+    }
+
+    /// Takes out the row at the key, if one is there.
+    pub fn remove<T: Keeps>(&mut self, alloc: Global, key: &T::Key) -> Result<(), Cause>
+        ensures same_reference { self.new.tables.ghost_name ≡ self.old.tables.ghost_name }
+        ensures clean { HasCleanDisk (state S.Store self.new.tables.now.conn) → HasCleanDisk (state S.Store self.old.tables.now.conn) }
+        ensures removed { HasCleanDisk (state S.Store self.new.tables.now.conn) → (before : Option Rows) (made : Rows) → IsWriting before (Some made) (state S.Store self.old.tables.now.conn)
+            → OnOk result (IsWriting before (Some (T.with_rows (remove (T.rows made) key.now) made)) (state S.Store self.new.tables.now.conn)) }
+        ensures left { HasCleanDisk (state S.Store self.new.tables.now.conn) → (before : Option Rows) (made : Rows) → IsWriting before (Some made) (state S.Store self.old.tables.now.conn) → Leaves before (state S.Store self.new.tables.now.conn) }
+        ensures counted { OnOk result (self.new.writes ≡ self.old.writes + 1) }
+    {
+        let writes = self.one_more()?;
+        remove::<T, S>(alloc, &mut self.tables.conn, key)?;
+        self.writes = writes;
+        Ok(())
+    }
+
+    /// Makes the ten tables, and the rows of meta for these limits.
+    pub fn make(&mut self, alloc: Global, limits: Limits) -> Result<(), Cause>
+        ensures same_reference { self.new.tables.ghost_name ≡ self.old.tables.ghost_name }
+        ensures clean { HasCleanDisk (state S.Store self.new.tables.now.conn) → HasCleanDisk (state S.Store self.old.tables.now.conn) }
+        ensures made { HasCleanDisk (state S.Store self.new.tables.now.conn) → IsWriting None None (state S.Store self.old.tables.now.conn) → OnOk result (IsWriting None (Some (made_with limits)) (state S.Store self.new.tables.now.conn)) }
+        ensures left { HasCleanDisk (state S.Store self.new.tables.now.conn) → IsWriting None None (state S.Store self.old.tables.now.conn) → Leaves None (state S.Store self.new.tables.now.conn) }
+    {
+        create(&mut self.tables.conn)?;
+        self.put_number(alloc, "changes_max", limits.changes())?;
+        self.put_number(alloc, "commands_max", limits.commands())?;
+        self.put_number(alloc, "facts_max", limits.facts())?;
+        self.put_number(alloc, "format", 1)
+    }
+
+    /// Puts a number into meta under its name.
+    fn put_number(&mut self, alloc: Global, name: &str, count: u64) -> Result<(), Cause>
+        ensures same_reference { self.new.tables.ghost_name ≡ self.old.tables.ghost_name }
+        ensures clean { HasCleanDisk (state S.Store self.new.tables.now.conn) → HasCleanDisk (state S.Store self.old.tables.now.conn) }
+        ensures put { HasCleanDisk (state S.Store self.new.tables.now.conn) → (before : Option Rows) (made : Rows) → IsWriting before (Some made) (state S.Store self.old.tables.now.conn)
+            → OnOk result (IsWriting before (Some (with_number name.now (pos count) made)) (state S.Store self.new.tables.now.conn)) }
+        ensures left { HasCleanDisk (state S.Store self.new.tables.now.conn) → (before : Option Rows) (made : Rows) → IsWriting before (Some made) (state S.Store self.old.tables.now.conn) → Leaves before (state S.Store self.new.tables.now.conn) }
+    {
+        let row = meta::row(alloc, name, count)?;
+        self.put::<Meta>(alloc, &row)
+    }
+
+    /// Keeps the edits.
+    pub fn commit(self) -> Result<(), Cause>
+        ensures clean { HasCleanDisk (state S.Store self.exit.0.now.conn) → HasCleanDisk (state S.Store self.entry.tables.now.conn) }
+        ensures written { HasCleanDisk (state S.Store self.exit.0.now.conn) → (before made : Option Rows) → IsWriting before made (state S.Store self.entry.tables.now.conn) → OnOk result (IsAtRest made (state S.Store self.exit.0.now.conn)) }
+        ensures left { HasCleanDisk (state S.Store self.exit.0.now.conn) → (before made : Option Rows) → IsWriting before made (state S.Store self.entry.tables.now.conn)
+            → (trees : _) → (state S.Store self.exit.0.now.conn).may_leave trees → AreTrees before trees ⊎ AreTrees made trees }
+    {
+        let Writing { tables, writes: _ } = self;
+        commit(&mut tables.conn)
+    }
+}
+
+impl<S: Alter> Drop for Writing<'_, S> {
+    fn drop(self)
+        ensures clean { HasCleanDisk (state S.Store self.exit.0.now.conn) → HasCleanDisk (state S.Store self.entry.tables.now.conn) }
+        ensures undone { HasCleanDisk (state S.Store self.exit.0.now.conn) → (before made : Option Rows) → IsWriting before made (state S.Store self.entry.tables.now.conn)
+            → IsTrue (state S.Store self.exit.0.now.conn).is_open → IsAtRest before (state S.Store self.exit.0.now.conn) }
+        ensures left { HasCleanDisk (state S.Store self.exit.0.now.conn) → (before made : Option Rows) → IsWriting before made (state S.Store self.entry.tables.now.conn) → Leaves before (state S.Store self.exit.0.now.conn) }
+        ensures survives { Survives (state S.Store self.entry.tables.now.conn) (state S.Store self.exit.0.now.conn) (λ _. ⊥) }
+    {
+        let Writing { tables, writes: _ } = self;
+        roll_back(&mut tables.conn);
+    }
+}
