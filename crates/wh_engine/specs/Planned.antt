@@ -18,6 +18,7 @@ use Rattle.wh_rows.specs.declared.rows.ProfileRow.{ProfileRow}
 use Rattle.wh_rows.specs.Holds.{Layout}
 use Rattle.wh_rows.specs.Rows as row
 use Rattle.wh_rows.specs.Tables.{Tables}
+use Rattle.wh_store.specs.Edits.{with_row, with_edit, after_all}
 use Rattle.wh_engine.specs.Defined.{command_at, member_at, change_at, profile_at}
 
 -- the edits of a batch: its own row, the new members, its records, the rows of the members that it touches, and new profiles
@@ -30,14 +31,11 @@ pub record Edits : Type 0 where
 
 -- a table with rows put at their keys, the first one first
 abbrev pub with_rows : {K V : Type 0} (layout : Layout K V) → List V → FinMap layout.order V → FinMap layout.order V
-with_rows layout [] m = m
-with_rows layout (r ∷ rs) m = with_rows layout rs (insert m (layout.key r) r)
+with_rows layout = after_all (with_row layout)
 
 -- a table with edits, the first one first
 abbrev pub with_edits : {K V : Type 0} (layout : Layout K V) → List (Edit V K) → FinMap layout.order V → FinMap layout.order V
-with_edits layout [] m = m
-with_edits layout (Put r ∷ es) m = with_edits layout es (insert m (layout.key r) r)
-with_edits layout (Remove key ∷ es) m = with_edits layout es (remove m key)
+with_edits layout = after_all (with_edit layout)
 
 -- the tables with edits of the rows of one dimension
 abbrev pub with_dimension : Dim → List (Edit DimRow ℕ) → Tables → Tables
@@ -45,15 +43,18 @@ with_dimension Product edits t = record t { product = with_edits row.product edi
 with_dimension Store edits t = record t { store = with_edits row.store edits t.store }
 with_dimension Customer edits t = record t { customer = with_edits row.customer edits t.customer }
 
+-- the tables with rows of command, member, change and profile
+abbrev pub with_lists : List CommandRow → List MemberRow → List ChangeRow → List ProfileRow → Tables → Tables
+with_lists command members changes profiles t = record t {
+  command = with_rows row.command command t.command;
+  member = with_rows row.member members t.member;
+  change = with_rows row.change changes t.change;
+  profile = with_rows row.profile profiles t.profile;
+}
+
 -- the tables with the edits of a batch of this dimension
 abbrev pub with_batch_edits : Dim → Edits → Tables → Tables
-with_batch_edits dim edits t =
-    with_dimension dim edits.rows (record t {
-      command = with_rows row.command edits.command t.command;
-      member = with_rows row.member edits.members t.member;
-      change = with_rows row.change edits.changes t.change;
-      profile = with_rows row.profile edits.profiles t.profile;
-    })
+with_batch_edits dim edits t = with_dimension dim edits.rows (with_lists edits.command edits.members edits.changes edits.profiles t)
 
 -- so many numbers behind a number
 abbrev pub behind : ℕ → ℕ → List ℕ

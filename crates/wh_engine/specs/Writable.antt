@@ -1,0 +1,36 @@
+-- Which edits may be written.
+use Rattle.std.specs.Prelude.{ℕ, List}
+use Rattle.wh_policy.specs.declared.attribute.Dim.{Dim}
+use Rattle.wh_policy.specs.declared.attribute.Dim.TheVariants.{Product, Store, Customer}
+use Rattle.wh_history.specs.declared.plan.Edit.{Edit}
+use Rattle.wh_history.specs.declared.rows.DimRow.{DimRow}
+use Rattle.wh_rows.specs.declared.rows.CommandRow.{CommandRow}
+use Rattle.wh_rows.specs.declared.rows.MemberRow.{MemberRow}
+use Rattle.wh_rows.specs.declared.rows.ChangeRow.{ChangeRow}
+use Rattle.wh_rows.specs.declared.rows.ProfileRow.{ProfileRow}
+use Rattle.wh_rows.specs.Rows as row
+use Rattle.wh_rows.specs.Meaning.{any}
+use Rattle.wh_rows.specs.Tables.{Tables}
+use Rattle.wh_rows.proofs.Commands
+use Rattle.wh_rows.proofs.Members
+use Rattle.wh_sql.specs.Fits.{MayBePut}
+use Rattle.wh_store.specs.Edits.{with_row, with_edit, MayBeMade, MayAll}
+use Rattle.wh_engine.specs.Planned.{Edits}
+
+-- the edits of a dimension's table may be made one after the other
+abbrev pub MayBeEdited : Dim → List (Edit DimRow ℕ) → Tables → Type 0
+MayBeEdited Product edits t = MayAll (with_edit row.product) (MayBeMade row.product any) edits t.product
+MayBeEdited Store edits t = MayAll (with_edit row.store) (MayBeMade row.store any) edits t.store
+MayBeEdited Customer edits t = MayAll (with_edit row.customer) (MayBeMade row.customer any) edits t.customer
+
+-- each row is valid, and no other command has the id, no other member the natural key
+pub record MayBePutIn (of_command : List CommandRow) (of_member : List MemberRow) (of_change : List ChangeRow) (of_profile : List ProfileRow) (t : Tables) : Type 0 where
+  pub command : MayAll (with_row row.command) (MayBePut row.command Commands.may_stand) of_command t.command
+  pub members : MayAll (with_row row.member) (MayBePut row.member Members.may_stand) of_member t.member
+  pub changes : MayAll (with_row row.change) (MayBePut row.change any) of_change t.change
+  pub profiles : MayAll (with_row row.profile) (MayBePut row.profile any) of_profile t.profile
+
+-- and each edited row is valid
+pub record MayBeWritten (dim : Dim) (edits : Edits) (t : Tables) : Type 0 where
+  pub lists : MayBePutIn edits.command edits.members edits.changes edits.profiles t
+  pub rows : MayBeEdited dim edits.rows t
