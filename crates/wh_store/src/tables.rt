@@ -10,7 +10,7 @@ ghost use Rattle.wh_rows.specs.AtRest.{IsAtRest, IsWriting, Leaves};
 ghost use Rattle.wh_rows.specs.Tables.{Tables as Rows};
 ghost use Rattle.std.specs.Ordering.{eq_by_cmp, nat_cmp};
 ghost use Rattle.wh_rows.specs.Types.{dim_number};
-ghost use Rattle.wh_rows.specs.Firsts.{part, greatest_of};
+ghost use Rattle.wh_rows.specs.Firsts.{part, greatest as greatest_of};
 ghost use Rattle.wh_sql.specs.Refusal.{IsWhole, IsUndamaged};
 ghost use Rattle.wh_sql.specs.Present.{is_any_taken, are_all_there};
 ghost use Rattle.wh_sql.specs.declared.refusal.Refusal.TheVariants.{Damaged};
