@@ -1,2 +1,4 @@
 pub mod WrittenRows
 pub mod PlannedRows
+pub mod GrownKeys
+pub mod GrownCommands
