@@ -2,3 +2,5 @@ pub mod WrittenRows
 pub mod PlannedRows
 pub mod GrownKeys
 pub mod GrownCommands
+pub mod GrownOthers
+pub mod GrownMembers
