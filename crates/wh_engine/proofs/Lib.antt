@@ -4,3 +4,4 @@ pub mod GrownKeys
 pub mod GrownCommands
 pub mod GrownOthers
 pub mod GrownMembers
+pub mod GrownProfiles

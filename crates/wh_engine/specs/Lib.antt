@@ -1,2 +1,3 @@
 pub mod Defined
 pub mod Planned
+pub mod Laws
