@@ -1,5 +1,5 @@
 -- Steps that the growing tables share.
-use Rattle.std.proofs.Common.{◌≡◌, inl, inr, ℕ, zero, suc, ◌<◌, ◌≤◌, List, [], ◌∷◌, ◌++◌, length, Option, Some, None, refl, sym, ◌∙◌, ap, subst, arith}
+use Rattle.std.proofs.Common.{◌≡◌, inl, inr, ℕ, zero, suc, ◌<◌, ◌≤◌, List, [], ◌∷◌, ◌++◌, length, Option, Some, None, refl, sym, ◌∙◌, ap, subst, arith, length-append}
 use Rattle.std.specs.Prelude.{option_map, slice_get}
 use Rattle.std.specs.Option.{option_and_then}
 use Rattle.std.specs.List.{AllByRecursion}
@@ -17,6 +17,15 @@ at_front (suc n) xs ys h = get_front n xs ys (omega arith)
 pub at_past : {X : Type 0} (n : ℕ) (xs : List X) → length xs < n → at_place n xs ≡ None
 at_past zero xs h = absurd (omega arith)
 at_past (suc n) xs h = get_past n xs (omega arith)
+
+get_last : {X : Type 0} (xs : List X) (x : X) → slice_get (xs ++ x ∷ []) (length xs) ≡ Some x
+get_last [] x = refl
+get_last (y ∷ xs) x = get_last xs x
+
+pub at_last : {X : Type 0} (xs : List X) (x : X) → at_place (length (xs ++ x ∷ [])) (xs ++ x ∷ []) ≡ Some x
+at_last xs x =
+    let longer : length (xs ++ x ∷ []) ≡ suc (length xs) = length-append xs (x ∷ []) ∙ omega arith in
+    ap (λ n. at_place n (xs ++ x ∷ [])) longer ∙ get_last xs x
 
 -- what holds of each holds of the one at a place
 all_get : {X : Type 0} (P : X → Type 0) (n : ℕ) (xs : List X) (x : X) → AllByRecursion P xs → slice_get xs n ≡ Some x → P x

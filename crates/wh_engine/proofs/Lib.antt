@@ -5,3 +5,4 @@ pub mod GrownCommands
 pub mod GrownOthers
 pub mod GrownMembers
 pub mod GrownProfiles
+pub mod GrownChanges
