@@ -6,3 +6,4 @@ pub mod GrownOthers
 pub mod GrownMembers
 pub mod GrownProfiles
 pub mod GrownChanges
+pub mod WrittenBatch
