@@ -7,3 +7,4 @@ pub mod GrownMembers
 pub mod GrownProfiles
 pub mod GrownChanges
 pub mod WrittenBatch
+pub mod Worked

@@ -67,8 +67,8 @@ module _ (limits : Limits) (commands : List Accepted) (c : Accepted) (dim : Dim)
   kept_plain : (other : Dim) → same_dim other dim ≡ false → ShowsNoProfile commands other → (key : ℕ) (m : FinMap nat_cmp DimRow) → get m key ≡ dimension_row commands other key → get m key ≡ dimension_row after other key
   kept_plain other apart plain key m has = has ∙ sym (plain_table_stays dim commands c records is other apart plain key)
 
-  -- with any tables of the dimensions that are those of the commands with it
-  with_dimensions : sold commands ≡ [] → (product store customer : FinMap nat_cmp DimRow)
+  -- with any tables of the dimensions that are those of the commands with it, where the facts stay
+  with_dimensions : ((key : LineKey) → fact_at after key ≡ fact_at commands key) → (product store customer : FinMap nat_cmp DimRow)
       → ((key : ℕ) → get product key ≡ dimension_row after Product key) → ((key : ℕ) → get store key ≡ dimension_row after Store key) → ((key : ℕ) → get customer key ≡ dimension_row after Customer key)
       → AreOf limits after (record t {
         command = with_rows row.command edits.command t.command;
@@ -79,7 +79,7 @@ module _ (limits : Limits) (commands : List Accepted) (c : Accepted) (dim : Dim)
         store = store;
         customer = customer;
       })
-  with_dimensions none product store customer of_product of_store of_customer = record {
+  with_dimensions facts product store customer of_product of_store of_customer = record {
     meta = of.meta;
     command = command_written;
     member = member_written;
@@ -89,23 +89,23 @@ module _ (limits : Limits) (commands : List Accepted) (c : Accepted) (dim : Dim)
     customer = of_customer;
     profile = profile_written;
     calendar = λ day. of.calendar day ∙ sym (calendar_stays dim commands c records is day);
-    fact = λ key. of.fact key ∙ sym (no_fact dim commands c records is none key);
+    fact = λ key. of.fact key ∙ sym (facts key);
   }
 
 pub a_batch_is_written : BatchesAreWritten
 a_batch_is_written limits commands c Product records t edits is none plain of are =
-    with_dimensions limits commands c Product records t edits is of are none (with_edits row.product edits.rows t.product) t.store t.customer
+    with_dimensions limits commands c Product records t edits is of are (no_fact Product commands c records is none) (with_edits row.product edits.rows t.product) t.store t.customer
     (λ key. planned limits commands c Product records t edits is of are row.product.table key t.product (of.product key))
     (λ key. kept limits commands c Product records t edits is of are Store refl refl key t.store (of.store key))
     (λ key. kept limits commands c Product records t edits is of are Customer refl refl key t.customer (of.customer key))
 a_batch_is_written limits commands c Store records t edits is none plain of are =
-    with_dimensions limits commands c Store records t edits is of are none t.product (with_edits row.store edits.rows t.store) t.customer
+    with_dimensions limits commands c Store records t edits is of are (no_fact Store commands c records is none) t.product (with_edits row.store edits.rows t.store) t.customer
     (λ key. kept limits commands c Store records t edits is of are Product refl refl key t.product (of.product key))
     (λ key. planned limits commands c Store records t edits is of are row.store.table key t.store (of.store key))
     (λ key. kept limits commands c Store records t edits is of are Customer refl refl key t.customer (of.customer key))
 a_batch_is_written limits commands c Customer records t edits is none plain of are =
     let shows = plain refl in
-    with_dimensions limits commands c Customer records t edits is of are none t.product t.store (with_edits row.customer edits.rows t.customer)
+    with_dimensions limits commands c Customer records t edits is of are (no_fact Customer commands c records is none) t.product t.store (with_edits row.customer edits.rows t.customer)
     (λ key. kept_plain limits commands c Customer records t edits is of are Product refl shows.0 key t.product (of.product key))
     (λ key. kept_plain limits commands c Customer records t edits is of are Store refl shows.1 key t.store (of.store key))
     (λ key. planned limits commands c Customer records t edits is of are row.customer.table key t.customer (of.customer key))
