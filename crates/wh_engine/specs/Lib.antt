@@ -1,3 +1,5 @@
 pub mod Defined
 pub mod Planned
 pub mod Writable
+pub mod Laws
+pub mod Sound

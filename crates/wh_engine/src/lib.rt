@@ -2,6 +2,8 @@
 #![tactic(auto)]
 
 mod edits;
+pub mod laws;
 mod write;
 
 pub use edits::Edits;
+pub use write::write_batch;

@@ -60,7 +60,7 @@ fn put_lists<S: Alter>(
 }
 
 /// Writes the edits of a batch.
-pub(crate) fn write_batch<S: Alter>(
+pub fn write_batch<S: Alter>(
     writing: &mut Writing<'_, S>,
     alloc: Global,
     dim: Dim,

@@ -23,7 +23,7 @@ use Rattle.wh_history.proofs.Growth.{anchors-append}
 use Rattle.wh_history.proofs.Owners as behind
 use Rattle.wh_history.proofs.Records.{durable_after, member_after, members_after, anchors_after}
 
-same_dimension : (dim : Dim) (rs : List DimensionRecord) → described_by dim (Describes dim rs) ≡ rs
+pub same_dimension : (dim : Dim) (rs : List DimensionRecord) → described_by dim (Describes dim rs) ≡ rs
 same_dimension dim rs = elim dim as (λ d. described_by d (Describes d rs) ≡ rs) [ Dim.Product ↦ refl | Dim.Store ↦ refl | Dim.Customer ↦ refl ]
 
 no_less : (xs ys zs : List Anchor) → xs ≡ ys ++ zs → length ys ≤ length xs

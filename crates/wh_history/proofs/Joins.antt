@@ -117,10 +117,10 @@ in_spans_above s from (next ∷ more) up here =
 abbrev pub Told : List Anchor → DimensionRecord → Type 0
 Told mentioned r = list_any (λ a. same_anchor a (day_of r.natural r.day)) mentioned ≡ true
 
-any_left : (p : Anchor → Bool) (xs ys : List Anchor) → list_any p xs ≡ true → list_any p (xs ++ ys) ≡ true
+pub any_left : (p : Anchor → Bool) (xs ys : List Anchor) → list_any p xs ≡ true → list_any p (xs ++ ys) ≡ true
 any_left p xs ys h = list_any-append p xs ys ∙ rw h refl
 
-any_right : (p : Anchor → Bool) (xs ys : List Anchor) → list_any p ys ≡ true → list_any p (xs ++ ys) ≡ true
+pub any_right : (p : Anchor → Bool) (xs ys : List Anchor) → list_any p ys ≡ true → list_any p (xs ++ ys) ≡ true
 any_right p xs ys h = list_any-append p xs ys ∙ rw h (or_true (list_any p xs))
 
 told_in_records : (rs : List DimensionRecord) → AllByRecursion (Told (flat_map anchors_of_record rs)) rs

@@ -32,7 +32,7 @@ governed_same before (Governs policy) h = cc
 governed_same before (Describes dim records) h = refl
 governed_same before (Sells sales) h = refl
 
-policy_last : (before : Option Policy) (commands : List Accepted) (c : Accepted) → governs c.content ≡ false → policy_after before (commands ++ c ∷ []) ≡ policy_after before commands
+pub policy_last : (before : Option Policy) (commands : List Accepted) (c : Accepted) → governs c.content ≡ false → policy_after before (commands ++ c ∷ []) ≡ policy_after before commands
 policy_last before [] c h = governed_same before c.content h
 policy_last before (d ∷ commands) c h = policy_last (governed before d.content) commands c h
 
@@ -75,7 +75,7 @@ module _ (commands : List Accepted) (c : Accepted) (batch : governs c.content �
   pick r = picks is_profile (types_in Customer commands) r.values
 
   -- a batch only adds combinations at the end
-  profiles-last : profiles_of (commands ++ c ∷ []) ≡ profiles_of commands ++ fresh texts_eq (map pick (described Customer commands)) (distinct texts_eq (map pick (described_by Customer c.content)))
+  pub profiles-last : profiles_of (commands ++ c ∷ []) ≡ profiles_of commands ++ fresh texts_eq (map pick (described Customer commands)) (distinct texts_eq (map pick (described_by Customer c.content)))
   profiles-last =
       ap (λ (kinds : List AttributeType). distinct texts_eq (map (λ (r : DimensionRecord). picks is_profile kinds r.values) (described Customer (commands ++ c ∷ [])))) (types-last Customer commands c batch)
       ∙ ap (λ (rs : List DimensionRecord). distinct texts_eq (map pick rs)) (described-last Customer commands c)

@@ -1,0 +1,40 @@
+-- What holds of every list of accepted commands, as far as batches of products, stores and customers go.
+use Rattle.std.specs.Prelude.{◌≡◌, ◌≢◌, ℕ, ◌+◌, ◌≤◌, true, None, List, [], length, map, IsSome, bytes_eq}
+use Rattle.std.specs.List.{AllByRecursion, IsDistinct}
+use Rattle.wh_day.specs.Day.{is_day}
+use Rattle.wh_policy.specs.declared.attribute.Dim.{Dim}
+use Rattle.wh_policy.specs.declared.attribute.Dim.TheVariants.{Product, Store, Customer}
+use Rattle.wh_policy.specs.declared.record.DimensionRecord.{DimensionRecord}
+use Rattle.wh_history.specs.Accepted.{Accepted, policy_after, types_in, described, sold}
+use Rattle.wh_history.specs.Tables.{Limits}
+use Rattle.wh_rows.specs.Limits.{are_limits}
+use Rattle.wh_rows.specs.Types.{is_key, is_kind, is_slot}
+
+-- a value that a record gives: a text that a slot can hold, and not the empty one
+abbrev pub IsGivenValue : List ℕ → Type 0
+IsGivenValue text = (is_slot text ≡ true) × (text ≢ [])
+
+-- a record that a batch can hold
+pub record IsGoodRecord (r : DimensionRecord) : Type 0 where
+  pub natural : is_key 32 r.natural ≡ true
+  pub day : is_day r.day ≡ true
+  pub few : length r.values ≤ 6
+  pub values : AllByRecursion IsGivenValue r.values
+
+-- how many dimension records were accepted
+abbrev pub changes_kept : List Accepted → ℕ
+changes_kept commands = length (described Product commands) + length (described Store commands) + length (described Customer commands)
+
+-- The list is one that a warehouse with these limits can have accepted: a policy is in force, with up to six attributes a dimension; ids and kinds are well formed, no two commands
+-- share an id; its records are good; the limits aren't passed; nothing was sold yet.
+pub record IsAccepted (limits : Limits) (commands : List Accepted) : Type 0 where
+  pub limited : are_limits limits ≡ true
+  pub commands_within : length commands ≤ limits.commands
+  pub changes_within : changes_kept commands ≤ limits.changes
+  pub governed : IsSome (policy_after None commands)
+  pub six : (dim : Dim) → length (types_in dim commands) ≤ 6
+  pub ids : AllByRecursion (λ c. is_key 40 c.id ≡ true) commands
+  pub kinds : AllByRecursion (λ c. is_kind c.kind ≡ true) commands
+  pub distinct : IsDistinct bytes_eq (map (λ c. c.id) commands)
+  pub records : (dim : Dim) → AllByRecursion IsGoodRecord (described dim commands)
+  pub unsold : sold commands ≡ []
