@@ -117,7 +117,7 @@ module _ {K V : Type 0} (layout : Layout K V) (params : Row) (keep : V → Bool)
 
 -- ---- one whose number is the greatest
 
--- what is shown is one of these rows, with the greatest of their numbers; or nothing, where there is no row
+-- what is shown is one of these rows, with the greatest of their numbers; or nothing, and then the greatest is 0
 pub record IsGreatestOf {V : Type 0} (encode : V → Row) (measure : V → ℕ) (kept : List V) (rows : List Row) : Type 0 where
   pub found : Option V
   pub among : IfSome found (Has kept)

@@ -1,4 +1,4 @@
--- Reading the first rows of an answer: from either end of a table, or by the greatest of their numbers.
+-- Reading the first rows of an answer: those at either end of a table, or one with the greatest number.
 use Rattle.std.specs.Prelude.{◌≡◌, ℕ, pos, max, Bool, false, if◌then◌else◌, List, [], ◌∷◌, reverse, take, Option, None, Some}
 use Rattle.std.specs.declared.cmp.Ordering.{Ordering}
 use Rattle.std.specs.Ordering.{nat_cmp}

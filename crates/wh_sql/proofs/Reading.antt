@@ -63,7 +63,7 @@ otherwise asked same = record {
   once = asked.once;
 }
 
--- the first of these rows has the greatest number of those that are kept; there is no row where none is kept
+-- the greatest number of the rows that are kept is that of the first of these rows, or 0 where there is none
 abbrev pub IsLedByGreatest : {V : Type 0} → (V → ℕ) → List V → List V → Type 0
 IsLedByGreatest measure kept rows = greatest (map measure kept) ≡ unwrap_or (option_map measure (slice_get rows 0)) 0
 
