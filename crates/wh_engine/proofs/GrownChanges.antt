@@ -1,5 +1,5 @@
 -- The change table grows by the records of a batch.
-use Rattle.std.proofs.Common.{◌≡◌, inl, inr, ℕ, zero, suc, ◌<◌, ◌≤◌, ◌==◌, Bool, true, false, ◌&&◌, ◌||◌, List, [], ◌∷◌, ◌++◌, length, map, Option, Some, None, refl, sym, ◌∙◌, ap, subst, arith, length-append}
+use Rattle.std.proofs.Common.{◌≡◌, inl, inr, ℕ, zero, suc, ◌<◌, ◌≤◌, true, false, ◌&&◌, ◌||◌, List, [], ◌∷◌, ◌++◌, length, map, Option, Some, None, refl, sym, ◌∙◌, ap, subst, arith, length-append}
 use Rattle.std.specs.Prelude.{option_map, flat_map, bytes_eq}
 use Rattle.std.specs.Option.{option_and_then}
 use Rattle.std.specs.List.{list_any, AllByRecursion}
@@ -8,8 +8,7 @@ use Rattle.std.proofs.lemmas.Slice.Eq.{bytes_eq-Decides}
 use Rattle.wh_policy.specs.declared.attribute.Dim.{Dim}
 use Rattle.wh_policy.specs.declared.record.DimensionRecord.{DimensionRecord}
 use Rattle.wh_history.specs.Keys.{at_place}
-use Rattle.wh_history.specs.Slots.{six}
-use Rattle.wh_history.specs.Accepted.{Accepted, Content, Governs, Describes, Sells, Anchor, same_anchor, same_day, day_of, described_by, mentions, described, durable_key, surrogate_key}
+use Rattle.wh_history.specs.Accepted.{Accepted, Content, Governs, Describes, Sells, Anchor, same_anchor, same_day, day_of, described_by, mentions, durable_key, surrogate_key}
 use Rattle.wh_history.specs.Tables.{change_row, change_row_of, change_row_in}
 use Rattle.wh_history.specs.Tables as history
 use Rattle.wh_history.proofs.Batches.{same_dimension}

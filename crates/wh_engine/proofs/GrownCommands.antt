@@ -1,6 +1,6 @@
 -- The command table grows by the new command.
-use Rattle.std.proofs.Common.{◌≡◌, ℕ, suc, ◌-◌, ◌<◌, ◌≤◌, List, [], ◌∷◌, ◌++◌, length, Option, Some, None, refl, ◌∙◌, ap, arith, length-append}
-use Rattle.std.specs.Prelude.{option_map, take}
+use Rattle.std.proofs.Common.{◌≡◌, ℕ, ◌-◌, ◌<◌, ◌≤◌, List, [], ◌∷◌, ◌++◌, length, Some, None, refl, ◌∙◌, ap, arith}
+use Rattle.std.specs.Prelude.{option_map}
 use Rattle.std.proofs.lemmas.List.{take-append-le}
 use Rattle.wh_history.specs.Keys.{at_place}
 use Rattle.wh_history.specs.Accepted.{Accepted, Content, Governs, Describes, Sells, placeholders_by, records_by}

@@ -1,22 +1,18 @@
 -- The member table grows by the members that a batch mentions first.
-use Rattle.std.proofs.Common.{◌≡◌, inl, inr, ℕ, ◌<◌, ◌≤◌, Bool, true, false, cond, ◌||◌, List, [], ◌∷◌, ◌++◌, length, map, Option, Some, None, refl, ◌∙◌, sym, ap, subst, append-nil}
+use Rattle.std.proofs.Common.{◌≡◌, inl, ℕ, ◌<◌, ◌≤◌, true, false, List, [], ◌∷◌, ◌++◌, length, map, Option, Some, None, refl, ◌∙◌, sym, ap, subst}
 use Rattle.std.specs.Prelude.{option_map, option_to_list, flat_map, bytes_eq}
 use Rattle.std.specs.List.{list_any, AllByRecursion}
 use Rattle.wh_policy.specs.declared.attribute.Dim.{Dim}
-use Rattle.wh_policy.specs.declared.attribute.Dim.TheVariants.{Product, Store, Customer}
 use Rattle.wh_policy.specs.declared.record.DimensionRecord.{DimensionRecord}
 use Rattle.wh_policy.specs.declared.record.SaleRecord.{SaleRecord}
 use Rattle.wh_history.specs.Keys.{at_place, distinct, place}
 use Rattle.wh_history.specs.Accepted.{Accepted, Content, Describes, Anchor, same_anchor, same_dim, opening_of, anchors_of_record, anchors_of_sale, anchors_by, described_by, sold_by, member_of_sale, mentions, members, surrogate_key}
 use Rattle.wh_history.specs.Tables.{member_row}
 use Rattle.wh_history.specs.Tables as history
-use Rattle.wh_history.proofs.Basics.{or_true}
 use Rattle.wh_history.proofs.Growth.{members-append, surrogate_stays}
 use Rattle.wh_history.proofs.Joins.{all_append, all_weaker, any_left, any_right}
-use Rattle.wh_history.proofs.Numbers.{fresh}
 use Rattle.wh_history.proofs.Owners.{all_distinct}
 use Rattle.wh_history.proofs.Places.{anchors_decide, place-distinct_given}
-use Rattle.wh_history.proofs.Untouched.{mentions-last}
 use Rattle.wh_rows.specs.declared.rows.MemberRow.{MemberRow}
 use Rattle.wh_rows.specs.declared.key.MemberKey.{MemberKey}
 use Rattle.wh_rows.specs.Rows as row

@@ -1,17 +1,15 @@
 -- What a batch of one dimension leaves as it was.
-use Rattle.std.proofs.Common.{◌≡◌, ℕ, zero, suc, ◌==◌, Bool, true, false, ◌&&◌, List, [], ◌∷◌, ◌++◌, Option, Some, None, refl, sym, ◌∙◌, ap, append-nil}
+use Rattle.std.proofs.Common.{◌≡◌, ℕ, zero, suc, ◌==◌, true, false, ◌&&◌, List, [], ◌∷◌, ◌++◌, Option, Some, None, refl, sym, ◌∙◌, ap, append-nil}
 use Rattle.std.specs.Prelude.{find, bytes_eq, option_map}
 use Rattle.std.specs.Option.{option_and_then}
 use Rattle.std.specs.List.{list_any}
 use Rattle.std.proofs.lemmas.Grind.{flat_map-append}
-use Rattle.wh_policy.specs.Types.{is_outrigger}
 use Rattle.wh_policy.specs.declared.attribute.Dim.{Dim}
 use Rattle.wh_policy.specs.declared.attribute.Dim.TheVariants.{Product, Store, Customer}
-use Rattle.wh_policy.specs.declared.attribute.AttributeType.{AttributeType}
 use Rattle.wh_policy.specs.declared.record.DimensionRecord.{DimensionRecord}
 use Rattle.wh_policy.specs.declared.record.SaleRecord.{SaleRecord}
 use Rattle.wh_history.specs.Keys.{at_place, distinct}
-use Rattle.wh_history.specs.Accepted.{Accepted, Content, Describes, Anchor, same_anchor, same_dim, anchors_by, described_by, mentions, described, anchors, types_in, profiles_of, member_of, sold, sold_by, policy_after}
+use Rattle.wh_history.specs.Accepted.{Accepted, Describes, Anchor, same_anchor, same_dim, anchors_by, described_by, mentions, described, anchors, types_in, profiles_of, member_of, sold, sold_by}
 use Rattle.wh_history.specs.Laws.{governs, mentions_member}
 use Rattle.wh_history.specs.Profiles.{combinations_of}
 use Rattle.wh_history.specs.Rows.{rows}

@@ -1,12 +1,12 @@
 -- The profile table grows by the combinations that a batch brings.
-use Rattle.std.proofs.Common.{◌≡◌, ℕ, zero, suc, ◌<◌, ◌≤◌, Bool, false, List, [], ◌∷◌, ◌++◌, length, Option, Some, None, refl, ◌∙◌, ap, arith}
+use Rattle.std.proofs.Common.{◌≡◌, ℕ, zero, suc, ◌<◌, ◌≤◌, false, List, [], ◌∷◌, ◌++◌, length, Some, None, refl, ◌∙◌, ap, arith}
 use Rattle.std.specs.Prelude.{option_map, cond}
 use Rattle.wh_day.specs.Value.{no_card_text, unknown_text}
 use Rattle.wh_policy.specs.Types.{is_profile}
 use Rattle.wh_policy.specs.declared.attribute.Dim.TheVariants.{Customer}
 use Rattle.wh_history.specs.Keys.{at_place}
 use Rattle.wh_history.specs.Slots.{columns_from, six}
-use Rattle.wh_history.specs.Accepted.{Accepted, types_in, profiles_of}
+use Rattle.wh_history.specs.Accepted.{Accepted, profiles_of}
 use Rattle.wh_history.specs.Laws.{governs}
 use Rattle.wh_history.specs.Tables.{profile_row}
 use Rattle.wh_history.proofs.Stays.{types-last, profiles-last}

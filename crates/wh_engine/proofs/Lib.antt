@@ -9,3 +9,5 @@ pub mod GrownProfiles
 pub mod GrownChanges
 pub mod WrittenBatch
 pub mod Worked
+pub mod GrownUntouched
+pub mod GrownPlain

@@ -1,5 +1,5 @@
 -- The tables of a small history: each lemma computes.
-use Rattle.std.proofs.Common.{◌≡◌, ℕ, Bool, true, false, List, [], ◌∷◌, Option, Some, None, refl, length}
+use Rattle.std.proofs.Common.{◌≡◌, ℕ, Bool, true, false, List, [], ◌∷◌, Some, None, refl, length}
 use Rattle.std.specs.Prelude.{codes, pos, take, filter_map}
 use Rattle.wh_day.specs.Day.{is_day, day_before}
 use Rattle.wh_day.specs.Value.{none_text, unknown_text, no_card_text}

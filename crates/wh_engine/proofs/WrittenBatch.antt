@@ -1,5 +1,5 @@
 -- A batch's edits lead to the tables of the commands with it.
-use Rattle.std.proofs.Common.{◌≡◌, ℕ, suc, false, List, [], ◌∷◌, ◌++◌, length, refl, sym, ◌∙◌, ap, subst}
+use Rattle.std.proofs.Common.{◌≡◌, ℕ, suc, false, List, [], ◌∷◌, ◌++◌, length, refl, sym, ◌∙◌, ap}
 use Rattle.std.proofs.lemmas.Cmp.{nat_cmp_total}
 use Rattle.std.specs.Cmp.{unsigned_tied}
 use Rattle.std.specs.Ordering.{nat_cmp}
@@ -8,11 +8,9 @@ use Rattle.sqlite.specs.Table.{Table}
 use Rattle.wh_policy.specs.declared.attribute.Dim.{Dim}
 use Rattle.wh_policy.specs.declared.attribute.Dim.TheVariants.{Product, Store, Customer}
 use Rattle.wh_policy.specs.declared.record.DimensionRecord.{DimensionRecord}
-use Rattle.wh_history.specs.Accepted.{Accepted, Describes, same_dim, members, profiles_of, sold}
+use Rattle.wh_history.specs.Accepted.{Accepted, Describes, same_dim, members, profiles_of}
 use Rattle.wh_history.specs.Laws.{governs}
-use Rattle.wh_history.specs.Plan.{IsPlan}
 use Rattle.wh_history.specs.Tables.{Limits, dimension_row}
-use Rattle.wh_history.specs.declared.plan.Edit.{Edit}
 use Rattle.wh_history.specs.declared.rows.DimRow.{DimRow}
 use Rattle.wh_rows.proofs.Orders.{member_cmp_total, member_cmp-IsAntisymmetric, change_cmp_total, change_cmp-IsAntisymmetric}
 use Rattle.wh_rows.specs.Tables.{Tables}
@@ -20,8 +18,8 @@ use Rattle.wh_rows.specs.Rows as row
 use Rattle.wh_rows.specs.declared.key.LineKey.{LineKey}
 use Rattle.wh_rows.specs.declared.key.MemberKey.{MemberKey}
 use Rattle.wh_rows.specs.declared.key.ChangeKey.{ChangeKey}
-use Rattle.wh_engine.specs.Defined.{meta_at, command_at, member_at, change_at, profile_at, calendar_at, fact_at, AreOf}
-use Rattle.wh_engine.specs.Planned.{Edits, with_rows, with_edits, with_dimension, with_batch_edits, AreEdits}
+use Rattle.wh_engine.specs.Defined.{command_at, member_at, change_at, profile_at, fact_at, AreOf}
+use Rattle.wh_engine.specs.Planned.{Edits, with_rows, with_edits, AreEdits}
 use Rattle.wh_engine.specs.Laws.{ShowsNoProfile, BatchesAreWritten}
 use Rattle.wh_engine.proofs.WrittenRows.{written}
 use Rattle.wh_engine.proofs.PlannedRows.{plan_leads}

@@ -1,5 +1,5 @@
 -- What rows that are put at their keys make of a table.
-use Rattle.std.proofs.Common.{◌≡◌, ◌⊎◌, inl, inr, ℕ, zero, suc, ◌+◌, ◌-◌, ◌<◌, ◌≤◌, Bool, true, false, cond, List, [], ◌∷◌, Option, Some, None, refl, sym, ◌∙◌, ap, arith}
+use Rattle.std.proofs.Common.{◌≡◌, ◌⊎◌, inl, inr, ℕ, zero, suc, ◌+◌, ◌-◌, ◌<◌, ◌≤◌, true, false, cond, List, [], ◌∷◌, Option, Some, None, refl, sym, ◌∙◌, ap, arith}
 use Rattle.std.specs.Prelude.{filter_map}
 use Rattle.std.specs.List.{range_with_len, cons_option}
 use Rattle.std.specs.Ordering.{eq_by_cmp}
@@ -40,9 +40,6 @@ module _ {K V : Type 0} (layout : Layout K V) (total : IsTotalOrder layout.order
   -- a key has its row already, or has none and is to get it
   abbrev Awaits : FinMap layout.order V → K → List ℕ → Type 0
   Awaits m q ns = (get m q ≡ new q) ⊎ ((get m q ≡ None) × AmongKeys at q ns)
-
-  put : FinMap layout.order V → K → V → Option V
-  put m q v = cond (eq_by_cmp layout.order q (layout.key v)) (Some v) (get m q)
 
   -- where its row is put it has it, and elsewhere nothing changes
   after_put : (m : FinMap layout.order V) (q : K) (n : ℕ) (ns : List ℕ) (v : V) → new (at n) ≡ Some v → Awaits m q (n ∷ ns) → Awaits (insert m (layout.key v) v) q ns

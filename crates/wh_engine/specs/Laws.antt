@@ -1,12 +1,16 @@
 -- What holds of every batch.
-use Rattle.std.specs.Prelude.{◌≡◌, false, List, [], ◌∷◌, ◌++◌}
+use Rattle.std.specs.Prelude.{◌≡◌, ◌≢◌, ◌↔◌, ℕ, false, List, [], ◌∷◌, ◌++◌, Some, None}
 use Rattle.std.specs.List.{list_any}
 use Rattle.wh_policy.specs.Types.{is_outrigger}
+use Rattle.wh_policy.specs.Written.{IsSound}
+use Rattle.wh_policy.specs.declared.policy.Policy.{Policy}
 use Rattle.wh_policy.specs.declared.attribute.Dim.{Dim}
 use Rattle.wh_policy.specs.declared.attribute.Dim.TheVariants.{Product, Store, Customer}
 use Rattle.wh_policy.specs.declared.record.DimensionRecord.{DimensionRecord}
-use Rattle.wh_history.specs.Accepted.{Accepted, Describes, types_in, sold}
-use Rattle.wh_history.specs.Tables.{Limits}
+use Rattle.wh_history.specs.Accepted.{Accepted, Describes, policy_after, types_in, sold}
+use Rattle.wh_history.specs.Laws.{governs, mentions_member}
+use Rattle.wh_history.specs.Tables.{Limits, dimension_row}
+use Rattle.wh_history.specs.declared.rows.DimRow.{DimRow}
 use Rattle.wh_rows.specs.Tables.{Tables}
 use Rattle.wh_engine.specs.Defined.{AreOf}
 use Rattle.wh_engine.specs.Planned.{Edits, with_batch_edits, AreEdits}
@@ -25,3 +29,17 @@ BatchesAreWritten = (limits : Limits) (commands : List Accepted) (c : Accepted) 
     → AreOf limits commands tables
     → AreEdits dim commands (commands ++ c ∷ []) records edits
     → AreOf limits (commands ++ c ∷ []) (with_batch_edits dim edits tables)
+
+-- A row of a member that a batch does not mention stands under its key in the tables of the commands so far exactly where it stands
+-- there in those of the commands with it; again where rows of products and stores show no profile.
+abbrev pub UntouchedMembersKeep : Type 0
+UntouchedMembersKeep = (commands : List Accepted) (c : Accepted) (dim : Dim) (natural : List ℕ) (key : ℕ) (r : DimRow)
+    → governs c.content ≡ false
+    → (dim ≢ Customer → ShowsNoProfile commands dim)
+    → mentions_member dim c natural ≡ false
+    → r.natural ≡ natural
+    → (dimension_row commands dim key ≡ Some r) ↔ (dimension_row (commands ++ c ∷ []) dim key ≡ Some r)
+
+-- The rows of products and stores show no profile where the policy in force is sound, as every policy that is read is.
+abbrev pub SoundPoliciesShowNone : Type 0
+SoundPoliciesShowNone = (commands : List Accepted) → ((policy : Policy) → policy_after None commands ≡ Some policy → IsSound policy) → ShowsNoProfile commands Product × ShowsNoProfile commands Store

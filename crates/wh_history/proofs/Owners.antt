@@ -23,7 +23,7 @@ pub all_distinct : {X : Type 0} (P : X → Type 0) (same : X → X → Bool) (xs
 all_distinct P same [] all = tt
 all_distinct P same (x ∷ xs) all = (all.0, all_filtered P (λ y. not (same x y)) (distinct same xs) (all_distinct P same xs all.1))
 
-all_fresh : {X : Type 0} (P : X → Type 0) (same : X → X → Bool) (xs zs : List X) → AllByRecursion P zs → AllByRecursion P (fresh same xs zs)
+pub all_fresh : {X : Type 0} (P : X → Type 0) (same : X → X → Bool) (xs zs : List X) → AllByRecursion P zs → AllByRecursion P (fresh same xs zs)
 all_fresh P same [] zs all = all
 all_fresh P same (x ∷ xs) zs all = all_filtered P (λ y. not (same x y)) (fresh same xs zs) (all_fresh P same xs zs all)
 
