@@ -11,3 +11,5 @@ pub mod WrittenBatch
 pub mod Worked
 pub mod GrownUntouched
 pub mod GrownPlain
+pub mod Repeats
+pub mod WorkedAnswers

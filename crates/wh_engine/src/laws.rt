@@ -1,5 +1,10 @@
 //! Laws of the tables that accepted commands define. They speak of the definitions alone and do nothing.
 
+ghost use Rattle.std.specs.Prelude.{◌≡◌, List};
+ghost use Rattle.wh_history.specs.Accepted.{Accepted};
+ghost use Rattle.wh_history.specs.Tables.{Limits};
+ghost use Rattle.wh_engine.specs.Admission.{accepted_after};
+ghost use Rattle.wh_engine.specs.declared.command.Command.{Command};
 ghost use Rattle.wh_engine.specs.Laws.{BatchesAreWritten, SoundPoliciesShowNone, UntouchedMembersKeep};
 
 /// From the tables of the commands so far the edits of a batch of products, stores or customers lead to those of
@@ -16,4 +21,9 @@ pub fn sound_policies_show_none()
 /// A member that a batch does not mention has the same rows under the same keys before and after it.
 pub fn untouched_member_keeps()
     ensures { UntouchedMembersKeep }
+{}
+
+/// A command that is sent twice acts once.
+pub fn acts_once()
+    ensures { (limits : Limits) (commands : List Accepted) (c : Command) → accepted_after limits (accepted_after limits commands c) c ≡ accepted_after limits commands c }
 {}

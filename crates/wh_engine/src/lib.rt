@@ -1,9 +1,11 @@
 //! The engine of a warehouse: commands, and what they make of the tables.
 #![tactic(auto)]
 
+mod command;
 mod edits;
 pub mod laws;
 mod write;
 
+pub use command::{Command, Limit, Receipt, Refused, Reply};
 pub use edits::Edits;
 pub use write::write_batch;

@@ -1,0 +1,117 @@
+-- The answers to commands, at values that were worked out by hand.
+use Rattle.std.proofs.Common.{◌≡◌, ℕ, ◌++◌, List, [], ◌∷◌, codes, None, Ok, Err, refl}
+use Rattle.std.specs.Prelude.{pos}
+use Rattle.std.specs.Str.{is_utf8, chars}
+use lib.Utf8.{encode}
+use Rattle.wh_policy.specs.Policy.{trial_policy}
+use Rattle.wh_policy.specs.declared.attribute.Dim.TheVariants.{Product, Store}
+use Rattle.wh_policy.specs.declared.record.DimensionRecord.{DimensionRecord}
+use Rattle.wh_policy.specs.declared.record.SaleRecord.{SaleRecord}
+use Rattle.wh_batch.specs.declared.kind.Kind.{Kind}
+use Rattle.wh_batch.specs.declared.kind.Kind.TheVariants.{Dimension, Sales}
+use Rattle.wh_batch.specs.declared.fault.FaultKind.TheVariants.{WrongHeader, BadKey}
+use Rattle.wh_batch.specs.Batch.{at}
+use Rattle.wh_batch.proofs.OnLiterals.{batch_on_literals}
+use Rattle.wh_history.specs.Accepted.{Accepted, Governs, Describes, Sells}
+use Rattle.wh_history.specs.Tables.{Limits}
+use Rattle.wh_engine.specs.Admission.{answer, accepted_after}
+use Rattle.wh_engine.specs.declared.command.Command.{Command}
+use Rattle.wh_engine.specs.declared.command.Receipt.{Receipt}
+use Rattle.wh_engine.specs.declared.command.Reply.TheVariants.{Accepted as Accepts, Already}
+use Rattle.wh_engine.specs.declared.command.Refused.TheVariants.{BadId, Reused, Batch, LineThere, Full}
+use Rattle.wh_engine.specs.declared.command.Limit.TheVariants.{Commands, Changes, Facts}
+
+abbrev limits : ℕ → ℕ → ℕ → Limits
+limits commands changes facts = record { commands = commands; changes = changes; facts = facts }
+
+abbrev sent : List ℕ → Kind → List ℕ → Command
+sent id kind bytes = record { id = id; kind = kind; bytes = bytes }
+
+abbrev receipt : ℕ → ℕ → ℕ → Receipt
+receipt number records placeholders = record { number = number; records = records; placeholders = placeholders }
+
+-- a making, and then a batch of a header alone
+abbrev making : List Accepted
+making = record { id = codes "init"; kind = codes "init"; bytes = codes "policy"; content = Governs trial_policy } ∷ []
+
+abbrev header : List ℕ
+header = codes "id,day,description,brand"
+
+abbrev p0 : Command
+p0 = sent (codes "p0") (Dimension Product) header
+
+abbrev with_p0 : List Accepted
+with_p0 = making ++ record { id = codes "p0"; kind = codes "product"; bytes = header; content = Describes Product [] } ∷ []
+
+accepts : answer (limits 9 9 9) making p0 ≡ Ok (Accepts (receipt 2 0 0))
+unfolding batch_on_literals
+accepts = refl
+
+kept : accepted_after (limits 9 9 9) making p0 ≡ with_p0
+unfolding batch_on_literals
+kept = refl
+
+comes_again : answer (limits 9 9 9) with_p0 p0 ≡ Ok (Already (receipt 2 0 0))
+comes_again = refl
+
+-- also where the warehouse is full
+comes_again_when_full : answer (limits 2 9 9) with_p0 p0 ≡ Ok (Already (receipt 2 0 0))
+comes_again_when_full = refl
+
+other_bytes : answer (limits 9 9 9) with_p0 (sent (codes "p0") (Dimension Product) (header ++ 10 ∷ [])) ≡ Err Reused
+other_bytes = refl
+
+other_kind : answer (limits 9 9 9) with_p0 (sent (codes "p0") (Dimension Store) header) ≡ Err Reused
+other_kind = refl
+
+id_of_the_making : answer (limits 9 9 9) making (sent (codes "init") (Dimension Product) header) ≡ Err Reused
+id_of_the_making = refl
+
+blank_in_the_id : answer (limits 9 9 9) making (sent (codes "a b") (Dimension Product) header) ≡ Err BadId
+blank_in_the_id = refl
+
+no_id : answer (limits 9 9 9) making (sent [] (Dimension Product) header) ≡ Err BadId
+no_id = refl
+
+no_bytes : answer (limits 9 9 9) making (sent (codes "p00") (Dimension Product) []) ≡ Err (Batch (at 0 WrongHeader))
+unfolding batch_on_literals
+no_bytes = refl
+
+full_of_commands : answer (limits 2 9 9) with_p0 (sent (codes "p1") (Dimension Product) header) ≡ Err (Full Commands)
+unfolding batch_on_literals
+full_of_commands = refl
+
+-- a batch that isn't one is refused for that, full or not
+fault_first : answer (limits 2 9 9) with_p0 (sent (codes "p1") (Dimension Product) []) ≡ Err (Batch (at 0 WrongHeader))
+unfolding batch_on_literals
+fault_first = refl
+
+-- two records of a product where one change is left
+abbrev one_change : List Accepted
+one_change = making ++ record { id = codes "p1"; kind = codes "product"; bytes = []; content = Describes Product (record { natural = codes "P1"; day = 20240110; values = codes "Cola 1l" ∷ codes "Acme" ∷ [] } ∷ []) } ∷ []
+
+abbrev two_records : List ℕ
+two_records = header ++ 10 ∷ codes "P2,2024-02-01,Cola 1l,Bolt" ++ 10 ∷ codes "P2,2024-02-02,Cola 1l,Bolt"
+
+full_of_changes : answer (limits 9 2 9) one_change (sent (codes "p2") (Dimension Product) two_records) ≡ Err (Full Changes)
+unfolding batch_on_literals is_utf8 chars encode
+full_of_changes = refl
+
+room_for_two : answer (limits 9 3 9) one_change (sent (codes "p2") (Dimension Product) two_records) ≡ Ok (Accepts (receipt 3 2 0))
+unfolding batch_on_literals is_utf8 chars encode
+room_for_two = refl
+
+-- a sale of a product and a store that nothing described, and the same line again
+abbrev sale : SaleRecord
+sale = record { ticket = codes "T1"; line = 1; day = 20240205; store = codes "S1"; product = codes "P1"; customer = None; quantity = pos 2; amount = pos 500; cost = pos 320 }
+
+abbrev sale_bytes : List ℕ
+sale_bytes = codes "ticket,line,day,store,product,customer,quantity,amount,cost" ++ 10 ∷ codes "T1,1,2024-02-05,S1,P1,,2,5.00,3.20"
+
+two_placeholders : answer (limits 9 9 9) making (sent (codes "s1") Sales sale_bytes) ≡ Ok (Accepts (receipt 2 1 2))
+unfolding batch_on_literals
+two_placeholders = refl
+
+line_there : answer (limits 9 9 9) (making ++ record { id = codes "s1"; kind = codes "sales"; bytes = sale_bytes; content = Sells (sale ∷ []) } ∷ []) (sent (codes "s2") Sales sale_bytes) ≡ Err (LineThere 1)
+unfolding batch_on_literals
+line_there = refl

@@ -1,0 +1,105 @@
+-- The answer to a command, and the list of those that are accepted.
+use Rattle.std.specs.Prelude.{ℕ, suc, ◌+◌, ◌==◌, ◌&&◌, nat_le, nat_lt, cond, codes, List, [], ◌∷◌, ◌++◌, length, map, find, Option, Some, None, unwrap_or, bytes_eq, Result, Ok, Err}
+use Rattle.std.specs.List.{list_any}
+use Rattle.wh_day.specs.Reading.{◌>>=◌}
+use Rattle.wh_policy.specs.declared.attribute.Dim.{Dim}
+use Rattle.wh_policy.specs.declared.attribute.Dim.TheVariants.{Product, Store, Customer}
+use Rattle.wh_policy.specs.Policy.{trial_policy}
+use Rattle.wh_policy.specs.declared.policy.Policy.{Policy}
+use Rattle.wh_policy.specs.declared.record.SaleRecord.{SaleRecord}
+use Rattle.wh_batch.specs.Layouts.{dimension_records, sale_records}
+use Rattle.wh_batch.specs.declared.kind.Kind.{Kind}
+use Rattle.wh_batch.specs.declared.kind.Kind.TheVariants.{Dimension, Sales}
+use Rattle.wh_batch.specs.declared.kind.Format.TheVariants.{One}
+use Rattle.wh_batch.specs.declared.fault.BatchFault.{BatchFault}
+use Rattle.wh_history.specs.Keys.{place}
+use Rattle.wh_history.specs.Accepted.{Accepted, Content, Governs, Describes, Sells, policy_after, sold, sold_by, records_by, placeholders_by}
+use Rattle.wh_history.specs.Tables.{Limits}
+use Rattle.wh_rows.specs.Types.{is_key}
+use Rattle.wh_engine.specs.Sound.{changes_kept}
+use Rattle.wh_engine.specs.declared.command.Command.{Command}
+use Rattle.wh_engine.specs.declared.command.Receipt.{Receipt}
+use Rattle.wh_engine.specs.declared.command.Reply.{Reply}
+use Rattle.wh_engine.specs.declared.command.Reply.TheVariants.{Accepted as Accepts, Already}
+use Rattle.wh_engine.specs.declared.command.Refused.{Refused}
+use Rattle.wh_engine.specs.declared.command.Refused.TheVariants.{BadId, Reused, Batch, LineThere, Full}
+use Rattle.wh_engine.specs.declared.command.Limit.TheVariants.{Commands, Changes, Facts}
+
+-- the word for a kind of batch
+abbrev pub kind_word : Kind → List ℕ
+kind_word (Dimension Product) = codes "product"
+kind_word (Dimension Store) = codes "store"
+kind_word (Dimension Customer) = codes "customer"
+kind_word Sales = codes "sales"
+
+-- the policy in force; a list of accepted commands begins with a making, so it has one
+abbrev pub in_force : List Accepted → Policy
+in_force commands = unwrap_or (policy_after None commands) trial_policy
+
+-- what the bytes of a batch say under a policy, or their first fault
+abbrev pub content_of : Kind → Policy → List ℕ → Result Content BatchFault
+content_of (Dimension dim) policy bytes = dimension_records dim policy One bytes >>= λ records. Ok (Describes dim records)
+content_of Sales policy bytes = sale_records policy One bytes >>= λ sales. Ok (Sells sales)
+
+-- a command with what it says
+abbrev pub accepted_as : Command → Content → Accepted
+accepted_as c content = record { id = c.id; kind = kind_word c.kind; bytes = c.bytes; content = content }
+
+-- the receipt of a command of the list
+abbrev pub receipt_of : List Accepted → ℕ → Content → Receipt
+receipt_of commands number content = record { number = number; records = records_by content; placeholders = placeholders_by commands number content }
+
+-- the first sale whose ticket and line are those of a sale before
+abbrev pub first_line_there : List SaleRecord → ℕ → List SaleRecord → Option ℕ
+first_line_there before number [] = None
+first_line_there before number (s ∷ sales) =
+    cond (list_any (λ t. bytes_eq s.ticket t.ticket && (s.line == t.line)) before) (Some number) (first_line_there before (suc number) sales)
+
+-- how many dimension records a content holds
+abbrev pub changes_in : Content → ℕ
+changes_in (Governs policy) = 0
+changes_in (Describes dim records) = length records
+changes_in (Sells sales) = 0
+
+-- by what is there and by the limits, a content that was read
+abbrev pub with_room : Limits → List Accepted → Command → Content → Result Reply Refused
+with_room limits commands c content =
+    cond (nat_lt limits.changes (changes_kept commands + changes_in content)) (Err (Full Changes))
+    (cond (nat_lt limits.facts (length (sold commands) + length (sold_by content))) (Err (Full Facts))
+    (Ok (Accepts (receipt_of (commands ++ accepted_as c content ∷ []) (suc (length commands)) content))))
+
+abbrev pub with_lines : Limits → List Accepted → Command → Content → Option ℕ → Result Reply Refused
+with_lines limits commands c content (Some number) = Err (LineThere number)
+with_lines limits commands c content None = with_room limits commands c content
+
+abbrev pub when_read : Limits → List Accepted → Command → Result Content BatchFault → Result Reply Refused
+when_read limits commands c (Err fault) = Err (Batch fault)
+when_read limits commands c (Ok content) =
+    cond (nat_le limits.commands (length commands)) (Err (Full Commands)) (with_lines limits commands c content (first_line_there (sold commands) 1 (sold_by content)))
+
+-- a command whose id is known comes again, or another one has its id
+abbrev pub when_known : List Accepted → Command → Accepted → Result Reply Refused
+when_known commands c a =
+    cond (bytes_eq a.kind (kind_word c.kind) && bytes_eq a.bytes c.bytes) (Ok (Already (receipt_of commands (place bytes_eq c.id (map (λ (b : Accepted). b.id) commands)) a.content))) (Err Reused)
+
+abbrev pub by_id : Limits → List Accepted → Command → Option Accepted → Result Reply Refused
+by_id limits commands c (Some a) = when_known commands c a
+by_id limits commands c None = when_read limits commands c (content_of c.kind (in_force commands) c.bytes)
+
+-- the first case that applies
+abbrev pub answer : Limits → List Accepted → Command → Result Reply Refused
+answer limits commands c = cond (is_key 40 c.id) (by_id limits commands c (find (λ (a : Accepted). bytes_eq a.id c.id) commands)) (Err BadId)
+
+-- the list with what was read of a command
+abbrev pub with_content : List Accepted → Command → Result Content BatchFault → List Accepted
+with_content commands c (Ok content) = commands ++ accepted_as c content ∷ []
+with_content commands c (Err fault) = commands
+
+-- the list after a command: with it where it is accepted
+abbrev pub after_answer : List Accepted → Command → Result Reply Refused → List Accepted
+after_answer commands c (Ok (Accepts receipt)) = with_content commands c (content_of c.kind (in_force commands) c.bytes)
+after_answer commands c (Ok (Already receipt)) = commands
+after_answer commands c (Err refused) = commands
+
+abbrev pub accepted_after : Limits → List Accepted → Command → List Accepted
+accepted_after limits commands c = after_answer commands c (answer limits commands c)

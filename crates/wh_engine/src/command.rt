@@ -1,0 +1,55 @@
+//! Commands, and what is answered to them.
+
+use sqlite_value::value::Bytes;
+use wh_batch::{BatchFault, Kind};
+use wh_day::Value;
+
+/// A batch as it is sent, under a name that its sender gives it.
+#[derive(Debug, Drop)]
+pub struct Command {
+    /// What the sender calls it. The same command may come again under the same id.
+    pub id: Value,
+    pub kind: Kind,
+    pub bytes: Bytes,
+}
+
+/// What an accepted command is told, now and whenever it comes again.
+#[derive(Clone, Copy, Debug, PartialEq, Eq)]
+pub struct Receipt {
+    /// Its number among the accepted commands, from 1. The making has the number 1.
+    pub number: u64,
+    pub records: u64,
+    /// How many members a sale of this command was the first to mention.
+    pub placeholders: u64,
+}
+
+/// The answer to a command that is kept.
+#[derive(Clone, Copy, Debug, PartialEq, Eq)]
+pub enum Reply {
+    Accepted(Receipt),
+    /// The command came again; nothing was read or written further.
+    Already(Receipt),
+}
+
+/// What a warehouse can be full of.
+#[derive(Clone, Copy, Debug, PartialEq, Eq)]
+pub enum Limit {
+    Commands,
+    Changes,
+    Facts,
+}
+
+/// Why a command isn't accepted. It isn't kept, and may be sent again.
+#[derive(Clone, Copy, Debug, PartialEq, Eq)]
+pub enum Refused {
+    /// The id isn't 1 to 40 letters, digits, `-`, `_` or `.`.
+    BadId,
+    /// Another accepted command has this id.
+    Reused,
+    /// The batch has this fault.
+    Batch(BatchFault),
+    /// The first sale, from 1, whose ticket and line are those of a stored fact.
+    LineThere(u32),
+    /// A limit of the warehouse is reached, or would be passed.
+    Full(Limit),
+}
