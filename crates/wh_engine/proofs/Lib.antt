@@ -1,1 +1,3 @@
 pub mod Listed
+pub mod FoundPlaces
+pub mod FoundCommands

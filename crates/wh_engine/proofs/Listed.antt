@@ -196,6 +196,14 @@ module _ {K V : Type 0} (R : K → K → Ordering) (total : IsTotalOrder R) (sam
   pub none_passes : ((k : K) (w : V) → get m k ≡ Some w → keep w ≡ true → ⊥) → filter keep (values m) ≡ []
   none_passes none = filter-values R total same key keep m [] tt (λ k w here kept. absurd (none k w here kept)) tt
 
+  -- where the test passes at no key but one
+  pub passes_at : (k : K) → ((w : V) → get m k ≡ Some w → (key w ≡ k) × (keep w ≡ true)) → ((j : K) (w : V) → get m j ≡ Some w → keep w ≡ true → j ≡ k) → filter keep (values m) ≡ option_to_list (get m k)
+  passes_at k has only = by_row (get m k) refl
+    where
+      by_row : (o : Option V) → get m k ≡ o → filter keep (values m) ≡ option_to_list o
+      by_row (Some v) is = let own = has v is in one_passes v (ap (get m) own.0 ∙ is) own.1 (λ j w here passes. only j w here passes ∙ sym own.0)
+      by_row None is = none_passes (λ j w here passes. let there : get m k ≡ Some w = ap (get m) (sym (only j w here passes)) ∙ here in cc)
+
 -- ---- the rows of a range of numbers, each with its own key
 
 module _ {K V : Type 0} (R : K → K → Ordering) (key : V → K) (key_of : ℕ → K) (rises : (i j : ℕ) → i < j → R (key_of i) (key_of j) ≡ Less) (row : ℕ → Option V) (at : (n : ℕ) (v : V) → row n ≡ Some v → key v ≡ key_of n) where
@@ -245,6 +253,13 @@ module _ {V : Type 0} (row : ℕ → Option V) where
             let first : row from ≡ Some v = ap row here ∙ is in
             rw (first, passes) refl
       ]
+
+  pub length_numbered : (from count : ℕ) → ((n : ℕ) → from ≤ n → n < from + count → (v : V) × (row n ≡ Some v)) → length (filter_map row (range_with_len from count)) ≡ count
+  length_numbered from zero there = refl
+  length_numbered from (suc count) there =
+      let here = there from (omega arith) (omega arith) in
+      let rest = length_numbered (from + 1) count (λ n low high. there n (omega arith) (omega arith)) in
+      rw here.1 (ap suc rest)
 
 -- ---- a map from numbers
 

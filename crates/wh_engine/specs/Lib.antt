@@ -1,2 +1,3 @@
 pub mod Defined
+pub mod Kept
 pub mod Planned
