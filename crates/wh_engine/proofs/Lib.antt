@@ -1,3 +1,4 @@
 pub mod Listed
 pub mod FoundPlaces
 pub mod FoundCommands
+pub mod FoundMembers

@@ -1,10 +1,11 @@
 -- The rows of a finite map that pass a test, in the order of their keys.
-use Rattle.std.proofs.Common.{◌≡◌, T, Bool, true, false, cond, ◌&&◌, ◌||◌, List, [], ◌∷◌, map, filter, length, Option, None, Some, refl, sym, ◌∙◌, ap, subst, arith, inl, inr, Ordering, Less, Equal, ℕ, zero, suc, ◌+◌, ◌<◌, ◌≤◌}
+use Rattle.std.proofs.Common.{◌≡◌, T, Bool, true, false, cond, ◌&&◌, ◌||◌, List, [], ◌∷◌, ◌++◌, map, filter, length, take, reverse, Option, None, Some, refl, sym, ◌∙◌, ap, subst, arith, inl, inr, Ordering, Less, Equal, ℕ, zero, suc, ◌+◌, ◌<◌, ◌≤◌}
 use Rattle.std.specs.Prelude.{filter_map}
 use Rattle.std.specs.List.{AllByRecursion, list_any, range_with_len, cons_option}
 use Rattle.std.specs.Ordering.{is_lt, is_eq, eq_by_cmp, nat_cmp}
 use Rattle.std.proofs.lemmas.Bool.{cases_lt, lt-ltb}
 use Rattle.std.proofs.lemmas.Cmp.{nat_cmp_total}
+use Rattle.std.proofs.lemmas.List.{reverse-append}
 use Rattle.wh_history.proofs.Basics.{or_true}
 use Rattle.std.specs.Option.{option_to_list}
 use Rattle.std.specs.Cmp.{IsTotalOrder, eq_by_cmp_equiv}
@@ -260,6 +261,20 @@ module _ {V : Type 0} (row : ℕ → Option V) where
       let here = there from (omega arith) (omega arith) in
       let rest = length_numbered (from + 1) count (λ n low high. there n (omega arith) (omega arith)) in
       rw here.1 (ap suc rest)
+
+  -- the last of them
+  ends_with : (from count : ℕ) (v : V) → row (from + count) ≡ Some v → (front : List V) × (filter_map row (range_with_len from (suc count)) ≡ front ++ v ∷ [])
+  ends_with from zero v is = let here : row from ≡ Some v = ap row (omega arith) ∙ is in ([], ap (λ o. cons_option o []) here)
+  ends_with from (suc count) v is =
+      let rest = ends_with (from + 1) count v (ap row (omega arith) ∙ is) in
+      (cons_option (row from) rest.0, ap (cons_option (row from)) rest.1 ∙ before (row from) rest.0)
+    where
+      before : (o : Option V) (front : List V) → cons_option o (front ++ v ∷ []) ≡ cons_option o front ++ v ∷ []
+      before None front = refl
+      before (Some w) front = refl
+
+  pub last_numbered : (from count : ℕ) (v : V) → row (from + count) ≡ Some v → take 1 (reverse (filter_map row (range_with_len from (suc count)))) ≡ v ∷ []
+  last_numbered from count v is = let end = ends_with from count v is in ap (λ l. take 1 (reverse l)) end.1 ∙ ap (take 1) (reverse-append end.0 (v ∷ []))
 
 -- ---- a map from numbers
 
