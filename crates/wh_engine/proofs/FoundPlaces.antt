@@ -1,5 +1,5 @@
 -- What stands at a place of a list, and tests of equality.
-use Rattle.std.proofs.Common.{◌≡◌, ℕ, zero, suc, ◌<◌, ◌==◌, Bool, true, false, cond, ◌||◌, List, [], ◌∷◌, map, length, Option, Some, None, refl, sym, ◌∙◌, ap, subst, arith, inl, inr}
+use Rattle.std.proofs.Common.{◌≡◌, ℕ, zero, suc, ◌<◌, ◌==◌, Bool, true, false, cond, ◌||◌, List, [], ◌∷◌, map, length, Option, Some, None, refl, sym, ◌∙◌, ap, subst, arith, Equal}
 use Rattle.std.specs.Prelude.{bytes_eq, slice_get, option_map, find}
 use Rattle.std.specs.Bool.{Decides}
 use Rattle.std.specs.List.{list_any, AllByRecursion, IsDistinct}
@@ -28,6 +28,9 @@ same_number_is a b h = nat_cmp-IsAntisymmetric a b (equal_is _ h)
 
 pub number_itself : (a : ℕ) → eq_by_cmp nat_cmp a a ≡ true
 number_itself a = (eq_by_cmp_equiv nat_cmp_total).refl a
+
+pub number_ties : (a b : ℕ) → a ≡ b → nat_cmp a b ≡ Equal
+number_ties a b same = equal_is _ (ap (eq_by_cmp nat_cmp a) (sym same) ∙ number_itself a)
 
 -- ---- places
 

@@ -2,3 +2,4 @@ pub mod Listed
 pub mod FoundPlaces
 pub mod FoundCommands
 pub mod FoundMembers
+pub mod ListedChanges
