@@ -3,3 +3,4 @@ pub mod FoundPlaces
 pub mod FoundCommands
 pub mod FoundMembers
 pub mod ListedChanges
+pub mod FoundChanges
