@@ -4,3 +4,4 @@ pub mod FoundCommands
 pub mod FoundMembers
 pub mod ListedChanges
 pub mod FoundChanges
+pub mod FoundRows
