@@ -5,3 +5,4 @@ pub mod FoundMembers
 pub mod ListedChanges
 pub mod FoundChanges
 pub mod FoundRows
+pub mod FoundOwners
