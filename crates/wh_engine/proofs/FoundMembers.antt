@@ -34,10 +34,10 @@ stored key m = record { dim = key.dim; durable = key.durable; natural = m.natura
 abbrev told : Dim → List Accepted → List ℕ → Told
 told dim commands natural = record { natural = natural; opening = surrogate_key dim commands (opening_of natural) }
 
-abbrev key_of : Dim → ℕ → MemberKey
+abbrev pub key_of : Dim → ℕ → MemberKey
 key_of dim durable = record { dim = dim; durable = durable }
 
-abbrev key_in : MemberRow → MemberKey
+abbrev pub key_in : MemberRow → MemberKey
 key_in r = record { dim = r.dim; durable = r.durable }
 
 stored_key : (key : MemberKey) (o : Option Told) (r : MemberRow) → option_map (stored key) o ≡ Some r → key_in r ≡ key

@@ -6,3 +6,4 @@ pub mod ListedChanges
 pub mod FoundChanges
 pub mod FoundRows
 pub mod FoundOwners
+pub mod FoundMember
