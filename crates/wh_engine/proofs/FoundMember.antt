@@ -1,5 +1,6 @@
 -- A member as the tables hold it, and one that no command mentions.
-use Rattle.std.proofs.Common.{◌≡◌, ℕ, zero, suc, ◌<◌, true, false, cond, List, [], ◌∷◌, map, filter, Option, Some, None, refl, sym, ◌∙◌, ap, subst, arith, inl, inr, length}
+use Rattle.std.proofs.Common.{◌≡◌, ℕ, zero, suc, ◌<◌, true, false, cond, List, [], ◌∷◌, map, filter, Option, Some, None, refl, sym, ◌∙◌, ap, subst, arith, inl, inr, length, ◌++◌, ◌&&◌, ◌↔◌, IsSome}
+use Rattle.std.specs.FinMap.{values}
 use Rattle.std.specs.Prelude.{bytes_eq, option_map, unwrap_or}
 use Rattle.std.proofs.lemmas.Bool.{cases_lt}
 use Rattle.std.specs.List.{list_any, AllByRecursion}
@@ -17,9 +18,14 @@ use Rattle.wh_history.proofs.Joins.{told_in_all, Told}
 use Rattle.wh_history.proofs.Once.{no_place}
 use Rattle.wh_history.proofs.Untouched.{no_anchor}
 use Rattle.wh_rows.specs.declared.rows.MemberRow.{MemberRow}
-use Rattle.wh_engine.specs.Defined.{member_at}
+use Rattle.wh_rows.specs.Tables.{Tables}
+use Rattle.wh_rows.specs.Firsts.{part}
+use Rattle.wh_sql.specs.Asked.{same_text}
+use Rattle.wh_sql.proofs.Reading.{last_is}
+use Rattle.wh_history.specs.Tables.{Limits}
+use Rattle.wh_engine.specs.Defined.{AreOf, member_at}
 use Rattle.wh_engine.specs.Kept.{last_opening}
-use Rattle.wh_engine.proofs.FoundMembers.{key_of, member_is, natural_at}
+use Rattle.wh_engine.proofs.FoundMembers.{same_dim, key_of, member_is, natural_at, member_found, last_member}
 use Rattle.wh_engine.proofs.FoundPlaces.{place_given, at_place_there}
 use Rattle.wh_engine.proofs.FoundOwners.{is_mentioned}
 
@@ -92,3 +98,11 @@ no_last_row dim commands none =
       | inr up ↦ omega arith
     ] in
     (sym empty, sym (ap (λ n. unwrap_or (option_map (λ m. surrogate_key dim commands (opening_of m)) (at_place n (members dim commands))) 0) empty))
+
+-- what is popped of the answers to a search by a natural key, and to one for the greatest durable key
+module _ (limits : Limits) (commands : List Accepted) (t : Tables) (are : AreOf limits commands t) (dim : Dim) where
+  pub member_popped : (natural : List ℕ) (popped : Option MemberRow) (items left : List MemberRow) (n : ℕ) → n ≡ length items → items ≡ filter (λ r. same_dim dim r.dim && same_text natural r.natural) (values t.member) → items ≡ left ++ option_to_list popped → (IsSome popped ↔ (0 < n)) → member_at commands (key_of dim (durable_key dim commands natural)) ≡ popped
+  member_popped natural popped items left n len listed split some = sym (last_is (member_at commands (key_of dim (durable_key dim commands natural))) popped items left n len (listed ∙ member_found limits commands t are dim natural) split some)
+
+  pub last_popped : (popped : Option MemberRow) (items left : List MemberRow) (n : ℕ) → n ≡ length items → items ≡ part (Some (record { most = 1; backwards = true })) (filter (λ r. same_dim dim r.dim) (values t.member)) → items ≡ left ++ option_to_list popped → (IsSome popped ↔ (0 < n)) → member_at commands (key_of dim (length (members dim commands))) ≡ popped
+  last_popped popped items left n len listed split some = sym (last_is (member_at commands (key_of dim (length (members dim commands)))) popped items left n len (listed ∙ last_member limits commands t are dim) split some)

@@ -1,10 +1,11 @@
 -- Each key of a dimension's table is of one member.
-use Rattle.std.proofs.Common.{◌≡◌, ℕ, zero, suc, ◌<◌, ◌==◌, Bool, true, false, cond, ◌||◌, ◌&&◌, List, [], ◌∷◌, ◌++◌, map, Option, Some, None, refl, sym, ◌∙◌, ap, subst, arith}
+use Rattle.std.proofs.Common.{◌≡◌, ℕ, zero, suc, ◌<◌, ◌==◌, Bool, true, false, cond, ◌||◌, ◌&&◌, List, [], ◌∷◌, ◌++◌, map, Option, Some, None, Result, IfOk, refl, sym, ◌∙◌, ap, subst, arith}
 use Rattle.std.specs.Prelude.{bytes_eq, flat_map, option_to_list}
 use Rattle.std.specs.Option.{option_and_then}
 use Rattle.std.specs.List.{list_any, AllByRecursion}
 use Rattle.std.proofs.lemmas.Bool.{eqb-true, eq-eqb, ne_eqb}
 use Rattle.std.proofs.lemmas.List.{map-append}
+use Rattle.std.proofs.lemmas.Result.{IfOk-weaker}
 use Rattle.std.proofs.lemmas.List.Folds.{list_any-append}
 use Rattle.std.proofs.lemmas.Slice.Eq.{bytes_eq-Decides}
 use Rattle.wh_day.specs.Day.{first_day}
@@ -182,3 +183,10 @@ pub row_of_member : (dim : Dim) (commands : List Accepted) (natural : List ℕ) 
 row_of_member dim commands natural durable ends given is key =
     let number : 0 < durable_key dim commands natural = omega arith in
     row_with dim commands durable key ∙ owned_numbered dim commands durable key given ∙ ap (λ n. owned n (numbered_row commands dim key)) is ∙ owned_now dim commands natural ends number key
+
+-- the same of what a table of this dimension answers
+pub member_read : {X E : Type 0} (r : Result X E) (items : X → List DimRow) (dim : Dim) (commands : List Accepted) (natural : List ℕ) (durable : ℕ) → RecordsHaveDays commands → 0 < durable → durable ≡ durable_key dim commands natural
+    → IfOk r (λ x. items x ≡ rows_with dim commands durable) → IfOk r (λ x. (key : ℕ) → row_of key (items x) ≡ row_of key (member_rows commands dim natural))
+member_read r items dim commands natural durable ends given is read =
+    IfOk-weaker r (λ x. items x ≡ rows_with dim commands durable) (λ x. (key : ℕ) → row_of key (items x) ≡ row_of key (member_rows commands dim natural))
+    (λ x rows key. ap (row_of key) rows ∙ row_of_member dim commands natural durable ends given is key) read

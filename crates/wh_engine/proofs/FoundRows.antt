@@ -1,11 +1,12 @@
 -- The rows of product, store and customer, and those of one member.
-use Rattle.std.proofs.Common.{◌≡◌, ℕ, zero, suc, ◌+◌, ◌<◌, ◌≤◌, ◌==◌, Bool, true, false, cond, List, filter, length, Option, Some, None, is_eq, [], ◌∷◌, refl, sym, ◌∙◌, ap, arith, inl, inr}
+use Rattle.std.proofs.Common.{◌≡◌, ℕ, zero, suc, ◌+◌, ◌<◌, ◌≤◌, ◌==◌, Bool, true, false, cond, List, filter, length, Option, Some, None, Result, IfOk, is_eq, [], ◌∷◌, refl, sym, ◌∙◌, ap, arith, inl, inr}
 use Rattle.std.specs.Prelude.{bytes_eq, find, filter_map}
 use Rattle.std.specs.Option.{option_and_then}
 use Rattle.std.specs.List.{range_with_len, cons_option}
 use Rattle.std.specs.Ordering.{eq_by_cmp, nat_cmp}
 use Rattle.std.specs.FinMap.{FinMap, values, get}
 use Rattle.std.proofs.lemmas.Bool.{cases_lt, cases_eq, eqb-true, eq-eqb, ne_eqb}
+use Rattle.std.proofs.lemmas.Result.{IfOk-weaker}
 use Rattle.std.proofs.lemmas.List.Elements.{filter_agree}
 use Rattle.std.proofs.lemmas.Slice.Eq.{bytes_eq-Decides}
 use Rattle.wh_policy.specs.declared.attribute.Dim.{Dim}
@@ -67,6 +68,13 @@ pub rows_found : (dim : Dim) (commands : List Accepted) (m : FinMap nat_cmp DimR
 rows_found dim commands m held durable =
     ap (filter (λ (r : DimRow). eq_by_cmp nat_cmp durable r.durable)) (table_listed commands dim m held)
     ∙ filter_agree (λ (r : DimRow). eq_by_cmp nat_cmp durable r.durable) (λ (r : DimRow). r.durable == durable) (λ r. same_test durable r.durable) (dimension_table commands dim)
+
+-- the same of what a table of this dimension answers
+pub rows_read : {X E : Type 0} (r : Result X E) (items : X → List DimRow) (own dim : Dim) (commands : List Accepted) (m : FinMap nat_cmp DimRow) → ((key : ℕ) → get m key ≡ dimension_row commands own key) → dim ≡ own → (durable : ℕ)
+    → IfOk r (λ x. items x ≡ filter (λ q. eq_by_cmp nat_cmp durable q.durable) (values m)) → IfOk r (λ x. items x ≡ rows_with dim commands durable)
+rows_read r items own dim commands m held same durable read =
+    IfOk-weaker r (λ x. items x ≡ filter (λ (q : DimRow). eq_by_cmp nat_cmp durable q.durable) (values m)) (λ x. items x ≡ rows_with dim commands durable)
+    (λ x is. is ∙ rows_found own commands m held durable ∙ ap (λ (d : Dim). rows_with d commands durable) (sym same)) read
 
 -- ---- the row under a key among those that pass
 
