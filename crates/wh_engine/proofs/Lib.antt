@@ -13,3 +13,12 @@ pub mod GrownUntouched
 pub mod GrownPlain
 pub mod Repeats
 pub mod WorkedAnswers
+pub mod Listed
+pub mod FoundPlaces
+pub mod FoundCommands
+pub mod FoundMembers
+pub mod ListedChanges
+pub mod FoundChanges
+pub mod FoundRows
+pub mod FoundOwners
+pub mod FoundMember

@@ -1,4 +1,5 @@
 pub mod Defined
+pub mod Kept
 pub mod Planned
 pub mod Writable
 pub mod Laws

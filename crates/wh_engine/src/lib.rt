@@ -3,6 +3,7 @@
 
 mod command;
 mod edits;
+pub mod kept;
 pub mod laws;
 mod write;
 
