@@ -68,11 +68,11 @@ record AreRead {R : Type 0} (layout : Layout R) (earlier : List Key) (number : �
   within : list_all layout.is_within entries ≡ true
 
 -- a step that gave something
-bind_ok : {F A B : Type 0} (read : Result A F) (more : A → Result B F) (y : B) → (read >>= more) ≡ Ok y → (x : A) × (read ≡ Ok x) × (more x ≡ Ok y)
+pub bind_ok : {F A B : Type 0} (read : Result A F) (more : A → Result B F) (y : B) → (read >>= more) ≡ Ok y → (x : A) × (read ≡ Ok x) × (more x ≡ Ok y)
 bind_ok (Ok x) more y h = (x, refl, h)
 bind_ok (Err e) more y h = absurd cc
 
-cond_ok : {F A : Type 0} (b : Bool) (fault : F) (read : Result A F) (x : A) → cond b (Err fault) read ≡ Ok x → (b ≡ false) × (read ≡ Ok x)
+pub cond_ok : {F A : Type 0} (b : Bool) (fault : F) (read : Result A F) (x : A) → cond b (Err fault) read ≡ Ok x → (b ≡ false) × (read ≡ Ok x)
 cond_ok true fault read x h = absurd cc
 cond_ok false fault read x h = (refl, h)
 

@@ -101,7 +101,7 @@ module _ (dim : Dim) (commands : List Accepted) (c : Accepted) (rs : List Dimens
   calendar_stays day = ap (option_and_then (λ policy. day_at policy day)) (policy_last None commands c no_policy)
 
   -- and where nothing was sold there is no fact
-  sold_nothing : sold commands ≡ [] → sold after ≡ []
+  pub sold_nothing : sold commands ≡ [] → sold after ≡ []
   sold_nothing none =
       flat_map-append (λ (d : Accepted). sold_by d.content) commands (c ∷ [])
       ∙ ap (λ ss. ss ++ (sold_by c.content ++ [])) none

@@ -22,3 +22,6 @@ pub mod FoundChanges
 pub mod FoundRows
 pub mod FoundOwners
 pub mod FoundMember
+pub mod GoodRecords
+pub mod StaysAccepted
+pub mod StaysBegun

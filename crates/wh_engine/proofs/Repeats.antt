@@ -39,7 +39,7 @@ module _ (limits : Limits) (commands : List Accepted) (c : Command) where
   known_refused true r s h = cc
   known_refused false r s h = cc
 
-  new_id : (b : Bool) (o : Option Accepted) (receipt : Receipt) → is_key 40 c.id ≡ b → found ≡ o → by_case b o ≡ Ok (Accepts receipt) → (is_key 40 c.id ≡ true) × (found ≡ None)
+  pub new_id : (b : Bool) (o : Option Accepted) (receipt : Receipt) → is_key 40 c.id ≡ b → found ≡ o → by_case b o ≡ Ok (Accepts receipt) → (is_key 40 c.id ≡ true) × (found ≡ None)
   new_id false o receipt good is h = cc
   new_id true None receipt good is h = (good, is)
   new_id true (Some a) receipt good is h = absurd (known_refused (bytes_eq a.kind (kind_word c.kind) && bytes_eq a.bytes c.bytes) _ receipt h)

@@ -1,5 +1,5 @@
 -- What holds of every batch.
-use Rattle.std.specs.Prelude.{◌≡◌, ◌≢◌, ◌↔◌, ℕ, false, List, [], ◌∷◌, ◌++◌, Some, None}
+use Rattle.std.specs.Prelude.{◌≡◌, ◌≢◌, ◌↔◌, ℕ, true, false, codes, List, [], ◌∷◌, ◌++◌, Some, None}
 use Rattle.std.specs.List.{list_any}
 use Rattle.wh_policy.specs.Types.{is_outrigger}
 use Rattle.wh_policy.specs.Written.{IsSound}
@@ -7,13 +7,18 @@ use Rattle.wh_policy.specs.declared.policy.Policy.{Policy}
 use Rattle.wh_policy.specs.declared.attribute.Dim.{Dim}
 use Rattle.wh_policy.specs.declared.attribute.Dim.TheVariants.{Product, Store, Customer}
 use Rattle.wh_policy.specs.declared.record.DimensionRecord.{DimensionRecord}
-use Rattle.wh_history.specs.Accepted.{Accepted, Describes, policy_after, types_in, sold}
+use Rattle.wh_batch.specs.declared.kind.Kind.TheVariants.{Dimension}
+use Rattle.wh_history.specs.Accepted.{Accepted, Governs, Describes, policy_after, types_in, sold}
 use Rattle.wh_history.specs.Laws.{governs, mentions_member}
 use Rattle.wh_history.specs.Tables.{Limits, dimension_row}
 use Rattle.wh_history.specs.declared.rows.DimRow.{DimRow}
+use Rattle.wh_rows.specs.Limits.{are_limits}
 use Rattle.wh_rows.specs.Tables.{Tables}
 use Rattle.wh_engine.specs.Defined.{AreOf}
 use Rattle.wh_engine.specs.Planned.{Edits, with_batch_edits, AreEdits}
+use Rattle.wh_engine.specs.Sound.{IsAccepted}
+use Rattle.wh_engine.specs.Admission.{accepted_after}
+use Rattle.wh_engine.specs.declared.command.Command.{Command}
 
 -- the rows of a dimension show no profile
 abbrev pub ShowsNoProfile : List Accepted → Dim → Type 0
@@ -43,3 +48,15 @@ UntouchedMembersKeep = (commands : List Accepted) (c : Accepted) (dim : Dim) (na
 -- The rows of products and stores show no profile where the policy in force is sound, as every policy that is read is.
 abbrev pub SoundPoliciesShowNone : Type 0
 SoundPoliciesShowNone = (commands : List Accepted) → ((policy : Policy) → policy_after None commands ≡ Some policy → IsSound policy) → ShowsNoProfile commands Product × ShowsNoProfile commands Store
+
+-- After a batch of products, stores or customers, accepted or not, the list of accepted commands is again one that a warehouse can have accepted.
+abbrev pub AcceptedListsStaySound : Type 0
+AcceptedListsStaySound = (limits : Limits) (commands : List Accepted) (c : Command) (dim : Dim) → c.kind ≡ Dimension dim → IsAccepted limits commands → IsAccepted limits (accepted_after limits commands c)
+
+-- the making of a warehouse under a policy
+abbrev pub making : Policy → List ℕ → Accepted
+making policy bytes = record { id = codes "init"; kind = codes "init"; bytes = bytes; content = Governs policy }
+
+-- A making under a sound policy, as every policy that is read is, begins such a list.
+abbrev pub AcceptedListsBegin : Type 0
+AcceptedListsBegin = (limits : Limits) (policy : Policy) (bytes : List ℕ) → are_limits limits ≡ true → IsSound policy → IsAccepted limits (making policy bytes ∷ [])

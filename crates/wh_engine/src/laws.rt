@@ -5,7 +5,7 @@ ghost use Rattle.wh_history.specs.Accepted.{Accepted};
 ghost use Rattle.wh_history.specs.Tables.{Limits};
 ghost use Rattle.wh_engine.specs.Admission.{accepted_after};
 ghost use Rattle.wh_engine.specs.declared.command.Command.{Command};
-ghost use Rattle.wh_engine.specs.Laws.{BatchesAreWritten, SoundPoliciesShowNone, UntouchedMembersKeep};
+ghost use Rattle.wh_engine.specs.Laws.{AcceptedListsBegin, AcceptedListsStaySound, BatchesAreWritten, SoundPoliciesShowNone, UntouchedMembersKeep};
 
 /// From the tables of the commands so far the edits of a batch of products, stores or customers lead to those of
 /// the commands with it, in all ten tables, where nothing was sold yet.
@@ -26,4 +26,14 @@ pub fn untouched_member_keeps()
 /// A command that is sent twice acts once.
 pub fn acts_once()
     ensures { (limits : Limits) (commands : List Accepted) (c : Command) → accepted_after limits (accepted_after limits commands c) c ≡ accepted_after limits commands c }
+{}
+
+/// A making under a sound policy begins a list of commands that a warehouse can have accepted.
+pub fn accepted_lists_begin()
+    ensures { AcceptedListsBegin }
+{}
+
+/// Such a list stays one after each batch of products, stores or customers, accepted or refused.
+pub fn accepted_lists_stay_sound()
+    ensures { AcceptedListsStaySound }
 {}
