@@ -1,31 +1,28 @@
 -- An accepted batch of products, stores or customers leaves the list of commands one that can have been accepted.
-use Rattle.std.proofs.Common.{◌≡◌, ℕ, suc, ◌+◌, ◌≤◌, ◌<◌, Bool, true, false, cond, leb, ltb, List, [], ◌∷◌, ◌++◌, length, map, Option, Some, None, Result, Ok, Err, refl, sym, ap, ◌∙◌, subst, arith}
+use Rattle.std.proofs.Common.{◌≡◌, ℕ, ◌+◌, ◌≤◌, ◌<◌, Bool, true, false, cond, leb, ltb, List, [], ◌∷◌, ◌++◌, length, map, Option, Some, None, Result, Ok, Err, refl, sym, ap, ◌∙◌, subst, arith}
 use Rattle.std.specs.Prelude.{find, bytes_eq, IsSome, unwrap_or, option_map}
 use Rattle.std.specs.List.{AllByRecursion, IsDistinct}
 use Rattle.std.proofs.lemmas.Bool.{leb-false, ltb-false}
 use Rattle.std.proofs.lemmas.List.{length-append, length-map, map-append}
 use Rattle.wh_policy.specs.Policy.{attributes_of, types_of}
-use Rattle.wh_policy.specs.Types.{kinds_of}
 use Rattle.wh_policy.specs.declared.attribute.Attribute.{Attribute}
-use Rattle.wh_policy.specs.declared.attribute.AttributeType.{AttributeType}
 use Rattle.wh_policy.specs.declared.attribute.Dim.{Dim}
 use Rattle.wh_policy.specs.declared.attribute.Dim.TheVariants.{Product, Store, Customer}
 use Rattle.wh_policy.specs.declared.policy.Policy.{Policy}
 use Rattle.wh_policy.specs.declared.record.DimensionRecord.{DimensionRecord}
 use Rattle.wh_batch.specs.Layouts.{dimension_records}
 use Rattle.wh_batch.specs.declared.fault.BatchFault.{BatchFault}
-use Rattle.wh_batch.specs.declared.kind.Kind.{Kind}
-use Rattle.wh_batch.specs.declared.kind.Kind.TheVariants.{Dimension, Sales}
+use Rattle.wh_batch.specs.declared.kind.Kind.TheVariants.{Dimension}
 use Rattle.wh_batch.specs.declared.kind.Format.TheVariants.{One}
 use Rattle.wh_batch.proofs.GoodLemmas.{bind_ok, cond_ok}
-use Rattle.wh_history.specs.Accepted.{Accepted, Content, Describes, policy_after, types_in, described, described_by, sold, sold_by, same_dim}
+use Rattle.wh_history.specs.Accepted.{Accepted, Content, Describes, policy_after, described, described_by, sold, sold_by, same_dim}
 use Rattle.wh_history.specs.Laws.{governs}
 use Rattle.wh_history.specs.Tables.{Limits}
 use Rattle.wh_history.proofs.Joins.{all_append}
 use Rattle.wh_history.proofs.Stays.{policy_last, types-last}
 use Rattle.wh_history.proofs.Untouched.{described-last}
 use Rattle.wh_rows.specs.Types.{is_key, is_kind}
-use Rattle.wh_engine.specs.Admission.{kind_word, content_of, in_force, accepted_as, changes_in, first_line_there, with_room, with_lines, when_read, answer, with_content, after_answer, accepted_after}
+use Rattle.wh_engine.specs.Admission.{kind_word, content_of, in_force, accepted_as, changes_in, first_line_there, with_lines, when_read, answer, with_content, after_answer, accepted_after}
 use Rattle.wh_engine.specs.Sound.{IsGoodRecord, changes_kept, IsAccepted}
 use Rattle.wh_engine.specs.Laws.{AcceptedListsStaySound}
 use Rattle.wh_engine.specs.declared.command.Command.{Command}
@@ -33,8 +30,8 @@ use Rattle.wh_engine.specs.declared.command.Receipt.{Receipt}
 use Rattle.wh_engine.specs.declared.command.Reply.{Reply}
 use Rattle.wh_engine.specs.declared.command.Reply.TheVariants.{Accepted as Accepts, Already}
 use Rattle.wh_engine.specs.declared.command.Refused.{Refused}
-use Rattle.wh_engine.specs.declared.command.Refused.TheVariants.{LineThere, Full}
-use Rattle.wh_engine.specs.declared.command.Limit.TheVariants.{Commands, Changes, Facts}
+use Rattle.wh_engine.specs.declared.command.Refused.TheVariants.{Full}
+use Rattle.wh_engine.specs.declared.command.Limit.TheVariants.{Commands, Changes}
 use Rattle.wh_engine.proofs.GrownOthers.{sold_nothing}
 use Rattle.wh_engine.proofs.Repeats.{new_id}
 use Rattle.wh_engine.proofs.GoodRecords.{good_records}
@@ -164,4 +161,4 @@ module _ (limits : Limits) (commands : List Accepted) (c : Command) (dim : Dim) 
   stays_accepted = by_answer (answer limits commands c) refl
 
 pub accepted_lists_stay_sound : AcceptedListsStaySound
-accepted_lists_stay_sound limits commands c dim is accepted = stays_accepted limits commands c dim is accepted
+accepted_lists_stay_sound = stays_accepted
