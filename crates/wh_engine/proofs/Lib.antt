@@ -8,4 +8,8 @@ pub mod GrownMembers
 pub mod GrownProfiles
 pub mod GrownChanges
 pub mod WrittenBatch
+pub mod SmallNumbers
+pub mod MayTables
+pub mod ValidSlots
+pub mod ValidRows
 pub mod Worked
