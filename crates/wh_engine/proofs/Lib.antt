@@ -12,4 +12,5 @@ pub mod SmallNumbers
 pub mod MayTables
 pub mod ValidSlots
 pub mod ValidRows
+pub mod ValidTables
 pub mod Worked

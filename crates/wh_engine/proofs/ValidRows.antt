@@ -106,11 +106,11 @@ main_slot changes good day place DualKeys = value_slot changes good day place
 
 -- ---- the days of rows
 
-first_is_day : is_day first_day ≡ true
+pub first_is_day : is_day first_day ≡ true
 unfolding is_day
 first_is_day = refl
 
-last_is_day : is_day last_day ≡ true
+pub last_is_day : is_day last_day ≡ true
 unfolding is_day
 last_is_day = refl
 
