@@ -13,4 +13,6 @@ pub mod MayTables
 pub mod ValidSlots
 pub mod ValidRows
 pub mod ValidTables
+pub mod MayStand
+pub mod MayBatch
 pub mod Worked

@@ -1,8 +1,8 @@
 -- When rows and edits may be made one after the other.
-use Rattle.std.proofs.Common.{◌≡◌, ◌⊎◌, inl, inr, ℕ, ◌<◌, ◌==◌, Bool, true, false, cond, T, ◌&&◌, List, [], ◌∷◌, map, Option, Some, None, refl, sym, ap, subst, ◌∙◌, arith, Ordering, Less}
+use Rattle.std.proofs.Common.{◌≡◌, ◌⊎◌, inl, inr, ℕ, ◌<◌, ◌==◌, true, false, T, List, [], ◌∷◌, map, Option, Some, None, refl, sym, ap, subst, ◌∙◌, arith, Ordering, Less}
 use Rattle.std.specs.Prelude.{IsTrue, find, filter_map}
 use Rattle.std.specs.List.{AllByRecursion, cons_option}
-use Rattle.std.specs.Ordering.{is_eq, is_lt, eq_by_cmp}
+use Rattle.std.specs.Ordering.{is_eq, eq_by_cmp}
 use Rattle.std.specs.Cmp.{IsTotalOrder, eq_by_cmp_equiv}
 use Rattle.std.specs.FinMap.{FinMap, entries, get, is_sorted, get-entries, entries_sorted}
 use Rattle.std.specs.FinMap as map_of
@@ -12,7 +12,6 @@ use Rattle.wh_history.specs.Plan.{Needs, edited, Above, Ascends, IsPlan}
 use Rattle.wh_history.specs.declared.plan.Edit.{Edit}
 use Rattle.wh_history.specs.declared.plan.Edit.TheVariants.{Put, Remove}
 use Rattle.wh_history.proofs.Joins.{all_weaker}
-use Rattle.wh_history.proofs.Basics.{some_is}
 use Rattle.wh_rows.specs.Holds.{Layout}
 use Rattle.wh_rows.specs.Meaning.{any}
 use Rattle.wh_rows.proofs.Maps.{both_true, less_is, all-insert}
@@ -21,14 +20,13 @@ use Rattle.wh_store.specs.Edits.{with_row, with_edit, MayBeMade, MayAll}
 
 -- ---- what holds of what is made at numbers
 
-pub all_made : {V : Type 0} (Q : ℕ → Type 0) (P : V → Type 0) (made : ℕ → Option V) → ((n : ℕ) (v : V) → Q n → made n ≡ Some v → P v)
-    → (ns : List ℕ) → AllByRecursion Q ns → AllByRecursion P (filter_map made ns)
-all_made Q P made each [] all = tt
-all_made Q P made each (n ∷ ns) all =
-    let rest = all_made Q P made each ns all.1 in
+pub all_made : {V : Type 0} (P : V → Type 0) (made : ℕ → Option V) → ((n : ℕ) (v : V) → made n ≡ Some v → P v) → (ns : List ℕ) → AllByRecursion P (filter_map made ns)
+all_made P made each [] = tt
+all_made P made each (n ∷ ns) =
+    let rest = all_made P made each ns in
     elim (made n) as (λ o. (made n ≡ o) → AllByRecursion P (cons_option o (filter_map made ns))) [
       | None ↦ λ _. rest
-      | Some v ↦ λ is. (each n v all.0 is, rest)
+      | Some v ↦ λ is. (each n v is, rest)
     ] refl
 
 -- ---- what holds of a map's rows
@@ -67,6 +65,11 @@ module _ {K V : Type 0} (R : K → K → Ordering) (total : IsTotalOrder R) wher
 
 -- ---- rows that are put
 
+-- something holds of the row that an edit puts
+abbrev pub Puts : {K V : Type 0} → (V → Type 0) → Edit V K → Type 0
+Puts P (Put row) = P row
+Puts P (Remove key) = Unit {0}
+
 -- the rows among which a row stands
 abbrev Among : {X : Type 0} → List X → X → Type 0
 Among [] x = ⊥
@@ -77,9 +80,12 @@ has_among P [] all w has = absurd has
 has_among P (e ∷ es) all w has = elim has [ inl here ↦ subst P (sym here) all.0 | inr later ↦ has_among P es all.1 w later ]
 
 module _ {K V : Type 0} (layout : Layout K V) where
+  abbrev pub Valid : V → Type 0
+  Valid v = IsTrue (layout.is_valid v)
+
   -- a row that is valid, and of which something holds
   abbrev pub Fit : (V → Type 0) → V → Type 0
-  Fit P v = P v × IsTrue (layout.is_valid v)
+  Fit P v = P v × Valid v
 
   -- rows of which something holds may be put into a table of such rows, where any two such rows may stand beside each other
   pub may_put_all : IsTotalOrder layout.order → (may_stand : V → V → Type 0) (P : V → Type 0) → ((v w : V) → P v → P w → may_stand v w)
@@ -91,22 +97,17 @@ module _ {K V : Type 0} (layout : Layout K V) where
   )
 
   -- where any row may stand, each valid one may be put
-  pub may_put_any : (vs : List V) (m : FinMap layout.order V) → AllByRecursion (λ v. IsTrue (layout.is_valid v)) vs → MayAll (with_row layout) (MayBePut layout any) vs m
+  pub may_put_any : (vs : List V) (m : FinMap layout.order V) → AllByRecursion Valid vs → MayAll (with_row layout) (MayBePut layout any) vs m
   may_put_any [] m all = tt
   may_put_any (v ∷ vs) m all = (record { valid = all.0; stands = λ w has. tt }, may_put_any vs (with_row layout v m) all.1)
 
   -- ---- edits
 
-  -- what an edit puts is valid
-  abbrev pub PutsValid : Edit V K → Type 0
-  PutsValid (Put row) = IsTrue (layout.is_valid row)
-  PutsValid (Remove key) = Unit {0}
-
-  may_make : (e : Edit V K) (m : FinMap layout.order V) → PutsValid e → MayBeMade layout any e m
+  may_make : (e : Edit V K) (m : FinMap layout.order V) → Puts Valid e → MayBeMade layout any e m
   may_make (Put row) m valid = record { valid = valid; stands = λ w has. tt }
   may_make (Remove key) m valid = tt
 
-  pub may_edit_all : (es : List (Edit V K)) (m : FinMap layout.order V) → AllByRecursion PutsValid es → MayAll (with_edit layout) (MayBeMade layout any) es m
+  pub may_edit_all : (es : List (Edit V K)) (m : FinMap layout.order V) → AllByRecursion (Puts Valid) es → MayAll (with_edit layout) (MayBeMade layout any) es m
   may_edit_all [] m all = tt
   may_edit_all (e ∷ es) m all = (may_make e m all.0, may_edit_all es (with_edit layout e m) all.1)
 
@@ -139,10 +140,6 @@ module _ {Row : Type 0} (key_of : Row → ℕ) where
   )
 
   module _ (P : Row → Type 0) where
-    abbrev PutsSuch : Edit Row ℕ → Type 0
-    PutsSuch (Put row) = P row
-    PutsSuch (Remove key) = Unit {0}
-
     needed_row : (key : ℕ) (before after : Option Row) (row : Row) → Needs key before after (Some (Put row)) → after ≡ Some row
     needed_row key None None row is = absurd (cc)
     needed_row key (Some old) None row is = absurd (cc)
@@ -153,10 +150,10 @@ module _ {Row : Type 0} (key_of : Row → ℕ) where
     ]
 
     -- a row that a plan puts is one of those after it
-    pub plan_puts : (before after : ℕ → Option Row) (es : List (Edit Row ℕ)) → IsPlan key_of before after es → ((key : ℕ) (row : Row) → after key ≡ Some row → P row) → AllByRecursion PutsSuch es
-    plan_puts before after es plan each = all_weaker (Own es) PutsSuch such es (own_each es plan.ordered)
+    pub plan_puts : (before after : ℕ → Option Row) (es : List (Edit Row ℕ)) → IsPlan key_of before after es → ((key : ℕ) (row : Row) → after key ≡ Some row → P row) → AllByRecursion (Puts P) es
+    plan_puts before after es plan each = all_weaker (Own es) (Puts P) such es (own_each es plan.ordered)
       where
-        such : (e : Edit Row ℕ) → Own es e → PutsSuch e
+        such : (e : Edit Row ℕ) → Own es e → Puts P e
         such (Put row) own =
             let key = key_of row in
             each key row (needed_row key (before key) (after key) row (subst (Needs key (before key) (after key)) own (plan.exact key)))

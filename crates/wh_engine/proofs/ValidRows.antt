@@ -1,5 +1,5 @@
 -- The rows of a member are valid.
-use Rattle.std.proofs.Common.{◌≡◌, ◌≢◌, inl, inr, ℕ, zero, suc, ◌+◌, ◌-◌, ◌<◌, ◌≤◌, ◌==◌, Bool, true, false, cond, ◌&&◌, List, [], ◌∷◌, ◌++◌, length, map, Option, Some, None, refl, sym, ap, subst, ◌∙◌, arith}
+use Rattle.std.proofs.Common.{◌≡◌, ◌≢◌, inl, inr, ℕ, zero, suc, ◌-◌, ◌<◌, ◌≤◌, ◌==◌, true, false, cond, List, [], ◌∷◌, length, Option, Some, None, refl, ap, ◌∙◌, arith}
 use Rattle.std.specs.Prelude.{filter, find, unwrap_or, bytes_eq, replicate, reverse}
 use Rattle.std.specs.List.{AllByRecursion, list_any}
 use Rattle.std.proofs.lemmas.Bool.{eqb-true}
@@ -15,18 +15,17 @@ use Rattle.wh_policy.specs.declared.record.DimensionRecord.{DimensionRecord}
 use Rattle.wh_history.specs.Keys.{place}
 use Rattle.wh_history.specs.Slots.{slot, picks, texts_eq}
 use Rattle.wh_history.specs.Dated.{dated, at, said, values_in, value_at, latest, original, prior, newest}
-use Rattle.wh_history.specs.Rows.{starts, later_starts, same_tracked, row, rows, spans, main_column, second_column}
+use Rattle.wh_history.specs.Rows.{starts, later_starts, same_tracked, row, rows, main_column, second_column}
 use Rattle.wh_history.specs.Profiles.{behind_unknown, current_profile, profile_now}
-use Rattle.wh_history.specs.Accepted.{Accepted, described, change_of, changes_of, member_of}
+use Rattle.wh_history.specs.Accepted.{Accepted, described, change_of, changes_of}
 use Rattle.wh_history.specs.declared.member.Change.{Change}
 use Rattle.wh_history.specs.declared.member.Member.{Member}
 use Rattle.wh_history.specs.declared.rows.DimRow.{DimRow}
-use Rattle.wh_history.proofs.Basics.{find_passes}
 use Rattle.wh_history.proofs.Joins.{InSpans, all_append, all_weaker, all_dated, all_in_force}
 use Rattle.wh_history.proofs.Members.{place_within}
 use Rattle.wh_history.proofs.Owners.{all_filtered}
 use Rattle.wh_history.proofs.Shown.{span_found}
-use Rattle.wh_history.proofs.Spans.{Rises, InOrder, InOrder-dated, Rises-starts}
+use Rattle.wh_history.proofs.Spans.{Rises, InOrder-dated, Rises-starts}
 use Rattle.wh_history.proofs.Stays.{IfThere, all_newest}
 use Rattle.wh_rows.specs.Types.{is_number, is_key, are_slots}
 use Rattle.wh_rows.specs.Rows.{is_natural, is_dimension}

@@ -1,5 +1,5 @@
 -- The rows that accepted commands define are valid.
-use Rattle.std.proofs.Common.{◌≡◌, inl, inr, ℕ, zero, suc, ◌+◌, ◌*◌, ◌-◌, ◌<◌, ◌≤◌, ◌==◌, Bool, true, false, cond, ◌&&◌, List, [], ◌∷◌, ◌++◌, length, map, Option, Some, None, refl, sym, ap, subst, ◌∙◌, arith, length-append}
+use Rattle.std.proofs.Common.{◌≡◌, ℕ, zero, suc, ◌≤◌, ◌==◌, true, false, cond, List, [], ◌∷◌, ◌++◌, length, map, Option, Some, None, refl, sym, ap, subst, ◌∙◌, arith}
 use Rattle.std.specs.Prelude.{option_map, flat_map, find, bytes_eq}
 use Rattle.std.specs.Option.{option_and_then}
 use Rattle.std.specs.List.{AllByRecursion}
@@ -11,30 +11,26 @@ use Rattle.wh_policy.specs.declared.attribute.AttributeType.{AttributeType}
 use Rattle.wh_policy.specs.declared.attribute.AttributeType.TheVariants.{RetainOriginal, Overwrite, NewRow, NewAttribute, MiniDimension, MiniDimensionOutrigger, NewRowAndOverwrite, DualKeys}
 use Rattle.wh_policy.specs.declared.record.DimensionRecord.{DimensionRecord}
 use Rattle.wh_history.specs.Keys.{at_place, place}
-use Rattle.wh_history.specs.Slots.{slot, picked, picks, columns_from, six, texts_eq}
-use Rattle.wh_history.specs.Accepted.{Accepted, Anchor, Content, Governs, Describes, Sells, same_anchor, opening_of, day_of, anchors_of_record, anchors_of_sale, anchors_by, described_by, sold_by, described, sold, mentions, anchors, members, types_in, durable_key, surrogate_key, member_of, profiles_of, records_by, placeholders_by}
+use Rattle.wh_history.specs.Slots.{slot, picked, picks, six, texts_eq}
+use Rattle.wh_history.specs.Accepted.{Accepted, Anchor, same_anchor, opening_of, day_of, anchors_of_record, anchors_of_sale, anchors_by, described_by, sold_by, described, sold, mentions, anchors, members, types_in, durable_key, surrogate_key, member_of, profiles_of}
 use Rattle.wh_history.specs.Tables.{Limits, numbered_row, dimension_row, member_rows, no_card_row, no_card_main, no_card_second, change_row_of, change_row_in}
 use Rattle.wh_history.specs.Tables as history
 use Rattle.wh_history.specs.declared.rows.DimRow.{DimRow}
 use Rattle.wh_history.proofs.Basics.{some_is}
-use Rattle.wh_history.proofs.Batches.{same_dimension}
-use Rattle.wh_history.proofs.Joins.{all_append, all_weaker}
+use Rattle.wh_history.proofs.Joins.{all_append}
 use Rattle.wh_history.proofs.Members.{place_within}
 use Rattle.wh_history.proofs.Owners.{all_distinct}
-use Rattle.wh_rows.specs.declared.rows.CommandRow.{CommandRow}
 use Rattle.wh_rows.specs.declared.rows.MemberRow.{MemberRow}
-use Rattle.wh_rows.specs.declared.rows.ChangeRow.{ChangeRow}
 use Rattle.wh_rows.specs.declared.rows.ProfileRow.{ProfileRow}
 use Rattle.wh_rows.specs.declared.key.MemberKey.{MemberKey}
-use Rattle.wh_rows.specs.declared.key.ChangeKey.{ChangeKey}
-use Rattle.wh_rows.specs.Types.{is_number, is_key, is_kind, are_slots}
+use Rattle.wh_rows.specs.Types.{is_number, is_key, are_slots}
 use Rattle.wh_rows.specs.Rows.{is_command, is_member, is_change, is_natural, is_dimension}
 use Rattle.wh_rows.specs.Rows as row
-use Rattle.wh_engine.specs.Defined.{command_at, member_at, change_at, profile_at}
+use Rattle.wh_engine.specs.Defined.{member_at, profile_at}
 use Rattle.wh_engine.specs.Sound.{IsGoodRecord, IsAccepted}
 use Rattle.wh_engine.proofs.GrownKeys.{all_at}
 use Rattle.wh_engine.proofs.GrownChanges.{all_apart}
-use Rattle.wh_engine.proofs.SmallNumbers.{is_small, at_within, commands_few, described_few, anchors_few, members_few, profiles_few}
+use Rattle.wh_engine.proofs.SmallNumbers.{is_small, at_within, commands_few, anchors_few, members_few, profiles_few}
 use Rattle.wh_engine.proofs.ValidSlots.{IsSlot, no_text, unknown_slot, no_card_slot, slot_in, columns_slots, columns_length, six_slots, six_columns, all_mapped}
 use Rattle.wh_engine.proofs.ValidRows.{IsGoodMember, slots_of_values, good_changes, shown_small, valid_row, valid_found, first_is_day, last_is_day}
 
@@ -177,7 +173,7 @@ module _ (limits : Limits) (commands : List Accepted) (ok : IsAccepted limits co
 
   -- ---- change
 
-  change_made : (dim : Dim) (rs : List DimensionRecord) → AllByRecursion IsGoodRecord rs → length rs ≤ 1000000 → (command n : ℕ) (w : history.ChangeRow) → command ≤ length commands → option_map (change_row_of commands dim) (at_place n rs) ≡ Some w
+  pub change_made : (dim : Dim) (rs : List DimensionRecord) → AllByRecursion IsGoodRecord rs → length rs ≤ 1000000 → (command n : ℕ) (w : history.ChangeRow) → command ≤ length commands → option_map (change_row_of commands dim) (at_place n rs) ≡ Some w
       → is_change (record { command = command; place = n; dim = w.dim; durable = w.durable; day = w.day; anchor = w.anchor; values = w.texts }) ≡ true
   change_made dim rs good few command n w within is =
       let made = made_of (change_row_of commands dim) (at_place n rs) w is in

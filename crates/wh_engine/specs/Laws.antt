@@ -10,6 +10,8 @@ use Rattle.wh_history.specs.Tables.{Limits}
 use Rattle.wh_rows.specs.Tables.{Tables}
 use Rattle.wh_engine.specs.Defined.{AreOf}
 use Rattle.wh_engine.specs.Planned.{Edits, with_batch_edits, AreEdits}
+use Rattle.wh_engine.specs.Sound.{IsAccepted}
+use Rattle.wh_engine.specs.Writable.{MayBeWritten}
 
 -- the rows of a dimension show no profile
 abbrev pub ShowsNoProfile : List Accepted → Dim → Type 0
@@ -25,3 +27,13 @@ BatchesAreWritten = (limits : Limits) (commands : List Accepted) (c : Accepted) 
     → AreOf limits commands tables
     → AreEdits dim commands (commands ++ c ∷ []) records edits
     → AreOf limits (commands ++ c ∷ []) (with_batch_edits dim edits tables)
+
+-- The edits of a batch that can be accepted after the commands so far may be written: each row is valid, and no other command has the
+-- id, no other member of the dimension the natural key.
+abbrev pub BatchesMayBeWritten : Type 0
+BatchesMayBeWritten = (limits : Limits) (commands : List Accepted) (c : Accepted) (dim : Dim) (records : List DimensionRecord) (tables : Tables) (edits : Edits)
+    → c.content ≡ Describes dim records
+    → IsAccepted limits (commands ++ c ∷ [])
+    → AreOf limits commands tables
+    → AreEdits dim commands (commands ++ c ∷ []) records edits
+    → MayBeWritten dim edits tables
