@@ -15,4 +15,5 @@ pub mod ValidRows
 pub mod ValidTables
 pub mod MayStand
 pub mod MayBatch
+pub mod MayWorked
 pub mod Worked

@@ -143,7 +143,7 @@ module _ (limits : Limits) (commands : List Accepted) (c : Accepted) (dim : Dim)
       subst (AllByRecursion (Valid row.profile)) (sym are.profiles)
       (all_made (Valid row.profile) (profile_at after) (profile_valid limits after ok) (behind (suc (length (profiles_of commands))) (suc (length (profiles_of after)))))
 
-  pub lists_may_be_put : MayBePutIn edits.command edits.members edits.changes edits.profiles t
+  lists_may_be_put : MayBePutIn edits.command edits.members edits.changes edits.profiles t
   lists_may_be_put = record {
     command = may_put_all row.command nat_cmp_total Commands.may_stand (IsCommandOf after) (commands_stand after ok.distinct) edits.command t.command fit_commands older_commands;
     members = may_put_all row.member member_cmp_total Members.may_stand (IsMemberOf after) (members_stand after) edits.members t.member fit_members older_members;
@@ -153,7 +153,7 @@ module _ (limits : Limits) (commands : List Accepted) (c : Accepted) (dim : Dim)
 
   -- ---- the rows of the dimension
 
-  pub valid_edits : AllByRecursion (Puts (λ (r : DimRow). is_dimension dim r ≡ true)) edits.rows
+  valid_edits : AllByRecursion (Puts (λ (r : DimRow). is_dimension dim r ≡ true)) edits.rows
   valid_edits = plan_puts (λ (r : DimRow). r.surrogate) (λ (r : DimRow). is_dimension dim r ≡ true) (dimension_row commands dim) (dimension_row after dim) edits.rows are.rows (dimension_valid limits after ok dim)
 
 pub a_batch_may_be_written : BatchesMayBeWritten

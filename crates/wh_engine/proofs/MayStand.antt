@@ -44,7 +44,7 @@ module _ {X : Type 0} (same : X → X → Bool) (decides : (x y : X) → Decides
   one_get (suc n) zero (y ∷ ys) x once left right = absurd (first_only n y ys x once.0 right left)
   one_get (suc n) (suc m) (y ∷ ys) x once left right = ap suc (one_get n m ys x once.1 left right)
 
-  pub one_at : (n m : ℕ) (xs : List X) (x : X) → Once xs → at_place n xs ≡ Some x → at_place m xs ≡ Some x → n ≡ m
+  one_at : (n m : ℕ) (xs : List X) (x : X) → Once xs → at_place n xs ≡ Some x → at_place m xs ≡ Some x → n ≡ m
   one_at zero m xs x once left right = absurd (cc)
   one_at (suc n) zero xs x once left right = absurd (cc)
   one_at (suc n) (suc m) xs x once left right = ap suc (one_get n m xs x once left right)
@@ -53,7 +53,7 @@ module _ {X : Type 0} (same : X → X → Bool) (decides : (x y : X) → Decides
   none_same x [] all = refl
   none_same x (y ∷ ys) all = rw (apart same decides x y all.0, none_same x ys all.1) refl
 
-  pub distinct_once : (xs : List X) → IsDistinct same xs → Once xs
+  distinct_once : (xs : List X) → IsDistinct same xs → Once xs
   unfolding IsDistinct
   distinct_once [] distinct = tt
   distinct_once (x ∷ xs) distinct = (none_same x xs distinct.0, distinct_once xs distinct.1)

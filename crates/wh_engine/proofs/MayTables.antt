@@ -31,7 +31,7 @@ all_made P made each (n ∷ ns) =
 
 -- ---- what holds of a map's rows
 
-pub all_pairs : {X : Type 0} (P Q : X → Type 0) (xs : List X) → AllByRecursion P xs → AllByRecursion Q xs → AllByRecursion (λ x. P x × Q x) xs
+all_pairs : {X : Type 0} (P Q : X → Type 0) (xs : List X) → AllByRecursion P xs → AllByRecursion Q xs → AllByRecursion (λ x. P x × Q x) xs
 all_pairs P Q [] ps qs = tt
 all_pairs P Q (x ∷ xs) ps qs = ((ps.0, qs.0), all_pairs P Q xs ps.1 qs.1)
 

@@ -37,7 +37,7 @@ filter_few p (x ∷ xs) =
     let rest = filter_few p xs in
     elim (p x) as (λ b. length (cond b (x ∷ filter p xs) (filter p xs)) ≤ suc (length xs)) [ true ↦ omega arith | false ↦ omega arith ]
 
-pub distinct_few : {X : Type 0} (same : X → X → Bool) (xs : List X) → length (distinct same xs) ≤ length xs
+distinct_few : {X : Type 0} (same : X → X → Bool) (xs : List X) → length (distinct same xs) ≤ length xs
 distinct_few same [] = omega arith
 distinct_few same (x ∷ xs) =
     let rest = distinct_few same xs in
@@ -63,7 +63,7 @@ by_sales dim (s ∷ sales) =
     omega arith
 
 -- two by a record, and one by a sale
-pub mentions_few : (dim : Dim) (commands : List Accepted) → length (mentions dim commands) ≤ 2 * length (described dim commands) + length (sold commands)
+mentions_few : (dim : Dim) (commands : List Accepted) → length (mentions dim commands) ≤ 2 * length (described dim commands) + length (sold commands)
 mentions_few dim [] = omega arith
 mentions_few dim (c ∷ commands) =
     let rest = mentions_few dim commands in
@@ -87,7 +87,7 @@ described_kept Customer commands = omega arith
 below_most : (most count : ℕ) → is_limit most count ≡ true → count ≤ most
 below_most most count is = leb-true count most (both_true (nat_le 1 count) (nat_le count most) is).1
 
-pub record Few (l : Limits) : Type 0 where
+record Few (l : Limits) : Type 0 where
   pub commands : l.commands ≤ 100000
   pub changes : l.changes ≤ 1000000
 

@@ -79,7 +79,7 @@ module _ (changes : List Change) (good : AllByRecursion IsGoodChange changes) wh
   prior_slot : (place : ℕ) → IsSlot (prior place changes)
   prior_slot place = first_other (latest place changes) (reverse (values_in place (dated changes))) (all_reversed IsSlot (values_in place (dated changes)) (values_slots place (dated changes) in_order))
 
-  pub second_slot : (place : ℕ) (kind : AttributeType) → IsSlot (second_column changes place kind)
+  second_slot : (place : ℕ) (kind : AttributeType) → IsSlot (second_column changes place kind)
   second_slot place RetainOriginal = no_text
   second_slot place Overwrite = no_text
   second_slot place NewRow = no_text
@@ -93,7 +93,7 @@ original_slot : (place : ℕ) (changes : List Change) → AllByRecursion IsGoodC
 original_slot place [] all = unknown_slot
 original_slot place (c ∷ cs) all = first_other none_text (values_in place (c ∷ cs)) (values_slots place (c ∷ cs) all)
 
-pub main_slot : (changes : List Change) → AllByRecursion IsGoodChange changes → (day place : ℕ) (kind : AttributeType) → IsSlot (main_column changes day place kind)
+main_slot : (changes : List Change) → AllByRecursion IsGoodChange changes → (day place : ℕ) (kind : AttributeType) → IsSlot (main_column changes day place kind)
 main_slot changes good day place RetainOriginal = original_slot place changes good
 main_slot changes good day place Overwrite = latest_slot changes good place
 main_slot changes good day place NewRow = value_slot changes good day place
@@ -162,7 +162,7 @@ shown_small kinds combinations m =
 
 -- ---- a row
 
-pub named_row : (dim : Dim) (surrogate : ℕ) (text : List ℕ) → is_key 32 text ≡ true → is_natural dim surrogate text ≡ true
+named_row : (dim : Dim) (surrogate : ℕ) (text : List ℕ) → is_key 32 text ≡ true → is_natural dim surrogate text ≡ true
 named_row Product surrogate text is = is
 named_row Store surrogate text is = is
 named_row Customer surrogate text is = rw is refl

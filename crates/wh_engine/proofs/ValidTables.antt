@@ -39,7 +39,7 @@ pub made_of : {X Y : Type 0} (f : X → Y) (o : Option X) (y : Y) → option_map
 made_of f None y is = absurd (cc)
 made_of f (Some x) y is = (x, refl, sym (some_is (f x) y is))
 
-pub then_of : {X Y : Type 0} (f : X → Option Y) (o : Option X) (y : Y) → option_and_then f o ≡ Some y → (x : X) × (o ≡ Some x) × (f x ≡ Some y)
+then_of : {X Y : Type 0} (f : X → Option Y) (o : Option X) (y : Y) → option_and_then f o ≡ Some y → (x : X) × (o ≡ Some x) × (f x ≡ Some y)
 then_of f None y is = absurd (cc)
 then_of f (Some x) y is = (x, refl, is)
 
@@ -93,7 +93,7 @@ told_slot : (text : List ℕ) → IsSlot text → (place : ℕ) (kind : Attribut
 told_slot text is place kind = elim (is_profile kind) as (λ b. IsSlot (cond b text [])) [ true ↦ is | false ↦ no_text ]
 
 -- a combination that six columns can hold
-pub record IsGoodCombination (texts : List (List ℕ)) : Type 0 where
+record IsGoodCombination (texts : List (List ℕ)) : Type 0 where
   pub few : length texts ≤ 6
   pub slots : AllByRecursion IsSlot texts
 
@@ -107,11 +107,11 @@ good_picks kinds few r good = record {
 }
 
 module _ (limits : Limits) (commands : List Accepted) (ok : IsAccepted limits commands) where
-  pub named_anchor : (dim : Dim) (key : ℕ) (a : Anchor) → at_place key (anchors dim commands) ≡ Some a → is_key 32 a.natural ≡ true
+  named_anchor : (dim : Dim) (key : ℕ) (a : Anchor) → at_place key (anchors dim commands) ≡ Some a → is_key 32 a.natural ≡ true
   named_anchor dim key a is =
       all_at IsNamed key (anchors dim commands) a (all_distinct IsNamed same_anchor (mentions dim commands) (named_mentions dim commands (ok.records dim) ok.unsold)) is
 
-  pub named_member : (dim : Dim) (durable : ℕ) (natural : List ℕ) → at_place durable (members dim commands) ≡ Some natural → is_key 32 natural ≡ true
+  named_member : (dim : Dim) (durable : ℕ) (natural : List ℕ) → at_place durable (members dim commands) ≡ Some natural → is_key 32 natural ≡ true
   named_member dim durable natural is =
       let P = λ (text : List ℕ). is_key 32 text ≡ true in
       let names = map (λ (a : Anchor). a.natural) (mentions dim commands) in
