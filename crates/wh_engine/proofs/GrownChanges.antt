@@ -29,7 +29,7 @@ pub change_keyed : (commands : List Accepted) (k : ChangeKey) (v : ChangeRow) �
 change_keyed commands k v is = keyed_map row.change.key k (keyed_row k) (λ _. refl) (change_row commands k.command k.place) v is
 
 -- what holds of each part's elements
-all_apart : {X : Type 0} (P : X → Type 0) (xs ys : List X) → AllByRecursion P (xs ++ ys) → AllByRecursion P xs × AllByRecursion P ys
+pub all_apart : {X : Type 0} (P : X → Type 0) (xs ys : List X) → AllByRecursion P (xs ++ ys) → AllByRecursion P xs × AllByRecursion P ys
 all_apart P [] ys all = (tt, all)
 all_apart P (x ∷ xs) ys all = let rest = all_apart P xs ys all.1 in ((all.0, rest.0), rest.1)
 
@@ -87,7 +87,7 @@ module _ (commands : List Accepted) (c : Accepted) where
   longer = length-append commands (c ∷ []) ∙ omega arith
 
   module _ (dim : Dim) (rs : List DimensionRecord) (is : c.content ≡ Describes dim rs) where
-    new_row : (place : ℕ) → change_row after (length after) place ≡ option_map (change_row_of after dim) (at_place place rs)
+    pub new_row : (place : ℕ) → change_row after (length after) place ≡ option_map (change_row_of after dim) (at_place place rs)
     new_row place = ap (option_and_then (row_in after place)) (at_last commands c) ∙ ap (change_row_in after place) is
 
     no_row : (place : ℕ) → at_place place rs ≡ None → change_at after (key_of place) ≡ None

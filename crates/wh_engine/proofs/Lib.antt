@@ -8,6 +8,14 @@ pub mod GrownMembers
 pub mod GrownProfiles
 pub mod GrownChanges
 pub mod WrittenBatch
+pub mod SmallNumbers
+pub mod MayTables
+pub mod ValidSlots
+pub mod ValidRows
+pub mod ValidTables
+pub mod MayStand
+pub mod MayBatch
+pub mod MayWorked
 pub mod Worked
 pub mod GrownUntouched
 pub mod GrownPlain

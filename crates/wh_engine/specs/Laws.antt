@@ -19,6 +19,7 @@ use Rattle.wh_engine.specs.Planned.{Edits, with_batch_edits, AreEdits}
 use Rattle.wh_engine.specs.Sound.{IsAccepted}
 use Rattle.wh_engine.specs.Admission.{accepted_after}
 use Rattle.wh_engine.specs.declared.command.Command.{Command}
+use Rattle.wh_engine.specs.Writable.{MayBeWritten}
 
 -- the rows of a dimension show no profile
 abbrev pub ShowsNoProfile : List Accepted → Dim → Type 0
@@ -60,3 +61,13 @@ making policy bytes = record { id = codes "init"; kind = codes "init"; bytes = b
 -- A making under a sound policy, as every policy that is read is, begins such a list.
 abbrev pub AcceptedListsBegin : Type 0
 AcceptedListsBegin = (limits : Limits) (policy : Policy) (bytes : List ℕ) → are_limits limits ≡ true → IsSound policy → IsAccepted limits (making policy bytes ∷ [])
+
+-- The edits of a batch that can be accepted after the commands so far may be written: each row is valid, and no other command has the
+-- id, no other member of the dimension the natural key.
+abbrev pub BatchesMayBeWritten : Type 0
+BatchesMayBeWritten = (limits : Limits) (commands : List Accepted) (c : Accepted) (dim : Dim) (records : List DimensionRecord) (tables : Tables) (edits : Edits)
+    → c.content ≡ Describes dim records
+    → IsAccepted limits (commands ++ c ∷ [])
+    → AreOf limits commands tables
+    → AreEdits dim commands (commands ++ c ∷ []) records edits
+    → MayBeWritten dim edits tables

@@ -5,7 +5,7 @@ ghost use Rattle.wh_history.specs.Accepted.{Accepted};
 ghost use Rattle.wh_history.specs.Tables.{Limits};
 ghost use Rattle.wh_engine.specs.Admission.{accepted_after};
 ghost use Rattle.wh_engine.specs.declared.command.Command.{Command};
-ghost use Rattle.wh_engine.specs.Laws.{AcceptedListsBegin, AcceptedListsStaySound, BatchesAreWritten, SoundPoliciesShowNone, UntouchedMembersKeep};
+ghost use Rattle.wh_engine.specs.Laws.{AcceptedListsBegin, AcceptedListsStaySound, BatchesAreWritten, BatchesMayBeWritten, SoundPoliciesShowNone, UntouchedMembersKeep};
 
 /// From the tables of the commands so far the edits of a batch of products, stores or customers lead to those of
 /// the commands with it, in all ten tables, where nothing was sold yet.
@@ -36,4 +36,9 @@ pub fn accepted_lists_begin()
 /// Such a list stays one after each batch of products, stores or customers, accepted or refused.
 pub fn accepted_lists_stay_sound()
     ensures { AcceptedListsStaySound }
+
+/// The edits of a batch that can be accepted may be written: each row is valid, no other command has its id, and no
+/// other member of the dimension has the natural key of a new one.
+pub fn a_batch_may_be_written()
+    ensures { BatchesMayBeWritten }
 {}
