@@ -8,4 +8,8 @@ pub mod GrownMembers
 pub mod GrownProfiles
 pub mod GrownChanges
 pub mod WrittenBatch
+pub mod MadeCalendar
+pub mod MadeRows
+pub mod MadeTables
+pub mod MadeFirst
 pub mod Worked

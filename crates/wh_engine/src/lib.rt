@@ -3,7 +3,9 @@
 
 mod edits;
 pub mod laws;
+mod making;
 mod write;
 
 pub use edits::Edits;
+pub use making::write_making;
 pub use write::write_batch;
