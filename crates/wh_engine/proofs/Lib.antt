@@ -16,6 +16,10 @@ pub mod ValidTables
 pub mod MayStand
 pub mod MayBatch
 pub mod MayWorked
+pub mod MadeCalendar
+pub mod MadeRows
+pub mod MadeTables
+pub mod MadeFirst
 pub mod Worked
 pub mod GrownUntouched
 pub mod GrownPlain

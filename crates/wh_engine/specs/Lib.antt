@@ -5,3 +5,4 @@ pub mod Writable
 pub mod Laws
 pub mod Sound
 pub mod Admission
+pub mod Made

@@ -36,6 +36,7 @@ pub fn accepted_lists_begin()
 /// Such a list stays one after each batch of products, stores or customers, accepted or refused.
 pub fn accepted_lists_stay_sound()
     ensures { AcceptedListsStaySound }
+{}
 
 /// The edits of a batch that can be accepted may be written: each row is valid, no other command has its id, and no
 /// other member of the dimension has the natural key of a new one.

@@ -5,8 +5,10 @@ mod command;
 mod edits;
 pub mod kept;
 pub mod laws;
+mod making;
 mod write;
 
 pub use command::{Command, Limit, Receipt, Refused, Reply};
 pub use edits::Edits;
+pub use making::write_making;
 pub use write::write_batch;

@@ -1,0 +1,139 @@
+-- The tables of a warehouse that was just made are those of its one command.
+use Rattle.std.proofs.Common.{◌≡◌, ◌≢◌, inl, inr, ℕ, zero, suc, Bool, true, false, cond, List, [], ◌∷◌, Option, Some, None, refl, sym, ◌∙◌, ap, subst, arith, pos, OnOk, Result, Ok, Err}
+use Rattle.std.specs.Prelude.{codes, bytes_eq}
+use Rattle.std.specs.Cmp.{unsigned_tied}
+use Rattle.std.specs.Cmp.Lexicographic.{slice_cmp, nat_list_cmp_total}
+use Rattle.std.specs.FinMap.{FinMap, empty, insert, get, get-empty, get-insert}
+use Rattle.std.specs.Ordering.{nat_cmp, eq_by_cmp}
+use Rattle.std.proofs.lemmas.Bool.{cases_Bool, ne_eqb, eq-eqb}
+use Rattle.std.proofs.lemmas.Cmp.{nat_cmp_total}
+use Rattle.std.proofs.lemmas.Map.Text.{is_eq-slice_cmp}
+use Rattle.std.proofs.lemmas.Slice.Eq.{bytes_eq-Decides}
+use Rattle.wh_day.specs.Value.{no_card_text, unknown_text}
+use Rattle.wh_policy.specs.Policy.{types_of}
+use Rattle.wh_policy.specs.declared.attribute.Dim.{Dim}
+use Rattle.wh_policy.specs.declared.attribute.Dim.TheVariants.{Product, Store, Customer}
+use Rattle.wh_policy.specs.declared.policy.Policy.{Policy}
+use Rattle.wh_history.specs.Keys.{at_place}
+use Rattle.wh_history.specs.Accepted.{Accepted}
+use Rattle.wh_history.specs.Tables.{Limits, no_card_row, numbered_row, dimension_row, change_row}
+use Rattle.wh_history.specs.declared.rows.DimRow.{DimRow}
+use Rattle.wh_rows.specs.Rows as row
+use Rattle.wh_rows.specs.declared.key.MemberKey.{MemberKey}
+use Rattle.wh_rows.specs.declared.key.ChangeKey.{ChangeKey}
+use Rattle.wh_rows.specs.declared.rows.MetaRow.{MetaRow}
+use Rattle.wh_rows.specs.declared.rows.CommandRow.{CommandRow}
+use Rattle.wh_rows.specs.declared.rows.ProfileRow.{ProfileRow}
+use Rattle.wh_rows.specs.declared.rows.MemberRow.{MemberRow}
+use Rattle.wh_rows.specs.declared.rows.ChangeRow.{ChangeRow}
+use Rattle.wh_store.specs.Meta.{made_with}
+use Rattle.wh_engine.specs.Defined.{meta_at, command_at, member_at, change_at, profile_at, AreOf}
+use Rattle.wh_engine.specs.Made.{making_of, making_row, profile_of, first_profiles, tables_made}
+use Rattle.wh_engine.specs.Planned.{with_rows}
+use Rattle.wh_engine.proofs.MadeCalendar.{calendar_made}
+
+-- ---- meta
+
+-- a row under a name among four
+abbrev named : List ℕ → ℕ → MetaRow
+named name value = record { name = name; value = pos value }
+
+abbrev Text : Type 0
+Text = List ℕ
+
+same_text : (a b : Text) → eq_by_cmp (slice_cmp nat_cmp) a b ≡ bytes_eq a b
+same_text a b = is_eq-slice_cmp a b
+
+put_text : (m : FinMap (slice_cmp nat_cmp) MetaRow) (name q : Text) (value : ℕ) → get (insert m name (named name value)) q ≡ cond (bytes_eq q name) (Some (named name value)) (get m q)
+put_text m name q value = get-insert nat_list_cmp_total m name (named name value) q ∙ ap (λ b. cond b (Some (named name value)) (get m q)) (same_text q name)
+
+meta_found : (limits : Limits) (q : Text) → get (made_with limits).meta q
+    ≡ cond (bytes_eq q (codes "format")) (Some (named (codes "format") 1)) (cond (bytes_eq q (codes "facts_max")) (Some (named (codes "facts_max") limits.facts))
+    (cond (bytes_eq q (codes "commands_max")) (Some (named (codes "commands_max") limits.commands)) (cond (bytes_eq q (codes "changes_max")) (Some (named (codes "changes_max") limits.changes)) None)))
+meta_found limits q =
+    rw (put_text _ (codes "format") q 1, put_text _ (codes "facts_max") q limits.facts, put_text _ (codes "commands_max") q limits.commands, put_text _ (codes "changes_max") q limits.changes, get-empty (slice_cmp nat_cmp) q) refl
+
+among : (limits : Limits) (q name : Text) → bytes_eq q name ≡ true → get (made_with limits).meta name ≡ meta_at limits name → get (made_with limits).meta q ≡ meta_at limits q
+among limits q name is known = subst (λ (n : Text). get (made_with limits).meta n ≡ meta_at limits n) (sym ((bytes_eq-Decides q name).0 is)) known
+
+pub meta_made : (limits : Limits) (q : Text) → get (made_with limits).meta q ≡ meta_at limits q
+meta_made limits q =
+    elim (cases_Bool (bytes_eq q (codes "changes_max"))) [
+      | inl is ↦ among limits q (codes "changes_max") is (meta_found limits (codes "changes_max"))
+      | inr changes ↦ elim (cases_Bool (bytes_eq q (codes "commands_max"))) [
+        | inl is ↦ among limits q (codes "commands_max") is (meta_found limits (codes "commands_max"))
+        | inr commands ↦ elim (cases_Bool (bytes_eq q (codes "facts_max"))) [
+          | inl is ↦ among limits q (codes "facts_max") is (meta_found limits (codes "facts_max"))
+          | inr facts ↦ elim (cases_Bool (bytes_eq q (codes "format"))) [
+            | inl is ↦ among limits q (codes "format") is (meta_found limits (codes "format"))
+            | inr format ↦ meta_found limits q ∙ rw (changes, commands, facts, format) refl
+          ]
+        ]
+      ]
+    ]
+
+-- ---- tables of numbers
+
+put_number : {V : Type 0} (m : FinMap nat_cmp V) (k : ℕ) (v : V) (q : ℕ) → q ≡ k → get (insert m k v) q ≡ Some v
+put_number m k v q is = get-insert nat_cmp_total m k v q ∙ ap (λ b. cond b (Some v) (get m q)) (unsigned_tied q k ∙ eq-eqb q k is)
+
+put_other : {V : Type 0} (m : FinMap nat_cmp V) (k : ℕ) (v : V) (q : ℕ) → q ≢ k → get (insert m k v) q ≡ get m q
+put_other m k v q other = get-insert nat_cmp_total m k v q ∙ ap (λ b. cond b (Some v) (get m q)) (unsigned_tied q k ∙ ne_eqb q k other)
+
+-- no place of a list is past its end
+none_at : {X : Type 0} (n : ℕ) → at_place {X = X} n [] ≡ None
+none_at zero = refl
+none_at (suc n) = refl
+
+module _ (limits : Limits) (policy : Policy) (bytes : List ℕ) where
+  abbrev commands : List Accepted
+  commands = making_of policy bytes ∷ []
+
+  command_made : (number : ℕ) → get (tables_made limits policy bytes).command number ≡ command_at commands number
+  command_made zero = put_other empty 1 (making_row bytes) 0 (λ is. omega arith) ∙ get-empty nat_cmp 0
+  command_made (suc zero) = put_number empty 1 (making_row bytes) 1 refl
+  command_made (suc (suc n)) = put_other empty 1 (making_row bytes) (suc (suc n)) (λ is. omega arith) ∙ get-empty nat_cmp (suc (suc n))
+
+  abbrev no_card : ProfileRow
+  no_card = profile_of 0 no_card_text (types_of policy Customer)
+
+  abbrev unknown : ProfileRow
+  unknown = profile_of 1 unknown_text (types_of policy Customer)
+
+  profile_made : (number : ℕ) → get (tables_made limits policy bytes).profile number ≡ profile_at commands number
+  profile_made zero = put_other (insert empty 0 no_card) 1 unknown 0 (λ is. omega arith) ∙ put_number empty 0 no_card 0 refl
+  profile_made (suc zero) = put_number (insert empty 0 no_card) 1 unknown 1 refl
+  profile_made (suc (suc n)) = put_other (insert empty 0 no_card) 1 unknown (suc (suc n)) (λ is. omega arith) ∙ put_other empty 0 no_card (suc (suc n)) (λ is. omega arith) ∙ get-empty nat_cmp (suc (suc n))
+
+  no_numbered : (dim : Dim) (key : ℕ) → numbered_row commands dim key ≡ None
+  no_numbered dim zero = refl
+  no_numbered dim (suc n) = refl
+
+  customer_made : (key : ℕ) → get (tables_made limits policy bytes).customer key ≡ dimension_row commands Customer key
+  customer_made zero = put_number empty 0 (no_card_row (types_of policy Customer)) 0 refl
+  customer_made (suc n) = put_other empty 0 (no_card_row (types_of policy Customer)) (suc n) (λ is. omega arith) ∙ get-empty nat_cmp (suc n)
+
+  no_member : (key : MemberKey) → member_at commands key ≡ None
+  no_member key = rw (none_at {X = Text} key.durable) refl
+
+  no_change_row : (number place : ℕ) → change_row commands number place ≡ None
+  no_change_row zero place = refl
+  no_change_row (suc zero) place = refl
+  no_change_row (suc (suc n)) place = refl
+
+  no_change : (key : ChangeKey) → change_at commands key ≡ None
+  no_change key = rw (no_change_row key.command key.place) refl
+
+  pub tables_are : AreOf limits commands (tables_made limits policy bytes)
+  tables_are = record {
+    meta = meta_made limits;
+    command = command_made;
+    member = λ key. get-empty row.member.order key ∙ sym (no_member key);
+    change = λ key. get-empty row.change.order key ∙ sym (no_change key);
+    product = λ key. get-empty nat_cmp key ∙ sym (no_numbered Product key);
+    store = λ key. get-empty nat_cmp key ∙ sym (no_numbered Store key);
+    customer = customer_made;
+    profile = profile_made;
+    calendar = calendar_made policy;
+    fact = λ key. get-empty row.fact.order key;
+  }

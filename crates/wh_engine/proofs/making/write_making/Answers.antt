@@ -1,0 +1,27 @@
+use Rattle.std.proofs.Common.{◌≡◌, ◌∙◌, None, ap}
+use Rattle.std.proofs.lemmas.Result.{on_ok_weaker}
+use Rattle.wh_policy.specs.Policy.{types_of}
+use Rattle.wh_policy.specs.declared.attribute.Dim.TheVariants.{Customer}
+use Rattle.wh_history.specs.Tables.{no_card_row}
+use Rattle.wh_store.specs.Meta.{made_with}
+use Rattle.wh_engine.specs.Made.{first_profiles}
+use Rattle.wh_engine.proofs.MadeFirst.{AreFirst, are_first}
+use Rattle.wh_engine.proofs.making.write_making.Given.{Over}
+use Rattle.wh_engine.proofs.making.write_making.Goals as goal
+
+first : (g : Over) (c : goal.After-drop-types-2 g) → AreFirst c.args.limits c.args.policy.now c.args.bytes.now c.in_ok-command.command c.in_ok-customer.customer c.deref-3.result.now c.deref-4.result.now
+first g c =
+    are_first c.args.limits c.args.policy.now c.args.bytes.now c.in_ok-command.command c.in_ok-customer.customer c.deref-3.result.now c.deref-4.result.now c.in_ok-command.ensures
+    (c.in_ok-customer.ensures ∙ ap no_card_row (c.deref.ensures.value ∙ c.in_ok-types.ensures))
+    (c.deref-3.ensures.value ∙ c.in_ok-profiles.ensures ∙ ap first_profiles (c.deref-2.ensures.value ∙ c.in_ok-types.ensures))
+    (c.deref-4.ensures.value ∙ c.in_ok-calendar.ensures)
+
+pub returns-clause-made : goal.returns-clause-made
+returns-clause-made g c clean at good =
+    let start = c.in_ok-make.ensures.made (c.put_first.ensures.clean clean) at in
+    on_ok_weaker c.put_first.result (λ writing. (_, (first g c).are, writing)) (c.put_first.ensures.put clean None (made_with c.args.limits) start ((first g c).may good))
+
+pub returns-clause-left : goal.returns-clause-left
+returns-clause-left g c clean at good =
+    let start = c.in_ok-make.ensures.made (c.put_first.ensures.clean clean) at in
+    c.put_first.ensures.left clean None (made_with c.args.limits) start ((first g c).may good)

@@ -1,0 +1,147 @@
+//! What the making of a warehouse writes, inside a transaction.
+
+ghost use Rattle.std.specs.Prelude.{◌≡◌, Option, None, Some, [], ◌∷◌, IfOk, OnOk};
+ghost use Rattle.sqlite.specs.Held.{state};
+ghost use Rattle.sqlite.specs.State.{HasCleanDisk};
+ghost use Rattle.wh_history.specs.Slots.{six};
+ghost use Rattle.wh_rows.specs.AtRest.{IsWriting, Leaves};
+ghost use Rattle.wh_rows.specs.Tables.{Tables as Rows};
+ghost use Rattle.wh_engine.specs.Defined.{AreOf};
+ghost use Rattle.wh_engine.specs.Made.{making_of, IsGoodPolicy, making_row, in_profile, profile_of, first_profiles, calendar_rows, with_first, MayBeFirst};
+
+use sqlite::Alter;
+use sqlite::types::Bytes;
+use std::alloc::{AllocError, Global};
+use wh_day::{DateRow, Day, Value, Values, date_row};
+use wh_history::{DimRow, no_card_row};
+use wh_policy::{AttributeType, Dim, Policy};
+use wh_rows::{Cause, CommandRow, Limits, ProfileRow, tables};
+use wh_store::Writing;
+
+/// The row of the making among the commands.
+fn making_row(alloc: Global, bytes: &[u8]) -> Result<CommandRow, AllocError>
+    ensures { IfOk result (λ row. row ≡ making_row bytes.now) }
+{
+    Ok(CommandRow {
+        number: 1,
+        id: Value::new(alloc, "init")?,
+        kind: Value::new(alloc, "init")?,
+        bytes: Bytes::from_slice(alloc, bytes)?,
+        records: 0,
+        placeholders: 0,
+    })
+}
+
+/// A text in each slot of the profile.
+fn in_profile(alloc: Global, types: &[AttributeType], text: &Value) -> Result<Values, AllocError>
+    ensures { IfOk result (λ texts. texts ≡ in_profile text.now types.now) }
+{
+    let mut texts = Values::new(alloc);
+    for kind in types {
+        if kind.is_profile() {
+            texts.push(text.copy()?)?;
+        } else {
+            texts.push(Value::empty(alloc))?;
+        }
+    }
+    Ok(texts)
+}
+
+/// Fills texts up to the six columns of a table.
+#[tactic(auto, using(wh_history::proofs::Columns::six_more))]
+fn fill(alloc: Global, texts: &mut Values) -> Result<(), AllocError>
+    ensures { OnOk result (texts.new ≡ six texts.old) }
+{
+    'columns: while texts.as_slice().len() < 6 {
+        texts.push(Value::empty(alloc))?;
+    }
+    Ok(())
+}
+
+/// The profile with this number that shows one text.
+fn profile_of(
+    alloc: Global,
+    types: &[AttributeType],
+    number: u64,
+    text: &Value,
+) -> Result<ProfileRow, AllocError>
+    ensures { IfOk result (λ row. row ≡ profile_of number text.now types.now) }
+{
+    let mut values = in_profile(alloc, types, text)?;
+    fill(alloc, &mut values)?;
+    Ok(ProfileRow { number, values })
+}
+
+/// The profiles that no record says: those of sales without a card, and of customers that no record describes.
+fn first_profiles(alloc: Global, types: &[AttributeType]) -> Result<Vec<ProfileRow>, AllocError>
+    ensures { IfOk result (λ rows. rows.items ≡ first_profiles types.now) }
+{
+    let no_card = Value::no_card(alloc)?;
+    let unknown = Value::unknown(alloc)?;
+    let mut rows = Vec::new(alloc);
+    rows.push(profile_of(alloc, types, 0, &no_card)?)?;
+    rows.push(profile_of(alloc, types, 1, &unknown)?)?;
+    Ok(rows)
+}
+
+/// The calendar's rows: one for each day of the policy's years, in their order.
+fn calendar(alloc: Global, policy: &Policy) -> Result<Vec<DateRow>, AllocError>
+    ensures { IfOk result (λ rows. rows.items ≡ calendar_rows policy.now) }
+{
+    let first = policy.years.first as u32 * 10_000 + 101;
+    let end = policy.years.last as u32 * 10_000 + 1_232;
+    let mut rows = Vec::new(alloc);
+    for number in first..end {
+        if let Some(day) = Day::from_key(number as i64) {
+            rows.push(date_row(alloc, day, &policy.holidays)?)?;
+        }
+    }
+    Ok(rows)
+}
+
+/// Puts the rows of a making into the tables.
+fn put_first<S: Alter>(
+    writing: &mut Writing<'_, S>,
+    alloc: Global,
+    command: &CommandRow,
+    customer: &DimRow,
+    profiles: &[ProfileRow],
+    calendar: &[DateRow],
+) -> Result<(), Cause>
+    ensures same_reference { writing.new.tables.ghost_name ≡ writing.old.tables.ghost_name }
+    ensures clean { HasCleanDisk (state S.Store writing.new.tables.now.conn) → HasCleanDisk (state S.Store writing.old.tables.now.conn) }
+    ensures put { HasCleanDisk (state S.Store writing.new.tables.now.conn) → (before : Option Rows) (made : Rows) → IsWriting before (Some made) (state S.Store writing.old.tables.now.conn)
+        → MayBeFirst command.now customer.now profiles.now calendar.now made → OnOk result (IsWriting before (Some (with_first command.now customer.now profiles.now calendar.now made)) (state S.Store writing.new.tables.now.conn)) }
+    ensures left { HasCleanDisk (state S.Store writing.new.tables.now.conn) → (before : Option Rows) (made : Rows) → IsWriting before (Some made) (state S.Store writing.old.tables.now.conn)
+        → MayBeFirst command.now customer.now profiles.now calendar.now made → Leaves before (state S.Store writing.new.tables.now.conn) }
+{
+    writing.put::<tables::Command>(alloc, command)?;
+    writing.put::<tables::Customer>(alloc, customer)?;
+    writing.put_all::<tables::Profile>(alloc, profiles)?;
+    writing.put_all::<tables::Calendar>(alloc, calendar)
+}
+
+/// Makes the tables of a warehouse with these limits, whose first command is a making under the policy that these bytes
+/// write.
+pub fn write_making<S: Alter>(
+    writing: &mut Writing<'_, S>,
+    alloc: Global,
+    limits: Limits,
+    policy: &Policy,
+    bytes: &[u8],
+) -> Result<(), Cause>
+    ensures same_reference { writing.new.tables.ghost_name ≡ writing.old.tables.ghost_name }
+    ensures clean { HasCleanDisk (state S.Store writing.new.tables.now.conn) → HasCleanDisk (state S.Store writing.old.tables.now.conn) }
+    ensures made { HasCleanDisk (state S.Store writing.new.tables.now.conn) → IsWriting None None (state S.Store writing.old.tables.now.conn) → IsGoodPolicy policy.now
+        → OnOk result ((t : Rows) × AreOf limits (making_of policy.now bytes.now ∷ []) t × IsWriting None (Some t) (state S.Store writing.new.tables.now.conn)) }
+    ensures left { HasCleanDisk (state S.Store writing.new.tables.now.conn) → IsWriting None None (state S.Store writing.old.tables.now.conn) → IsGoodPolicy policy.now
+        → Leaves None (state S.Store writing.new.tables.now.conn) }
+{
+    let types = policy.types(alloc, Dim::Customer)?;
+    let command = making_row(alloc, bytes)?;
+    let customer = no_card_row(alloc, &types)?;
+    let profiles = first_profiles(alloc, &types)?;
+    let calendar = calendar(alloc, policy)?;
+    writing.make(alloc, limits)?;
+    put_first(writing, alloc, &command, &customer, &profiles, &calendar)
+}
