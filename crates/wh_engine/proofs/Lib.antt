@@ -7,3 +7,4 @@ pub mod FoundChanges
 pub mod FoundRows
 pub mod FoundOwners
 pub mod FoundMember
+pub mod FoundAnchors
