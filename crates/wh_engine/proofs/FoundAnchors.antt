@@ -1,5 +1,5 @@
 -- How many anchors a dimension has: the greatest number among the last member's opening and its records' anchors.
-use Rattle.std.proofs.Common.{◌≡◌, ◌⊎◌, ℕ, zero, suc, ◌+◌, ◌<◌, ◌≤◌, ◌==◌, Bool, true, false, cond, not, ◌&&◌, ◌||◌, List, [], ◌∷◌, ◌++◌, map, filter, length, max, is_some, Option, Some, None, refl, sym, ◌∙◌, ap, subst, arith, inl, inr, length-append}
+use Rattle.std.proofs.Common.{◌≡◌, ◌⊎◌, ℕ, zero, suc, ◌<◌, ◌≤◌, ◌==◌, Bool, true, false, cond, not, ◌&&◌, ◌||◌, List, [], ◌∷◌, ◌++◌, map, filter, length, max, is_some, Option, Some, None, refl, sym, ◌∙◌, ap, subst, arith, inl, inr, length-append}
 use Rattle.std.specs.Prelude.{bytes_eq, flat_map, option_map, option_to_list, unwrap_or}
 use Rattle.std.specs.List.{list_any, AllByRecursion}
 use Rattle.std.specs.FinMap.{values}
@@ -10,7 +10,7 @@ use Rattle.std.proofs.lemmas.Slice.Eq.{bytes_eq-Decides}
 use Rattle.wh_policy.specs.declared.attribute.Dim.{Dim}
 use Rattle.wh_policy.specs.declared.record.DimensionRecord.{DimensionRecord}
 use Rattle.wh_policy.specs.declared.record.SaleRecord.{SaleRecord}
-use Rattle.wh_history.specs.Keys.{distinct, place, at_place}
+use Rattle.wh_history.specs.Keys.{distinct, at_place}
 use Rattle.wh_history.specs.Accepted.{Accepted, Content, Anchor, same_anchor, opening_of, day_of, described, described_by, sold_by, anchors_of_record, anchors_of_sale, anchors_by, member_of_sale, mentions, anchors, members, surrogate_key}
 use Rattle.wh_history.specs.Tables.{Limits}
 use Rattle.wh_history.proofs.Basics.{some_is, or_true, both_true}
@@ -18,7 +18,6 @@ use Rattle.wh_history.proofs.Places.{anchors_decide}
 use Rattle.wh_history.proofs.Once.{once_distinct, among_distinct}
 use Rattle.wh_history.proofs.Members.{place_within}
 use Rattle.wh_history.proofs.Records.{day_mentioned}
-use Rattle.wh_rows.specs.declared.rows.ChangeRow.{ChangeRow}
 use Rattle.wh_rows.specs.Tables.{Tables}
 use Rattle.wh_engine.specs.Defined.{AreOf}
 use Rattle.wh_engine.specs.Kept.{last_opening}

@@ -1,8 +1,8 @@
 -- The rows of table member.
-use Rattle.std.proofs.Common.{◌≡◌, ℕ, zero, suc, ◌+◌, ◌<◌, ◌≤◌, Bool, true, ◌&&◌, List, map, filter, length, take, reverse, Option, Some, None, refl, sym, ◌∙◌, ap, arith, inl, inr, Less}
+use Rattle.std.proofs.Common.{◌≡◌, ℕ, zero, suc, ◌+◌, ◌<◌, Bool, true, ◌&&◌, List, map, filter, length, take, reverse, Option, Some, None, refl, sym, ◌∙◌, ap, arith, inl, inr, Less}
 use Rattle.std.specs.Prelude.{bytes_eq, option_map, filter_map}
 use Rattle.std.specs.Option.{option_to_list}
-use Rattle.std.specs.List.{range_with_len, AllByRecursion}
+use Rattle.std.specs.List.{range_with_len}
 use Rattle.std.specs.Ordering.{eq_by_cmp, nat_cmp}
 use Rattle.std.specs.Cmp.{eq_by_cmp_equiv}
 use Rattle.std.specs.FinMap.{values, get}
@@ -10,7 +10,7 @@ use Rattle.std.proofs.lemmas.Bool.{cases_lt}
 use Rattle.std.proofs.lemmas.Slice.Eq.{bytes_eq-Decides}
 use Rattle.wh_policy.specs.declared.attribute.Dim.{Dim}
 use Rattle.wh_policy.specs.declared.attribute.Dim.TheVariants.{Product, Store, Customer}
-use Rattle.wh_history.specs.Keys.{place, at_place}
+use Rattle.wh_history.specs.Keys.{at_place}
 use Rattle.wh_history.specs.Accepted.{Accepted, Anchor, mentions, members, durable_key, surrogate_key, opening_of}
 use Rattle.wh_history.specs.Tables.{Limits, member_row, MemberRow as Told}
 use Rattle.wh_history.proofs.Basics.{some_is, both_true}
@@ -91,16 +91,16 @@ module _ (limits : Limits) (commands : List Accepted) (t : Tables) (are : AreOf 
       (all_numbered row (λ r. (get t.member (key_in r) ≡ Some r) × (same_dim dim r.dim ≡ true)) (λ n r is. let at = keyed n r is in
       (ap (get t.member) at ∙ held n ∙ is, ap (λ (k : MemberKey). same_dim dim k.dim) at ∙ dim_itself dim)) 1 count)
       (λ k r here same.
-          let is : member_at commands k ≡ Some r = sym (are.member k) ∙ here in
-          let at = member_key commands k r is in
-          let mine : k ≡ key_of dim k.durable = ap (λ (d : Dim). key_of d k.durable) (ap (λ (j : MemberKey). j.dim) (sym at) ∙ sym (same_dim_is dim r.dim same)) in
-          let stands : row k.durable ≡ Some r = ap (member_at commands) (sym mine) ∙ is in
-          elim (cases_lt (length (members dim commands)) k.durable) [
-            | inl past ↦ let none = no_member commands dim k.durable (at_place_past k.durable (members dim commands) past) in absurd (cc)
-            | inr within ↦
-                let given = place_given k.durable (members k.dim commands) r.natural (natural_at commands k r is) in
-                among_numbered row (λ w. eq_by_cmp member_cmp k (key_in w)) k.durable r stands (ap (eq_by_cmp member_cmp k) at ∙ (eq_by_cmp_equiv member_cmp_total).refl k) 1 count given (omega arith)
-          ])
+      let is : member_at commands k ≡ Some r = sym (are.member k) ∙ here in
+      let at = member_key commands k r is in
+      let mine : k ≡ key_of dim k.durable = ap (λ (d : Dim). key_of d k.durable) (ap (λ (j : MemberKey). j.dim) (sym at) ∙ sym (same_dim_is dim r.dim same)) in
+      let stands : row k.durable ≡ Some r = ap (member_at commands) (sym mine) ∙ is in
+      elim (cases_lt (length (members dim commands)) k.durable) [
+        | inl past ↦ let none = no_member commands dim k.durable (at_place_past k.durable (members dim commands) past) in absurd (cc)
+        | inr within ↦
+            let given = place_given k.durable (members k.dim commands) r.natural (natural_at commands k r is) in
+            among_numbered row (λ w. eq_by_cmp member_cmp k (key_in w)) k.durable r stands (ap (eq_by_cmp member_cmp k) at ∙ (eq_by_cmp_equiv member_cmp_total).refl k) 1 count given (omega arith)
+      ])
       (ascends_numbered member_cmp key_in (key_of dim) (member_rises dim) row keyed 1 count)
 
   -- the member of the greatest durable key is the last one
