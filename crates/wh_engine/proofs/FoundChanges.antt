@@ -1,11 +1,11 @@
 -- What the rows of table change tell of one member.
-use Rattle.std.proofs.Common.{◌≡◌, ◌≢◌, ℕ, zero, suc, ◌+◌, ◌-◌, ◌<◌, Bool, true, false, cond, ◌&&◌, List, [], ◌∷◌, ◌++◌, map, filter, length, replicate, refl, sym, ◌∙◌, ap, subst, arith}
+use Rattle.std.proofs.Common.{◌≡◌, ◌≢◌, ℕ, zero, suc, ◌-◌, ◌<◌, Bool, true, false, cond, ◌&&◌, List, [], ◌∷◌, ◌++◌, map, filter, length, replicate, refl, sym, ◌∙◌, ap, subst, arith}
 use Rattle.std.specs.Prelude.{bytes_eq}
 use Rattle.std.specs.List.{AllByRecursion}
 use Rattle.std.specs.Ordering.{eq_by_cmp, nat_cmp}
 use Rattle.std.specs.FinMap.{values}
 use Rattle.std.proofs.lemmas.List.{map-append}
-use Rattle.std.proofs.lemmas.List.Elements.{filter-append}
+use Rattle.std.proofs.lemmas.List.Elements.{filter-append, filter_agree}
 use Rattle.std.proofs.lemmas.Slice.Eq.{bytes_eq-Decides}
 use Rattle.wh_day.specs.Value.{none_text}
 use Rattle.wh_policy.specs.declared.attribute.Dim.{Dim}
@@ -17,6 +17,8 @@ use Rattle.wh_history.specs.Accepted as accepted
 use Rattle.wh_history.specs.Tables.{Limits}
 use Rattle.wh_history.specs.declared.member.Change.{Change}
 use Rattle.wh_history.proofs.Places.{one_place}
+use Rattle.wh_history.proofs.Joins.{all_weaker}
+use Rattle.wh_engine.proofs.Listed.{filter_all}
 use Rattle.wh_rows.specs.declared.rows.ChangeRow.{ChangeRow}
 use Rattle.wh_rows.specs.Tables.{Tables}
 use Rattle.wh_engine.specs.Defined.{AreOf}
@@ -68,22 +70,71 @@ tests_agree Customer Product = refl
 tests_agree Customer Store = refl
 tests_agree Customer Customer = refl
 
+-- ---- the rows of a dimension, where what is read of a row is told by its record
+
+module _ {X : Type 0} (dim : Dim) (commands : List Accepted) (read : ChangeRow → X) (tell : DimensionRecord → X) (p : ChangeRow → Bool) (q : DimensionRecord → Bool) where
+  -- so it is of each row of the record, and so is whether it passes
+  abbrev pub Tells : DimensionRecord → Type 0
+  Tells r = (number place : ℕ) → (read (made commands number place dim r) ≡ tell r) × (p (made commands number place dim r) ≡ q r)
+
+  abbrev passes : ChangeRow → Bool
+  passes v = same_dim dim v.dim && p v
+
+  abbrev read_all : List ChangeRow → List X
+  read_all vs = map read (filter passes vs)
+
+  abbrev tell_all : List DimensionRecord → List X
+  tell_all rs = map tell (filter q rs)
+
+  records_told : (number place : ℕ) (rs : List DimensionRecord) → AllByRecursion Tells rs → read_all (record_rows commands number place dim rs) ≡ tell_all rs
+  records_told number place [] told = refl
+  records_told number place (r ∷ rs) told =
+      let v = made commands number place dim r in
+      let rest = record_rows commands number (suc place) dim rs in
+      let here = (told.0 number place).0 in
+      let more = records_told number (suc place) rs told.1 in
+      let test : passes v ≡ q r = ap (λ b. b && p v) (dim_itself dim) ∙ (told.0 number place).1 in
+      ap (λ b. map read (cond b (v ∷ filter passes rest) (filter passes rest))) test
+      ∙ elim (q r) as (λ b. map read (cond b (v ∷ filter passes rest) (filter passes rest)) ≡ map tell (cond b (r ∷ filter q rs) (filter q rs))) [
+        | true ↦ cc
+        | false ↦ more
+      ]
+
+  -- rows of another dimension do not pass
+  others_told : (other : Dim) → same_dim dim other ≡ false → (number place : ℕ) (rs : List DimensionRecord) → read_all (record_rows commands number place other rs) ≡ []
+  others_told other apart number place [] = refl
+  others_told other apart number place (r ∷ rs) =
+      let v = made commands number place other r in
+      let rest = record_rows commands number (suc place) other rs in
+      ap (λ b. map read (cond (b && p v) (v ∷ filter passes rest) (filter passes rest))) apart ∙ others_told other apart number (suc place) rs
+
+  content_told : (number : ℕ) (content : Content) → AllByRecursion Tells (described_by dim content) → read_all (content_rows commands number content) ≡ tell_all (described_by dim content)
+  content_told number (Governs policy) told = refl
+  content_told number (Describes other records) told =
+      elim (accepted.same_dim dim other) as (λ b. accepted.same_dim dim other ≡ b → AllByRecursion Tells (cond b records []) → read_all (record_rows commands number 1 other records) ≡ tell_all (cond b records [])) [
+        | true ↦ λ e each. subst (λ (d : Dim). read_all (record_rows commands number 1 d records) ≡ tell_all records) (same_dim_is dim other (tests_agree dim other ∙ e)) (records_told number 1 records each)
+        | false ↦ λ e _. others_told other (tests_agree dim other ∙ e) number 1 records
+      ] refl told
+  content_told number (Sells sales) told = refl
+
+  changes_told : (number : ℕ) (cs : List Accepted) → AllByRecursion Tells (described dim cs) → read_all (change_rows commands number cs) ≡ tell_all (described dim cs)
+  changes_told number [] told = refl
+  changes_told number (c ∷ cs) told =
+      let rs = described_by dim c.content in
+      let here = content_told number c.content (all_front Tells rs (described dim cs) told) in
+      let rest = changes_told (suc number) cs (all_back Tells rs (described dim cs) told) in
+      ap (map read) (filter-append passes (content_rows commands number c.content) (change_rows commands (suc number) cs))
+      ∙ map-append read (filter passes (content_rows commands number c.content)) (filter passes (change_rows commands (suc number) cs))
+      ∙ ap (λ xs. xs ++ read_all (change_rows commands (suc number) cs)) here
+      ∙ ap (λ ys. tell_all rs ++ ys) rest
+      ∙ sym (ap (map tell) (filter-append q rs (described dim cs)) ∙ map-append tell (filter q rs) (filter q (described dim cs)))
+
+  pub read_told : (limits : Limits) (t : Tables) → AreOf limits commands t → AllByRecursion Tells (described dim commands) → map read (filter (λ v. same_dim dim v.dim && p v) (values t.change)) ≡ map tell (filter q (described dim commands))
+  read_told limits t are told = ap (λ (vs : List ChangeRow). map read (filter passes vs)) (changes_listed limits commands t are) ∙ changes_told 1 commands told
+
 -- ---- the rows of a member
 
 module _ (dim : Dim) (commands : List Accepted) (natural : List ℕ) (durable : ℕ) (given : 0 < durable) (is : durable ≡ durable_key dim commands natural) where
-  -- the rows of the member's dimension that have its durable key
-  abbrev ofs : ChangeRow → Bool
-  ofs v = same_dim dim v.dim && eq_by_cmp nat_cmp durable v.durable
-
-  abbrev mine : DimensionRecord → Bool
-  mine r = bytes_eq r.natural natural
-
-  abbrev told : List ChangeRow → List Change
-  told vs = map change_in (filter ofs vs)
-
-  abbrev changes : List DimensionRecord → List Change
-  changes rs = map (change_of dim commands) (filter mine rs)
-
   same_test : (r : DimensionRecord) → eq_by_cmp nat_cmp durable (durable_key dim commands r.natural) ≡ bytes_eq r.natural natural
   same_test r =
       elim (bytes_eq r.natural natural) as (λ b. bytes_eq r.natural natural ≡ b → eq_by_cmp nat_cmp durable (durable_key dim commands r.natural) ≡ b) [
@@ -100,54 +151,38 @@ module _ (dim : Dim) (commands : List Accepted) (natural : List ℕ) (durable : 
       ] refl
 
   -- the row of a record, read as a change
-  change_is : (number place : ℕ) (r : DimensionRecord) → HasNoEmptyValue r → change_in (made commands number place dim r) ≡ change_of dim commands r
-  change_is number place r full =
+  change_is : (r : DimensionRecord) → HasNoEmptyValue r → (number place : ℕ) → change_in (made commands number place dim r) ≡ change_of dim commands r
+  change_is r full number place =
       let with_values : List (List ℕ) → Change = λ values. record { day = r.day; anchor = surrogate_key dim commands (day_of r.natural r.day); values = values } in
       ap with_values (read_back r.values full)
 
-  records_told : (number place : ℕ) (rs : List DimensionRecord) → AllByRecursion HasNoEmptyValue rs → told (record_rows commands number place dim rs) ≡ changes rs
-  records_told number place [] full = refl
-  records_told number place (r ∷ rs) full =
-      let here = change_is number place r full.0 in
-      let rest = records_told number (suc place) rs full.1 in
-      let test : ofs (made commands number place dim r) ≡ bytes_eq r.natural natural = ap (λ b. b && eq_by_cmp nat_cmp durable (durable_key dim commands r.natural)) (dim_itself dim) ∙ same_test r in
-      ap (λ b. map change_in (cond b (made commands number place dim r ∷ filter ofs (record_rows commands number (suc place) dim rs)) (filter ofs (record_rows commands number (suc place) dim rs)))) test
-      ∙ elim (bytes_eq r.natural natural) as (λ b. map change_in (cond b (made commands number place dim r ∷ filter ofs (record_rows commands number (suc place) dim rs)) (filter ofs (record_rows commands number (suc place) dim rs))) ≡ map (change_of dim commands) (cond b (r ∷ filter mine rs) (filter mine rs))) [
-        | true ↦ cc
-        | false ↦ rest
-      ]
+  abbrev Told : DimensionRecord → Type 0
+  Told = Tells dim commands change_in (change_of dim commands) (λ v. eq_by_cmp nat_cmp durable v.durable) (λ r. bytes_eq r.natural natural)
 
-  -- records of another dimension tell nothing
-  others_told : (other : Dim) → same_dim dim other ≡ false → (number place : ℕ) (rs : List DimensionRecord) → told (record_rows commands number place other rs) ≡ []
-  others_told other apart number place [] = refl
-  others_told other apart number place (r ∷ rs) =
-      ap (λ b. map change_in (cond (b && eq_by_cmp nat_cmp durable (durable_key other commands r.natural)) (made commands number place other r ∷ filter ofs (record_rows commands number (suc place) other rs)) (filter ofs (record_rows commands number (suc place) other rs)))) apart
-      ∙ others_told other apart number (suc place) rs
-
-  content_told : (number : ℕ) (content : Content) → AllByRecursion HasNoEmptyValue (described_by dim content) → told (content_rows commands number content) ≡ changes (described_by dim content)
-  content_told number (Governs policy) full = refl
-  content_told number (Describes other records) full =
-      elim (accepted.same_dim dim other) as (λ b. accepted.same_dim dim other ≡ b → AllByRecursion HasNoEmptyValue (cond b records []) → told (record_rows commands number 1 other records) ≡ changes (cond b records [])) [
-        | true ↦ λ e each. subst (λ (d : Dim). told (record_rows commands number 1 d records) ≡ changes records) (same_dim_is dim other (tests_agree dim other ∙ e)) (records_told number 1 records each)
-        | false ↦ λ e _. others_told other (tests_agree dim other ∙ e) number 1 records
-      ] refl full
-  content_told number (Sells sales) full = refl
-
-  changes_told : (number : ℕ) (cs : List Accepted) → AllByRecursion HasNoEmptyValue (described dim cs) → told (change_rows commands number cs) ≡ changes (described dim cs)
-  changes_told number [] full = refl
-  changes_told number (c ∷ cs) full =
-      let rs = described_by dim c.content in
-      let here = content_told number c.content (all_front HasNoEmptyValue rs (described dim cs) full) in
-      let rest = changes_told (suc number) cs (all_back HasNoEmptyValue rs (described dim cs) full) in
-      ap (map change_in) (filter-append ofs (content_rows commands number c.content) (change_rows commands (suc number) cs))
-      ∙ map-append change_in (filter ofs (content_rows commands number c.content)) (filter ofs (change_rows commands (suc number) cs))
-      ∙ ap (λ xs. xs ++ told (change_rows commands (suc number) cs)) here
-      ∙ ap (λ ys. changes rs ++ ys) rest
-      ∙ sym (ap (map (change_of dim commands)) (filter-append mine rs (described dim cs)) ∙ map-append (change_of dim commands) (filter mine rs) (filter mine (described dim cs)))
+  changes_are : (limits : Limits) (t : Tables) → AreOf limits commands t → HaveNoEmptyValue commands → map change_in (filter (λ r. same_dim dim r.dim && eq_by_cmp nat_cmp durable r.durable) (values t.change)) ≡ changes_of dim commands natural
+  changes_are limits t are full =
+      read_told dim commands change_in (change_of dim commands) (λ v. eq_by_cmp nat_cmp durable v.durable) (λ r. bytes_eq r.natural natural) limits t are
+      (all_weaker HasNoEmptyValue Told (λ r each number place. (change_is r each number place, same_test r)) (described dim commands) (full dim))
 
 -- a search by the durable key of a member finds all that was accepted of it, in order of acceptance
 pub changes_found : (limits : Limits) (commands : List Accepted) (t : Tables) → AreOf limits commands t → HaveNoEmptyValue commands → (dim : Dim) (natural : List ℕ) (durable : ℕ) → 0 < durable → durable ≡ durable_key dim commands natural
     → map change_in (filter (λ r. same_dim dim r.dim && eq_by_cmp nat_cmp durable r.durable) (values t.change)) ≡ changes_of dim commands natural
-changes_found limits commands t are full dim natural durable given is =
-    ap (λ (vs : List ChangeRow). map change_in (filter (λ r. same_dim dim r.dim && eq_by_cmp nat_cmp durable r.durable) vs)) (changes_listed limits commands t are)
-    ∙ changes_told dim commands natural durable given is 1 commands (full dim)
+changes_found limits commands t are full dim natural durable given is = changes_are dim commands natural durable given is limits t are full
+
+-- ---- the anchors of a dimension's records
+
+pub anchors_read : (limits : Limits) (commands : List Accepted) (t : Tables) → AreOf limits commands t → (dim : Dim) → map (λ r. r.anchor) (filter (λ r. same_dim dim r.dim) (values t.change)) ≡ map (λ r. surrogate_key dim commands (day_of r.natural r.day)) (described dim commands)
+anchors_read limits commands t are dim =
+    let tell = λ (r : DimensionRecord). surrogate_key dim commands (day_of r.natural r.day) in
+    let all = λ (r : DimensionRecord). true in
+    ap (map (λ (r : ChangeRow). r.anchor)) (filter_agree (λ (r : ChangeRow). same_dim dim r.dim) (λ (r : ChangeRow). same_dim dim r.dim && true) (λ r. sym (and_true (same_dim dim r.dim))) (values t.change))
+    ∙ read_told dim commands (λ (r : ChangeRow). r.anchor) tell (λ (r : ChangeRow). true) all limits t are (each (described dim commands))
+    ∙ ap (map tell) (filter_all (described dim commands))
+  where
+    and_true : (b : Bool) → (b && true) ≡ b
+    and_true true = refl
+    and_true false = refl
+
+    each : (rs : List DimensionRecord) → AllByRecursion (Tells dim commands (λ (r : ChangeRow). r.anchor) (λ (r : DimensionRecord). surrogate_key dim commands (day_of r.natural r.day)) (λ (r : ChangeRow). true) (λ (r : DimensionRecord). true)) rs
+    each [] = tt
+    each (r ∷ rs) = ((λ number place. (refl, refl)), each rs)

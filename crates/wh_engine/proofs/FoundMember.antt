@@ -1,5 +1,5 @@
 -- A member as the tables hold it, and one that no command mentions.
-use Rattle.std.proofs.Common.{◌≡◌, ℕ, zero, suc, ◌<◌, true, false, cond, List, [], ◌∷◌, map, filter, Option, Some, None, refl, sym, ◌∙◌, ap, subst, arith, inl, inr, length, ◌++◌, ◌&&◌, ◌↔◌, IsSome}
+use Rattle.std.proofs.Common.{◌≡◌, ℕ, ◌<◌, true, false, cond, List, [], ◌∷◌, map, filter, Option, Some, None, refl, sym, ◌∙◌, ap, subst, arith, inl, inr, length, ◌++◌, ◌&&◌, ◌↔◌, IsSome}
 use Rattle.std.specs.FinMap.{values}
 use Rattle.std.specs.Prelude.{bytes_eq, option_map, unwrap_or}
 use Rattle.std.proofs.lemmas.Bool.{cases_lt}
@@ -8,7 +8,7 @@ use Rattle.std.specs.Option.{option_to_list}
 use Rattle.std.proofs.lemmas.Slice.Eq.{bytes_eq-Decides}
 use Rattle.wh_policy.specs.declared.attribute.Dim.{Dim}
 use Rattle.wh_policy.specs.declared.record.DimensionRecord.{DimensionRecord}
-use Rattle.wh_history.specs.Accepted.{Accepted, Anchor, same_anchor, opening_of, day_of, described, mentions, members, durable_key, surrogate_key, change_of, changes_of, member_of}
+use Rattle.wh_history.specs.Accepted.{Accepted, same_anchor, opening_of, day_of, described, mentions, members, durable_key, surrogate_key, change_of, changes_of, member_of}
 use Rattle.wh_history.specs.Touched.{nothing_stored}
 use Rattle.wh_history.specs.Keys.{at_place}
 use Rattle.wh_history.proofs.Basics.{some_is}

@@ -1,8 +1,8 @@
 -- The rows of table member.
-use Rattle.std.proofs.Common.{◌≡◌, ℕ, zero, suc, ◌+◌, ◌<◌, ◌≤◌, Bool, true, ◌&&◌, List, map, filter, length, take, reverse, Option, Some, None, refl, sym, ◌∙◌, ap, arith, inl, inr, Less}
+use Rattle.std.proofs.Common.{◌≡◌, ℕ, zero, suc, ◌+◌, ◌<◌, Bool, true, ◌&&◌, List, map, filter, length, take, reverse, Option, Some, None, refl, sym, ◌∙◌, ap, arith, inl, inr, Less}
 use Rattle.std.specs.Prelude.{bytes_eq, option_map, filter_map}
 use Rattle.std.specs.Option.{option_to_list}
-use Rattle.std.specs.List.{range_with_len, AllByRecursion}
+use Rattle.std.specs.List.{range_with_len}
 use Rattle.std.specs.Ordering.{eq_by_cmp, nat_cmp}
 use Rattle.std.specs.Cmp.{eq_by_cmp_equiv}
 use Rattle.std.specs.FinMap.{values, get}
@@ -10,7 +10,7 @@ use Rattle.std.proofs.lemmas.Bool.{cases_lt}
 use Rattle.std.proofs.lemmas.Slice.Eq.{bytes_eq-Decides}
 use Rattle.wh_policy.specs.declared.attribute.Dim.{Dim}
 use Rattle.wh_policy.specs.declared.attribute.Dim.TheVariants.{Product, Store, Customer}
-use Rattle.wh_history.specs.Keys.{place, at_place}
+use Rattle.wh_history.specs.Keys.{at_place}
 use Rattle.wh_history.specs.Accepted.{Accepted, Anchor, mentions, members, durable_key, surrogate_key, opening_of}
 use Rattle.wh_history.specs.Tables.{Limits, member_row, MemberRow as Told}
 use Rattle.wh_history.proofs.Basics.{some_is, both_true}

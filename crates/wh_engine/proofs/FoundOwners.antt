@@ -1,10 +1,9 @@
 -- Each key of a dimension's table is of one member.
-use Rattle.std.proofs.Common.{◌≡◌, ℕ, zero, suc, ◌<◌, ◌==◌, Bool, true, false, cond, ◌||◌, ◌&&◌, List, [], ◌∷◌, ◌++◌, map, Option, Some, None, Result, IfOk, refl, sym, ◌∙◌, ap, subst, arith}
+use Rattle.std.proofs.Common.{◌≡◌, ℕ, zero, suc, ◌<◌, ◌==◌, Bool, true, false, ◌||◌, ◌&&◌, List, [], ◌∷◌, ◌++◌, map, Option, Some, None, Result, IfOk, refl, sym, ◌∙◌, ap, subst, arith}
 use Rattle.std.specs.Prelude.{bytes_eq, flat_map, option_to_list}
 use Rattle.std.specs.Option.{option_and_then}
 use Rattle.std.specs.List.{list_any, AllByRecursion}
 use Rattle.std.proofs.lemmas.Bool.{eqb-true, eq-eqb, ne_eqb}
-use Rattle.std.proofs.lemmas.List.{map-append}
 use Rattle.std.proofs.lemmas.Result.{IfOk-weaker}
 use Rattle.std.proofs.lemmas.List.Folds.{list_any-append}
 use Rattle.std.proofs.lemmas.Slice.Eq.{bytes_eq-Decides}
@@ -32,7 +31,6 @@ use Rattle.wh_history.proofs.Once.{among_distinct}
 use Rattle.wh_history.proofs.Lasts.{not_among}
 use Rattle.wh_history.proofs.Owners.{owners_given}
 use Rattle.wh_engine.specs.Kept.{rows_with}
-use Rattle.wh_engine.proofs.Listed.{kept}
 use Rattle.wh_engine.proofs.FoundRows.{owned, row_with}
 
 -- ---- a member that is mentioned is mentioned by its opening

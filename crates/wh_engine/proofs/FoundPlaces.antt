@@ -1,17 +1,15 @@
 -- What stands at a place of a list, and tests of equality.
-use Rattle.std.proofs.Common.{◌≡◌, ℕ, zero, suc, ◌<◌, ◌==◌, Bool, true, false, cond, ◌||◌, List, [], ◌∷◌, map, length, Option, Some, None, refl, sym, ◌∙◌, ap, subst, arith, Equal}
-use Rattle.std.specs.Prelude.{bytes_eq, slice_get, option_map, find}
+use Rattle.std.proofs.Common.{◌≡◌, ℕ, zero, suc, ◌<◌, Bool, true, false, cond, ◌||◌, List, [], ◌∷◌, map, length, Some, None, refl, sym, ◌∙◌, ap, arith, Equal}
+use Rattle.std.specs.Prelude.{option_map}
 use Rattle.std.specs.Bool.{Decides}
 use Rattle.std.specs.List.{list_any, AllByRecursion, IsDistinct}
 use Rattle.std.specs.Ordering.{eq_by_cmp, nat_cmp}
 use Rattle.std.specs.Cmp.{eq_by_cmp_equiv}
 use Rattle.std.specs.Cmp.Lexicographic.{slice_cmp, nat_list_cmp_total}
-use Rattle.std.proofs.lemmas.Bool.{cases_eq, eq-eqb, ne_eqb}
 use Rattle.std.proofs.lemmas.Cmp.{nat_cmp_total}
 use Rattle.std.specs.FinMap.{nat_cmp-IsAntisymmetric}
 use Rattle.wh_history.specs.Keys.{place, at_place, after_one}
 use Rattle.wh_history.proofs.Once.{IsOnce, apart}
-use Rattle.wh_history.proofs.Lasts.{not_among}
 use Rattle.wh_rows.proofs.Orders.{text_cmp-IsAntisymmetric}
 use Rattle.wh_engine.proofs.Listed.{equal_is}
 

@@ -1,6 +1,6 @@
 -- The rows of product, store and customer, and those of one member.
-use Rattle.std.proofs.Common.{◌≡◌, ℕ, zero, suc, ◌+◌, ◌<◌, ◌≤◌, ◌==◌, Bool, true, false, cond, List, filter, length, Option, Some, None, Result, IfOk, is_eq, [], ◌∷◌, refl, sym, ◌∙◌, ap, arith, inl, inr}
-use Rattle.std.specs.Prelude.{bytes_eq, find, filter_map}
+use Rattle.std.proofs.Common.{◌≡◌, ℕ, zero, suc, ◌+◌, ◌<◌, ◌≤◌, ◌==◌, Bool, true, false, cond, List, filter, length, Option, Some, None, Result, IfOk, is_eq, ◌∷◌, refl, sym, ◌∙◌, ap, arith, inl, inr}
+use Rattle.std.specs.Prelude.{filter_map}
 use Rattle.std.specs.Option.{option_and_then}
 use Rattle.std.specs.List.{range_with_len, cons_option}
 use Rattle.std.specs.Ordering.{eq_by_cmp, nat_cmp}
@@ -8,16 +8,11 @@ use Rattle.std.specs.FinMap.{FinMap, values, get}
 use Rattle.std.proofs.lemmas.Bool.{cases_lt, cases_eq, eqb-true, eq-eqb, ne_eqb}
 use Rattle.std.proofs.lemmas.Result.{IfOk-weaker}
 use Rattle.std.proofs.lemmas.List.Elements.{filter_agree}
-use Rattle.std.proofs.lemmas.Slice.Eq.{bytes_eq-Decides}
 use Rattle.wh_policy.specs.declared.attribute.Dim.{Dim}
 use Rattle.wh_policy.specs.declared.attribute.Dim.TheVariants.{Product, Store, Customer}
 use Rattle.wh_history.specs.Keys.{at_place}
-use Rattle.wh_history.specs.Dated.{dated}
-use Rattle.wh_history.specs.Rows.{starts, start_key}
-use Rattle.wh_history.specs.Profiles.{profile_now}
 use Rattle.wh_history.specs.Plan.{row_of}
-use Rattle.wh_history.specs.Laws.{RecordsHaveDays, IsMember}
-use Rattle.wh_history.specs.Accepted.{Accepted, Anchor, anchors, members, durable_key}
+use Rattle.wh_history.specs.Accepted.{Accepted, Anchor, anchors}
 use Rattle.wh_history.specs.Tables.{member_rows, numbered_row, dimension_row, dimension_table}
 use Rattle.wh_history.specs.declared.rows.DimRow.{DimRow}
 use Rattle.wh_history.proofs.Basics.{some_is, find_passes}

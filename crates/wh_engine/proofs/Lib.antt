@@ -37,3 +37,4 @@ pub mod FoundMember
 pub mod GoodRecords
 pub mod StaysAccepted
 pub mod StaysBegun
+pub mod FoundAnchors

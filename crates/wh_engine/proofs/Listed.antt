@@ -166,7 +166,7 @@ module _ {K V : Type 0} (R : K → K → Ordering) (total : IsTotalOrder R) (sam
       pub filter-values : Ascends R key rows → filter keep (values m) ≡ rows
       filter-values up = filter-values_find (sorted_keyed R key rows up) (λ k. agrees k (find R k (keyed key rows)) (get m k) refl refl)
 
-filter_all : {V : Type 0} (rows : List V) → filter (λ _. true) rows ≡ rows
+pub filter_all : {V : Type 0} (rows : List V) → filter (λ _. true) rows ≡ rows
 filter_all [] = refl
 filter_all (v ∷ rows) = ap (λ l. v ∷ l) (filter_all rows)
 

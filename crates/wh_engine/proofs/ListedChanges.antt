@@ -1,9 +1,9 @@
 -- The rows of table change, in order of acceptance.
-use Rattle.std.proofs.Common.{◌≡◌, ℕ, zero, suc, ◌+◌, ◌<◌, ◌≤◌, Bool, true, false, List, [], ◌∷◌, ◌++◌, length, Option, Some, None, refl, sym, ◌∙◌, ap, subst, arith, Less, length-append}
+use Rattle.std.proofs.Common.{◌≡◌, ℕ, zero, suc, ◌+◌, ◌<◌, Bool, true, List, [], ◌∷◌, ◌++◌, length, Option, Some, None, refl, sym, ◌∙◌, ap, arith, Less, length-append}
 use Rattle.std.specs.Prelude.{slice_get, option_map}
 use Rattle.std.specs.Option.{option_and_then}
 use Rattle.std.specs.List.{list_any, AllByRecursion}
-use Rattle.std.specs.Ordering.{eq_by_cmp, nat_cmp, ordering_then}
+use Rattle.std.specs.Ordering.{eq_by_cmp}
 use Rattle.std.specs.Cmp.{eq_by_cmp_equiv}
 use Rattle.std.specs.FinMap.{values, get, len}
 use Rattle.std.proofs.lemmas.List.Folds.{list_any-append}
@@ -11,9 +11,8 @@ use Rattle.wh_policy.specs.declared.attribute.Dim.{Dim}
 use Rattle.wh_policy.specs.declared.attribute.Dim.TheVariants.{Product, Store, Customer}
 use Rattle.wh_policy.specs.declared.record.DimensionRecord.{DimensionRecord}
 use Rattle.wh_history.specs.Keys.{at_place}
-use Rattle.wh_history.specs.Slots.{six}
-use Rattle.wh_history.specs.Accepted.{Accepted, Content, Governs, Describes, Sells, described, described_by, day_of, durable_key, surrogate_key}
-use Rattle.wh_history.specs.Tables.{Limits, change_row_of, change_row_in, change_row, ChangeRow as Told}
+use Rattle.wh_history.specs.Accepted.{Accepted, Content, Governs, Describes, Sells, described, described_by}
+use Rattle.wh_history.specs.Tables.{Limits, change_row_of, change_row_in, ChangeRow as Told}
 use Rattle.wh_history.proofs.Basics.{some_is, or_true}
 use Rattle.wh_history.proofs.Joins.{all_append, all_weaker}
 use Rattle.wh_rows.specs.declared.rows.ChangeRow.{ChangeRow}

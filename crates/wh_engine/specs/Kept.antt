@@ -1,5 +1,5 @@
 -- What is read out of the tables of the commands that were accepted.
-use Rattle.std.specs.Prelude.{◌≡◌, ◌≢◌, ℕ, ◌==◌, List, [], ◌∷◌, map, filter, length, Option, option_map, unwrap_or, bytes_eq}
+use Rattle.std.specs.Prelude.{◌≢◌, ℕ, ◌==◌, List, [], ◌∷◌, map, filter, length, Option, option_map, unwrap_or, bytes_eq}
 use Rattle.std.specs.List.{IsDistinct, AllByRecursion}
 use Rattle.wh_day.specs.Value.{none_text}
 use Rattle.wh_policy.specs.declared.attribute.Dim.{Dim}

@@ -1,6 +1,6 @@
 //! What is read of the accepted commands out of the tables.
 
-ghost use Rattle.std.specs.Prelude.{◌≡◌, ◌<◌, ℕ, List, map, length, Some, IfOk};
+ghost use Rattle.std.specs.Prelude.{◌≡◌, ◌<◌, ℕ, List, map, length, Some, IfOk, IfErr};
 ghost use Rattle.sqlite.specs.Held.{state};
 ghost use Rattle.sqlite.specs.State.{HasCleanDisk};
 ghost use Rattle.wh_history.specs.Accepted.{Accepted, members, durable_key, member_of, changes_of};
@@ -10,6 +10,7 @@ ghost use Rattle.wh_history.specs.Tables.{Limits, member_rows};
 ghost use Rattle.wh_history.specs.Touched.{nothing_stored};
 ghost use Rattle.wh_rows.specs.AtRest.{IsAtRest, Leaves};
 ghost use Rattle.wh_rows.specs.Tables.{Tables as Rows};
+ghost use Rattle.wh_rows.specs.declared.cause.Cause.TheVariants.{Memory};
 ghost use Rattle.wh_sql.specs.Refusal.{IsWhole, IsUndamaged};
 ghost use Rattle.wh_engine.specs.Defined.{AreOf};
 ghost use Rattle.wh_engine.specs.Kept.{HaveDistinctIds, HaveNoEmptyValue, command_with, given_text, change_in, last_opening, rows_with};
@@ -41,7 +42,8 @@ pub fn command_of<S: Alter>(
 
 /// The text of a slot that a record gave. It is stored empty where the record gave none.
 fn given_text(alloc: Global, text: &Value) -> Result<Value, Cause>
-    ensures { IfOk result (λ given. given ≡ given_text text.now) }
+    ensures ok { IfOk result (λ given. given ≡ given_text text.now) }
+    ensures err { IfErr result (λ cause. cause ≡ Memory) }
 {
     if text.as_str().is_empty() {
         return Ok(Value::none(alloc)?);
@@ -50,7 +52,8 @@ fn given_text(alloc: Global, text: &Value) -> Result<Value, Cause>
 }
 
 fn given_texts(alloc: Global, texts: &[Value]) -> Result<Values, Cause>
-    ensures { IfOk result (λ given. given ≡ map given_text texts.now) }
+    ensures ok { IfOk result (λ given. given ≡ map given_text texts.now) }
+    ensures err { IfErr result (λ cause. cause ≡ Memory) }
 {
     let mut given = Values::new(alloc);
     for text in texts {
@@ -61,7 +64,8 @@ fn given_texts(alloc: Global, texts: &[Value]) -> Result<Values, Cause>
 
 /// The change that a row tells.
 fn change_in(alloc: Global, row: &ChangeRow) -> Result<Change, Cause>
-    ensures { IfOk result (λ change. change ≡ change_in row.now) }
+    ensures ok { IfOk result (λ change. change ≡ change_in row.now) }
+    ensures err { IfErr result (λ cause. cause ≡ Memory) }
 {
     Ok(Change {
         day: row.day,
@@ -71,7 +75,8 @@ fn change_in(alloc: Global, row: &ChangeRow) -> Result<Change, Cause>
 }
 
 fn changes_in(alloc: Global, rows: &[ChangeRow]) -> Result<Changes, Cause>
-    ensures { IfOk result (λ changes. changes ≡ map change_in rows.now) }
+    ensures ok { IfOk result (λ changes. changes ≡ map change_in rows.now) }
+    ensures err { IfErr result (λ cause. cause ≡ Memory) }
 {
     let mut changes = Changes::new(alloc);
     for row in rows {
@@ -82,7 +87,8 @@ fn changes_in(alloc: Global, rows: &[ChangeRow]) -> Result<Changes, Cause>
 
 /// A member that isn't stored.
 fn absent(alloc: Global, natural: &Value) -> Result<Member, Cause>
-    ensures { IfOk result (λ member. member ≡ nothing_stored natural.now) }
+    ensures ok { IfOk result (λ member. member ≡ nothing_stored natural.now) }
+    ensures err { IfErr result (λ cause. cause ≡ Memory) }
 {
     Ok(Member {
         durable: 0,
