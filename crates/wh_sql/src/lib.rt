@@ -20,3 +20,6 @@ pub use questions::{RecordsOf, RowsOf};
 pub use read::{all, count, get};
 pub use refusal::Refusal;
 pub use write::{put, remove};
+
+#[cfg(test)]
+mod tests;
