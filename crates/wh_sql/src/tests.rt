@@ -63,7 +63,12 @@ fn push_texts(out: &mut String, texts: &Values) -> Result<(), AllocError> {
 
 /// The columns of a row, as one line.
 fn push_row(alloc: Global, out: &mut String, row: &DimRow) -> Result<(), AllocError> {
-    let keys = format!(in alloc; "{},{},{}", row.surrogate, row.durable, row.natural.as_str())?;
+    let keys = format!(in alloc;
+        "{},{},{}",
+        row.surrogate,
+        row.durable,
+        row.natural.as_str()
+    )?;
     out.push_str(keys.as_str())?;
     let days = format!(in alloc;
         ",{},{},{}",
@@ -108,9 +113,21 @@ fn put_row<D: Dimension>(
 
 /// Two rows of the member 1 and one of the member 2, not in the order of their keys.
 fn put_three<D: Dimension>(alloc: Global, conn: &mut Connection<MemStore>) -> Result<(), Fail> {
-    put_row::<D>(alloc, conn, (3, 1), (20240201, 99991231), "New,(unknown),,,,")?;
+    put_row::<D>(
+        alloc,
+        conn,
+        (3, 1),
+        (20240201, 99991231),
+        "New,(unknown),,,,",
+    )?;
     put_row::<D>(alloc, conn, (1, 1), (19000101, 20240131), "Old,Bolt,,,,")?;
-    put_row::<D>(alloc, conn, (2, 2), (19000101, 99991231), "Other,(none),,,,")
+    put_row::<D>(
+        alloc,
+        conn,
+        (2, 2),
+        (19000101, 99991231),
+        "Other,(none),,,,",
+    )
 }
 
 fn rows_of<D: Dimension>(
@@ -122,10 +139,7 @@ fn rows_of<D: Dimension>(
     Ok(shown(alloc, &rows)?)
 }
 
-fn all_rows<D: Dimension>(
-    alloc: Global,
-    conn: &mut Connection<MemStore>,
-) -> Result<String, Fail> {
+fn all_rows<D: Dimension>(alloc: Global, conn: &mut Connection<MemStore>) -> Result<String, Fail> {
     let rows = all::<D, MemStore>(alloc, conn)?;
     Ok(shown(alloc, &rows)?)
 }
@@ -143,8 +157,7 @@ fn row_at<D: Dimension>(
     Ok(out)
 }
 
-const FIRST: &str =
-    "1,1,M1,19000101,20240131,false,Old,Bolt,,,,,,,,(none),,,0\n";
+const FIRST: &str = "1,1,M1,19000101,20240131,false,Old,Bolt,,,,,,,,(none),,,0\n";
 
 const SECOND: &str = "2,2,M2,19000101,99991231,true,Other,(none),,,,,,,,(none),,,0\n";
 
@@ -209,10 +222,7 @@ fn expect_none<D: Dimension>(
 }
 
 /// It answers the connection, with its transaction kept.
-fn goes_round<D: Dimension>(
-    rt: &impl Abort,
-    alloc: Global,
-) -> Result<Connection<MemStore>, Fail> {
+fn goes_round<D: Dimension>(rt: &impl Abort, alloc: Global) -> Result<Connection<MemStore>, Fail> {
     let mut conn = made(alloc)?;
     put_three::<D>(alloc, &mut conn)?;
     expect_three::<D>(rt, alloc, &mut conn)?;

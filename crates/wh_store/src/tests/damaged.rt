@@ -1,0 +1,1 @@
+//! Values out of their types.
