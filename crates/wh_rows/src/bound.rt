@@ -6,7 +6,7 @@ ghost use Rattle.sqlite_value.specs.declared.value.Value.TheVariants.{Int, Text}
 ghost use Rattle.sqlite.specs.Values.{bound};
 ghost use Rattle.wh_rows.specs.declared.cause.Cause.TheVariants.{Memory, Size};
 ghost use Rattle.wh_rows.specs.Types.{is_number, dim_number};
-ghost use Rattle.wh_rows.specs.Rows.{flag, slot_column, encode_meta, encode_command, encode_member, encode_change, encode_dimension, encode_profile, encode_date, encode_fact, is_command, is_member, is_change, is_dimension, is_profile, is_fact};
+ghost use Rattle.wh_rows.specs.Rows.{flag, slot_column, slot_columns, encode_meta, encode_command, encode_member, encode_change, encode_dimension, encode_profile, encode_date, encode_fact, is_command, is_member, is_change, is_dimension, is_profile, is_fact};
 
 use crate::cause::Cause;
 use crate::rows::{ChangeRow, CommandRow, MemberRow, MetaRow, ProfileRow};
@@ -66,6 +66,25 @@ fn slot<'a>(texts: &'a Values, slot: usize) -> ValueRef<'a>
         Some(text) => ValueRef::Text(text.as_str().as_bytes()),
         None => ValueRef::Text(b""),
     }
+}
+
+/// The texts of the six slots.
+pub fn slots<'a>(alloc: Global, texts: &'a Values) -> Result<Vec<ValueRef<'a>>, Cause>
+    ensures ok { IfOk result (λ values. bound values.items ≡ slot_columns texts.now) }
+    ensures err { IfErr result (λ cause. cause ≡ Memory) }
+{
+    let values = Vec::from_array(
+        alloc,
+        [
+            slot(texts, 0),
+            slot(texts, 1),
+            slot(texts, 2),
+            slot(texts, 3),
+            slot(texts, 4),
+            slot(texts, 5),
+        ],
+    )?;
+    Ok(values)
 }
 
 pub fn meta<'a>(alloc: Global, row: &'a MetaRow) -> Result<Vec<ValueRef<'a>>, Cause>

@@ -1,3 +1,4 @@
 pub mod Fits
 pub mod Refusal
 pub mod Present
+pub mod Asked

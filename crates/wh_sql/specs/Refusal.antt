@@ -4,7 +4,6 @@ use Rattle.std.specs.List.{list_all}
 use Rattle.sqlite.specs.Order.{Row}
 use Rattle.sqlite.specs.State.{State, Shown, FailsToQuery}
 use Rattle.sqlite.specs.declared.error.Error.{Error}
-use Rattle.wh_rows.specs.declared.cause.Cause.{Cause}
 use Rattle.wh_rows.specs.Cause.{cause_of}
 use Rattle.wh_rows.specs.Holds.{Layout}
 use Rattle.wh_rows.specs.declared.table.Table.{Table}

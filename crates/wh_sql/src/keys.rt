@@ -54,6 +54,28 @@ pub(crate) fn dim_and_number(
     Ok(values)
 }
 
+/// A dimension and a text.
+pub(crate) fn dim_and_text<'a>(
+    alloc: Global,
+    dim: Dim,
+    text: &'a Value,
+) -> Result<Vec<ValueRef<'a>>, Cause>
+    ensures ok { IfOk result (λ values. bound values.items ≡ Int (pos (dim_number dim)) ∷ Text text.now ∷ []) }
+    ensures err { IfErr result (λ cause. cause ≡ Memory) }
+{
+    let values = Vec::from_array(alloc, [bound::dim(dim), bound::text(text)])?;
+    Ok(values)
+}
+
+/// A dimension.
+pub(crate) fn dim_key(alloc: Global, dim: Dim) -> Result<Vec<ValueRef<'static>>, Cause>
+    ensures ok { IfOk result (λ values. bound values.items ≡ Int (pos (dim_number dim)) ∷ []) }
+    ensures err { IfErr result (λ cause. cause ≡ Memory) }
+{
+    let values = Vec::from_array(alloc, [bound::dim(dim)])?;
+    Ok(values)
+}
+
 /// The key of change.
 pub(crate) fn change_key(alloc: Global, key: &ChangeKey) -> Result<Vec<ValueRef<'static>>, Cause>
     ensures ok { IfOk result (λ values. bound values.items ≡ Int (pos key.now.command) ∷ Int (pos key.now.place) ∷ []) }

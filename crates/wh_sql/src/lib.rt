@@ -2,6 +2,7 @@
 #![tactic(auto)]
 
 mod dimension;
+mod greatest;
 mod keeps;
 mod keys;
 mod making;
@@ -13,10 +14,11 @@ mod tables;
 mod write;
 
 pub use dimension::Dimension;
+pub use greatest::{Greatest, GreatestOf};
 pub use keeps::Keeps;
-pub use making::create;
+pub use making::{create, has_tables, has_taken_name};
 pub use question::{Question, ask};
-pub use questions::{RecordsOf, RowsOf};
+pub use questions::{CommandOf, MemberOf, ProfileOf, RecordsOf, RecordsOn, RowsOf, SalesOf};
 pub use read::{all, count, get};
 pub use refusal::Refusal;
 pub use write::{put, remove};

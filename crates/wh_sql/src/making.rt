@@ -1,16 +1,19 @@
 //! Making the tables, and whether they are there.
 
 ghost use Rattle.std.specs.Prelude.{◌≡◌, false, map, Some, None, Err, OnOk};
+ghost use Rattle.std.specs.List.{list_all, list_any};
 ghost use Rattle.sqlite.specs.Held.{state};
 ghost use Rattle.sqlite.specs.Schema.{Schema};
+ghost use Rattle.sqlite.specs.Change.{is_used};
 ghost use Rattle.sqlite.specs.State.{HasCleanDisk};
 ghost use Rattle.wh_rows.specs.declared.cause.Cause.TheVariants.{Disk};
 ghost use Rattle.wh_rows.specs.Making.{Extends, Leads};
 ghost use Rattle.wh_rows.specs.Tables.{no_tables};
 ghost use Rattle.wh_rows.specs.AtRest.{IsWriting, Leaves};
-ghost use Rattle.wh_sql.specs.Present.{IsMaking};
+ghost use Rattle.wh_sql.specs.Present.{IsMaking, is_any_taken, has_columns, has_table, are_all_there};
 
 use sqlite::{Alter, Connection};
+use sqlite_schema::schema::{Schema, Table};
 use wh_rows::Cause;
 
 /// The texts that make the warehouse: its tables, then its indexes.
@@ -34,6 +37,107 @@ const TEXTS: [&str; 19] = [
     "CREATE INDEX fact_by_product ON fact (product_durable, day)",
     "CREATE INDEX fact_by_customer ON fact (customer_durable, day)",
     "CREATE INDEX profile_by_values ON profile (v1, v2, v3, v4, v5, v6)",
+];
+
+/// The names of a table and of its columns.
+struct Names {
+    table: &'static str,
+    columns: &'static [&'static str],
+}
+
+/// The columns of the table of a dimension.
+const DIMENSION: [&str; 19] = [
+    "surrogate",
+    "durable",
+    "natural",
+    "from_day",
+    "to_day",
+    "is_current",
+    "a1",
+    "a2",
+    "a3",
+    "a4",
+    "a5",
+    "a6",
+    "b1",
+    "b2",
+    "b3",
+    "b4",
+    "b5",
+    "b6",
+    "profile_now",
+];
+
+const TABLES: [Names; 10] = [
+    Names {
+        table: "meta",
+        columns: &["name", "value"],
+    },
+    Names {
+        table: "command",
+        columns: &["number", "id", "kind", "bytes", "records", "placeholders"],
+    },
+    Names {
+        table: "member",
+        columns: &["dim", "durable", "natural", "opening"],
+    },
+    Names {
+        table: "change",
+        columns: &[
+            "command", "record", "dim", "durable", "day", "anchor", "v1", "v2", "v3", "v4", "v5",
+            "v6",
+        ],
+    },
+    Names {
+        table: "product",
+        columns: &DIMENSION,
+    },
+    Names {
+        table: "store",
+        columns: &DIMENSION,
+    },
+    Names {
+        table: "customer",
+        columns: &DIMENSION,
+    },
+    Names {
+        table: "profile",
+        columns: &["number", "v1", "v2", "v3", "v4", "v5", "v6"],
+    },
+    Names {
+        table: "calendar",
+        columns: &[
+            "date_key",
+            "iso",
+            "year",
+            "quarter",
+            "month",
+            "day",
+            "day_of_year",
+            "weekday",
+            "weekday_name",
+            "weekend",
+            "holiday",
+        ],
+    },
+    Names {
+        table: "fact",
+        columns: &[
+            "ticket",
+            "line",
+            "day",
+            "store_key",
+            "product_key",
+            "customer_key",
+            "store_durable",
+            "product_durable",
+            "customer_durable",
+            "profile",
+            "quantity",
+            "amount",
+            "cost",
+        ],
+    },
 ];
 
 /// Runs a text that makes one table or index, inside a transaction.
@@ -69,4 +173,55 @@ pub fn create<S: Alter>(conn: &mut Connection<S>) -> Result<(), Cause>
         return Err(Cause::Disk);
     }
     create_all(conn, &TEXTS)
+}
+
+fn is_taken(schema: &Schema, name: &str) -> bool
+    ensures { result ≡ is_used schema.now name.now }
+{
+    let name = name.as_bytes();
+    schema.table_named(name).is_some()
+        || schema.index_named(name).is_some()
+        || schema.view_named(name).is_some()
+}
+
+fn is_one_taken(schema: &Schema, tables: &[Names]) -> bool
+    ensures { result ≡ list_any (λ names. is_used schema.now names.table.now) tables.now }
+{
+    tables.iter().any(|names| is_taken(schema, names.table))
+}
+
+/// Whether a table, an index or a view has the name of one of the ten tables.
+pub fn has_taken_name<S: Alter>(conn: &Connection<S>) -> bool
+    ensures { result ≡ is_any_taken (state S.Store conn.now).now.schema }
+{
+    is_one_taken(conn.schema(), &TABLES)
+}
+
+fn has_columns(table: &Table, columns: &[&str]) -> bool
+    ensures { result ≡ has_columns columns.now (λ name. name.now) table.now }
+{
+    columns
+        .iter()
+        .all(|name| table.column_named(name.as_bytes()).is_some())
+}
+
+fn has_table(schema: &Schema, names: &Names) -> bool
+    ensures { result ≡ has_table names.now.table.now names.now.columns.now (λ name. name.now) schema.now }
+{
+    let tables = schema.tables.as_slice();
+    tables.iter().any(|table| table.is_named(names.table.as_bytes())
+        && has_columns(table, names.columns))
+}
+
+fn has_each(schema: &Schema, tables: &[Names]) -> bool
+    ensures { result ≡ list_all (λ names. has_table names.table.now names.columns.now (λ name. name.now) schema.now) tables.now }
+{
+    tables.iter().all(|names| has_table(schema, names))
+}
+
+/// Whether each of the ten tables is there, with its columns.
+pub fn has_tables<S: Alter>(conn: &Connection<S>) -> bool
+    ensures { result ≡ are_all_there (state S.Store conn.now).now.schema }
+{
+    has_each(conn.schema(), &TABLES)
 }

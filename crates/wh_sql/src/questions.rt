@@ -1,12 +1,13 @@
 //! The questions that are asked of the tables.
 
 use crate::dimension::Dimension;
-use crate::keys::{dim_and_number, number_key};
+use crate::keys::{dim_and_number, dim_and_text, number_key, text_key};
 use crate::question::Question;
 use sqlite::types::ValueRef;
 use std::alloc::Global;
+use wh_day::{Value, Values};
 use wh_policy::Dim;
-use wh_rows::{Cause, tables};
+use wh_rows::{Cause, bound, tables};
 
 /// The accepted records of one member, in order of acceptance.
 #[derive(Clone, Copy, Debug, PartialEq, Eq)]
@@ -74,4 +75,180 @@ impl<D: Dimension> Question<D> for RowsOf {
     }
 
     ghost reads = { λ q. D.finds_rows q.durable };
+}
+
+/// The accepted records of one member and day, which share a surrogate key, in order of acceptance.
+#[derive(Clone, Copy, Debug, PartialEq, Eq)]
+pub struct RecordsOn {
+    pub dim: Dim,
+    pub anchor: u64,
+}
+
+impl Question<tables::Change> for RecordsOn {
+    ghost use Rattle.std.specs.Prelude.{◌≡◌, true, [], ◌∷◌, pos, None, ◌&&◌};
+    ghost use Rattle.std.specs.Ordering.{eq_by_cmp, nat_cmp};
+    ghost use Rattle.sqlite_value.specs.declared.value.Value.TheVariants.{Int};
+    ghost use Rattle.wh_rows.specs.Types.{is_number, dim_number};
+    ghost use Rattle.wh_rows.proofs.Changes.{of_anchor_text, of_anchor};
+
+    ghost keep = { λ q r. eq_by_cmp nat_cmp (dim_number q.dim) (dim_number r.dim) && eq_by_cmp nat_cmp q.anchor r.anchor };
+
+    ghost front = { None };
+
+    ghost bind = { λ q. Int (pos (dim_number q.dim)) ∷ Int (pos q.anchor) ∷ [] };
+
+    ghost can_be_asked = { λ q. is_number q.anchor ≡ true };
+
+    ghost means = { λ q. of_anchor_text };
+
+    fn text(&self) -> &'static str {
+        "SELECT * FROM change WHERE dim = ?1 AND anchor = ?2 ORDER BY command, record"
+    }
+
+    fn values<'a>(&'a self, alloc: Global) -> Result<Vec<ValueRef<'a>>, Cause> {
+        dim_and_number(alloc, self.dim, self.anchor)
+    }
+
+    ghost reads = { λ q. of_anchor q.dim q.anchor };
+}
+
+/// The command of an id.
+#[derive(Clone, Copy, Debug)]
+pub struct CommandOf<'q> {
+    pub id: &'q Value,
+}
+
+impl<'q> Question<tables::Command> for CommandOf<'q> {
+    ghost use Rattle.std.specs.Prelude.{[], ◌∷◌, None};
+    ghost use Rattle.sqlite_value.specs.declared.value.Value.TheVariants.{Text};
+    ghost use Rattle.wh_rows.proofs.Commands.{of_id_text, of_id};
+    ghost use Rattle.wh_sql.specs.Asked.{same_text};
+
+    ghost keep = { λ q r. same_text q.id.now r.id };
+
+    ghost front = { None };
+
+    ghost bind = { λ q. Text q.id.now ∷ [] };
+
+    ghost can_be_asked = { λ q. Unit {0} };
+
+    ghost means = { λ q. of_id_text };
+
+    fn text(&self) -> &'static str {
+        "SELECT * FROM command WHERE id = ?1 ORDER BY number"
+    }
+
+    fn values<'a>(&'a self, alloc: Global) -> Result<Vec<ValueRef<'a>>, Cause> {
+        text_key(alloc, self.id)
+    }
+
+    ghost reads = { λ q. of_id q.id.now };
+}
+
+/// The member that its source calls so.
+#[derive(Clone, Copy, Debug)]
+pub struct MemberOf<'q> {
+    pub dim: Dim,
+    pub natural: &'q Value,
+}
+
+impl<'q> Question<tables::Member> for MemberOf<'q> {
+    ghost use Rattle.std.specs.Prelude.{[], ◌∷◌, pos, None, ◌&&◌};
+    ghost use Rattle.std.specs.Ordering.{eq_by_cmp, nat_cmp};
+    ghost use Rattle.sqlite_value.specs.declared.value.Value.TheVariants.{Int, Text};
+    ghost use Rattle.wh_rows.specs.Types.{dim_number};
+    ghost use Rattle.wh_rows.proofs.Members.{of_natural_text, of_natural};
+    ghost use Rattle.wh_sql.specs.Asked.{same_text};
+
+    ghost keep = { λ q r. eq_by_cmp nat_cmp (dim_number q.dim) (dim_number r.dim) && same_text q.natural.now r.natural };
+
+    ghost front = { None };
+
+    ghost bind = { λ q. Int (pos (dim_number q.dim)) ∷ Text q.natural.now ∷ [] };
+
+    ghost can_be_asked = { λ q. Unit {0} };
+
+    ghost means = { λ q. of_natural_text };
+
+    fn text(&self) -> &'static str {
+        "SELECT * FROM member WHERE dim = ?1 AND natural = ?2 ORDER BY dim, durable"
+    }
+
+    fn values<'a>(&'a self, alloc: Global) -> Result<Vec<ValueRef<'a>>, Cause> {
+        dim_and_text(alloc, self.dim, self.natural)
+    }
+
+    ghost reads = { λ q. of_natural q.dim q.natural.now };
+}
+
+/// The facts of one member of a dimension, in the order of their keys.
+#[derive(Clone, Copy, Debug, PartialEq, Eq)]
+pub struct SalesOf {
+    pub dim: Dim,
+    pub durable: u64,
+}
+
+impl Question<tables::Fact> for SalesOf {
+    ghost use Rattle.std.specs.Prelude.{◌≡◌, true, [], ◌∷◌, pos, None};
+    ghost use Rattle.std.specs.Ordering.{eq_by_cmp, nat_cmp};
+    ghost use Rattle.sqlite_value.specs.declared.value.Value.TheVariants.{Int};
+    ghost use Rattle.wh_rows.specs.Types.{is_number};
+    ghost use Rattle.wh_sql.specs.Asked.{durable_of, sales_text, sales_read};
+
+    ghost keep = { λ q r. eq_by_cmp nat_cmp q.durable (durable_of q.dim r) };
+
+    ghost front = { None };
+
+    ghost bind = { λ q. Int (pos q.durable) ∷ [] };
+
+    ghost can_be_asked = { λ q. is_number q.durable ≡ true };
+
+    ghost means = { λ q. sales_text q.dim };
+
+    fn text(&self) -> &'static str {
+        match self.dim {
+            Dim::Product => "SELECT * FROM fact WHERE product_durable = ?1 ORDER BY ticket, line",
+            Dim::Store => "SELECT * FROM fact WHERE store_durable = ?1 ORDER BY ticket, line",
+            Dim::Customer => "SELECT * FROM fact WHERE customer_durable = ?1 ORDER BY ticket, line",
+        }
+    }
+
+    fn values<'a>(&'a self, alloc: Global) -> Result<Vec<ValueRef<'a>>, Cause> {
+        number_key(alloc, &self.durable)
+    }
+
+    ghost reads = { λ q. sales_read q.dim q.durable };
+}
+
+/// The profile of a combination of values.
+#[derive(Clone, Copy, Debug)]
+pub struct ProfileOf<'q> {
+    pub values: &'q Values,
+}
+
+impl<'q> Question<tables::Profile> for ProfileOf<'q> {
+    ghost use Rattle.std.specs.Prelude.{None};
+    ghost use Rattle.wh_rows.specs.Rows.{slot_columns};
+    ghost use Rattle.wh_rows.proofs.Profiles.{of_values_text, of_values};
+    ghost use Rattle.wh_sql.specs.Asked.{same_slots};
+
+    ghost keep = { λ q r. same_slots q.values.now r.values };
+
+    ghost front = { None };
+
+    ghost bind = { λ q. slot_columns q.values.now };
+
+    ghost can_be_asked = { λ q. Unit {0} };
+
+    ghost means = { λ q. of_values_text };
+
+    fn text(&self) -> &'static str {
+        "SELECT * FROM profile WHERE v1 = ?1 AND v2 = ?2 AND v3 = ?3 AND v4 = ?4 AND v5 = ?5 AND v6 = ?6 ORDER BY number"
+    }
+
+    fn values<'a>(&'a self, alloc: Global) -> Result<Vec<ValueRef<'a>>, Cause> {
+        bound::slots(alloc, self.values)
+    }
+
+    ghost reads = { λ q. of_values q.values.now };
 }

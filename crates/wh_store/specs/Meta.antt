@@ -1,9 +1,8 @@
 -- The rows of meta: the format and the limits of a warehouse.
-use Rattle.std.specs.Prelude.{◌≡◌, ℕ, ℤ, pos, codes, List, if◌then◌else◌, Option, Some, None, Result, Ok, Err, int_lt}
-use Rattle.std.specs.FinMap.{FinMap, insert, get}
+use Rattle.std.specs.Prelude.{ℕ, ℤ, pos, codes, List, if◌then◌else◌, Option, Some, None, Result, Ok, Err, int_lt}
+use Rattle.std.specs.FinMap.{insert, get}
 use Rattle.wh_history.specs.Tables.{Limits}
 use Rattle.wh_rows.specs.Limits.{limits_of}
-use Rattle.wh_rows.specs.Rows.{meta}
 use Rattle.wh_rows.specs.declared.rows.MetaRow.{MetaRow}
 use Rattle.wh_rows.specs.Tables.{Tables, no_tables}
 use Rattle.wh_store.specs.declared.fault.OpenFault.{OpenFault}

@@ -1,4 +1,3 @@
-use Rattle.sqlite.specs.Held.{state}
 use Rattle.wh_sql.proofs.Creating.{next_extends}
 use Rattle.wh_sql.proofs.making.create_all.Goals as goal
 

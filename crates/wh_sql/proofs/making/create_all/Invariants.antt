@@ -11,5 +11,5 @@ invariant-loop-text g l =
     record {
       clean : HasCleanDisk (state g.S.Store l.conn) → HasCleanDisk (state g.S.Store l.fn.conn);
       making : HasCleanDisk (state g.S.Store l.conn) → (from to : Schema) → Leads from (map (λ text. text.now) l.texts) to → IsMaking from (state g.S.Store l.fn.conn)
-      → (next : Schema) × Leads next (map (λ text. text.now) (drop l.text-index l.texts)) to × IsMaking next (state g.S.Store l.conn);
+          → (next : Schema) × Leads next (map (λ text. text.now) (drop l.text-index l.texts)) to × IsMaking next (state g.S.Store l.conn);
     }

@@ -1,9 +1,6 @@
 use Rattle.sqlite.specs.Held.{state}
-use Rattle.wh_store.proofs.Transactions.{begins, begin_survives, begin_leaves, on_err}
+use Rattle.wh_store.proofs.Transactions.{begins, begin_survives, begin_leaves}
 use Rattle.wh_store.proofs.transaction.begin.Goals as goal
-
-pub returns-in_err-execute-clause-refused : goal.returns-in_err-execute-clause-refused
-returns-in_err-execute-clause-refused g c clean held at = on_err c.from_residual.result _ (begin_leaves (state g.S.Store c.args.conn.now) (state g.S.Store c.execute.new.self) held at clean c.execute.ensures.survives)
 
 pub returns-in_err-execute-clause-left : goal.returns-in_err-execute-clause-left
 returns-in_err-execute-clause-left g c clean held at = begin_leaves (state g.S.Store c.args.conn.now) (state g.S.Store c.execute.new.self) held at clean c.execute.ensures.survives

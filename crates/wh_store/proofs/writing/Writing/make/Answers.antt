@@ -1,8 +1,8 @@
-use Rattle.std.proofs.Common.{rules, ◌≡◌, None, Some, OnOk}
+use Rattle.std.proofs.Common.{None, Some, OnOk}
 use Rattle.sqlite.specs.Held.{state}
-use Rattle.wh_rows.specs.AtRest.{IsWriting, Leaves}
+use Rattle.wh_rows.specs.AtRest.{IsWriting}
 use Rattle.wh_rows.specs.Tables.{no_tables}
-use Rattle.wh_store.specs.Meta.{made_with, with_number}
+use Rattle.wh_store.specs.Meta.{made_with}
 use Rattle.wh_store.proofs.writing.Writing.make.Goals as goal
 
 -- src/writing.rt:92:9

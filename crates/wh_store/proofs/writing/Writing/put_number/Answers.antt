@@ -1,14 +1,10 @@
 use Rattle.std.proofs.Common.{◌≡◌, Some, OnOk, subst, ap, ◌∙◌, pos, true}
 use Rattle.sqlite.specs.Held.{state}
-use Rattle.sqlite.specs.State.{HasCleanDisk}
 use Rattle.wh_rows.specs.AtRest.{IsWriting}
-use Rattle.wh_rows.specs.Tables.{Tables as Rows}
 use Rattle.wh_rows.specs.declared.rows.MetaRow.{MetaRow}
 use Rattle.std.specs.Str.{is_utf8}
 use Rattle.std.specs.FinMap.{insert}
 use Rattle.std.proofs.lemmas.Str.{is_utf8-from_IsUtf8}
-use Rattle.wh_sql.specs.Fits.{MayBePut}
-use Rattle.wh_store.specs.Meta.{with_number}
 use Rattle.wh_store.proofs.writing.Writing.put_number.Goals as goal
 
 -- src/writing.rt:99:5

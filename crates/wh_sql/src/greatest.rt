@@ -1,0 +1,171 @@
+//! Questions after the greatest key.
+
+use crate::keys::dim_key;
+use crate::question::Question;
+use sqlite::types::ValueRef;
+use std::alloc::Global;
+use wh_policy::Dim;
+use wh_rows::{Cause, tables};
+
+/// The row of the greatest key, of a table whose key is a number.
+#[derive(Clone, Copy, Debug, PartialEq, Eq)]
+pub struct Greatest;
+
+impl Question<tables::Command> for Greatest {
+    ghost use Rattle.std.specs.Prelude.{true, [], Some};
+    ghost use Rattle.wh_rows.proofs.Commands.{greatest_text, greatest};
+
+    ghost keep = { λ q r. true };
+
+    ghost front = { Some (record { most = 1; backwards = true }) };
+
+    ghost bind = { λ q. [] };
+
+    ghost can_be_asked = { λ q. Unit {0} };
+
+    ghost means = { λ q. greatest_text };
+
+    fn text(&self) -> &'static str {
+        "SELECT * FROM command ORDER BY number DESC LIMIT 1"
+    }
+
+    fn values<'a>(&'a self, alloc: Global) -> Result<Vec<ValueRef<'a>>, Cause> {
+        Ok(Vec::new(alloc))
+    }
+
+    ghost reads = { λ q. greatest };
+}
+
+impl Question<tables::Product> for Greatest {
+    ghost use Rattle.std.specs.Prelude.{true, [], Some};
+    ghost use Rattle.wh_rows.proofs.Products.{greatest_text, greatest};
+
+    ghost keep = { λ q r. true };
+
+    ghost front = { Some (record { most = 1; backwards = true }) };
+
+    ghost bind = { λ q. [] };
+
+    ghost can_be_asked = { λ q. Unit {0} };
+
+    ghost means = { λ q. greatest_text };
+
+    fn text(&self) -> &'static str {
+        "SELECT * FROM product ORDER BY surrogate DESC LIMIT 1"
+    }
+
+    fn values<'a>(&'a self, alloc: Global) -> Result<Vec<ValueRef<'a>>, Cause> {
+        Ok(Vec::new(alloc))
+    }
+
+    ghost reads = { λ q. greatest };
+}
+
+impl Question<tables::Store> for Greatest {
+    ghost use Rattle.std.specs.Prelude.{true, [], Some};
+    ghost use Rattle.wh_rows.proofs.Stores.{greatest_text, greatest};
+
+    ghost keep = { λ q r. true };
+
+    ghost front = { Some (record { most = 1; backwards = true }) };
+
+    ghost bind = { λ q. [] };
+
+    ghost can_be_asked = { λ q. Unit {0} };
+
+    ghost means = { λ q. greatest_text };
+
+    fn text(&self) -> &'static str {
+        "SELECT * FROM store ORDER BY surrogate DESC LIMIT 1"
+    }
+
+    fn values<'a>(&'a self, alloc: Global) -> Result<Vec<ValueRef<'a>>, Cause> {
+        Ok(Vec::new(alloc))
+    }
+
+    ghost reads = { λ q. greatest };
+}
+
+impl Question<tables::Customer> for Greatest {
+    ghost use Rattle.std.specs.Prelude.{true, [], Some};
+    ghost use Rattle.wh_rows.proofs.Customers.{greatest_text, greatest};
+
+    ghost keep = { λ q r. true };
+
+    ghost front = { Some (record { most = 1; backwards = true }) };
+
+    ghost bind = { λ q. [] };
+
+    ghost can_be_asked = { λ q. Unit {0} };
+
+    ghost means = { λ q. greatest_text };
+
+    fn text(&self) -> &'static str {
+        "SELECT * FROM customer ORDER BY surrogate DESC LIMIT 1"
+    }
+
+    fn values<'a>(&'a self, alloc: Global) -> Result<Vec<ValueRef<'a>>, Cause> {
+        Ok(Vec::new(alloc))
+    }
+
+    ghost reads = { λ q. greatest };
+}
+
+impl Question<tables::Profile> for Greatest {
+    ghost use Rattle.std.specs.Prelude.{true, [], Some};
+    ghost use Rattle.wh_rows.proofs.Profiles.{greatest_text, greatest};
+
+    ghost keep = { λ q r. true };
+
+    ghost front = { Some (record { most = 1; backwards = true }) };
+
+    ghost bind = { λ q. [] };
+
+    ghost can_be_asked = { λ q. Unit {0} };
+
+    ghost means = { λ q. greatest_text };
+
+    fn text(&self) -> &'static str {
+        "SELECT * FROM profile ORDER BY number DESC LIMIT 1"
+    }
+
+    fn values<'a>(&'a self, alloc: Global) -> Result<Vec<ValueRef<'a>>, Cause> {
+        Ok(Vec::new(alloc))
+    }
+
+    ghost reads = { λ q. greatest };
+}
+
+/// The member of a dimension that has the greatest durable key.
+#[derive(Clone, Copy, Debug, PartialEq, Eq)]
+pub struct GreatestOf {
+    pub dim: Dim,
+}
+
+impl Question<tables::Member> for GreatestOf {
+    ghost use Rattle.std.specs.Prelude.{true, [], ◌∷◌, pos, Some};
+    ghost use Rattle.std.specs.Ordering.{eq_by_cmp, nat_cmp};
+    ghost use Rattle.sqlite_value.specs.declared.value.Value.TheVariants.{Int};
+    ghost use Rattle.wh_rows.specs.Types.{dim_number};
+    ghost use Rattle.wh_rows.proofs.Members.{greatest_text, greatest};
+
+    ghost keep = { λ q r. eq_by_cmp nat_cmp (dim_number q.dim) (dim_number r.dim) };
+
+    ghost front = { Some (record { most = 1; backwards = true }) };
+
+    ghost bind = { λ q. Int (pos (dim_number q.dim)) ∷ [] };
+
+    ghost can_be_asked = { λ q. Unit {0} };
+
+    ghost means = { λ q. greatest_text };
+
+    fn text(&self) -> &'static str {
+        "SELECT * FROM member WHERE dim = ?1 ORDER BY dim DESC, durable DESC LIMIT 1"
+    }
+
+    fn values<'a>(&'a self, alloc: Global) -> Result<Vec<ValueRef<'a>>, Cause> {
+        dim_key(alloc, self.dim)
+    }
+
+    ghost reads = { λ q. greatest q.dim };
+}
