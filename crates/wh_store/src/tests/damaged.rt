@@ -596,30 +596,27 @@ fn limits_damaged(alloc: Global, text: &str) -> Result<bool, Fail> {
     Ok(matches!(tables.limits(alloc), Err(Refusal::Damaged(Table::Meta))))
 }
 
-fn expect_no_limits(rt: &impl Abort, alloc: Global, name: &str, past: u64) -> Result<(), Fail> {
-    let past = format!(in alloc; "{past}")?;
-    for value in [
-        "0",
-        "-1",
-        past.as_str(),
-        "9223372036854775807",
-        "'ten'",
-        "1.5",
-        "x'31'",
-    ] {
-        let text = format!(in alloc; "UPDATE meta SET value = {value} WHERE name = '{name}'")?;
-        assert!(rt; limits_damaged(alloc, text.as_str())?, "{text}");
-    }
-    let text = format!(in alloc; "DELETE FROM meta WHERE name = '{name}'")?;
+fn expect_no_limit(rt: &impl Abort, alloc: Global, name: &str, value: &str) -> Result<(), Fail> {
+    let text = format!(in alloc; "UPDATE meta SET value = {value} WHERE name = '{name}'")?;
     assert!(rt; limits_damaged(alloc, text.as_str())?, "{text}");
     Ok(())
 }
 
+/// Neither a missing number is a limit, nor one of these.
+fn expect_no_limits(rt: &impl Abort, alloc: Global, name: &str, past: &str) -> Result<(), Fail> {
+    let missing = format!(in alloc; "DELETE FROM meta WHERE name = '{name}'")?;
+    assert!(rt; limits_damaged(alloc, missing.as_str())?, "{missing}");
+    for value in ["0", "-1", "9223372036854775807", "'ten'", "1.5", "x'31'"] {
+        expect_no_limit(rt, alloc, name, value)?;
+    }
+    expect_no_limit(rt, alloc, name, past)
+}
+
 #[test]
 fn limits(rt: HostRuntime) -> Result<(), Fail> {
-    expect_no_limits(&rt, rt.alloc(), "commands_max", 100_001)?;
-    expect_no_limits(&rt, rt.alloc(), "changes_max", 1_000_001)?;
-    expect_no_limits(&rt, rt.alloc(), "facts_max", 1_000_001)
+    expect_no_limits(&rt, rt.alloc(), "commands_max", "100001")?;
+    expect_no_limits(&rt, rt.alloc(), "changes_max", "1000001")?;
+    expect_no_limits(&rt, rt.alloc(), "facts_max", "1000001")
 }
 
 /// Limits at their edges are read.

@@ -35,9 +35,14 @@ fn crashed<D: Crash>(mut files: Files<D>) -> Files<D> {
     files
 }
 
-/// Whether a call on a disk fails.
+/// Whether a call on the disk fails.
+fn fails<D: Disk>(disk: &mut D) -> bool {
+    !disk.may_be_used() || disk.len().is_err()
+}
+
+/// Whether one of the disks has stopped.
 fn has_stopped<D: Disk>(files: &mut Files<D>) -> bool {
-    files.log.len().is_err() || files.db.len().is_err()
+    fails(&mut files.log) || fails(&mut files.db)
 }
 
 /// Empty files.
