@@ -15,6 +15,7 @@ use Rattle.wh_history.specs.declared.rows.DimRow.{DimRow}
 use Rattle.wh_rows.specs.Limits.{are_limits}
 use Rattle.wh_rows.specs.Tables.{Tables}
 use Rattle.wh_engine.specs.Defined.{AreOf}
+use Rattle.wh_engine.specs.Made.{making_of}
 use Rattle.wh_engine.specs.Planned.{Edits, with_batch_edits, AreEdits}
 use Rattle.wh_engine.specs.Sound.{IsAccepted}
 use Rattle.wh_engine.specs.Admission.{accepted_after}
@@ -54,13 +55,9 @@ SoundPoliciesShowNone = (commands : List Accepted) → ((policy : Policy) → po
 abbrev pub AcceptedListsStaySound : Type 0
 AcceptedListsStaySound = (limits : Limits) (commands : List Accepted) (c : Command) (dim : Dim) → c.kind ≡ Dimension dim → IsAccepted limits commands → IsAccepted limits (accepted_after limits commands c)
 
--- the making of a warehouse under a policy
-abbrev pub making : Policy → List ℕ → Accepted
-making policy bytes = record { id = codes "init"; kind = codes "init"; bytes = bytes; content = Governs policy }
-
 -- A making under a sound policy, as every policy that is read is, begins such a list.
 abbrev pub AcceptedListsBegin : Type 0
-AcceptedListsBegin = (limits : Limits) (policy : Policy) (bytes : List ℕ) → are_limits limits ≡ true → IsSound policy → IsAccepted limits (making policy bytes ∷ [])
+AcceptedListsBegin = (limits : Limits) (policy : Policy) (bytes : List ℕ) → are_limits limits ≡ true → IsSound policy → IsAccepted limits (making_of policy bytes ∷ [])
 
 -- The edits of a batch that can be accepted after the commands so far may be written: each row is valid, and no other command has the
 -- id, no other member of the dimension the natural key.

@@ -22,3 +22,6 @@ pub use questions::{CommandOf, MemberOf, ProfileOf, RecordsOf, RecordsOn, RowsOf
 pub use read::{all, count, get};
 pub use refusal::Refusal;
 pub use write::{put, remove};
+
+#[cfg(test)]
+mod tests;
