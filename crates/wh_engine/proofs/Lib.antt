@@ -12,4 +12,5 @@ pub mod MadeCalendar
 pub mod MadeRows
 pub mod MadeTables
 pub mod MadeFirst
+pub mod MadePolicies
 pub mod Worked

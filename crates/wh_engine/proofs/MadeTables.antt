@@ -18,14 +18,20 @@ use Rattle.wh_history.specs.Keys.{at_place}
 use Rattle.wh_history.specs.Accepted.{Accepted}
 use Rattle.wh_history.specs.Tables.{Limits, no_card_row, numbered_row, dimension_row, change_row}
 use Rattle.wh_rows.specs.Rows as row
+use Rattle.wh_rows.specs.Tables.{Tables}
 use Rattle.wh_rows.specs.declared.key.MemberKey.{MemberKey}
 use Rattle.wh_rows.specs.declared.key.ChangeKey.{ChangeKey}
 use Rattle.wh_rows.specs.declared.rows.MetaRow.{MetaRow}
 use Rattle.wh_rows.specs.declared.rows.ProfileRow.{ProfileRow}
 use Rattle.wh_store.specs.Meta.{made_with}
 use Rattle.wh_engine.specs.Defined.{meta_at, command_at, member_at, change_at, profile_at, AreOf}
-use Rattle.wh_engine.specs.Made.{making_of, making_row, profile_of, tables_made}
+use Rattle.wh_engine.specs.Made.{making_of, making_row, profile_of, first_profiles, calendar_rows, with_first}
 use Rattle.wh_engine.proofs.MadeCalendar.{calendar_made}
+
+-- the tables of a warehouse that was just made
+abbrev pub tables_made : Limits → Policy → List ℕ → Tables
+tables_made limits policy bytes =
+    with_first (making_row bytes) (no_card_row (types_of policy Customer)) (first_profiles (types_of policy Customer)) (calendar_rows policy) (made_with limits)
 
 -- ---- meta
 

@@ -7,5 +7,5 @@ mod making;
 mod write;
 
 pub use edits::Edits;
-pub use making::write_making;
+pub use making::{policies_are_good, write_making};
 pub use write::write_batch;

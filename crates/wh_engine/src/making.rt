@@ -7,7 +7,7 @@ ghost use Rattle.wh_history.specs.Slots.{six};
 ghost use Rattle.wh_rows.specs.AtRest.{IsWriting, Leaves};
 ghost use Rattle.wh_rows.specs.Tables.{Tables as Rows};
 ghost use Rattle.wh_engine.specs.Defined.{AreOf};
-ghost use Rattle.wh_engine.specs.Made.{making_of, IsGoodPolicy, making_row, in_profile, profile_of, first_profiles, calendar_rows, with_first, MayBeFirst};
+ghost use Rattle.wh_engine.specs.Made.{making_of, IsGoodPolicy, PoliciesAreGood, making_row, in_profile, profile_of, first_profiles, calendar_rows, with_first, MayBeFirst};
 
 use sqlite::Alter;
 use sqlite::types::Bytes;
@@ -145,3 +145,8 @@ pub fn write_making<S: Alter>(
     writing.make(alloc, limits)?;
     put_first(writing, alloc, &command, &customer, &profiles, &calendar)
 }
+
+/// A warehouse can be made under every policy that is read from a file. This is a law, and does nothing.
+pub fn policies_are_good()
+    ensures { PoliciesAreGood }
+{}
