@@ -121,8 +121,7 @@ fn put_first<S: Alter>(
     writing.put_all::<tables::Calendar>(alloc, calendar)
 }
 
-/// Makes the tables of a warehouse with these limits, whose first command is a making under the policy that these bytes
-/// write.
+/// Makes the tables of a warehouse with these limits whose one command is a making, with this policy and these bytes.
 pub fn write_making<S: Alter>(
     writing: &mut Writing<'_, S>,
     alloc: Global,
@@ -146,7 +145,8 @@ pub fn write_making<S: Alter>(
     put_first(writing, alloc, &command, &customer, &profiles, &calendar)
 }
 
-/// A warehouse can be made under every policy that is read from a file. This is a law, and does nothing.
+/// Every policy that is read from a file is good, so that a warehouse can be made under it. This is a law, and does
+/// nothing.
 pub fn policies_are_good()
     ensures { PoliciesAreGood }
 {}
