@@ -20,6 +20,7 @@ pub mod MadeCalendar
 pub mod MadeRows
 pub mod MadeTables
 pub mod MadeFirst
+pub mod MadePolicies
 pub mod Worked
 pub mod GrownUntouched
 pub mod GrownPlain

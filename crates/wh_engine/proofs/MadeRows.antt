@@ -1,11 +1,11 @@
 -- The rows of a making are valid.
-use Rattle.std.proofs.Common.{◌≡◌, inl, inr, ℕ, zero, suc, ◌+◌, ◌-◌, ◌<◌, ◌≤◌, Bool, true, false, leb, ltb, ◌&&◌, cond, List, [], ◌∷◌, ◌++◌, length, replicate, Option, Some, None, refl, sym, ◌∙◌, ap, subst, arith, length-append, get_or, Ordering}
+use Rattle.std.proofs.Common.{◌≡◌, inl, inr, ℕ, zero, suc, ◌+◌, ◌-◌, ◌<◌, ◌≤◌, Bool, true, false, leb, ltb, ◌&&◌, cond, List, [], ◌∷◌, length, replicate, Option, Some, None, refl, sym, ◌∙◌, ap, subst, arith, length-append, get_or, Ordering}
 use Rattle.std.specs.Prelude.{IsTrue, codes, filter_map, find, unwrap_or, option_map}
 use Rattle.std.specs.FinMap.{FinMap, empty, entries, len-entries, len-empty}
 use Rattle.std.specs.List.{AllByRecursion, list_all, cons_option}
 use Rattle.std.specs.Str.{is_utf8, IsAscii}
 use Rattle.std.proofs.lemmas.Bool.{and_parts, ltb-true, cases_Bool}
-use Rattle.std.proofs.lemmas.List.{length-replicate, length-map}
+use Rattle.std.proofs.lemmas.List.{length-replicate}
 use Rattle.std.proofs.lemmas.List.Folds.{list_all-append}
 use Rattle.std.proofs.lemmas.Str.{is_utf8-from_IsUtf8, IsUtf8-from_ascii}
 use Rattle.wh_day.specs.Calendar.{calendar_row, weekday_of, weekday_names, name_of_weekday}

@@ -1,5 +1,5 @@
 -- The tables of a warehouse that was just made are those of its one command.
-use Rattle.std.proofs.Common.{◌≡◌, ◌≢◌, inl, inr, ℕ, zero, suc, Bool, true, false, cond, List, [], ◌∷◌, Option, Some, None, refl, sym, ◌∙◌, ap, subst, arith, pos, OnOk, Result, Ok, Err}
+use Rattle.std.proofs.Common.{◌≡◌, ◌≢◌, inl, inr, ℕ, zero, suc, true, cond, List, [], ◌∷◌, Some, None, refl, sym, ◌∙◌, ap, subst, arith, pos}
 use Rattle.std.specs.Prelude.{codes, bytes_eq}
 use Rattle.std.specs.Cmp.{unsigned_tied}
 use Rattle.std.specs.Cmp.Lexicographic.{slice_cmp, nat_list_cmp_total}
@@ -17,20 +17,21 @@ use Rattle.wh_policy.specs.declared.policy.Policy.{Policy}
 use Rattle.wh_history.specs.Keys.{at_place}
 use Rattle.wh_history.specs.Accepted.{Accepted}
 use Rattle.wh_history.specs.Tables.{Limits, no_card_row, numbered_row, dimension_row, change_row}
-use Rattle.wh_history.specs.declared.rows.DimRow.{DimRow}
 use Rattle.wh_rows.specs.Rows as row
+use Rattle.wh_rows.specs.Tables.{Tables}
 use Rattle.wh_rows.specs.declared.key.MemberKey.{MemberKey}
 use Rattle.wh_rows.specs.declared.key.ChangeKey.{ChangeKey}
 use Rattle.wh_rows.specs.declared.rows.MetaRow.{MetaRow}
-use Rattle.wh_rows.specs.declared.rows.CommandRow.{CommandRow}
 use Rattle.wh_rows.specs.declared.rows.ProfileRow.{ProfileRow}
-use Rattle.wh_rows.specs.declared.rows.MemberRow.{MemberRow}
-use Rattle.wh_rows.specs.declared.rows.ChangeRow.{ChangeRow}
 use Rattle.wh_store.specs.Meta.{made_with}
 use Rattle.wh_engine.specs.Defined.{meta_at, command_at, member_at, change_at, profile_at, AreOf}
-use Rattle.wh_engine.specs.Made.{making_of, making_row, profile_of, first_profiles, tables_made}
-use Rattle.wh_engine.specs.Planned.{with_rows}
+use Rattle.wh_engine.specs.Made.{making_of, making_row, profile_of, first_profiles, calendar_rows, with_first}
 use Rattle.wh_engine.proofs.MadeCalendar.{calendar_made}
+
+-- the tables of a warehouse that was just made
+abbrev pub tables_made : Limits → Policy → List ℕ → Tables
+tables_made limits policy bytes =
+    with_first (making_row bytes) (no_card_row (types_of policy Customer)) (first_profiles (types_of policy Customer)) (calendar_rows policy) (made_with limits)
 
 -- ---- meta
 

@@ -1,18 +1,16 @@
 -- What the making of a warehouse writes.
-use Rattle.std.specs.Prelude.{◌≡◌, ℕ, ◌+◌, ◌*◌, ◌≤◌, true, cond, codes, List, [], ◌∷◌, length, filter_map}
+use Rattle.std.specs.Prelude.{◌≡◌, ℕ, ◌+◌, ◌*◌, ◌≤◌, true, cond, codes, List, [], ◌∷◌, length, filter_map, Ok}
 use Rattle.std.specs.List.{AllByRecursion}
 use Rattle.std.specs.Str.{is_utf8}
 use Rattle.wh_day.specs.Value.{no_card_text, unknown_text}
 use Rattle.wh_day.specs.declared.calendar.DateRow.{DateRow}
-use Rattle.wh_policy.specs.Policy.{types_of}
+use Rattle.wh_policy.specs.Policy.{types_of, policy_at}
 use Rattle.wh_policy.specs.Types.{is_profile}
 use Rattle.wh_policy.specs.declared.attribute.AttributeType.{AttributeType}
 use Rattle.wh_policy.specs.declared.attribute.Dim.{Dim}
-use Rattle.wh_policy.specs.declared.attribute.Dim.TheVariants.{Customer}
 use Rattle.wh_policy.specs.declared.policy.Policy.{Policy}
 use Rattle.wh_history.specs.Accepted.{Accepted, Governs}
 use Rattle.wh_history.specs.Slots.{columns_from, six}
-use Rattle.wh_history.specs.Tables.{Limits, no_card_row}
 use Rattle.wh_history.specs.declared.rows.DimRow.{DimRow}
 use Rattle.wh_rows.proofs.Commands
 use Rattle.wh_rows.specs.Meaning.{any}
@@ -22,7 +20,6 @@ use Rattle.wh_rows.specs.declared.rows.CommandRow.{CommandRow}
 use Rattle.wh_rows.specs.declared.rows.ProfileRow.{ProfileRow}
 use Rattle.wh_sql.specs.Fits.{MayBePut}
 use Rattle.wh_store.specs.Edits.{with_row, MayAll}
-use Rattle.wh_store.specs.Meta.{made_with}
 use Rattle.wh_engine.specs.Defined.{day_at}
 use Rattle.wh_engine.specs.Planned.{with_rows, behind}
 
@@ -34,6 +31,10 @@ making_of policy bytes = record { id = codes "init"; kind = codes "init"; bytes 
 pub record IsGoodPolicy (policy : Policy) : Type 0 where
   pub six : (dim : Dim) → length (types_of policy dim) ≤ 6
   pub names : AllByRecursion (λ holiday. is_utf8 holiday.name ≡ true) policy.holidays
+
+-- every policy that is read is such a policy
+abbrev pub PoliciesAreGood : Type 0
+PoliciesAreGood = (bytes : List ℕ) (policy : Policy) → policy_at bytes ≡ Ok policy → IsGoodPolicy policy
 
 -- the row of the making among the commands
 abbrev pub making_row : List ℕ → CommandRow
@@ -70,8 +71,3 @@ pub record MayBeFirst (of_command : CommandRow) (of_customer : DimRow) (of_profi
   pub customer : MayBePut row.customer any of_customer t.customer
   pub profiles : MayAll (with_row row.profile) (MayBePut row.profile any) of_profile t.profile
   pub calendar : MayAll (with_row row.calendar) (MayBePut row.calendar any) of_calendar t.calendar
-
--- the tables of a warehouse that was just made
-abbrev pub tables_made : Limits → Policy → List ℕ → Tables
-tables_made limits policy bytes =
-    with_first (making_row bytes) (no_card_row (types_of policy Customer)) (first_profiles (types_of policy Customer)) (calendar_rows policy) (made_with limits)

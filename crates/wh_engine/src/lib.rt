@@ -10,5 +10,5 @@ mod write;
 
 pub use command::{Command, Limit, Receipt, Refused, Reply};
 pub use edits::Edits;
-pub use making::write_making;
+pub use making::{policies_are_good, write_making};
 pub use write::write_batch;

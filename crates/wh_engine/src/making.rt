@@ -7,7 +7,7 @@ ghost use Rattle.wh_history.specs.Slots.{six};
 ghost use Rattle.wh_rows.specs.AtRest.{IsWriting, Leaves};
 ghost use Rattle.wh_rows.specs.Tables.{Tables as Rows};
 ghost use Rattle.wh_engine.specs.Defined.{AreOf};
-ghost use Rattle.wh_engine.specs.Made.{making_of, IsGoodPolicy, making_row, in_profile, profile_of, first_profiles, calendar_rows, with_first, MayBeFirst};
+ghost use Rattle.wh_engine.specs.Made.{making_of, IsGoodPolicy, PoliciesAreGood, making_row, in_profile, profile_of, first_profiles, calendar_rows, with_first, MayBeFirst};
 
 use sqlite::Alter;
 use sqlite::types::Bytes;
@@ -121,8 +121,7 @@ fn put_first<S: Alter>(
     writing.put_all::<tables::Calendar>(alloc, calendar)
 }
 
-/// Makes the tables of a warehouse with these limits, whose first command is a making under the policy that these bytes
-/// write.
+/// Makes the tables of a warehouse with these limits whose one command is a making, with this policy and these bytes.
 pub fn write_making<S: Alter>(
     writing: &mut Writing<'_, S>,
     alloc: Global,
@@ -145,3 +144,9 @@ pub fn write_making<S: Alter>(
     writing.make(alloc, limits)?;
     put_first(writing, alloc, &command, &customer, &profiles, &calendar)
 }
+
+/// Every policy that is read from a file is good, so that a warehouse can be made under it. This is a law, and does
+/// nothing.
+pub fn policies_are_good()
+    ensures { PoliciesAreGood }
+{}

@@ -1,7 +1,5 @@
-use Rattle.std.proofs.Common.{◌≡◌, ◌∙◌, None, ap}
+use Rattle.std.proofs.Common.{◌∙◌, None, ap}
 use Rattle.std.proofs.lemmas.Result.{on_ok_weaker}
-use Rattle.wh_policy.specs.Policy.{types_of}
-use Rattle.wh_policy.specs.declared.attribute.Dim.TheVariants.{Customer}
 use Rattle.wh_history.specs.Tables.{no_card_row}
 use Rattle.wh_store.specs.Meta.{made_with}
 use Rattle.wh_engine.specs.Made.{first_profiles}

@@ -1,0 +1,41 @@
+-- A policy that is read is one that a warehouse can be made under.
+use Rattle.std.proofs.Common.{◌≡◌, ◌≢◌, ℕ, true, leb, ◌&&◌, not, List, [], ◌∷◌, length, Some, None, refl}
+use Rattle.std.specs.Prelude.{◌==◌}
+use Rattle.std.specs.List.{AllByRecursion, AllZip, list_all}
+use Rattle.std.specs.Str.{is_utf8}
+use Rattle.std.proofs.lemmas.Bool.{and_parts}
+use Rattle.std.proofs.lemmas.List.{length-map}
+use Rattle.std.proofs.lemmas.Option.{cond_some}
+use Rattle.wh_day.specs.Value.{is_printed, is_plain, read_value}
+use Rattle.wh_day.specs.declared.holiday.Holiday.{Holiday}
+use Rattle.wh_policy.specs.declared.policy.Years.{Years}
+use Rattle.wh_policy.proofs.FileLaws.{ok_is, policies_are_sound}
+use Rattle.wh_policy.proofs.HolidayLaws.{IsHoliday, HolidaysAre}
+use Rattle.wh_engine.specs.Made.{PoliciesAreGood}
+
+-- a value that is read, and isn't what stands for none, is text
+value_utf8 : (name : List ℕ) → name ≢ [] → read_value name ≡ Some name → is_utf8 name ≡ true
+unfolding read_value is_plain
+value_utf8 [] some read = absurd (some refl)
+value_utf8 (first ∷ rest) some read =
+    let name = first ∷ rest in
+    let plain = (and_parts (not (first == 40)) (is_plain name) (cond_some (not (first == 40) && is_plain name) name name read).0).1 in
+    (and_parts (leb (length name) 60 && list_all is_printed name) (is_utf8 name) plain).1
+
+all_named : (years : Years) (tables : _) (holidays : List Holiday) → AllZip (IsHoliday years) tables holidays → AllByRecursion (λ (h : Holiday). is_utf8 h.name ≡ true) holidays
+all_named years [] [] zip = tt
+all_named years [] (h ∷ holidays) zip = absurd zip
+all_named years (t ∷ tables) [] zip = tt
+all_named years (t ∷ tables) (h ∷ holidays) zip = (value_utf8 h.name zip.0.some zip.0.name, all_named years tables holidays zip.1)
+
+names_are : (years : Years) (found : _) (holidays : List Holiday) → HolidaysAre years found holidays → AllByRecursion (λ (h : Holiday). is_utf8 h.name ≡ true) holidays
+names_are years None holidays are = rw are tt
+names_are years (Some content) holidays are = all_named years are.0 holidays are.2
+
+pub policies_are_good : PoliciesAreGood
+policies_are_good bytes policy read =
+    let (members, document, is) = ok_is bytes policy read in
+    record {
+      six = λ dim. rw length-map ((policies_are_sound bytes policy read).attributes dim).few;
+      names = names_are policy.years _ policy.holidays is.holidays;
+    }
