@@ -1,5 +1,5 @@
 #!/usr/bin/env bash
-# Builds the program of this folder, which is no crate of the repository, on a copy of it: build.sh FOLDER makes the copy in the
+# Builds the program of this folder (Rattle sources under another ending, since only a crate may have .rt files), which is no crate of the repository, on a copy of it: build.sh FOLDER makes the copy in the
 # new folder and prints the path of the built program. Prove the crates below it first (`rt check` in crates/wh_store).
 set -eu
 [ $# = 1 ] || { echo "usage: build.sh FOLDER" >&2; exit 1; }
@@ -9,7 +9,9 @@ mkdir "$1"
 copy=$(cd "$1" && pwd)
 mkdir -p "$copy/crates/table_bench/src"
 cp "$top/HANDLES" "$copy"
-cp "$here"/*.rt "$copy/crates/table_bench/src"
+for source in main rows trouble; do
+    cp "$here/$source.rattle" "$copy/crates/table_bench/src/$source.rt"
+done
 for name in wh_day wh_policy wh_history wh_rows wh_sql wh_store; do
     cp -a "$top/crates/$name" "$copy/crates"
     grep "^$name:" "$top/crates.txt" >> "$copy/crates.txt"
