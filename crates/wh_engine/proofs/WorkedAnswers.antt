@@ -5,11 +5,10 @@ use Rattle.std.specs.Str.{is_utf8, chars}
 use lib.Utf8.{encode}
 use Rattle.wh_policy.specs.Policy.{trial_policy}
 use Rattle.wh_policy.specs.declared.attribute.Dim.TheVariants.{Product, Store}
-use Rattle.wh_policy.specs.declared.record.DimensionRecord.{DimensionRecord}
 use Rattle.wh_policy.specs.declared.record.SaleRecord.{SaleRecord}
 use Rattle.wh_batch.specs.declared.kind.Kind.{Kind}
 use Rattle.wh_batch.specs.declared.kind.Kind.TheVariants.{Dimension, Sales}
-use Rattle.wh_batch.specs.declared.fault.FaultKind.TheVariants.{WrongHeader, BadKey}
+use Rattle.wh_batch.specs.declared.fault.FaultKind.TheVariants.{WrongHeader}
 use Rattle.wh_batch.specs.Batch.{at}
 use Rattle.wh_batch.proofs.OnLiterals.{batch_on_literals}
 use Rattle.wh_history.specs.Accepted.{Accepted, Governs, Describes, Sells}
@@ -19,7 +18,7 @@ use Rattle.wh_engine.specs.declared.command.Command.{Command}
 use Rattle.wh_engine.specs.declared.command.Receipt.{Receipt}
 use Rattle.wh_engine.specs.declared.command.Reply.TheVariants.{Accepted as Accepts, Already}
 use Rattle.wh_engine.specs.declared.command.Refused.TheVariants.{BadId, Reused, Batch, LineThere, Full}
-use Rattle.wh_engine.specs.declared.command.Limit.TheVariants.{Commands, Changes, Facts}
+use Rattle.wh_engine.specs.declared.command.Limit.TheVariants.{Commands, Changes}
 
 abbrev limits : ℕ → ℕ → ℕ → Limits
 limits commands changes facts = record { commands = commands; changes = changes; facts = facts }

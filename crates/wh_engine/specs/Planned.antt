@@ -1,7 +1,7 @@
 -- What a batch of dimension records writes.
-use Rattle.std.specs.Prelude.{◌≡◌, ℕ, suc, ◌+◌, ◌-◌, List, [], ◌∷◌, length, map, filter_map}
+use Rattle.std.specs.Prelude.{◌≡◌, ℕ, suc, ◌-◌, List, length, filter_map}
 use Rattle.std.specs.List.{range_with_len}
-use Rattle.std.specs.FinMap.{FinMap, insert, remove}
+use Rattle.std.specs.FinMap.{FinMap}
 use Rattle.wh_policy.specs.declared.attribute.Dim.{Dim}
 use Rattle.wh_policy.specs.declared.attribute.Dim.TheVariants.{Product, Store, Customer}
 use Rattle.wh_policy.specs.declared.record.DimensionRecord.{DimensionRecord}
@@ -9,7 +9,6 @@ use Rattle.wh_history.specs.Accepted.{Accepted, members, profiles_of}
 use Rattle.wh_history.specs.Tables.{dimension_row}
 use Rattle.wh_history.specs.Plan.{IsPlan}
 use Rattle.wh_history.specs.declared.plan.Edit.{Edit}
-use Rattle.wh_history.specs.declared.plan.Edit.TheVariants.{Put, Remove}
 use Rattle.wh_history.specs.declared.rows.DimRow.{DimRow}
 use Rattle.wh_rows.specs.declared.rows.CommandRow.{CommandRow}
 use Rattle.wh_rows.specs.declared.rows.MemberRow.{MemberRow}

@@ -1,7 +1,7 @@
 use Rattle.std.proofs.Common.{Some, OnOk, subst}
 use Rattle.sqlite.specs.Held.{state}
 use Rattle.wh_rows.specs.AtRest.{IsWriting, Leaves}
-use Rattle.wh_engine.specs.Planned.{Edits, with_lists, with_batch_edits}
+use Rattle.wh_engine.specs.Planned.{with_batch_edits}
 use Rattle.wh_engine.specs.Writable.{MayBeWritten}
 use Rattle.wh_engine.proofs.Beside.{may_still}
 use Rattle.wh_engine.proofs.write.write_batch.Goals as goal
