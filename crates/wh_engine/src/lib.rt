@@ -12,3 +12,6 @@ pub use command::{Command, Limit, Receipt, Refused, Reply};
 pub use edits::Edits;
 pub use making::{policies_are_good, write_making};
 pub use write::write_batch;
+
+#[cfg(test)]
+mod tests;

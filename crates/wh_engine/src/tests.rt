@@ -1,0 +1,189 @@
+use super::*;
+use crate::kept::{command_of, members_given, stored_changes, stored_member, stored_rows};
+use sqlite::{Connection, MemStore};
+use sqlite_value::value::Bytes;
+use std::alloc::{AllocError, Global};
+use std::test::Fail;
+use wh_day::{Day, Value, Values};
+use wh_history::{DimRow, Edit};
+use wh_policy::{Dim, Policy};
+use wh_rows::tables::{Calendar, Customer, Product, Profile};
+use wh_rows::{ChangeRow, CommandRow, Limits, MemberRow};
+use wh_store::{Cause, Tables};
+
+fn make(alloc: Global, tables: &mut Tables<MemStore>, policy: &Policy) -> Result<(), Cause> {
+    let mut writing = tables.begin()?;
+    write_making(
+        &mut writing,
+        alloc,
+        Limits::greatest(),
+        policy,
+        b"first_year = 2023",
+    )?;
+    writing.commit()
+}
+
+/// A warehouse under the policy of a trial, in memory.
+fn warehouse(alloc: Global) -> Result<Tables<MemStore>, Fail> {
+    let conn = Connection::open_in_memory(alloc)?;
+    let mut tables = Tables::make(conn).ok().ok_or("free names")?;
+    make(alloc, &mut tables, &Policy::trial(alloc)?)?;
+    Ok(tables)
+}
+
+fn text(alloc: Global, text: &str) -> Result<Value, AllocError> {
+    Value::new(alloc, text)
+}
+
+/// Two texts, and four empty ones.
+fn six(alloc: Global, first: &str, second: &str) -> Result<Values, AllocError> {
+    let mut texts = Values::new(alloc);
+    texts.push(text(alloc, first)?)?;
+    texts.push(text(alloc, second)?)?;
+    for _ in 2..6 {
+        texts.push(Value::empty(alloc))?;
+    }
+    Ok(texts)
+}
+
+fn command(alloc: Global) -> Result<Vec<CommandRow>, Fail> {
+    let mut rows = Vec::new(alloc);
+    rows.push(CommandRow {
+        number: 2,
+        id: text(alloc, "p1")?,
+        kind: text(alloc, "product")?,
+        bytes: Bytes::from_slice(alloc, b"a batch")?,
+        records: 1,
+        placeholders: 0,
+    })?;
+    Ok(rows)
+}
+
+fn members(alloc: Global) -> Result<Vec<MemberRow>, Fail> {
+    let mut rows = Vec::new(alloc);
+    rows.push(MemberRow {
+        dim: Dim::Product,
+        durable: 1,
+        natural: text(alloc, "P1")?,
+        opening: 1,
+    })?;
+    Ok(rows)
+}
+
+fn changes(alloc: Global) -> Result<Vec<ChangeRow>, Fail> {
+    let mut rows = Vec::new(alloc);
+    rows.push(ChangeRow {
+        command: 2,
+        place: 1,
+        dim: Dim::Product,
+        durable: 1,
+        day: Day::from_key(20240110).ok_or("a day")?,
+        anchor: 2,
+        values: six(alloc, "Cola 1l", "Acme")?,
+    })?;
+    Ok(rows)
+}
+
+fn rows(alloc: Global) -> Result<Vec<Edit<DimRow, u64>>, Fail> {
+    let mut edits = Vec::new(alloc);
+    edits.push(Edit::Put(DimRow {
+        surrogate: 1,
+        durable: 1,
+        natural: text(alloc, "P1")?,
+        from_day: Day::first(),
+        to_day: Day::last(),
+        is_current: true,
+        a: six(alloc, "Cola 1l", "Acme")?,
+        b: six(alloc, "", "")?,
+        profile_now: 0,
+    }))?;
+    Ok(edits)
+}
+
+/// The edits of one record of a new product, `P1,2024-01-10,Cola 1l,Acme`.
+fn edits(alloc: Global) -> Result<Edits, Fail> {
+    Ok(Edits {
+        command: command(alloc)?,
+        members: members(alloc)?,
+        changes: changes(alloc)?,
+        rows: rows(alloc)?,
+        profiles: Vec::new(alloc),
+    })
+}
+
+fn write(alloc: Global, tables: &mut Tables<MemStore>, edits: &Edits) -> Result<(), Cause> {
+    let mut writing = tables.begin()?;
+    write_batch(&mut writing, alloc, Dim::Product, edits)?;
+    writing.commit()
+}
+
+fn with_product(alloc: Global) -> Result<Tables<MemStore>, Fail> {
+    let mut tables = warehouse(alloc)?;
+    write(alloc, &mut tables, &edits(alloc)?)?;
+    Ok(tables)
+}
+
+#[test]
+fn a_warehouse_is_made(rt: HostRuntime) -> Result<(), Fail> {
+    let alloc = rt.alloc();
+    let mut tables = warehouse(alloc)?;
+    assert_eq!(rt; tables.count::<Calendar>(alloc)?, 1461);
+    assert_eq!(rt; tables.count::<Profile>(alloc)?, 2);
+    assert_eq!(rt; tables.count::<Product>(alloc)?, 0);
+    Ok(())
+}
+
+#[test]
+fn sales_without_a_card_have_a_row(rt: HostRuntime) -> Result<(), Fail> {
+    let alloc = rt.alloc();
+    let row = warehouse(alloc)?
+        .get::<Customer>(alloc, &0)?
+        .ok_or("row 0")?;
+    assert_eq!(rt; row.natural.as_str(), "(no card)");
+    assert!(rt; row.is_current);
+    Ok(())
+}
+
+#[test]
+fn the_making_is_found(rt: HostRuntime) -> Result<(), Fail> {
+    let alloc = rt.alloc();
+    let id = text(alloc, "init")?;
+    let row = command_of(&mut warehouse(alloc)?, alloc, &id)?.ok_or("the making")?;
+    assert_eq!(rt; row.number, 1);
+    assert_eq!(rt; row.bytes.as_slice(), b"first_year = 2023".as_slice());
+    Ok(())
+}
+
+#[test]
+fn a_batch_is_written(rt: HostRuntime) -> Result<(), Fail> {
+    let alloc = rt.alloc();
+    let mut tables = with_product(alloc)?;
+    let member = stored_member(&mut tables, alloc, Dim::Product, &text(alloc, "P1")?)?;
+    assert_eq!(rt; member.durable, 1);
+    assert_eq!(rt; member.opening, 1);
+    assert_eq!(rt; member.changes.as_slice().len(), 1);
+    Ok(())
+}
+
+#[test]
+fn what_is_kept_of_a_member(rt: HostRuntime) -> Result<(), Fail> {
+    let alloc = rt.alloc();
+    let mut tables = with_product(alloc)?;
+    let changes = stored_changes(&mut tables, alloc, Dim::Product, 1)?;
+    assert_eq!(rt; changes.as_slice().len(), 1);
+    let rows = stored_rows(&mut tables, alloc, Dim::Product, 1)?;
+    assert_eq!(rt; rows.len(), 1);
+    Ok(())
+}
+
+#[test]
+fn numbers_that_were_given(rt: HostRuntime) -> Result<(), Fail> {
+    let alloc = rt.alloc();
+    let mut tables = with_product(alloc)?;
+    let given = members_given(&mut tables, alloc, Dim::Product)?;
+    assert_eq!(rt; given.members, 1);
+    assert_eq!(rt; given.opening, 1);
+    let none = members_given(&mut tables, alloc, Dim::Store)?;
+    assert_eq!(rt; none.members, 0);
+    Ok(())
+}
