@@ -6,5 +6,5 @@ pub mod ListedChanges
 pub mod FoundChanges
 pub mod FoundRows
 pub mod FoundOwners
-pub mod FoundMember
+pub mod FoundStored
 pub mod FoundAnchors
