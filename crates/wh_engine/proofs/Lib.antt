@@ -34,8 +34,8 @@ pub mod ListedChanges
 pub mod FoundChanges
 pub mod FoundRows
 pub mod FoundOwners
-pub mod FoundMember
 pub mod GoodRecords
 pub mod StaysAccepted
 pub mod StaysBegun
+pub mod FoundStored
 pub mod FoundAnchors

@@ -1,6 +1,6 @@
 use Rattle.std.proofs.Common.{◌≡◌, length, arith, None, Some}
 use Rattle.std.specs.Prelude.{vec_len}
-use Rattle.wh_engine.proofs.FoundMember.{last_row, no_last_row, last_popped}
+use Rattle.wh_engine.proofs.FoundStored.{last_row, no_last_row, last_popped}
 use Rattle.wh_engine.proofs.kept.members_given.Goals as goal
 
 -- src/kept.rt:179:1

@@ -1,6 +1,6 @@
 use Rattle.std.proofs.Common.{◌≡◌, length, arith, sym, ◌∙◌, None, Some}
 use Rattle.std.specs.Prelude.{vec_len}
-use Rattle.wh_engine.proofs.FoundMember.{row_found, none_found, member_popped, member_absent}
+use Rattle.wh_engine.proofs.FoundStored.{row_found, none_found, member_popped, member_absent}
 use Rattle.wh_engine.proofs.kept.stored_member.Goals as goal
 
 -- src/kept.rt:124:1
