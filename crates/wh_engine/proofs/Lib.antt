@@ -11,3 +11,7 @@ pub mod WrittenBatch
 pub mod Worked
 pub mod GrownUntouched
 pub mod GrownPlain
+pub mod PlanningPlaces
+pub mod PlanningLists
+pub mod PlanningMembers
+pub mod PlanningChanges

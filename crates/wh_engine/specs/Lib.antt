@@ -3,3 +3,4 @@ pub mod Planned
 pub mod Writable
 pub mod Laws
 pub mod Sound
+pub mod Planning

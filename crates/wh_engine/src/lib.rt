@@ -3,6 +3,7 @@
 
 mod edits;
 pub mod laws;
+pub mod planning;
 mod write;
 
 pub use edits::Edits;
