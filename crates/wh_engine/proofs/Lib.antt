@@ -15,3 +15,5 @@ pub mod PlanningPlaces
 pub mod PlanningLists
 pub mod PlanningMembers
 pub mod PlanningChanges
+pub mod PlanningTable
+pub mod PlanningOwners

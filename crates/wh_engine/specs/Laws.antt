@@ -8,12 +8,15 @@ use Rattle.wh_policy.specs.declared.attribute.Dim.{Dim}
 use Rattle.wh_policy.specs.declared.attribute.Dim.TheVariants.{Product, Store, Customer}
 use Rattle.wh_policy.specs.declared.record.DimensionRecord.{DimensionRecord}
 use Rattle.wh_history.specs.Accepted.{Accepted, Describes, policy_after, types_in, sold}
-use Rattle.wh_history.specs.Laws.{governs, mentions_member}
+use Rattle.wh_history.specs.Laws.{RecordsHaveDays, governs, mentions_member}
+use Rattle.wh_history.specs.Plan.{IsPlan, row_of}
 use Rattle.wh_history.specs.Tables.{Limits, dimension_row}
+use Rattle.wh_history.specs.declared.plan.Edit.{Edit}
 use Rattle.wh_history.specs.declared.rows.DimRow.{DimRow}
 use Rattle.wh_rows.specs.Tables.{Tables}
 use Rattle.wh_engine.specs.Defined.{AreOf}
 use Rattle.wh_engine.specs.Planned.{Edits, with_batch_edits, AreEdits}
+use Rattle.wh_engine.specs.Planning.{of_members, naturals_told, durables_touched, rows_of_members, members_among}
 
 -- the rows of a dimension show no profile
 abbrev pub ShowsNoProfile : List Accepted → Dim → Type 0
@@ -43,3 +46,28 @@ UntouchedMembersKeep = (commands : List Accepted) (c : Accepted) (dim : Dim) (na
 -- The rows of products and stores show no profile where the policy in force is sound, as every policy that is read is.
 abbrev pub SoundPoliciesShowNone : Type 0
 SoundPoliciesShowNone = (commands : List Accepted) → ((policy : Policy) → policy_after None commands ≡ Some policy → IsSound policy) → ShowsNoProfile commands Product × ShowsNoProfile commands Store
+
+-- Where some rows are those of the touched members in the table before a batch, and others those in the table with it, the edits
+-- between them are the edits between the tables.
+abbrev pub TouchedRowsAreThePlan : Type 0
+TouchedRowsAreThePlan = (commands : List Accepted) (c : Accepted) (dim : Dim) (records : List DimensionRecord) (stored after : List DimRow) (edits : List (Edit DimRow ℕ))
+    → c.content ≡ Describes dim records
+    → (dim ≢ Customer → ShowsNoProfile commands dim)
+    → ((key : ℕ) → row_of key stored ≡ of_members (durables_touched dim commands (commands ++ c ∷ []) records) (dimension_row commands dim key))
+    → ((key : ℕ) → row_of key after ≡ of_members (durables_touched dim commands (commands ++ c ∷ []) records) (dimension_row (commands ++ c ∷ []) dim key))
+    → IsPlan (λ r. r.surrogate) (λ key. row_of key stored) (λ key. row_of key after) edits
+    → IsPlan (λ r. r.surrogate) (dimension_row commands dim) (dimension_row (commands ++ c ∷ []) dim) edits
+
+-- The rows of the touched members that the older commands mention, one member after the other, are those in the table before the batch.
+abbrev pub TouchedRowsBefore : Type 0
+TouchedRowsBefore = (commands : List Accepted) (c : Accepted) (dim : Dim) (records : List DimensionRecord) (key : ℕ)
+    → c.content ≡ Describes dim records
+    → RecordsHaveDays commands
+    → row_of key (rows_of_members commands dim (members_among commands dim (naturals_told records))) ≡ of_members (durables_touched dim commands (commands ++ c ∷ []) records) (dimension_row commands dim key)
+
+-- The rows of all touched members with the batch are those in the table with it.
+abbrev pub TouchedRowsAfter : Type 0
+TouchedRowsAfter = (commands : List Accepted) (c : Accepted) (dim : Dim) (records : List DimensionRecord) (key : ℕ)
+    → c.content ≡ Describes dim records
+    → RecordsHaveDays (commands ++ c ∷ [])
+    → row_of key (rows_of_members (commands ++ c ∷ []) dim (naturals_told records)) ≡ of_members (durables_touched dim commands (commands ++ c ∷ []) records) (dimension_row (commands ++ c ∷ []) dim key)
