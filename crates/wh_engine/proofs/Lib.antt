@@ -17,3 +17,4 @@ pub mod PlanningMembers
 pub mod PlanningChanges
 pub mod PlanningTable
 pub mod PlanningOwners
+pub mod PlanningRendered

@@ -1,23 +1,25 @@
 //! What a batch writes, from the members that it touches.
 
-ghost use Rattle.std.specs.Prelude.{◌≡◌, ◌++◌, ◌∷◌, [], ℕ, List, length, filter_map, find, bytes_eq, IfOk, OnOk};
+ghost use Rattle.std.specs.Prelude.{◌≡◌, ◌++◌, ◌∷◌, [], ℕ, List, length, filter_map, flat_map, find, bytes_eq, Some, None, IfOk, OnOk};
 ghost use Rattle.std.specs.BTreeMap.{get_by};
 ghost use Rattle.std.specs.Cmp.Lexicographic.{slice_cmp};
 ghost use Rattle.std.specs.Ordering.{nat_cmp};
 ghost use Rattle.std.specs.Option.{option_copied};
 ghost use Rattle.wh_policy.specs.declared.record.DimensionRecord.{DimensionRecord as Told};
-ghost use Rattle.wh_history.specs.Accepted.{Accepted, Describes, members};
+ghost use Rattle.wh_policy.specs.Policy.{types_of};
+ghost use Rattle.wh_history.specs.Accepted.{Accepted, Describes, members, policy_after, profiles_of};
+ghost use Rattle.wh_history.specs.Rows.{rows};
 ghost use Rattle.wh_history.specs.Slots.{six};
 ghost use Rattle.wh_history.specs.Touched.{touched_by};
 ghost use Rattle.wh_engine.specs.Defined.{member_at, change_at};
 ghost use Rattle.wh_engine.specs.Planned.{behind};
-ghost use Rattle.wh_engine.specs.Planning.{by_place, row_of_member, new_member, row_of_record, named, new_change};
+ghost use Rattle.wh_engine.specs.Planning.{rows_of_members, naturals_told, by_place, row_of_member, new_member, row_of_record, named, new_change};
 
 use std::alloc::{AllocError, Global};
 use std::collections::BTreeMap;
 use wh_day::{Value, Values};
-use wh_history::{Member, anchor_of_day};
-use wh_policy::{Dim, DimensionRecord};
+use wh_history::{DimRow, Member, Profiles, anchor_of_day, render_types};
+use wh_policy::{Dim, DimensionRecord, Policy};
 use wh_rows::{ChangeRow, MemberRow};
 
 fn member_row(dim: Dim, member: &Member) -> Result<MemberRow, AllocError>
@@ -121,4 +123,27 @@ pub fn new_changes(
         }
     }
     Ok(rows)
+}
+
+/// The rows of the touched members, one member after the other.
+pub fn rendered(
+    alloc: Global,
+    policy: &Policy,
+    dim: Dim,
+    touched: &[Member],
+    profiles: &Profiles,
+) -> Result<Vec<DimRow>, AllocError>
+    ensures rows { IfOk result (λ found. found.items ≡ flat_map (λ m. rows (types_of policy.now dim) profiles.now m) touched.now) }
+    // Under the policy in force with a batch, and with its profiles, they are the rows that the members have then.
+    ensures planned { (before after : List Accepted) (records : List Told) → touched.now ≡ (touched_by dim before after records).list
+        → policy_after None after ≡ Some policy.now → profiles.now ≡ profiles_of after
+        → IfOk result (λ found. found.items ≡ rows_of_members after dim (naturals_told records)) }
+{
+    let types = policy.types(alloc, dim)?;
+    let mut found = Vec::new(alloc);
+    for member in touched {
+        let mut rows = render_types(alloc, &types, member, profiles)?;
+        found.append(&mut rows)?;
+    }
+    Ok(found)
 }
