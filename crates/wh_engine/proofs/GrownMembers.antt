@@ -45,7 +45,7 @@ opened_by_one : (o : Option (List ℕ)) → AllByRecursion (Opened (map opening_
 opened_by_one None = tt
 opened_by_one (Some natural) = (rw (opens_itself natural) refl, tt)
 
-all_mapped : (P : List ℕ → Type 0) (ms : List Anchor) → AllByRecursion (λ (a : Anchor). P a.natural) ms → AllByRecursion P (map (λ (a : Anchor). a.natural) ms)
+pub all_mapped : (P : List ℕ → Type 0) (ms : List Anchor) → AllByRecursion (λ (a : Anchor). P a.natural) ms → AllByRecursion P (map (λ (a : Anchor). a.natural) ms)
 all_mapped P [] all = tt
 all_mapped P (m ∷ ms) all = (all.0, all_mapped P ms all.1)
 
@@ -58,7 +58,7 @@ module _ (dim : Dim) where
   opened_by content =
       opened_both (flat_map anchors_of_record (described_by dim content)) (flat_map (anchors_of_sale dim) (sold_by content)) (opened_by_records (described_by dim content)) (opened_by_sales (sold_by content))
 
-  opened_in_all : (commands : List Accepted) → AllByRecursion (Opened (mentions dim commands)) (mentions dim commands)
+  pub opened_in_all : (commands : List Accepted) → AllByRecursion (Opened (mentions dim commands)) (mentions dim commands)
   opened_in_all [] = tt
   opened_in_all (c ∷ commands) = opened_both (anchors_by dim c.content) (mentions dim commands) (opened_by c.content) (opened_in_all commands)
 

@@ -44,7 +44,7 @@ at_less P zero xs ys x all not h = cc
 at_less P (suc n) xs ys x all not h = get_less P n xs ys x all not h
 
 -- what is found came from the anchor of its key
-found_at : (key : ℕ) (rows : Anchor → List DimRow) (o : Option Anchor) (r : DimRow) → option_and_then (λ (a : Anchor). find (λ (q : DimRow). q.surrogate == key) (rows a)) o ≡ Some r
+pub found_at : (key : ℕ) (rows : Anchor → List DimRow) (o : Option Anchor) (r : DimRow) → option_and_then (λ (a : Anchor). find (λ (q : DimRow). q.surrogate == key) (rows a)) o ≡ Some r
     → (a : Anchor) × (o ≡ Some a) × (find (λ (q : DimRow). q.surrogate == key) (rows a) ≡ Some r)
 found_at key rows None r h = cc
 found_at key rows (Some a) r h = (a, refl, h)

@@ -39,3 +39,10 @@ pub mod StaysAccepted
 pub mod StaysBegun
 pub mod FoundStored
 pub mod FoundAnchors
+pub mod PlanningPlaces
+pub mod PlanningLists
+pub mod PlanningMembers
+pub mod PlanningChanges
+pub mod PlanningTable
+pub mod PlanningOwners
+pub mod PlanningRendered

@@ -9,8 +9,10 @@ use Rattle.wh_policy.specs.declared.attribute.Dim.TheVariants.{Product, Store, C
 use Rattle.wh_policy.specs.declared.record.DimensionRecord.{DimensionRecord}
 use Rattle.wh_batch.specs.declared.kind.Kind.TheVariants.{Dimension}
 use Rattle.wh_history.specs.Accepted.{Accepted, Describes, policy_after, types_in, sold}
-use Rattle.wh_history.specs.Laws.{governs, mentions_member}
+use Rattle.wh_history.specs.Laws.{RecordsHaveDays, governs, mentions_member}
+use Rattle.wh_history.specs.Plan.{IsPlan, row_of}
 use Rattle.wh_history.specs.Tables.{Limits, dimension_row}
+use Rattle.wh_history.specs.declared.plan.Edit.{Edit}
 use Rattle.wh_history.specs.declared.rows.DimRow.{DimRow}
 use Rattle.wh_rows.specs.Limits.{are_limits}
 use Rattle.wh_rows.specs.Tables.{Tables}
@@ -21,6 +23,7 @@ use Rattle.wh_engine.specs.Sound.{IsAccepted}
 use Rattle.wh_engine.specs.Admission.{accepted_after}
 use Rattle.wh_engine.specs.declared.command.Command.{Command}
 use Rattle.wh_engine.specs.Writable.{MayBeWritten}
+use Rattle.wh_engine.specs.Planning.{of_members, naturals_told, durables_touched, rows_of_members, members_among}
 
 -- the rows of a dimension show no profile
 abbrev pub ShowsNoProfile : List Accepted → Dim → Type 0
@@ -68,3 +71,28 @@ BatchesMayBeWritten = (limits : Limits) (commands : List Accepted) (c : Accepted
     → AreOf limits commands tables
     → AreEdits dim commands (commands ++ c ∷ []) records edits
     → MayBeWritten dim edits tables
+
+-- Where some rows are those of the touched members in the table before a batch, and others those in the table with it, the edits
+-- between them are the edits between the tables.
+abbrev pub TouchedRowsAreThePlan : Type 0
+TouchedRowsAreThePlan = (commands : List Accepted) (c : Accepted) (dim : Dim) (records : List DimensionRecord) (stored after : List DimRow) (edits : List (Edit DimRow ℕ))
+    → c.content ≡ Describes dim records
+    → (dim ≢ Customer → ShowsNoProfile commands dim)
+    → ((key : ℕ) → row_of key stored ≡ of_members (durables_touched dim commands (commands ++ c ∷ []) records) (dimension_row commands dim key))
+    → ((key : ℕ) → row_of key after ≡ of_members (durables_touched dim commands (commands ++ c ∷ []) records) (dimension_row (commands ++ c ∷ []) dim key))
+    → IsPlan (λ r. r.surrogate) (λ key. row_of key stored) (λ key. row_of key after) edits
+    → IsPlan (λ r. r.surrogate) (dimension_row commands dim) (dimension_row (commands ++ c ∷ []) dim) edits
+
+-- The rows of the touched members that the older commands mention, one member after the other, are those in the table before the batch.
+abbrev pub TouchedRowsBefore : Type 0
+TouchedRowsBefore = (commands : List Accepted) (c : Accepted) (dim : Dim) (records : List DimensionRecord) (key : ℕ)
+    → c.content ≡ Describes dim records
+    → RecordsHaveDays commands
+    → row_of key (rows_of_members commands dim (members_among commands dim (naturals_told records))) ≡ of_members (durables_touched dim commands (commands ++ c ∷ []) records) (dimension_row commands dim key)
+
+-- The rows of all touched members with the batch are those in the table with it.
+abbrev pub TouchedRowsAfter : Type 0
+TouchedRowsAfter = (commands : List Accepted) (c : Accepted) (dim : Dim) (records : List DimensionRecord) (key : ℕ)
+    → c.content ≡ Describes dim records
+    → RecordsHaveDays (commands ++ c ∷ [])
+    → row_of key (rows_of_members (commands ++ c ∷ []) dim (naturals_told records)) ≡ of_members (durables_touched dim commands (commands ++ c ∷ []) records) (dimension_row (commands ++ c ∷ []) dim key)

@@ -5,4 +5,5 @@ pub mod Writable
 pub mod Sound
 pub mod Admission
 pub mod Made
+pub mod Planning
 pub mod Laws

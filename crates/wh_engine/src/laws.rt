@@ -5,7 +5,7 @@ ghost use Rattle.wh_history.specs.Accepted.{Accepted};
 ghost use Rattle.wh_history.specs.Tables.{Limits};
 ghost use Rattle.wh_engine.specs.Admission.{accepted_after};
 ghost use Rattle.wh_engine.specs.declared.command.Command.{Command};
-ghost use Rattle.wh_engine.specs.Laws.{AcceptedListsBegin, AcceptedListsStaySound, BatchesAreWritten, BatchesMayBeWritten, SoundPoliciesShowNone, UntouchedMembersKeep};
+ghost use Rattle.wh_engine.specs.Laws.{AcceptedListsBegin, AcceptedListsStaySound, BatchesAreWritten, BatchesMayBeWritten, SoundPoliciesShowNone, TouchedRowsAfter, TouchedRowsAreThePlan, TouchedRowsBefore, UntouchedMembersKeep};
 
 /// From the tables of the commands so far the edits of a batch of products, stores or customers lead to those of
 /// the commands with it, in all ten tables, where nothing was sold yet.
@@ -42,4 +42,11 @@ pub fn accepted_lists_stay_sound()
 /// other member of the dimension has the natural key of a new one.
 pub fn a_batch_may_be_written()
     ensures { BatchesMayBeWritten }
+{}
+
+/// The edits between the rows that the touched members have before and with a batch are those of their dimension's table.
+pub fn touched_rows_are_the_plan()
+    ensures plan { TouchedRowsAreThePlan }
+    ensures before { TouchedRowsBefore }
+    ensures after { TouchedRowsAfter }
 {}

@@ -6,6 +6,7 @@ mod edits;
 pub mod kept;
 pub mod laws;
 mod making;
+pub mod planning;
 mod write;
 
 pub use command::{Command, Limit, Receipt, Refused, Reply};

@@ -20,7 +20,7 @@ pub use plan::{Edit, Plan, plan_member, plan_rows};
 pub use profiles::{Profiles, number_of, profile_texts};
 pub use rendering::{render, render_types};
 pub use rows::{DimRow, row_at};
-pub use touched::{Stored, Touched, padded, touch_all};
+pub use touched::{Stored, Touched, anchor_of_day, padded, touch_all};
 pub use trial::{no_card_row, trial_table};
 
 #[cfg(test)]
