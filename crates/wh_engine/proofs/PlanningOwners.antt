@@ -48,6 +48,7 @@ either true None = refl
 either false None = refl
 either b (Some r) = refl
 
+-- the row if the test holds
 abbrev chosen_of : Bool → Option DimRow → Option DimRow
 chosen_of b o = cond b o None
 
