@@ -1,12 +1,13 @@
 use super::*;
 use crate::kept::{command_of, members_given, stored_changes, stored_member, stored_rows};
+use crate::planning::{new_changes, new_members, rendered};
 use sqlite::{Connection, MemStore};
 use sqlite_value::value::Bytes;
 use std::alloc::{AllocError, Global};
 use std::test::Fail;
-use wh_day::{Day, Value, Values};
-use wh_history::{DimRow, Edit};
-use wh_policy::{Dim, Policy};
+use wh_day::{Day, NaturalKey, Value, Values};
+use wh_history::{Change, Changes, DimRow, Edit, Member, Profiles};
+use wh_policy::{Dim, DimensionRecord, Policy};
 use wh_rows::tables::{Calendar, Customer, Product, Profile};
 use wh_rows::{ChangeRow, CommandRow, Limits, MemberRow};
 use wh_store::{Cause, Tables};
@@ -185,5 +186,75 @@ fn numbers_that_were_given(rt: HostRuntime) -> Result<(), Fail> {
     assert_eq!(rt; given.opening, 1);
     let none = members_given(&mut tables, alloc, Dim::Store)?;
     assert_eq!(rt; none.members, 0);
+    Ok(())
+}
+
+fn change(alloc: Global, day: i64, anchor: u64, brand: &str) -> Result<Change, Fail> {
+    Ok(Change {
+        day: Day::from_key(day).ok_or("a day")?,
+        anchor,
+        values: six(alloc, "Cola 1l", brand)?,
+    })
+}
+
+/// P1 behind two records, of which the second has another brand.
+fn touched(alloc: Global) -> Result<Vec<Member>, Fail> {
+    let mut changes = Changes::new(alloc);
+    changes.push(change(alloc, 20240110, 2, "Acme")?)?;
+    changes.push(change(alloc, 20240201, 3, "Bolt")?)?;
+    let mut members = Vec::new(alloc);
+    members.push(Member {
+        durable: 1,
+        natural: text(alloc, "P1")?,
+        opening: 1,
+        changes,
+    })?;
+    Ok(members)
+}
+
+/// The second of the two records.
+fn told(alloc: Global) -> Result<Vec<DimensionRecord>, Fail> {
+    let mut values = Values::new(alloc);
+    values.push(text(alloc, "Cola 1l")?)?;
+    values.push(text(alloc, "Bolt")?)?;
+    let mut records = Vec::new(alloc);
+    records.push(DimensionRecord {
+        natural: NaturalKey::read(32, b"P1").ok_or("a key")?,
+        day: Day::from_key(20240201).ok_or("a day")?,
+        values,
+    })?;
+    Ok(records)
+}
+
+#[test]
+fn a_new_member_has_a_row(rt: HostRuntime) -> Result<(), Fail> {
+    let alloc = rt.alloc();
+    let members = touched(alloc)?;
+    let new = new_members(alloc, Dim::Product, 0, &members)?;
+    assert_eq!(rt; new.len(), 1);
+    let old = new_members(alloc, Dim::Product, 1, &members)?;
+    assert_eq!(rt; old.len(), 0);
+    Ok(())
+}
+
+#[test]
+fn a_record_has_a_row(rt: HostRuntime) -> Result<(), Fail> {
+    let alloc = rt.alloc();
+    let rows = new_changes(alloc, Dim::Product, 3, &touched(alloc)?, &told(alloc)?)?;
+    let row = rows.first().ok_or("a row")?;
+    assert_eq!(rt; row.place, 1);
+    assert_eq!(rt; row.durable, 1);
+    assert_eq!(rt; row.anchor, 3);
+    Ok(())
+}
+
+#[test]
+fn a_member_is_rendered(rt: HostRuntime) -> Result<(), Fail> {
+    let alloc = rt.alloc();
+    let policy = Policy::trial(alloc)?;
+    let profiles = Profiles::new(alloc);
+    let rows = rendered(alloc, &policy, Dim::Product, &touched(alloc)?, &profiles)?;
+    assert_eq!(rt; rows.len(), 2);
+    assert_eq!(rt; rows[1].surrogate, 3);
     Ok(())
 }
