@@ -25,7 +25,7 @@ def schema():
 
 
 def fact(number, count):
-    """The row that bench/tables/rows.rattle makes."""
+    """The row that bench/tables/rows.rt.txt makes."""
     product = number * 7919 % (count // 10)
     store = number % 50
     customer = number // 3 * 7919 % (count // 5)

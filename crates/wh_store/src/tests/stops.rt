@@ -24,9 +24,12 @@ fn open<D: Disk + Drop>(
     }
 }
 
-/// The files as they are, with no further call on them.
-fn files_of<D: Disk + Drop>(tables: Tables<FileStore<D>>) -> Files<D> {
-    tables.close().into_store().close()
+/// The files behind a close, which writes the log into the database file, or as far as it came.
+fn files_of<D: Disk + Drop>(conn: Connection<FileStore<D>>) -> Files<D> {
+    match conn.close_files() {
+        Ok(files) => files,
+        Err((_, store)) => store.close(),
+    }
 }
 
 fn crashed<D: Crash>(mut files: Files<D>) -> Files<D> {
@@ -114,12 +117,12 @@ fn make_over(alloc: Global, conn: Connection<FileStore<Fuse<Memory>>>) -> Attemp
         Ok(mut tables) => {
             let is_done = make_tables(alloc, &mut tables, small()).is_ok();
             Attempt {
-                files: files_of(tables),
+                files: files_of(tables.close()),
                 is_done,
             }
         }
         Err((_, conn)) => Attempt {
-            files: conn.into_store().close(),
+            files: files_of(conn),
             is_done: false,
         },
     }
@@ -362,19 +365,9 @@ fn first_tables(alloc: Global) -> Result<Tables<FileStore<Memory>>, Fail> {
     Ok(tables)
 }
 
-fn close_files(tables: Tables<FileStore<Memory>>) -> Option<Files<Memory>> {
-    match tables.close().close_files() {
-        Ok(files) => Some(files),
-        Err((_, store)) => {
-            drop(store.close());
-            None
-        }
-    }
-}
-
 /// The files of a warehouse with the first rows, as a close leaves them.
 fn first_files(alloc: Global) -> Result<Files<Memory>, Fail> {
-    Ok(close_files(first_tables(alloc)?).ok_or("closed")?)
+    Ok(files_of(first_tables(alloc)?.close()))
 }
 
 fn copy(alloc: Global, disk: &Memory) -> Result<Memory, Fail> {
@@ -396,12 +389,12 @@ fn edit_over(alloc: Global, conn: Connection<FileStore<Fuse<Memory>>>) -> Attemp
         Ok(mut tables) => {
             let is_done = edit(alloc, &mut tables).is_ok();
             Attempt {
-                files: files_of(tables),
+                files: files_of(tables.close()),
                 is_done,
             }
         }
         Err((_, conn)) => Attempt {
-            files: conn.into_store().close(),
+            files: files_of(conn),
             is_done: false,
         },
     }
