@@ -114,10 +114,13 @@ fn a_fact_goes_through_its_columns(rt: HostRuntime) -> Result<(), Fail> {
     let Ok(fact) = Fact::read(alloc, &shown(alloc, text)?) else {
         return Err(Fail::from("a fact"));
     };
+    let Ok(values) = bound::fact(alloc, &fact) else {
+        return Err(Fail::from("a fact's values"));
+    };
     let mut conn = Connection::open_in_memory(alloc)?;
     let row = conn.query_row(
         "SELECT ?1, ?2, ?3, ?4, ?5, ?6, ?7, ?8, ?9, ?10, ?11, ?12, ?13",
-        &bound::fact(&fact),
+        &values,
     )?;
     let again = Fact::read(alloc, &row);
     assert!(rt;
