@@ -21,7 +21,7 @@ use Rattle.wh_rows.specs.Types.{dim_number}
 use Rattle.wh_rows.specs.Rows.{ChangeKey}
 use Rattle.wh_rows.specs.Rows as row
 use Rattle.wh_rows.specs.Meaning.{any, PutsOne, RemovesOne, ReadsSome, CountsAll}
-use Rattle.wh_rows.specs.Firsts.{ReadsFirst}
+use Rattle.wh_rows.specs.Firsts.{ReadsFirst, ReadsGreatest}
 use Rattle.wh_rows.proofs.Cast.{cast_row_own}
 use Rattle.wh_rows.proofs.Keys.{and-true, trimmed_pair, free_rowid, equal-Nat, sorted-Nat, greater, greater-Nat, then_eq}
 
@@ -209,6 +209,28 @@ rest k = record {
   sorted_by = λ r. column r 0 ∷ column r 1 ∷ [];
   shows = λ r. refl;
   in_order = λ v w. ap₂ ordering_then (sorted-Nat v.command w.command) (then-Equal _ ∙ sorted-Nat v.place w.place);
+}
+
+-- a record of a dimension with the greatest anchor
+abbrev pub greatest_anchor_text : List ℕ
+greatest_anchor_text = codes "SELECT * FROM change WHERE dim = ?1 ORDER BY anchor DESC LIMIT 1"
+
+pub greatest_anchor : (dim : Dim) → ReadsGreatest row.change (Int (pos (dim_number dim)) ∷ []) (λ r. eq_by_cmp nat_cmp (dim_number dim) (dim_number r.dim)) (λ r. r.anchor) greatest_anchor_text
+unfolding understood everything unary
+greatest_anchor dim = record {
+  tests = op2 (Compare Eq Binary) (col 1 3) (op1 ToNumeric (col 0 0)) ∷ [];
+  project = shown;
+  order = (col 1 6, record { collation = Binary; descending = true }) ∷ [];
+  names = map (λ c. c.name) row.change.table.columns;
+  command = refl;
+  plain = (refl, refl);
+  unlisted = refl;
+  test = λ r. equal Binary (column r 2) (Int (pos (dim_number dim))) && true;
+  hits = λ r. refl;
+  agree = λ w. and-true _ ∙ equal-Nat (dim_number w.dim) (dim_number dim);
+  sorted_by = λ r. column r 5 ∷ [];
+  shows = λ r. refl;
+  in_order = λ v w. then-Equal _ ∙ sorted-Nat w.anchor v.anchor;
 }
 
 -- ---- count

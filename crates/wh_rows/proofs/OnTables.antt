@@ -1,5 +1,5 @@
 -- What the statements on a table make of the ten tables, and what they show.
-use Rattle.std.proofs.Common.{◌≡◌, ℕ, List, [], ◌∷◌, map, filter, take, reverse, zero, suc, Bool, true, false, cond, Ok, refl, sym, ap, ap₂, ◌∙◌}
+use Rattle.std.proofs.Common.{◌≡◌, ℕ, List, [], ◌∷◌, map, filter, take, reverse, zero, suc, Bool, true, false, cond, Option, None, Some, IfSome, Ok, refl, sym, ap, ap₂, ◌∙◌}
 use Rattle.std.specs.Prelude.{IsTrue}
 use Rattle.std.specs.List.{list_all}
 use Rattle.std.specs.Ordering.{eq_by_cmp}
@@ -9,17 +9,18 @@ use Rattle.std.specs.List.{AllByRecursion}
 use Rattle.sqlite.specs.Order.{Row}
 use Rattle.sqlite.specs.State.{State, Executes, IsUnchanged, Survives, Shown, CommitsShowing}
 use Rattle.sqlite_rules.specs.Lists.{Has}
+use Rattle.sqlite_rules.proofs.ListLemmas.{test_has}
 use Rattle.wh_rows.specs.Schema.{warehouse}
 use Rattle.wh_rows.specs.Holds.{Layout}
 use Rattle.wh_rows.specs.Place.{IsPlaced}
 use Rattle.wh_rows.specs.Tables.{Tables, Stores}
 use Rattle.wh_rows.specs.Meaning.{PutsOne, RemovesOne, ReadsSome, CountsAll}
-use Rattle.wh_rows.specs.Firsts.{from_end, ReadsFirst}
+use Rattle.wh_rows.specs.Firsts.{from_end, ReadsFirst, ReadsGreatest}
 use Rattle.sqlite_sql.specs.Aggregate.{count as number_of_rows}
 use Rattle.std.specs.List.{take-map}
 use Rattle.std.proofs.lemmas.Grind.{reverse_onto}
 use Rattle.std.proofs.lemmas.List.Folds.{list_all-append}
-use Rattle.wh_rows.proofs.Firsts.{reads_first}
+use Rattle.wh_rows.proofs.Firsts.{reads_first, IsGreatestOf, reads_greatest}
 use Rattle.wh_rows.proofs.Counts.{counts_rows}
 use Rattle.std.proofs.lemmas.Bool.{and_parts}
 use Rattle.wh_rows.proofs.ColumnLemmas.{both}
@@ -81,6 +82,11 @@ module _ {K V : Type 0} (layout : Layout K V) (rows : Tables → FinMap layout.o
     pub first_commits_nothing : old.now.schema ≡ warehouse → Survives old new (CommitsShowing text params old) → Survives old new (λ _. ⊥)
     first_commits_nothing is = query_commits_nothing text params old new is reads.plain
 
+  -- a row that is kept, whose number is the greatest of theirs
+  pub greatest_is : (params : Row) (keep : V → Bool) (measure : V → ℕ) → ReadsGreatest layout params keep measure text
+      → (answer : List Row) (t : Tables) → Stores old.now t → Shown text params old new answer → IsGreatestOf layout.encode measure (filter keep (values (rows t))) answer
+  greatest_is params keep measure reads answer t stored shown = reads_greatest layout params keep measure text reads old new answer stored.schema shown (rows t) (placed.held old.now t stored)
+
   -- how many rows there are
   pub count_is : CountsAll layout text → (answer : List Row) (t : Tables) → Stores old.now t → Shown text [] old new answer → answer ≡ (number_of_rows (len (rows t)) ∷ []) ∷ []
   count_is counts answer t stored shown = counts_rows layout text counts.names old new answer counts.command counts.plain counts.unlisted stored.schema shown (rows t) (placed.held old.now t stored)
@@ -127,6 +133,11 @@ pub valid_first : {K V : Type 0} (layout : Layout K V) (rows : Tables → FinMap
 valid_first layout rows with_rows placed keep most backwards state t stored =
     first_rows layout.is_valid most (from_end backwards (filter keep (values (rows t))))
     (end_rows layout.is_valid backwards (filter keep (values (rows t))) (valid_answer layout rows with_rows placed keep state t stored))
+
+-- so is one of them
+pub valid_among : {V : Type 0} (is_valid : V → Bool) (kept : List V) (found : Option V) → IsTrue (list_all is_valid kept) → IfSome found (Has kept) → IsTrue (list_all is_valid (option_to_list found))
+valid_among is_valid kept None all here = refl
+valid_among is_valid kept (Some v) all here = both (test_has is_valid kept v all here) refl
 
 -- ---- rows that were read are the rows that were stored
 

@@ -22,6 +22,9 @@ meta = record {
   held = λ db t stored. stored.meta;
   rising = λ db t stored. at_place (λ table. IsRising (db.trees table.tree)) warehouse.tables 0 row.meta.table refl stored.rising;
   changed = meta_changed;
+  put_in = λ m t. refl;
+  put_again = λ m n t. refl;
+  put_back = λ t. refl;
 }
 
 pub command : IsPlaced row.command (λ t. t.command) (λ m t. record t { command = m })
@@ -32,6 +35,9 @@ command = record {
   held = λ db t stored. stored.command;
   rising = λ db t stored. at_place (λ table. IsRising (db.trees table.tree)) warehouse.tables 1 row.command.table refl stored.rising;
   changed = command_changed;
+  put_in = λ m t. refl;
+  put_again = λ m n t. refl;
+  put_back = λ t. refl;
 }
 
 pub member : IsPlaced row.member (λ t. t.member) (λ m t. record t { member = m })
@@ -42,6 +48,9 @@ member = record {
   held = λ db t stored. stored.member;
   rising = λ db t stored. at_place (λ table. IsRising (db.trees table.tree)) warehouse.tables 2 row.member.table refl stored.rising;
   changed = member_changed;
+  put_in = λ m t. refl;
+  put_again = λ m n t. refl;
+  put_back = λ t. refl;
 }
 
 pub change : IsPlaced row.change (λ t. t.change) (λ m t. record t { change = m })
@@ -52,6 +61,9 @@ change = record {
   held = λ db t stored. stored.change;
   rising = λ db t stored. at_place (λ table. IsRising (db.trees table.tree)) warehouse.tables 3 row.change.table refl stored.rising;
   changed = change_changed;
+  put_in = λ m t. refl;
+  put_again = λ m n t. refl;
+  put_back = λ t. refl;
 }
 
 pub product : IsPlaced row.product (λ t. t.product) (λ m t. record t { product = m })
@@ -62,6 +74,9 @@ product = record {
   held = λ db t stored. stored.product;
   rising = λ db t stored. at_place (λ table. IsRising (db.trees table.tree)) warehouse.tables 4 row.product.table refl stored.rising;
   changed = product_changed;
+  put_in = λ m t. refl;
+  put_again = λ m n t. refl;
+  put_back = λ t. refl;
 }
 
 pub store : IsPlaced row.store (λ t. t.store) (λ m t. record t { store = m })
@@ -72,6 +87,9 @@ store = record {
   held = λ db t stored. stored.store;
   rising = λ db t stored. at_place (λ table. IsRising (db.trees table.tree)) warehouse.tables 5 row.store.table refl stored.rising;
   changed = store_changed;
+  put_in = λ m t. refl;
+  put_again = λ m n t. refl;
+  put_back = λ t. refl;
 }
 
 pub customer : IsPlaced row.customer (λ t. t.customer) (λ m t. record t { customer = m })
@@ -82,6 +100,9 @@ customer = record {
   held = λ db t stored. stored.customer;
   rising = λ db t stored. at_place (λ table. IsRising (db.trees table.tree)) warehouse.tables 6 row.customer.table refl stored.rising;
   changed = customer_changed;
+  put_in = λ m t. refl;
+  put_again = λ m n t. refl;
+  put_back = λ t. refl;
 }
 
 pub profile : IsPlaced row.profile (λ t. t.profile) (λ m t. record t { profile = m })
@@ -92,6 +113,9 @@ profile = record {
   held = λ db t stored. stored.profile;
   rising = λ db t stored. at_place (λ table. IsRising (db.trees table.tree)) warehouse.tables 7 row.profile.table refl stored.rising;
   changed = profile_changed;
+  put_in = λ m t. refl;
+  put_again = λ m n t. refl;
+  put_back = λ t. refl;
 }
 
 pub calendar : IsPlaced row.calendar (λ t. t.calendar) (λ m t. record t { calendar = m })
@@ -102,6 +126,9 @@ calendar = record {
   held = λ db t stored. stored.calendar;
   rising = λ db t stored. at_place (λ table. IsRising (db.trees table.tree)) warehouse.tables 8 row.calendar.table refl stored.rising;
   changed = calendar_changed;
+  put_in = λ m t. refl;
+  put_again = λ m n t. refl;
+  put_back = λ t. refl;
 }
 
 pub fact : IsPlaced row.fact (λ t. t.fact) (λ m t. record t { fact = m })
@@ -112,4 +139,7 @@ fact = record {
   held = λ db t stored. stored.fact;
   rising = λ db t stored. at_place (λ table. IsRising (db.trees table.tree)) warehouse.tables 9 row.fact.table refl stored.rising;
   changed = fact_changed;
+  put_in = λ m t. refl;
+  put_again = λ m n t. refl;
+  put_back = λ t. refl;
 }

@@ -1,5 +1,7 @@
--- Reading the first rows of an answer, from either end of a table.
-use Rattle.std.specs.Prelude.{◌≡◌, ℕ, pos, Bool, false, if◌then◌else◌, List, [], ◌∷◌, reverse, take, Option, None, Some}
+-- Reading the first rows of an answer: those at either end of a table, or one with the greatest number.
+use Rattle.std.specs.Prelude.{◌≡◌, ℕ, pos, max, Bool, false, if◌then◌else◌, List, [], ◌∷◌, reverse, take, Option, None, Some}
+use Rattle.std.specs.declared.cmp.Ordering.{Ordering}
+use Rattle.std.specs.Ordering.{nat_cmp}
 use Rattle.sqlite.specs.Order.{Row}
 use Rattle.sqlite_value.specs.declared.value.Value.TheVariants.{Int}
 use Rattle.sqlite_value.specs.declared.keys.Key.{Key}
@@ -31,8 +33,17 @@ abbrev pub part : {X : Type 0} → Option Front → List X → List X
 part None xs = xs
 part (Some front) xs = take front.most (from_end front.backwards xs)
 
--- What a text has to mean, to show up to so many of the rows that pass a test, in the order of their keys, or backwards from the greatest key.
-pub record ReadsFirst {K V : Type 0} (layout : Layout K V) (params : Row) (keep : V → Bool) (most : ℕ) (backwards : Bool) (text : List ℕ) : Type 0 where
+-- the greatest of the numbers, and 0 of none
+abbrev pub greatest : List ℕ → ℕ
+greatest [] = 0
+greatest (n ∷ ns) = max n (greatest ns)
+
+-- rows in the order of their keys, or backwards
+abbrev pub keys_cmp : {K V : Type 0} → Layout K V → Bool → V → V → Ordering
+keys_cmp layout backwards v w = if backwards then layout.order (layout.key w) (layout.key v) else layout.order (layout.key v) (layout.key w)
+
+-- What a text has to mean, to show up to so many of the rows that pass a test, sorted by this comparison.
+pub record ReadsSorted {K V : Type 0} (layout : Layout K V) (params : Row) (keep : V → Bool) (most : ℕ) (cmp : V → V → Ordering) (text : List ℕ) : Type 0 where
   pub tests : List Term
   pub project : List Term
   pub order : List (Term × Key)
@@ -45,8 +56,15 @@ pub record ReadsFirst {K V : Type 0} (layout : Layout K V) (params : Row) (keep 
   pub agree : (v : V) → test (layout.encode v) ≡ keep v
   pub sorted_by : Row → Row
   pub shows : (r : Row) → ◌≡◌ {A = Output} (output (reading_first most layout.table.tree tests project order) (params ∷ r ∷ [])) (sorted_by (values_of layout.table r), values_of layout.table r)
-  pub in_order : (v w : V) → output_cmp (reading_first most layout.table.tree tests project order) (sorted_by (layout.encode v), layout.encode v) (sorted_by (layout.encode w), layout.encode w)
-      ≡ (if backwards then layout.order (layout.key w) (layout.key v) else layout.order (layout.key v) (layout.key w))
+  pub in_order : (v w : V) → output_cmp (reading_first most layout.table.tree tests project order) (sorted_by (layout.encode v), layout.encode v) (sorted_by (layout.encode w), layout.encode w) ≡ cmp v w
+
+-- to show up to so many of them in the order of their keys, or backwards from the greatest key
+abbrev pub ReadsFirst : {K V : Type 0} → Layout K V → Row → (V → Bool) → ℕ → Bool → List ℕ → Type 0
+ReadsFirst layout params keep most backwards text = ReadsSorted layout params keep most (keys_cmp layout backwards) text
+
+-- to show one of them, whose number is the greatest
+abbrev pub ReadsGreatest : {K V : Type 0} → Layout K V → Row → (V → Bool) → (V → ℕ) → List ℕ → Type 0
+ReadsGreatest layout params keep measure text = ReadsSorted layout params keep 1 (λ v w. nat_cmp (measure w) (measure v)) text
 
 -- what a text has to mean, to show that part of the rows that pass a test
 abbrev pub ReadsPart : {K V : Type 0} → Option Front → Layout K V → Row → (V → Bool) → List ℕ → Type 0

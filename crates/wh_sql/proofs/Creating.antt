@@ -1,5 +1,5 @@
 -- What the texts that make tables and indexes do inside a transaction.
-use Rattle.std.proofs.Common.{◌≡◌, inl, inr, ℕ, ◌+◌, ◌<◌, List, [], ◌∷◌, length, map, drop, get_or, add-one, cond, None, Some, Ok, sym, ap, subst, ◌∙◌}
+use Rattle.std.proofs.Common.{◌≡◌, inl, inr, ℕ, zero, suc, arith, refl, ◌+◌, ◌<◌, List, [], ◌∷◌, length, map, drop, get_or, add-one, cond, None, Some, Ok, sym, ap, subst, ◌∙◌}
 use Rattle.std.specs.Prelude.{IsTrue}
 use Rattle.std.proofs.Math.Seq.{drop-cons}
 use Rattle.std.proofs.lemmas.Bool.{both_ways}
@@ -11,10 +11,11 @@ use Rattle.sqlite.specs.Calls.{IsWrite}
 use Rattle.sqlite.specs.Listing.{understood}
 use Rattle.sqlite.specs.State.{State, HasCleanDisk, Survives, Writes, Executes, CommitsBy}
 use Rattle.sqlite.proofs.Callers.{command_of, runs_as}
+use Rattle.sqlite_rules.specs.Lists.{Has}
 use Rattle.wh_rows.specs.Schema.{no_schema, warehouse}
 use Rattle.wh_rows.specs.Tables.{no_tables}
 use Rattle.wh_rows.specs.Making.{Extends, Leads}
-use Rattle.wh_rows.specs.AtRest.{Has, Leaves, IsWriting}
+use Rattle.wh_rows.specs.AtRest.{Has as Holding, Leaves, IsWriting}
 use Rattle.wh_rows.proofs.Making.{extended, stores_none}
 use Rattle.wh_sql.specs.Present.{IsMaking}
 
@@ -61,7 +62,7 @@ makes_on from text to extends old new count clean survives ran at =
       schema = made.0;
       sound = wrote.sound;
       empty = made.1;
-      committed = subst (Has None) (sym committed) at.committed;
+      committed = subst (Holding None) (sym committed) at.committed;
       left = leaves_none from text to extends old new clean survives at;
     }
 
@@ -70,6 +71,12 @@ pub next_extends : {A : Type 0} (text_of : A → List ℕ) (texts : List A) (at 
     → (next : Schema) × Extends from (text_of (get_or texts at none)) next × Leads next (map text_of (drop (at + 1) texts)) to
 next_extends text_of texts at none from to within leads =
     subst (λ left. Leads from (map text_of left) to) (drop-cons texts at none within ∙ ap (λ n. get_or texts at none ∷ drop n texts) (sym (add-one at))) leads
+
+-- the text that is next is one of them
+pub is_among : {A : Type 0} (text_of : A → List ℕ) (texts : List A) (at : ℕ) (none : A) → at < length texts → Has (map text_of texts) (text_of (get_or texts at none))
+is_among text_of [] at none within = absurd (omega arith)
+is_among text_of (text ∷ texts) zero none within = inl refl
+is_among text_of (text ∷ texts) (suc at) none within = inr (is_among text_of texts at none (omega arith))
 
 -- at first there is no object
 pub making_none : (s : State) → IsWriting None None s → IsMaking no_schema s

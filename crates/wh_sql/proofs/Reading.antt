@@ -1,5 +1,5 @@
 -- What a reading of one table gives, and what it leaves.
-use Rattle.std.proofs.Common.{◌≡◌, ◌↔◌, ◌<◌, ℕ, List, [], ◌∷◌, ◌++◌, map, filter, length, Bool, Option, None, Some, Result, Ok, Err, IsSome, IfOk, IfErr, IsTrue, true, false, inl, inr, refl, sym, ap, subst, ◌∙◌, arith, length-append}
+use Rattle.std.proofs.Common.{◌≡◌, ◌↔◌, ◌<◌, ℕ, List, [], ◌∷◌, ◌++◌, map, filter, length, Bool, slice_get, Option, None, Some, unwrap_or, option_map, Result, Ok, Err, IsSome, IfOk, IfErr, IsTrue, true, false, inl, inr, refl, sym, ap, subst, ◌∙◌, arith, length-append}
 use Rattle.std.specs.List.{list_all}
 use Rattle.std.specs.Option.{option_to_list}
 use Rattle.std.specs.FinMap.{FinMap, values, get}
@@ -17,12 +17,12 @@ use Rattle.wh_rows.specs.Place.{IsPlaced}
 use Rattle.wh_rows.specs.Tables.{Tables, Stores}
 use Rattle.wh_rows.specs.AtRest.{Has, IsAtRest, Leaves}
 use Rattle.wh_rows.specs.Meaning.{ReadsSome}
-use Rattle.wh_rows.specs.Firsts.{Front, part, ReadsPart}
+use Rattle.wh_rows.specs.Firsts.{Front, part, greatest, ReadsPart, ReadsGreatest}
 use Rattle.wh_rows.specs.declared.table.Table.{Table}
 use Rattle.wh_rows.proofs.Edits.{filter_all}
 use Rattle.wh_rows.proofs.Maps.{filter-get}
 use Rattle.wh_rows.proofs.Queries.{query_keeps, query_commits_nothing}
-use Rattle.wh_rows.proofs.OnTables.{answer_is, first_is, valid_answer, valid_first, read_is}
+use Rattle.wh_rows.proofs.OnTables.{answer_is, first_is, greatest_is, valid_answer, valid_first, valid_among, read_is}
 use Rattle.wh_sql.specs.Refusal.{IsWhole, IsUndamaged, Shows, FailsToShow}
 use Rattle.wh_sql.specs.declared.refusal.Refusal.{Refusal}
 use Rattle.wh_sql.specs.declared.refusal.Refusal.TheVariants.{Damaged, Store}
@@ -48,58 +48,81 @@ module _ (text : List ℕ) (params : Row) (plain : IsPlain (understood warehouse
 
 -- ---- a text that shows rows of one table
 
--- Of the tables that the database stores it shows these rows, all of values of their types, and no two of them stand alike.
-pub record IsAnswered {K V : Type 0} (layout : Layout K V) (text : List ℕ) (params : Row) (old new : State) (wanted : Tables → List V) : Type 0 where
+-- Of the tables that the database stores it shows rows that answer, all of values of their types, and no two of them stand alike.
+pub record IsAnswered {K V : Type 0} (layout : Layout K V) (text : List ℕ) (params : Row) (old new : State) (answers : Tables → List V → Type 0) : Type 0 where
   pub plain : IsPlain (understood warehouse text)
-  pub shows : (answer : List Row) (t : Tables) → Stores old.now t → Shown text params old new answer → answer ≡ map layout.encode (wanted t)
-  pub valid : (t : Tables) → Stores old.now t → IsTrue (list_all layout.is_valid (wanted t))
+  pub shows : (answer : List Row) (t : Tables) → Stores old.now t → Shown text params old new answer → (rows : List V) × answers t rows × IsTrue (list_all layout.is_valid rows) × (answer ≡ map layout.encode rows)
   pub once : (answer : List Row) (read stored : List V) → IsTrue (list_all layout.is_valid read) → answer ≡ map layout.encode read → IsTrue (list_all layout.is_valid stored) → answer ≡ map layout.encode stored → read ≡ stored
 
 -- the same rows, said otherwise
-otherwise : {K V : Type 0} {layout : Layout K V} {text : List ℕ} {params : Row} {old new : State} {wanted again : Tables → List V} → IsAnswered layout text params old new wanted
-    → ((t : Tables) → Stores old.now t → wanted t ≡ again t) → IsAnswered layout text params old new again
-otherwise {layout = layout} asked same = record {
+otherwise : {K V : Type 0} {layout : Layout K V} {text : List ℕ} {params : Row} {old new : State} {wanted again : Tables → List V} → IsAnswered layout text params old new (λ t rows. rows ≡ wanted t)
+    → ((t : Tables) → Stores old.now t → wanted t ≡ again t) → IsAnswered layout text params old new (λ t rows. rows ≡ again t)
+otherwise asked same = record {
   plain = asked.plain;
-  shows = λ answer t stored shown. asked.shows answer t stored shown ∙ ap (map layout.encode) (same t stored);
-  valid = λ t stored. subst (λ vs. IsTrue (list_all layout.is_valid vs)) (same t stored) (asked.valid t stored);
+  shows = λ answer t stored shown. let told = asked.shows answer t stored shown in (told.0, told.1 ∙ same t stored, told.2, told.3);
   once = asked.once;
 }
 
+-- the greatest number of the rows that are kept is that of the first of these rows, or 0 where there is none
+abbrev pub IsLedByGreatest : {V : Type 0} → (V → ℕ) → List V → List V → Type 0
+IsLedByGreatest measure kept rows = greatest (map measure kept) ≡ unwrap_or (option_map measure (slice_get rows 0)) 0
+
+first_found : {V : Type 0} (found : Option V) → slice_get (option_to_list found) 0 ≡ found
+first_found None = refl
+first_found (Some v) = refl
+
 module _ {K V : Type 0} {layout : Layout K V} {rows : Tables → FinMap layout.order V} {with_rows : FinMap layout.order V → Tables → Tables} (placed : IsPlaced layout rows with_rows) (old new : State) where
   -- a text that means a part of the rows that pass a test shows that part
-  pub part_answered : (text : List ℕ) (params : Row) (front : Option Front) (keep : V → Bool) → ReadsPart front layout params keep text → IsAnswered layout text params old new (λ t. part front (filter keep (values (rows t))))
+  pub part_answered : (text : List ℕ) (params : Row) (front : Option Front) (keep : V → Bool) → ReadsPart front layout params keep text
+      → IsAnswered layout text params old new (λ t vs. vs ≡ part front (filter keep (values (rows t))))
   part_answered text params None keep reads = record {
     plain = reads.plain;
-    shows = answer_is layout rows with_rows placed text old new params keep reads;
-    valid = valid_answer layout rows with_rows placed keep old;
+    shows = λ answer t stored shown. (_, refl, valid_answer layout rows with_rows placed keep old t stored, answer_is layout rows with_rows placed text old new params keep reads answer t stored shown);
     once = read_is layout rows with_rows placed;
   }
   part_answered text params (Some front) keep reads = record {
     plain = reads.plain;
-    shows = first_is layout rows with_rows placed text old new params keep front.most front.backwards reads;
-    valid = valid_first layout rows with_rows placed keep front.most front.backwards old;
+    shows = λ answer t stored shown. (
+      _,
+      refl,
+      valid_first layout rows with_rows placed keep front.most front.backwards old t stored,
+      first_is layout rows with_rows placed text old new params keep front.most front.backwards reads answer t stored shown,
+    );
     once = read_is layout rows with_rows placed;
   }
 
   -- one that means all rows shows them all
-  pub all_answered : {text : List ℕ} → ReadsSome layout [] (λ row. true) text → IsAnswered layout text [] old new (λ t. values (rows t))
+  pub all_answered : {text : List ℕ} → ReadsSome layout [] (λ row. true) text → IsAnswered layout text [] old new (λ t vs. vs ≡ values (rows t))
   all_answered {text = text} reads = otherwise (part_answered text [] None (λ row. true) reads) (λ t stored. filter_all (values (rows t)))
 
   -- one that means the rows of a key shows the row there
-  pub key_answered : {text : List ℕ} {params : Row} (key : K) → ReadsSome layout params (λ row. eq_by_cmp layout.order key (layout.key row)) text → IsAnswered layout text params old new (λ t. option_to_list (get (rows t) key))
+  pub key_answered : {text : List ℕ} {params : Row} (key : K) → ReadsSome layout params (λ row. eq_by_cmp layout.order key (layout.key row)) text → IsAnswered layout text params old new (λ t vs. vs ≡ option_to_list (get (rows t) key))
   key_answered {text = text} {params = params} key reads =
       otherwise (part_answered text params None (λ row. eq_by_cmp layout.order key (layout.key row)) reads) (λ t stored. filter-get layout.order placed.total layout.key (rows t) key (placed.held old.now t stored).keyed)
 
-module _ {K V : Type 0} {layout : Layout K V} {text : List ℕ} {params : Row} {old new : State} {wanted : Tables → List V} (asked : IsAnswered layout text params old new wanted) where
-  -- what is read is what was asked for
-  pub rows_are : (result : Result (Vec V Global) Refusal) → IfOk result (λ rows. Shows layout text params old new rows.items) → (t : Tables) → Stores old.now t → IfOk result (λ rows. rows.items ≡ wanted t)
+  -- one that means a row whose number is the greatest shows such a row
+  pub greatest_answered : {text : List ℕ} {params : Row} (keep : V → Bool) (measure : V → ℕ) → ReadsGreatest layout params keep measure text
+      → IsAnswered layout text params old new (λ t. IsLedByGreatest measure (filter keep (values (rows t))))
+  greatest_answered {text = text} {params = params} keep measure reads = record {
+    plain = reads.plain;
+    shows = λ answer t stored shown.
+        let told = greatest_is layout rows with_rows placed text old new params keep measure reads answer t stored shown in
+        let valid = valid_among layout.is_valid (filter keep (values (rows t))) told.found (valid_answer layout rows with_rows placed keep old t stored) told.among in
+        (option_to_list told.found, rw first_found told.greatest_is, valid, told.shown);
+    once = read_is layout rows with_rows placed;
+  }
+
+module _ {K V : Type 0} {layout : Layout K V} {text : List ℕ} {params : Row} {old new : State} {answers : Tables → List V → Type 0} (asked : IsAnswered layout text params old new answers) where
+  -- what is read answers
+  pub rows_are : (result : Result (Vec V Global) Refusal) → IfOk result (λ rows. Shows layout text params old new rows.items) → (t : Tables) → Stores old.now t → IfOk result (λ rows. answers t rows.items)
   rows_are (Err refusal) shows t stored = tt
-  rows_are (Ok rows) shows t stored = asked.once (map layout.encode rows.items) rows.items (wanted t) shows.0 refl (asked.valid t stored) (asked.shows (map layout.encode rows.items) t stored shows.1)
+  rows_are (Ok rows) shows t stored =
+      let told = asked.shows (map layout.encode rows.items) t stored shows.1 in subst (answers t) (sym (asked.once (map layout.encode rows.items) rows.items told.0 shows.0 refl told.2 told.3)) told.1
 
   -- and no row is out of its type
   pub undamaged : {A : Type 0} (result : Result A Refusal) (table : Table) → IfErr result (FailsToShow layout table text params old new) → (t : Tables) → Stores old.now t → IsUndamaged result
   undamaged (Ok x) table fails t stored = tt
-  undamaged (Err (Damaged met)) table fails t stored = fails.3 (wanted t) (asked.valid t stored) (asked.shows fails.1 t stored fails.2)
+  undamaged (Err (Damaged met)) table fails t stored = let told = asked.shows fails.1 t stored fails.2 in fails.3 told.0 told.2 told.3
   undamaged (Err (Store cause)) table fails t stored = tt
 
   module _ (t : Tables) (at : IsAtRest (Some t) old) (survives : Survives old new (CommitsShowing text params old)) (clean : HasCleanDisk new) where

@@ -1,11 +1,25 @@
-//! Questions after the greatest key.
+//! Questions after the greatest key, and after the greatest anchor.
+
+ghost use Rattle.std.specs.Prelude.{◌≡◌, map, filter, slice_get, Some, unwrap_or, option_map, IfOk};
+ghost use Rattle.std.specs.Ordering.{eq_by_cmp, nat_cmp};
+ghost use Rattle.std.specs.FinMap.{values};
+ghost use Rattle.sqlite.specs.Held.{state};
+ghost use Rattle.sqlite.specs.State.{HasCleanDisk};
+ghost use Rattle.wh_rows.specs.Types.{dim_number};
+ghost use Rattle.wh_rows.specs.Firsts.{greatest as greatest_of};
+ghost use Rattle.wh_rows.specs.Tables.{Tables, Stores};
+ghost use Rattle.wh_rows.specs.AtRest.{IsAtRest, Leaves};
+ghost use Rattle.wh_sql.specs.Refusal.{IsWhole, IsUndamaged};
 
 use crate::keys::dim_key;
 use crate::question::Question;
+use crate::read::rows_shown;
+use crate::refusal::Refusal;
 use sqlite::types::ValueRef;
+use sqlite::{Alter, Connection};
 use std::alloc::Global;
 use wh_policy::Dim;
-use wh_rows::{Cause, tables};
+use wh_rows::{Cause, ChangeRow, bound, tables};
 
 /// The row of the greatest key, of a table whose key is a number.
 #[derive(Clone, Copy, Debug, PartialEq, Eq)]
@@ -168,4 +182,28 @@ impl Question<tables::Member> for GreatestOf {
     }
 
     ghost reads = { λ q. greatest q.dim };
+}
+
+/// The greatest anchor of the dimension's records; 0 where it has none.
+pub fn greatest_anchor<S: Alter>(
+    alloc: Global,
+    conn: &mut Connection<S>,
+    dim: Dim,
+) -> Result<u64, Refusal>
+    ensures clean { HasCleanDisk (state S.Store conn.new) → HasCleanDisk (state S.Store conn.old) }
+    ensures anchor { HasCleanDisk (state S.Store conn.new) → (t : Tables) → Stores (state S.Store conn.old).now t → IfOk result (λ anchor. anchor ≡ greatest_of (map (λ r. r.anchor) (filter (λ r. eq_by_cmp nat_cmp (dim_number dim) (dim_number r.dim)) (values t.change)))) }
+    ensures sound { HasCleanDisk (state S.Store conn.new) → (t : Tables) → Stores (state S.Store conn.old).now t → IsUndamaged result }
+    ensures same { HasCleanDisk (state S.Store conn.new) → (t : Tables) → IsAtRest (Some t) (state S.Store conn.old) → IsWhole result → IsAtRest (Some t) (state S.Store conn.new) }
+    ensures left { HasCleanDisk (state S.Store conn.new) → (t : Tables) → IsAtRest (Some t) (state S.Store conn.old) → Leaves (Some t) (state S.Store conn.new) }
+{
+    let text = "SELECT * FROM change WHERE dim = ?1 ORDER BY anchor DESC LIMIT 1";
+    let rows = rows_shown::<tables::Change, S>(alloc, conn, text, &[bound::dim(dim)])?;
+    Ok(first_anchor(&rows))
+}
+
+/// The anchor of the first of these rows; 0 where there is none.
+fn first_anchor(rows: &[ChangeRow]) -> u64
+    ensures { result ≡ unwrap_or (option_map (λ r. r.anchor) (slice_get rows.now 0)) 0 }
+{
+    rows.first().map_or(0, |row| row.anchor)
 }

@@ -14,7 +14,7 @@ mod tables;
 mod write;
 
 pub use dimension::Dimension;
-pub use greatest::{Greatest, GreatestOf};
+pub use greatest::{Greatest, GreatestOf, greatest_anchor};
 pub use keeps::Keeps;
 pub use making::{create, has_tables, has_taken_name};
 pub use question::{Question, ask};

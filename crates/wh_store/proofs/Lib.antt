@@ -1,1 +1,2 @@
 mod Transactions
+pub mod Looping

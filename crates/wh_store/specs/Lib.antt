@@ -1,2 +1,3 @@
 pub mod Meta
 pub mod Opening
+pub mod Edits

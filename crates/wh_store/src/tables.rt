@@ -1,6 +1,6 @@
 //! The tables over one connection.
 
-ghost use Rattle.std.specs.Prelude.{◌≡◌, ◌≢◌, ◌⊎◌, true, false, filter, Err, Some, None, Option, IsTrue, IfOk, IfErr};
+ghost use Rattle.std.specs.Prelude.{◌≡◌, ◌≢◌, ◌⊎◌, true, false, map, filter, Err, Some, None, Option, IsTrue, IfOk, IfErr};
 ghost use Rattle.std.specs.Borrow.{sem, RestsIfErr};
 ghost use Rattle.std.specs.FinMap.{values, get, len};
 ghost use Rattle.sqlite.specs.Held.{state};
@@ -8,7 +8,9 @@ ghost use Rattle.sqlite.specs.State.{HasCleanDisk, Survives};
 ghost use Rattle.wh_rows.specs.declared.table.Table.{Table};
 ghost use Rattle.wh_rows.specs.AtRest.{IsAtRest, IsWriting, Leaves};
 ghost use Rattle.wh_rows.specs.Tables.{Tables as Rows};
-ghost use Rattle.wh_rows.specs.Firsts.{part};
+ghost use Rattle.std.specs.Ordering.{eq_by_cmp, nat_cmp};
+ghost use Rattle.wh_rows.specs.Types.{dim_number};
+ghost use Rattle.wh_rows.specs.Firsts.{part, greatest as greatest_of};
 ghost use Rattle.wh_sql.specs.Refusal.{IsWhole, IsUndamaged};
 ghost use Rattle.wh_sql.specs.Present.{is_any_taken, are_all_there};
 ghost use Rattle.wh_sql.specs.declared.refusal.Refusal.TheVariants.{Damaged};
@@ -21,8 +23,11 @@ use crate::transaction::begin;
 use crate::writing::Writing;
 use sqlite::{Alter, Connection};
 use std::alloc::Global;
+use wh_policy::Dim;
 use wh_rows::{Cause, Limits, Table};
-use wh_sql::{Keeps, Question, Refusal, all, ask, count, get, has_tables, has_taken_name};
+use wh_sql::{
+    Keeps, Question, Refusal, all, ask, count, get, greatest_anchor, has_tables, has_taken_name,
+};
 
 /// The ten tables over one connection.
 #[derive(Drop)]
@@ -134,6 +139,17 @@ impl<S: Alter> Tables<S> {
         ensures left { HasCleanDisk (state S.Store self.new.conn) → (t : Rows) → IsAtRest (Some t) (state S.Store self.old.conn) → Leaves (Some t) (state S.Store self.new.conn) }
     {
         ask::<T, Q, S>(alloc, &mut self.conn, question)
+    }
+
+    /// The greatest anchor among the accepted records of a dimension, 0 where there is none.
+    pub fn greatest_anchor(&mut self, alloc: Global, dim: Dim) -> Result<u64, Refusal>
+        ensures clean { HasCleanDisk (state S.Store self.new.conn) → HasCleanDisk (state S.Store self.old.conn) }
+        ensures anchor { HasCleanDisk (state S.Store self.new.conn) → (t : Rows) → IsAtRest (Some t) (state S.Store self.old.conn) → IfOk result (λ anchor. anchor ≡ greatest_of (map (λ r. r.anchor) (filter (λ r. eq_by_cmp nat_cmp (dim_number dim) (dim_number r.dim)) (values t.change)))) }
+        ensures sound { HasCleanDisk (state S.Store self.new.conn) → (t : Rows) → IsAtRest (Some t) (state S.Store self.old.conn) → IsUndamaged result }
+        ensures same { HasCleanDisk (state S.Store self.new.conn) → (t : Rows) → IsAtRest (Some t) (state S.Store self.old.conn) → IsWhole result → IsAtRest (Some t) (state S.Store self.new.conn) }
+        ensures left { HasCleanDisk (state S.Store self.new.conn) → (t : Rows) → IsAtRest (Some t) (state S.Store self.old.conn) → Leaves (Some t) (state S.Store self.new.conn) }
+    {
+        greatest_anchor(alloc, &mut self.conn, dim)
     }
 
     /// Begins a transaction, to which the tables belong until it ends.

@@ -1,12 +1,12 @@
 //! How a transaction begins and ends.
 
-ghost use Rattle.std.specs.Prelude.{◌≡◌, ◌⊎◌, Option, Err, IsTrue, OnOk};
+ghost use Rattle.std.specs.Prelude.{◌≡◌, ◌⊎◌, codes, [], false, Option, Err, IsTrue, IfErr, OnOk};
 ghost use Rattle.sqlite.specs.Held.{state};
 ghost use Rattle.sqlite.specs.Tree.{Trees};
 ghost use Rattle.sqlite.specs.State.{HasCleanDisk, Survives};
 ghost use Rattle.wh_rows.specs.declared.cause.Cause.TheVariants.{Disk};
 ghost use Rattle.wh_rows.specs.Tables.{Tables};
-ghost use Rattle.wh_rows.specs.AtRest.{AreTrees, Leaves, IsAtRest, IsWriting};
+ghost use Rattle.wh_rows.specs.AtRest.{AreTrees, Leaves, IsAtRest, IsWriting, IsCauseOf};
 
 use sqlite::{Alter, Connection};
 use wh_rows::Cause;
@@ -17,6 +17,7 @@ pub(crate) fn begin<S: Alter>(conn: &mut Connection<S>) -> Result<(), Cause>
     ensures begun { HasCleanDisk (state S.Store conn.new) → (held : Option Tables) → IsAtRest held (state S.Store conn.old) → OnOk result (IsWriting held held (state S.Store conn.new)) }
     ensures left { HasCleanDisk (state S.Store conn.new) → (held : Option Tables) → IsAtRest held (state S.Store conn.old) → Leaves held (state S.Store conn.new) }
     ensures survives { Survives (state S.Store conn.old) (state S.Store conn.new) (λ _. ⊥) }
+    ensures cause { HasCleanDisk (state S.Store conn.new) → conn.old.in_transaction ≡ false → IfErr result (IsCauseOf (codes "BEGIN") [] (state S.Store conn.old) (state S.Store conn.new)) }
     ensures within { IsTrue conn.old.in_transaction → (result ≡ Err Disk) × (conn.new ≡ conn.old) }
 {
     if !conn.is_autocommit() {
@@ -32,6 +33,7 @@ pub(crate) fn commit<S: Alter>(conn: &mut Connection<S>) -> Result<(), Cause>
     ensures written { HasCleanDisk (state S.Store conn.new) → (before made : Option Tables) → IsWriting before made (state S.Store conn.old) → OnOk result (IsAtRest made (state S.Store conn.new)) }
     ensures left { HasCleanDisk (state S.Store conn.new) → (before made : Option Tables) → IsWriting before made (state S.Store conn.old)
         → (trees : Trees) → (state S.Store conn.new).may_leave trees → AreTrees before trees ⊎ AreTrees made trees }
+    ensures cause { HasCleanDisk (state S.Store conn.new) → IfErr result (IsCauseOf (codes "COMMIT") [] (state S.Store conn.old) (state S.Store conn.new)) }
 {
     conn.execute("COMMIT", &[])?;
     Ok(())

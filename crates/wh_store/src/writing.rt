@@ -1,12 +1,13 @@
 //! Edits that are kept together, or not at all.
 
-ghost use Rattle.std.specs.Prelude.{◌≡◌, ◌⊎◌, ◌+◌, pos, Option, None, Some, IsTrue, IfOk, OnOk};
+ghost use Rattle.std.specs.Prelude.{◌≡◌, ◌⊎◌, ◌+◌, pos, Option, None, Some, IsTrue, IfOk, OnOk, length};
 ghost use Rattle.std.specs.FinMap.{insert, remove};
 ghost use Rattle.sqlite.specs.Held.{state};
 ghost use Rattle.sqlite.specs.State.{HasCleanDisk, Survives};
 ghost use Rattle.wh_rows.specs.AtRest.{AreTrees, IsAtRest, IsWriting, Leaves};
 ghost use Rattle.wh_rows.specs.Tables.{Tables as Rows};
 ghost use Rattle.wh_sql.specs.Fits.{MayBePut};
+ghost use Rattle.wh_store.specs.Edits.{with_row, with_edit, MayBeMade, after_all, MayAll};
 ghost use Rattle.wh_store.specs.Meta.{made_with, with_number};
 
 use crate::meta;
@@ -14,6 +15,7 @@ use crate::tables::Tables;
 use crate::transaction::{commit, roll_back};
 use sqlite::Alter;
 use std::alloc::Global;
+use wh_history::Edit;
 use wh_rows::tables::Meta;
 use wh_rows::{Cause, Limits};
 use wh_sql::{Keeps, create, put, remove};
@@ -78,6 +80,61 @@ impl<'t, S: Alter> Writing<'t, S> {
         let writes = self.one_more()?;
         remove::<T, S>(alloc, &mut self.tables.conn, key)?;
         self.writes = writes;
+        Ok(())
+    }
+
+    /// Puts rows at their keys, one after the other.
+    pub fn put_all<T: Keeps>(&mut self, alloc: Global, rows: &[T::Row]) -> Result<(), Cause>
+        ensures same_reference { self.new.tables.ghost_name ≡ self.old.tables.ghost_name }
+        ensures clean { HasCleanDisk (state S.Store self.new.tables.now.conn) → HasCleanDisk (state S.Store self.old.tables.now.conn) }
+        ensures put { HasCleanDisk (state S.Store self.new.tables.now.conn) → (before : Option Rows) (made : Rows) → IsWriting before (Some made) (state S.Store self.old.tables.now.conn)
+            → MayAll (with_row T.layout) (MayBePut T.layout T.may_stand) rows.now (T.rows made) → OnOk result (IsWriting before (Some (T.with_rows (after_all (with_row T.layout) rows.now (T.rows made)) made)) (state S.Store self.new.tables.now.conn)) }
+        ensures left { HasCleanDisk (state S.Store self.new.tables.now.conn) → (before : Option Rows) (made : Rows) → IsWriting before (Some made) (state S.Store self.old.tables.now.conn)
+            → MayAll (with_row T.layout) (MayBePut T.layout T.may_stand) rows.now (T.rows made) → Leaves before (state S.Store self.new.tables.now.conn) }
+        ensures counted { OnOk result (self.new.writes ≡ self.old.writes + length rows.now) }
+    {
+        for row in rows {
+            self.put::<T>(alloc, row)?;
+        }
+        Ok(())
+    }
+
+    /// Makes one edit.
+    pub fn edit<T: Keeps>(
+        &mut self,
+        alloc: Global,
+        edit: &Edit<T::Row, T::Key>,
+    ) -> Result<(), Cause>
+        ensures same_reference { self.new.tables.ghost_name ≡ self.old.tables.ghost_name }
+        ensures clean { HasCleanDisk (state S.Store self.new.tables.now.conn) → HasCleanDisk (state S.Store self.old.tables.now.conn) }
+        ensures edited { HasCleanDisk (state S.Store self.new.tables.now.conn) → (before : Option Rows) (made : Rows) → IsWriting before (Some made) (state S.Store self.old.tables.now.conn)
+            → MayBeMade T.layout T.may_stand edit.now (T.rows made) → OnOk result (IsWriting before (Some (T.with_rows (with_edit T.layout edit.now (T.rows made)) made)) (state S.Store self.new.tables.now.conn)) }
+        ensures left { HasCleanDisk (state S.Store self.new.tables.now.conn) → (before : Option Rows) (made : Rows) → IsWriting before (Some made) (state S.Store self.old.tables.now.conn) → Leaves before (state S.Store self.new.tables.now.conn) }
+        ensures counted { OnOk result (self.new.writes ≡ self.old.writes + 1) }
+    {
+        match edit {
+            Edit::Put(row) => self.put::<T>(alloc, row),
+            Edit::Remove(key) => self.remove::<T>(alloc, key),
+        }
+    }
+
+    /// Makes edits, one after the other.
+    pub fn edit_all<T: Keeps>(
+        &mut self,
+        alloc: Global,
+        edits: &[Edit<T::Row, T::Key>],
+    ) -> Result<(), Cause>
+        ensures same_reference { self.new.tables.ghost_name ≡ self.old.tables.ghost_name }
+        ensures clean { HasCleanDisk (state S.Store self.new.tables.now.conn) → HasCleanDisk (state S.Store self.old.tables.now.conn) }
+        ensures edited { HasCleanDisk (state S.Store self.new.tables.now.conn) → (before : Option Rows) (made : Rows) → IsWriting before (Some made) (state S.Store self.old.tables.now.conn)
+            → MayAll (with_edit T.layout) (MayBeMade T.layout T.may_stand) edits.now (T.rows made) → OnOk result (IsWriting before (Some (T.with_rows (after_all (with_edit T.layout) edits.now (T.rows made)) made)) (state S.Store self.new.tables.now.conn)) }
+        ensures left { HasCleanDisk (state S.Store self.new.tables.now.conn) → (before : Option Rows) (made : Rows) → IsWriting before (Some made) (state S.Store self.old.tables.now.conn)
+            → MayAll (with_edit T.layout) (MayBeMade T.layout T.may_stand) edits.now (T.rows made) → Leaves before (state S.Store self.new.tables.now.conn) }
+        ensures counted { OnOk result (self.new.writes ≡ self.old.writes + length edits.now) }
+    {
+        for edit in edits {
+            self.edit::<T>(alloc, edit)?;
+        }
         Ok(())
     }
 

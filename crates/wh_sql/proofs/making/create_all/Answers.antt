@@ -1,4 +1,6 @@
-use Rattle.wh_sql.proofs.Creating.{next_extends}
+use Rattle.std.proofs.Common.{Bor, List, ℕ, map, rules}
+use Rattle.wh_sql.specs.Present.{IsOneRefused}
+use Rattle.wh_sql.proofs.Creating.{next_extends, is_among}
 use Rattle.wh_sql.proofs.making.create_all.Goals as goal
 
 pub returns-in_err-create_one-clause-left : goal.returns-in_err-create_one-clause-left
@@ -15,3 +17,13 @@ loop-text-preserved g c = record {
       let next = next_extends (λ text. text.now) c.args.texts.now c.loop-text.text-index _ here.0 to c.loop-text-test.true here.1 in
       (next.0, next.2, c.in_ok-create_one.ensures.made clean here.0 next.0 next.1 here.2);
 }
+
+pub returns-in_err-create_one-clause-cause : goal.returns-in_err-create_one-clause-cause
+returns-in_err-create_one-clause-cause g c clean =
+    let one : IsOneRefused g.S.Store (map (λ (text : Bor (List ℕ)). text.now) c.args.texts.now) c.create_one.new.conn c.in_err-create_one.field-0.0 = record {
+      text = _;
+      among = is_among (λ text. text.now) c.args.texts.now c.loop-text.text-index _ c.loop-text-test.true;
+      before = c.loop-text.conn;
+      refused = c.in_err-create_one.ensures.cause clean;
+    } in
+    search rules

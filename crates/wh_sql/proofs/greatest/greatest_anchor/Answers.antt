@@ -1,0 +1,52 @@
+-- The text means a record of the dimension with the greatest anchor.
+use Rattle.std.proofs.Common.{ℕ, [], ◌∷◌, filter, pos, Err, Ok, sym, ap, ◌∙◌}
+use Rattle.std.specs.Prelude.{slice_get, unwrap_or, option_map}
+use Rattle.std.specs.FinMap.{values}
+use Rattle.std.specs.Ordering.{eq_by_cmp, nat_cmp}
+use Rattle.std.proofs.lemmas.Result.{err_from_is_err_and}
+use Rattle.sqlite_value.specs.declared.value.Value.TheVariants.{Int}
+use Rattle.sqlite.specs.Held.{state}
+use Rattle.sqlite.specs.State.{State}
+use Rattle.wh_policy.specs.declared.attribute.Dim.{Dim}
+use Rattle.wh_rows.specs.Types.{dim_number}
+use Rattle.wh_rows.specs.Rows as row
+use Rattle.wh_rows.specs.declared.table.Table.TheVariants.{Change}
+use Rattle.wh_rows.proofs.Changes.{greatest_anchor_text, greatest_anchor}
+use Rattle.wh_rows.proofs.Places.{change}
+use Rattle.wh_sql.proofs.Reading.{IsAnswered, IsLedByGreatest, greatest_answered, rows_are, undamaged, leaves_held, rests_whole}
+use Rattle.wh_sql.proofs.greatest.greatest_anchor.Goals as goal
+
+asked : (dim : Dim) (old new : State)
+    → IsAnswered row.change greatest_anchor_text (Int (pos (dim_number dim)) ∷ []) old new (λ t. IsLedByGreatest (λ r. r.anchor) (filter (λ r. eq_by_cmp nat_cmp (dim_number dim) (dim_number r.dim)) (values t.change)))
+asked dim old new = greatest_answered change old new (λ r. eq_by_cmp nat_cmp (dim_number dim) (dim_number r.dim)) (λ r. r.anchor) (greatest_anchor dim)
+
+pub returns-in_err-rows-clause-sound : goal.returns-in_err-rows-clause-sound
+returns-in_err-rows-clause-sound g c clean t stored =
+    let p = err_from_is_err_and c.from_residual.result c.from_residual.ensures.1 in
+    let refused = rw c.dim.ensures at (c.in_err-rows.ensures.refused clean) in
+    rw (p.1, p.2) (undamaged (asked c.args.dim (state g.S.Store c.args.conn.now) (state g.S.Store c.rows_shown.new.conn)) {A = ℕ} (Err c.in_err-rows.field-0.0) Change refused t stored)
+
+pub returns-in_err-rows-clause-same : goal.returns-in_err-rows-clause-same
+returns-in_err-rows-clause-same g c clean t at =
+    let p = err_from_is_err_and c.from_residual.result c.from_residual.ensures.1 in
+    let refused = rw c.dim.ensures at (c.in_err-rows.ensures.refused clean) in
+    let survives = rw c.dim.ensures at c.rows_shown.ensures.survives in
+    rw (p.1, p.2) (rests_whole (asked c.args.dim (state g.S.Store c.args.conn.now) (state g.S.Store c.rows_shown.new.conn)) t at survives clean (Err c.in_err-rows.field-0.0) Change tt refused)
+
+pub returns-in_err-rows-clause-left : goal.returns-in_err-rows-clause-left
+returns-in_err-rows-clause-left g c clean t at = leaves_held (asked c.args.dim (state g.S.Store c.args.conn.now) (state g.S.Store c.rows_shown.new.conn)) t at (rw c.dim.ensures at c.rows_shown.ensures.survives) clean
+
+pub returns-clause-anchor : goal.returns-clause-anchor
+returns-clause-anchor g c clean t stored =
+    let shows = rw c.dim.ensures at (c.in_ok-rows.ensures.shows clean) in
+    let led = rows_are (asked c.args.dim (state g.S.Store c.args.conn.now) (state g.S.Store c.rows_shown.new.conn)) (Ok c.in_ok-rows.rows) shows t stored in
+    c.first_anchor.ensures ∙ ap (λ rows. unwrap_or (option_map (λ r. r.anchor) (slice_get rows 0)) 0) c.deref.ensures.value ∙ sym led
+
+pub returns-clause-same : goal.returns-clause-same
+returns-clause-same g c clean t at =
+    let shows = rw c.dim.ensures at (c.in_ok-rows.ensures.shows clean) in
+    let survives = rw c.dim.ensures at c.rows_shown.ensures.survives in
+    rests_whole (asked c.args.dim (state g.S.Store c.args.conn.now) (state g.S.Store c.rows_shown.new.conn)) t at survives clean (Ok c.in_ok-rows.rows) Change shows tt
+
+pub returns-clause-left : goal.returns-clause-left
+returns-clause-left g c clean t at = leaves_held (asked c.args.dim (state g.S.Store c.args.conn.now) (state g.S.Store c.rows_shown.new.conn)) t at (rw c.dim.ensures at c.rows_shown.ensures.survives) clean

@@ -1,0 +1,24 @@
+use Rattle.std.proofs.Common.{◌≡◌, ◌+◌, Option, Some, drop}
+use Rattle.sqlite.specs.Held.{state}
+use Rattle.sqlite.specs.State.{HasCleanDisk}
+use Rattle.wh_rows.specs.AtRest.{IsWriting}
+use Rattle.wh_rows.specs.Tables.{Tables as Rows}
+use Rattle.wh_sql.specs.Fits.{MayBePut}
+use Rattle.wh_store.specs.Edits.{with_row, after_all, MayAll}
+use Rattle.wh_store.proofs.Looping.{IsOnTheWay}
+use Rattle.wh_store.proofs.writing.Writing.put_all.Given as goal
+
+abbrev pub invariant-loop-row : goal.invariant-loop-row
+invariant-loop-row g l =
+    let old = state g.S.Store l.fn.self.tables.now.conn in
+    let now = state g.S.Store l.self.tables.now.conn in
+    let table = g.T.StoredTable in
+    let step = with_row table.layout in
+    let may = MayBePut table.layout g.T.Keeps.may_stand in
+    record {
+      same_reference : l.self.tables.ghost_name ≡ l.fn.self.tables.ghost_name;
+      clean : HasCleanDisk now → HasCleanDisk old;
+      put : HasCleanDisk now → (before : Option Rows) (made : Rows) → IsWriting before (Some made) old → MayAll step may l.rows (table.rows made)
+          → (mid : Rows) × IsWriting before (Some mid) now × IsOnTheWay step may table.rows table.with_rows (drop l.row-index l.rows) mid (table.with_rows (after_all step l.rows (table.rows made)) made);
+      counted : l.self.writes ≡ l.fn.self.writes + l.row-index;
+    }

@@ -1,0 +1,31 @@
+-- Edits of one table, one after the other.
+use Rattle.std.specs.Prelude.{List, [], ◌∷◌}
+use Rattle.std.specs.FinMap.{FinMap, insert, remove}
+use Rattle.wh_history.specs.declared.plan.Edit.{Edit}
+use Rattle.wh_history.specs.declared.plan.Edit.TheVariants.{Put, Remove}
+use Rattle.wh_rows.specs.Holds.{Layout}
+use Rattle.wh_sql.specs.Fits.{MayBePut}
+
+-- a table with a row put at its key
+abbrev pub with_row : {K V : Type 0} (layout : Layout K V) → V → FinMap layout.order V → FinMap layout.order V
+with_row layout row m = insert m (layout.key row) row
+
+-- a table with one edit
+abbrev pub with_edit : {K V : Type 0} (layout : Layout K V) → Edit V K → FinMap layout.order V → FinMap layout.order V
+with_edit layout (Put row) m = with_row layout row m
+with_edit layout (Remove key) m = remove m key
+
+-- an edit may be made where its row may be put
+abbrev pub MayBeMade : {K V : Type 0} (layout : Layout K V) (may_stand : V → V → Type 0) → Edit V K → FinMap layout.order V → Type 0
+MayBeMade layout may_stand (Put row) m = MayBePut layout may_stand row m
+MayBeMade layout may_stand (Remove key) m = Unit {0}
+
+-- what steps lead to, the first one first
+abbrev pub after_all : {E M : Type 0} → (E → M → M) → List E → M → M
+after_all step [] m = m
+after_all step (e ∷ es) m = after_all step es (step e m)
+
+-- each step may be taken where those before it lead
+abbrev pub MayAll : {E M : Type 0} → (E → M → M) → (E → M → Type 0) → List E → M → Type 0
+MayAll step may [] m = Unit {0}
+MayAll step may (e ∷ es) m = may e m × MayAll step may es (step e m)
