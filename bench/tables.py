@@ -2,8 +2,8 @@
 """Times the tables of wh_store by processor time: tables.py PROGRAM, where bench/tables/build.sh FOLDER built and named the program.
 
 Puts: 100,000 facts in one transaction into a new file, against the same statements by Python's sqlite3, one `execute` a row.
-Look-ups: 1,000 members' rows of product and 1,000 products' facts, in files of 10,000 and of 100,000 rows in each of the two tables.
-Prints the least of five runs (look-ups: of three)."""
+Look-ups: 1,000 members' rows, facts and records, and the greatest keys, in files of 10,000 and of 100,000 rows in each of the tables
+product, fact and change. Prints the least of five runs (look-ups: of three)."""
 import os
 import re
 import sqlite3
@@ -87,6 +87,16 @@ def puts(program, folder, count):
         )
 
 
+WORDS = {
+    "rows": "1,000 of RowsOf",
+    "sales": "1,000 of SalesOf",
+    "records": "1,000 of RecordsOf",
+    "greatest": "1,000 of Greatest",
+    "anchors": "10 of greatest_anchor",
+    "open": "the open alone",
+}
+
+
 def look_ups(program, folder):
     least = {}
     for count in (10_000, 100_000):
@@ -94,13 +104,14 @@ def look_ups(program, folder):
         run(program, "fill", path, str(count))
         told = [run(program, "ask", path, str(count)) for _ in range(3)]
         least[count] = {word: min(one[word] for one in told) for word in told[0]}
-        rows, sales, opened = (least[count][word] for word in ("rows", "sales", "open"))
+    small, great = least[10_000], least[100_000]
+    for word in ("rows_found", "sales_found", "records_found", "greatest_found"):
+        assert small[word] == great[word], word
+    for word, what in WORDS.items():
         print(
-            f"look-ups at {count} rows: 1,000 of RowsOf {rows / 1e3:.1f} ms ({least[count]['rows_found']} rows), 1,000 of SalesOf"
-            f" {sales / 1e3:.1f} ms ({least[count]['sales_found']} facts); the open alone {opened / 1e6:.2f} s"
+            f"{what}: {small[word] / 1e3:.2f} ms at 10,000 rows a table, {great[word] / 1e3:.2f} ms at 100,000,"
+            f" ratio {great[word] / small[word]:.2f}"
         )
-    for word in ("rows", "sales", "open"):
-        print(f"  ratio of {word}: {least[100_000][word] / least[10_000][word]:.2f}")
 
 
 def main():

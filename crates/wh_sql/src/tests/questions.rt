@@ -89,6 +89,17 @@ fn records_of_one_day(rt: HostRuntime) -> Result<(), Fail> {
     Ok(())
 }
 
+#[test]
+fn greatest_anchors(rt: HostRuntime) -> Result<(), Fail> {
+    let alloc = rt.alloc();
+    let mut conn = made(alloc)?;
+    assert_eq!(rt; greatest_anchor(alloc, &mut conn, Dim::Store)?, 0);
+    put_records(alloc, &mut conn)?;
+    assert_eq!(rt; greatest_anchor(alloc, &mut conn, Dim::Store)?, 10);
+    assert_eq!(rt; greatest_anchor(alloc, &mut conn, Dim::Product)?, 0);
+    Ok(())
+}
+
 fn put_command(
     alloc: Global,
     conn: &mut Connection<MemStore>,

@@ -1,7 +1,10 @@
 //! Edits that are kept together, or not at all.
 
 use super::*;
-use wh_rows::tables::{Customer, Product, Store};
+use wh_history::Edit;
+use wh_policy::Dim;
+use wh_rows::ChangeRow;
+use wh_rows::tables::{Change, Customer, Product, Store};
 use wh_sql::RowsOf;
 
 fn put_row<T: Keeps<Row = DimRow>>(
@@ -140,5 +143,128 @@ fn a_refused_row_is_not_counted(rt: HostRuntime) -> Result<(), Fail> {
     let mut tables = warehouse(alloc)?;
     assert_eq!(rt; edit_past_a_refusal(alloc, &mut tables)?, 1);
     assert_eq!(rt; counts(alloc, &mut tables)?, (1, 0, 0));
+    Ok(())
+}
+
+/// Three rows at two keys.
+fn three_rows(alloc: Global) -> Result<Vec<DimRow>, AllocError> {
+    let mut rows = Vec::new(alloc);
+    rows.push(member_row(alloc, 2, "Tea")?)?;
+    rows.push(member_row(alloc, 1, "Cola")?)?;
+    rows.push(member_row(alloc, 2, "Green tea")?)?;
+    Ok(rows)
+}
+
+fn put_three(alloc: Global, tables: &mut Tables<MemStore>) -> Result<u64, Fail> {
+    let rows = three_rows(alloc)?;
+    let mut writing = tables.begin()?;
+    writing.put_all::<Product>(alloc, &rows)?;
+    let writes = writing.writes();
+    writing.commit()?;
+    Ok(writes)
+}
+
+/// Of rows at one key the last stays.
+#[test]
+fn rows_are_put_in_turn(rt: HostRuntime) -> Result<(), Fail> {
+    let alloc = rt.alloc();
+    let mut tables = warehouse(alloc)?;
+    assert_eq!(rt; put_three(alloc, &mut tables)?, 3);
+    assert_eq!(rt; counts(alloc, &mut tables)?, (2, 0, 0));
+    assert_eq!(rt; text_of_member(alloc, &mut tables, 1)?.as_str(), "Cola");
+    assert_eq!(rt;
+        text_of_member(alloc, &mut tables, 2)?.as_str(),
+        "Green tea"
+    );
+    Ok(())
+}
+
+/// A row comes, goes, and comes again with another text; another goes that was there.
+fn four_edits(alloc: Global) -> Result<Vec<Edit<DimRow, u64>>, AllocError> {
+    let mut edits = Vec::new(alloc);
+    edits.push(Edit::Put(member_row(alloc, 3, "Milk")?))?;
+    edits.push(Edit::Remove(3))?;
+    edits.push(Edit::Put(member_row(alloc, 3, "Oat milk")?))?;
+    edits.push(Edit::Remove(1))?;
+    Ok(edits)
+}
+
+fn edit_in_turn(alloc: Global, tables: &mut Tables<MemStore>) -> Result<u64, Fail> {
+    let edits = four_edits(alloc)?;
+    let mut writing = tables.begin()?;
+    writing.edit_all::<Product>(alloc, &edits)?;
+    let writes = writing.writes();
+    writing.commit()?;
+    Ok(writes)
+}
+
+#[test]
+fn edits_are_made_in_turn(rt: HostRuntime) -> Result<(), Fail> {
+    let alloc = rt.alloc();
+    let mut tables = warehouse(alloc)?;
+    put_three(alloc, &mut tables)?;
+    assert_eq!(rt; edit_in_turn(alloc, &mut tables)?, 4);
+    assert_eq!(rt; text_of_member(alloc, &mut tables, 1)?.as_str(), "");
+    assert_eq!(rt;
+        text_of_member(alloc, &mut tables, 2)?.as_str(),
+        "Green tea"
+    );
+    assert_eq!(rt; text_of_member(alloc, &mut tables, 3)?.as_str(), "Oat milk");
+    Ok(())
+}
+
+/// Makes one edit, and keeps it.
+fn edit_once(
+    alloc: Global,
+    tables: &mut Tables<MemStore>,
+    edit: &Edit<DimRow, u64>,
+) -> Result<u64, Fail> {
+    let mut writing = tables.begin()?;
+    writing.edit::<Product>(alloc, edit)?;
+    let writes = writing.writes();
+    writing.commit()?;
+    Ok(writes)
+}
+
+#[test]
+fn single_edits(rt: HostRuntime) -> Result<(), Fail> {
+    let alloc = rt.alloc();
+    let mut tables = warehouse(alloc)?;
+    let put = Edit::Put(member_row(alloc, 1, "Cola")?);
+    assert_eq!(rt; edit_once(alloc, &mut tables, &put)?, 1);
+    assert_eq!(rt; text_of_member(alloc, &mut tables, 1)?.as_str(), "Cola");
+    assert_eq!(rt; edit_once(alloc, &mut tables, &Edit::Remove(1))?, 1);
+    assert_eq!(rt; counts(alloc, &mut tables)?, (0, 0, 0));
+    Ok(())
+}
+
+fn record(alloc: Global, place: u64, dim: Dim, anchor: u64) -> Result<ChangeRow, AllocError> {
+    Ok(ChangeRow {
+        command: 1,
+        place,
+        dim,
+        durable: 1,
+        day: Day::first(),
+        anchor,
+        values: values(alloc, "Bern,,,,,")?,
+    })
+}
+
+fn put_records(alloc: Global, tables: &mut Tables<MemStore>) -> Result<(), Cause> {
+    let mut writing = tables.begin()?;
+    writing.put::<Change>(alloc, &record(alloc, 1, Dim::Store, 7)?)?;
+    writing.put::<Change>(alloc, &record(alloc, 2, Dim::Store, 12)?)?;
+    writing.put::<Change>(alloc, &record(alloc, 3, Dim::Customer, 9)?)?;
+    writing.commit()
+}
+
+#[test]
+fn greatest_anchors(rt: HostRuntime) -> Result<(), Fail> {
+    let alloc = rt.alloc();
+    let mut tables = warehouse(alloc)?;
+    put_records(alloc, &mut tables)?;
+    assert_eq!(rt; tables.greatest_anchor(alloc, Dim::Store)?, 12);
+    assert_eq!(rt; tables.greatest_anchor(alloc, Dim::Customer)?, 9);
+    assert_eq!(rt; tables.greatest_anchor(alloc, Dim::Product)?, 0);
     Ok(())
 }
