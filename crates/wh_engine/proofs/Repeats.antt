@@ -56,7 +56,7 @@ module _ (limits : Limits) (commands : List Accepted) (c : Command) where
 
   by_answer : (a : Result Reply Refused) → answer limits commands c ≡ a → accepted_after limits (after_answer commands c a) c ≡ after_answer commands c a
   by_answer (Ok (Already receipt)) is = ap (after_answer commands c) is
-  by_answer (Err refused) is = ap (after_answer commands c) is
+  by_answer (Err why) is = ap (after_answer commands c) is
   by_answer (Ok (Accepts receipt)) is =
       let new = new_id (is_key 40 c.id) found receipt refl refl is in
       by_content (content_of c.kind (in_force commands) c.bytes) receipt refl new.0 new.1 is

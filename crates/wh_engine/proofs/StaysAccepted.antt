@@ -151,7 +151,7 @@ module _ (limits : Limits) (commands : List Accepted) (c : Command) (dim : Dim) 
 
   by_answer : (a : Result Reply Refused) → answer limits commands c ≡ a → IsAccepted limits (after_answer commands c a)
   by_answer (Ok (Already receipt)) said = accepted
-  by_answer (Err refused) said = accepted
+  by_answer (Err why) said = accepted
   by_answer (Ok (Accepts receipt)) said =
       let new = new_id limits commands c (is_key 40 c.id) (find (λ (a : Accepted). bytes_eq a.id c.id) commands) receipt refl refl said in
       let read : when_read limits commands c (content_of c.kind (in_force commands) c.bytes) ≡ Ok (Accepts receipt) = rw (new.0, new.1) at said in

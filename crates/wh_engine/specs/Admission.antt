@@ -98,7 +98,7 @@ with_content commands c (Err fault) = commands
 abbrev pub after_answer : List Accepted → Command → Result Reply Refused → List Accepted
 after_answer commands c (Ok (Accepts receipt)) = with_content commands c (content_of c.kind (in_force commands) c.bytes)
 after_answer commands c (Ok (Already receipt)) = commands
-after_answer commands c (Err refused) = commands
+after_answer commands c (Err why) = commands
 
 abbrev pub accepted_after : Limits → List Accepted → Command → List Accepted
 accepted_after limits commands c = after_answer commands c (answer limits commands c)
