@@ -7,3 +7,7 @@ pub mod Admission
 pub mod Made
 pub mod Planning
 pub mod Laws
+pub mod Reads
+pub mod Faults
+pub mod Decided
+pub mod Answered

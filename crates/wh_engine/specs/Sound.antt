@@ -1,14 +1,17 @@
 -- What holds of every list of accepted commands, as far as batches of products, stores and customers go.
-use Rattle.std.specs.Prelude.{◌≡◌, ◌≢◌, ℕ, ◌+◌, ◌≤◌, true, None, List, [], length, map, IsSome, bytes_eq}
+use Rattle.std.specs.Prelude.{◌≡◌, ◌≢◌, ℕ, ◌+◌, ◌≤◌, true, Some, None, Ok, List, [], ◌∷◌, length, map, IsSome, bytes_eq}
 use Rattle.std.specs.List.{AllByRecursion, IsDistinct}
 use Rattle.wh_day.specs.Day.{is_day}
 use Rattle.wh_policy.specs.declared.attribute.Dim.{Dim}
 use Rattle.wh_policy.specs.declared.attribute.Dim.TheVariants.{Product, Store, Customer}
+use Rattle.wh_policy.specs.declared.policy.Policy.{Policy}
 use Rattle.wh_policy.specs.declared.record.DimensionRecord.{DimensionRecord}
+use Rattle.wh_policy.specs.Policy.{policy_at}
 use Rattle.wh_history.specs.Accepted.{Accepted, policy_after, types_in, described, sold}
 use Rattle.wh_history.specs.Tables.{Limits}
 use Rattle.wh_rows.specs.Limits.{are_limits}
 use Rattle.wh_rows.specs.Types.{is_key, is_kind, is_slot}
+use Rattle.wh_engine.specs.Made.{making_of}
 
 -- a value that a record gives: a text that a slot can hold, and not the empty one
 abbrev pub IsGivenValue : List ℕ → Type 0
@@ -25,12 +28,22 @@ pub record IsGoodRecord (r : DimensionRecord) : Type 0 where
 abbrev pub changes_kept : List Accepted → ℕ
 changes_kept commands = length (described Product commands) + length (described Store commands) + length (described Customer commands)
 
--- The list is one that a warehouse with these limits can have accepted: a policy is in force, with up to six attributes a dimension; ids and kinds are well formed, no two commands
+-- It begins with a making, whose bytes give the policy in force: no migration came yet.
+pub record IsBegun (commands : List Accepted) : Type 0 where
+  pub policy : Policy
+  pub bytes : List ℕ
+  pub rest : List Accepted
+  pub making : commands ≡ making_of policy bytes ∷ rest
+  pub written : policy_at bytes ≡ Ok policy
+  pub kept : policy_after None commands ≡ Some policy
+
+-- The list is one that a warehouse with these limits can have accepted: it begins with a making, and that policy is in force, with up to six attributes a dimension; ids and kinds are well formed, no two commands
 -- share an id; its records are good; the limits aren't passed; nothing was sold yet.
 pub record IsAccepted (limits : Limits) (commands : List Accepted) : Type 0 where
   pub limited : are_limits limits ≡ true
   pub commands_within : length commands ≤ limits.commands
   pub changes_within : changes_kept commands ≤ limits.changes
+  pub begun : IsBegun commands
   pub governed : IsSome (policy_after None commands)
   pub six : (dim : Dim) → length (types_in dim commands) ≤ 6
   pub ids : AllByRecursion (λ c. is_key 40 c.id ≡ true) commands

@@ -1,17 +1,30 @@
 //! The engine of a warehouse: commands, and what they make of the tables.
 #![tactic(auto)]
 
+mod admission;
 mod command;
+mod counts;
+mod decision;
 mod edits;
+mod engine;
+mod fault;
 pub mod kept;
 pub mod laws;
 mod making;
+mod opening;
+mod plan;
 pub mod planning;
+mod session;
 mod write;
 
 pub use command::{Command, Limit, Receipt, Refused, Reply};
+pub use counts::Counts;
 pub use edits::Edits;
+pub use engine::Engine;
+pub use fault::Fault;
 pub use making::{policies_are_good, write_making};
+pub use opening::{InitFault, OpeningFault};
+pub use plan::plan_batch;
 pub use write::write_batch;
 
 #[cfg(test)]

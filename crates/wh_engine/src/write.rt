@@ -1,9 +1,9 @@
 //! Writing the edits of a batch, inside a transaction.
 
-ghost use Rattle.std.specs.Prelude.{◌≡◌, Option, Some, OnOk};
+ghost use Rattle.std.specs.Prelude.{◌≡◌, ◌⊎◌, Option, Some, OnOk};
 ghost use Rattle.sqlite.specs.Held.{state};
 ghost use Rattle.sqlite.specs.State.{HasCleanDisk};
-ghost use Rattle.wh_rows.specs.AtRest.{IsWriting, Leaves};
+ghost use Rattle.wh_rows.specs.AtRest.{AreTrees, IsAtRest, IsWriting, Leaves};
 ghost use Rattle.wh_rows.specs.Tables.{Tables as Rows};
 ghost use Rattle.wh_engine.specs.Planned.{with_dimension, with_lists, with_batch_edits};
 ghost use Rattle.wh_engine.specs.Writable.{MayBeEdited, MayBePutIn, MayBeWritten};
@@ -14,7 +14,7 @@ use std::alloc::Global;
 use wh_history::{DimRow, Edit};
 use wh_policy::Dim;
 use wh_rows::{Cause, ChangeRow, CommandRow, MemberRow, ProfileRow, tables};
-use wh_store::Writing;
+use wh_store::{Tables, Writing};
 
 /// Makes the edits of a dimension's table.
 fn edit_rows<S: Alter>(
@@ -82,4 +82,22 @@ pub fn write_batch<S: Alter>(
         &edits.profiles,
     )?;
     edit_rows(writing, alloc, dim, &edits.rows)
+}
+
+/// Writes the edits of a batch in one transaction, and keeps them.
+pub(crate) fn commit_batch<S: Alter>(
+    tables: &mut Tables<S>,
+    alloc: Global,
+    dim: Dim,
+    edits: &Edits,
+) -> Result<(), Cause>
+    ensures clean { HasCleanDisk (state S.Store tables.new.conn) → HasCleanDisk (state S.Store tables.old.conn) }
+    ensures written { HasCleanDisk (state S.Store tables.new.conn) → (t : Rows) → IsAtRest (Some t) (state S.Store tables.old.conn) → MayBeWritten dim edits.now t
+        → OnOk result (IsAtRest (Some (with_batch_edits dim edits.now t)) (state S.Store tables.new.conn)) }
+    ensures left { HasCleanDisk (state S.Store tables.new.conn) → (t : Rows) → IsAtRest (Some t) (state S.Store tables.old.conn) → MayBeWritten dim edits.now t
+        → (trees : _) → (state S.Store tables.new.conn).may_leave trees → AreTrees (Some t) trees ⊎ AreTrees (Some (with_batch_edits dim edits.now t)) trees }
+{
+    let mut writing = tables.begin()?;
+    write_batch(&mut writing, alloc, dim, edits)?;
+    writing.commit()
 }

@@ -160,7 +160,8 @@ fn has_key_bytes(text: &[u8]) -> bool
     text.iter().all(|byte| is_key_byte(*byte))
 }
 
-fn is_key(most: usize, text: &str) -> bool
+/// Whether a text is a key: 1 to `most` letters, digits, `-`, `_` and `.`.
+pub fn is_key(most: usize, text: &str) -> bool
     ensures { result ≡ is_key most text.now }
 {
     let bytes = text.as_bytes();

@@ -1,0 +1,60 @@
+-- What a warehouse holds behind a call, by its answer.
+use Rattle.std.specs.Prelude.{◌≡◌, ◌⊎◌, false, List, Some, Result, Ok, Err, IsTrue}
+use Rattle.sqlite.specs.Tree.{Trees}
+use Rattle.sqlite.specs.State.{State}
+use Rattle.wh_history.specs.Accepted.{Accepted}
+use Rattle.wh_history.specs.Tables.{Limits}
+use Rattle.wh_rows.specs.AtRest.{AreTrees, IsAtRest}
+use Rattle.wh_rows.specs.Tables.{Tables}
+use Rattle.wh_engine.specs.Admission.{in_force, answer, accepted_after}
+use Rattle.wh_engine.specs.Defined.{AreOf}
+use Rattle.wh_engine.specs.Sound.{IsAccepted}
+use Rattle.wh_engine.specs.declared.command.Command.{Command}
+use Rattle.wh_engine.specs.declared.command.Reply.{Reply}
+use Rattle.wh_engine.specs.declared.session.Session.{Session}
+use Rattle.wh_engine.specs.declared.fault.Fault.{Fault}
+use Rattle.wh_engine.specs.declared.fault.Fault.TheVariants.{Refused, Memory, Store}
+
+-- The connection is at rest with the tables of these commands: it holds them, outside a transaction, and a crash leaves them and nothing else.
+pub record Rests (limits : Limits) (commands : List Accepted) (s : State) : Type 0 where
+  pub tables : Tables
+  pub are : AreOf limits commands tables
+  pub rests : IsAtRest (Some tables) s
+
+-- the trees of a database are those of the tables of these commands
+pub record AreTreesOf (limits : Limits) (commands : List Accepted) (trees : Trees) : Type 0 where
+  pub tables : Tables
+  pub are : AreOf limits commands tables
+  pub trees_are : AreTrees (Some tables) trees
+
+-- whatever a crash leaves are the tables of the first commands, or those of the second
+pub record LeavesOneOf (limits : Limits) (before after : List Accepted) (s : State) : Type 0 where
+  pub each : (trees : Trees) → s.may_leave trees → AreTreesOf limits before trees ⊎ AreTreesOf limits after trees
+
+-- The engine is open on a warehouse that was made with these limits and has accepted these commands.
+pub record IsReady (limits : Limits) (commands : List Accepted) (session : Session) (s : State) : Type 0 where
+  pub accepted : IsAccepted limits commands
+  pub rests : Rests limits commands s
+  pub session_is : session ≡ record { limits = limits; policy = in_force commands; must_reopen = false }
+
+-- The store refused a call of the engine, which has to be opened again; a crash leaves the tables before the command, or those with it.
+pub record IsStopped (limits : Limits) (before after : List Accepted) (session : Session) (s : State) : Type 0 where
+  pub flagged : IsTrue session.must_reopen
+  pub left : LeavesOneOf limits before after s
+
+-- What a command's answer says: the answer is that of the definition, and the tables are those of the list after it; or memory ran out and
+-- nothing changed; or the store refused a call.
+abbrev pub IsAnswered : Limits → List Accepted → Command → Result Reply Fault → Session → State → Type 0
+IsAnswered limits commands c (Ok reply) session s = (answer limits commands c ≡ Ok reply) × IsReady limits (accepted_after limits commands c) session s
+IsAnswered limits commands c (Err (Refused why)) session s = (answer limits commands c ≡ Err why) × IsReady limits commands session s
+IsAnswered limits commands c (Err Memory) session s = IsReady limits commands session s
+IsAnswered limits commands c (Err (Store cause)) session s = IsStopped limits commands (accepted_after limits commands c) session s
+IsAnswered limits commands c (Err fault) session s = ⊥
+
+-- The same of the work on one command, before a refusal of the store is noted.
+abbrev pub IsPerformed : Limits → List Accepted → Command → Result Reply Fault → Session → State → Type 0
+IsPerformed limits commands c (Ok reply) session s = (answer limits commands c ≡ Ok reply) × IsReady limits (accepted_after limits commands c) session s
+IsPerformed limits commands c (Err (Refused why)) session s = (answer limits commands c ≡ Err why) × IsReady limits commands session s
+IsPerformed limits commands c (Err Memory) session s = IsReady limits commands session s
+IsPerformed limits commands c (Err (Store cause)) session s = LeavesOneOf limits commands (accepted_after limits commands c) s
+IsPerformed limits commands c (Err fault) session s = ⊥

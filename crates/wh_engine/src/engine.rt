@@ -1,0 +1,90 @@
+//! A warehouse that is open for commands.
+
+ghost use Rattle.std.specs.Prelude.{◌≡◌, ◌≢◌, ◌×◌, List, Some, Err, IsTrue, OnErr};
+ghost use Rattle.sqlite.specs.Held.{state};
+ghost use Rattle.sqlite.specs.State.{HasCleanDisk};
+ghost use Rattle.wh_policy.specs.declared.attribute.Dim.{Dim};
+ghost use Rattle.wh_batch.specs.declared.kind.Kind.TheVariants.{Dimension, Sales};
+ghost use Rattle.wh_history.specs.Accepted.{Accepted};
+ghost use Rattle.wh_history.specs.Tables.{Limits as Counts};
+ghost use Rattle.wh_engine.specs.Answered.{IsReady, IsAnswered, IsPerformed};
+
+use crate::command::{Command, Reply};
+use crate::decision::{Decision, decide};
+use crate::fault::Fault;
+use crate::session::Session;
+use crate::write::commit_batch;
+use sqlite::{Alter, Connection};
+use std::alloc::Global;
+use wh_batch::Kind;
+use wh_policy::{Dim, Policy};
+use wh_store::Tables;
+
+/// A warehouse that is open for commands, over one connection.
+#[derive(Drop)]
+pub struct Engine<S: Alter> {
+    pub(crate) tables: Tables<S>,
+    pub(crate) session: Session,
+}
+
+/// Does what is decided about a batch of products, stores or customers.
+fn perform<S: Alter>(
+    tables: &mut Tables<S>,
+    alloc: Global,
+    session: &Session,
+    dim: Dim,
+    command: &Command,
+) -> Result<Reply, Fault>
+    ensures clean { HasCleanDisk (state S.Store tables.new.conn) → HasCleanDisk (state S.Store tables.old.conn) }
+    ensures performed { HasCleanDisk (state S.Store tables.new.conn) → (limits : Counts) (commands : List Accepted) → IsReady limits commands session.now (state S.Store tables.old.conn) → command.now.kind ≡ Dimension dim
+        → IsPerformed limits commands command.now result session.now (state S.Store tables.new.conn) }
+    ensures open { result ≢ Err Fault.Reopen }
+    ensures dimension { result ≢ Err Fault.Sales }
+{
+    match decide(tables, alloc, session, dim, command)? {
+        Decision::Repeat(receipt) => Ok(Reply::Already(receipt)),
+        Decision::Accept(receipt, edits) => match commit_batch(tables, alloc, dim, &edits) {
+            Ok(()) => Ok(Reply::Accepted(receipt)),
+            Err(cause) => Err(Fault::Store(cause)),
+        },
+    }
+}
+
+impl<S: Alter> Engine<S> {
+    /// The policy in force.
+    pub fn policy(&self) -> &Policy
+        ensures { result.now ≡ self.now.session.policy }
+    {
+        &self.session.policy
+    }
+
+    /// Hands the connection back.
+    pub fn close(self) -> Connection<S>
+        ensures { result ≡ self.tables.conn }
+    {
+        self.tables.close()
+    }
+
+    /// Answers a command. An accepted one is kept, once, in one transaction whose commit is the last call of the store. After a
+    /// refusal of the store every call answers `Reopen`.
+    pub fn apply(&mut self, alloc: Global, command: &Command) -> Result<Reply, Fault>
+        ensures clean { HasCleanDisk (state S.Store self.new.tables.conn) → HasCleanDisk (state S.Store self.old.tables.conn) }
+        ensures answered { HasCleanDisk (state S.Store self.new.tables.conn) → (limits : Counts) (commands : List Accepted) (dim : Dim) → IsReady limits commands self.old.session (state S.Store self.old.tables.conn)
+            → command.now.kind ≡ Dimension dim → IsAnswered limits commands command.now result self.new.session (state S.Store self.new.tables.conn) }
+        ensures reopen { IsTrue self.old.session.must_reopen → (result ≡ Err Fault.Reopen) × (self.new ≡ self.old) }
+        ensures only { result ≡ Err Fault.Reopen → IsTrue self.old.session.must_reopen }
+        ensures sales { command.now.kind ≡ Sales → result ≢ Err Fault.Reopen → (result ≡ Err Fault.Sales) × (self.new ≡ self.old) }
+    {
+        if self.session.must_reopen {
+            return Err(Fault::Reopen);
+        }
+        let Kind::Dimension(dim) = command.kind else {
+            return Err(Fault::Sales);
+        };
+        let answer = perform(&mut self.tables, alloc, &self.session, dim, command);
+        if let Err(Fault::Store(_)) = &answer {
+            self.session.must_reopen = true;
+        }
+        answer
+    }
+}

@@ -1,0 +1,66 @@
+//! Why a call on a warehouse isn't answered.
+
+ghost use Rattle.std.specs.Prelude.{◌≡◌};
+ghost use Rattle.wh_engine.specs.Faults.{of_refusal, of_reading};
+ghost use Rattle.wh_engine.specs.declared.fault.Fault.TheVariants as faults;
+
+use crate::command::Refused;
+use std::alloc::AllocError;
+use wh_day::ReadError;
+use wh_rows::{Cause, Table};
+use wh_sql::Refusal;
+
+/// Why a call on the tables of a warehouse isn't answered.
+#[derive(Clone, Copy, Debug, PartialEq, Eq)]
+pub enum Fault {
+    /// The command isn't accepted. It isn't kept, and nothing changed.
+    Refused(Refused),
+    /// A stored value is out of its type, or a row that is needed isn't there. Nothing changed.
+    Damaged(Table),
+    /// A growth was refused before anything was written. Nothing changed.
+    Memory,
+    /// The store refused a call, or a growth was refused inside a transaction. What is left is found by opening again.
+    Store(Cause),
+    /// The store refused an earlier call: the warehouse has to be opened again. Nothing changed.
+    Reopen,
+    /// Batches of sales can't be loaded yet. Nothing changed.
+    Sales,
+}
+
+impl From<AllocError> for Fault {
+    ghost from_gives = { λ _ fault. fault ≡ faults.Memory };
+
+    fn from(_error: AllocError) -> Fault {
+        Fault::Memory
+    }
+}
+
+impl From<Refused> for Fault {
+    ghost from_gives = { λ why fault. fault ≡ faults.Refused why };
+
+    fn from(why: Refused) -> Fault {
+        Fault::Refused(why)
+    }
+}
+
+impl From<Refusal> for Fault {
+    ghost from_gives = { λ refusal fault. fault ≡ of_refusal refusal };
+
+    fn from(refusal: Refusal) -> Fault {
+        match refusal {
+            Refusal::Damaged(table) => Fault::Damaged(table),
+            Refusal::Store(cause) => Fault::Store(cause),
+        }
+    }
+}
+
+impl From<ReadError<Refusal>> for Fault {
+    ghost from_gives = { λ error fault. fault ≡ of_reading error };
+
+    fn from(error: ReadError<Refusal>) -> Fault {
+        match error {
+            ReadError::Memory => Fault::Memory,
+            ReadError::Fault(refusal) => Fault::from(refusal),
+        }
+    }
+}
