@@ -20,10 +20,10 @@ use Rattle.wh_engine.specs.Kept.{HaveDistinctIds, number_of, command_with}
 use Rattle.wh_engine.proofs.Listed.{passes_at, values-numbered, len-values, length_numbered}
 use Rattle.wh_engine.proofs.FoundPlaces.{same_text_is, text_itself, at_place-map, at_place_past, at_place_there, behind_one, place_given, place_at, once_is}
 
-abbrev stored : ℕ → Told → CommandRow
+abbrev pub stored : ℕ → Told → CommandRow
 stored number c = record { number = number; id = c.id; kind = c.kind; bytes = c.bytes; records = c.records; placeholders = c.placeholders }
 
-abbrev told : List Accepted → ℕ → Accepted → Told
+abbrev pub told : List Accepted → ℕ → Accepted → Told
 told commands number c = record { id = c.id; kind = c.kind; bytes = c.bytes; records = records_by c.content; placeholders = placeholders_by commands number c.content }
 
 numbered_so : (number : ℕ) (o : Option Told) (r : CommandRow) → option_map (stored number) o ≡ Some r → r.number ≡ number

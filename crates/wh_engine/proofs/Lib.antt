@@ -46,3 +46,4 @@ pub mod PlanningChanges
 pub mod PlanningTable
 pub mod PlanningOwners
 pub mod PlanningRendered
+pub mod Decisions

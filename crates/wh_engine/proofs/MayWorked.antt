@@ -1,12 +1,12 @@
 -- A small history that can be accepted.
 use Rattle.std.proofs.Common.{◌≤◌, List, [], ◌∷◌, length, refl, arith}
-use Rattle.std.specs.Prelude.{codes, bytes_eq, map}
+use Rattle.std.specs.Prelude.{codes, bytes_eq, map, Ok}
 use Rattle.std.specs.Str.{is_utf8, chars}
 use lib.Utf8.{encode}
 use Rattle.std.specs.List.{AllByRecursion, IsDistinct}
 use Rattle.wh_day.specs.Day.{is_day}
 use Rattle.wh_day.specs.Value.{none_text, unknown_text, no_card_text, is_plain}
-use Rattle.wh_policy.specs.Policy.{described}
+use Rattle.wh_policy.specs.Policy.{described, policy_at}
 use Rattle.wh_policy.specs.declared.policy.Policy.{Policy}
 use Rattle.wh_policy.specs.declared.attribute.Dim.{Dim}
 use Rattle.wh_policy.specs.declared.attribute.Dim.TheVariants.{Product, Store, Customer}
@@ -62,11 +62,13 @@ good_records Product = (good, tt)
 good_records Store = tt
 good_records Customer = tt
 
-accepted : IsAccepted limits commands
-accepted = record {
+-- where its text writes its policy
+accepted : policy_at (codes "policy") ≡ Ok policy → IsAccepted limits commands
+accepted written = record {
   limited = refl;
   commands_within = omega arith;
   changes_within = omega arith;
+  begun = record { policy = policy; bytes = codes "policy"; rest = record { id = codes "p1"; kind = codes "product"; bytes = codes "first"; content = Describes Product (told ∷ []) } ∷ []; making = refl; written = written; kept = refl };
   governed = refl;
   six = few_slots;
   ids = (refl, (refl, tt));

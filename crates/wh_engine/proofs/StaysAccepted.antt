@@ -98,6 +98,14 @@ module _ (limits : Limits) (commands : List Accepted) (c : Accepted) (dim : Dim)
         limited = accepted.limited;
         commands_within = omega arith;
         changes_within = rw changes_more changes;
+        begun = record {
+          policy = accepted.begun.policy;
+          bytes = accepted.begun.bytes;
+          rest = accepted.begun.rest ++ c ∷ [];
+          making = ap (λ cs. cs ++ c ∷ []) accepted.begun.making;
+          written = accepted.begun.written;
+          kept = policy_last None commands c batch ∙ accepted.begun.kept;
+        };
         governed = rw (policy_last None commands c batch) accepted.governed;
         six = λ other. rw (types-last other commands c batch) (accepted.six other);
         ids = all_append (λ a. is_key 40 a.id ≡ true) commands (c ∷ []) accepted.ids (id, tt);

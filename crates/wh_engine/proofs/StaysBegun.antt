@@ -1,10 +1,11 @@
 -- A making begins a list of commands that can have been accepted.
-use Rattle.std.proofs.Common.{◌≡◌, ◌≤◌, ◌&&◌, leb, true, refl, arith}
+use Rattle.std.proofs.Common.{◌≡◌, ◌≤◌, ◌&&◌, leb, true, [], refl, arith}
 use Rattle.std.specs.List.{IsDistinct}
 use Rattle.std.proofs.lemmas.Bool.{and_parts, leb-true}
 use Rattle.std.proofs.lemmas.List.{length-map}
 use Rattle.wh_policy.specs.Policy.{attributes_of}
 use Rattle.wh_policy.specs.declared.attribute.Attribute.{Attribute}
+use Rattle.wh_policy.proofs.FileLaws.{policies_are_sound}
 use Rattle.wh_history.specs.Tables.{Limits}
 use Rattle.wh_rows.specs.Limits.{is_limit, are_limits}
 use Rattle.wh_engine.specs.Laws.{AcceptedListsBegin}
@@ -18,11 +19,13 @@ room_for_one limits h =
 
 pub accepted_lists_begin : AcceptedListsBegin
 unfolding IsDistinct
-accepted_lists_begin limits policy bytes limited sound =
+accepted_lists_begin limits policy bytes limited written =
+    let sound = policies_are_sound bytes policy written in
     record {
       limited = limited;
       commands_within = room_for_one limits limited;
       changes_within = omega arith;
+      begun = record { policy = policy; bytes = bytes; rest = []; making = refl; written = written; kept = refl };
       governed = refl;
       six = λ dim. omega (arith, length-map (attributes_of policy dim) (λ (a : Attribute). a.kind), (sound.attributes dim).few);
       ids = (refl, tt);

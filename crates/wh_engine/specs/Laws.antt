@@ -1,6 +1,7 @@
 -- What holds of every batch.
-use Rattle.std.specs.Prelude.{◌≡◌, ◌≢◌, ◌↔◌, ℕ, true, false, List, [], ◌∷◌, ◌++◌, Some, None}
+use Rattle.std.specs.Prelude.{◌≡◌, ◌≢◌, ◌↔◌, ℕ, true, false, List, [], ◌∷◌, ◌++◌, Some, None, Ok}
 use Rattle.std.specs.List.{list_any}
+use Rattle.wh_policy.specs.Policy.{policy_at}
 use Rattle.wh_policy.specs.Types.{is_outrigger}
 use Rattle.wh_policy.specs.Written.{IsSound}
 use Rattle.wh_policy.specs.declared.policy.Policy.{Policy}
@@ -58,9 +59,9 @@ SoundPoliciesShowNone = (commands : List Accepted) → ((policy : Policy) → po
 abbrev pub AcceptedListsStaySound : Type 0
 AcceptedListsStaySound = (limits : Limits) (commands : List Accepted) (c : Command) (dim : Dim) → c.kind ≡ Dimension dim → IsAccepted limits commands → IsAccepted limits (accepted_after limits commands c)
 
--- A making under a sound policy, as every policy that is read is, begins such a list.
+-- A making under a policy that was read begins such a list.
 abbrev pub AcceptedListsBegin : Type 0
-AcceptedListsBegin = (limits : Limits) (policy : Policy) (bytes : List ℕ) → are_limits limits ≡ true → IsSound policy → IsAccepted limits (making_of policy bytes ∷ [])
+AcceptedListsBegin = (limits : Limits) (policy : Policy) (bytes : List ℕ) → are_limits limits ≡ true → policy_at bytes ≡ Ok policy → IsAccepted limits (making_of policy bytes ∷ [])
 
 -- The edits of a batch that can be accepted after the commands so far may be written: each row is valid, and no other command has the
 -- id, no other member of the dimension the natural key.

@@ -11,3 +11,4 @@ pub mod Reads
 pub mod Faults
 pub mod Decided
 pub mod Answered
+pub mod Opened

@@ -1,6 +1,6 @@
 //! What is to be done about a command: the reads, and nothing written.
 
-ghost use Rattle.std.specs.Prelude.{◌≡◌, List, Some, IfOk};
+ghost use Rattle.std.specs.Prelude.{◌≡◌, true, List, Some, IfOk};
 ghost use Rattle.sqlite.specs.Held.{state};
 ghost use Rattle.sqlite.specs.State.{HasCleanDisk};
 ghost use Rattle.wh_policy.specs.declared.attribute.Dim.{Dim};
@@ -8,7 +8,8 @@ ghost use Rattle.wh_batch.specs.declared.kind.Kind.TheVariants.{Dimension};
 ghost use Rattle.wh_history.specs.Accepted.{Accepted};
 ghost use Rattle.wh_rows.specs.AtRest.{IsAtRest, Leaves};
 ghost use Rattle.wh_rows.specs.Tables.{Tables as Rows};
-ghost use Rattle.wh_engine.specs.Admission.{in_force, answer, when_read, content_of};
+ghost use Rattle.wh_rows.specs.Types.{is_key};
+ghost use Rattle.wh_engine.specs.Admission.{answer};
 ghost use Rattle.wh_engine.specs.Decided.{records_told, row_of_batch, IsHeld, IsNew, reply_to_known, Decides};
 ghost use Rattle.wh_engine.specs.Faults.{IsServed, Judges};
 
@@ -81,9 +82,8 @@ fn decide_new<S: Alter>(
     command: &Command,
 ) -> Result<Decision, Fault>
     ensures clean { HasCleanDisk (state S.Store tables.new.conn) → HasCleanDisk (state S.Store tables.old.conn) }
-    ensures decided { HasCleanDisk (state S.Store tables.new.conn) → (commands : List Accepted) (t : Rows) → IsHeld session.now commands t → command.now.kind ≡ Dimension dim → IsNew commands command.now
-        → IsAtRest (Some t) (state S.Store tables.old.conn)
-        → Judges (Decides commands command.now dim) result (when_read session.now.limits commands command.now (content_of command.now.kind (in_force commands) command.now.bytes)) }
+    ensures decided { HasCleanDisk (state S.Store tables.new.conn) → (commands : List Accepted) (t : Rows) → IsHeld session.now commands t → command.now.kind ≡ Dimension dim → is_key 40 command.now.id ≡ true → IsNew commands command.now
+        → IsAtRest (Some t) (state S.Store tables.old.conn) → Judges (Decides commands command.now dim) result (answer session.now.limits commands command.now) }
     ensures same { HasCleanDisk (state S.Store tables.new.conn) → (t : Rows) → IsAtRest (Some t) (state S.Store tables.old.conn) → IsServed result → IsAtRest (Some t) (state S.Store tables.new.conn) }
     ensures left { HasCleanDisk (state S.Store tables.new.conn) → (t : Rows) → IsAtRest (Some t) (state S.Store tables.old.conn) → Leaves (Some t) (state S.Store tables.new.conn) }
 {

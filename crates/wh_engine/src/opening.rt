@@ -80,8 +80,8 @@ fn policy_in<S: Alter>(tables: &mut Tables<S>, alloc: Global) -> Result<Policy, 
     let Ok(id) = Value::new(alloc, "init") else {
         return Err(OpeningFault::Memory);
     };
-    let mut found = tables.ask::<tables::Command, CommandOf<'_>>(alloc, &CommandOf { id: &id })?;
-    let Some(row) = found.pop() else {
+    let found = tables.ask::<tables::Command, CommandOf<'_>>(alloc, &CommandOf { id: &id })?;
+    let Some(row) = found.first() else {
         return Err(OpeningFault::Damaged(Table::Command));
     };
     match Policy::read(alloc, row.bytes.as_slice()) {
