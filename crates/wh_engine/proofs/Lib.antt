@@ -47,3 +47,4 @@ pub mod PlanningTable
 pub mod PlanningOwners
 pub mod PlanningRendered
 pub mod Decisions
+pub mod Performing

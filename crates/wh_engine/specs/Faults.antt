@@ -28,6 +28,16 @@ IsServed (Err (faults.Store cause)) = ⊥
 IsServed (Err faults.Reopen) = Unit {0}
 IsServed (Err faults.Sales) = Unit {0}
 
+-- it isn't one of the answers that are given before any work
+abbrev pub IsWorkedOut : {A : Type 0} → Result A Fault → Type 0
+IsWorkedOut (Ok answer) = Unit {0}
+IsWorkedOut (Err (faults.Refused why)) = Unit {0}
+IsWorkedOut (Err (faults.Damaged table)) = Unit {0}
+IsWorkedOut (Err faults.Memory) = Unit {0}
+IsWorkedOut (Err (faults.Store cause)) = Unit {0}
+IsWorkedOut (Err faults.Reopen) = ⊥
+IsWorkedOut (Err faults.Sales) = ⊥
+
 -- The answer is that of the definition; or memory ran out, or the store refused a call. Nothing else comes.
 abbrev pub Judges : {X Y : Type 0} → (X → Y → Type 0) → Result X Fault → Result Y Refused → Type 0
 Judges fits (Ok x) (Ok y) = fits x y

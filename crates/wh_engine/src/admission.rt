@@ -10,7 +10,7 @@ ghost use Rattle.wh_rows.specs.Tables.{Tables as Rows};
 ghost use Rattle.wh_engine.specs.Admission.{kind_word};
 ghost use Rattle.wh_engine.specs.Decided.{receipt_of_known, number_with_room};
 ghost use Rattle.wh_engine.specs.Defined.{AreOf};
-ghost use Rattle.wh_engine.specs.Faults.{IsServed, Judges};
+ghost use Rattle.wh_engine.specs.Faults.{IsServed, IsWorkedOut, Judges};
 ghost use Rattle.wh_engine.specs.Sound.{IsAccepted};
 
 use crate::command::{Command, Limit, Receipt, Refused};
@@ -60,6 +60,7 @@ pub(crate) fn number_with_room<S: Alter>(
     ensures clean { HasCleanDisk (state S.Store tables.new.conn) → HasCleanDisk (state S.Store tables.old.conn) }
     ensures number { HasCleanDisk (state S.Store tables.new.conn) → (commands : List Accepted) (t : Rows) → AreOf limits commands t → IsAccepted limits commands → IsAtRest (Some t) (state S.Store tables.old.conn)
         → Judges (λ number next. number ≡ next) result (number_with_room limits commands records) }
+    ensures work { IsWorkedOut result }
     ensures same { HasCleanDisk (state S.Store tables.new.conn) → (t : Rows) → IsAtRest (Some t) (state S.Store tables.old.conn) → IsServed result → IsAtRest (Some t) (state S.Store tables.new.conn) }
     ensures left { HasCleanDisk (state S.Store tables.new.conn) → (t : Rows) → IsAtRest (Some t) (state S.Store tables.old.conn) → Leaves (Some t) (state S.Store tables.new.conn) }
 {

@@ -11,7 +11,7 @@ ghost use Rattle.wh_rows.specs.Tables.{Tables as Rows};
 ghost use Rattle.wh_rows.specs.Types.{is_key};
 ghost use Rattle.wh_engine.specs.Admission.{answer};
 ghost use Rattle.wh_engine.specs.Decided.{records_told, row_of_batch, IsHeld, IsNew, reply_to_known, Decides};
-ghost use Rattle.wh_engine.specs.Faults.{IsServed, Judges};
+ghost use Rattle.wh_engine.specs.Faults.{IsServed, IsWorkedOut, Judges};
 
 use crate::admission::{kind_word, number_with_room, receipt_of_known};
 use crate::command::{Command, Receipt, Refused};
@@ -45,7 +45,8 @@ fn records_of(
     dim: Dim,
     bytes: &[u8],
 ) -> Result<DimensionRecords, Fault>
-    ensures { Judges (λ records told. records ≡ told) result (records_told dim policy.now bytes.now) }
+    ensures read { Judges (λ records told. records ≡ told) result (records_told dim policy.now bytes.now) }
+    ensures work { IsWorkedOut result }
 {
     match dimension_records(alloc, dim, policy, Format::One, bytes) {
         Ok(records) => Ok(records),
@@ -84,6 +85,7 @@ fn decide_new<S: Alter>(
     ensures clean { HasCleanDisk (state S.Store tables.new.conn) → HasCleanDisk (state S.Store tables.old.conn) }
     ensures decided { HasCleanDisk (state S.Store tables.new.conn) → (commands : List Accepted) (t : Rows) → IsHeld session.now commands t → command.now.kind ≡ Dimension dim → is_key 40 command.now.id ≡ true → IsNew commands command.now
         → IsAtRest (Some t) (state S.Store tables.old.conn) → Judges (Decides commands command.now dim) result (answer session.now.limits commands command.now) }
+    ensures work { IsWorkedOut result }
     ensures same { HasCleanDisk (state S.Store tables.new.conn) → (t : Rows) → IsAtRest (Some t) (state S.Store tables.old.conn) → IsServed result → IsAtRest (Some t) (state S.Store tables.new.conn) }
     ensures left { HasCleanDisk (state S.Store tables.new.conn) → (t : Rows) → IsAtRest (Some t) (state S.Store tables.old.conn) → Leaves (Some t) (state S.Store tables.new.conn) }
 {
@@ -109,7 +111,8 @@ fn decide_new<S: Alter>(
 
 /// What is to be done about a command whose id is that of an accepted one.
 fn decide_known(row: &CommandRow, command: &Command) -> Result<Decision, Fault>
-    ensures { (commands : List Accepted) (dim : Dim) → Judges (Decides commands command.now dim) result (reply_to_known row.now command.now) }
+    ensures work { IsWorkedOut result }
+    ensures known { (commands : List Accepted) (dim : Dim) → Judges (Decides commands command.now dim) result (reply_to_known row.now command.now) }
 {
     match receipt_of_known(row, command) {
         Ok(receipt) => Ok(Decision::Repeat(receipt)),
@@ -128,6 +131,7 @@ pub(crate) fn decide<S: Alter>(
     ensures clean { HasCleanDisk (state S.Store tables.new.conn) → HasCleanDisk (state S.Store tables.old.conn) }
     ensures decided { HasCleanDisk (state S.Store tables.new.conn) → (commands : List Accepted) (t : Rows) → IsHeld session.now commands t → command.now.kind ≡ Dimension dim → IsAtRest (Some t) (state S.Store tables.old.conn)
         → Judges (Decides commands command.now dim) result (answer session.now.limits commands command.now) }
+    ensures work { IsWorkedOut result }
     ensures same { HasCleanDisk (state S.Store tables.new.conn) → (t : Rows) → IsAtRest (Some t) (state S.Store tables.old.conn) → IsServed result → IsAtRest (Some t) (state S.Store tables.new.conn) }
     ensures left { HasCleanDisk (state S.Store tables.new.conn) → (t : Rows) → IsAtRest (Some t) (state S.Store tables.old.conn) → Leaves (Some t) (state S.Store tables.new.conn) }
 {

@@ -8,6 +8,7 @@ ghost use Rattle.wh_batch.specs.declared.kind.Kind.TheVariants.{Dimension, Sales
 ghost use Rattle.wh_history.specs.Accepted.{Accepted};
 ghost use Rattle.wh_history.specs.Tables.{Limits as Counts};
 ghost use Rattle.wh_engine.specs.Answered.{IsReady, IsAnswered, IsPerformed};
+ghost use Rattle.wh_engine.specs.Faults.{IsWorkedOut};
 
 use crate::command::{Command, Reply};
 use crate::decision::{Decision, decide};
@@ -38,15 +39,15 @@ fn perform<S: Alter>(
     ensures clean { HasCleanDisk (state S.Store tables.new.conn) → HasCleanDisk (state S.Store tables.old.conn) }
     ensures performed { HasCleanDisk (state S.Store tables.new.conn) → (limits : Counts) (commands : List Accepted) → IsReady limits commands session.now (state S.Store tables.old.conn) → command.now.kind ≡ Dimension dim
         → IsPerformed limits commands command.now result session.now (state S.Store tables.new.conn) }
-    ensures open { result ≢ Err Fault.Reopen }
-    ensures dimension { result ≢ Err Fault.Sales }
+    ensures work { IsWorkedOut result }
 {
-    match decide(tables, alloc, session, dim, command)? {
-        Decision::Repeat(receipt) => Ok(Reply::Already(receipt)),
-        Decision::Accept(receipt, edits) => match commit_batch(tables, alloc, dim, &edits) {
+    match decide(tables, alloc, session, dim, command) {
+        Ok(Decision::Repeat(receipt)) => Ok(Reply::Already(receipt)),
+        Ok(Decision::Accept(receipt, edits)) => match commit_batch(tables, alloc, dim, &edits) {
             Ok(()) => Ok(Reply::Accepted(receipt)),
             Err(cause) => Err(Fault::Store(cause)),
         },
+        Err(fault) => Err(fault),
     }
 }
 

@@ -12,7 +12,7 @@ returns-in-Some-clause-decided g c clean commands t held kind rests =
     let command = c.args.command.now in
     let good : is_key 40 command.id ≡ true = rw c.as_str.ensures at (sym c.is_key.ensures ∙ c.if-not-is_key.false) in
     let row : command_with commands command.id ≡ Some c.in-Some.row = sym (c.in_ok-row.ensures.command clean limits commands t held.are held.accepted.distinct rests) ∙ c.in-Some.is in
-    rw (known_answer limits commands command c.in-Some.row good row) (c.decide_known.ensures commands c.args.dim)
+    rw (known_answer limits commands command c.in-Some.row good row) (c.decide_known.ensures.known commands c.args.dim)
 
 pub returns-in-None-clause-decided : goal.returns-in-None-clause-decided
 returns-in-None-clause-decided g c clean commands t held kind rests =

@@ -1,0 +1,119 @@
+-- What is left of a command that was decided, written or refused.
+use Rattle.std.proofs.Common.{◌≡◌, ◌⊎◌, inl, inr, false, List, [], ◌∷◌, ◌++◌, Some, None, Result, Ok, Err, refl, sym, ap, subst, ◌∙◌}
+use Rattle.std.specs.Prelude.{unwrap_or}
+use Rattle.sqlite.specs.Tree.{Trees}
+use Rattle.sqlite.specs.State.{State}
+use Rattle.wh_policy.specs.Policy.{trial_policy}
+use Rattle.wh_policy.specs.Written.{IsSound}
+use Rattle.wh_policy.specs.declared.attribute.Dim.{Dim}
+use Rattle.wh_policy.specs.declared.policy.Policy.{Policy}
+use Rattle.wh_batch.specs.declared.kind.Kind.TheVariants.{Dimension}
+use Rattle.wh_history.specs.Accepted.{Accepted, Describes, policy_after}
+use Rattle.wh_history.specs.Tables.{Limits}
+use Rattle.wh_history.proofs.Basics.{some_is}
+use Rattle.wh_history.proofs.Stays.{policy_last}
+use Rattle.wh_rows.specs.AtRest.{AreTrees, IsAtRest, Leaves}
+use Rattle.wh_rows.specs.Tables.{Tables}
+use Rattle.wh_engine.specs.Admission.{accepted_as, answer, accepted_after, in_force}
+use Rattle.wh_engine.specs.Answered.{Rests, AreTreesOf, LeavesOneOf, IsReady, IsPerformed}
+use Rattle.wh_engine.specs.Decided.{IsHeld, AreEditsOf, Decides}
+use Rattle.wh_engine.specs.Defined.{AreOf}
+use Rattle.wh_engine.specs.Faults.{IsServed, Judges}
+use Rattle.wh_engine.specs.Planned.{Edits, with_batch_edits}
+use Rattle.wh_engine.specs.Sound.{IsAccepted}
+use Rattle.wh_engine.specs.Writable.{MayBeWritten}
+use Rattle.wh_engine.specs.declared.command.Command.{Command}
+use Rattle.wh_engine.specs.declared.command.Receipt.{Receipt}
+use Rattle.wh_engine.specs.declared.command.Reply.{Reply}
+use Rattle.wh_engine.specs.declared.command.Reply.TheVariants.{Accepted as Accepts, Already}
+use Rattle.wh_engine.specs.declared.decision.Decision.{Decision}
+use Rattle.wh_engine.specs.declared.decision.Decision.TheVariants.{Repeat, Accept}
+use Rattle.wh_engine.specs.declared.fault.Fault.{Fault}
+use Rattle.wh_engine.specs.declared.fault.Fault.TheVariants as faults
+use Rattle.wh_engine.specs.declared.session.Session.{Session}
+use Rattle.wh_engine.proofs.Decisions.{judged_ok, after_refused, after_repeat, after_accepted, policy_in_force, sound_in_force}
+use Rattle.wh_engine.proofs.GrownPlain.{sound_policies_show_none}
+use Rattle.wh_engine.proofs.MayBatch.{a_batch_may_be_written}
+use Rattle.wh_engine.proofs.StaysAccepted.{stays_accepted}
+use Rattle.wh_engine.proofs.WrittenBatch.{a_batch_is_written}
+
+held_as : (limits : Limits) (commands : List Accepted) (session : Session) (t : Tables) → session ≡ record { limits = limits; policy = in_force commands; must_reopen = false } → IsAccepted limits commands → AreOf limits commands t → IsHeld session commands t
+held_as limits commands session t is accepted are = rw is (record { accepted = accepted; are = are; policy = refl })
+
+module _ (limits : Limits) (commands : List Accepted) (c : Command) (dim : Dim) (session : Session) (old : State) (kind : c.kind ≡ Dimension dim) (ready : IsReady limits commands session old) where
+  abbrev tables : Tables
+  tables = ready.rests.tables
+
+  limits_are : session.limits ≡ limits
+  limits_are = ap (λ (s : Session). s.limits) ready.session_is
+
+  pub held : IsHeld session commands tables
+  held = held_as limits commands session tables ready.session_is ready.accepted ready.rests.are
+
+  still_ready : (new : State) → IsAtRest (Some tables) new → IsReady limits commands session new
+  still_ready new rests = record { accepted = ready.accepted; rests = record { tables = tables; are = ready.rests.are; rests = rests }; session_is = ready.session_is }
+
+  kept_ready : (new : State) (list : List Accepted) → list ≡ commands → IsAtRest (Some tables) new → IsReady limits list session new
+  kept_ready new list same rests = rw same (still_ready new rests)
+
+  -- it came again
+  pub repeat_performed : (receipt : Receipt) (new : State) → Judges (Decides commands c dim) (Ok (Repeat receipt)) (answer session.limits commands c) → IsAtRest (Some tables) new
+      → IsPerformed limits commands c (Ok (Already receipt)) session new
+  repeat_performed receipt new judged rests =
+      let (reply, is, same) = judged_ok (Decides commands c dim) (Repeat receipt) (answer session.limits commands c) judged in
+      let said : answer limits commands c ≡ Ok (Already receipt) = ap (λ l. answer l commands c) (sym limits_are) ∙ is ∙ ap Ok same in
+      (said, kept_ready new _ (after_repeat limits commands c receipt said) rests)
+
+  -- it was refused, or couldn't be decided
+  pub fault_performed : (fault : Fault) (new : State) → Judges (Decides commands c dim) (Err fault) (answer session.limits commands c) → (IsServed {A = Decision} (Err fault) → IsAtRest (Some tables) new) → Leaves (Some tables) new
+      → IsPerformed limits commands c (Err fault) session new
+  fault_performed (faults.Refused why) new judged rests left = (ap (λ l. answer l commands c) (sym limits_are) ∙ judged, still_ready new (rests tt))
+  fault_performed faults.Memory new judged rests left = still_ready new (rests tt)
+  fault_performed (faults.Store cause) new judged rests left = record { each = λ trees may. inl (record { tables = tables; are = ready.rests.are; trees_are = left.each trees may }) }
+  fault_performed (faults.Damaged table) new judged rests left = judged
+  fault_performed faults.Reopen new judged rests left = judged
+  fault_performed faults.Sales new judged rests left = judged
+
+  -- ---- it is accepted
+
+  module _ (receipt : Receipt) (edits : Edits) (judged : Judges (Decides commands c dim) (Ok (Accept receipt edits)) (answer session.limits commands c)) where
+    abbrev decided : (reply : Reply) × (answer session.limits commands c ≡ Ok reply) × Decides commands c dim (Accept receipt edits) reply
+    decided = judged_ok (Decides commands c dim) (Accept receipt edits) (answer session.limits commands c) judged
+
+    said : answer limits commands c ≡ Ok (Accepts receipt)
+    said = ap (λ l. answer l commands c) (sym limits_are) ∙ decided.1 ∙ ap Ok decided.2.0
+
+    abbrev batch : AreEditsOf commands c dim edits
+    batch = decided.2.1
+
+    abbrev added : Accepted
+    added = accepted_as c (Describes dim batch.records)
+
+    list_is : accepted_after limits commands c ≡ commands ++ added ∷ []
+    list_is = after_accepted limits commands c receipt (Describes dim batch.records) said batch.content
+
+    accepted : IsAccepted limits (commands ++ added ∷ [])
+    accepted = subst (IsAccepted limits) list_is (stays_accepted limits commands c dim kind ready.accepted)
+
+    pub may_write : MayBeWritten dim edits tables
+    may_write = a_batch_may_be_written limits commands added dim batch.records tables edits refl accepted ready.rests.are batch.edits_are
+
+    written : AreOf limits (commands ++ added ∷ []) (with_batch_edits dim edits tables)
+    written =
+        let sound : (policy : Policy) → policy_after None commands ≡ Some policy → IsSound policy = λ policy is. subst IsSound (some_is _ _ (sym (policy_in_force commands ready.accepted.governed) ∙ is)) (sound_in_force limits commands ready.accepted) in
+        a_batch_is_written limits commands added dim batch.records tables edits refl ready.accepted.unsold (λ _. sound_policies_show_none commands sound) ready.rests.are batch.edits_are
+
+    -- its edits were kept
+    pub accept_performed : (new : State) → IsAtRest (Some (with_batch_edits dim edits tables)) new → IsPerformed limits commands c (Ok (Accepts receipt)) session new
+    accept_performed new rests =
+        let governed : in_force (commands ++ added ∷ []) ≡ in_force commands = ap (λ o. unwrap_or o trial_policy) (policy_last None commands added refl) in
+        let kept : session ≡ record { limits = limits; policy = in_force (commands ++ added ∷ []); must_reopen = false } = rw governed ready.session_is in
+        let after : IsReady limits (commands ++ added ∷ []) session new = record { accepted = accepted; rests = record { tables = with_batch_edits dim edits tables; are = written; rests = rests }; session_is = kept } in
+        (said, rw list_is after)
+
+    -- or the store refused them
+    pub stop_performed : (new : State) → ((trees : Trees) → new.may_leave trees → AreTrees (Some tables) trees ⊎ AreTrees (Some (with_batch_edits dim edits tables)) trees) → LeavesOneOf limits commands (accepted_after limits commands c) new
+    stop_performed new left = record { each = λ trees may. elim (left trees may) [
+        | inl before ↦ inl (record { tables = tables; are = ready.rests.are; trees_are = before })
+        | inr after ↦ inr (subst (λ list. AreTreesOf limits list trees) (sym list_is) (record { tables = with_batch_edits dim edits tables; are = written; trees_are = after }))
+      ] }
