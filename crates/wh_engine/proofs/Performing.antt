@@ -15,10 +15,10 @@ use Rattle.wh_history.proofs.Stays.{policy_last}
 use Rattle.wh_rows.specs.AtRest.{AreTrees, IsAtRest, Leaves}
 use Rattle.wh_rows.specs.Tables.{Tables}
 use Rattle.wh_engine.specs.Admission.{accepted_as, answer, accepted_after, in_force}
-use Rattle.wh_engine.specs.Answered.{Rests, AreTreesOf, LeavesOneOf, IsReady, IsPerformed}
+use Rattle.wh_engine.specs.Answered.{Rests, AreTreesOf, LeavesOneOf, IsReady, IsAnswered, IsPerformed}
 use Rattle.wh_engine.specs.Decided.{IsHeld, AreEditsOf, Decides}
 use Rattle.wh_engine.specs.Defined.{AreOf}
-use Rattle.wh_engine.specs.Faults.{IsServed, Judges}
+use Rattle.wh_engine.specs.Faults.{IsServed, Judges, stops}
 use Rattle.wh_engine.specs.Planned.{Edits, with_batch_edits}
 use Rattle.wh_engine.specs.Sound.{IsAccepted}
 use Rattle.wh_engine.specs.Writable.{MayBeWritten}
@@ -117,3 +117,18 @@ module _ (limits : Limits) (commands : List Accepted) (c : Command) (dim : Dim) 
         | inl before ↦ inl (record { tables = tables; are = ready.rests.are; trees_are = before })
         | inr after ↦ inr (subst (λ list. AreTreesOf limits list trees) (sym list_is) (record { tables = with_batch_edits dim edits tables; are = written; trees_are = after }))
       ] }
+
+-- ---- a refusal of the store is noted
+
+module _ (limits : Limits) (commands : List Accepted) (c : Command) (session : Session) (s : State) where
+  ready_on : (list : List Accepted) → IsReady limits list session s → IsReady limits list (record { limits = session.limits; policy = session.policy; must_reopen = false }) s
+  ready_on list ready = record { accepted = ready.accepted; rests = ready.rests; session_is = ap (λ (q : Session). record { limits = q.limits; policy = q.policy; must_reopen = false }) ready.session_is }
+
+  pub answered : (result : Result Reply Fault) → IsPerformed limits commands c result session s → IsAnswered limits commands c result (record { limits = session.limits; policy = session.policy; must_reopen = stops result }) s
+  answered (Ok reply) done = (done.0, ready_on (accepted_after limits commands c) done.1)
+  answered (Err (faults.Refused why)) done = (done.0, ready_on commands done.1)
+  answered (Err faults.Memory) done = ready_on commands done
+  answered (Err (faults.Store cause)) done = record { flagged = refl; left = done }
+  answered (Err (faults.Damaged table)) done = done
+  answered (Err faults.Reopen) done = done
+  answered (Err faults.Sales) done = done

@@ -1,5 +1,5 @@
 -- Faults of an engine, and what they say of the tables.
-use Rattle.std.specs.Prelude.{◌≡◌, Result, Ok, Err}
+use Rattle.std.specs.Prelude.{◌≡◌, Bool, true, false, Result, Ok, Err}
 use Rattle.wh_day.specs.declared.error.ReadError.{ReadError}
 use Rattle.wh_day.specs.declared.error.ReadError.TheVariants as reading
 use Rattle.wh_sql.specs.declared.refusal.Refusal.{Refusal}
@@ -27,6 +27,16 @@ IsServed (Err faults.Memory) = Unit {0}
 IsServed (Err (faults.Store cause)) = ⊥
 IsServed (Err faults.Reopen) = Unit {0}
 IsServed (Err faults.Sales) = Unit {0}
+
+-- the store refused a call
+abbrev pub stops : {A : Type 0} → Result A Fault → Bool
+stops (Ok answer) = false
+stops (Err (faults.Refused why)) = false
+stops (Err (faults.Damaged table)) = false
+stops (Err faults.Memory) = false
+stops (Err (faults.Store cause)) = true
+stops (Err faults.Reopen) = false
+stops (Err faults.Sales) = false
 
 -- it isn't one of the answers that are given before any work
 abbrev pub IsWorkedOut : {A : Type 0} → Result A Fault → Type 0

@@ -1,7 +1,7 @@
 //! How much a warehouse holds.
 
 use crate::engine::Engine;
-use crate::fault::Fault;
+use crate::fault::{Fault, stops};
 use crate::kept::members_given;
 use sqlite::Alter;
 use std::alloc::Global;
@@ -49,9 +49,7 @@ impl<S: Alter> Engine<S> {
             return Err(Fault::Reopen);
         }
         let counts = counts_of(&mut self.tables, alloc);
-        if let Err(Fault::Store(_)) = &counts {
-            self.session.must_reopen = true;
-        }
+        self.session.must_reopen = stops(&counts);
         counts
     }
 }

@@ -12,7 +12,7 @@ ghost use Rattle.wh_engine.specs.Faults.{IsWorkedOut};
 
 use crate::command::{Command, Reply};
 use crate::decision::{Decision, decide};
-use crate::fault::Fault;
+use crate::fault::{Fault, stops};
 use crate::session::Session;
 use crate::write::commit_batch;
 use sqlite::{Alter, Connection};
@@ -83,9 +83,7 @@ impl<S: Alter> Engine<S> {
             return Err(Fault::Sales);
         };
         let answer = perform(&mut self.tables, alloc, &self.session, dim, command);
-        if let Err(Fault::Store(_)) = &answer {
-            self.session.must_reopen = true;
-        }
+        self.session.must_reopen = stops(&answer);
         answer
     }
 }

@@ -1,7 +1,7 @@
 //! Why a call on a warehouse isn't answered.
 
 ghost use Rattle.std.specs.Prelude.{◌≡◌};
-ghost use Rattle.wh_engine.specs.Faults.{of_refusal, of_reading};
+ghost use Rattle.wh_engine.specs.Faults.{of_refusal, of_reading, stops};
 ghost use Rattle.wh_engine.specs.declared.fault.Fault.TheVariants as faults;
 
 use crate::command::Refused;
@@ -25,6 +25,13 @@ pub enum Fault {
     Reopen,
     /// Batches of sales can't be loaded yet. Nothing changed.
     Sales,
+}
+
+/// Whether the store refused a call.
+pub(crate) fn stops<T>(answer: &Result<T, Fault>) -> bool
+    ensures { result ≡ stops answer.now }
+{
+    matches!(answer, Err(Fault::Store(_)))
 }
 
 impl From<AllocError> for Fault {
