@@ -46,3 +46,8 @@ pub mod PlanningChanges
 pub mod PlanningTable
 pub mod PlanningOwners
 pub mod PlanningRendered
+pub mod PlanPremises
+pub mod PlanNaturals
+pub mod PlanTouched
+pub mod PlanRows
+pub mod PlanProfiles

@@ -1,9 +1,11 @@
 pub mod Defined
 pub mod Kept
+pub mod Reads
 pub mod Planned
 pub mod Writable
 pub mod Sound
 pub mod Admission
 pub mod Made
 pub mod Planning
+pub mod Found
 pub mod Laws
