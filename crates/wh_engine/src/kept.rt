@@ -1,6 +1,7 @@
 //! What is read of the accepted commands out of the tables.
 
-ghost use Rattle.std.specs.Prelude.{◌≡◌, ◌<◌, ℕ, List, map, length, Some, IfOk};
+ghost use Rattle.std.specs.Prelude.{◌≡◌, ◌<◌, ℕ, List, map, filter, length, Some, IfOk};
+ghost use Rattle.std.specs.FinMap.{values};
 ghost use Rattle.sqlite.specs.Held.{state};
 ghost use Rattle.sqlite.specs.State.{HasCleanDisk};
 ghost use Rattle.wh_history.specs.Accepted.{Accepted, members, durable_key, member_of, changes_of};
@@ -9,6 +10,7 @@ ghost use Rattle.wh_history.specs.Plan.{row_of};
 ghost use Rattle.wh_history.specs.Tables.{Limits, member_rows};
 ghost use Rattle.wh_history.specs.Touched.{nothing_stored};
 ghost use Rattle.wh_rows.specs.AtRest.{IsAtRest, Leaves};
+ghost use Rattle.wh_rows.specs.Firsts.{part};
 ghost use Rattle.wh_rows.specs.Tables.{Tables as Rows};
 ghost use Rattle.wh_engine.specs.Defined.{AreOf};
 ghost use Rattle.wh_engine.specs.Kept.{HaveDistinctIds, HaveNoEmptyValue, command_with, given_text, change_in, last_opening, rows_with};
@@ -21,7 +23,25 @@ use wh_history::{Change, Changes, DimRow, Member};
 use wh_policy::Dim;
 use wh_rows::{ChangeRow, CommandRow, tables};
 use wh_sql::{CommandOf, GreatestOf, MemberOf, RecordsOf, RowsOf};
-use wh_store::{Refusal, Tables};
+use wh_store::{Keeps, Question, Refusal, Tables};
+
+/// The rows that answer a question about one table. A refusal is told apart from want of memory for what is made of them.
+fn asked<T: Keeps, Q: Question<T>, S: Alter>(
+    tables: &mut Tables<S>,
+    alloc: Global,
+    question: &Q,
+) -> Result<Vec<T::Row>, ReadError<Refusal>>
+    ensures clean { HasCleanDisk (state S.Store tables.new.conn) → HasCleanDisk (state S.Store tables.old.conn) }
+    ensures rows { HasCleanDisk (state S.Store tables.new.conn) → (t : Rows) → IsAtRest (Some t) (state S.Store tables.old.conn) → IfOk result (λ rows. rows.items ≡ part Q.front (filter (Q.keep question.now) (values (T.rows t)))) }
+    ensures sound { HasCleanDisk (state S.Store tables.new.conn) → (t : Rows) → IsAtRest (Some t) (state S.Store tables.old.conn) → FindsNoDamage result }
+    ensures same { HasCleanDisk (state S.Store tables.new.conn) → (t : Rows) → IsAtRest (Some t) (state S.Store tables.old.conn) → IsCalm result → IsAtRest (Some t) (state S.Store tables.new.conn) }
+    ensures left { HasCleanDisk (state S.Store tables.new.conn) → (t : Rows) → IsAtRest (Some t) (state S.Store tables.old.conn) → Leaves (Some t) (state S.Store tables.new.conn) }
+{
+    match tables.ask::<T, Q>(alloc, question) {
+        Ok(rows) => Ok(rows),
+        Err(refusal) => Err(ReadError::Fault(refusal)),
+    }
+}
 
 /// The row of the command of an id, if one was accepted.
 pub fn command_of<S: Alter>(
@@ -35,7 +55,7 @@ pub fn command_of<S: Alter>(
     ensures same { HasCleanDisk (state S.Store tables.new.conn) → (t : Rows) → IsAtRest (Some t) (state S.Store tables.old.conn) → IsCalm result → IsAtRest (Some t) (state S.Store tables.new.conn) }
     ensures left { HasCleanDisk (state S.Store tables.new.conn) → (t : Rows) → IsAtRest (Some t) (state S.Store tables.old.conn) → Leaves (Some t) (state S.Store tables.new.conn) }
 {
-    let mut found = tables.ask::<tables::Command, CommandOf<'_>>(alloc, &CommandOf { id }).map_err(ReadError::Fault)?;
+    let mut found = asked::<tables::Command, CommandOf<'_>, S>(tables, alloc, &CommandOf { id })?;
     Ok(found.pop())
 }
 
@@ -105,7 +125,7 @@ pub fn stored_changes<S: Alter>(
     ensures same { HasCleanDisk (state S.Store tables.new.conn) → (t : Rows) → IsAtRest (Some t) (state S.Store tables.old.conn) → IsCalm result → IsAtRest (Some t) (state S.Store tables.new.conn) }
     ensures left { HasCleanDisk (state S.Store tables.new.conn) → (t : Rows) → IsAtRest (Some t) (state S.Store tables.old.conn) → Leaves (Some t) (state S.Store tables.new.conn) }
 {
-    let rows = tables.ask::<tables::Change, RecordsOf>(alloc, &RecordsOf { dim, durable }).map_err(ReadError::Fault)?;
+    let rows = asked::<tables::Change, RecordsOf, S>(tables, alloc, &RecordsOf { dim, durable })?;
     Ok(changes_in(alloc, &rows)?)
 }
 
@@ -122,7 +142,11 @@ pub fn stored_member<S: Alter>(
     ensures same { HasCleanDisk (state S.Store tables.new.conn) → (t : Rows) → IsAtRest (Some t) (state S.Store tables.old.conn) → IsCalm result → IsAtRest (Some t) (state S.Store tables.new.conn) }
     ensures left { HasCleanDisk (state S.Store tables.new.conn) → (t : Rows) → IsAtRest (Some t) (state S.Store tables.old.conn) → Leaves (Some t) (state S.Store tables.new.conn) }
 {
-    let mut found = tables.ask::<tables::Member, MemberOf<'_>>(alloc, &MemberOf { dim, natural }).map_err(ReadError::Fault)?;
+    let mut found = asked::<tables::Member, MemberOf<'_>, S>(
+        tables,
+        alloc,
+        &MemberOf { dim, natural },
+    )?;
     match found.pop() {
         Some(row) => Ok(Member {
             durable: row.durable,
@@ -151,9 +175,9 @@ pub fn stored_rows<S: Alter>(
 {
     let question = RowsOf { durable };
     match dim {
-        Dim::Product => tables.ask::<tables::Product, RowsOf>(alloc, &question).map_err(ReadError::Fault),
-        Dim::Store => tables.ask::<tables::Store, RowsOf>(alloc, &question).map_err(ReadError::Fault),
-        Dim::Customer => tables.ask::<tables::Customer, RowsOf>(alloc, &question).map_err(ReadError::Fault),
+        Dim::Product => asked::<tables::Product, RowsOf, S>(tables, alloc, &question),
+        Dim::Store => asked::<tables::Store, RowsOf, S>(tables, alloc, &question),
+        Dim::Customer => asked::<tables::Customer, RowsOf, S>(tables, alloc, &question),
     }
 }
 
@@ -177,7 +201,7 @@ pub fn members_given<S: Alter>(
     ensures same { HasCleanDisk (state S.Store tables.new.conn) → (t : Rows) → IsAtRest (Some t) (state S.Store tables.old.conn) → IsCalm result → IsAtRest (Some t) (state S.Store tables.new.conn) }
     ensures left { HasCleanDisk (state S.Store tables.new.conn) → (t : Rows) → IsAtRest (Some t) (state S.Store tables.old.conn) → Leaves (Some t) (state S.Store tables.new.conn) }
 {
-    let mut found = tables.ask::<tables::Member, GreatestOf>(alloc, &GreatestOf { dim }).map_err(ReadError::Fault)?;
+    let mut found = asked::<tables::Member, GreatestOf, S>(tables, alloc, &GreatestOf { dim })?;
     match found.pop() {
         Some(row) => Ok(MembersGiven {
             members: row.durable,

@@ -100,29 +100,31 @@ fn numbers_given<S: Alter>(
     ensures left { HasCleanDisk (state S.Store tables.new.conn) → (t : Rows) → IsAtRest (Some t) (state S.Store tables.old.conn) → Leaves (Some t) (state S.Store tables.new.conn) }
 {
     let given = members_given(tables, alloc, dim)?;
-    let anchor = tables
-        .greatest_anchor(alloc, dim)
-        .map_err(ReadError::Fault)?;
-    Ok(Given {
-        members: given.members.min(GREATEST),
-        anchors: given.opening.max(anchor).min(GREATEST),
-    })
+    match tables.greatest_anchor(alloc, dim) {
+        Ok(anchor) => Ok(Given {
+            members: given.members.min(GREATEST),
+            anchors: given.opening.max(anchor).min(GREATEST),
+        }),
+        Err(refusal) => Err(ReadError::Fault(refusal)),
+    }
 }
 
 /// The profile of a record of a customer, as the first that there is.
-fn first_profile(
+fn first_profiles(
     alloc: Global,
     policy: &Policy,
     told: &DimensionRecord,
-) -> Result<ProfileRow, AllocError>
-    ensures { IfOk result (λ row. row ≡ record { number = 2; values = six (picks is_profile (types_of policy.now Customer) told.now.values) }) }
+) -> Result<Vec<ProfileRow>, AllocError>
+    ensures { IfOk result (λ rows. rows.items ≡ record { number = 2; values = six (picks is_profile (types_of policy.now Customer) told.now.values) } ∷ []) }
 {
     let types = policy.types(alloc, Dim::Customer)?;
     let texts = profile_texts(alloc, &types, told.values.as_slice())?;
-    Ok(ProfileRow {
+    let mut rows = Vec::new(alloc);
+    rows.push(ProfileRow {
         number: 2,
         values: six_texts(alloc, &texts)?,
-    })
+    })?;
+    Ok(rows)
 }
 
 /// The profile that a record of a customer brings. Under a policy without attributes of the profile it is the same for all
@@ -141,14 +143,11 @@ fn profile_brought<S: Alter>(
     ensures same { HasCleanDisk (state S.Store tables.new.conn) → (t : Rows) → IsAtRest (Some t) (state S.Store tables.old.conn) → IsCalm result → IsAtRest (Some t) (state S.Store tables.new.conn) }
     ensures left { HasCleanDisk (state S.Store tables.new.conn) → (t : Rows) → IsAtRest (Some t) (state S.Store tables.old.conn) → Leaves (Some t) (state S.Store tables.new.conn) }
 {
-    let stored = tables
-        .get::<tables::Profile>(alloc, &2)
-        .map_err(ReadError::Fault)?;
-    let mut rows = Vec::new(alloc);
-    if stored.is_none() {
-        rows.push(first_profile(alloc, policy, told)?)?;
+    match tables.get::<tables::Profile>(alloc, &2) {
+        Ok(Some(_)) => Ok(Vec::new(alloc)),
+        Ok(None) => Ok(first_profiles(alloc, policy, told)?),
+        Err(refusal) => Err(ReadError::Fault(refusal)),
     }
-    Ok(rows)
 }
 
 /// The profiles that a batch is the first to show. Only customers have profiles.

@@ -56,7 +56,10 @@ pub fn new_members(
 }
 
 /// Members by their natural keys. Of two with one key the first counts.
-pub(crate) fn by_natural(alloc: Global, members: &[Member]) -> Result<BTreeMap<&str, &Member>, AllocError>
+pub(crate) fn by_natural(
+    alloc: Global,
+    members: &[Member],
+) -> Result<BTreeMap<&str, &Member>, AllocError>
     ensures { IfOk result (λ found. (natural : List ℕ) → option_copied (get_by (λ k. slice_cmp nat_cmp natural k.now) found) ≡ named members.now natural) }
 {
     let mut found = BTreeMap::new(alloc);

@@ -301,7 +301,13 @@ fn second_plan(alloc: Global, tables: &mut Tables<MemStore>) -> Result<Edits, Fa
 }
 
 /// A row of the product with one of its brands.
-fn row_of_p1(alloc: Global, surrogate: u64, from: i64, to: i64, brand: &str) -> Result<DimRow, Fail> {
+fn row_of_p1(
+    alloc: Global,
+    surrogate: u64,
+    from: i64,
+    to: i64,
+    brand: &str,
+) -> Result<DimRow, Fail> {
     Ok(DimRow {
         surrogate,
         durable: 1,
@@ -352,7 +358,14 @@ fn a_backdated_record_is_planned(rt: HostRuntime) -> Result<(), Fail> {
     let first = first_plan(alloc, &mut tables)?;
     write(alloc, &mut tables, &first)?;
     let edits = second_plan(alloc, &mut tables)?;
-    assert_eq!(rt; (edits.members.len(), edits.changes.len(), edits.profiles.len()), (0, 1, 0));
+    assert_eq!(rt;
+        (
+            edits.members.len(),
+            edits.changes.len(),
+            edits.profiles.len()
+        ),
+        (0, 1, 0)
+    );
     let acme = row_of_p1(alloc, 1, 19000101, 20240119, "Acme")?;
     assert!(rt; puts(edits.rows.get(0), &acme));
     assert!(rt; removes(edits.rows.get(1), 3));
