@@ -51,3 +51,4 @@ pub mod PlanNaturals
 pub mod PlanTouched
 pub mod PlanRows
 pub mod PlanProfiles
+pub mod PlanEdits

@@ -1,6 +1,6 @@
 -- The profiles that a batch is the first to show, under a policy without attributes of the profile.
 use Rattle.std.proofs.Common.{◌≡◌, ℕ, zero, suc, ◌-◌, Bool, true, false, cond, not, List, [], ◌∷◌, ◌++◌, length, map, Option, Some, None, refl, sym, ◌∙◌, ap, arith, append-nil}
-use Rattle.std.specs.Prelude.{◌≢◌, IsTrue, filter, filter_map, option_map, unwrap_or}
+use Rattle.std.specs.Prelude.{◌≢◌, IsTrue, filter, filter_map, option_map, unwrap_or, slice_get}
 use Rattle.std.specs.List.{list_any, range_with_len, AllByRecursion, cons_option}
 use Rattle.std.proofs.lemmas.List.Elements.{All-weaker, All-map}
 use Rattle.std.proofs.lemmas.List.Folds.{list_any_none}
@@ -18,7 +18,7 @@ use Rattle.wh_history.specs.Keys.{distinct, at_place}
 use Rattle.wh_history.specs.Laws.{governs}
 use Rattle.wh_history.specs.Profiles.{combinations_of}
 use Rattle.wh_history.specs.Slots.{columns_from, picked, picks, slot, six, texts_eq}
-use Rattle.wh_history.proofs.Basics.{or_none, texts_decide}
+use Rattle.wh_history.proofs.Basics.{or_none, some_is, texts_decide}
 use Rattle.wh_history.proofs.Owners.{all_distinct}
 use Rattle.wh_history.proofs.Stays.{types-last}
 use Rattle.wh_history.proofs.Untouched.{described-last}
@@ -176,3 +176,13 @@ module _ (commands : List Accepted) (c : Accepted) (policy : Policy) (r : Dimens
   -- and a later one none
   pub later_bring_none : (p : ProfileRow) → second commands ≡ Some p → [] ≡ NewProfiles commands with_them
   later_bring_none p there = kept (described Customer commands) p refl there
+
+-- ---- the first record
+
+pub first_split : (rs : List DimensionRecord) (r : DimensionRecord) → slice_get rs 0 ≡ Some r → (more : List DimensionRecord) × (rs ≡ r ∷ more)
+first_split [] r is = cc
+first_split (q ∷ rs) r is = (rs, ap (λ p. p ∷ rs) (some_is q r is))
+
+pub none_first : (rs : List DimensionRecord) → slice_get rs 0 ≡ None → rs ≡ []
+none_first [] is = refl
+none_first (q ∷ rs) is = cc

@@ -1,5 +1,5 @@
 -- The rows of the members that a batch touches, as they are read, and the edits between them and those behind it.
-use Rattle.std.proofs.Common.{◌≡◌, ℕ, zero, suc, ◌+◌, ◌<◌, ◌==◌, Bool, true, false, cond, nat_lt, List, [], ◌∷◌, ◌++◌, length, map, drop, get_or, Option, Some, None, refl, sym, ◌∙◌, ap, subst, arith}
+use Rattle.std.proofs.Common.{◌≡◌, ℕ, zero, suc, ◌+◌, ◌<◌, ◌==◌, Bool, true, false, cond, nat_lt, List, [], ◌∷◌, ◌++◌, length, map, drop, get_or, Option, Some, None, refl, sym, ◌∙◌, ap, arith, append-nil}
 use Rattle.std.specs.Prelude.{flat_map, filter, option_map, unwrap_or}
 use Rattle.std.specs.List.{list_any}
 use Rattle.std.specs.Option.{option_or}
@@ -53,13 +53,21 @@ module _ (dim : Dim) (commands : List Accepted) where
   abbrev first_of : Bool → List ℕ → List (List ℕ) → List DimRow
   first_of b n ns = rows_of_members commands dim (cond b (n ∷ members_among commands dim ns) (members_among commands dim ns))
 
+  -- the rows of the first member, and those of the others
+  pub left_split : (n : List ℕ) (ns : List (List ℕ)) → Left (n ∷ ns) ≡ Left (n ∷ []) ++ Left ns
+  left_split n ns =
+      elim (nat_lt 0 (durable_key dim commands n)) as (λ b. first_of b n ns ≡ first_of b n [] ++ Left ns) [
+        | true ↦ ap (λ rs. rs ++ Left ns) (sym (append-nil (member_rows commands dim n)))
+        | false ↦ refl
+      ]
+
   -- a member with a durable key has its rows there
-  pub left_with : (n : List ℕ) (ns : List (List ℕ)) → 0 < durable_key dim commands n → Left (n ∷ ns) ≡ member_rows commands dim n ++ Left ns
-  left_with n ns given = let test : nat_lt 0 (durable_key dim commands n) ≡ true = lt-ltb 0 (durable_key dim commands n) given in ap (λ b. first_of b n ns) test
+  pub left_with : (n : List ℕ) → 0 < durable_key dim commands n → Left (n ∷ []) ≡ member_rows commands dim n
+  left_with n given = let test : nat_lt 0 (durable_key dim commands n) ≡ true = lt-ltb 0 (durable_key dim commands n) given in ap (λ b. first_of b n []) test ∙ append-nil (member_rows commands dim n)
 
   -- and another has none
-  pub left_without : (n : List ℕ) (ns : List (List ℕ)) → durable_key dim commands n ≡ 0 → Left (n ∷ ns) ≡ Left ns
-  left_without n ns none = ap (λ k. first_of (nat_lt 0 k) n ns) none
+  pub left_without : (n : List ℕ) → durable_key dim commands n ≡ 0 → Left (n ∷ []) ≡ []
+  left_without n none = ap (λ k. first_of (nat_lt 0 k) n []) none
 
 row_of-append : (key : ℕ) (xs ys : List DimRow) → row_of key (xs ++ ys) ≡ option_or (row_of key xs) (row_of key ys)
 row_of-append key xs ys = find-append (λ (r : DimRow). r.surrogate == key) xs ys

@@ -59,7 +59,28 @@ fn stored_members<S: Alter>(
     Ok(found)
 }
 
-/// The rows of those of some members that have durable keys, one member after the other.
+/// The rows of a member that was read. One without a durable key has none.
+fn rows_of_member<S: Alter>(
+    tables: &mut Tables<S>,
+    alloc: Global,
+    dim: Dim,
+    member: &Member,
+) -> Result<Vec<DimRow>, ReadError<Refusal>>
+    ensures clean { HasCleanDisk (state S.Store tables.new.conn) → HasCleanDisk (state S.Store tables.old.conn) }
+    ensures rows { HasCleanDisk (state S.Store tables.new.conn) → (limits : Limits) (commands : List Accepted) (t : Rows) → AreOf limits commands t → RecordsHaveDays commands → IsAtRest (Some t) (state S.Store tables.old.conn)
+        → (natural : List ℕ) → member.now ≡ member_of dim commands natural
+        → IfOk result (λ rows. (key : ℕ) → row_of key rows.items ≡ row_of key (rows_of_members commands dim (members_among commands dim (natural ∷ [])))) }
+    ensures sound { HasCleanDisk (state S.Store tables.new.conn) → (t : Rows) → IsAtRest (Some t) (state S.Store tables.old.conn) → FindsNoDamage result }
+    ensures same { HasCleanDisk (state S.Store tables.new.conn) → (t : Rows) → IsAtRest (Some t) (state S.Store tables.old.conn) → IsCalm result → IsAtRest (Some t) (state S.Store tables.new.conn) }
+    ensures left { HasCleanDisk (state S.Store tables.new.conn) → (t : Rows) → IsAtRest (Some t) (state S.Store tables.old.conn) → Leaves (Some t) (state S.Store tables.new.conn) }
+{
+    if member.durable == 0 {
+        return Ok(Vec::new(alloc));
+    }
+    Ok(stored_rows(tables, alloc, dim, member.durable)?)
+}
+
+/// The rows of members that were read, one member after the other.
 fn rows_of_stored<S: Alter>(
     tables: &mut Tables<S>,
     alloc: Global,
@@ -76,10 +97,8 @@ fn rows_of_stored<S: Alter>(
 {
     let mut found = Vec::new(alloc);
     for member in members {
-        if member.durable > 0 {
-            let mut rows = stored_rows(tables, alloc, dim, member.durable)?;
-            found.append(&mut rows)?;
-        }
+        let mut rows = rows_of_member(tables, alloc, dim, member)?;
+        found.append(&mut rows)?;
     }
     Ok(found)
 }
@@ -110,7 +129,7 @@ fn numbers_given<S: Alter>(
 }
 
 /// The profile of a record of a customer, as the first that there is.
-fn first_profiles(
+fn first_profile(
     alloc: Global,
     policy: &Policy,
     told: &DimensionRecord,
@@ -145,7 +164,7 @@ fn profile_brought<S: Alter>(
 {
     match tables.get::<tables::Profile>(alloc, &2) {
         Ok(Some(_)) => Ok(Vec::new(alloc)),
-        Ok(None) => Ok(first_profiles(alloc, policy, told)?),
+        Ok(None) => Ok(first_profile(alloc, policy, told)?),
         Err(refusal) => Err(ReadError::Fault(refusal)),
     }
 }
@@ -233,7 +252,7 @@ fn row_edits(
         → IfOk result (λ edits. IsPlan (λ r. r.surrogate) (dimension_row commands dim) (dimension_row (commands ++ c ∷ []) dim) edits.items) }
 {
     let after = rendered(alloc, policy, dim, touched, &Profiles::new(alloc))?;
-    plan_rows(alloc, stored, &after)
+    Ok(plan_rows(alloc, stored, &after)?)
 }
 
 /// The edits of a batch, by what was found.
