@@ -26,7 +26,7 @@ outside MiniDimensionOutrigger h = absurd (h refl)
 outside NewRowAndOverwrite h = refl
 outside DualKeys h = refl
 
-none_of : (dim : Dim) (policy : Policy) → IsSound policy → list_any is_outrigger (types_of policy dim) ≡ false
+pub none_of : (dim : Dim) (policy : Policy) → IsSound policy → list_any is_outrigger (types_of policy dim) ≡ false
 none_of dim policy sound =
     list_any_none is_outrigger (types_of policy dim)
     (All-map (λ (kind : AttributeType). is_outrigger kind ≡ false) (λ (a : Attribute). a.kind) (attributes_of policy dim)

@@ -48,3 +48,9 @@ pub mod PlanningOwners
 pub mod PlanningRendered
 pub mod Decisions
 pub mod Performing
+pub mod PlanPremises
+pub mod PlanNaturals
+pub mod PlanTouched
+pub mod PlanRows
+pub mod PlanProfiles
+pub mod PlanEdits

@@ -70,17 +70,18 @@ module _ {X Y : Type 0} (give : ℕ → X → Option Y) (rows all : List Y) (i :
 
 -- ---- the change table
 
+-- a member that was made of a natural key is found by it
+pub found_there : (dim : Dim) (list : List Accepted) (n : List ℕ) (ns : List (List ℕ)) → Among ns n → named (map (member_of dim list) ns) n ≡ Some (member_of dim list n)
+found_there dim list n [] h = cc
+found_there dim list n (m ∷ ns) h =
+    elim (bytes_eq m n) as (λ b. (bytes_eq m n ≡ b) → (b || list_any (λ m. bytes_eq m n) ns) ≡ true → first_or b (member_of dim list m) (named (map (member_of dim list) ns) n) ≡ Some (member_of dim list n)) [
+      | true ↦ λ e _. ap (λ (m : List ℕ). Some (member_of dim list m)) ((bytes_eq-Decides m n).0 e)
+      | false ↦ λ e t. found_there dim list n ns t
+    ] refl h
+
 module _ (dim : Dim) (commands : List Accepted) (c : Accepted) (rs : List DimensionRecord) (is : c.content ≡ Describes dim rs) where
   abbrev after : List Accepted
   after = commands ++ c ∷ []
-
-  found_there : (n : List ℕ) (ns : List (List ℕ)) → Among ns n → named (map (member_of dim after) ns) n ≡ Some (member_of dim after n)
-  found_there n [] h = cc
-  found_there n (m ∷ ns) h =
-      elim (bytes_eq m n) as (λ b. (bytes_eq m n ≡ b) → (b || list_any (λ m. bytes_eq m n) ns) ≡ true → first_or b (member_of dim after m) (named (map (member_of dim after) ns) n) ≡ Some (member_of dim after n)) [
-        | true ↦ λ e _. ap (λ (m : List ℕ). Some (member_of dim after m)) ((bytes_eq-Decides m n).0 e)
-        | false ↦ λ e t. found_there n ns t
-      ] refl h
 
   abbrev touched : List Member
   touched = map (member_of dim after) (distinct bytes_eq (naturals rs))
@@ -91,7 +92,7 @@ module _ (dim : Dim) (commands : List Accepted) (c : Accepted) (rs : List Dimens
   -- a record's row is the one that the table has for it
   row_is : (k : ℕ) (r : DimensionRecord) → Among (naturals rs) r.natural → new_change dim (length after) touched k r ≡ Some (keyed k (change_row_of after dim r))
   row_is k r among =
-      let there = found_there r.natural (distinct bytes_eq (naturals rs)) (among_distinct bytes_eq bytes_eq-Decides r.natural (naturals rs) ∙ among) in
+      let there = found_there dim after r.natural (distinct bytes_eq (naturals rs)) (among_distinct bytes_eq bytes_eq-Decides r.natural (naturals rs) ∙ among) in
       let numbered : ℕ → ChangeRow = λ n. record { command = length after; place = k; dim = dim; durable = (member_of dim after r.natural).durable; day = r.day; anchor = n; values = six r.values } in
       ap (option_map (row_of_record dim (length after) k r)) there ∙ ap (λ n. Some (numbered n)) (anchor_is dim after r.natural r.day)
 

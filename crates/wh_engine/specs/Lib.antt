@@ -1,13 +1,14 @@
 pub mod Defined
 pub mod Kept
+pub mod Reads
 pub mod Planned
 pub mod Writable
 pub mod Sound
 pub mod Admission
 pub mod Made
 pub mod Planning
+pub mod Found
 pub mod Laws
-pub mod Reads
 pub mod Faults
 pub mod Decided
 pub mod Answered

@@ -15,6 +15,7 @@ mod opening;
 mod plan;
 pub mod planning;
 mod session;
+mod stored;
 mod write;
 
 pub use command::{Command, Limit, Receipt, Refused, Reply};

@@ -1,28 +1,292 @@
-//! What a batch writes.
+//! What a batch of dimension records writes, by reads of what it touches.
 
-ghost use Rattle.std.specs.Prelude.{◌≡◌, ◌++◌, ◌∷◌, [], suc, length, List, Some, None, IfOk};
+ghost use Rattle.std.specs.Prelude.{◌≡◌, ◌≤◌, ◌++◌, ◌∷◌, [], suc, ℕ, List, map, length, filter_map, None, Some, IfOk};
 ghost use Rattle.sqlite.specs.Held.{state};
 ghost use Rattle.sqlite.specs.State.{HasCleanDisk};
+ghost use Rattle.wh_policy.specs.Policy.{types_of};
+ghost use Rattle.wh_policy.specs.Types.{is_profile};
 ghost use Rattle.wh_policy.specs.Written.{IsSound};
-ghost use Rattle.wh_history.specs.Accepted.{Accepted, Describes, policy_after};
-ghost use Rattle.wh_history.specs.Tables.{Limits};
+ghost use Rattle.wh_policy.specs.declared.attribute.Dim.TheVariants.{Customer};
+ghost use Rattle.wh_policy.specs.declared.record.DimensionRecord.{DimensionRecord as Told};
+ghost use Rattle.wh_history.specs.Accepted.{Accepted, Describes, anchors, members, member_of, policy_after, profiles_of};
+ghost use Rattle.wh_history.specs.Laws.{RecordsHaveDays};
+ghost use Rattle.wh_history.specs.Plan.{IsPlan, row_of};
+ghost use Rattle.wh_history.specs.Slots.{picks, six};
+ghost use Rattle.wh_history.specs.Tables.{Limits, dimension_row};
+ghost use Rattle.wh_history.specs.Touched.{touched_by};
 ghost use Rattle.wh_rows.specs.AtRest.{IsAtRest, Leaves};
 ghost use Rattle.wh_rows.specs.Tables.{Tables as Rows};
-ghost use Rattle.wh_engine.specs.Defined.{AreOf, command_at};
-ghost use Rattle.wh_engine.specs.Planned.{AreEdits};
+ghost use Rattle.wh_engine.specs.Defined.{AreOf, command_at, profile_at};
+ghost use Rattle.wh_engine.specs.Found.{IsFound};
+ghost use Rattle.wh_engine.specs.Kept.{HaveNoEmptyValue};
+ghost use Rattle.wh_engine.specs.Planned.{AreEdits, behind};
+ghost use Rattle.wh_engine.specs.Planning.{members_among, naturals_told, rows_of_members};
 ghost use Rattle.wh_engine.specs.Reads.{IsCalm, FindsNoDamage};
 ghost use Rattle.wh_engine.specs.Sound.{IsAccepted};
 
 use crate::edits::Edits;
+use crate::kept::{members_given, stored_member, stored_rows};
+use crate::planning::{new_changes, new_members, rendered, six_texts};
+use crate::stored::{Given, naturals_told, touched_members};
 use sqlite::Alter;
-use std::alloc::Global;
-use wh_day::ReadError;
+use std::alloc::{AllocError, Global};
+use wh_day::{ReadError, Value};
+use wh_history::{DimRow, Edit, Member, Profiles, plan_rows, profile_texts};
 use wh_policy::{Dim, DimensionRecord, Policy};
-use wh_rows::CommandRow;
-use wh_sql::Refusal;
-use wh_store::Tables;
+use wh_rows::{CommandRow, ProfileRow, tables};
+use wh_store::{Refusal, Tables};
 
-/// What a batch of dimension records writes.
+/// The greatest number that a table holds.
+const GREATEST: u64 = 9_999_999;
+
+/// Members with these natural keys, as they are stored.
+fn stored_members<S: Alter>(
+    tables: &mut Tables<S>,
+    alloc: Global,
+    dim: Dim,
+    naturals: &[Value],
+) -> Result<Vec<Member>, ReadError<Refusal>>
+    ensures clean { HasCleanDisk (state S.Store tables.new.conn) → HasCleanDisk (state S.Store tables.old.conn) }
+    ensures members { HasCleanDisk (state S.Store tables.new.conn) → (limits : Limits) (commands : List Accepted) (t : Rows) → AreOf limits commands t → HaveNoEmptyValue commands → IsAtRest (Some t) (state S.Store tables.old.conn) → IfOk result (λ members. members.items ≡ map (member_of dim commands) naturals.now) }
+    ensures sound { HasCleanDisk (state S.Store tables.new.conn) → (t : Rows) → IsAtRest (Some t) (state S.Store tables.old.conn) → FindsNoDamage result }
+    ensures same { HasCleanDisk (state S.Store tables.new.conn) → (t : Rows) → IsAtRest (Some t) (state S.Store tables.old.conn) → IsCalm result → IsAtRest (Some t) (state S.Store tables.new.conn) }
+    ensures left { HasCleanDisk (state S.Store tables.new.conn) → (t : Rows) → IsAtRest (Some t) (state S.Store tables.old.conn) → Leaves (Some t) (state S.Store tables.new.conn) }
+{
+    let mut found = Vec::new(alloc);
+    for natural in naturals {
+        found.push(stored_member(tables, alloc, dim, natural)?)?;
+    }
+    Ok(found)
+}
+
+/// The rows of a member that was read. One without a durable key has none.
+fn rows_of_member<S: Alter>(
+    tables: &mut Tables<S>,
+    alloc: Global,
+    dim: Dim,
+    member: &Member,
+) -> Result<Vec<DimRow>, ReadError<Refusal>>
+    ensures clean { HasCleanDisk (state S.Store tables.new.conn) → HasCleanDisk (state S.Store tables.old.conn) }
+    ensures rows { HasCleanDisk (state S.Store tables.new.conn) → (limits : Limits) (commands : List Accepted) (t : Rows) → AreOf limits commands t → RecordsHaveDays commands → IsAtRest (Some t) (state S.Store tables.old.conn)
+        → (natural : List ℕ) → member.now ≡ member_of dim commands natural
+        → IfOk result (λ rows. (key : ℕ) → row_of key rows.items ≡ row_of key (rows_of_members commands dim (members_among commands dim (natural ∷ [])))) }
+    ensures sound { HasCleanDisk (state S.Store tables.new.conn) → (t : Rows) → IsAtRest (Some t) (state S.Store tables.old.conn) → FindsNoDamage result }
+    ensures same { HasCleanDisk (state S.Store tables.new.conn) → (t : Rows) → IsAtRest (Some t) (state S.Store tables.old.conn) → IsCalm result → IsAtRest (Some t) (state S.Store tables.new.conn) }
+    ensures left { HasCleanDisk (state S.Store tables.new.conn) → (t : Rows) → IsAtRest (Some t) (state S.Store tables.old.conn) → Leaves (Some t) (state S.Store tables.new.conn) }
+{
+    if member.durable == 0 {
+        return Ok(Vec::new(alloc));
+    }
+    Ok(stored_rows(tables, alloc, dim, member.durable)?)
+}
+
+/// The rows of members that were read, one member after the other.
+fn rows_of_stored<S: Alter>(
+    tables: &mut Tables<S>,
+    alloc: Global,
+    dim: Dim,
+    members: &[Member],
+) -> Result<Vec<DimRow>, ReadError<Refusal>>
+    ensures clean { HasCleanDisk (state S.Store tables.new.conn) → HasCleanDisk (state S.Store tables.old.conn) }
+    ensures rows { HasCleanDisk (state S.Store tables.new.conn) → (limits : Limits) (commands : List Accepted) (t : Rows) → AreOf limits commands t → RecordsHaveDays commands → IsAtRest (Some t) (state S.Store tables.old.conn)
+        → (naturals : List (List ℕ)) → members.now ≡ map (member_of dim commands) naturals
+        → IfOk result (λ rows. (key : ℕ) → row_of key rows.items ≡ row_of key (rows_of_members commands dim (members_among commands dim naturals))) }
+    ensures sound { HasCleanDisk (state S.Store tables.new.conn) → (t : Rows) → IsAtRest (Some t) (state S.Store tables.old.conn) → FindsNoDamage result }
+    ensures same { HasCleanDisk (state S.Store tables.new.conn) → (t : Rows) → IsAtRest (Some t) (state S.Store tables.old.conn) → IsCalm result → IsAtRest (Some t) (state S.Store tables.new.conn) }
+    ensures left { HasCleanDisk (state S.Store tables.new.conn) → (t : Rows) → IsAtRest (Some t) (state S.Store tables.old.conn) → Leaves (Some t) (state S.Store tables.new.conn) }
+{
+    let mut found = Vec::new(alloc);
+    for member in members {
+        let mut rows = rows_of_member(tables, alloc, dim, member)?;
+        found.append(&mut rows)?;
+    }
+    Ok(found)
+}
+
+/// How many members and anchors of a dimension have numbers.
+fn numbers_given<S: Alter>(
+    tables: &mut Tables<S>,
+    alloc: Global,
+    dim: Dim,
+) -> Result<Given, ReadError<Refusal>>
+    ensures clean { HasCleanDisk (state S.Store tables.new.conn) → HasCleanDisk (state S.Store tables.old.conn) }
+    ensures given { HasCleanDisk (state S.Store tables.new.conn) → (limits : Limits) (commands : List Accepted) (t : Rows) → AreOf limits commands t → IsAtRest (Some t) (state S.Store tables.old.conn)
+        → length (members dim commands) ≤ 9999999 → length (anchors dim commands) ≤ 9999999
+        → IfOk result (λ given. given ≡ record { members = length (members dim commands); anchors = length (anchors dim commands) }) }
+    ensures few { IfOk result (λ given. (given.members ≤ 9999999) × (given.anchors ≤ 9999999)) }
+    ensures sound { HasCleanDisk (state S.Store tables.new.conn) → (t : Rows) → IsAtRest (Some t) (state S.Store tables.old.conn) → FindsNoDamage result }
+    ensures same { HasCleanDisk (state S.Store tables.new.conn) → (t : Rows) → IsAtRest (Some t) (state S.Store tables.old.conn) → IsCalm result → IsAtRest (Some t) (state S.Store tables.new.conn) }
+    ensures left { HasCleanDisk (state S.Store tables.new.conn) → (t : Rows) → IsAtRest (Some t) (state S.Store tables.old.conn) → Leaves (Some t) (state S.Store tables.new.conn) }
+{
+    let given = members_given(tables, alloc, dim)?;
+    match tables.greatest_anchor(alloc, dim) {
+        Ok(anchor) => Ok(Given {
+            members: given.members.min(GREATEST),
+            anchors: given.opening.max(anchor).min(GREATEST),
+        }),
+        Err(refusal) => Err(ReadError::Fault(refusal)),
+    }
+}
+
+/// The profile of a record of a customer, as the first that there is.
+fn first_profile(
+    alloc: Global,
+    policy: &Policy,
+    told: &DimensionRecord,
+) -> Result<Vec<ProfileRow>, AllocError>
+    ensures { IfOk result (λ rows. rows.items ≡ record { number = 2; values = six (picks is_profile (types_of policy.now Customer) told.now.values) } ∷ []) }
+{
+    let types = policy.types(alloc, Dim::Customer)?;
+    let texts = profile_texts(alloc, &types, told.values.as_slice())?;
+    let mut rows = Vec::new(alloc);
+    rows.push(ProfileRow {
+        number: 2,
+        values: six_texts(alloc, &texts)?,
+    })?;
+    Ok(rows)
+}
+
+/// The profile that a record of a customer brings. Under a policy without attributes of the profile it is the same for all
+/// records, so the first brings it.
+fn profile_brought<S: Alter>(
+    tables: &mut Tables<S>,
+    alloc: Global,
+    policy: &Policy,
+    told: &DimensionRecord,
+) -> Result<Vec<ProfileRow>, ReadError<Refusal>>
+    ensures clean { HasCleanDisk (state S.Store tables.new.conn) → HasCleanDisk (state S.Store tables.old.conn) }
+    ensures profiles { HasCleanDisk (state S.Store tables.new.conn) → (limits : Limits) (commands : List Accepted) (c : Accepted) (t : Rows) → AreOf limits commands t → (more : List Told) → c.content ≡ Describes Customer (told.now ∷ more)
+        → policy_after None commands ≡ Some policy.now → IsSound policy.now → IsAtRest (Some t) (state S.Store tables.old.conn)
+        → IfOk result (λ rows. rows.items ≡ filter_map (profile_at (commands ++ c ∷ [])) (behind (suc (length (profiles_of commands))) (suc (length (profiles_of (commands ++ c ∷ [])))))) }
+    ensures sound { HasCleanDisk (state S.Store tables.new.conn) → (t : Rows) → IsAtRest (Some t) (state S.Store tables.old.conn) → FindsNoDamage result }
+    ensures same { HasCleanDisk (state S.Store tables.new.conn) → (t : Rows) → IsAtRest (Some t) (state S.Store tables.old.conn) → IsCalm result → IsAtRest (Some t) (state S.Store tables.new.conn) }
+    ensures left { HasCleanDisk (state S.Store tables.new.conn) → (t : Rows) → IsAtRest (Some t) (state S.Store tables.old.conn) → Leaves (Some t) (state S.Store tables.new.conn) }
+{
+    match tables.get::<tables::Profile>(alloc, &2) {
+        Ok(Some(_)) => Ok(Vec::new(alloc)),
+        Ok(None) => Ok(first_profile(alloc, policy, told)?),
+        Err(refusal) => Err(ReadError::Fault(refusal)),
+    }
+}
+
+/// The profiles that a batch is the first to show. Only customers have profiles.
+fn new_profiles<S: Alter>(
+    tables: &mut Tables<S>,
+    alloc: Global,
+    policy: &Policy,
+    dim: Dim,
+    records: &[DimensionRecord],
+) -> Result<Vec<ProfileRow>, ReadError<Refusal>>
+    ensures clean { HasCleanDisk (state S.Store tables.new.conn) → HasCleanDisk (state S.Store tables.old.conn) }
+    ensures profiles { HasCleanDisk (state S.Store tables.new.conn) → (limits : Limits) (commands : List Accepted) (c : Accepted) (t : Rows) → AreOf limits commands t → c.content ≡ Describes dim records.now
+        → policy_after None commands ≡ Some policy.now → IsSound policy.now → IsAtRest (Some t) (state S.Store tables.old.conn)
+        → IfOk result (λ rows. rows.items ≡ filter_map (profile_at (commands ++ c ∷ [])) (behind (suc (length (profiles_of commands))) (suc (length (profiles_of (commands ++ c ∷ [])))))) }
+    ensures sound { HasCleanDisk (state S.Store tables.new.conn) → (t : Rows) → IsAtRest (Some t) (state S.Store tables.old.conn) → FindsNoDamage result }
+    ensures same { HasCleanDisk (state S.Store tables.new.conn) → (t : Rows) → IsAtRest (Some t) (state S.Store tables.old.conn) → IsCalm result → IsAtRest (Some t) (state S.Store tables.new.conn) }
+    ensures left { HasCleanDisk (state S.Store tables.new.conn) → (t : Rows) → IsAtRest (Some t) (state S.Store tables.old.conn) → Leaves (Some t) (state S.Store tables.new.conn) }
+{
+    match dim {
+        Dim::Customer => match records.first() {
+            Some(told) => profile_brought(tables, alloc, policy, told),
+            None => Ok(Vec::new(alloc)),
+        },
+        _ => Ok(Vec::new(alloc)),
+    }
+}
+
+/// What is read for a batch.
+#[derive(Drop)]
+pub(crate) struct Found {
+    /// The members that it touches, as they are stored.
+    pub(crate) members: Vec<Member>,
+    /// Their rows.
+    pub(crate) rows: Vec<DimRow>,
+    pub(crate) given: Given,
+    /// The profiles that it is the first to show.
+    pub(crate) profiles: Vec<ProfileRow>,
+}
+
+/// Reads what is kept of the members that a batch touches.
+fn read_touched<S: Alter>(
+    tables: &mut Tables<S>,
+    alloc: Global,
+    policy: &Policy,
+    dim: Dim,
+    records: &[DimensionRecord],
+) -> Result<Found, ReadError<Refusal>>
+    ensures clean { HasCleanDisk (state S.Store tables.new.conn) → HasCleanDisk (state S.Store tables.old.conn) }
+    ensures found { HasCleanDisk (state S.Store tables.new.conn) → (limits : Limits) (commands : List Accepted) (c : Accepted) (t : Rows) → AreOf limits commands t → IsAccepted limits (commands ++ c ∷ [])
+        → c.content ≡ Describes dim records.now → policy_after None commands ≡ Some policy.now → IsSound policy.now
+        → IsAtRest (Some t) (state S.Store tables.old.conn) → IfOk result (IsFound dim commands (commands ++ c ∷ []) records.now) }
+    ensures few { IfOk result (λ found. (found.given.members ≤ 9999999) × (found.given.anchors ≤ 9999999)) }
+    ensures sound { HasCleanDisk (state S.Store tables.new.conn) → (t : Rows) → IsAtRest (Some t) (state S.Store tables.old.conn) → FindsNoDamage result }
+    ensures same { HasCleanDisk (state S.Store tables.new.conn) → (t : Rows) → IsAtRest (Some t) (state S.Store tables.old.conn) → IsCalm result → IsAtRest (Some t) (state S.Store tables.new.conn) }
+    ensures left { HasCleanDisk (state S.Store tables.new.conn) → (t : Rows) → IsAtRest (Some t) (state S.Store tables.old.conn) → Leaves (Some t) (state S.Store tables.new.conn) }
+{
+    let naturals = naturals_told(alloc, records)?;
+    let members = stored_members(tables, alloc, dim, &naturals)?;
+    let rows = rows_of_stored(tables, alloc, dim, &members)?;
+    let given = numbers_given(tables, alloc, dim)?;
+    let profiles = new_profiles(tables, alloc, policy, dim, records)?;
+    Ok(Found {
+        members,
+        rows,
+        given,
+        profiles,
+    })
+}
+
+/// The edits that lead from the touched members' stored rows to those behind the batch. No row shows a profile, since no
+/// policy that is read has an attribute of the profile.
+fn row_edits(
+    alloc: Global,
+    policy: &Policy,
+    dim: Dim,
+    touched: &[Member],
+    stored: &[DimRow],
+) -> Result<Vec<Edit<DimRow, u64>>, AllocError>
+    ensures { (commands : List Accepted) (c : Accepted) (records : List Told) → c.content ≡ Describes dim records → policy_after None commands ≡ Some policy.now → IsSound policy.now
+        → RecordsHaveDays commands → RecordsHaveDays (commands ++ c ∷ [])
+        → touched.now ≡ (touched_by dim commands (commands ++ c ∷ []) records).list
+        → ((key : ℕ) → row_of key stored.now ≡ row_of key (rows_of_members commands dim (members_among commands dim (naturals_told records))))
+        → IfOk result (λ edits. IsPlan (λ r. r.surrogate) (dimension_row commands dim) (dimension_row (commands ++ c ∷ []) dim) edits.items) }
+{
+    let after = rendered(alloc, policy, dim, touched, &Profiles::new(alloc))?;
+    Ok(plan_rows(alloc, stored, &after)?)
+}
+
+/// The edits of a batch, by what was found.
+fn edits_of(
+    alloc: Global,
+    policy: &Policy,
+    dim: Dim,
+    command: CommandRow,
+    records: &[DimensionRecord],
+    found: Found,
+) -> Result<Edits, AllocError>
+    requires members { found.given.members ≤ 9999999 }
+    requires anchors { found.given.anchors ≤ 9999999 }
+    ensures { (commands : List Accepted) (c : Accepted) → c.content ≡ Describes dim records.now → policy_after None commands ≡ Some policy.now → IsSound policy.now
+        → RecordsHaveDays commands → RecordsHaveDays (commands ++ c ∷ []) → command_at (commands ++ c ∷ []) (suc (length commands)) ≡ Some command
+        → IsFound dim commands (commands ++ c ∷ []) records.now found → IfOk result (λ edits. AreEdits dim commands (commands ++ c ∷ []) records.now edits) }
+{
+    let given = found.given;
+    let touched = touched_members(alloc, &found.members, given, records)?;
+    let members = new_members(alloc, dim, given.members, touched.as_slice())?;
+    let changes = new_changes(alloc, dim, command.number, touched.as_slice(), records)?;
+    let rows = row_edits(alloc, policy, dim, touched.as_slice(), &found.rows)?;
+    let mut commands = Vec::new(alloc);
+    commands.push(command)?;
+    Ok(Edits {
+        command: commands,
+        members,
+        changes,
+        rows,
+        profiles: found.profiles,
+    })
+}
+
+/// What a batch of dimension records writes, from reads of the members that it touches alone: its own row and its edits of the other tables.
 pub fn plan_batch<S: Alter>(
     tables: &mut Tables<S>,
     alloc: Global,
@@ -39,5 +303,6 @@ pub fn plan_batch<S: Alter>(
     ensures same { HasCleanDisk (state S.Store tables.new.conn) → (t : Rows) → IsAtRest (Some t) (state S.Store tables.old.conn) → IsCalm result → IsAtRest (Some t) (state S.Store tables.new.conn) }
     ensures left { HasCleanDisk (state S.Store tables.new.conn) → (t : Rows) → IsAtRest (Some t) (state S.Store tables.old.conn) → Leaves (Some t) (state S.Store tables.new.conn) }
 {
-    Err(ReadError::Memory)
+    let found = read_touched(tables, alloc, policy, dim, records)?;
+    Ok(edits_of(alloc, policy, dim, command, records, found)?)
 }

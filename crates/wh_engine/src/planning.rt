@@ -56,7 +56,10 @@ pub fn new_members(
 }
 
 /// Members by their natural keys. Of two with one key the first counts.
-fn by_natural(alloc: Global, members: &[Member]) -> Result<BTreeMap<&str, &Member>, AllocError>
+pub(crate) fn by_natural(
+    alloc: Global,
+    members: &[Member],
+) -> Result<BTreeMap<&str, &Member>, AllocError>
     ensures { IfOk result (λ found. (natural : List ℕ) → option_copied (get_by (λ k. slice_cmp nat_cmp natural k.now) found) ≡ named members.now natural) }
 {
     let mut found = BTreeMap::new(alloc);
@@ -70,7 +73,7 @@ fn by_natural(alloc: Global, members: &[Member]) -> Result<BTreeMap<&str, &Membe
 
 /// The values of the six slots, empty where the policy had no attribute.
 #[tactic(auto, using(wh_history::proofs::Columns::six_more))]
-fn six_texts(alloc: Global, values: &Values) -> Result<Values, AllocError>
+pub(crate) fn six_texts(alloc: Global, values: &Values) -> Result<Values, AllocError>
     ensures { IfOk result (λ texts. texts ≡ six values.now) }
 {
     let mut texts = values.copy(alloc)?;

@@ -258,3 +258,119 @@ fn a_member_is_rendered(rt: HostRuntime) -> Result<(), Fail> {
     assert_eq!(rt; rows[1].surrogate, 3);
     Ok(())
 }
+
+fn told_of_p1(alloc: Global, day: i64, brand: &str) -> Result<DimensionRecord, Fail> {
+    let mut values = Values::new(alloc);
+    values.push(text(alloc, "Cola 1l")?)?;
+    values.push(text(alloc, brand)?)?;
+    Ok(DimensionRecord {
+        natural: NaturalKey::read(32, b"P1").ok_or("a key")?,
+        day: Day::from_key(day).ok_or("a day")?,
+        values,
+    })
+}
+
+fn batch(alloc: Global, number: u64, id: &str, records: u64) -> Result<CommandRow, Fail> {
+    Ok(CommandRow {
+        number,
+        id: text(alloc, id)?,
+        kind: text(alloc, "product")?,
+        bytes: Bytes::from_slice(alloc, b"a batch")?,
+        records,
+        placeholders: 0,
+    })
+}
+
+/// The edits of two records of a new product, of which the second has another brand.
+fn first_plan(alloc: Global, tables: &mut Tables<MemStore>) -> Result<Edits, Fail> {
+    let mut records = Vec::new(alloc);
+    records.push(told_of_p1(alloc, 20240110, "Acme")?)?;
+    records.push(told_of_p1(alloc, 20240201, "Bolt")?)?;
+    let policy = Policy::trial(alloc)?;
+    let command = batch(alloc, 2, "p1", 2)?;
+    Ok(plan_batch(tables, alloc, &policy, Dim::Product, command, &records)?)
+}
+
+/// Those of a record between the two, with the later brand.
+fn second_plan(alloc: Global, tables: &mut Tables<MemStore>) -> Result<Edits, Fail> {
+    let mut records = Vec::new(alloc);
+    records.push(told_of_p1(alloc, 20240120, "Bolt")?)?;
+    let policy = Policy::trial(alloc)?;
+    let command = batch(alloc, 3, "p3", 1)?;
+    Ok(plan_batch(tables, alloc, &policy, Dim::Product, command, &records)?)
+}
+
+/// A row of the product with one of its brands.
+fn row_of_p1(
+    alloc: Global,
+    surrogate: u64,
+    from: i64,
+    to: i64,
+    brand: &str,
+) -> Result<DimRow, Fail> {
+    Ok(DimRow {
+        surrogate,
+        durable: 1,
+        natural: text(alloc, "P1")?,
+        from_day: Day::from_key(from).ok_or("a day")?,
+        to_day: Day::from_key(to).ok_or("a day")?,
+        is_current: to == 99991231,
+        a: six(alloc, "Cola 1l", brand)?,
+        b: six(alloc, "", "")?,
+        profile_now: 0,
+    })
+}
+
+fn puts(edit: Option<&Edit<DimRow, u64>>, row: &DimRow) -> bool {
+    match edit {
+        Some(Edit::Put(put)) => put.is_same(row),
+        _ => false,
+    }
+}
+
+fn removes(edit: Option<&Edit<DimRow, u64>>, key: u64) -> bool {
+    match edit {
+        Some(Edit::Remove(removed)) => *removed == key,
+        _ => false,
+    }
+}
+
+#[test]
+fn a_new_product_is_planned(rt: HostRuntime) -> Result<(), Fail> {
+    let alloc = rt.alloc();
+    let edits = first_plan(alloc, &mut warehouse(alloc)?)?;
+    let member = edits.members.first().ok_or("a member")?;
+    assert_eq!(rt; (member.durable, member.opening), (1, 1));
+    let second = edits.changes.get(1).ok_or("a second change")?;
+    assert_eq!(rt; (second.command, second.place, second.anchor), (2, 2, 3));
+    let acme = row_of_p1(alloc, 1, 19000101, 20240131, "Acme")?;
+    assert!(rt; puts(edits.rows.get(0), &acme));
+    let bolt = row_of_p1(alloc, 3, 20240201, 99991231, "Bolt")?;
+    assert!(rt; puts(edits.rows.get(1), &bolt));
+    assert_eq!(rt; edits.rows.len(), 2);
+    Ok(())
+}
+
+#[test]
+fn a_backdated_record_is_planned(rt: HostRuntime) -> Result<(), Fail> {
+    let alloc = rt.alloc();
+    let mut tables = warehouse(alloc)?;
+    let first = first_plan(alloc, &mut tables)?;
+    write(alloc, &mut tables, &first)?;
+    let edits = second_plan(alloc, &mut tables)?;
+    assert_eq!(rt;
+        (
+            edits.members.len(),
+            edits.changes.len(),
+            edits.profiles.len()
+        ),
+        (0, 1, 0)
+    );
+    let acme = row_of_p1(alloc, 1, 19000101, 20240119, "Acme")?;
+    assert!(rt; puts(edits.rows.get(0), &acme));
+    assert!(rt; removes(edits.rows.get(1), 3));
+    let bolt = row_of_p1(alloc, 4, 20240120, 99991231, "Bolt")?;
+    assert!(rt; puts(edits.rows.get(2), &bolt));
+    assert_eq!(rt; edits.rows.len(), 3);
+    Ok(())
+}

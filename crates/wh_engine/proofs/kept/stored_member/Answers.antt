@@ -20,4 +20,4 @@ returns-clause-member g c clean limits commands t are full at =
     let found = c.in_ok-found.found in
     let len : vec_len found ≡ length found.items = omega arith in
     let popped = member_popped limits commands t are c.args.dim c.args.natural.now None found.items c.pop.new.self.items (vec_len found) len (c.in_ok-found.ensures.rows clean t at) c.in-None.ensures.items c.in-None.ensures.variant in
-    c.in_ok-absent-in-None.ensures.ok ∙ sym (member_absent c.args.dim commands c.args.natural.now (none_found c.args.dim commands c.args.natural.now popped))
+    c.in_ok-absent-in-None.ensures ∙ sym (member_absent c.args.dim commands c.args.natural.now (none_found c.args.dim commands c.args.natural.now popped))
