@@ -1,5 +1,5 @@
 -- Making a warehouse, and opening one.
-use Rattle.std.specs.Prelude.{◌≡◌, ◌⊎◌, ℕ, codes, List, [], ◌∷◌, find, false, Option, Some, None, Result, Ok, Err}
+use Rattle.std.specs.Prelude.{◌≡◌, ◌⊎◌, ℕ, codes, List, [], ◌∷◌, filter, slice_get, Bool, true, false, Option, Some, None, Result, Ok, Err, IsOk}
 use Rattle.std.specs.FinMap.{values}
 use Rattle.sqlite.specs.Tree.{Trees}
 use Rattle.sqlite.specs.State.{State}
@@ -17,15 +17,20 @@ use Rattle.wh_sql.specs.Asked.{same_text}
 use Rattle.wh_store.specs.Meta.{number_in, fault_of, limits_in}
 use Rattle.wh_store.specs.declared.fault.OpenFault.{OpenFault}
 use Rattle.wh_store.specs.declared.fault.OpenFault.TheVariants as store
-use Rattle.wh_engine.specs.Answered.{AreTreesOf}
+use Rattle.wh_engine.specs.Answered.{Rests, AreTreesOf, LeavesOneOf}
 use Rattle.wh_engine.specs.Made.{making_of}
+use Rattle.wh_engine.specs.declared.opening.InitFault.{InitFault}
+use Rattle.wh_engine.specs.declared.opening.InitFault.TheVariants as init
 use Rattle.wh_engine.specs.declared.opening.OpeningFault.{OpeningFault}
 use Rattle.wh_engine.specs.declared.opening.OpeningFault.TheVariants as faults
 use Rattle.wh_engine.specs.declared.session.Session.{Session}
 
--- the row of the making, if one is there
+-- the rows with the making's id, and the first of them
+abbrev pub makings_in : Tables → List CommandRow
+makings_in t = filter (λ r. same_text (codes "init") r.id) (values t.command)
+
 abbrev pub making_in : Tables → Option CommandRow
-making_in t = find (λ r. same_text (codes "init") r.id) (values t.command)
+making_in t = slice_get (makings_in t) 0
 
 -- a fault of the tables, as one of the warehouse
 abbrev pub of_tables : OpenFault → OpeningFault
@@ -62,13 +67,42 @@ session_in t =
 unfoldable pub opened : Tables → Result Session OpeningFault
 opened t = of_format (fault_of (number_in t (codes "format"))) >>= λ _. session_in t
 
--- Tables that aren't opened: the fault is the first that is met, or memory ran out, and nothing changed; or the store refused a call, and a
--- crash leaves what was held.
-abbrev pub IsNotOpened : Result Session OpeningFault → Tables → State → OpeningFault → Type 0
-IsNotOpened read t s (faults.Store cause) = Leaves (Some t) s
-IsNotOpened read t s faults.Memory = IsAtRest (Some t) s
-IsNotOpened read t s fault = (read ≡ Err fault) × IsAtRest (Some t) s
+-- what was read is what the bytes say, or memory ran out
+abbrev pub IsTold : {A : Type 0} → Result A OpeningFault → Result A OpeningFault → Type 0
+IsTold (Err faults.Memory) told = Unit {0}
+IsTold result told = told ≡ result
+
+-- What was read of tables at rest is what they say, or the first fault that is met, or memory ran out, and nothing changed; or the store
+-- refused a call, and a crash leaves what was held.
+abbrev pub IsRead : {A : Type 0} → Result A OpeningFault → Result A OpeningFault → Tables → State → Type 0
+IsRead (Err (faults.Store cause)) told t s = Leaves (Some t) s
+IsRead result told t s = IsTold result told × IsAtRest (Some t) s
+
+-- A warehouse that wasn't opened: memory ran out, and nothing changed; or the store refused a call, and a crash leaves its tables. No other fault comes.
+abbrev pub IsNotOpened : Limits → List Accepted → OpeningFault → State → Type 0
+IsNotOpened limits commands faults.Memory s = Rests limits commands s
+IsNotOpened limits commands (faults.Store cause) s = LeavesOneOf limits commands commands s
+IsNotOpened limits commands fault s = ⊥
 
 -- a crash leaves a database with no object in it, or the tables of the making
-pub record LeavesMaking (limits : Limits) (bytes : List ℕ) (s : State) : Type 0 where
+pub record LeavesMaking (limits : Limits) (policy : Policy) (bytes : List ℕ) (s : State) : Type 0 where
+  pub each : (trees : Trees) → s.may_leave trees → AreTrees None trees ⊎ AreTreesOf limits (making_of policy bytes ∷ []) trees
+
+-- a crash leaves a database with no object in it, or, where the bytes give a policy, the tables of the making
+pub record LeavesMade (limits : Limits) (bytes : List ℕ) (s : State) : Type 0 where
   pub each : (trees : Trees) → s.may_leave trees → AreTrees None trees ⊎ ((policy : Policy) × (policy_at bytes ≡ Ok policy) × AreTreesOf limits (making_of policy bytes ∷ []) trees)
+
+-- Why no warehouse was made: the bytes' first fault; or the bytes give a policy, and a name of the ten tables is taken; or memory ran out; or the
+-- bytes give a policy, and the store refused a call.
+abbrev pub IsNotMade : List ℕ → Bool → InitFault → Type 0
+IsNotMade bytes taken (init.Policy fault) = policy_at bytes ≡ Err fault
+IsNotMade bytes taken init.NotEmpty = IsOk (policy_at bytes) × (taken ≡ true)
+IsNotMade bytes taken init.Memory = Unit {0}
+IsNotMade bytes taken (init.Store cause) = IsOk (policy_at bytes)
+
+-- what is answered before anything is written
+abbrev pub NothingIsWritten : InitFault → Type 0
+NothingIsWritten (init.Policy fault) = Unit {0}
+NothingIsWritten init.NotEmpty = Unit {0}
+NothingIsWritten init.Memory = Unit {0}
+NothingIsWritten (init.Store cause) = ⊥

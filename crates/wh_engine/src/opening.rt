@@ -1,5 +1,22 @@
 //! Making a warehouse, and opening one.
 
+ghost use Rattle.std.specs.Prelude.{◌≡◌, ◌≢◌, false, [], ◌∷◌, List, slice_get, None, Some, Ok, Err, IfOk, IfErr, OnOk};
+ghost use Rattle.sqlite.specs.Held.{state};
+ghost use Rattle.sqlite.specs.State.{HasCleanDisk};
+ghost use Rattle.wh_policy.specs.Policy.{policy_at};
+ghost use Rattle.wh_history.specs.Accepted.{Accepted};
+ghost use Rattle.wh_history.specs.Tables.{Limits as Counts};
+ghost use Rattle.wh_rows.specs.AtRest.{IsAtRest};
+ghost use Rattle.wh_rows.specs.Tables.{Tables as Rows};
+ghost use Rattle.wh_sql.specs.Present.{is_any_taken, are_all_there};
+ghost use Rattle.wh_store.specs.Meta.{limits_in};
+ghost use Rattle.wh_engine.specs.Answered.{Rests, IsReady};
+ghost use Rattle.wh_engine.specs.Made.{making_of, IsGoodPolicy};
+ghost use Rattle.wh_engine.specs.Opened.{of_tables, of_limits, of_making, making_in, session_in, opened, IsTold, IsRead, IsNotOpened, LeavesMaking, IsNotMade, NothingIsWritten, LeavesMade};
+ghost use Rattle.wh_engine.specs.Sound.{IsAccepted};
+ghost use Rattle.wh_engine.specs.declared.opening.OpeningFault.TheVariants.{Store};
+ghost use Rattle.wh_rows.specs.declared.cause.Cause.{Cause};
+
 use crate::engine::Engine;
 use crate::making::write_making;
 use crate::session::Session;
@@ -7,7 +24,7 @@ use sqlite::{Alter, Connection};
 use std::alloc::Global;
 use wh_day::{ReadError, Value};
 use wh_policy::{Policy, PolicyFault};
-use wh_rows::{Cause, Limits, Table, tables};
+use wh_rows::{Cause, CommandRow, Limits, Table, tables};
 use wh_sql::{CommandOf, Refusal};
 use wh_store::{MakeFault, OpenFault, Tables};
 
@@ -41,24 +58,16 @@ pub enum OpeningFault {
     Store(Cause),
 }
 
-impl From<Refusal> for OpeningFault {
-    fn from(refusal: Refusal) -> OpeningFault {
-        match refusal {
-            Refusal::Damaged(table) => OpeningFault::Damaged(table),
-            Refusal::Store(cause) => OpeningFault::Store(cause),
-        }
-    }
-}
-
-impl From<OpenFault> for OpeningFault {
-    fn from(fault: OpenFault) -> OpeningFault {
-        match fault {
-            OpenFault::NotAWarehouse => OpeningFault::NotAWarehouse,
-            OpenFault::OldFormat => OpeningFault::OldFormat,
-            OpenFault::NewFormat => OpeningFault::NewFormat,
-            OpenFault::Damaged(table) => OpeningFault::Damaged(table),
-            OpenFault::Store(cause) => OpeningFault::Store(cause),
-        }
+/// A fault of the tables, as one of the warehouse.
+fn of_tables(fault: OpenFault) -> OpeningFault
+    ensures { result ≡ of_tables fault }
+{
+    match fault {
+        OpenFault::NotAWarehouse => OpeningFault::NotAWarehouse,
+        OpenFault::OldFormat => OpeningFault::OldFormat,
+        OpenFault::NewFormat => OpeningFault::NewFormat,
+        OpenFault::Damaged(table) => OpeningFault::Damaged(table),
+        OpenFault::Store(cause) => OpeningFault::Store(cause),
     }
 }
 
@@ -69,48 +78,93 @@ fn commit_making<S: Alter>(
     limits: Limits,
     policy: &Policy,
     bytes: &[u8],
-) -> Result<(), Cause> {
+) -> Result<(), Cause>
+    ensures clean { HasCleanDisk (state S.Store tables.new.conn) → HasCleanDisk (state S.Store tables.old.conn) }
+    ensures made { HasCleanDisk (state S.Store tables.new.conn) → IsAtRest None (state S.Store tables.old.conn) → IsGoodPolicy policy.now
+        → OnOk result (Rests limits (making_of policy.now bytes.now ∷ []) (state S.Store tables.new.conn)) }
+    ensures left { HasCleanDisk (state S.Store tables.new.conn) → IsAtRest None (state S.Store tables.old.conn) → IsGoodPolicy policy.now → LeavesMaking limits policy.now bytes.now (state S.Store tables.new.conn) }
+{
     let mut writing = tables.begin()?;
     write_making(&mut writing, alloc, limits, policy, bytes)?;
     writing.commit()
 }
 
-/// The policy in force: that of the making.
-fn policy_in<S: Alter>(tables: &mut Tables<S>, alloc: Global) -> Result<Policy, OpeningFault> {
-    let Ok(id) = Value::new(alloc, "init") else {
-        return Err(OpeningFault::Memory);
-    };
-    let found = tables.ask::<tables::Command, CommandOf<'_>>(alloc, &CommandOf { id: &id })?;
-    let Some(row) = found.first() else {
+/// The limits that were chosen at the making.
+fn limits_of<S: Alter>(tables: &mut Tables<S>, alloc: Global) -> Result<Limits, OpeningFault>
+    ensures clean { HasCleanDisk (state S.Store tables.new.conn) → HasCleanDisk (state S.Store tables.old.conn) }
+    ensures read { HasCleanDisk (state S.Store tables.new.conn) → (t : Rows) → IsAtRest (Some t) (state S.Store tables.old.conn) → IsRead result (of_limits (limits_in t)) t (state S.Store tables.new.conn) }
+{
+    match tables.limits(alloc) {
+        Ok(limits) => Ok(limits),
+        Err(Refusal::Damaged(table)) => Err(OpeningFault::Damaged(table)),
+        Err(Refusal::Store(cause)) => Err(OpeningFault::Store(cause)),
+    }
+}
+
+/// The policy that the row of the making gives.
+fn policy_of(alloc: Global, makings: &[CommandRow]) -> Result<Policy, OpeningFault>
+    ensures told { IsTold result (of_making (slice_get makings.now 0)) }
+    ensures pure { (cause : Cause) → result ≢ Err (Store cause) }
+{
+    let Some(making) = makings.first() else {
         return Err(OpeningFault::Damaged(Table::Command));
     };
-    match Policy::read(alloc, row.bytes.as_slice()) {
+    match Policy::read(alloc, making.bytes.as_slice()) {
         Ok(policy) => Ok(policy),
         Err(ReadError::Memory) => Err(OpeningFault::Memory),
         Err(ReadError::Fault(_)) => Err(OpeningFault::Damaged(Table::Command)),
     }
 }
 
+/// The policy in force, which is that of the making.
+fn policy_in<S: Alter>(tables: &mut Tables<S>, alloc: Global) -> Result<Policy, OpeningFault>
+    ensures clean { HasCleanDisk (state S.Store tables.new.conn) → HasCleanDisk (state S.Store tables.old.conn) }
+    ensures read { HasCleanDisk (state S.Store tables.new.conn) → (t : Rows) → IsAtRest (Some t) (state S.Store tables.old.conn) → IsRead result (of_making (making_in t)) t (state S.Store tables.new.conn) }
+{
+    let Ok(id) = Value::new(alloc, "init") else {
+        return Err(OpeningFault::Memory);
+    };
+    match tables.ask::<tables::Command, CommandOf<'_>>(alloc, &CommandOf { id: &id }) {
+        Ok(found) => policy_of(alloc, &found),
+        Err(Refusal::Damaged(table)) => Err(OpeningFault::Damaged(table)),
+        Err(Refusal::Store(cause)) => Err(OpeningFault::Store(cause)),
+    }
+}
+
 /// What an engine has to know of its warehouse.
-fn session_of<S: Alter>(tables: &mut Tables<S>, alloc: Global) -> Result<Session, OpeningFault> {
-    let limits = tables.limits(alloc)?;
-    let policy = policy_in(tables, alloc)?;
-    Ok(Session {
-        limits,
-        policy,
-        must_reopen: false,
-    })
+fn session_of<S: Alter>(tables: &mut Tables<S>, alloc: Global) -> Result<Session, OpeningFault>
+    ensures clean { HasCleanDisk (state S.Store tables.new.conn) → HasCleanDisk (state S.Store tables.old.conn) }
+    ensures read { HasCleanDisk (state S.Store tables.new.conn) → (t : Rows) → IsAtRest (Some t) (state S.Store tables.old.conn) → IsRead result (session_in t) t (state S.Store tables.new.conn) }
+{
+    let limits = match limits_of(tables, alloc) {
+        Ok(limits) => limits,
+        Err(fault) => return Err(fault),
+    };
+    match policy_in(tables, alloc) {
+        Ok(policy) => Ok(Session {
+            limits,
+            policy,
+            must_reopen: false,
+        }),
+        Err(fault) => Err(fault),
+    }
 }
 
 impl<S: Alter> Engine<S> {
     /// Makes a warehouse of these limits under the policy of a policy file, in a database in which the names of the ten tables are
-    /// free. The making is its first command.
+    /// free. The making is its first command. A refusal hands the connection back.
     pub fn init(
         alloc: Global,
         conn: Connection<S>,
         policy: &[u8],
         limits: Limits,
-    ) -> Result<Engine<S>, (InitFault, Connection<S>)> {
+    ) -> Result<Engine<S>, (InitFault, Connection<S>)>
+        ensures made { IfOk result (λ engine. HasCleanDisk (state S.Store engine.tables.conn) → IsAtRest None (state S.Store conn) → IsReady limits (making_of engine.session.policy policy.now ∷ []) engine.session (state S.Store engine.tables.conn)) }
+        ensures written { IfOk result (λ engine. (policy_at policy.now ≡ Ok engine.session.policy) × (is_any_taken (state S.Store conn).now.schema ≡ false)) }
+        ensures refused { IfErr result (λ e. IsNotMade policy.now (is_any_taken (state S.Store conn).now.schema) e.0) }
+        ensures same { IfErr result (λ e. NothingIsWritten e.0 → e.1 ≡ conn) }
+        ensures left { IfErr result (λ e. HasCleanDisk (state S.Store e.1) → IsAtRest None (state S.Store conn) → LeavesMade limits policy.now (state S.Store e.1)) }
+    {
         let read = match Policy::read(alloc, policy) {
             Ok(read) => read,
             Err(ReadError::Memory) => return Err((InitFault::Memory, conn)),
@@ -134,14 +188,23 @@ impl<S: Alter> Engine<S> {
         }
     }
 
-    /// Opens the warehouse of a connection. Nothing changes.
+    /// Opens the warehouse of a connection. A refusal hands the connection back.
     pub fn open(
         alloc: Global,
         conn: Connection<S>,
-    ) -> Result<Engine<S>, (OpeningFault, Connection<S>)> {
+    ) -> Result<Engine<S>, (OpeningFault, Connection<S>)>
+        ensures ready { IfOk result (λ engine. HasCleanDisk (state S.Store engine.tables.conn) → (limits : Counts) (commands : List Accepted) → IsAccepted limits commands → Rests limits commands (state S.Store conn)
+            → IsReady limits commands engine.session (state S.Store engine.tables.conn)) }
+        ensures refused { IfErr result (λ e. HasCleanDisk (state S.Store e.1) → (limits : Counts) (commands : List Accepted) → IsAccepted limits commands → Rests limits commands (state S.Store conn)
+            → IsNotOpened limits commands e.0 (state S.Store e.1)) }
+        // The same of any ten tables, whoever wrote their rows.
+        ensures found { IfOk result (λ engine. HasCleanDisk (state S.Store engine.tables.conn) → (t : Rows) → IsAtRest (Some t) (state S.Store conn) → (opened t ≡ Ok engine.session) × IsAtRest (Some t) (state S.Store engine.tables.conn)) }
+        ensures fault { IfErr result (λ e. HasCleanDisk (state S.Store e.1) → (t : Rows) → IsAtRest (Some t) (state S.Store conn) → IsRead (Err e.0) (opened t) t (state S.Store e.1)) }
+        ensures missing { conn.in_transaction ≡ false → are_all_there (state S.Store conn).now.schema ≡ false → result ≡ Err (OpeningFault.NotAWarehouse, conn) }
+    {
         let mut tables = match Tables::open(alloc, conn) {
             Ok(tables) => tables,
-            Err((fault, conn)) => return Err((OpeningFault::from(fault), conn)),
+            Err((fault, conn)) => return Err((of_tables(fault), conn)),
         };
         match session_of(&mut tables, alloc) {
             Ok(session) => Ok(Engine { tables, session }),
