@@ -48,6 +48,7 @@ pub mod PlanningOwners
 pub mod PlanningRendered
 pub mod Decisions
 pub mod Performing
+pub mod OpenedTables
 pub mod PlanPremises
 pub mod PlanNaturals
 pub mod PlanTouched

@@ -1,0 +1,144 @@
+-- What an engine reads when it opens a warehouse.
+use Rattle.std.proofs.Common.{◌≡◌, ◌≢◌, inl, ℕ, Bool, true, false, cond, List, [], ◌∷◌, slice_get, filter, Option, Some, None, Result, Ok, Err, refl, sym, ap, subst, ◌∙◌}
+use Rattle.std.specs.Prelude.{codes, pos, ℤ, bytes_eq, option_map, unwrap_or}
+use Rattle.std.specs.Option.{option_to_list}
+use Rattle.std.specs.FinMap.{get, values}
+use Rattle.sqlite.specs.State.{State}
+use Rattle.wh_policy.specs.Policy.{policy_at}
+use Rattle.wh_policy.specs.declared.policy.Policy.{Policy}
+use Rattle.wh_history.specs.Accepted.{Accepted, policy_after}
+use Rattle.wh_history.specs.Tables.{Limits}
+use Rattle.wh_history.proofs.Basics.{some_is}
+use Rattle.wh_rows.specs.AtRest.{IsAtRest, Leaves}
+use Rattle.wh_rows.specs.Limits.{limits_of, are_limits}
+use Rattle.wh_rows.specs.Tables.{Tables}
+use Rattle.wh_rows.specs.declared.cause.Cause.{Cause}
+use Rattle.wh_rows.specs.declared.rows.CommandRow.{CommandRow}
+use Rattle.wh_rows.specs.declared.rows.MetaRow.{MetaRow}
+use Rattle.wh_sql.specs.Asked.{same_text}
+use Rattle.wh_store.specs.Meta.{number_of, number_in, fault_of, limits_of_numbers, limits_in}
+use Rattle.wh_store.specs.Opening.{IsTaken, IsRefusedWith}
+use Rattle.wh_store.specs.declared.fault.OpenFault.{OpenFault}
+use Rattle.wh_store.specs.declared.fault.OpenFault.TheVariants as store
+use Rattle.wh_engine.specs.Admission.{in_force}
+use Rattle.wh_engine.specs.Answered.{Rests, AreTreesOf, LeavesOneOf, IsReady}
+use Rattle.wh_engine.specs.Defined.{AreOf, meta_at, command_at}
+use Rattle.wh_engine.specs.Kept.{command_with}
+use Rattle.wh_engine.specs.Made.{making_of}
+use Rattle.wh_engine.specs.Opened.{makings_in, making_in, of_tables, of_format, of_limits, of_policy, of_making, session_in, opened, IsTold, IsRead, IsNotOpened}
+use Rattle.wh_engine.specs.Sound.{IsAccepted}
+use Rattle.wh_engine.specs.declared.opening.OpeningFault.{OpeningFault}
+use Rattle.wh_engine.specs.declared.opening.OpeningFault.TheVariants as faults
+use Rattle.wh_engine.specs.declared.session.Session.{Session}
+use Rattle.wh_engine.proofs.Decisions.{policy_in_force}
+use Rattle.wh_engine.proofs.FoundCommands.{command_of}
+
+-- ---- readings in turn
+
+-- what was told of rows that were read
+pub read_of_told : {A : Type 0} (result told : Result A OpeningFault) (t : Tables) (s : State) → IsTold result told → ((cause : Cause) → result ≢ Err (faults.Store cause)) → IsAtRest (Some t) s → IsRead result told t s
+read_of_told (Ok x) told t s is plain rests = (is, rests)
+read_of_told (Err faults.NotAWarehouse) told t s is plain rests = (is, rests)
+read_of_told (Err faults.OldFormat) told t s is plain rests = (is, rests)
+read_of_told (Err faults.NewFormat) told t s is plain rests = (is, rests)
+read_of_told (Err (faults.Damaged table)) told t s is plain rests = (is, rests)
+read_of_told (Err faults.Memory) told t s is plain rests = (is, rests)
+read_of_told (Err (faults.Store cause)) told t s is plain rests = absurd (plain cause refl)
+
+-- a fault of a first reading is that of the whole
+pub fault_goes_on : {A B : Type 0} (fault : OpeningFault) (first : Result A OpeningFault) (whole : Result B OpeningFault) (t : Tables) (s : State) → ((e : OpeningFault) → first ≡ Err e → whole ≡ Err e) → IsRead (Err fault) first t s → IsRead (Err fault) whole t s
+fault_goes_on faults.NotAWarehouse first whole t s goes read = (goes faults.NotAWarehouse read.0, read.1)
+fault_goes_on faults.OldFormat first whole t s goes read = (goes faults.OldFormat read.0, read.1)
+fault_goes_on faults.NewFormat first whole t s goes read = (goes faults.NewFormat read.0, read.1)
+fault_goes_on (faults.Damaged table) first whole t s goes read = (goes (faults.Damaged table) read.0, read.1)
+fault_goes_on faults.Memory first whole t s goes read = read
+fault_goes_on (faults.Store cause) first whole t s goes read = read
+
+module _ (t : Tables) where
+  pub limits_fault : (e : OpeningFault) → of_limits (limits_in t) ≡ Err e → session_in t ≡ Err e
+  unfolding session_in
+  limits_fault e is = rw is refl
+
+  pub policy_fault : (limits : Limits) (e : OpeningFault) → of_limits (limits_in t) ≡ Ok limits → of_making (making_in t) ≡ Err e → session_in t ≡ Err e
+  unfolding session_in
+  policy_fault limits e first is = rw (first, is) refl
+
+  pub session_is : (limits : Limits) (policy : Policy) → of_limits (limits_in t) ≡ Ok limits → of_making (making_in t) ≡ Ok policy → session_in t ≡ Ok (record { limits = limits; policy = policy; must_reopen = false })
+  unfolding session_in
+  session_is limits policy first second = rw (first, second) refl
+
+  -- ---- the format comes first
+
+  pub format_fault : (fault : OpenFault) → fault_of (number_in t (codes "format")) ≡ Err fault → opened t ≡ Err (of_tables fault)
+  unfolding opened
+  format_fault fault is = rw is refl
+
+  pub format_known : IsTaken t → opened t ≡ session_in t
+  unfolding opened
+  format_known is = rw is refl
+
+  pub not_opened : (s : State) (fault : OpenFault) → IsRefusedWith t s fault → Leaves (Some t) s → IsRead {A = Session} (Err (of_tables fault)) (opened t) t s
+  not_opened s store.NotAWarehouse refused left = (format_fault store.NotAWarehouse refused.0, refused.1)
+  not_opened s store.OldFormat refused left = (format_fault store.OldFormat refused.0, refused.1)
+  not_opened s store.NewFormat refused left = (format_fault store.NewFormat refused.0, refused.1)
+  not_opened s (store.Damaged table) refused left = absurd refused
+  not_opened s (store.Store cause) refused left = left
+
+same_ok : {A F : Type 0} (r : Result A F) (x y : A) → r ≡ Ok x → r ≡ Ok y → x ≡ y
+same_ok r x y first second = cc
+
+never : {A F : Type 0} {x : A} {e : F} → Ok x ≡ Err e → ⊥
+never h = cc
+
+-- ---- the tables of accepted commands
+
+module _ (limits : Limits) (commands : List Accepted) (t : Tables) (accepted : IsAccepted limits commands) (are : AreOf limits commands t) where
+  number_there : (name : List ℕ) (row : MetaRow) → meta_at limits name ≡ Some row → number_in t name ≡ Some row.value
+  number_there name row is = ap number_of (are.meta name ∙ is)
+
+  format_there : IsTaken t
+  format_there = ap fault_of (number_there (codes "format") (record { name = codes "format"; value = pos 1 }) refl)
+
+  limits_if : (b : Bool) → are_limits limits ≡ b → b ≡ true → limits_of limits.commands limits.changes limits.facts ≡ Some limits
+  limits_if b is good = rw (is ∙ good) refl
+
+  limits_there : limits_in t ≡ Some limits
+  limits_there =
+      let commands_max = number_there (codes "commands_max") (record { name = codes "commands_max"; value = pos limits.commands }) refl in
+      let changes_max = number_there (codes "changes_max") (record { name = codes "changes_max"; value = pos limits.changes }) refl in
+      let facts_max = number_there (codes "facts_max") (record { name = codes "facts_max"; value = pos limits.facts }) refl in
+      rw (commands_max, changes_max, facts_max) (limits_if (are_limits limits) refl accepted.limited)
+
+  abbrev making : CommandRow
+  making = record { number = 1; id = codes "init"; kind = codes "init"; bytes = accepted.begun.bytes; records = 0; placeholders = 0 }
+
+  making_stored : command_with commands (codes "init") ≡ Some making
+  making_stored = ap (λ (cs : List Accepted). command_with cs (codes "init")) accepted.begun.making
+
+  making_there : making_in t ≡ Some making
+  making_there =
+      ap (λ (rows : List CommandRow). slice_get rows 0) (command_of limits commands t are accepted.distinct (codes "init"))
+      ∙ ap (λ (o : Option CommandRow). slice_get (option_to_list o) 0) making_stored
+
+  policy_there : of_making (making_in t) ≡ Ok (in_force commands)
+  policy_there =
+      let same : accepted.begun.policy ≡ in_force commands = some_is _ _ (sym accepted.begun.kept ∙ policy_in_force commands accepted.governed) in
+      ap of_making making_there ∙ ap of_policy accepted.begun.written ∙ ap Ok same
+
+  pub opened_there : opened t ≡ Ok (record { limits = limits; policy = in_force commands; must_reopen = false })
+  opened_there = format_known t format_there ∙ session_is t limits (in_force commands) (ap of_limits limits_there) policy_there
+
+  -- it is opened ready
+  pub opened_ready : (session : Session) (s : State) → opened t ≡ Ok session → IsAtRest (Some t) s → IsReady limits commands session s
+  opened_ready session s is rests =
+      let same : record { limits = limits; policy = in_force commands; must_reopen = false } ≡ session = same_ok (opened t) _ session opened_there is in
+      record { accepted = accepted; rests = record { tables = t; are = are; rests = rests }; session_is = sym same }
+
+  -- and refused by the store, or for want of memory, alone
+  pub opened_refused : (fault : OpeningFault) (s : State) → IsRead {A = Session} (Err fault) (opened t) t s → IsNotOpened limits commands fault s
+  opened_refused faults.Memory s read = record { tables = t; are = are; rests = read.1 }
+  opened_refused (faults.Store cause) s read = record { each = λ trees may. inl (record { tables = t; are = are; trees_are = read.each trees may }) }
+  opened_refused faults.NotAWarehouse s read = absurd (never (sym opened_there ∙ read.0))
+  opened_refused faults.OldFormat s read = absurd (never (sym opened_there ∙ read.0))
+  opened_refused faults.NewFormat s read = absurd (never (sym opened_there ∙ read.0))
+  opened_refused (faults.Damaged table) s read = absurd (never (sym opened_there ∙ read.0))
