@@ -1,15 +1,16 @@
 -- What an engine reads when it opens a warehouse.
-use Rattle.std.proofs.Common.{◌≡◌, ◌≢◌, inl, ℕ, Bool, true, false, cond, List, [], ◌∷◌, slice_get, filter, Option, Some, None, Result, Ok, Err, refl, sym, ap, subst, ◌∙◌}
+use Rattle.std.proofs.Common.{◌≡◌, ◌≢◌, ◌⊎◌, inl, inr, ℕ, Bool, true, false, cond, List, [], ◌∷◌, slice_get, filter, Option, Some, None, Result, Ok, Err, OnOk, refl, sym, ap, subst, ◌∙◌}
 use Rattle.std.specs.Prelude.{codes, pos, ℤ, bytes_eq, option_map, unwrap_or}
 use Rattle.std.specs.Option.{option_to_list}
 use Rattle.std.specs.FinMap.{get, values}
+use Rattle.sqlite.specs.Tree.{Trees}
 use Rattle.sqlite.specs.State.{State}
 use Rattle.wh_policy.specs.Policy.{policy_at}
 use Rattle.wh_policy.specs.declared.policy.Policy.{Policy}
 use Rattle.wh_history.specs.Accepted.{Accepted, policy_after}
 use Rattle.wh_history.specs.Tables.{Limits}
 use Rattle.wh_history.proofs.Basics.{some_is}
-use Rattle.wh_rows.specs.AtRest.{IsAtRest, Leaves}
+use Rattle.wh_rows.specs.AtRest.{AreTrees, IsAtRest, Leaves}
 use Rattle.wh_rows.specs.Limits.{limits_of, are_limits}
 use Rattle.wh_rows.specs.Tables.{Tables}
 use Rattle.wh_rows.specs.declared.cause.Cause.{Cause}
@@ -25,13 +26,14 @@ use Rattle.wh_engine.specs.Answered.{Rests, AreTreesOf, LeavesOneOf, IsReady}
 use Rattle.wh_engine.specs.Defined.{AreOf, meta_at, command_at}
 use Rattle.wh_engine.specs.Kept.{command_with}
 use Rattle.wh_engine.specs.Made.{making_of}
-use Rattle.wh_engine.specs.Opened.{makings_in, making_in, of_tables, of_format, of_limits, of_policy, of_making, session_in, opened, IsTold, IsRead, IsNotOpened}
+use Rattle.wh_engine.specs.Opened.{makings_in, making_in, of_tables, of_format, of_limits, of_policy, of_making, session_in, opened, IsTold, IsRead, IsNotOpened, LeavesMaking, LeavesMade}
 use Rattle.wh_engine.specs.Sound.{IsAccepted}
 use Rattle.wh_engine.specs.declared.opening.OpeningFault.{OpeningFault}
 use Rattle.wh_engine.specs.declared.opening.OpeningFault.TheVariants as faults
 use Rattle.wh_engine.specs.declared.session.Session.{Session}
 use Rattle.wh_engine.proofs.Decisions.{policy_in_force}
 use Rattle.wh_engine.proofs.FoundCommands.{command_of}
+use Rattle.wh_engine.proofs.StaysBegun.{accepted_lists_begin}
 
 -- ---- readings in turn
 
@@ -142,3 +144,28 @@ module _ (limits : Limits) (commands : List Accepted) (t : Tables) (accepted : I
   opened_refused faults.OldFormat s read = absurd (never (sym opened_there ∙ read.0))
   opened_refused faults.NewFormat s read = absurd (never (sym opened_there ∙ read.0))
   opened_refused (faults.Damaged table) s read = absurd (never (sym opened_there ∙ read.0))
+
+-- ---- a making that was kept, or wasn't
+
+pub rests_if_kept : (limits : Limits) (commands : List Accepted) (s : State) (t : Tables) → AreOf limits commands t → (result : Result (Unit {0}) Cause) → OnOk result (IsAtRest (Some t) s) → OnOk result (Rests limits commands s)
+rests_if_kept limits commands s t are (Ok done) rests = record { tables = t; are = are; rests = rests }
+rests_if_kept limits commands s t are (Err cause) rests = tt
+
+pub leaves_making : (limits : Limits) (policy : Policy) (bytes : List ℕ) (s : State) (t : Tables) → AreOf limits (making_of policy bytes ∷ []) t → ((trees : Trees) → s.may_leave trees → AreTrees None trees ⊎ AreTrees (Some t) trees) → LeavesMaking limits policy bytes s
+leaves_making limits policy bytes s t are left = record { each = λ trees may. elim (left trees may) [
+    | inl before ↦ inl before
+    | inr made ↦ inr (record { tables = t; are = are; trees_are = made })
+  ] }
+
+pub leaves_made : (limits : Limits) (policy : Policy) (bytes : List ℕ) (s : State) → policy_at bytes ≡ Ok policy → LeavesMaking limits policy bytes s → LeavesMade limits bytes s
+leaves_made limits policy bytes s written left = record { each = λ trees may. elim (left.each trees may) [
+    | inl before ↦ inl before
+    | inr made ↦ inr (policy, written, made)
+  ] }
+
+pub leaves_nothing : (limits : Limits) (bytes : List ℕ) (s : State) → IsAtRest None s → LeavesMade limits bytes s
+leaves_nothing limits bytes s rests = record { each = λ trees may. inl (rests.left.each trees may) }
+
+pub made_ready : (limits : Limits) (policy : Policy) (bytes : List ℕ) (s : State) → are_limits limits ≡ true → policy_at bytes ≡ Ok policy → Rests limits (making_of policy bytes ∷ []) s
+    → IsReady limits (making_of policy bytes ∷ []) (record { limits = limits; policy = policy; must_reopen = false }) s
+made_ready limits policy bytes s limited written rests = record { accepted = accepted_lists_begin limits policy bytes limited written; rests = rests; session_is = refl }
