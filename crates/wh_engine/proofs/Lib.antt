@@ -49,6 +49,7 @@ pub mod PlanningRendered
 pub mod Decisions
 pub mod Performing
 pub mod OpenedTables
+pub mod FoundCounts
 pub mod PlanPremises
 pub mod PlanNaturals
 pub mod PlanTouched

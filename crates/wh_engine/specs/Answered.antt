@@ -1,16 +1,18 @@
 -- What a warehouse holds behind a call, by its answer.
-use Rattle.std.specs.Prelude.{◌≡◌, ◌⊎◌, false, List, Some, Result, Ok, Err, IsTrue}
+use Rattle.std.specs.Prelude.{◌≡◌, ◌⊎◌, false, List, length, Some, Result, Ok, Err, IsTrue}
 use Rattle.sqlite.specs.Tree.{Trees}
 use Rattle.sqlite.specs.State.{State}
-use Rattle.wh_history.specs.Accepted.{Accepted}
+use Rattle.wh_policy.specs.declared.attribute.Dim.TheVariants.{Product, Store as Stores, Customer}
+use Rattle.wh_history.specs.Accepted.{Accepted, sold, members}
 use Rattle.wh_history.specs.Tables.{Limits}
 use Rattle.wh_rows.specs.AtRest.{AreTrees, IsAtRest}
 use Rattle.wh_rows.specs.Tables.{Tables}
 use Rattle.wh_engine.specs.Admission.{in_force, answer, accepted_after}
 use Rattle.wh_engine.specs.Defined.{AreOf}
-use Rattle.wh_engine.specs.Sound.{IsAccepted}
+use Rattle.wh_engine.specs.Sound.{changes_kept, IsAccepted}
 use Rattle.wh_engine.specs.declared.command.Command.{Command}
 use Rattle.wh_engine.specs.declared.command.Reply.{Reply}
+use Rattle.wh_engine.specs.declared.counts.Counts.{Counts}
 use Rattle.wh_engine.specs.declared.session.Session.{Session}
 use Rattle.wh_engine.specs.declared.fault.Fault.{Fault}
 use Rattle.wh_engine.specs.declared.fault.Fault.TheVariants.{Refused, Memory, Store}
@@ -58,3 +60,22 @@ IsPerformed limits commands c (Err (Refused why)) session s = (answer limits com
 IsPerformed limits commands c (Err Memory) session s = IsReady limits commands session s
 IsPerformed limits commands c (Err (Store cause)) session s = LeavesOneOf limits commands (accepted_after limits commands c) s
 IsPerformed limits commands c (Err fault) session s = ⊥
+
+-- how much the tables of these commands hold
+abbrev pub counts_of : List Accepted → Counts
+counts_of commands = record {
+  format = 1;
+  commands = length commands;
+  changes = changes_kept commands;
+  facts = length (sold commands);
+  products = length (members Product commands);
+  stores = length (members Stores commands);
+  customers = length (members Customer commands);
+}
+
+-- What a count says: it is that of the commands, and nothing changed; or memory ran out and nothing changed; or the store refused a call.
+abbrev pub IsCounted : Limits → List Accepted → Result Counts Fault → Session → State → Type 0
+IsCounted limits commands (Ok counts) session s = (counts ≡ counts_of commands) × IsReady limits commands session s
+IsCounted limits commands (Err Memory) session s = IsReady limits commands session s
+IsCounted limits commands (Err (Store cause)) session s = IsStopped limits commands commands session s
+IsCounted limits commands (Err fault) session s = ⊥

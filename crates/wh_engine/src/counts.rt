@@ -1,10 +1,23 @@
 //! How much a warehouse holds.
 
+ghost use Rattle.std.specs.Prelude.{◌≡◌, List, length, Some, Ok, Err, IsTrue};
+ghost use Rattle.sqlite.specs.Held.{state};
+ghost use Rattle.sqlite.specs.State.{HasCleanDisk};
+ghost use Rattle.wh_history.specs.Accepted.{Accepted, members};
+ghost use Rattle.wh_history.specs.Tables.{Limits};
+ghost use Rattle.wh_rows.specs.AtRest.{IsAtRest, Leaves};
+ghost use Rattle.wh_rows.specs.Tables.{Tables as Rows};
+ghost use Rattle.wh_engine.specs.Answered.{IsReady, IsCounted, counts_of};
+ghost use Rattle.wh_engine.specs.Defined.{AreOf};
+ghost use Rattle.wh_engine.specs.Faults.{IsServed, IsWorkedOut, Judges};
+ghost use Rattle.wh_engine.specs.Sound.{IsAccepted};
+
 use crate::engine::Engine;
 use crate::fault::{Fault, stops};
 use crate::kept::members_given;
 use sqlite::Alter;
 use std::alloc::Global;
+use wh_day::ReadError;
 use wh_policy::Dim;
 use wh_rows::tables;
 use wh_store::Tables;
@@ -23,28 +36,57 @@ pub struct Counts {
     pub customers: u64,
 }
 
+/// How many members a dimension has.
+fn members_of<S: Alter>(tables: &mut Tables<S>, alloc: Global, dim: Dim) -> Result<u64, Fault>
+    ensures clean { HasCleanDisk (state S.Store tables.new.conn) → HasCleanDisk (state S.Store tables.old.conn) }
+    ensures members { HasCleanDisk (state S.Store tables.new.conn) → (limits : Limits) (commands : List Accepted) (t : Rows) → AreOf limits commands t → IsAtRest (Some t) (state S.Store tables.old.conn)
+        → Judges (λ count told. count ≡ told) result (Ok (length (members dim commands))) }
+    ensures work { IsWorkedOut result }
+    ensures same { HasCleanDisk (state S.Store tables.new.conn) → (t : Rows) → IsAtRest (Some t) (state S.Store tables.old.conn) → IsServed result → IsAtRest (Some t) (state S.Store tables.new.conn) }
+    ensures left { HasCleanDisk (state S.Store tables.new.conn) → (t : Rows) → IsAtRest (Some t) (state S.Store tables.old.conn) → Leaves (Some t) (state S.Store tables.new.conn) }
+{
+    match members_given(tables, alloc, dim) {
+        Ok(given) => Ok(given.members),
+        Err(ReadError::Memory) => Err(Fault::Memory),
+        Err(ReadError::Fault(refusal)) => Err(Fault::from(refusal)),
+    }
+}
+
 /// The rows that are there.
-fn counts_of<S: Alter>(tables: &mut Tables<S>, alloc: Global) -> Result<Counts, Fault> {
+fn counts_of<S: Alter>(tables: &mut Tables<S>, alloc: Global) -> Result<Counts, Fault>
+    ensures clean { HasCleanDisk (state S.Store tables.new.conn) → HasCleanDisk (state S.Store tables.old.conn) }
+    ensures counts { HasCleanDisk (state S.Store tables.new.conn) → (limits : Limits) (commands : List Accepted) (t : Rows) → AreOf limits commands t → IsAccepted limits commands → IsAtRest (Some t) (state S.Store tables.old.conn)
+        → Judges (λ counts told. counts ≡ told) result (Ok (counts_of commands)) }
+    ensures work { IsWorkedOut result }
+    ensures same { HasCleanDisk (state S.Store tables.new.conn) → (t : Rows) → IsAtRest (Some t) (state S.Store tables.old.conn) → IsServed result → IsAtRest (Some t) (state S.Store tables.new.conn) }
+    ensures left { HasCleanDisk (state S.Store tables.new.conn) → (t : Rows) → IsAtRest (Some t) (state S.Store tables.old.conn) → Leaves (Some t) (state S.Store tables.new.conn) }
+{
     let commands = tables.count::<tables::Command>(alloc)?;
     let changes = tables.count::<tables::Change>(alloc)?;
     let facts = tables.count::<tables::Fact>(alloc)?;
-    let products = members_given(tables, alloc, Dim::Product)?;
-    let stores = members_given(tables, alloc, Dim::Store)?;
-    let customers = members_given(tables, alloc, Dim::Customer)?;
+    let products = members_of(tables, alloc, Dim::Product)?;
+    let stores = members_of(tables, alloc, Dim::Store)?;
+    let customers = members_of(tables, alloc, Dim::Customer)?;
     Ok(Counts {
         format: 1,
         commands,
         changes,
         facts,
-        products: products.members,
-        stores: stores.members,
-        customers: customers.members,
+        products,
+        stores,
+        customers,
     })
 }
 
 impl<S: Alter> Engine<S> {
     /// How much the warehouse holds. After a refusal of the store it answers `Reopen`.
-    pub fn counts(&mut self, alloc: Global) -> Result<Counts, Fault> {
+    pub fn counts(&mut self, alloc: Global) -> Result<Counts, Fault>
+        ensures clean { HasCleanDisk (state S.Store self.new.tables.conn) → HasCleanDisk (state S.Store self.old.tables.conn) }
+        ensures counted { HasCleanDisk (state S.Store self.new.tables.conn) → (limits : Limits) (commands : List Accepted) → IsReady limits commands self.old.session (state S.Store self.old.tables.conn)
+            → IsCounted limits commands result self.new.session (state S.Store self.new.tables.conn) }
+        ensures reopen { IsTrue self.old.session.must_reopen → (result ≡ Err Fault.Reopen) × (self.new ≡ self.old) }
+        ensures only { result ≡ Err Fault.Reopen → IsTrue self.old.session.must_reopen }
+    {
         if self.session.must_reopen {
             return Err(Fault::Reopen);
         }

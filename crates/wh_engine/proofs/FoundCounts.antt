@@ -1,0 +1,59 @@
+-- How much the tables of accepted commands hold.
+use Rattle.std.proofs.Common.{◌≡◌, inl, ℕ, true, false, List, [], ◌∷◌, length, Option, Some, None, Result, Ok, Err, refl, sym, ap, ◌∙◌}
+use Rattle.std.specs.FinMap.{get, len, values}
+use Rattle.sqlite.specs.State.{State}
+use Rattle.wh_policy.specs.declared.attribute.Dim.TheVariants.{Product, Store, Customer}
+use Rattle.wh_policy.specs.declared.record.SaleRecord.{SaleRecord}
+use Rattle.wh_history.specs.Accepted.{Accepted, sold, members}
+use Rattle.wh_history.specs.Tables.{Limits}
+use Rattle.wh_history.specs.declared.facts.Fact.{Fact}
+use Rattle.wh_rows.specs.AtRest.{IsAtRest, Leaves}
+use Rattle.wh_rows.specs.Rows as row
+use Rattle.wh_rows.specs.Tables.{Tables}
+use Rattle.wh_rows.specs.declared.key.LineKey.{LineKey}
+use Rattle.wh_rows.proofs.Orders.{line_cmp_total, line_cmp-IsAntisymmetric}
+use Rattle.wh_engine.specs.Answered.{IsReady, IsStopped, IsCounted, counts_of}
+use Rattle.wh_engine.specs.Defined.{AreOf, fact_at}
+use Rattle.wh_engine.specs.Faults.{IsServed, Judges, stops}
+use Rattle.wh_engine.specs.Sound.{changes_kept, IsAccepted}
+use Rattle.wh_engine.specs.declared.counts.Counts.{Counts}
+use Rattle.wh_engine.specs.declared.fault.Fault.{Fault}
+use Rattle.wh_engine.specs.declared.fault.Fault.TheVariants as faults
+use Rattle.wh_engine.specs.declared.session.Session.{Session}
+use Rattle.wh_engine.proofs.FoundCommands.{commands_counted}
+use Rattle.wh_engine.proofs.Listed.{filter_all, none_passes, len-values}
+use Rattle.wh_engine.proofs.ListedChanges.{changes_counted}
+
+-- without sales there is no fact
+no_fact : (commands : List Accepted) (key : LineKey) → sold commands ≡ [] → fact_at commands key ≡ None
+no_fact commands key unsold = rw unsold refl
+
+facts_counted : (limits : Limits) (commands : List Accepted) (t : Tables) → AreOf limits commands t → sold commands ≡ [] → len t.fact ≡ length (sold commands)
+facts_counted limits commands t are unsold =
+    let none : values t.fact ≡ [] = sym (filter_all (values t.fact)) ∙ none_passes row.line_cmp line_cmp_total line_cmp-IsAntisymmetric row.fact.key (λ _. true) t.fact (λ k w here kept. let gone = are.fact k ∙ no_fact commands k unsold in cc) in
+    len-values row.line_cmp t.fact ∙ ap length none ∙ sym (ap length unsold)
+
+pub counts_are : (limits : Limits) (commands : List Accepted) (t : Tables) → AreOf limits commands t → IsAccepted limits commands → (held changes facts products stores customers : ℕ)
+    → held ≡ len t.command → changes ≡ len t.change → facts ≡ len t.fact → products ≡ length (members Product commands) → stores ≡ length (members Store commands) → customers ≡ length (members Customer commands)
+    → record { format = 1; commands = held; changes = changes; facts = facts; products = products; stores = stores; customers = customers } ≡ counts_of commands
+counts_are limits commands t are accepted held changes facts products stores customers held-is changes-are facts-are products-are stores-are customers-are =
+    rw (held-is ∙ commands_counted limits commands t are, changes-are ∙ changes_counted limits commands t are, facts-are ∙ facts_counted limits commands t are accepted.unsold, products-are, stores-are, customers-are) refl
+
+-- ---- a count that was answered, or refused
+
+module _ (limits : Limits) (commands : List Accepted) (session : Session) (old new : State) (ready : IsReady limits commands session old) where
+  abbrev tables : Tables
+  tables = ready.rests.tables
+
+  ready_on : IsAtRest (Some tables) new → IsReady limits commands (record { limits = session.limits; policy = session.policy; must_reopen = false }) new
+  ready_on rests = record { accepted = ready.accepted; rests = record { tables = tables; are = ready.rests.are; rests = rests }; session_is = ap (λ (q : Session). record { limits = q.limits; policy = q.policy; must_reopen = false }) ready.session_is }
+
+  pub counted : (result : Result Counts Fault) → Judges (λ counts told. counts ≡ told) result (Ok (counts_of commands)) → (IsServed result → IsAtRest (Some tables) new) → Leaves (Some tables) new
+      → IsCounted limits commands result (record { limits = session.limits; policy = session.policy; must_reopen = stops result }) new
+  counted (Ok counts) judged rests left = (judged, ready_on (rests tt))
+  counted (Err faults.Memory) judged rests left = ready_on (rests tt)
+  counted (Err (faults.Store cause)) judged rests left = record { flagged = refl; left = record { each = λ trees may. inl (record { tables = tables; are = ready.rests.are; trees_are = left.each trees may }) } }
+  counted (Err (faults.Refused why)) judged rests left = absurd cc
+  counted (Err (faults.Damaged table)) judged rests left = judged
+  counted (Err faults.Reopen) judged rests left = judged
+  counted (Err faults.Sales) judged rests left = judged
