@@ -1,6 +1,6 @@
 //! How much a warehouse holds at most.
 
-ghost use Rattle.std.specs.Prelude.{◌≡◌};
+ghost use Rattle.std.specs.Prelude.{◌≡◌, IsTrue};
 ghost use Rattle.wh_rows.specs.Limits.{is_limit, limits_of, greatest_limits};
 
 use std::marker::Model;
@@ -48,21 +48,24 @@ impl Limits {
 
     /// The most commands.
     pub fn commands(self) -> u64
-        ensures { result ≡ self.commands }
+        ensures same { result ≡ self.commands }
+        ensures within { IsTrue (is_limit 100000 result) }
     {
         self.commands
     }
 
     /// The most changes of members.
     pub fn changes(self) -> u64
-        ensures { result ≡ self.changes }
+        ensures same { result ≡ self.changes }
+        ensures within { IsTrue (is_limit 1000000 result) }
     {
         self.changes
     }
 
     /// The most facts.
     pub fn facts(self) -> u64
-        ensures { result ≡ self.facts }
+        ensures same { result ≡ self.facts }
+        ensures within { IsTrue (is_limit 1000000 result) }
     {
         self.facts
     }

@@ -18,6 +18,7 @@ use Rattle.wh_rows.specs.Making.{Extends, Leads}
 use Rattle.wh_rows.specs.AtRest.{Has as Holding, Leaves, IsWriting}
 use Rattle.wh_rows.proofs.Making.{extended, stores_none}
 use Rattle.wh_sql.specs.Present.{IsMaking}
+use Rattle.wh_sql.specs.Refusal.{bare}
 
 -- the text is a write
 writes : (from : Schema) (text : List ℕ) (to : Schema) → Extends from text to → IsWrite (command_of (understood from text))
@@ -73,7 +74,7 @@ next_extends text_of texts at none from to within leads =
     subst (λ left. Leads from (map text_of left) to) (drop-cons texts at none within ∙ ap (λ n. get_or texts at none ∷ drop n texts) (sym (add-one at))) leads
 
 -- the text that is next is one of them
-pub is_among : {A : Type 0} (text_of : A → List ℕ) (texts : List A) (at : ℕ) (none : A) → at < length texts → Has (map text_of texts) (text_of (get_or texts at none))
+pub is_among : {A : Type 0} (text_of : A → List ℕ) (texts : List A) (at : ℕ) (none : A) → at < length texts → Has (bare (map text_of texts)) (text_of (get_or texts at none), [])
 is_among text_of [] at none within = absurd (omega arith)
 is_among text_of (text ∷ texts) zero none within = inl refl
 is_among text_of (text ∷ texts) (suc at) none within = inr (is_among text_of texts at none (omega arith))

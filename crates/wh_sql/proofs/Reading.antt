@@ -1,5 +1,5 @@
 -- What a reading of one table gives, and what it leaves.
-use Rattle.std.proofs.Common.{◌≡◌, ◌↔◌, ◌<◌, ℕ, List, [], ◌∷◌, ◌++◌, map, filter, length, Bool, slice_get, Option, None, Some, unwrap_or, option_map, Result, Ok, Err, IsSome, IfOk, IfErr, IsTrue, true, false, inl, inr, refl, sym, ap, subst, ◌∙◌, arith, length-append}
+use Rattle.std.proofs.Common.{◌≡◌, ◌↔◌, ◌<◌, ◌≤◌, ℕ, List, [], ◌∷◌, ◌++◌, map, filter, length, Bool, slice_get, Option, None, Some, unwrap_or, option_map, Result, Ok, Err, IsSome, IfOk, IfErr, IsTrue, true, false, inl, inr, refl, sym, ap, subst, ◌∙◌, arith, length-append}
 use Rattle.std.specs.List.{list_all}
 use Rattle.std.specs.Option.{option_to_list}
 use Rattle.std.specs.FinMap.{FinMap, values, get}
@@ -23,7 +23,7 @@ use Rattle.wh_rows.proofs.Edits.{filter_all}
 use Rattle.wh_rows.proofs.Maps.{filter-get}
 use Rattle.wh_rows.proofs.Queries.{query_keeps, query_commits_nothing}
 use Rattle.wh_rows.proofs.OnTables.{answer_is, first_is, greatest_is, valid_answer, valid_first, valid_among, read_is}
-use Rattle.wh_sql.specs.Refusal.{IsWhole, IsUndamaged, Shows, FailsToShow}
+use Rattle.wh_sql.specs.Refusal.{IsWhole, IsUndamaged, Shows, FailsToShow, FailsToCount}
 use Rattle.wh_sql.specs.declared.refusal.Refusal.{Refusal}
 use Rattle.wh_sql.specs.declared.refusal.Refusal.TheVariants.{Damaged, Store}
 
@@ -134,11 +134,17 @@ module _ {K V : Type 0} {layout : Layout K V} {text : List ℕ} {params : Row} {
     rests_whole (Err (Damaged which)) table shows fails whole = still_rests text params asked.plain t old new at survives clean fails.1 fails.2
     rests_whole (Err (Store cause)) table shows fails whole = absurd whole
 
--- a number that is too great is no damage
-pub too_great : {A : Type 0} (P : A → Type 0) (result : Result A Refusal) → MatchResult result P (λ refusal. refusal ≡ Store Size) → IsUndamaged result
-too_great P (Ok x) told = tt
-too_great P (Err (Damaged table)) told = cc
-too_great P (Err (Store cause)) told = tt
+-- rows that are too many are no damage
+pub too_many : {A : Type 0} (P : A → Type 0) (rows : ℕ) (result : Result A Refusal) → MatchResult result P (λ refusal. (refusal ≡ Store Size) × (9223372036854775807 ≤ rows)) → IsUndamaged result
+too_many P rows (Ok x) told = tt
+too_many P rows (Err (Damaged table)) told = let never = told.0 in cc
+too_many P rows (Err (Store cause)) told = tt
+
+-- and are why they aren't counted
+pub uncounted : {A : Type 0} (P : A → Type 0) (rows : ℕ) (text : List ℕ) (old new : State) (result : Result A Refusal) → MatchResult result P (λ refusal. (refusal ≡ Store Size) × (9223372036854775807 ≤ rows)) → IfErr result (FailsToCount rows text old new)
+uncounted P rows text old new (Ok x) told = tt
+uncounted P rows text old new (Err (Damaged table)) told = let never = told.0 in cc
+uncounted P rows text old new (Err (Store cause)) told = λ other. inl (let same = told.0 in cc, told.1)
 
 -- the last of no row or one row is that row
 pub last_is : {V : Type 0} (found last : Option V) (items before : List V) (n : ℕ) → n ≡ length items → items ≡ option_to_list found → items ≡ before ++ option_to_list last → (IsSome last ↔ (0 < n)) → last ≡ found

@@ -7,13 +7,9 @@ use Rattle.sqlite.specs.Schema.{Schema}
 use Rattle.sqlite.specs.Change.{is_used}
 use Rattle.sqlite.specs.Effect.{IsDatabase}
 use Rattle.sqlite.specs.State.{State}
-use Rattle.sqlite.specs.Held.{Held, state}
-use Rattle.sqlite_trees.specs.declared.store.Store.{Ghosts}
-use Rattle.sqlite_rules.specs.Lists.{Has as HasOne}
-use Rattle.wh_rows.specs.declared.cause.Cause.{Cause}
 use Rattle.wh_rows.specs.Schema.{warehouse}
 use Rattle.wh_rows.specs.Making.{AreEmpty}
-use Rattle.wh_rows.specs.AtRest.{Has, Leaves, IsCauseOf}
+use Rattle.wh_rows.specs.AtRest.{Has, Leaves}
 
 -- It is inside a transaction that began in a database with no object and has made this schema over empty tables; a crash leaves no object.
 pub record IsMaking (made : Schema) (s : State) : Type 0 where
@@ -24,13 +20,6 @@ pub record IsMaking (made : Schema) (s : State) : Type 0 where
   pub empty : AreEmpty made.tables s.now.trees
   pub committed : Has None s.committed
   pub left : Leaves None s
-
--- the store refused one of these texts, with an error of this cause
-pub record IsOneRefused {S : Type 0} (store : Ghosts S) (texts : List (List ℕ)) (new : Held S) (cause : Cause) : Type 0 where
-  pub text : List ℕ
-  pub among : HasOne texts text
-  pub before : Held S
-  pub refused : IsCauseOf text [] (state store before) (state store new) cause
 
 -- a table, an index or a view has the name of one of the ten tables
 unfoldable pub is_any_taken : Schema → Bool

@@ -1,15 +1,19 @@
 //! Questions after the greatest key, and after the greatest anchor.
 
-ghost use Rattle.std.specs.Prelude.{◌≡◌, map, filter, slice_get, Some, unwrap_or, option_map, IfOk};
+ghost use Rattle.std.specs.Prelude.{◌≡◌, [], ◌∷◌, pos, map, filter, slice_get, Some, unwrap_or, option_map, IfOk, IfErr};
 ghost use Rattle.std.specs.Ordering.{eq_by_cmp, nat_cmp};
 ghost use Rattle.std.specs.FinMap.{values};
+ghost use Rattle.sqlite_value.specs.declared.value.Value.TheVariants.{Int as Number};
 ghost use Rattle.sqlite.specs.Held.{state};
 ghost use Rattle.sqlite.specs.State.{HasCleanDisk};
+ghost use Rattle.wh_rows.specs.declared.table.Table.TheVariants.{Change as OfChange};
 ghost use Rattle.wh_rows.specs.Types.{dim_number};
+ghost use Rattle.wh_rows.specs.Rows.{change};
+ghost use Rattle.wh_rows.proofs.Changes.{greatest_anchor_text};
 ghost use Rattle.wh_rows.specs.Firsts.{greatest as greatest_of};
 ghost use Rattle.wh_rows.specs.Tables.{Tables, Stores};
 ghost use Rattle.wh_rows.specs.AtRest.{IsAtRest, Leaves};
-ghost use Rattle.wh_sql.specs.Refusal.{IsWhole, IsUndamaged};
+ghost use Rattle.wh_sql.specs.Refusal.{IsWhole, IsUndamaged, FailsToShow};
 
 use crate::keys::dim_key;
 use crate::question::Question;
@@ -195,6 +199,7 @@ pub fn greatest_anchor<S: Alter>(
     ensures sound { HasCleanDisk (state S.Store conn.new) → (t : Tables) → Stores (state S.Store conn.old).now t → IsUndamaged result }
     ensures same { HasCleanDisk (state S.Store conn.new) → (t : Tables) → IsAtRest (Some t) (state S.Store conn.old) → IsWhole result → IsAtRest (Some t) (state S.Store conn.new) }
     ensures left { HasCleanDisk (state S.Store conn.new) → (t : Tables) → IsAtRest (Some t) (state S.Store conn.old) → Leaves (Some t) (state S.Store conn.new) }
+    ensures refused { HasCleanDisk (state S.Store conn.new) → IfErr result (FailsToShow change OfChange greatest_anchor_text (Number (pos (dim_number dim)) ∷ []) (state S.Store conn.old) (state S.Store conn.new)) }
 {
     let text = "SELECT * FROM change WHERE dim = ?1 ORDER BY anchor DESC LIMIT 1";
     let rows = rows_shown::<tables::Change, S>(alloc, conn, text, &[bound::dim(dim)])?;

@@ -1,6 +1,6 @@
 //! Making the tables, and whether they are there.
 
-ghost use Rattle.std.specs.Prelude.{◌≡◌, [], false, map, Some, None, Err, IsTrue, IfErr, OnOk};
+ghost use Rattle.std.specs.Prelude.{◌≡◌, ◌≤◌, [], false, map, Some, None, Err, IsTrue, IfErr, OnOk};
 ghost use Rattle.std.specs.List.{list_all, list_any};
 ghost use Rattle.sqlite.specs.Held.{state};
 ghost use Rattle.sqlite.specs.Schema.{Schema};
@@ -10,7 +10,8 @@ ghost use Rattle.wh_rows.specs.declared.cause.Cause.TheVariants.{Disk};
 ghost use Rattle.wh_rows.specs.Making.{Extends, Leads, making_texts};
 ghost use Rattle.wh_rows.specs.Tables.{no_tables};
 ghost use Rattle.wh_rows.specs.AtRest.{IsWriting, Leaves, IsCauseOf};
-ghost use Rattle.wh_sql.specs.Present.{IsMaking, IsOneRefused, is_any_taken, has_columns, has_table, are_all_there};
+ghost use Rattle.wh_sql.specs.Refusal.{IsOneRefused, bare};
+ghost use Rattle.wh_sql.specs.Present.{IsMaking, is_any_taken, has_columns, has_table, are_all_there};
 
 use sqlite::{Alter, Connection};
 use sqlite_schema::schema::{Schema, Table};
@@ -143,6 +144,7 @@ const TABLES: [Names; 10] = [
 /// Runs a text that makes one table or index, inside a transaction.
 fn create_one<S: Alter>(conn: &mut Connection<S>, text: &str) -> Result<(), Cause>
     ensures clean { HasCleanDisk (state S.Store conn.new) → HasCleanDisk (state S.Store conn.old) }
+    ensures counts { (state S.Store conn.old).faults ≤ (state S.Store conn.new).faults }
     ensures made { HasCleanDisk (state S.Store conn.new) → (from to : Schema) → Extends from text.now to → IsMaking from (state S.Store conn.old) → OnOk result (IsMaking to (state S.Store conn.new)) }
     ensures left { HasCleanDisk (state S.Store conn.new) → (from to : Schema) → Extends from text.now to → IsMaking from (state S.Store conn.old) → Leaves None (state S.Store conn.new) }
     ensures cause { HasCleanDisk (state S.Store conn.new) → IfErr result (IsCauseOf text.now [] (state S.Store conn.old) (state S.Store conn.new)) }
@@ -154,9 +156,10 @@ fn create_one<S: Alter>(conn: &mut Connection<S>, text: &str) -> Result<(), Caus
 /// Runs texts that make tables and indexes, in their order, inside a transaction.
 fn create_all<S: Alter>(conn: &mut Connection<S>, texts: &[&str]) -> Result<(), Cause>
     ensures clean { HasCleanDisk (state S.Store conn.new) → HasCleanDisk (state S.Store conn.old) }
+    ensures counts { (state S.Store conn.old).faults ≤ (state S.Store conn.new).faults }
     ensures made { HasCleanDisk (state S.Store conn.new) → (from to : Schema) → Leads from (map (λ text. text.now) texts.now) to → IsMaking from (state S.Store conn.old) → OnOk result (IsMaking to (state S.Store conn.new)) }
     ensures left { HasCleanDisk (state S.Store conn.new) → (from to : Schema) → Leads from (map (λ text. text.now) texts.now) to → IsMaking from (state S.Store conn.old) → Leaves None (state S.Store conn.new) }
-    ensures cause { HasCleanDisk (state S.Store conn.new) → IfErr result (IsOneRefused S.Store (map (λ text. text.now) texts.now) conn.new) }
+    ensures cause { HasCleanDisk (state S.Store conn.new) → IfErr result (IsOneRefused S.Store IsCauseOf (bare (map (λ text. text.now) texts.now)) conn.old conn.new) }
 {
     for text in texts {
         create_one(conn, text)?;
@@ -167,9 +170,10 @@ fn create_all<S: Alter>(conn: &mut Connection<S>, texts: &[&str]) -> Result<(), 
 /// Makes the ten tables and their indexes, inside a transaction on a database with no object. Outside a transaction it is refused.
 pub fn create<S: Alter>(conn: &mut Connection<S>) -> Result<(), Cause>
     ensures clean { HasCleanDisk (state S.Store conn.new) → HasCleanDisk (state S.Store conn.old) }
+    ensures counts { (state S.Store conn.old).faults ≤ (state S.Store conn.new).faults }
     ensures made { HasCleanDisk (state S.Store conn.new) → IsWriting None None (state S.Store conn.old) → OnOk result (IsWriting None (Some no_tables) (state S.Store conn.new)) }
     ensures left { HasCleanDisk (state S.Store conn.new) → IsWriting None None (state S.Store conn.old) → Leaves None (state S.Store conn.new) }
-    ensures cause { HasCleanDisk (state S.Store conn.new) → IsTrue conn.old.in_transaction → IfErr result (IsOneRefused S.Store making_texts conn.new) }
+    ensures cause { HasCleanDisk (state S.Store conn.new) → IsTrue conn.old.in_transaction → IfErr result (IsOneRefused S.Store IsCauseOf (bare making_texts) conn.old conn.new) }
     ensures late { conn.old.in_transaction ≡ false → (result ≡ Err Disk) × (conn.new ≡ conn.old) }
 {
     if conn.is_autocommit() {

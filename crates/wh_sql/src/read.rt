@@ -1,6 +1,6 @@
 //! Reading rows of the tables, in the order of their keys.
 
-ghost use Rattle.std.specs.Prelude.{◌≡◌, ◌≢◌, ℕ, Err, [], ◌∷◌, Some, MatchResult, IfOk, IfErr};
+ghost use Rattle.std.specs.Prelude.{◌≡◌, ◌≢◌, ◌≤◌, ℕ, Err, [], ◌∷◌, Some, MatchResult, IsTrue, IfOk, IfErr};
 ghost use Rattle.std.specs.FinMap.{values, get, len};
 ghost use Rattle.sqlite_sql.specs.Aggregate.{count as number_of};
 ghost use Rattle.sqlite.specs.Held.{state};
@@ -8,7 +8,7 @@ ghost use Rattle.sqlite.specs.Values.{bound};
 ghost use Rattle.sqlite.specs.State.{HasCleanDisk, Survives, CommitsShowing};
 ghost use Rattle.wh_rows.specs.Tables.{Tables, Stores};
 ghost use Rattle.wh_rows.specs.AtRest.{IsAtRest, Leaves};
-ghost use Rattle.wh_sql.specs.Refusal.{IsWhole, IsUndamaged, Shows, FailsToShow};
+ghost use Rattle.wh_sql.specs.Refusal.{IsWhole, IsUndamaged, Shows, FailsToShow, FailsToCount};
 ghost use Rattle.wh_sql.specs.declared.refusal.Refusal.TheVariants.{Damaged, Store};
 ghost use Rattle.wh_rows.specs.declared.cause.Cause.TheVariants.{Size};
 
@@ -65,10 +65,12 @@ pub fn get<T: Keeps, S: Alter>(
     key: &T::Key,
 ) -> Result<Option<T::Row>, Refusal>
     ensures clean { HasCleanDisk (state S.Store conn.new) → HasCleanDisk (state S.Store conn.old) }
+    ensures counts { (state S.Store conn.old).faults ≤ (state S.Store conn.new).faults }
     ensures row { HasCleanDisk (state S.Store conn.new) → (t : Tables) → Stores (state S.Store conn.old).now t → IfOk result (λ row. row ≡ get (T.rows t) key.now) }
     ensures sound { HasCleanDisk (state S.Store conn.new) → (t : Tables) → Stores (state S.Store conn.old).now t → IsUndamaged result }
     ensures same { HasCleanDisk (state S.Store conn.new) → (t : Tables) → IsAtRest (Some t) (state S.Store conn.old) → IsWhole result → IsAtRest (Some t) (state S.Store conn.new) }
     ensures left { HasCleanDisk (state S.Store conn.new) → (t : Tables) → IsAtRest (Some t) (state S.Store conn.old) → Leaves (Some t) (state S.Store conn.new) }
+    ensures refused { HasCleanDisk (state S.Store conn.new) → (row : T.Row) → IsTrue (T.layout.is_valid row) → T.layout.key row ≡ key.now → IfErr result (FailsToShow T.layout T.name T.get_means (T.bind key.now) (state S.Store conn.old) (state S.Store conn.new)) }
 {
     let values = T::key(alloc, key)?;
     let mut rows = rows_shown::<T, S>(alloc, conn, T::get_text(), &values)?;
@@ -82,6 +84,7 @@ pub fn count<T: Keeps, S: Alter>(alloc: Global, conn: &mut Connection<S>) -> Res
     ensures sound { HasCleanDisk (state S.Store conn.new) → (t : Tables) → Stores (state S.Store conn.old).now t → IsUndamaged result }
     ensures same { HasCleanDisk (state S.Store conn.new) → (t : Tables) → IsAtRest (Some t) (state S.Store conn.old) → IsWhole result → IsAtRest (Some t) (state S.Store conn.new) }
     ensures left { HasCleanDisk (state S.Store conn.new) → (t : Tables) → IsAtRest (Some t) (state S.Store conn.old) → Leaves (Some t) (state S.Store conn.new) }
+    ensures refused { HasCleanDisk (state S.Store conn.new) → (t : Tables) → Stores (state S.Store conn.old).now t → IfErr result (FailsToCount (len (T.rows t)) T.count_means (state S.Store conn.old) (state S.Store conn.new)) }
 {
     let shown = match conn.query_all(T::count_text(), &[]) {
         Ok(shown) => shown,
@@ -92,7 +95,7 @@ pub fn count<T: Keeps, S: Alter>(alloc: Global, conn: &mut Connection<S>) -> Res
 
 /// The number that a query shows in its only row. `Size`: the store counts no further.
 fn count_shown(table: Table, shown: &[Row]) -> Result<u64, Refusal>
-    ensures { (rows : ℕ) → shown.now ≡ (number_of rows ∷ []) ∷ [] → MatchResult result (λ count. count ≡ rows) (λ refusal. refusal ≡ Store Size) }
+    ensures { (rows : ℕ) → shown.now ≡ (number_of rows ∷ []) ∷ [] → MatchResult result (λ count. count ≡ rows) (λ refusal. (refusal ≡ Store Size) × (9223372036854775807 ≤ rows)) }
 {
     let Some(row) = shown.first() else {
         return Err(Refusal::Damaged(table));

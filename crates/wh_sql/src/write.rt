@@ -1,6 +1,6 @@
 //! Writing one row of a table, inside a transaction.
 
-ghost use Rattle.std.specs.Prelude.{◌≡◌, ◌≢◌, false, Option, Some, Err, IsTrue, IfErr, OnOk};
+ghost use Rattle.std.specs.Prelude.{◌≡◌, ◌≢◌, ◌≤◌, false, Option, Some, Err, IsTrue, IfErr, OnOk};
 ghost use Rattle.std.specs.FinMap.{insert, remove};
 ghost use Rattle.sqlite.specs.Held.{state};
 ghost use Rattle.sqlite.specs.State.{HasCleanDisk};
@@ -21,6 +21,7 @@ pub fn put<T: Keeps, S: Alter>(
     row: &T::Row,
 ) -> Result<(), Cause>
     ensures clean { HasCleanDisk (state S.Store conn.new) → HasCleanDisk (state S.Store conn.old) }
+    ensures counts { (state S.Store conn.old).faults ≤ (state S.Store conn.new).faults }
     ensures put { HasCleanDisk (state S.Store conn.new) → (before : Option Tables) (made : Tables) → IsWriting before (Some made) (state S.Store conn.old)
         → MayBePut T.layout T.may_stand row.now (T.rows made) → OnOk result (IsWriting before (Some (T.with_rows (insert (T.rows made) (T.layout.key row.now) row.now) made)) (state S.Store conn.new)) }
     ensures left { HasCleanDisk (state S.Store conn.new) → (before : Option Tables) (made : Tables) → IsWriting before (Some made) (state S.Store conn.old) → Leaves before (state S.Store conn.new) }
@@ -43,6 +44,7 @@ pub fn remove<T: Keeps, S: Alter>(
     key: &T::Key,
 ) -> Result<(), Cause>
     ensures clean { HasCleanDisk (state S.Store conn.new) → HasCleanDisk (state S.Store conn.old) }
+    ensures counts { (state S.Store conn.old).faults ≤ (state S.Store conn.new).faults }
     ensures removed { HasCleanDisk (state S.Store conn.new) → (before : Option Tables) (made : Tables) → IsWriting before (Some made) (state S.Store conn.old)
         → OnOk result (IsWriting before (Some (T.with_rows (remove (T.rows made) key.now) made)) (state S.Store conn.new)) }
     ensures left { HasCleanDisk (state S.Store conn.new) → (before : Option Tables) (made : Tables) → IsWriting before (Some made) (state S.Store conn.old) → Leaves before (state S.Store conn.new) }

@@ -1,2 +1,3 @@
 mod Transactions
 pub mod Looping
+mod Refusals

@@ -1,6 +1,7 @@
 -- Edits of one table, one after the other.
-use Rattle.std.specs.Prelude.{List, [], ◌∷◌}
+use Rattle.std.specs.Prelude.{◌≡◌, ℕ, List, [], ◌∷◌, IsTrue}
 use Rattle.std.specs.FinMap.{FinMap, insert, remove}
+use Rattle.sqlite.specs.Order.{Row}
 use Rattle.wh_history.specs.declared.plan.Edit.{Edit}
 use Rattle.wh_history.specs.declared.plan.Edit.TheVariants.{Put, Remove}
 use Rattle.wh_rows.specs.Holds.{Layout}
@@ -29,3 +30,13 @@ after_all step (e ∷ es) m = after_all step es (step e m)
 abbrev pub MayAll : {E M : Type 0} → (E → M → M) → (E → M → Type 0) → List E → M → Type 0
 MayAll step may [] m = Unit {0}
 MayAll step may (e ∷ es) m = may e m × MayAll step may es (step e m)
+
+-- what is put, or stands at the key that is taken out, has values of their types
+abbrev pub IsOfTypes : {K V : Type 0} (layout : Layout K V) → Edit V K → Type 0
+IsOfTypes layout (Put row) = IsTrue (layout.is_valid row)
+IsOfTypes layout (Remove key) = (row : _) × IsTrue (layout.is_valid row) × (layout.key row ≡ key)
+
+-- the statement that makes an edit, with its parameters
+abbrev pub statement_of : {K V : Type 0} (layout : Layout K V) (put_text remove_text : List ℕ) (bind : K → Row) → Edit V K → List ℕ × Row
+statement_of layout put_text remove_text bind (Put row) = (put_text, layout.encode row)
+statement_of layout put_text remove_text bind (Remove key) = (remove_text, bind key)

@@ -1,3 +1,4 @@
 pub mod Meta
 pub mod Opening
 pub mod Edits
+pub mod Beginning

@@ -1,10 +1,16 @@
 -- The rows of meta: the format and the limits of a warehouse.
-use Rattle.std.specs.Prelude.{ℕ, ℤ, pos, codes, List, if◌then◌else◌, Option, Some, None, Result, Ok, Err, int_lt}
+use Rattle.std.specs.Prelude.{ℕ, ℤ, pos, codes, List, [], ◌∷◌, ◌++◌, map, if◌then◌else◌, Option, Some, None, Result, Ok, Err, int_lt}
 use Rattle.std.specs.FinMap.{insert, get}
+use Rattle.sqlite_value.specs.declared.value.Value.TheVariants.{Text}
+use Rattle.sqlite.specs.Order.{Row}
 use Rattle.wh_history.specs.Tables.{Limits}
 use Rattle.wh_rows.specs.Limits.{limits_of}
 use Rattle.wh_rows.specs.declared.rows.MetaRow.{MetaRow}
 use Rattle.wh_rows.specs.Tables.{Tables, no_tables}
+use Rattle.wh_rows.specs.Rows.{encode_meta}
+use Rattle.wh_rows.specs.Making.{making_texts}
+use Rattle.wh_rows.proofs.Metas.{put_text, get_text}
+use Rattle.wh_sql.specs.Refusal.{bare}
 use Rattle.wh_store.specs.declared.fault.OpenFault.{OpenFault}
 use Rattle.wh_store.specs.declared.fault.OpenFault.TheVariants.{NotAWarehouse, OldFormat, NewFormat}
 
@@ -39,3 +45,18 @@ limits_of_numbers _ _ _ = None
 -- the limits that the tables keep
 abbrev pub limits_in : Tables → Option Limits
 limits_in t = limits_of_numbers (number_in t (codes "commands_max")) (number_in t (codes "changes_max")) (number_in t (codes "facts_max"))
+
+-- ---- the statements that keep them
+
+-- the rows of meta of a new warehouse
+abbrev pub rows_made : Limits → List MetaRow
+rows_made limits =
+    record { name = codes "changes_max"; value = pos limits.changes } ∷ record { name = codes "commands_max"; value = pos limits.commands } ∷ record { name = codes "facts_max"; value = pos limits.facts } ∷ record { name = codes "format"; value = pos 1 } ∷ []
+
+-- the statements that make a warehouse with these limits, with their parameters
+unfoldable pub making : Limits → List (List ℕ × Row)
+making limits = bare making_texts ++ map (λ row. (put_text, encode_meta row)) (rows_made limits)
+
+-- the questions after the three limits, with their parameters
+abbrev pub limits_asked : List (List ℕ × Row)
+limits_asked = map (λ name. (get_text, Text name ∷ [])) (codes "commands_max" ∷ codes "changes_max" ∷ codes "facts_max" ∷ [])

@@ -1,12 +1,18 @@
 //! The rows of meta: the format and the limits.
 
-ghost use Rattle.std.specs.Prelude.{◌≡◌, pos, codes, Some, Err, IfOk, IfErr, OnOk};
+ghost use Rattle.std.specs.Prelude.{◌≡◌, ◌≢◌, ◌≤◌, [], ◌∷◌, pos, codes, false, Some, Err, IfOk, IfErr, OnOk};
+ghost use Rattle.sqlite_value.specs.declared.value.Value.TheVariants.{Text};
 ghost use Rattle.sqlite.specs.Held.{state};
 ghost use Rattle.sqlite.specs.State.{HasCleanDisk};
 ghost use Rattle.wh_rows.specs.declared.table.Table.{Table};
+ghost use Rattle.wh_rows.specs.declared.table.Table.TheVariants.{Meta as OfMeta};
+ghost use Rattle.wh_rows.specs.declared.cause.Cause.TheVariants.{Memory};
+ghost use Rattle.wh_rows.specs.Types.{is_number};
+ghost use Rattle.wh_rows.specs.Rows.{meta};
+ghost use Rattle.wh_rows.proofs.Metas.{get_text};
 ghost use Rattle.wh_rows.specs.AtRest.{IsAtRest, Leaves};
 ghost use Rattle.wh_rows.specs.Tables.{Tables};
-ghost use Rattle.wh_sql.specs.Refusal.{IsWhole, IsUndamaged};
+ghost use Rattle.wh_sql.specs.Refusal.{IsWhole, IsUndamaged, FailsToShow};
 ghost use Rattle.wh_sql.specs.declared.refusal.Refusal.TheVariants.{Damaged};
 ghost use Rattle.wh_store.specs.Meta.{number_in, limits_of_numbers};
 ghost use Rattle.wh_store.specs.Opening.{IsTaken, IsRefusedWith};
@@ -26,10 +32,12 @@ pub(crate) fn number<S: Alter>(
     name: &str,
 ) -> Result<Option<i64>, Refusal>
     ensures clean { HasCleanDisk (state S.Store conn.new) → HasCleanDisk (state S.Store conn.old) }
+    ensures counts { (state S.Store conn.old).faults ≤ (state S.Store conn.new).faults }
     ensures number { HasCleanDisk (state S.Store conn.new) → (t : Tables) → IsAtRest (Some t) (state S.Store conn.old) → IfOk result (λ number. number ≡ number_in t name.now) }
     ensures sound { HasCleanDisk (state S.Store conn.new) → (t : Tables) → IsAtRest (Some t) (state S.Store conn.old) → IsUndamaged result }
     ensures same { HasCleanDisk (state S.Store conn.new) → (t : Tables) → IsAtRest (Some t) (state S.Store conn.old) → IsWhole result → IsAtRest (Some t) (state S.Store conn.new) }
     ensures left { HasCleanDisk (state S.Store conn.new) → (t : Tables) → IsAtRest (Some t) (state S.Store conn.old) → Leaves (Some t) (state S.Store conn.new) }
+    ensures unread { HasCleanDisk (state S.Store conn.new) → IfErr result (FailsToShow meta OfMeta get_text (Text name.now ∷ []) (state S.Store conn.old) (state S.Store conn.new)) }
 {
     let name = match Value::new(alloc, name) {
         Ok(name) => name,
@@ -49,7 +57,7 @@ pub(crate) fn check_format<S: Alter>(
 ) -> Result<(), OpenFault>
     ensures clean { HasCleanDisk (state S.Store conn.new) → HasCleanDisk (state S.Store conn.old) }
     ensures taken { HasCleanDisk (state S.Store conn.new) → (t : Tables) → IsAtRest (Some t) (state S.Store conn.old) → OnOk result (IsTaken t × IsAtRest (Some t) (state S.Store conn.new)) }
-    ensures refused { HasCleanDisk (state S.Store conn.new) → (t : Tables) → IsAtRest (Some t) (state S.Store conn.old) → IfErr result (IsRefusedWith t (state S.Store conn.new)) }
+    ensures refused { HasCleanDisk (state S.Store conn.new) → (t : Tables) → IsAtRest (Some t) (state S.Store conn.old) → IfErr result (IsRefusedWith t (state S.Store conn.old) (state S.Store conn.new)) }
     ensures left { HasCleanDisk (state S.Store conn.new) → (t : Tables) → IsAtRest (Some t) (state S.Store conn.old) → Leaves (Some t) (state S.Store conn.new) }
 {
     match number(alloc, conn, "format") {
@@ -65,6 +73,7 @@ pub(crate) fn check_format<S: Alter>(
 /// A row of meta.
 pub(crate) fn row(alloc: Global, name: &str, count: u64) -> Result<MetaRow, Cause>
     ensures ok { IfOk result (λ row. row ≡ record { name = name.now; value = pos count }) }
+    ensures err { IfErr result (λ cause. cause ≢ Memory → is_number count ≡ false) }
 {
     let name = Value::new(alloc, name)?;
     match i64::try_from(count) {

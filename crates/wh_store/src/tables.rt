@@ -1,21 +1,28 @@
 //! The tables over one connection.
 
-ghost use Rattle.std.specs.Prelude.{◌≡◌, ◌≢◌, ◌⊎◌, true, false, map, filter, Err, Some, None, Option, IsTrue, IfOk, IfErr};
+ghost use Rattle.std.specs.Prelude.{◌≡◌, ◌≢◌, ◌⊎◌, [], ◌∷◌, pos, true, false, map, filter, Err, Some, None, Option, IsTrue, IfOk, IfErr};
 ghost use Rattle.std.specs.Borrow.{sem, RestsIfErr};
 ghost use Rattle.std.specs.FinMap.{values, get, len};
+ghost use Rattle.sqlite_value.specs.declared.value.Value.TheVariants.{Int as Number};
 ghost use Rattle.sqlite.specs.Held.{state};
 ghost use Rattle.sqlite.specs.State.{HasCleanDisk, Survives};
 ghost use Rattle.wh_rows.specs.declared.table.Table.{Table};
+ghost use Rattle.wh_rows.specs.declared.table.Table.TheVariants.{Change as OfChange};
+ghost use Rattle.wh_rows.specs.declared.cause.Cause.{Cause};
+ghost use Rattle.wh_rows.specs.declared.cause.Cause.TheVariants.{Memory};
+ghost use Rattle.wh_rows.specs.Rows.{change};
+ghost use Rattle.wh_rows.proofs.Changes.{greatest_anchor_text};
 ghost use Rattle.wh_rows.specs.AtRest.{IsAtRest, IsWriting, Leaves};
 ghost use Rattle.wh_rows.specs.Tables.{Tables as Rows};
 ghost use Rattle.std.specs.Ordering.{eq_by_cmp, nat_cmp};
 ghost use Rattle.wh_rows.specs.Types.{dim_number};
 ghost use Rattle.wh_rows.specs.Firsts.{part, greatest as greatest_of};
-ghost use Rattle.wh_sql.specs.Refusal.{IsWhole, IsUndamaged};
+ghost use Rattle.wh_sql.specs.Refusal.{IsWhole, IsUndamaged, FailsToShow, FailsToCount, IsCauseOfQuery, IsOneRefused};
 ghost use Rattle.wh_sql.specs.Present.{is_any_taken, are_all_there};
-ghost use Rattle.wh_sql.specs.declared.refusal.Refusal.TheVariants.{Damaged};
-ghost use Rattle.wh_store.specs.Meta.{limits_in};
+ghost use Rattle.wh_sql.specs.declared.refusal.Refusal.TheVariants.{Damaged, Store as Refused};
+ghost use Rattle.wh_store.specs.Meta.{limits_in, limits_asked};
 ghost use Rattle.wh_store.specs.Opening.{IsTaken, IsRefusedWith};
+ghost use Rattle.wh_store.specs.Beginning.{FailsToBegin};
 
 use crate::fault::{MakeFault, OpenFault};
 use crate::meta;
@@ -60,7 +67,7 @@ impl<S: Alter> Tables<S> {
         mut conn: Connection<S>,
     ) -> Result<Tables<S>, (OpenFault, Connection<S>)>
         ensures taken { IfOk result (λ tables. HasCleanDisk (state S.Store tables.conn) → (t : Rows) → IsAtRest (Some t) (state S.Store conn) → IsTaken t × IsAtRest (Some t) (state S.Store tables.conn)) }
-        ensures refused { IfErr result (λ e. HasCleanDisk (state S.Store e.1) → (t : Rows) → IsAtRest (Some t) (state S.Store conn) → are_all_there (state S.Store conn).now.schema ≡ true → IsRefusedWith t (state S.Store e.1) e.0) }
+        ensures refused { IfErr result (λ e. HasCleanDisk (state S.Store e.1) → (t : Rows) → IsAtRest (Some t) (state S.Store conn) → are_all_there (state S.Store conn).now.schema ≡ true → IsRefusedWith t (state S.Store conn) (state S.Store e.1) e.0) }
         ensures left { IfErr result (λ e. HasCleanDisk (state S.Store e.1) → (t : Rows) → IsAtRest (Some t) (state S.Store conn) → Leaves (Some t) (state S.Store e.1)) }
         ensures missing { conn.in_transaction ≡ false → are_all_there (state S.Store conn).now.schema ≡ false → result ≡ Err (OpenFault.NotAWarehouse, conn) }
     {
@@ -83,6 +90,7 @@ impl<S: Alter> Tables<S> {
         ensures damaged { HasCleanDisk (state S.Store self.new.conn) → (t : Rows) → IsAtRest (Some t) (state S.Store self.old.conn) → (table : Table) → result ≡ Err (Damaged table) → (table ≡ Table.Meta) × (limits_in t ≡ None) }
         ensures same { HasCleanDisk (state S.Store self.new.conn) → (t : Rows) → IsAtRest (Some t) (state S.Store self.old.conn) → IsWhole result → IsAtRest (Some t) (state S.Store self.new.conn) }
         ensures left { HasCleanDisk (state S.Store self.new.conn) → (t : Rows) → IsAtRest (Some t) (state S.Store self.old.conn) → Leaves (Some t) (state S.Store self.new.conn) }
+        ensures refused { HasCleanDisk (state S.Store self.new.conn) → (cause : Cause) → result ≡ Err (Refused cause) → cause ≢ Memory → IsOneRefused S.Store IsCauseOfQuery limits_asked self.old.conn self.new.conn cause }
     {
         let commands = meta::number(alloc, &mut self.conn, "commands_max")?;
         let changes = meta::number(alloc, &mut self.conn, "changes_max")?;
@@ -100,6 +108,7 @@ impl<S: Alter> Tables<S> {
         ensures sound { HasCleanDisk (state S.Store self.new.conn) → (t : Rows) → IsAtRest (Some t) (state S.Store self.old.conn) → IsUndamaged result }
         ensures same { HasCleanDisk (state S.Store self.new.conn) → (t : Rows) → IsAtRest (Some t) (state S.Store self.old.conn) → IsWhole result → IsAtRest (Some t) (state S.Store self.new.conn) }
         ensures left { HasCleanDisk (state S.Store self.new.conn) → (t : Rows) → IsAtRest (Some t) (state S.Store self.old.conn) → Leaves (Some t) (state S.Store self.new.conn) }
+        ensures refused { HasCleanDisk (state S.Store self.new.conn) → IfErr result (FailsToShow T.layout T.name T.all_means [] (state S.Store self.old.conn) (state S.Store self.new.conn)) }
     {
         all::<T, S>(alloc, &mut self.conn)
     }
@@ -111,6 +120,7 @@ impl<S: Alter> Tables<S> {
         ensures sound { HasCleanDisk (state S.Store self.new.conn) → (t : Rows) → IsAtRest (Some t) (state S.Store self.old.conn) → IsUndamaged result }
         ensures same { HasCleanDisk (state S.Store self.new.conn) → (t : Rows) → IsAtRest (Some t) (state S.Store self.old.conn) → IsWhole result → IsAtRest (Some t) (state S.Store self.new.conn) }
         ensures left { HasCleanDisk (state S.Store self.new.conn) → (t : Rows) → IsAtRest (Some t) (state S.Store self.old.conn) → Leaves (Some t) (state S.Store self.new.conn) }
+        ensures refused { HasCleanDisk (state S.Store self.new.conn) → (row : T.Row) → IsTrue (T.layout.is_valid row) → T.layout.key row ≡ key.now → IfErr result (FailsToShow T.layout T.name T.get_means (T.bind key.now) (state S.Store self.old.conn) (state S.Store self.new.conn)) }
     {
         get::<T, S>(alloc, &mut self.conn, key)
     }
@@ -122,6 +132,7 @@ impl<S: Alter> Tables<S> {
         ensures sound { HasCleanDisk (state S.Store self.new.conn) → (t : Rows) → IsAtRest (Some t) (state S.Store self.old.conn) → IsUndamaged result }
         ensures same { HasCleanDisk (state S.Store self.new.conn) → (t : Rows) → IsAtRest (Some t) (state S.Store self.old.conn) → IsWhole result → IsAtRest (Some t) (state S.Store self.new.conn) }
         ensures left { HasCleanDisk (state S.Store self.new.conn) → (t : Rows) → IsAtRest (Some t) (state S.Store self.old.conn) → Leaves (Some t) (state S.Store self.new.conn) }
+        ensures refused { HasCleanDisk (state S.Store self.new.conn) → (t : Rows) → IsAtRest (Some t) (state S.Store self.old.conn) → IfErr result (FailsToCount (len (T.rows t)) T.count_means (state S.Store self.old.conn) (state S.Store self.new.conn)) }
     {
         count::<T, S>(alloc, &mut self.conn)
     }
@@ -137,6 +148,7 @@ impl<S: Alter> Tables<S> {
         ensures sound { HasCleanDisk (state S.Store self.new.conn) → (t : Rows) → IsAtRest (Some t) (state S.Store self.old.conn) → IsUndamaged result }
         ensures same { HasCleanDisk (state S.Store self.new.conn) → (t : Rows) → IsAtRest (Some t) (state S.Store self.old.conn) → IsWhole result → IsAtRest (Some t) (state S.Store self.new.conn) }
         ensures left { HasCleanDisk (state S.Store self.new.conn) → (t : Rows) → IsAtRest (Some t) (state S.Store self.old.conn) → Leaves (Some t) (state S.Store self.new.conn) }
+        ensures refused { HasCleanDisk (state S.Store self.new.conn) → Q.can_be_asked question.now → IfErr result (FailsToShow T.layout T.name (Q.means question.now) (Q.bind question.now) (state S.Store self.old.conn) (state S.Store self.new.conn)) }
     {
         ask::<T, Q, S>(alloc, &mut self.conn, question)
     }
@@ -148,13 +160,14 @@ impl<S: Alter> Tables<S> {
         ensures sound { HasCleanDisk (state S.Store self.new.conn) → (t : Rows) → IsAtRest (Some t) (state S.Store self.old.conn) → IsUndamaged result }
         ensures same { HasCleanDisk (state S.Store self.new.conn) → (t : Rows) → IsAtRest (Some t) (state S.Store self.old.conn) → IsWhole result → IsAtRest (Some t) (state S.Store self.new.conn) }
         ensures left { HasCleanDisk (state S.Store self.new.conn) → (t : Rows) → IsAtRest (Some t) (state S.Store self.old.conn) → Leaves (Some t) (state S.Store self.new.conn) }
+        ensures refused { HasCleanDisk (state S.Store self.new.conn) → IfErr result (FailsToShow change OfChange greatest_anchor_text (Number (pos (dim_number dim)) ∷ []) (state S.Store self.old.conn) (state S.Store self.new.conn)) }
     {
         greatest_anchor(alloc, &mut self.conn, dim)
     }
 
     /// Begins a transaction, to which the tables belong until it ends.
     pub fn begin(&mut self) -> Result<Writing<'_, S>, Cause>
-        ensures* refused { sem 𝓛 (RestsIfErr (the_row S.row S.Store) self.entry (λ writing. writing.tables.ghost_name) result (λ last. Survives (state S.Store self.old.conn) (state S.Store last.conn) (λ _. ⊥))) }
+        ensures* refused { sem 𝓛 (RestsIfErr (the_row S.row S.Store) self.entry (λ writing. writing.tables.ghost_name) result (λ last. FailsToBegin (state S.Store self.old.conn) (state S.Store last.conn) result)) }
         ensures same_reference { IfOk result (λ writing. writing.tables.ghost_name ≡ self.entry.ghost_name) }
         ensures begun { IfOk result (λ writing. HasCleanDisk (state S.Store writing.tables.now.conn) → (held : Option Rows) → IsAtRest held (state S.Store self.old.conn) → IsWriting held held (state S.Store writing.tables.now.conn)) }
         ensures survives { IfOk result (λ writing. Survives (state S.Store self.old.conn) (state S.Store writing.tables.now.conn) (λ _. ⊥)) }

@@ -1,14 +1,20 @@
 //! Edits that are kept together, or not at all.
 
-ghost use Rattle.std.specs.Prelude.{◌≡◌, ◌⊎◌, ◌+◌, pos, Option, None, Some, IsTrue, IfOk, OnOk, length};
+ghost use Rattle.std.specs.Prelude.{◌≡◌, ◌≢◌, ◌⊎◌, ◌+◌, ◌<◌, ◌≤◌, [], pos, codes, map, Option, None, Some, IsTrue, IfOk, IfErr, OnOk, length};
 ghost use Rattle.std.specs.FinMap.{insert, remove};
 ghost use Rattle.sqlite.specs.Held.{state};
 ghost use Rattle.sqlite.specs.State.{HasCleanDisk, Survives};
-ghost use Rattle.wh_rows.specs.AtRest.{AreTrees, IsAtRest, IsWriting, Leaves};
+ghost use Rattle.sqlite_rules.specs.Lists.{Has};
+ghost use Rattle.wh_rows.specs.declared.cause.Cause.TheVariants.{Memory};
+ghost use Rattle.wh_rows.specs.Types.{is_number};
+ghost use Rattle.wh_rows.specs.Rows.{encode_meta};
+ghost use Rattle.wh_rows.proofs.Metas.{put_text};
+ghost use Rattle.wh_rows.specs.AtRest.{AreTrees, IsAtRest, IsWriting, Leaves, IsCauseOf};
 ghost use Rattle.wh_rows.specs.Tables.{Tables as Rows};
 ghost use Rattle.wh_sql.specs.Fits.{MayBePut};
-ghost use Rattle.wh_store.specs.Edits.{with_row, with_edit, MayBeMade, after_all, MayAll};
-ghost use Rattle.wh_store.specs.Meta.{made_with, with_number};
+ghost use Rattle.wh_sql.specs.Refusal.{IsOneRefused};
+ghost use Rattle.wh_store.specs.Edits.{with_row, with_edit, MayBeMade, after_all, MayAll, IsOfTypes, statement_of};
+ghost use Rattle.wh_store.specs.Meta.{made_with, with_number, making};
 
 use crate::meta;
 use crate::tables::Tables;
@@ -45,7 +51,8 @@ impl<'t, S: Alter> Writing<'t, S> {
 
     /// How many keys it will have written after one more.
     fn one_more(&self) -> Result<u64, Cause>
-        ensures { IfOk result (λ writes. writes ≡ self.now.writes + 1) }
+        ensures more { IfOk result (λ writes. writes ≡ self.now.writes + 1) }
+        ensures full { IfErr result (λ _. self.now.writes ≡ u64.MAX) }
     {
         match self.writes.checked_add(1) {
             Some(writes) => Ok(writes),
@@ -57,9 +64,12 @@ impl<'t, S: Alter> Writing<'t, S> {
     pub fn put<T: Keeps>(&mut self, alloc: Global, row: &T::Row) -> Result<(), Cause>
         ensures same_reference { self.new.tables.ghost_name ≡ self.old.tables.ghost_name }
         ensures clean { HasCleanDisk (state S.Store self.new.tables.now.conn) → HasCleanDisk (state S.Store self.old.tables.now.conn) }
+        ensures counts { (state S.Store self.old.tables.now.conn).faults ≤ (state S.Store self.new.tables.now.conn).faults }
         ensures put { HasCleanDisk (state S.Store self.new.tables.now.conn) → (before : Option Rows) (made : Rows) → IsWriting before (Some made) (state S.Store self.old.tables.now.conn)
             → MayBePut T.layout T.may_stand row.now (T.rows made) → OnOk result (IsWriting before (Some (T.with_rows (insert (T.rows made) (T.layout.key row.now) row.now) made)) (state S.Store self.new.tables.now.conn)) }
         ensures left { HasCleanDisk (state S.Store self.new.tables.now.conn) → (before : Option Rows) (made : Rows) → IsWriting before (Some made) (state S.Store self.old.tables.now.conn) → Leaves before (state S.Store self.new.tables.now.conn) }
+        ensures cause { HasCleanDisk (state S.Store self.new.tables.now.conn) → IsTrue (state S.Store self.old.tables.now.conn).in_transaction → self.old.writes < u64.MAX → IsTrue (T.layout.is_valid row.now)
+            → IfErr result (λ cause. cause ≢ Memory → IsCauseOf T.put_means (T.layout.encode row.now) (state S.Store self.old.tables.now.conn) (state S.Store self.new.tables.now.conn) cause) }
         ensures counted { OnOk result (self.new.writes ≡ self.old.writes + 1) }
     {
         let writes = self.one_more()?;
@@ -72,9 +82,12 @@ impl<'t, S: Alter> Writing<'t, S> {
     pub fn remove<T: Keeps>(&mut self, alloc: Global, key: &T::Key) -> Result<(), Cause>
         ensures same_reference { self.new.tables.ghost_name ≡ self.old.tables.ghost_name }
         ensures clean { HasCleanDisk (state S.Store self.new.tables.now.conn) → HasCleanDisk (state S.Store self.old.tables.now.conn) }
+        ensures counts { (state S.Store self.old.tables.now.conn).faults ≤ (state S.Store self.new.tables.now.conn).faults }
         ensures removed { HasCleanDisk (state S.Store self.new.tables.now.conn) → (before : Option Rows) (made : Rows) → IsWriting before (Some made) (state S.Store self.old.tables.now.conn)
             → OnOk result (IsWriting before (Some (T.with_rows (remove (T.rows made) key.now) made)) (state S.Store self.new.tables.now.conn)) }
         ensures left { HasCleanDisk (state S.Store self.new.tables.now.conn) → (before : Option Rows) (made : Rows) → IsWriting before (Some made) (state S.Store self.old.tables.now.conn) → Leaves before (state S.Store self.new.tables.now.conn) }
+        ensures cause { HasCleanDisk (state S.Store self.new.tables.now.conn) → IsTrue (state S.Store self.old.tables.now.conn).in_transaction → self.old.writes < u64.MAX → (row : T.Row) → IsTrue (T.layout.is_valid row) → T.layout.key row ≡ key.now
+            → IfErr result (λ cause. cause ≢ Memory → IsCauseOf T.remove_means (T.bind key.now) (state S.Store self.old.tables.now.conn) (state S.Store self.new.tables.now.conn) cause) }
         ensures counted { OnOk result (self.new.writes ≡ self.old.writes + 1) }
     {
         let writes = self.one_more()?;
@@ -87,10 +100,14 @@ impl<'t, S: Alter> Writing<'t, S> {
     pub fn put_all<T: Keeps>(&mut self, alloc: Global, rows: &[T::Row]) -> Result<(), Cause>
         ensures same_reference { self.new.tables.ghost_name ≡ self.old.tables.ghost_name }
         ensures clean { HasCleanDisk (state S.Store self.new.tables.now.conn) → HasCleanDisk (state S.Store self.old.tables.now.conn) }
+        ensures counts { (state S.Store self.old.tables.now.conn).faults ≤ (state S.Store self.new.tables.now.conn).faults }
         ensures put { HasCleanDisk (state S.Store self.new.tables.now.conn) → (before : Option Rows) (made : Rows) → IsWriting before (Some made) (state S.Store self.old.tables.now.conn)
             → MayAll (with_row T.layout) (MayBePut T.layout T.may_stand) rows.now (T.rows made) → OnOk result (IsWriting before (Some (T.with_rows (after_all (with_row T.layout) rows.now (T.rows made)) made)) (state S.Store self.new.tables.now.conn)) }
         ensures left { HasCleanDisk (state S.Store self.new.tables.now.conn) → (before : Option Rows) (made : Rows) → IsWriting before (Some made) (state S.Store self.old.tables.now.conn)
             → MayAll (with_row T.layout) (MayBePut T.layout T.may_stand) rows.now (T.rows made) → Leaves before (state S.Store self.new.tables.now.conn) }
+        ensures cause { HasCleanDisk (state S.Store self.new.tables.now.conn) → (before : Option Rows) (made : Rows) → IsWriting before (Some made) (state S.Store self.old.tables.now.conn)
+            → MayAll (with_row T.layout) (MayBePut T.layout T.may_stand) rows.now (T.rows made) → self.old.writes + length rows.now ≤ u64.MAX
+            → IfErr result (λ cause. cause ≢ Memory → IsOneRefused S.Store IsCauseOf (map (λ row. (T.put_means, T.layout.encode row)) rows.now) self.old.tables.now.conn self.new.tables.now.conn cause) }
         ensures counted { OnOk result (self.new.writes ≡ self.old.writes + length rows.now) }
     {
         for row in rows {
@@ -107,9 +124,12 @@ impl<'t, S: Alter> Writing<'t, S> {
     ) -> Result<(), Cause>
         ensures same_reference { self.new.tables.ghost_name ≡ self.old.tables.ghost_name }
         ensures clean { HasCleanDisk (state S.Store self.new.tables.now.conn) → HasCleanDisk (state S.Store self.old.tables.now.conn) }
+        ensures counts { (state S.Store self.old.tables.now.conn).faults ≤ (state S.Store self.new.tables.now.conn).faults }
         ensures edited { HasCleanDisk (state S.Store self.new.tables.now.conn) → (before : Option Rows) (made : Rows) → IsWriting before (Some made) (state S.Store self.old.tables.now.conn)
             → MayBeMade T.layout T.may_stand edit.now (T.rows made) → OnOk result (IsWriting before (Some (T.with_rows (with_edit T.layout edit.now (T.rows made)) made)) (state S.Store self.new.tables.now.conn)) }
         ensures left { HasCleanDisk (state S.Store self.new.tables.now.conn) → (before : Option Rows) (made : Rows) → IsWriting before (Some made) (state S.Store self.old.tables.now.conn) → Leaves before (state S.Store self.new.tables.now.conn) }
+        ensures cause { HasCleanDisk (state S.Store self.new.tables.now.conn) → IsTrue (state S.Store self.old.tables.now.conn).in_transaction → self.old.writes < u64.MAX → IsOfTypes T.layout edit.now
+            → IfErr result (λ cause. cause ≢ Memory → IsCauseOf (statement_of T.layout T.put_means T.remove_means T.bind edit.now).0 (statement_of T.layout T.put_means T.remove_means T.bind edit.now).1 (state S.Store self.old.tables.now.conn) (state S.Store self.new.tables.now.conn) cause) }
         ensures counted { OnOk result (self.new.writes ≡ self.old.writes + 1) }
     {
         match edit {
@@ -126,10 +146,14 @@ impl<'t, S: Alter> Writing<'t, S> {
     ) -> Result<(), Cause>
         ensures same_reference { self.new.tables.ghost_name ≡ self.old.tables.ghost_name }
         ensures clean { HasCleanDisk (state S.Store self.new.tables.now.conn) → HasCleanDisk (state S.Store self.old.tables.now.conn) }
+        ensures counts { (state S.Store self.old.tables.now.conn).faults ≤ (state S.Store self.new.tables.now.conn).faults }
         ensures edited { HasCleanDisk (state S.Store self.new.tables.now.conn) → (before : Option Rows) (made : Rows) → IsWriting before (Some made) (state S.Store self.old.tables.now.conn)
             → MayAll (with_edit T.layout) (MayBeMade T.layout T.may_stand) edits.now (T.rows made) → OnOk result (IsWriting before (Some (T.with_rows (after_all (with_edit T.layout) edits.now (T.rows made)) made)) (state S.Store self.new.tables.now.conn)) }
         ensures left { HasCleanDisk (state S.Store self.new.tables.now.conn) → (before : Option Rows) (made : Rows) → IsWriting before (Some made) (state S.Store self.old.tables.now.conn)
             → MayAll (with_edit T.layout) (MayBeMade T.layout T.may_stand) edits.now (T.rows made) → Leaves before (state S.Store self.new.tables.now.conn) }
+        ensures cause { HasCleanDisk (state S.Store self.new.tables.now.conn) → (before : Option Rows) (made : Rows) → IsWriting before (Some made) (state S.Store self.old.tables.now.conn)
+            → MayAll (with_edit T.layout) (MayBeMade T.layout T.may_stand) edits.now (T.rows made) → ((edit : _) → Has edits.now edit → IsOfTypes T.layout edit) → self.old.writes + length edits.now ≤ u64.MAX
+            → IfErr result (λ cause. cause ≢ Memory → IsOneRefused S.Store IsCauseOf (map (statement_of T.layout T.put_means T.remove_means T.bind) edits.now) self.old.tables.now.conn self.new.tables.now.conn cause) }
         ensures counted { OnOk result (self.new.writes ≡ self.old.writes + length edits.now) }
     {
         for edit in edits {
@@ -142,8 +166,11 @@ impl<'t, S: Alter> Writing<'t, S> {
     pub fn make(&mut self, alloc: Global, limits: Limits) -> Result<(), Cause>
         ensures same_reference { self.new.tables.ghost_name ≡ self.old.tables.ghost_name }
         ensures clean { HasCleanDisk (state S.Store self.new.tables.now.conn) → HasCleanDisk (state S.Store self.old.tables.now.conn) }
+        ensures counts { (state S.Store self.old.tables.now.conn).faults ≤ (state S.Store self.new.tables.now.conn).faults }
         ensures made { HasCleanDisk (state S.Store self.new.tables.now.conn) → IsWriting None None (state S.Store self.old.tables.now.conn) → OnOk result (IsWriting None (Some (made_with limits)) (state S.Store self.new.tables.now.conn)) }
         ensures left { HasCleanDisk (state S.Store self.new.tables.now.conn) → IsWriting None None (state S.Store self.old.tables.now.conn) → Leaves None (state S.Store self.new.tables.now.conn) }
+        ensures cause { HasCleanDisk (state S.Store self.new.tables.now.conn) → IsWriting None None (state S.Store self.old.tables.now.conn) → self.old.writes + 4 ≤ u64.MAX
+            → IfErr result (λ cause. cause ≢ Memory → IsOneRefused S.Store IsCauseOf (making limits) self.old.tables.now.conn self.new.tables.now.conn cause) }
     {
         create(&mut self.tables.conn)?;
         self.put_number(alloc, "changes_max", limits.changes())?;
@@ -156,9 +183,13 @@ impl<'t, S: Alter> Writing<'t, S> {
     fn put_number(&mut self, alloc: Global, name: &str, count: u64) -> Result<(), Cause>
         ensures same_reference { self.new.tables.ghost_name ≡ self.old.tables.ghost_name }
         ensures clean { HasCleanDisk (state S.Store self.new.tables.now.conn) → HasCleanDisk (state S.Store self.old.tables.now.conn) }
+        ensures counts { (state S.Store self.old.tables.now.conn).faults ≤ (state S.Store self.new.tables.now.conn).faults }
         ensures put { HasCleanDisk (state S.Store self.new.tables.now.conn) → (before : Option Rows) (made : Rows) → IsWriting before (Some made) (state S.Store self.old.tables.now.conn)
             → OnOk result (IsWriting before (Some (with_number name.now (pos count) made)) (state S.Store self.new.tables.now.conn)) }
         ensures left { HasCleanDisk (state S.Store self.new.tables.now.conn) → (before : Option Rows) (made : Rows) → IsWriting before (Some made) (state S.Store self.old.tables.now.conn) → Leaves before (state S.Store self.new.tables.now.conn) }
+        ensures cause { HasCleanDisk (state S.Store self.new.tables.now.conn) → IsTrue (state S.Store self.old.tables.now.conn).in_transaction → self.old.writes < u64.MAX → IsTrue (is_number count)
+            → IfErr result (λ cause. cause ≢ Memory → IsCauseOf put_text (encode_meta (record { name = name.now; value = pos count })) (state S.Store self.old.tables.now.conn) (state S.Store self.new.tables.now.conn) cause) }
+        ensures counted { OnOk result (self.new.writes ≡ self.old.writes + 1) }
     {
         let row = meta::row(alloc, name, count)?;
         self.put::<Meta>(alloc, &row)
@@ -167,6 +198,7 @@ impl<'t, S: Alter> Writing<'t, S> {
     /// Keeps the edits.
     pub fn commit(self) -> Result<(), Cause>
         ensures clean { HasCleanDisk (state S.Store self.exit.0.now.conn) → HasCleanDisk (state S.Store self.entry.tables.now.conn) }
+        ensures cause { HasCleanDisk (state S.Store self.exit.0.now.conn) → IfErr result (IsCauseOf (codes "COMMIT") [] (state S.Store self.entry.tables.now.conn) (state S.Store self.exit.0.now.conn)) }
         ensures written { HasCleanDisk (state S.Store self.exit.0.now.conn) → (before made : Option Rows) → IsWriting before made (state S.Store self.entry.tables.now.conn) → OnOk result (IsAtRest made (state S.Store self.exit.0.now.conn)) }
         ensures left { HasCleanDisk (state S.Store self.exit.0.now.conn) → (before made : Option Rows) → IsWriting before made (state S.Store self.entry.tables.now.conn)
             → (trees : _) → (state S.Store self.exit.0.now.conn).may_leave trees → AreTrees before trees ⊎ AreTrees made trees }

@@ -36,6 +36,12 @@ returns-in_err-rows-clause-same g c clean t at =
 pub returns-in_err-rows-clause-left : goal.returns-in_err-rows-clause-left
 returns-in_err-rows-clause-left g c clean t at = leaves_held (asked c.args.dim (state g.S.Store c.args.conn.now) (state g.S.Store c.rows_shown.new.conn)) t at (rw c.dim.ensures at c.rows_shown.ensures.survives) clean
 
+pub returns-in_err-rows-clause-refused : goal.returns-in_err-rows-clause-refused
+returns-in_err-rows-clause-refused g c clean =
+    let refused = rw c.dim.ensures at (c.in_err-rows.ensures.refused clean) in
+    let p = err_from_is_err_and c.from_residual.result c.from_residual.ensures.1 in
+    rw (p.1, p.2) refused
+
 pub returns-clause-anchor : goal.returns-clause-anchor
 returns-clause-anchor g c clean t stored =
     let shows = rw c.dim.ensures at (c.in_ok-rows.ensures.shows clean) in

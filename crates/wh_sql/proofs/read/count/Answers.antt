@@ -4,7 +4,7 @@ use Rattle.std.proofs.lemmas.Result.{MatchResult-weaker}
 use Rattle.std.specs.FinMap.{len}
 use Rattle.sqlite.specs.Held.{state}
 use Rattle.wh_rows.proofs.OnTables.{count_is}
-use Rattle.wh_sql.proofs.Reading.{too_great, leaves_same, still_rests}
+use Rattle.wh_sql.proofs.Reading.{too_many, uncounted, leaves_same, still_rests}
 use Rattle.wh_sql.proofs.read.count.Goals as goal
 
 pub returns-in-Err-clause-left : goal.returns-in-Err-clause-left
@@ -17,7 +17,7 @@ returns-clause-count g c clean t stored =
     let shown = rw c.count_text.ensures at (c.in-Ok.ensures.ok clean) in
     let is = count_is d.layout d.rows d.with_rows g.met.T.Keeps.placed g.T.Keeps.count_means (state g.S.Store c.args.conn.now) (state g.S.Store c.query_all.new.self) g.met.T.Keeps.counts c.in-Ok.shown.items t stored shown in
     let told = c.count_shown.ensures (len (d.rows t)) (c.deref.ensures.value ∙ is) in
-    MatchResult-weaker c.count_shown.result told (λ count same. same) (λ refusal size. tt)
+    MatchResult-weaker c.count_shown.result told (λ count same. same) (λ refusal many. tt)
 
 pub returns-clause-sound : goal.returns-clause-sound
 returns-clause-sound g c clean t stored =
@@ -25,7 +25,15 @@ returns-clause-sound g c clean t stored =
     let shown = rw c.count_text.ensures at (c.in-Ok.ensures.ok clean) in
     let is = count_is d.layout d.rows d.with_rows g.met.T.Keeps.placed g.T.Keeps.count_means (state g.S.Store c.args.conn.now) (state g.S.Store c.query_all.new.self) g.met.T.Keeps.counts c.in-Ok.shown.items t stored shown in
     let told = c.count_shown.ensures (len (d.rows t)) (c.deref.ensures.value ∙ is) in
-    too_great _ c.count_shown.result told
+    too_many _ (len (d.rows t)) c.count_shown.result told
+
+pub returns-clause-refused : goal.returns-clause-refused
+returns-clause-refused g c clean t stored =
+    let d = g.T.StoredTable in
+    let shown = rw c.count_text.ensures at (c.in-Ok.ensures.ok clean) in
+    let is = count_is d.layout d.rows d.with_rows g.met.T.Keeps.placed g.T.Keeps.count_means (state g.S.Store c.args.conn.now) (state g.S.Store c.query_all.new.self) g.met.T.Keeps.counts c.in-Ok.shown.items t stored shown in
+    let told = c.count_shown.ensures (len (d.rows t)) (c.deref.ensures.value ∙ is) in
+    uncounted _ (len (d.rows t)) g.T.Keeps.count_means (state g.S.Store c.args.conn.now) (state g.S.Store c.query_all.new.self) c.count_shown.result told
 
 pub returns-clause-same : goal.returns-clause-same
 returns-clause-same g c clean t at whole =

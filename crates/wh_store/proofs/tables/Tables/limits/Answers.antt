@@ -1,6 +1,27 @@
-use Rattle.std.proofs.Common.{◌≡◌, Some, None, sym}
+use Rattle.std.proofs.Common.{◌≡◌, Some, None, sym, refl, inl, inr, arith}
+use Rattle.std.proofs.lemmas.Result.{err_from_is_err_and}
+use Rattle.wh_sql.specs.declared.refusal.Refusal.TheVariants.{Store}
 use Rattle.wh_store.specs.Meta.{limits_of_numbers}
+use Rattle.wh_store.proofs.Refusals.{limit_unread}
 use Rattle.wh_store.proofs.tables.Tables.limits.Goals as goal
+
+pub returns-in_err-commands-clause-refused : goal.returns-in_err-commands-clause-refused
+returns-in_err-commands-clause-refused g c clean cause is other =
+    let p = err_from_is_err_and c.from_residual.result c.from_residual.ensures.1 in
+    let same : c.in_err-commands.field-0.0 ≡ Store cause = cc (p.1, p.2, is) in
+    limit_unread g.S.Store c.args.self.now.conn c.args.self.now.conn c.number.new.conn (omega arith) _ _ cause (inl refl) (c.in_err-commands.ensures.unread clean) same other
+
+pub returns-in_err-changes-clause-refused : goal.returns-in_err-changes-clause-refused
+returns-in_err-changes-clause-refused g c clean cause is other =
+    let p = err_from_is_err_and c.from_residual-in_err-changes.result c.from_residual-in_err-changes.ensures.1 in
+    let same : c.in_err-changes.field-0.0 ≡ Store cause = cc (p.1, p.2, is) in
+    limit_unread g.S.Store c.args.self.now.conn c.number.new.conn c.number-2.new.conn c.number.ensures.counts _ _ cause (inr (inl refl)) (c.in_err-changes.ensures.unread clean) same other
+
+pub returns-in_err-facts-clause-refused : goal.returns-in_err-facts-clause-refused
+returns-in_err-facts-clause-refused g c clean cause is other =
+    let p = err_from_is_err_and c.from_residual-in_err-facts.result c.from_residual-in_err-facts.ensures.1 in
+    let same : c.in_err-facts.field-0.0 ≡ Store cause = cc (p.1, p.2, is) in
+    limit_unread g.S.Store c.args.self.now.conn c.number-2.new.conn c.number-3.new.conn (omega (arith, c.number.ensures.counts, c.number-2.ensures.counts)) _ _ cause (inr (inr (inl refl))) (c.in_err-facts.ensures.unread clean) same other
 
 -- src/tables.rt:75:5
 pub returns-in-Some-clause-limits : goal.returns-in-Some-clause-limits

@@ -1,7 +1,9 @@
 use Rattle.std.proofs.Common.{Some, subst, ◌∙◌, arith}
+use Rattle.std.proofs.lemmas.Result.{err_from_is_err_and}
 use Rattle.sqlite.specs.Held.{state}
-use Rattle.wh_rows.specs.AtRest.{IsWriting}
-use Rattle.wh_store.specs.Edits.{with_edit, MayBeMade}
+use Rattle.wh_rows.specs.AtRest.{IsWriting, IsCauseOf}
+use Rattle.wh_store.specs.Edits.{with_edit, MayBeMade, statement_of}
+use Rattle.wh_store.proofs.Refusals.{is_among, one_refused}
 use Rattle.wh_store.proofs.Looping.{next_is, next_may, next_way, way_ends}
 use Rattle.wh_store.proofs.writing.Writing.edit_all.Goals as goal
 
@@ -10,12 +12,21 @@ returns-in_err-edit-clause-left g c clean before made at may =
     let was = c.loop-edit.invariant.put (c.edit.ensures.clean clean) before made at may in
     c.edit.ensures.left clean before was.0 was.1
 
+pub returns-in_err-edit-clause-cause : goal.returns-in_err-edit-clause-cause
+returns-in_err-edit-clause-cause g c clean before made at may typed room =
+    let was = c.loop-edit.invariant.put (c.edit.ensures.clean clean) before made at may in
+    let among = is_among c.args.edits.now c.loop-edit.edit-index c.edit-item.result c.loop-edit-test.true c.edit-item.is in
+    let refused = c.in_err-edit.ensures.cause clean was.1.inside (omega (arith, c.loop-edit.invariant.counted, c.loop-edit-test.true, room)) (typed c.edit-item.result among) in
+    let p = err_from_is_err_and c.from_residual.result c.from_residual.ensures.1 in
+    rw (p.1, p.2) (λ other. one_refused g.S.Store c.args.self.now.tables.now.conn c.loop-edit.self.tables.now.conn c.edit.new.self.tables.now.conn c.loop-edit.invariant.counts IsCauseOf (statement_of g.T.StoredTable.layout g.T.Keeps.put_means g.T.Keeps.remove_means g.T.Keeps.bind) c.args.edits.now c.edit-item.result c.in_err-edit.field-0.0 among (refused other))
+
 pub loop-edit-preserved : goal.loop-edit-preserved
 loop-edit-preserved g c =
     let kept = c.loop-edit.invariant in
     record {
       same_reference = c.edit.ensures.same_reference ∙ kept.same_reference;
       clean = λ clean. kept.clean (c.edit.ensures.clean clean);
+      counts = omega (arith, kept.counts, c.in_ok-edit.ensures.counts);
       put = λ clean before made at may.
           let was = kept.put (c.edit.ensures.clean clean) before made at may in
           let next = next_is c.args.edits.now c.loop-edit.edit-index c.edit-item.result c.loop-edit-test.true c.edit-item.is in

@@ -1,4 +1,4 @@
-use Rattle.std.proofs.Common.{◌≡◌, ◌+◌, Option, Some, drop}
+use Rattle.std.proofs.Common.{◌≡◌, ◌+◌, ◌≤◌, Option, Some, drop}
 use Rattle.sqlite.specs.Held.{state}
 use Rattle.sqlite.specs.State.{HasCleanDisk}
 use Rattle.wh_rows.specs.AtRest.{IsWriting}
@@ -17,6 +17,7 @@ invariant-loop-edit g l =
     record {
       same_reference : l.self.tables.ghost_name ≡ l.fn.self.tables.ghost_name;
       clean : HasCleanDisk now → HasCleanDisk old;
+      counts : old.faults ≤ now.faults;
       put : HasCleanDisk now → (before : Option Rows) (made : Rows) → IsWriting before (Some made) old → MayAll step may l.edits (table.rows made)
           → (mid : Rows) × IsWriting before (Some mid) now × IsOnTheWay step may table.rows table.with_rows (drop l.edit-index l.edits) mid (table.with_rows (after_all step l.edits (table.rows made)) made);
       counted : l.self.writes ≡ l.fn.self.writes + l.edit-index;

@@ -1,8 +1,10 @@
 use Rattle.std.proofs.Common.{Some, subst, ◌∙◌, arith}
+use Rattle.std.proofs.lemmas.Result.{err_from_is_err_and}
 use Rattle.sqlite.specs.Held.{state}
-use Rattle.wh_rows.specs.AtRest.{IsWriting}
+use Rattle.wh_rows.specs.AtRest.{IsWriting, IsCauseOf}
 use Rattle.wh_sql.specs.Fits.{MayBePut}
 use Rattle.wh_store.specs.Edits.{with_row}
+use Rattle.wh_store.proofs.Refusals.{is_among, one_refused}
 use Rattle.wh_store.proofs.Looping.{next_is, next_may, next_way, way_ends}
 use Rattle.wh_store.proofs.writing.Writing.put_all.Goals as goal
 
@@ -11,12 +13,23 @@ returns-in_err-put-clause-left g c clean before made at may =
     let was = c.loop-row.invariant.put (c.put.ensures.clean clean) before made at may in
     c.put.ensures.left clean before was.0 was.1
 
+pub returns-in_err-put-clause-cause : goal.returns-in_err-put-clause-cause
+returns-in_err-put-clause-cause g c clean before made at may room =
+    let was = c.loop-row.invariant.put (c.put.ensures.clean clean) before made at may in
+    let among = is_among c.args.rows.now c.loop-row.row-index c.row-item.result c.loop-row-test.true c.row-item.is in
+    let next = next_is c.args.rows.now c.loop-row.row-index c.row-item.result c.loop-row-test.true c.row-item.is in
+    let one = next_may g.T.StoredTable.layout (with_row g.T.StoredTable.layout) (MayBePut g.T.StoredTable.layout g.T.Keeps.may_stand) g.T.StoredTable.rows g.T.StoredTable.with_rows g.met.T.Keeps.placed c.args.rows.now c.loop-row.row-index c.row-item.result was.0 _ next was.2 in
+    let refused = c.in_err-put.ensures.cause clean was.1.inside (omega (arith, c.loop-row.invariant.counted, c.loop-row-test.true, room)) one.valid in
+    let p = err_from_is_err_and c.from_residual.result c.from_residual.ensures.1 in
+    rw (p.1, p.2) (λ other. one_refused g.S.Store c.args.self.now.tables.now.conn c.loop-row.self.tables.now.conn c.put.new.self.tables.now.conn c.loop-row.invariant.counts IsCauseOf (λ row. (g.T.Keeps.put_means, g.T.StoredTable.layout.encode row)) c.args.rows.now c.row-item.result c.in_err-put.field-0.0 among (refused other))
+
 pub loop-row-preserved : goal.loop-row-preserved
 loop-row-preserved g c =
     let kept = c.loop-row.invariant in
     record {
       same_reference = c.put.ensures.same_reference ∙ kept.same_reference;
       clean = λ clean. kept.clean (c.put.ensures.clean clean);
+      counts = omega (arith, kept.counts, c.in_ok-put.ensures.counts);
       put = λ clean before made at may.
           let was = kept.put (c.put.ensures.clean clean) before made at may in
           let next = next_is c.args.rows.now c.loop-row.row-index c.row-item.result c.loop-row-test.true c.row-item.is in
