@@ -1,5 +1,5 @@
 -- A batch's own row.
-use Rattle.std.proofs.Common.{◌≡◌, ℕ, suc, ◌+◌, ◌-◌, List, [], ◌∷◌, ◌++◌, length, Some, sym, ◌∙◌, ap, arith, length-append}
+use Rattle.std.proofs.Common.{◌≡◌, suc, ◌-◌, List, [], ◌∷◌, ◌++◌, length, Some, sym, ◌∙◌, ap, arith, length-append}
 use Rattle.std.specs.Prelude.{filter_map}
 use Rattle.std.specs.List.{range_with_len, cons_option}
 use Rattle.wh_history.specs.Accepted.{Accepted}

@@ -1,12 +1,12 @@
 -- What holds of the commands before a batch, where the list with it is one that can have been accepted.
-use Rattle.std.proofs.Common.{◌≡◌, ℕ, ◌+◌, ◌≤◌, true, List, [], ◌∷◌, ◌++◌, length, sym, ap, ◌∙◌, subst, arith}
+use Rattle.std.proofs.Common.{◌≡◌, ℕ, ◌≤◌, true, List, [], ◌∷◌, ◌++◌, length, ap, ◌∙◌, subst, arith}
 use Rattle.std.specs.Prelude.{◌≢◌}
 use Rattle.std.specs.List.{AllByRecursion}
 use Rattle.std.proofs.lemmas.List.{length-append}
 use Rattle.wh_day.specs.Day.{is_day}
 use Rattle.wh_policy.specs.declared.attribute.Dim.{Dim}
 use Rattle.wh_policy.specs.declared.record.DimensionRecord.{DimensionRecord}
-use Rattle.wh_history.specs.Accepted.{Accepted, Anchor, same_anchor, mentions, anchors, members, described, described_by}
+use Rattle.wh_history.specs.Accepted.{Accepted, Anchor, anchors, members, described, described_by}
 use Rattle.wh_history.specs.Laws.{RecordsHaveDays}
 use Rattle.wh_history.specs.Tables.{Limits}
 use Rattle.wh_history.proofs.Growth.{anchors-append, members-append}

@@ -1,5 +1,5 @@
 -- The profiles that a batch is the first to show, under a policy without attributes of the profile.
-use Rattle.std.proofs.Common.{◌≡◌, ℕ, zero, suc, ◌-◌, Bool, true, false, cond, not, List, [], ◌∷◌, ◌++◌, length, map, Option, Some, None, refl, sym, ◌∙◌, ap, arith, append-nil}
+use Rattle.std.proofs.Common.{◌≡◌, ℕ, suc, ◌-◌, Bool, true, false, cond, not, List, [], ◌∷◌, ◌++◌, length, map, Option, Some, None, refl, sym, ◌∙◌, ap, arith, append-nil}
 use Rattle.std.specs.Prelude.{◌≢◌, IsTrue, filter, filter_map, option_map, unwrap_or, slice_get}
 use Rattle.std.specs.List.{list_any, range_with_len, AllByRecursion, cons_option}
 use Rattle.std.proofs.lemmas.List.Elements.{All-weaker, All-map}

@@ -1,6 +1,6 @@
 -- The rows of the members that a batch touches, as they are read, and the edits between them and those behind it.
 use Rattle.std.proofs.Common.{◌≡◌, ℕ, zero, suc, ◌+◌, ◌<◌, ◌==◌, Bool, true, false, cond, nat_lt, List, [], ◌∷◌, ◌++◌, length, map, drop, get_or, Option, Some, None, refl, sym, ◌∙◌, ap, arith, append-nil}
-use Rattle.std.specs.Prelude.{flat_map, filter, option_map, unwrap_or}
+use Rattle.std.specs.Prelude.{flat_map, option_map, unwrap_or}
 use Rattle.std.specs.List.{list_any}
 use Rattle.std.specs.Option.{option_or}
 use Rattle.std.proofs.lemmas.Bool.{lt-ltb}
@@ -14,7 +14,7 @@ use Rattle.wh_policy.specs.declared.attribute.AttributeType.{AttributeType}
 use Rattle.wh_policy.specs.declared.attribute.Dim.{Dim}
 use Rattle.wh_policy.specs.declared.policy.Policy.{Policy}
 use Rattle.wh_policy.specs.declared.record.DimensionRecord.{DimensionRecord}
-use Rattle.wh_history.specs.Accepted.{Accepted, Describes, policy_after, types_in, durable_key, member_of, profiles_of}
+use Rattle.wh_history.specs.Accepted.{Accepted, Describes, policy_after, durable_key, profiles_of}
 use Rattle.wh_history.specs.Dated.{dated, newest}
 use Rattle.wh_history.specs.Laws.{RecordsHaveDays, governs}
 use Rattle.wh_history.specs.Plan.{IsPlan, row_of}

@@ -1,4 +1,4 @@
-use Rattle.std.proofs.Common.{◌≡◌, ◌++◌, ◌∷◌, [], ℕ, List, length, sym, ◌∙◌, ap}
+use Rattle.std.proofs.Common.{◌++◌, ◌∷◌, [], length, ◌∙◌, ap}
 use Rattle.std.specs.Prelude.{filter_map}
 use Rattle.wh_history.specs.Plan.{row_of}
 use Rattle.wh_engine.specs.Defined.{change_at}

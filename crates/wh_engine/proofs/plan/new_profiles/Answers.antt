@@ -1,7 +1,6 @@
-use Rattle.std.proofs.Common.{◌≡◌, [], ◌∷◌, List, Some, None, sym, ◌∙◌, ap}
+use Rattle.std.proofs.Common.{sym, ◌∙◌, ap}
 use Rattle.wh_history.specs.Accepted.{Describes}
 use Rattle.wh_policy.specs.declared.attribute.Dim.TheVariants.{Customer}
-use Rattle.wh_policy.specs.declared.record.DimensionRecord.{DimensionRecord}
 use Rattle.wh_engine.proofs.PlanProfiles.{others_bring_none, none_brings_none, first_split, none_first}
 use Rattle.wh_engine.proofs.plan.new_profiles.Goals as goal
 

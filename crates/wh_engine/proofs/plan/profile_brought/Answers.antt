@@ -1,4 +1,4 @@
-use Rattle.std.proofs.Common.{◌≡◌, Some, None, sym, ◌∙◌}
+use Rattle.std.proofs.Common.{sym, ◌∙◌}
 use Rattle.wh_engine.proofs.PlanProfiles.{first_brings, later_bring_none}
 use Rattle.wh_engine.proofs.plan.profile_brought.Goals as goal
 

@@ -1,4 +1,4 @@
-use Rattle.std.proofs.Common.{◌≡◌, map, ◌∙◌, ap}
+use Rattle.std.proofs.Common.{map, ◌∙◌, ap}
 use Rattle.wh_history.specs.Accepted.{member_of}
 use Rattle.wh_engine.specs.Planning.{naturals_told}
 use Rattle.wh_engine.proofs.PlanPremises.{days_before, values_before, members_before, anchors_before}
