@@ -1,5 +1,5 @@
 -- A small history that can be accepted.
-use Rattle.std.proofs.Common.{◌≤◌, List, [], ◌∷◌, length, refl, arith}
+use Rattle.std.proofs.Common.{◌≡◌, ◌≤◌, List, [], ◌∷◌, length, refl, arith}
 use Rattle.std.specs.Prelude.{codes, bytes_eq, map, Ok}
 use Rattle.std.specs.Str.{is_utf8, chars}
 use lib.Utf8.{encode}

@@ -79,12 +79,12 @@ module _ (t : Tables) where
   unfolding opened
   format_known is = rw is refl
 
-  pub not_opened : (s : State) (fault : OpenFault) → IsRefusedWith t s fault → Leaves (Some t) s → IsRead {A = Session} (Err (of_tables fault)) (opened t) t s
-  not_opened s store.NotAWarehouse refused left = (format_fault store.NotAWarehouse refused.0, refused.1)
-  not_opened s store.OldFormat refused left = (format_fault store.OldFormat refused.0, refused.1)
-  not_opened s store.NewFormat refused left = (format_fault store.NewFormat refused.0, refused.1)
-  not_opened s (store.Damaged table) refused left = absurd refused
-  not_opened s (store.Store cause) refused left = left
+  pub not_opened : (old s : State) (fault : OpenFault) → IsRefusedWith t old s fault → Leaves (Some t) s → IsRead {A = Session} (Err (of_tables fault)) (opened t) t s
+  not_opened old s store.NotAWarehouse refused left = (format_fault store.NotAWarehouse refused.0, refused.1)
+  not_opened old s store.OldFormat refused left = (format_fault store.OldFormat refused.0, refused.1)
+  not_opened old s store.NewFormat refused left = (format_fault store.NewFormat refused.0, refused.1)
+  not_opened old s (store.Damaged table) refused left = absurd refused
+  not_opened old s (store.Store cause) refused left = left
 
 same_ok : {A F : Type 0} (r : Result A F) (x y : A) → r ≡ Ok x → r ≡ Ok y → x ≡ y
 same_ok r x y first second = cc

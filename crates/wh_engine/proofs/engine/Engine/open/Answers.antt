@@ -9,14 +9,14 @@ use Rattle.wh_engine.proofs.engine.Engine.open.Goals as goal
 pub returns-in-Err-clause-fault : goal.returns-in-Err-clause-fault
 returns-in-Err-clause-fault g c clean t rests =
     let all_there = ap are_all_there rests.now.schema ∙ all_of_a_warehouse in
-    rw c.of_tables.ensures (not_opened t (state g.S.Store c.in-Err.conn) c.in-Err.fault (c.in-Err.ensures.refused clean t rests all_there) (c.in-Err.ensures.left clean t rests))
+    rw c.of_tables.ensures (not_opened t (state g.S.Store c.args.conn) (state g.S.Store c.in-Err.conn) c.in-Err.fault (c.in-Err.ensures.refused clean t rests all_there) (c.in-Err.ensures.left clean t rests))
 
 pub returns-in-Err-clause-refused : goal.returns-in-Err-clause-refused
 returns-in-Err-clause-refused g c clean limits commands accepted rests =
     let t = rests.tables in
     let new = state g.S.Store c.in-Err.conn in
     let all_there = ap are_all_there rests.rests.now.schema ∙ all_of_a_warehouse in
-    rw c.of_tables.ensures (opened_refused limits commands t accepted rests.are (of_tables c.in-Err.fault) new (not_opened t new c.in-Err.fault (c.in-Err.ensures.refused clean t rests.rests all_there) (c.in-Err.ensures.left clean t rests.rests)))
+    rw c.of_tables.ensures (opened_refused limits commands t accepted rests.are (of_tables c.in-Err.fault) new (not_opened t (state g.S.Store c.args.conn) new c.in-Err.fault (c.in-Err.ensures.refused clean t rests.rests all_there) (c.in-Err.ensures.left clean t rests.rests)))
 
 pub returns-in-Ok-session_of-clause-found : goal.returns-in-Ok-session_of-clause-found
 returns-in-Ok-session_of-clause-found g c clean t rests =
