@@ -1,5 +1,5 @@
 -- Which of the warehouse's tables a database has.
-use Rattle.std.specs.Prelude.{◌≡◌, ℕ, Bool, ◌&&◌, List, [], map, None, is_some, IsTrue}
+use Rattle.std.specs.Prelude.{◌≡◌, ℕ, Bool, ◌&&◌, List, map, None, is_some, IsTrue}
 use Rattle.std.specs.List.{list_all, list_any}
 use Rattle.sqlite_schema.specs.Names.{same_name, column_named}
 use Rattle.sqlite.specs.Table.{Table}
