@@ -1,5 +1,5 @@
 -- What the rows of the tables say of the answer to a command.
-use Rattle.std.proofs.Common.{◌≡◌, ℕ, suc, ◌+◌, ◌<◌, ◌≤◌, Bool, true, false, cond, leb, ltb, List, [], ◌∷◌, ◌++◌, length, map, Option, Some, None, Result, Ok, Err, refl, sym, ap, subst, ◌∙◌, arith, length-append}
+use Rattle.std.proofs.Common.{◌≡◌, ℕ, suc, ◌+◌, ◌<◌, ◌≤◌, Bool, true, false, cond, leb, ltb, List, [], ◌∷◌, ◌++◌, length, Option, Some, None, Result, Ok, Err, refl, sym, ap, subst, ◌∙◌, arith, length-append}
 use Rattle.std.proofs.lemmas.Bool.{le-leb, lt-leb, le-ltb, lt-ltb}
 use Rattle.std.specs.Prelude.{find, bytes_eq, option_map, IsSome, unwrap_or, ◌&&◌}
 use Rattle.wh_policy.specs.Policy.{trial_policy}
@@ -19,7 +19,7 @@ use Rattle.wh_history.specs.Tables.{Limits}
 use Rattle.wh_history.proofs.Basics.{some_is}
 use Rattle.wh_rows.specs.declared.rows.CommandRow.{CommandRow}
 use Rattle.wh_rows.specs.Types.{is_key}
-use Rattle.wh_engine.specs.Admission.{kind_word, content_of, in_force, accepted_as, receipt_of, when_known, with_room, when_read, by_id, answer, with_content, after_answer, accepted_after}
+use Rattle.wh_engine.specs.Admission.{kind_word, content_of, in_force, accepted_as, receipt_of, with_room, when_read, by_id, answer, with_content, after_answer, accepted_after}
 use Rattle.wh_engine.specs.Decided.{already, reply_to_known, as_refused, records_told, row_of_batch, number_with_room, IsNew}
 use Rattle.wh_engine.specs.Defined.{command_at}
 use Rattle.wh_engine.specs.Faults.{Judges}

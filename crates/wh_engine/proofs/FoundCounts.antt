@@ -1,21 +1,19 @@
 -- How much the tables of accepted commands hold.
-use Rattle.std.proofs.Common.{◌≡◌, inl, ℕ, true, false, List, [], ◌∷◌, length, Option, Some, None, Result, Ok, Err, refl, sym, ap, ◌∙◌}
-use Rattle.std.specs.FinMap.{get, len, values}
+use Rattle.std.proofs.Common.{◌≡◌, inl, ℕ, true, false, List, [], length, Some, None, Result, Ok, Err, refl, sym, ap, ◌∙◌}
+use Rattle.std.specs.FinMap.{len, values}
 use Rattle.sqlite.specs.State.{State}
 use Rattle.wh_policy.specs.declared.attribute.Dim.TheVariants.{Product, Store, Customer}
-use Rattle.wh_policy.specs.declared.record.SaleRecord.{SaleRecord}
 use Rattle.wh_history.specs.Accepted.{Accepted, sold, members}
 use Rattle.wh_history.specs.Tables.{Limits}
-use Rattle.wh_history.specs.declared.facts.Fact.{Fact}
 use Rattle.wh_rows.specs.AtRest.{IsAtRest, Leaves}
 use Rattle.wh_rows.specs.Rows as row
 use Rattle.wh_rows.specs.Tables.{Tables}
 use Rattle.wh_rows.specs.declared.key.LineKey.{LineKey}
 use Rattle.wh_rows.proofs.Orders.{line_cmp_total, line_cmp-IsAntisymmetric}
-use Rattle.wh_engine.specs.Answered.{IsReady, IsStopped, IsCounted, counts_of}
+use Rattle.wh_engine.specs.Answered.{IsReady, IsCounted, counts_of}
 use Rattle.wh_engine.specs.Defined.{AreOf, fact_at}
 use Rattle.wh_engine.specs.Faults.{IsServed, Judges, stops}
-use Rattle.wh_engine.specs.Sound.{changes_kept, IsAccepted}
+use Rattle.wh_engine.specs.Sound.{IsAccepted}
 use Rattle.wh_engine.specs.declared.counts.Counts.{Counts}
 use Rattle.wh_engine.specs.declared.fault.Fault.{Fault}
 use Rattle.wh_engine.specs.declared.fault.Fault.TheVariants as faults

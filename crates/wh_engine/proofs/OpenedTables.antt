@@ -1,13 +1,12 @@
 -- What an engine reads when it opens a warehouse.
-use Rattle.std.proofs.Common.{◌≡◌, ◌≢◌, ◌⊎◌, inl, inr, ℕ, Bool, true, false, cond, List, [], ◌∷◌, slice_get, filter, Option, Some, None, Result, Ok, Err, OnOk, refl, sym, ap, subst, ◌∙◌}
-use Rattle.std.specs.Prelude.{codes, pos, ℤ, bytes_eq, option_map, unwrap_or}
+use Rattle.std.proofs.Common.{◌≡◌, ◌≢◌, ◌⊎◌, inl, inr, ℕ, Bool, true, false, List, [], ◌∷◌, slice_get, Option, Some, None, Result, Ok, Err, OnOk, refl, sym, ap, ◌∙◌}
+use Rattle.std.specs.Prelude.{codes, pos}
 use Rattle.std.specs.Option.{option_to_list}
-use Rattle.std.specs.FinMap.{get, values}
 use Rattle.sqlite.specs.Tree.{Trees}
 use Rattle.sqlite.specs.State.{State}
 use Rattle.wh_policy.specs.Policy.{policy_at}
 use Rattle.wh_policy.specs.declared.policy.Policy.{Policy}
-use Rattle.wh_history.specs.Accepted.{Accepted, policy_after}
+use Rattle.wh_history.specs.Accepted.{Accepted}
 use Rattle.wh_history.specs.Tables.{Limits}
 use Rattle.wh_history.proofs.Basics.{some_is}
 use Rattle.wh_rows.specs.AtRest.{AreTrees, IsAtRest, Leaves}
@@ -16,17 +15,16 @@ use Rattle.wh_rows.specs.Tables.{Tables}
 use Rattle.wh_rows.specs.declared.cause.Cause.{Cause}
 use Rattle.wh_rows.specs.declared.rows.CommandRow.{CommandRow}
 use Rattle.wh_rows.specs.declared.rows.MetaRow.{MetaRow}
-use Rattle.wh_sql.specs.Asked.{same_text}
-use Rattle.wh_store.specs.Meta.{number_of, number_in, fault_of, limits_of_numbers, limits_in}
+use Rattle.wh_store.specs.Meta.{number_of, number_in, fault_of, limits_in}
 use Rattle.wh_store.specs.Opening.{IsTaken, IsRefusedWith}
 use Rattle.wh_store.specs.declared.fault.OpenFault.{OpenFault}
 use Rattle.wh_store.specs.declared.fault.OpenFault.TheVariants as store
 use Rattle.wh_engine.specs.Admission.{in_force}
-use Rattle.wh_engine.specs.Answered.{Rests, AreTreesOf, LeavesOneOf, IsReady}
-use Rattle.wh_engine.specs.Defined.{AreOf, meta_at, command_at}
+use Rattle.wh_engine.specs.Answered.{Rests, IsReady}
+use Rattle.wh_engine.specs.Defined.{AreOf, meta_at}
 use Rattle.wh_engine.specs.Kept.{command_with}
 use Rattle.wh_engine.specs.Made.{making_of}
-use Rattle.wh_engine.specs.Opened.{makings_in, making_in, of_tables, of_format, of_limits, of_policy, of_making, session_in, opened, IsTold, IsRead, IsNotOpened, LeavesMaking, LeavesMade}
+use Rattle.wh_engine.specs.Opened.{making_in, of_tables, of_limits, of_policy, of_making, session_in, opened, IsTold, IsRead, IsNotOpened, LeavesMaking, LeavesMade}
 use Rattle.wh_engine.specs.Sound.{IsAccepted}
 use Rattle.wh_engine.specs.declared.opening.OpeningFault.{OpeningFault}
 use Rattle.wh_engine.specs.declared.opening.OpeningFault.TheVariants as faults
@@ -152,16 +150,20 @@ rests_if_kept limits commands s t are (Ok done) rests = record { tables = t; are
 rests_if_kept limits commands s t are (Err cause) rests = tt
 
 pub leaves_making : (limits : Limits) (policy : Policy) (bytes : List ℕ) (s : State) (t : Tables) → AreOf limits (making_of policy bytes ∷ []) t → ((trees : Trees) → s.may_leave trees → AreTrees None trees ⊎ AreTrees (Some t) trees) → LeavesMaking limits policy bytes s
-leaves_making limits policy bytes s t are left = record { each = λ trees may. elim (left trees may) [
+leaves_making limits policy bytes s t are left = record {
+  each = λ trees may. elim (left trees may) [
     | inl before ↦ inl before
     | inr made ↦ inr (record { tables = t; are = are; trees_are = made })
-  ] }
+  ];
+}
 
 pub leaves_made : (limits : Limits) (policy : Policy) (bytes : List ℕ) (s : State) → policy_at bytes ≡ Ok policy → LeavesMaking limits policy bytes s → LeavesMade limits bytes s
-leaves_made limits policy bytes s written left = record { each = λ trees may. elim (left.each trees may) [
+leaves_made limits policy bytes s written left = record {
+  each = λ trees may. elim (left.each trees may) [
     | inl before ↦ inl before
     | inr made ↦ inr (policy, written, made)
-  ] }
+  ];
+}
 
 pub leaves_nothing : (limits : Limits) (bytes : List ℕ) (s : State) → IsAtRest None s → LeavesMade limits bytes s
 leaves_nothing limits bytes s rests = record { each = λ trees may. inl (rests.left.each trees may) }

@@ -15,7 +15,7 @@ use Rattle.wh_history.proofs.Stays.{policy_last}
 use Rattle.wh_rows.specs.AtRest.{AreTrees, IsAtRest, Leaves}
 use Rattle.wh_rows.specs.Tables.{Tables}
 use Rattle.wh_engine.specs.Admission.{accepted_as, answer, accepted_after, in_force}
-use Rattle.wh_engine.specs.Answered.{Rests, AreTreesOf, LeavesOneOf, IsReady, IsAnswered, IsPerformed}
+use Rattle.wh_engine.specs.Answered.{AreTreesOf, LeavesOneOf, IsReady, IsAnswered, IsPerformed}
 use Rattle.wh_engine.specs.Decided.{IsHeld, AreEditsOf, Decides}
 use Rattle.wh_engine.specs.Defined.{AreOf}
 use Rattle.wh_engine.specs.Faults.{IsServed, Judges, stops}
@@ -31,7 +31,7 @@ use Rattle.wh_engine.specs.declared.decision.Decision.TheVariants.{Repeat, Accep
 use Rattle.wh_engine.specs.declared.fault.Fault.{Fault}
 use Rattle.wh_engine.specs.declared.fault.Fault.TheVariants as faults
 use Rattle.wh_engine.specs.declared.session.Session.{Session}
-use Rattle.wh_engine.proofs.Decisions.{judged_ok, after_refused, after_repeat, after_accepted, policy_in_force, sound_in_force}
+use Rattle.wh_engine.proofs.Decisions.{judged_ok, after_repeat, after_accepted, policy_in_force, sound_in_force}
 use Rattle.wh_engine.proofs.GrownPlain.{sound_policies_show_none}
 use Rattle.wh_engine.proofs.MayBatch.{a_batch_may_be_written}
 use Rattle.wh_engine.proofs.StaysAccepted.{stays_accepted}
@@ -113,10 +113,12 @@ module _ (limits : Limits) (commands : List Accepted) (c : Command) (dim : Dim) 
 
     -- or the store refused them
     pub stop_performed : (new : State) → ((trees : Trees) → new.may_leave trees → AreTrees (Some tables) trees ⊎ AreTrees (Some (with_batch_edits dim edits tables)) trees) → LeavesOneOf limits commands (accepted_after limits commands c) new
-    stop_performed new left = record { each = λ trees may. elim (left trees may) [
+    stop_performed new left = record {
+      each = λ trees may. elim (left trees may) [
         | inl before ↦ inl (record { tables = tables; are = ready.rests.are; trees_are = before })
         | inr after ↦ inr (subst (λ list. AreTreesOf limits list trees) (sym list_is) (record { tables = with_batch_edits dim edits tables; are = written; trees_are = after }))
-      ] }
+      ];
+    }
 
 -- ---- a refusal of the store is noted
 

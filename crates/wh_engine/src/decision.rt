@@ -93,14 +93,7 @@ fn decide_new<S: Alter>(
     let count = records.as_slice().len() as u64;
     let number = number_with_room(tables, alloc, session.limits, count)?;
     let row = command_row(alloc, command, number, count)?;
-    let edits = plan_batch(
-        tables,
-        alloc,
-        &session.policy,
-        dim,
-        row,
-        records.as_slice(),
-    )?;
+    let edits = plan_batch(tables, alloc, &session.policy, dim, row, records.as_slice())?;
     let receipt = Receipt {
         number,
         records: count,

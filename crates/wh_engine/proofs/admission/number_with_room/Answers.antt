@@ -1,4 +1,4 @@
-use Rattle.std.proofs.Common.{◌≡◌, ◌∙◌, ◌<◌, ◌≤◌, ◌+◌, length, sym, ap, arith}
+use Rattle.std.proofs.Common.{◌∙◌, ◌<◌, ◌≤◌, ◌+◌, length, arith}
 use Rattle.wh_engine.specs.Sound.{changes_kept}
 use Rattle.wh_engine.proofs.FoundCommands.{commands_counted}
 use Rattle.wh_engine.proofs.ListedChanges.{changes_counted}

@@ -1,4 +1,3 @@
-use Rattle.wh_policy.specs.declared.attribute.Dim.TheVariants.{Product, Store, Customer}
 use Rattle.wh_engine.proofs.FoundCounts.{counts_are}
 use Rattle.wh_engine.proofs.counts.counts_of.Goals as goal
 

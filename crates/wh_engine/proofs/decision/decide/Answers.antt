@@ -1,7 +1,5 @@
-use Rattle.std.proofs.Common.{◌≡◌, ◌∙◌, true, None, Some, sym, ap}
+use Rattle.std.proofs.Common.{◌≡◌, ◌∙◌, true, None, Some, sym}
 use Rattle.wh_rows.specs.Types.{is_key}
-use Rattle.wh_engine.specs.Decided.{Decides}
-use Rattle.wh_engine.specs.Faults.{Judges}
 use Rattle.wh_engine.specs.Kept.{command_with}
 use Rattle.wh_engine.proofs.Decisions.{known_answer, is_new}
 use Rattle.wh_engine.proofs.decision.decide.Goals as goal

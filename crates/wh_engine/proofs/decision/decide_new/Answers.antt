@@ -1,4 +1,4 @@
-use Rattle.std.proofs.Common.{◌≡◌, ◌∙◌, ℕ, suc, List, [], ◌∷◌, ◌++◌, sym, ap, subst, refl, Ok, Some, length}
+use Rattle.std.proofs.Common.{◌≡◌, ◌∙◌, suc, [], ◌∷◌, ◌++◌, sym, ap, subst, refl, Ok, Some, length}
 use Rattle.wh_policy.specs.Written.{IsSound}
 use Rattle.wh_history.specs.Accepted.{Describes}
 use Rattle.wh_engine.specs.Admission.{in_force, accepted_as}

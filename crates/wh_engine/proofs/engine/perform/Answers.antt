@@ -1,4 +1,3 @@
-use Rattle.std.proofs.Common.{◌≡◌}
 use Rattle.sqlite.specs.Held.{state}
 use Rattle.wh_engine.proofs.Performing.{held, repeat_performed, fault_performed, may_write, accept_performed, stop_performed}
 use Rattle.wh_engine.proofs.engine.perform.Goals as goal

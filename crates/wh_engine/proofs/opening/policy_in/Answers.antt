@@ -1,4 +1,4 @@
-use Rattle.std.proofs.Common.{◌≡◌, ◌∙◌, ap, subst, sym, filter, slice_get}
+use Rattle.std.proofs.Common.{◌≡◌, ◌∙◌, ap, subst, filter, slice_get}
 use Rattle.std.specs.FinMap.{values}
 use Rattle.sqlite.specs.Held.{state}
 use Rattle.wh_sql.specs.Asked.{same_text}

@@ -1,9 +1,8 @@
-use Rattle.std.proofs.Common.{◌≡◌, true, sym, subst, rules}
+use Rattle.std.proofs.Common.{◌≡◌, true, rules}
 use Rattle.sqlite.specs.Held.{state}
-use Rattle.wh_rows.specs.AtRest.{IsAtRest}
 use Rattle.wh_rows.specs.Limits.{are_limits}
 use Rattle.wh_engine.proofs.MadePolicies.{policies_are_good}
-use Rattle.wh_engine.proofs.OpenedTables.{leaves_made, leaves_nothing, made_ready}
+use Rattle.wh_engine.proofs.OpenedTables.{leaves_made, made_ready}
 use Rattle.wh_engine.proofs.engine.Engine.init.Goals as goal
 
 pub returns-in-Ok-commit_making-clause-made : goal.returns-in-Ok-commit_making-clause-made

@@ -1,9 +1,9 @@
-use Rattle.std.proofs.Common.{◌≡◌, ◌∙◌, sym, ap, refl}
+use Rattle.std.proofs.Common.{◌∙◌, ap}
 use Rattle.sqlite.specs.Held.{state}
 use Rattle.wh_sql.specs.Present.{are_all_there}
 use Rattle.wh_sql.proofs.Worked.{all_of_a_warehouse}
 use Rattle.wh_engine.specs.Opened.{of_tables}
-use Rattle.wh_engine.proofs.OpenedTables.{fault_goes_on, format_known, not_opened, opened_ready, opened_refused}
+use Rattle.wh_engine.proofs.OpenedTables.{format_known, not_opened, opened_ready, opened_refused}
 use Rattle.wh_engine.proofs.engine.Engine.open.Goals as goal
 
 pub returns-in-Err-clause-fault : goal.returns-in-Err-clause-fault
