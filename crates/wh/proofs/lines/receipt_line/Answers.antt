@@ -1,0 +1,4 @@
+use Rattle.wh.proofs.lines.receipt_line.Goals as goal
+
+pub returns : goal.returns
+returns c = let h = c.format.ensures.ok in ?
