@@ -95,10 +95,13 @@ opening_answer (opening.Store cause) = failed (store_line cause)
 abbrev pub members_line : Counts → List ℕ
 members_line counts = line (codes "members product " ++ decimal counts.products ++ codes " store " ++ decimal counts.stores ++ codes " customer " ++ decimal counts.customers)
 
+abbrev pub totals_text : Counts → List ℕ
+totals_text counts = line (codes "format " ++ decimal counts.format ++ codes "\ncommands " ++ decimal counts.commands ++ codes "\nchanges " ++ decimal counts.changes
+    ++ codes "\nfacts " ++ decimal counts.facts)
+
 -- the five lines that tell how much a warehouse holds
 abbrev pub counts_text : Counts → List ℕ
-counts_text counts = codes "format " ++ decimal counts.format ++ codes "\ncommands " ++ decimal counts.commands ++ codes "\nchanges " ++ decimal counts.changes
-    ++ codes "\nfacts " ++ decimal counts.facts ++ codes "\n" ++ members_line counts
+counts_text counts = totals_text counts ++ members_line counts
 
 abbrev pub status_answer : Result Counts Fault → Printed
 status_answer (Ok counts) = done (counts_text counts)

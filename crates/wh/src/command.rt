@@ -35,7 +35,10 @@ pub enum Request<'a> {
         policy: Option<&'a str>,
     },
     /// The making of the warehouse in `file`, under the policy in a file.
-    Init { file: &'a str, policy: &'a str },
+    Init {
+        file: &'a str,
+        policy: &'a str,
+    },
     /// The load of the batch in the file `path` into the warehouse in `file`, under an id.
     Load {
         file: &'a str,
@@ -44,7 +47,9 @@ pub enum Request<'a> {
         path: &'a str,
     },
     /// How much the warehouse in `file` holds.
-    Status { file: &'a str },
+    Status {
+        file: &'a str,
+    },
     /// Help that was asked for.
     Help(String),
     /// What is wrong with the words.

@@ -50,11 +50,7 @@ pub trait Host {
 }
 
 /// The bytes of a file, if it is there.
-pub fn file_of<H: Host>(
-    alloc: Global,
-    path: &str,
-    host: &H,
-) -> Result<Option<Vec<u8>>, AllocError>
+pub fn file_of<H: Host>(alloc: Global, path: &str, host: &H) -> Result<Option<Vec<u8>>, AllocError>
     ensures { IfOk result (λ file. H.holds host.now path.now (option_map (λ bytes. bytes.items) file)) }
 {
     match host.read(alloc, path) {

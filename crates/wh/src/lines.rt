@@ -2,7 +2,7 @@
 
 ghost use Rattle.std.specs.Prelude.{◌≡◌, IfOk, string_bytes};
 ghost use Rattle.wh.specs.Answer.{status_code, done, refused, failed, no_file_line, batch_line, batch_fault_name, policy_line, policy_fault_name};
-ghost use Rattle.wh.specs.Reply.{receipt_line, reply_answer, limit_name, full_line, line_there_line, refused_line, damaged_line, cause_name, store_line, fault_answer, load_answer, made_line, making_answer, opening_answer, members_line, counts_text, status_answer};
+ghost use Rattle.wh.specs.Reply.{receipt_line, reply_answer, limit_name, full_line, line_there_line, refused_line, damaged_line, cause_name, store_line, fault_answer, load_answer, made_line, making_answer, opening_answer, members_line, totals_text, counts_text, status_answer};
 
 use crate::answer::{Answer, Status};
 use std::alloc::{AllocError, Global};
@@ -79,19 +79,13 @@ fn told(alloc: Global, status: Status, line: &str) -> Result<Answer, AllocError>
 }
 
 /// What an accepted command is told, behind the word for how it was taken.
-fn receipt_line(
-    alloc: Global,
-    word: &str,
-    id: &str,
-    receipt: Receipt,
-) -> Result<Vec<u8>, AllocError>
-    ensures { IfOk result (λ line. line.items ≡ receipt_line word.now id.now receipt) }
+fn receipt_line(alloc: Global, word: &str, id: &str, receipt: Receipt) -> Result<String, AllocError>
+    ensures { IfOk result (λ line. string_bytes line ≡ receipt_line word.now id.now receipt) }
 {
     let number = receipt.number;
     let records = receipt.records;
     let placeholders = receipt.placeholders;
-    let line = format!(in alloc; "{word} {number} {id}: {records} records, {placeholders} placeholders\n")?;
-    Ok(line.into_bytes())
+    format!(in alloc; "{word} {number} {id}: {records} records, {placeholders} placeholders\n")
 }
 
 /// The answer to a command that is kept.
@@ -102,7 +96,7 @@ fn reply_answer(alloc: Global, id: &str, reply: Reply) -> Result<Answer, AllocEr
         Reply::Accepted(receipt) => receipt_line(alloc, "accepted", id, receipt)?,
         Reply::Already(receipt) => receipt_line(alloc, "already", id, receipt)?,
     };
-    Ok(Answer::new(Status::Done, line))
+    Ok(Answer::new(Status::Done, line.into_bytes()))
 }
 
 fn limit_name(limit: Limit) -> &'static str
@@ -208,7 +202,11 @@ pub fn load_answer(
 pub fn made(alloc: Global) -> Result<Answer, AllocError>
     ensures { IfOk result (λ answer. answer ≡ done made_line) }
 {
-    told(alloc, Status::Done, "accepted 1 init: 0 records, 0 placeholders\n")
+    told(
+        alloc,
+        Status::Done,
+        "accepted 1 init: 0 records, 0 placeholders\n",
+    )
 }
 
 /// The answer where no warehouse was made.
@@ -249,16 +247,24 @@ fn members_line(alloc: Global, counts: &Counts) -> Result<String, AllocError>
     format!(in alloc; "members product {products} store {stores} customer {customers}\n")
 }
 
-/// The lines that tell how much a warehouse holds.
-fn counts_text(alloc: Global, counts: &Counts) -> Result<Vec<u8>, AllocError>
-    ensures { IfOk result (λ text. text.items ≡ counts_text counts.now) }
+/// The lines that tell the format and how many rows there are.
+fn totals_text(alloc: Global, counts: &Counts) -> Result<String, AllocError>
+    ensures { IfOk result (λ text. string_bytes text ≡ totals_text counts.now) }
 {
     let number = counts.format;
     let commands = counts.commands;
     let changes = counts.changes;
     let facts = counts.facts;
+    format!(in alloc; "format {number}\ncommands {commands}\nchanges {changes}\nfacts {facts}\n")
+}
+
+/// The five lines that tell how much a warehouse holds.
+fn counts_text(alloc: Global, counts: &Counts) -> Result<Vec<u8>, AllocError>
+    ensures { IfOk result (λ text. text.items ≡ counts_text counts.now) }
+{
+    let mut text = totals_text(alloc, counts)?;
     let members = members_line(alloc, counts)?;
-    let text = format!(in alloc; "format {number}\ncommands {commands}\nchanges {changes}\nfacts {facts}\n{members}")?;
+    text.push_str(members.as_str())?;
     Ok(text.into_bytes())
 }
 

@@ -50,7 +50,12 @@ fn answer_under(alloc: Global, dim: Dim, policy: &[u8], batch: &[u8]) -> Result<
 }
 
 /// A trial of the batch in a file, under the trial's own policy.
-pub fn plain_trial<H: Host>(alloc: Global, dim: Dim, path: &str, host: &H) -> Result<Answer, AllocError>
+pub fn plain_trial<H: Host>(
+    alloc: Global,
+    dim: Dim,
+    path: &str,
+    host: &H,
+) -> Result<Answer, AllocError>
     ensures { IfOk result (AnswersTrial (H.holds host.now) dim path.now None) }
 {
     let Some(batch) = file_of(alloc, path, host)? else {
