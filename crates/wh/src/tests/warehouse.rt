@@ -92,11 +92,11 @@ fn make_with_products(rt: &impl Abort, alloc: Global, host: &mut MemoryHost<'_>)
 
 /// Runs a text on the connection of a file, and tells whether it was taken.
 #[derive(Clone, Copy)]
-struct Execute<'a> {
+struct Altering<'a> {
     text: &'a str,
 }
 
-impl Visitor for Execute<'_> {
+impl Visitor for Altering<'_> {
     type Output = bool;
 
     fn visit<T: Alter + Drop>(
@@ -110,8 +110,8 @@ impl Visitor for Execute<'_> {
 }
 
 /// Runs a text on the file `w`.
-fn execute(rt: &impl Abort, alloc: Global, host: &mut MemoryHost<'_>, text: &str) {
-    let outcome = host.with_connection(alloc, "w", Execute { text });
+fn alter(rt: &impl Abort, alloc: Global, host: &mut MemoryHost<'_>, text: &str) {
+    let outcome = host.with_connection(alloc, "w", Altering { text });
     assert!(rt; outcome == Ok::<bool, HostError>(true), "{text}");
 }
 
@@ -271,7 +271,7 @@ fn tells_a_file_that_is_no_warehouse(rt: HostRuntime) {
 #[test]
 fn tells_the_file_of_another_program(rt: HostRuntime) {
     let mut host = MemoryHost::new(rt.alloc(), &FILES);
-    execute(
+    alter(
         &rt,
         rt.alloc(),
         &mut host,
@@ -286,7 +286,7 @@ fn tells_the_file_of_another_program(rt: HostRuntime) {
 fn tells_nine_tables(rt: HostRuntime) {
     let mut host = MemoryHost::new(rt.alloc(), &FILES);
     make(&rt, rt.alloc(), &mut host);
-    execute(&rt, rt.alloc(), &mut host, "DROP TABLE fact");
+    alter(&rt, rt.alloc(), &mut host, "DROP TABLE fact");
     let line = "failed: N1 not a warehouse\n";
     expect_load(&rt, rt.alloc(), &mut host, "p1", "p1.csv", 3, line);
 }
@@ -294,7 +294,7 @@ fn tells_nine_tables(rt: HostRuntime) {
 #[test]
 fn tells_a_taken_name(rt: HostRuntime) {
     let mut host = MemoryHost::new(rt.alloc(), &FILES);
-    execute(&rt, rt.alloc(), &mut host, "CREATE TABLE fact (a)");
+    alter(&rt, rt.alloc(), &mut host, "CREATE TABLE fact (a)");
     let words = ["init", "w", "flat.toml"];
     let line = "refused: E11 not empty\n";
     expect(&rt, rt.alloc(), &mut host, &words, 2, line);
@@ -304,7 +304,7 @@ fn tells_a_taken_name(rt: HostRuntime) {
 #[test]
 fn tells_a_refusal_of_the_store(rt: HostRuntime) {
     let mut host = MemoryHost::new(rt.alloc(), &FILES);
-    execute(
+    alter(
         &rt,
         rt.alloc(),
         &mut host,
@@ -335,7 +335,7 @@ fn expect_format(rt: &impl Abort, alloc: Global, format: &str, line: &str) {
     else {
         return;
     };
-    execute(rt, alloc, &mut host, text.as_str());
+    alter(rt, alloc, &mut host, text.as_str());
     expect(rt, alloc, &mut host, &["status", "w"], 3, line);
     expect_load(rt, alloc, &mut host, "p1", "p1.csv", 3, line);
 }
