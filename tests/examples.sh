@@ -21,8 +21,29 @@ example() {
     rm -f "/tmp/wh-example.$$"
 }
 
+# expected line, status, words
+line() {
+    local text=$1 status=$2 answered=0 told
+    shift 2
+    told=$("$program" "$@") || answered=$?
+    if [ "$told" = "$text" ] && [ "$answered" = "$status" ]; then
+        passed=$((passed + 1))
+    else
+        failed=$((failed + 1))
+        echo "wh $*: status $answered, '$told' and not '$text'"
+    fi
+}
+
 example products.txt 0 trial product examples/products.csv
 example late.txt 0 trial product examples/late.csv --policy examples/flat.toml
 example wrong_header.txt 2 trial product examples/late.csv
+work=$(mktemp -d)
+trap 'rm -rf "$work"' EXIT
+line "accepted 1 init: 0 records, 0 placeholders" 0 init "$work/shop.wh" examples/flat.toml
+line "accepted 2 p1: 3 records, 0 placeholders" 0 load "$work/shop.wh" product p1 examples/late.csv
+line "already 2 p1: 3 records, 0 placeholders" 0 load "$work/shop.wh" product p1 examples/late.csv
+line "refused: E11 not empty" 2 init "$work/shop.wh" examples/flat.toml
+line "$(printf 'format 1\ncommands 2\nchanges 3\nfacts 0\nmembers product 1 store 0 customer 0')" 0 status "$work/shop.wh"
+line "failed: N1 not a warehouse" 3 status "$work/none.wh"
 echo "$passed passed, $failed failed"
 [ "$failed" = 0 ]

@@ -1,173 +1,101 @@
--- What clap makes of the words of a trial.
-use Rattle.std.proofs.Common.{◌≡◌, ℕ, List, [], ◌∷◌, codes, refl, true, false, Bool, ◌==◌, Some, None, not, Option, option_map, option_and_then, ap, ap₂, sym, ◌∙◌, bytes_eq}
-use Rattle.clap.specs.Words.{takes, subcommand_of, subcommand_name_of, subcommand_rows_of, first_of, first_value, found_of, rows_of, Row, Text}
-use Rattle.clap.specs.declared.parser.matches.ArgMatches.{ArgMatches}
-use Rattle.clap.specs.declared.parser.matches.ArgMatches.TheViews.{out-ArgMatches}
-use Rattle.clap.proofs.WalkLemmas.{first_value-rows}
+-- What clap makes of the words of a command.
+use Rattle.std.proofs.Common.{◌≡◌, ◌∙◌, ℕ, List, [], ◌∷◌, codes, refl, sym, ap, true, false, Bool, ◌==◌, ◌&&◌, Some, None, not, Option, bytes_eq, true≢false}
+use Rattle.clap.specs.Words.{takes, subcommand_of, Text}
+use Rattle.clap.specs.Lexer.{long_of, short_of}
 use Rattle.clap.proofs.OnLiterals.{clap_on_literals}
-use Rattle.wh.specs.CommandLine.{program_app, trial_words, is_operand, is_operand_or_none, named, Operands, operands_with, trial_operands}
+use Rattle.wh.specs.CommandLine.{CommandLine, Trial, Init, Load, Status, program_app, words_of, is_operand, is_operand_or_none, has_operands, named}
 
 not-true : (b : Bool) → not b ≡ true → b ≡ false
 not-true true h = cc
 not-true false h = refl
 
-hyphenless : (byte : ℕ) → not (byte == 45) ≡ true → (byte == 45) ≡ false
-hyphenless byte h = not-true (byte == 45) h
+both : (a b : Bool) → (a && b) ≡ true → (a ≡ true) × (b ≡ true)
+both true b h = (refl, h)
+both false b h = absurd (true≢false (sym h))
 
--- The walk over the words stops at each test of a word's first byte, so each word's test is rewritten where it is met: once in
--- the walk, and once behind it.
-taken_empty_empty : takes program_app (trial_words [] [] None) ≡ true
+-- what clap asks of a word: whether it is an option, and whether it ends the options
+pub record IsPlain (word : Text) : Type 0 where
+  pub no_end : bytes_eq word (45 ∷ 45 ∷ []) ≡ false
+  pub no_long : long_of word ≡ None
+  pub no_short : short_of word ≡ None
+
+-- an operand is neither
+plain : (word : Text) → is_operand word ≡ true → IsPlain word
+plain [] is = record { no_end = refl; no_long = refl; no_short = refl }
+plain (b ∷ rest) is = let e = not-true (b == 45) is in record { no_end = rw e refl; no_long = rw e refl; no_short = rw e refl }
+
+trial_taken : (d p : Text) → IsPlain d → IsPlain p → takes program_app (words_of (Trial d p None)) ≡ true
 unfolding clap_on_literals
-taken_empty_empty = refl
+trial_taken d p d-is p-is = rw (d-is.no_end, d-is.no_long, d-is.no_short, p-is.no_end, p-is.no_long, p-is.no_short) refl
 
-taken_empty_word : (b : ℕ) (rest : List ℕ) → not (b == 45) ≡ true → takes program_app (trial_words [] (b ∷ rest) None) ≡ true
+trial_named : (d p : Text) → IsPlain d → IsPlain p → named (subcommand_of program_app (words_of (Trial d p None))) ≡ Some (Trial d p None)
 unfolding clap_on_literals
-taken_empty_word b rest p-is = rw (hyphenless b p-is) (rw (hyphenless b p-is) refl)
+trial_named d p d-is p-is = rw (d-is.no_end, d-is.no_long, d-is.no_short, p-is.no_end, p-is.no_long, p-is.no_short) refl
 
-taken_word_empty : (a : ℕ) (more : List ℕ) → not (a == 45) ≡ true → takes program_app (trial_words (a ∷ more) [] None) ≡ true
+trial_under_taken : (d p q : Text) → IsPlain d → IsPlain p → IsPlain q → takes program_app (words_of (Trial d p (Some q))) ≡ true
 unfolding clap_on_literals
-taken_word_empty a more d-is = rw (hyphenless a d-is) (rw (hyphenless a d-is) refl)
+trial_under_taken d p q d-is p-is q-is = rw (d-is.no_end, d-is.no_long, d-is.no_short, p-is.no_end, p-is.no_long, p-is.no_short, q-is.no_end, q-is.no_long, q-is.no_short) refl
 
-taken_word_word : (a : ℕ) (more : List ℕ) (b : ℕ) (rest : List ℕ) → not (a == 45) ≡ true → not (b == 45) ≡ true → takes program_app (trial_words (a ∷ more) (b ∷ rest) None) ≡ true
+trial_under_named : (d p q : Text) → IsPlain d → IsPlain p → IsPlain q → named (subcommand_of program_app (words_of (Trial d p (Some q)))) ≡ Some (Trial d p (Some q))
 unfolding clap_on_literals
-taken_word_word a more b rest d-is p-is = rw (hyphenless a d-is) (rw (hyphenless a d-is) (rw (hyphenless b p-is) (rw (hyphenless b p-is) refl)))
+trial_under_named d p q d-is p-is q-is = rw (d-is.no_end, d-is.no_long, d-is.no_short, p-is.no_end, p-is.no_long, p-is.no_short, q-is.no_end, q-is.no_long, q-is.no_short) refl
 
-taken_empty_empty_empty : takes program_app (trial_words [] [] (Some [])) ≡ true
+init_taken : (f p : Text) → IsPlain f → IsPlain p → takes program_app (words_of (Init f p)) ≡ true
 unfolding clap_on_literals
-taken_empty_empty_empty = refl
+init_taken f p f-is p-is = rw (f-is.no_end, f-is.no_long, f-is.no_short, p-is.no_end, p-is.no_long, p-is.no_short) refl
 
-taken_empty_word_empty : (b : ℕ) (rest : List ℕ) → not (b == 45) ≡ true → takes program_app (trial_words [] (b ∷ rest) (Some [])) ≡ true
+init_named : (f p : Text) → IsPlain f → IsPlain p → named (subcommand_of program_app (words_of (Init f p))) ≡ Some (Init f p)
 unfolding clap_on_literals
-taken_empty_word_empty b rest p-is = rw (hyphenless b p-is) (rw (hyphenless b p-is) refl)
+init_named f p f-is p-is = rw (f-is.no_end, f-is.no_long, f-is.no_short, p-is.no_end, p-is.no_long, p-is.no_short) refl
 
-taken_word_empty_empty : (a : ℕ) (more : List ℕ) → not (a == 45) ≡ true → takes program_app (trial_words (a ∷ more) [] (Some [])) ≡ true
+load_taken : (f k i p : Text) → IsPlain f → IsPlain k → IsPlain i → IsPlain p → takes program_app (words_of (Load f k i p)) ≡ true
 unfolding clap_on_literals
-taken_word_empty_empty a more d-is = rw (hyphenless a d-is) (rw (hyphenless a d-is) refl)
+load_taken f k i p f-is k-is i-is p-is = rw (f-is.no_end, f-is.no_long, f-is.no_short, k-is.no_end, k-is.no_long, k-is.no_short, i-is.no_end, i-is.no_long, i-is.no_short, p-is.no_end, p-is.no_long, p-is.no_short) refl
 
-taken_word_word_empty : (a : ℕ) (more : List ℕ) (b : ℕ) (rest : List ℕ) → not (a == 45) ≡ true → not (b == 45) ≡ true → takes program_app (trial_words (a ∷ more) (b ∷ rest) (Some [])) ≡ true
+load_named : (f k i p : Text) → IsPlain f → IsPlain k → IsPlain i → IsPlain p → named (subcommand_of program_app (words_of (Load f k i p))) ≡ Some (Load f k i p)
 unfolding clap_on_literals
-taken_word_word_empty a more b rest d-is p-is = rw (hyphenless a d-is) (rw (hyphenless a d-is) (rw (hyphenless b p-is) (rw (hyphenless b p-is) refl)))
+load_named f k i p f-is k-is i-is p-is = rw (f-is.no_end, f-is.no_long, f-is.no_short, k-is.no_end, k-is.no_long, k-is.no_short, i-is.no_end, i-is.no_long, i-is.no_short, p-is.no_end, p-is.no_long, p-is.no_short) (refl {a = Some (Load f k i p)})
 
-taken_empty_empty_word : (c : ℕ) (last : List ℕ) → not (c == 45) ≡ true → takes program_app (trial_words [] [] (Some (c ∷ last))) ≡ true
+status_taken : (f : Text) → IsPlain f → takes program_app (words_of (Status f)) ≡ true
 unfolding clap_on_literals
-taken_empty_empty_word c last q-is = rw (hyphenless c q-is) (rw (hyphenless c q-is) refl)
+status_taken f f-is = rw (f-is.no_end, f-is.no_long, f-is.no_short) refl
 
-taken_empty_word_word : (b : ℕ) (rest : List ℕ) (c : ℕ) (last : List ℕ) → not (b == 45) ≡ true → not (c == 45) ≡ true → takes program_app (trial_words [] (b ∷ rest) (Some (c ∷ last))) ≡ true
+status_named : (f : Text) → IsPlain f → named (subcommand_of program_app (words_of (Status f))) ≡ Some (Status f)
 unfolding clap_on_literals
-taken_empty_word_word b rest c last p-is q-is = rw (hyphenless b p-is) (rw (hyphenless b p-is) (rw (hyphenless c q-is) (rw (hyphenless c q-is) refl)))
+status_named f f-is = rw (f-is.no_end, f-is.no_long, f-is.no_short) refl
 
-taken_word_empty_word : (a : ℕ) (more : List ℕ) (c : ℕ) (last : List ℕ) → not (a == 45) ≡ true → not (c == 45) ≡ true → takes program_app (trial_words (a ∷ more) [] (Some (c ∷ last))) ≡ true
-unfolding clap_on_literals
-taken_word_empty_word a more c last d-is q-is = rw (hyphenless a d-is) (rw (hyphenless a d-is) (rw (hyphenless c q-is) (rw (hyphenless c q-is) refl)))
+-- clap takes the words of a command, whatever the operands
+pub taken : (line : CommandLine) → has_operands line ≡ true → takes program_app (words_of line) ≡ true
+taken (Trial d p None) is =
+    let d-is = both (is_operand d) _ is in
+    let p-is = both (is_operand p) _ d-is.1 in
+    trial_taken d p (plain d d-is.0) (plain p p-is.0)
+taken (Trial d p (Some q)) is =
+    let d-is = both (is_operand d) _ is in
+    let p-is = both (is_operand p) _ d-is.1 in
+    trial_under_taken d p q (plain d d-is.0) (plain p p-is.0) (plain q p-is.1)
+taken (Init f p) is = let f-is = both (is_operand f) _ is in init_taken f p (plain f f-is.0) (plain p f-is.1)
+taken (Load f k i p) is =
+    let f-is = both (is_operand f) _ is in
+    let k-is = both (is_operand k) _ f-is.1 in
+    let i-is = both (is_operand i) _ k-is.1 in
+    load_taken f k i p (plain f f-is.0) (plain k k-is.0) (plain i i-is.0) (plain p i-is.1)
+taken (Status f) is = status_taken f (plain f is)
 
-taken_word_word_word : (a : ℕ) (more : List ℕ) (b : ℕ) (rest : List ℕ) (c : ℕ) (last : List ℕ) → not (a == 45) ≡ true → not (b == 45) ≡ true → not (c == 45) ≡ true → takes program_app (trial_words (a ∷ more) (b ∷ rest) (Some (c ∷ last))) ≡ true
-unfolding clap_on_literals
-taken_word_word_word a more b rest c last d-is p-is q-is = rw (hyphenless a d-is) (rw (hyphenless a d-is) (rw (hyphenless b p-is) (rw (hyphenless b p-is) (rw (hyphenless c q-is) (rw (hyphenless c q-is) refl)))))
-
--- clap takes the words, whatever the operands
-pub taken : (d p : List ℕ) (q : Option (List ℕ)) → is_operand d ≡ true → is_operand p ≡ true → is_operand_or_none q ≡ true
-    → takes program_app (trial_words d p q) ≡ true
-taken [] [] None d-is p-is q-is = taken_empty_empty
-taken [] (b ∷ rest) None d-is p-is q-is = taken_empty_word b rest p-is
-taken (a ∷ more) [] None d-is p-is q-is = taken_word_empty a more d-is
-taken (a ∷ more) (b ∷ rest) None d-is p-is q-is = taken_word_word a more b rest d-is p-is
-taken [] [] (Some []) d-is p-is q-is = taken_empty_empty_empty
-taken [] (b ∷ rest) (Some []) d-is p-is q-is = taken_empty_word_empty b rest p-is
-taken (a ∷ more) [] (Some []) d-is p-is q-is = taken_word_empty_empty a more d-is
-taken (a ∷ more) (b ∷ rest) (Some []) d-is p-is q-is = taken_word_word_empty a more b rest d-is p-is
-taken [] [] (Some (c ∷ last)) d-is p-is q-is = taken_empty_empty_word c last q-is
-taken [] (b ∷ rest) (Some (c ∷ last)) d-is p-is q-is = taken_empty_word_word b rest c last p-is q-is
-taken (a ∷ more) [] (Some (c ∷ last)) d-is p-is q-is = taken_word_empty_word a more c last d-is q-is
-taken (a ∷ more) (b ∷ rest) (Some (c ∷ last)) d-is p-is q-is = taken_word_word_word a more b rest c last d-is p-is q-is
-
-operands_are_empty_empty : trial_operands (subcommand_of program_app (trial_words [] [] None)) ≡ Some (named [] [] None)
-unfolding clap_on_literals
-operands_are_empty_empty = refl
-
-operands_are_empty_word : (b : ℕ) (rest : List ℕ) → not (b == 45) ≡ true → trial_operands (subcommand_of program_app (trial_words [] (b ∷ rest) None)) ≡ Some (named [] (b ∷ rest) None)
-unfolding clap_on_literals
-operands_are_empty_word b rest p-is = rw (hyphenless b p-is) (rw (hyphenless b p-is) refl)
-
-operands_are_word_empty : (a : ℕ) (more : List ℕ) → not (a == 45) ≡ true → trial_operands (subcommand_of program_app (trial_words (a ∷ more) [] None)) ≡ Some (named (a ∷ more) [] None)
-unfolding clap_on_literals
-operands_are_word_empty a more d-is = rw (hyphenless a d-is) (rw (hyphenless a d-is) refl)
-
-operands_are_word_word : (a : ℕ) (more : List ℕ) (b : ℕ) (rest : List ℕ) → not (a == 45) ≡ true → not (b == 45) ≡ true → trial_operands (subcommand_of program_app (trial_words (a ∷ more) (b ∷ rest) None)) ≡ Some (named (a ∷ more) (b ∷ rest) None)
-unfolding clap_on_literals
-operands_are_word_word a more b rest d-is p-is = rw (hyphenless a d-is) (rw (hyphenless a d-is) (rw (hyphenless b p-is) (rw (hyphenless b p-is) refl)))
-
-operands_are_empty_empty_empty : trial_operands (subcommand_of program_app (trial_words [] [] (Some []))) ≡ Some (named [] [] (Some []))
-unfolding clap_on_literals
-operands_are_empty_empty_empty = refl
-
-operands_are_empty_word_empty : (b : ℕ) (rest : List ℕ) → not (b == 45) ≡ true → trial_operands (subcommand_of program_app (trial_words [] (b ∷ rest) (Some []))) ≡ Some (named [] (b ∷ rest) (Some []))
-unfolding clap_on_literals
-operands_are_empty_word_empty b rest p-is = rw (hyphenless b p-is) (rw (hyphenless b p-is) refl)
-
-operands_are_word_empty_empty : (a : ℕ) (more : List ℕ) → not (a == 45) ≡ true → trial_operands (subcommand_of program_app (trial_words (a ∷ more) [] (Some []))) ≡ Some (named (a ∷ more) [] (Some []))
-unfolding clap_on_literals
-operands_are_word_empty_empty a more d-is = rw (hyphenless a d-is) (rw (hyphenless a d-is) refl)
-
-operands_are_word_word_empty : (a : ℕ) (more : List ℕ) (b : ℕ) (rest : List ℕ) → not (a == 45) ≡ true → not (b == 45) ≡ true → trial_operands (subcommand_of program_app (trial_words (a ∷ more) (b ∷ rest) (Some []))) ≡ Some (named (a ∷ more) (b ∷ rest) (Some []))
-unfolding clap_on_literals
-operands_are_word_word_empty a more b rest d-is p-is = rw (hyphenless a d-is) (rw (hyphenless a d-is) (rw (hyphenless b p-is) (rw (hyphenless b p-is) refl)))
-
-operands_are_empty_empty_word : (c : ℕ) (last : List ℕ) → not (c == 45) ≡ true → trial_operands (subcommand_of program_app (trial_words [] [] (Some (c ∷ last)))) ≡ Some (named [] [] (Some (c ∷ last)))
-unfolding clap_on_literals
-operands_are_empty_empty_word c last q-is = rw (hyphenless c q-is) (rw (hyphenless c q-is) refl)
-
-operands_are_empty_word_word : (b : ℕ) (rest : List ℕ) (c : ℕ) (last : List ℕ) → not (b == 45) ≡ true → not (c == 45) ≡ true → trial_operands (subcommand_of program_app (trial_words [] (b ∷ rest) (Some (c ∷ last)))) ≡ Some (named [] (b ∷ rest) (Some (c ∷ last)))
-unfolding clap_on_literals
-operands_are_empty_word_word b rest c last p-is q-is = rw (hyphenless b p-is) (rw (hyphenless b p-is) (rw (hyphenless c q-is) (rw (hyphenless c q-is) refl)))
-
-operands_are_word_empty_word : (a : ℕ) (more : List ℕ) (c : ℕ) (last : List ℕ) → not (a == 45) ≡ true → not (c == 45) ≡ true → trial_operands (subcommand_of program_app (trial_words (a ∷ more) [] (Some (c ∷ last)))) ≡ Some (named (a ∷ more) [] (Some (c ∷ last)))
-unfolding clap_on_literals
-operands_are_word_empty_word a more c last d-is q-is = rw (hyphenless a d-is) (rw (hyphenless a d-is) (rw (hyphenless c q-is) (rw (hyphenless c q-is) refl)))
-
-operands_are_word_word_word : (a : ℕ) (more : List ℕ) (b : ℕ) (rest : List ℕ) (c : ℕ) (last : List ℕ) → not (a == 45) ≡ true → not (b == 45) ≡ true → not (c == 45) ≡ true → trial_operands (subcommand_of program_app (trial_words (a ∷ more) (b ∷ rest) (Some (c ∷ last)))) ≡ Some (named (a ∷ more) (b ∷ rest) (Some (c ∷ last)))
-unfolding clap_on_literals
-operands_are_word_word_word a more b rest c last d-is p-is q-is = rw (hyphenless a d-is) (rw (hyphenless a d-is) (rw (hyphenless b p-is) (rw (hyphenless b p-is) (rw (hyphenless c q-is) (rw (hyphenless c q-is) refl)))))
-
--- and the operands are those of the words
-pub operands_are : (d p : List ℕ) (q : Option (List ℕ)) → is_operand d ≡ true → is_operand p ≡ true → is_operand_or_none q ≡ true
-    → trial_operands (subcommand_of program_app (trial_words d p q)) ≡ Some (named d p q)
-operands_are [] [] None d-is p-is q-is = operands_are_empty_empty
-operands_are [] (b ∷ rest) None d-is p-is q-is = operands_are_empty_word b rest p-is
-operands_are (a ∷ more) [] None d-is p-is q-is = operands_are_word_empty a more d-is
-operands_are (a ∷ more) (b ∷ rest) None d-is p-is q-is = operands_are_word_word a more b rest d-is p-is
-operands_are [] [] (Some []) d-is p-is q-is = operands_are_empty_empty_empty
-operands_are [] (b ∷ rest) (Some []) d-is p-is q-is = operands_are_empty_word_empty b rest p-is
-operands_are (a ∷ more) [] (Some []) d-is p-is q-is = operands_are_word_empty_empty a more d-is
-operands_are (a ∷ more) (b ∷ rest) (Some []) d-is p-is q-is = operands_are_word_word_empty a more b rest d-is p-is
-operands_are [] [] (Some (c ∷ last)) d-is p-is q-is = operands_are_empty_empty_word c last q-is
-operands_are [] (b ∷ rest) (Some (c ∷ last)) d-is p-is q-is = operands_are_empty_word_word b rest c last p-is q-is
-operands_are (a ∷ more) [] (Some (c ∷ last)) d-is p-is q-is = operands_are_word_empty_word a more c last d-is q-is
-operands_are (a ∷ more) (b ∷ rest) (Some (c ∷ last)) d-is p-is q-is = operands_are_word_word_word a more b rest c last d-is p-is q-is
-
--- the operands of a subcommand that was met, by its rows
-operands_of_rows : (met : Option (Text × List Row)) (name : Text) (rows : List Row) → Some name ≡ option_map (λ p. p.0) met → Some rows ≡ option_map (λ p. p.1) met
-    → bytes_eq name (codes "trial") ≡ true → trial_operands met ≡ operands_with (first_of (codes "DIMENSION") rows) (first_of (codes "CSV") rows) (first_of (codes "POLICY") rows)
-operands_of_rows None name rows is-name is-rows is-trial = cc
-operands_of_rows (Some p) name rows is-name is-rows is-trial =
-    let n : p.0 ≡ name = cc in
-    let r : p.1 ≡ rows = cc in
-    rw (n, r, is-trial) refl
-
-map_twice : {A B C : Type 0} (f : A → B) (g : B → C) (o : Option A) → option_map g (option_map f o) ≡ option_map (λ x. g (f x)) o
-map_twice f g None = refl
-map_twice f g (Some x) = refl
-
-names_met : (m : ArgMatches) → option_map (λ p. p.0) (subcommand_rows_of m) ≡ subcommand_name_of m
-names_met m = map_twice _ _ (out-ArgMatches m).subcommand
-
--- the operands that the getters read from the matches of a subcommand that was met
-pub operands_read : (m inner : ArgMatches) (name : Text) (dimension path policy : Option Text) → Some name ≡ subcommand_name_of m
-    → Some (rows_of (found_of inner)) ≡ option_map (λ p. p.1) (subcommand_rows_of m) → bytes_eq name (codes "trial") ≡ true
-    → dimension ≡ first_value (found_of inner) (codes "DIMENSION") → path ≡ first_value (found_of inner) (codes "CSV") → policy ≡ first_value (found_of inner) (codes "POLICY")
-    → operands_with dimension path policy ≡ trial_operands (subcommand_rows_of m)
-operands_read m inner name dimension path policy is-name is-rows is-trial d-is p-is q-is =
-    let by-rows = operands_of_rows (subcommand_rows_of m) name (rows_of (found_of inner)) (is-name ∙ sym (names_met m)) is-rows is-trial in
-    let d : first_of (codes "DIMENSION") (rows_of (found_of inner)) ≡ dimension = sym (d-is ∙ first_value-rows (found_of inner) (codes "DIMENSION")) in
-    let p : first_of (codes "CSV") (rows_of (found_of inner)) ≡ path = sym (p-is ∙ first_value-rows (found_of inner) (codes "CSV")) in
-    let q : first_of (codes "POLICY") (rows_of (found_of inner)) ≡ policy = sym (q-is ∙ first_value-rows (found_of inner) (codes "POLICY")) in
-    sym (rw (d, p, q) at by-rows)
+-- and finds the command with its operands
+pub found : (line : CommandLine) → has_operands line ≡ true → named (subcommand_of program_app (words_of line)) ≡ Some line
+found (Trial d p None) is =
+    let d-is = both (is_operand d) _ is in
+    let p-is = both (is_operand p) _ d-is.1 in
+    trial_named d p (plain d d-is.0) (plain p p-is.0)
+found (Trial d p (Some q)) is =
+    let d-is = both (is_operand d) _ is in
+    let p-is = both (is_operand p) _ d-is.1 in
+    trial_under_named d p q (plain d d-is.0) (plain p p-is.0) (plain q p-is.1)
+found (Init f p) is = let f-is = both (is_operand f) _ is in init_named f p (plain f f-is.0) (plain p f-is.1)
+found (Load f k i p) is =
+    let f-is = both (is_operand f) _ is in
+    let k-is = both (is_operand k) _ f-is.1 in
+    let i-is = both (is_operand i) _ k-is.1 in
+    load_named f k i p (plain f f-is.0) (plain k k-is.0) (plain i i-is.0) (plain p i-is.1)
+found (Status f) is = status_named f (plain f is)

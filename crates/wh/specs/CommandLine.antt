@@ -1,5 +1,5 @@
 -- The words that the program takes.
-use Rattle.std.specs.Prelude.{ℕ, List, [], ◌∷◌, codes, Bool, true, not, ◌==◌, Option, Some, None, option_map, option_and_then, if◌then◌else◌, bytes_eq}
+use Rattle.std.specs.Prelude.{ℕ, List, [], ◌∷◌, codes, Bool, true, not, ◌==◌, ◌&&◌, Option, Some, None, option_map, option_and_then, if◌then◌else◌, bytes_eq}
 use Rattle.clap.specs.Words.{App, Row, Rule, Text, first_of, new_app, new_rule, with_rule, with_subcommand}
 
 -- an operand that a command can't do without
@@ -16,12 +16,27 @@ operands_app = with_rule (with_rule (new_app (codes "trial")) (operand (codes "D
 abbrev pub trial_app : App
 trial_app = with_rule operands_app (option_of (codes "POLICY") (codes "policy"))
 
+abbrev pub init_app : App
+init_app = with_rule (with_rule (new_app (codes "init")) (operand (codes "FILE"))) (operand (codes "POLICY"))
+
+abbrev pub batch_app : App
+batch_app = with_rule (with_rule (new_app (codes "load")) (operand (codes "FILE"))) (operand (codes "KIND"))
+
+abbrev pub load_app : App
+load_app = with_rule (with_rule batch_app (operand (codes "ID"))) (operand (codes "CSV"))
+
+abbrev pub status_app : App
+status_app = with_rule (new_app (codes "status")) (operand (codes "FILE"))
+
 abbrev pub top_app : App
 top_app = record (new_app (codes "wh")) { top = record (new_app (codes "wh")).top { no_binary_name = true; subcommand_required = true } }
 
+abbrev pub first_app : App
+first_app = with_subcommand (with_subcommand top_app trial_app.top) init_app.top
+
 -- the whole program
 abbrev pub program_app : App
-program_app = with_subcommand top_app trial_app.top
+program_app = with_subcommand (with_subcommand first_app load_app.top) status_app.top
 
 -- the words of a trial, under its own policy or the one in a file
 abbrev pub trial_words : List ℕ → List ℕ → Option (List ℕ) → List (List ℕ)
@@ -37,21 +52,52 @@ abbrev pub is_operand_or_none : Option (List ℕ) → Bool
 is_operand_or_none None = true
 is_operand_or_none (Some word) = is_operand word
 
--- what the words of a trial name
-pub record Operands : Type 0 where
-  pub dimension : List ℕ
-  pub path : List ℕ
-  pub policy : Option (List ℕ)
+-- a command of the program, with what its words name
+pub data CommandLine : Type 0 where
+  Trial : (dimension path : List ℕ) → (policy : Option (List ℕ)) → CommandLine
+  Init : (file policy : List ℕ) → CommandLine
+  Load : (file kind id path : List ℕ) → CommandLine
+  Status : (file : List ℕ) → CommandLine
 
-abbrev pub named : List ℕ → List ℕ → Option (List ℕ) → Operands
-named dimension path policy = record { dimension = dimension; path = path; policy = policy }
+-- the words of a command
+abbrev pub words_of : CommandLine → List (List ℕ)
+words_of (Trial dimension path policy) = trial_words dimension path policy
+words_of (Init file policy) = codes "init" ∷ file ∷ policy ∷ []
+words_of (Load file kind id path) = codes "load" ∷ file ∷ kind ∷ id ∷ path ∷ []
+words_of (Status file) = codes "status" ∷ file ∷ []
 
-abbrev pub operands_with : Option Text → Option Text → Option Text → Option Operands
-operands_with dimension path policy = option_and_then (λ d. option_map (λ p. named d p policy) path) dimension
+-- no operand is an option
+abbrev pub has_operands : CommandLine → Bool
+has_operands (Trial dimension path policy) = is_operand dimension && (is_operand path && is_operand_or_none policy)
+has_operands (Init file policy) = is_operand file && is_operand policy
+has_operands (Load file kind id path) = is_operand file && (is_operand kind && (is_operand id && is_operand path))
+has_operands (Status file) = is_operand file
 
--- the operands of a trial, where it is the subcommand that was met
-abbrev pub trial_operands : Option (Text × List Row) → Option Operands
-trial_operands met = option_and_then (λ p.
-    if bytes_eq p.0 (codes "trial") then
-    operands_with (first_of (codes "DIMENSION") p.1) (first_of (codes "CSV") p.1) (first_of (codes "POLICY") p.1)
-    else None) met
+-- what the rows of a subcommand name
+abbrev pub named_trial : List Row → Option CommandLine
+named_trial rows = option_and_then (λ d. option_map (λ p. Trial d p (first_of (codes "POLICY") rows)) (first_of (codes "CSV") rows)) (first_of (codes "DIMENSION") rows)
+
+abbrev pub named_init : List Row → Option CommandLine
+named_init rows = option_and_then (λ f. option_map (λ p. Init f p) (first_of (codes "POLICY") rows)) (first_of (codes "FILE") rows)
+
+abbrev pub named_batch : List ℕ → List ℕ → List Row → Option CommandLine
+named_batch file kind rows = option_and_then (λ i. option_map (λ p. Load file kind i p) (first_of (codes "CSV") rows)) (first_of (codes "ID") rows)
+
+abbrev pub named_load : List Row → Option CommandLine
+named_load rows = option_and_then (λ f. option_and_then (λ k. named_batch f k rows) (first_of (codes "KIND") rows)) (first_of (codes "FILE") rows)
+
+abbrev pub named_status : List Row → Option CommandLine
+named_status rows = option_map (λ f. Status f) (first_of (codes "FILE") rows)
+
+-- what a subcommand names, with its rows
+abbrev pub named_by : Text → List Row → Option CommandLine
+named_by name rows =
+    if bytes_eq name (codes "trial") then named_trial rows
+    else if bytes_eq name (codes "init") then named_init rows
+    else if bytes_eq name (codes "load") then named_load rows
+    else if bytes_eq name (codes "status") then named_status rows
+    else None
+
+-- the command that was met
+abbrev pub named : Option (Text × List Row) → Option CommandLine
+named met = option_and_then (λ p. named_by p.0 p.1) met

@@ -1,17 +1,35 @@
-//! Files and a writer in memory, for tests.
+//! Files, warehouses and a writer in memory, for tests.
 
 ghost use Rattle.std.specs.Prelude.{◌≡◌, ◌≤◌, Some, option_map, take};
 ghost use Rattle.wh.specs.Files.{file_named};
 
-use crate::host::{Host, HostError};
-use std::alloc::Global;
+use crate::host::{Host, HostError, Visitor};
+use sqlite::{Connection, MemStore};
+use std::alloc::{AllocError, Global};
 use std::io;
 use std::io::Write;
 
-/// Named files in memory; the first of a name counts.
-#[derive(Clone, Copy)]
+/// A warehouse in memory, while it isn't lent.
+#[derive(Drop)]
+struct Kept {
+    name: String,
+    connection: Option<Connection<MemStore>>,
+}
+
+/// Named files in memory, of which the first of a name counts, and warehouses under other names, which stay between runs.
+#[derive(Drop)]
 pub struct MemoryHost<'a> {
-    pub files: &'a [(&'a str, &'a [u8])],
+    files: &'a [(&'a str, &'a [u8])],
+    kept: Vec<Kept>,
+}
+
+impl<'a> MemoryHost<'a> {
+    pub fn new(alloc: Global, files: &'a [(&'a str, &'a [u8])]) -> MemoryHost<'a> {
+        MemoryHost {
+            files,
+            kept: Vec::new(alloc),
+        }
+    }
 }
 
 /// The bytes of the first file of a name.
@@ -26,6 +44,50 @@ fn file_named<'a>(files: &[(&'a str, &'a [u8])], name: &str) -> Option<&'a [u8]>
     None
 }
 
+/// The connection that is kept under a name, if there is one. If not, a place is made for it, so that taking it back
+/// needs no memory.
+fn found(
+    kept: &mut Vec<Kept>,
+    alloc: Global,
+    name: &str,
+) -> Result<Option<Connection<MemStore>>, AllocError> {
+    for place in kept.iter_mut() {
+        if place.name.as_str() == name {
+            return Ok(place.connection.take());
+        }
+    }
+    kept.push(Kept {
+        name: String::from_str(alloc, name)?,
+        connection: None,
+    })?;
+    Ok(None)
+}
+
+/// The connection that is kept under a name, or one to an empty database.
+fn taken(
+    kept: &mut Vec<Kept>,
+    alloc: Global,
+    name: &str,
+) -> Result<Connection<MemStore>, AllocError> {
+    match found(kept, alloc, name)? {
+        Some(connection) => Ok(connection),
+        None => match Connection::open_in_memory(alloc) {
+            Ok(connection) => Ok(connection),
+            Err(_) => Err(AllocError),
+        },
+    }
+}
+
+/// Keeps the connection under its name again.
+fn keep(kept: &mut Vec<Kept>, name: &str, connection: Connection<MemStore>) {
+    for place in kept.iter_mut() {
+        if place.name.as_str() == name {
+            place.connection = Some(connection);
+            return;
+        }
+    }
+}
+
 impl Host for MemoryHost<'_> {
     ghost holds = { λ host path file. file ≡ file_named host.files.now path };
 
@@ -37,6 +99,25 @@ impl Host for MemoryHost<'_> {
             Ok(bytes) => Ok(bytes),
             Err(_) => Err(HostError::OutOfMemory),
         }
+    }
+
+    /// A file that is no warehouse isn't connected.
+    fn with_connection<V: Visitor>(
+        &mut self,
+        alloc: Global,
+        name: &str,
+        visitor: V,
+    ) -> Result<V::Output, HostError> {
+        if file_named(self.files, name).is_some() {
+            return Err(HostError::NoFile);
+        }
+        let connection = match taken(&mut self.kept, alloc, name) {
+            Ok(connection) => connection,
+            Err(_) => return Err(HostError::OutOfMemory),
+        };
+        let (output, connection) = visitor.visit(alloc, connection);
+        keep(&mut self.kept, name, connection);
+        Ok(output)
     }
 }
 

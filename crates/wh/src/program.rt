@@ -1,16 +1,19 @@
 //! One run of the program.
 
-ghost use Rattle.std.specs.Prelude.{◌≡◌, ◌≢◌, ◌⊎◌, ℕ, List, Option, map, true};
+ghost use Rattle.std.specs.Prelude.{◌≡◌, ◌≢◌, ◌⊎◌, ℕ, List, Option, Some, IfOk, map, true};
 ghost use Rattle.wh.specs.Answer.{Printed, AnswersTrial};
 ghost use Rattle.wh.specs.CommandLine.{trial_words, is_operand, is_operand_or_none};
-ghost use Rattle.wh.specs.Request.{dim_word};
+ghost use Rattle.wh.specs.Request.{dim_word, AsksTrial};
 ghost use Rattle.wh_policy.specs.declared.attribute.Dim.{Dim};
 ghost use Rattle.wh.specs.Run.{Prints, out_of_memory};
 
-use crate::answer::{Status, answer_to};
+use crate::answer::{Answer, Status};
+use crate::command::{Request, parse};
 use crate::host::Host;
 use crate::output::write_whole;
-use std::alloc::Global;
+use crate::trial::{plain_trial, trial_under};
+use crate::warehouse::{init, load, status};
+use std::alloc::{AllocError, Global};
 use std::convert::AsStr;
 use std::io;
 use std::io::Write;
@@ -29,6 +32,52 @@ fn print<W: Write>(out: &mut W, status: u8, text: &[u8]) -> u8
     }
     let _ = write_whole(out, WRITE_LINE);
     Status::Failed.code()
+}
+
+/// The answer to a request.
+fn answer_request<H: Host>(
+    alloc: Global,
+    request: Request,
+    host: &mut H,
+) -> Result<Answer, AllocError>
+    ensures { IfOk result (λ answer. (dim : Dim) (path : List ℕ) (policy : Option (List ℕ)) → AsksTrial (Some dim) path policy request.entry
+        → AnswersTrial (H.holds host.old) dim path policy answer) }
+{
+    match request {
+        Request::Trial {
+            dim,
+            path,
+            policy: None,
+        } => plain_trial(alloc, dim, path, host),
+        Request::Trial {
+            dim,
+            path,
+            policy: Some(policy),
+        } => trial_under(alloc, dim, path, policy, host),
+        Request::Init { file, policy } => init(alloc, file, policy, host),
+        Request::Load {
+            file,
+            dim,
+            id,
+            path,
+        } => load(alloc, file, dim, id, path, host),
+        Request::Status { file } => status(alloc, file, host),
+        Request::Help(text) => Ok(Answer::new(Status::Done, text.into_bytes())),
+        Request::Usage(text) => Ok(Answer::new(Status::Usage, text.into_bytes())),
+    }
+}
+
+/// The answer to the words after the program's name.
+fn answer_to<S: AsStr, H: Host>(
+    alloc: Global,
+    words: &[S],
+    host: &mut H,
+) -> Result<Answer, AllocError>
+    ensures trial { IfOk result (λ answer. (dim : Dim) (path : List ℕ) (policy : Option (List ℕ))
+        → map S.text words.now ≡ trial_words (dim_word dim) path policy → is_operand path ≡ true → is_operand_or_none policy ≡ true
+        → AnswersTrial (H.holds host.old) dim path policy answer) }
+{
+    answer_request(alloc, parse(alloc, words)?, host)
 }
 
 /// One run of the program: answers the words after its name, and tells the status to exit with.

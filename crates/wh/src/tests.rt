@@ -1,5 +1,8 @@
 //! What a run prints, over files in memory.
 
+mod answers;
+mod warehouse;
+
 use crate::memory::{MemoryHost, Page, ROOM};
 use crate::program::run;
 use std::alloc::{AllocError, Global};
@@ -24,7 +27,7 @@ const CUSTOMER: [&str; 3] = ["trial", "customer", "p.csv"];
 /// The status and the text of a run where the batch stands in the file `p.csv`.
 fn run_on(alloc: Global, words: &[&str], batch: &[u8], out: &mut Page) -> u8 {
     let files = [("p.csv", batch)];
-    let mut host = MemoryHost { files: &files };
+    let mut host = MemoryHost::new(alloc, &files);
     run(alloc, words, &mut host, out)
 }
 
@@ -194,7 +197,7 @@ fn tells_too_many_records(rt: HostRuntime) -> Result<(), Fail> {
 fn takes_five_thousand_records(rt: HostRuntime) -> Result<(), Fail> {
     let batch = many(rt.alloc(), 5000)?;
     let files = [("p.csv", batch.as_bytes())];
-    let mut host = MemoryHost { files: &files };
+    let mut host = MemoryHost::new(rt.alloc(), &files);
     let mut out = Vec::new(rt.alloc());
     assert_eq!(rt; run(rt.alloc(), &PRODUCT, &mut host, &mut out), 0);
     let lines = out.iter().filter(|byte| **byte == b'\n').count();
@@ -216,7 +219,7 @@ fn tells_too_many_bytes(rt: HostRuntime) -> Result<(), Fail> {
 
 fn expect_run(rt: &impl Abort, alloc: Global, words: &[&str], status: u8, text: &str) {
     let files = [("p.csv", COLA)];
-    let mut host = MemoryHost { files: &files };
+    let mut host = MemoryHost::new(alloc, &files);
     let mut out = Page::new(ROOM, ROOM, ROOM);
     let answered = run(alloc, words, &mut host, &mut out);
     assert_eq!(rt; answered, status);
@@ -310,7 +313,7 @@ fn expect_under(
     text: &str,
 ) {
     let files = [("p.toml", policy), ("p.csv", batch)];
-    let mut host = MemoryHost { files: &files };
+    let mut host = MemoryHost::new(alloc, &files);
     let mut out = Page::new(ROOM, ROOM, ROOM);
     let answered = run(alloc, &UNDER, &mut host, &mut out);
     assert!(rt; out.text() == text.as_bytes(), "{answered}");

@@ -1,11 +1,33 @@
-use Rattle.std.proofs.Common.{ap, ◌∙◌}
+use Rattle.std.proofs.Common.{◌≡◌, ◌∙◌, Some, None, Ok, Err, Option, ap, subst, sym, true, true≢false, map}
+use Rattle.std.specs.Prelude.{Result, IfOk, IsErr}
 use Rattle.std.proofs.lemmas.Result.{IfOk-weaker}
-use Rattle.wh.specs.CommandLine.{trial_operands}
-use Rattle.wh.proofs.CommandLineLemmas.{operands_are}
+use Rattle.clap.specs.Words.{takes, subcommand_of}
+use Rattle.wh.specs.declared.command.Request.{Request}
+use Rattle.wh.specs.CommandLine.{CommandLine, named, words_of, has_operands, program_app}
+use Rattle.wh.specs.Request.{Asks, line_of}
+use Rattle.wh.proofs.CommandLineLemmas.{taken, found}
 use Rattle.wh.proofs.command.parse.Goals as goal
 
+same : {X : Type 0} (x y : X) → Some x ≡ Some y → x ≡ y
+same x y e = cc
+
+other : {X : Type 0} (x : X) → None ≡ Some x → ⊥
+other x e = cc
+
+nothing_asked : {E : Type 0} (r : Result Request E) (Is Holds : CommandLine → Type 0) → ((line : CommandLine) → Is line → Holds line → IsErr r)
+    → IfOk r (λ request. (line : CommandLine) → Is line → Holds line → Asks line request)
+nothing_asked (Ok request) Is Holds none = λ line is holds. absurd (true≢false (sym (none line is holds)))
+nothing_asked (Err e) Is Holds none = tt
+
+pub returns-in-Some : goal.returns-in-Some
+returns-in-Some g c = IfOk-weaker c.requested.result _ _ (λ request asks line words-are operands-are.
+    let met = c.in-Some.ensures ∙ ap named (c.in-Ok.ensures.ok ∙ ap (subcommand_of program_app) words-are) ∙ found line operands-are in
+    subst (λ l. Asks l request) (same _ _ met) asks) c.requested.ensures
+
 pub returns-in-Ok : goal.returns-in-Ok
-returns-in-Ok g c = record {
-  trial = IfOk-weaker c.requested.result _ _ (λ request asks d p q words-are d-is p-is q-is.
-      asks d p q (ap trial_operands (c.in-Ok.ensures.ok d p q words-are d-is p-is q-is) ∙ operands_are d p q d-is p-is q-is)) c.requested.ensures;
-}
+returns-in-Ok g c = IfOk-weaker c.mistake.result _ _ (λ request usage line words-are operands-are.
+    absurd (other _ (c.in-None.ensures ∙ ap named (c.in-Ok.ensures.ok ∙ ap (subcommand_of program_app) words-are) ∙ found line operands-are))) c.mistake.ensures
+
+pub returns : goal.returns
+returns g c = nothing_asked c.declined.result _ _ (λ line words-are operands-are.
+    c.declined.ensures (c.in-Err.ensures.err (ap (takes program_app) words-are ∙ taken line operands-are)))

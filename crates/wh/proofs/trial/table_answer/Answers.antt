@@ -3,7 +3,7 @@ use Rattle.wh_history.specs.Tables.{dimension_table, trial_commands}
 use Rattle.wh_policy.specs.declared.record.DimensionRecord.{DimensionRecord}
 use Rattle.wh.specs.Answer.{done}
 use Rattle.wh.specs.Table.{table_text}
-use Rattle.wh.proofs.answer.table_answer.Goals as goal
+use Rattle.wh.proofs.trial.table_answer.Goals as goal
 
 pub returns-in_ok-table-in-Ok : goal.returns-in_ok-table-in-Ok
 returns-in_ok-table-in-Ok c =

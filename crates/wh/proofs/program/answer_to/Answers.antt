@@ -1,9 +1,9 @@
 use Rattle.std.proofs.Common.{◌≡◌, refl, Some, true}
 use Rattle.std.proofs.lemmas.Result.{IfOk-weaker}
 use Rattle.wh_policy.specs.declared.attribute.Dim.{Dim}
-use Rattle.wh.specs.CommandLine.{is_operand}
+use Rattle.wh.specs.CommandLine.{Trial, is_operand, has_operands}
 use Rattle.wh.specs.Request.{dim_word, dim_of, AsksTrial}
-use Rattle.wh.proofs.answer.answer_to.Goals as goal
+use Rattle.wh.proofs.program.answer_to.Goals as goal
 
 word_is : (dim : Dim) → dim_of (dim_word dim) ≡ Some dim
 word_is Dim.Product = refl
@@ -18,5 +18,6 @@ is_operand-word Dim.Customer = refl
 pub returns : goal.returns
 returns g c = record {
   trial = IfOk-weaker c.answer_request.result _ _ (λ answer answers dim path policy words-are path-is policy-is.
-      answers dim path policy (rw (word_is dim) at (c.in_ok-parse.ensures.trial (dim_word dim) path policy words-are (is_operand-word dim) path-is policy-is))) c.answer_request.ensures;
+      let are_operands : has_operands (Trial (dim_word dim) path policy) ≡ true = rw (is_operand-word dim, path-is, policy-is) refl in
+      answers dim path policy (rw (word_is dim) at (c.in_ok-parse.ensures (Trial (dim_word dim) path policy) words-are are_operands))) c.answer_request.ensures;
 }
