@@ -1,16 +1,16 @@
 //! Warehouses in memory, and in files that may stop.
 
-mod dump;
 mod batches;
+mod dump;
 mod limits;
 mod opening;
 mod parts;
 mod repeats;
-
+mod stops;
 mod worked;
 
-use super::*;
 use self::dump::{all_tables, changes_of, customers, members_of, products, profiles, stores};
+use super::*;
 use sqlite::{Alter, Connection, MemStore};
 use sqlite_value::value::Bytes;
 use std::alloc::{AllocError, Global};
@@ -67,22 +67,10 @@ fn header(dim: Dim) -> &'static str {
 /// Batches of products, with their ids.
 const BATCHES: [(&str, &str); 9] = [
     ("p0", ""),
-    (
-        "p1",
-        "P1,2024-01-10,Cola 1l,Acme,Drinks,Grocery,2019,North",
-    ),
-    (
-        "p2",
-        "P1,2024-02-01,Cola 1l,Bolt,Drinks,Grocery,2019,North",
-    ),
-    (
-        "p3",
-        "P1,2024-01-20,Cola 1l,Bolt,Drinks,Grocery,2019,North",
-    ),
-    (
-        "p4",
-        "P1,2024-02-01,Cola 1l,Cask,Drinks,Grocery,2019,North",
-    ),
+    ("p1", "P1,2024-01-10,Cola 1l,Acme,Drinks,Grocery,2019,North"),
+    ("p2", "P1,2024-02-01,Cola 1l,Bolt,Drinks,Grocery,2019,North"),
+    ("p3", "P1,2024-01-20,Cola 1l,Bolt,Drinks,Grocery,2019,North"),
+    ("p4", "P1,2024-02-01,Cola 1l,Cask,Drinks,Grocery,2019,North"),
     (
         "p5",
         "P1,2024-03-01,Cola 1 l,Cask,Drinks,Grocery,2019,North",
@@ -120,7 +108,12 @@ fn engine(alloc: Global) -> Result<Engine<MemStore>, Fail> {
 }
 
 /// A command of these bytes.
-fn command_of_bytes(alloc: Global, id: &str, kind: Kind, bytes: &[u8]) -> Result<Command, AllocError> {
+fn command_of_bytes(
+    alloc: Global,
+    id: &str,
+    kind: Kind,
+    bytes: &[u8],
+) -> Result<Command, AllocError> {
     Ok(Command {
         id: Value::new(alloc, id)?,
         kind,
@@ -147,7 +140,11 @@ fn send<S: Alter>(
 }
 
 /// The answer to one of the batches.
-fn send_batch<S: Alter>(alloc: Global, engine: &mut Engine<S>, place: usize) -> Result<Reply, Fault> {
+fn send_batch<S: Alter>(
+    alloc: Global,
+    engine: &mut Engine<S>,
+    place: usize,
+) -> Result<Reply, Fault> {
     match BATCHES.get(place) {
         Some((id, records)) => send(alloc, engine, Dim::Product, id, records),
         None => Err(Fault::Sales),

@@ -4,7 +4,13 @@ use super::*;
 use std::process::Abort;
 
 /// A batch with this fault leaves nothing, and its id is free.
-fn expect_fault(rt: &impl Abort, alloc: Global, records: &str, kind: FaultKind, number: u32) -> Result<(), Fail> {
+fn expect_fault(
+    rt: &impl Abort,
+    alloc: Global,
+    records: &str,
+    kind: FaultKind,
+    number: u32,
+) -> Result<(), Fail> {
     let mut engine = engine(alloc)?;
     let before = all_tables(alloc, &mut engine)?;
     let answer = send(alloc, &mut engine, Dim::Product, "p1", records);
@@ -17,7 +23,13 @@ fn expect_fault(rt: &impl Abort, alloc: Global, records: &str, kind: FaultKind, 
 
 #[test]
 fn a_record_that_is_cut(rt: HostRuntime) -> Result<(), Fail> {
-    expect_fault(&rt, rt.alloc(), "P1,2024-08-01,Cola", FaultKind::WrongLength, 1)
+    expect_fault(
+        &rt,
+        rt.alloc(),
+        "P1,2024-08-01,Cola",
+        FaultKind::WrongLength,
+        1,
+    )
 }
 
 /// The first record is good, and isn't kept.
@@ -58,7 +70,12 @@ fn no_bytes(rt: HostRuntime) -> Result<(), Fail> {
 fn sales(rt: HostRuntime) -> Result<(), Fail> {
     let alloc = rt.alloc();
     let mut engine = engine(alloc)?;
-    let sent = command_of_bytes(alloc, "s1", Kind::Sales, b"ticket,line,day,store,product,customer,quantity,amount,cost\n")?;
+    let sent = command_of_bytes(
+        alloc,
+        "s1",
+        Kind::Sales,
+        b"ticket,line,day,store,product,customer,quantity,amount,cost\n",
+    )?;
     assert_eq!(rt; engine.apply(alloc, &sent), Err(Fault::Sales));
     assert_eq!(rt; send_batch(alloc, &mut engine, 0), accepted(2, 0));
     Ok(())
@@ -81,8 +98,20 @@ fn empty_fields(rt: HostRuntime) -> Result<(), Fail> {
 /// A warehouse with two stores and a customer.
 fn with_others(alloc: Global) -> Result<Engine<MemStore>, Fail> {
     let mut engine = engine(alloc)?;
-    send(alloc, &mut engine, Dim::Store, "s1", "S1,2024-01-01,Bern\nS2,2024-01-01,Basel")?;
-    send(alloc, &mut engine, Dim::Customer, "c1", "C9,2024-06-08,Gold")?;
+    send(
+        alloc,
+        &mut engine,
+        Dim::Store,
+        "s1",
+        "S1,2024-01-01,Bern\nS2,2024-01-01,Basel",
+    )?;
+    send(
+        alloc,
+        &mut engine,
+        Dim::Customer,
+        "c1",
+        "C9,2024-06-08,Gold",
+    )?;
     Ok(engine)
 }
 
@@ -122,9 +151,21 @@ fn two_profiles_at_first(rt: HostRuntime) -> Result<(), Fail> {
 fn one_profile_more(rt: HostRuntime) -> Result<(), Fail> {
     let alloc = rt.alloc();
     let mut engine = with_others(alloc)?;
-    assert_eq!(rt; profiles(alloc, &mut engine)?.as_str(), "0,,,,,,\n1,,,,,,\n2,,,,,,\n");
-    send(alloc, &mut engine, Dim::Customer, "c2", "C9,2024-07-01,Silver\nC8,2024-07-01,Gold")?;
-    assert_eq!(rt; profiles(alloc, &mut engine)?.as_str(), "0,,,,,,\n1,,,,,,\n2,,,,,,\n");
+    assert_eq!(rt;
+        profiles(alloc, &mut engine)?.as_str(),
+        "0,,,,,,\n1,,,,,,\n2,,,,,,\n"
+    );
+    send(
+        alloc,
+        &mut engine,
+        Dim::Customer,
+        "c2",
+        "C9,2024-07-01,Silver\nC8,2024-07-01,Gold",
+    )?;
+    assert_eq!(rt;
+        profiles(alloc, &mut engine)?.as_str(),
+        "0,,,,,,\n1,,,,,,\n2,,,,,,\n"
+    );
     Ok(())
 }
 

@@ -138,7 +138,11 @@ fn push_dimension<T: Keeps<Row = DimRow>, S: Alter>(
     Ok(())
 }
 
-fn push_metas<S: Alter>(alloc: Global, out: &mut String, tables: &mut Tables<S>) -> Result<(), Fail> {
+fn push_metas<S: Alter>(
+    alloc: Global,
+    out: &mut String,
+    tables: &mut Tables<S>,
+) -> Result<(), Fail> {
     let rows = tables.all::<tables::Meta>(alloc)?;
     for row in &rows {
         push_meta(alloc, out, row)?;
@@ -194,7 +198,11 @@ fn push_profiles<S: Alter>(
     Ok(())
 }
 
-fn push_dates<S: Alter>(alloc: Global, out: &mut String, tables: &mut Tables<S>) -> Result<(), Fail> {
+fn push_dates<S: Alter>(
+    alloc: Global,
+    out: &mut String,
+    tables: &mut Tables<S>,
+) -> Result<(), Fail> {
     let rows = tables.all::<Calendar>(alloc)?;
     for row in &rows {
         push_date(alloc, out, row)?;
@@ -202,7 +210,11 @@ fn push_dates<S: Alter>(alloc: Global, out: &mut String, tables: &mut Tables<S>)
     Ok(())
 }
 
-fn push_facts<S: Alter>(alloc: Global, out: &mut String, tables: &mut Tables<S>) -> Result<(), Fail> {
+fn push_facts<S: Alter>(
+    alloc: Global,
+    out: &mut String,
+    tables: &mut Tables<S>,
+) -> Result<(), Fail> {
     let rows = tables.all::<tables::Fact>(alloc)?;
     for row in &rows {
         push_fact(alloc, out, row)?;

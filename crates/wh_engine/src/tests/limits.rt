@@ -43,7 +43,13 @@ fn a_bad_id_comes_first(rt: HostRuntime) -> Result<(), Fail> {
 #[test]
 fn a_fault_comes_before_want_of_room(rt: HostRuntime) -> Result<(), Fail> {
     let mut engine = of_two_commands(rt.alloc())?;
-    let answer = send(rt.alloc(), &mut engine, Dim::Product, "p", "P1,2024-08-01,Cola");
+    let answer = send(
+        rt.alloc(),
+        &mut engine,
+        Dim::Product,
+        "p",
+        "P1,2024-08-01,Cola",
+    );
     assert_eq!(rt; answer, bad(FaultKind::WrongLength, 1));
     Ok(())
 }

@@ -22,7 +22,12 @@ fn fault_of(alloc: Global, conn: Connection<MemStore>) -> Option<OpeningFault> {
     }
 }
 
-fn expect_fault(rt: &impl Abort, alloc: Global, text: &str, fault: OpeningFault) -> Result<(), Fail> {
+fn expect_fault(
+    rt: &impl Abort,
+    alloc: Global,
+    text: &str,
+    fault: OpeningFault,
+) -> Result<(), Fail> {
     let found = fault_of(alloc, after(alloc, text)?);
     assert_eq!(rt; found, Some(fault), "{text}");
     Ok(())
@@ -39,20 +44,43 @@ fn an_empty_database(rt: HostRuntime) -> Result<(), Fail> {
 fn tables_of_another_program(rt: HostRuntime) -> Result<(), Fail> {
     let mut conn = empty(rt.alloc())?;
     conn.execute_batch("CREATE TABLE notes (id, text); CREATE TABLE product (id, price)")?;
-    assert_eq!(rt; fault_of(rt.alloc(), conn), Some(OpeningFault::NotAWarehouse));
+    assert_eq!(rt;
+        fault_of(rt.alloc(), conn),
+        Some(OpeningFault::NotAWarehouse)
+    );
     Ok(())
 }
 
 #[test]
 fn other_formats(rt: HostRuntime) -> Result<(), Fail> {
-    expect_fault(&rt, rt.alloc(), "UPDATE meta SET value = 0 WHERE name = 'format'", OpeningFault::OldFormat)?;
-    expect_fault(&rt, rt.alloc(), "UPDATE meta SET value = 2 WHERE name = 'format'", OpeningFault::NewFormat)?;
-    expect_fault(&rt, rt.alloc(), "DELETE FROM meta WHERE name = 'format'", OpeningFault::NotAWarehouse)
+    expect_fault(
+        &rt,
+        rt.alloc(),
+        "UPDATE meta SET value = 0 WHERE name = 'format'",
+        OpeningFault::OldFormat,
+    )?;
+    expect_fault(
+        &rt,
+        rt.alloc(),
+        "UPDATE meta SET value = 2 WHERE name = 'format'",
+        OpeningFault::NewFormat,
+    )?;
+    expect_fault(
+        &rt,
+        rt.alloc(),
+        "DELETE FROM meta WHERE name = 'format'",
+        OpeningFault::NotAWarehouse,
+    )
 }
 
 fn expect_no_limit(rt: &impl Abort, alloc: Global, name: &str) -> Result<(), Fail> {
     let absent = format!(in alloc; "DELETE FROM meta WHERE name = '{name}'")?;
-    expect_fault(rt, alloc, absent.as_str(), OpeningFault::Damaged(Table::Meta))?;
+    expect_fault(
+        rt,
+        alloc,
+        absent.as_str(),
+        OpeningFault::Damaged(Table::Meta),
+    )?;
     let none = format!(in alloc; "UPDATE meta SET value = 0 WHERE name = '{name}'")?;
     expect_fault(rt, alloc, none.as_str(), OpeningFault::Damaged(Table::Meta))
 }
@@ -69,20 +97,43 @@ const DAMAGED: OpeningFault = OpeningFault::Damaged(Table::Command);
 
 #[test]
 fn no_making(rt: HostRuntime) -> Result<(), Fail> {
-    expect_fault(&rt, rt.alloc(), "DELETE FROM command WHERE id = 'init'", DAMAGED)?;
-    expect_fault(&rt, rt.alloc(), "UPDATE command SET id = 'Init' WHERE number = 1", DAMAGED)
+    expect_fault(
+        &rt,
+        rt.alloc(),
+        "DELETE FROM command WHERE id = 'init'",
+        DAMAGED,
+    )?;
+    expect_fault(
+        &rt,
+        rt.alloc(),
+        "UPDATE command SET id = 'Init' WHERE number = 1",
+        DAMAGED,
+    )
 }
 
 #[test]
 fn a_making_with_no_policy(rt: HostRuntime) -> Result<(), Fail> {
-    expect_fault(&rt, rt.alloc(), "UPDATE command SET bytes = x'' WHERE number = 1", DAMAGED)?;
-    expect_fault(&rt, rt.alloc(), "UPDATE command SET bytes = x'ff00' WHERE number = 1", DAMAGED)
+    expect_fault(
+        &rt,
+        rt.alloc(),
+        "UPDATE command SET bytes = x'' WHERE number = 1",
+        DAMAGED,
+    )?;
+    expect_fault(
+        &rt,
+        rt.alloc(),
+        "UPDATE command SET bytes = x'ff00' WHERE number = 1",
+        DAMAGED,
+    )
 }
 
 /// The connection that is handed back is as it was.
 #[test]
 fn a_refused_database_stays(rt: HostRuntime) -> Result<(), Fail> {
-    let conn = after(rt.alloc(), "UPDATE meta SET value = 2 WHERE name = 'format'")?;
+    let conn = after(
+        rt.alloc(),
+        "UPDATE meta SET value = 2 WHERE name = 'format'",
+    )?;
     let Err((_, mut conn)) = Engine::open(rt.alloc(), conn) else {
         return Err(Fail::from("format 2"));
     };
@@ -118,7 +169,11 @@ fn limits_stay(rt: HostRuntime) -> Result<(), Fail> {
 }
 
 /// Why no warehouse is made in a database.
-fn init_fault(alloc: Global, conn: Connection<MemStore>, policy: &str) -> Result<(InitFault, Connection<MemStore>), Fail> {
+fn init_fault(
+    alloc: Global,
+    conn: Connection<MemStore>,
+    policy: &str,
+) -> Result<(InitFault, Connection<MemStore>), Fail> {
     match Engine::init(alloc, conn, policy.as_bytes(), Limits::greatest()) {
         Ok(_) => Err(Fail::from("made")),
         Err(refused) => Ok(refused),

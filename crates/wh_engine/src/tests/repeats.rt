@@ -4,7 +4,12 @@ use super::*;
 use std::process::Abort;
 
 /// The warehouse of the first two batches answers this, and is as before.
-fn expect(rt: &impl Abort, alloc: Global, sent: &Command, answer: Result<Reply, Fault>) -> Result<(), Fail> {
+fn expect(
+    rt: &impl Abort,
+    alloc: Global,
+    sent: &Command,
+    answer: Result<Reply, Fault>,
+) -> Result<(), Fail> {
     let mut engine = loaded(alloc, 2)?;
     let before = all_tables(alloc, &mut engine)?;
     assert_eq!(rt; engine.apply(alloc, sent), answer);
@@ -29,27 +34,47 @@ fn a_header_again(rt: HostRuntime) -> Result<(), Fail> {
 
 #[test]
 fn one_byte_more(rt: HostRuntime) -> Result<(), Fail> {
-    let sent = batch_of(rt.alloc(), Dim::Product, "p1", "P1,2024-01-10,Cola 1l,Acme,Drinks,Grocery,2019,North\n")?;
+    let sent = batch_of(
+        rt.alloc(),
+        Dim::Product,
+        "p1",
+        "P1,2024-01-10,Cola 1l,Acme,Drinks,Grocery,2019,North\n",
+    )?;
     expect(&rt, rt.alloc(), &sent, refused(Refused::Reused))
 }
 
 #[test]
 fn another_byte(rt: HostRuntime) -> Result<(), Fail> {
-    let sent = batch_of(rt.alloc(), Dim::Product, "p1", "P1,2024-01-11,Cola 1l,Acme,Drinks,Grocery,2019,North")?;
+    let sent = batch_of(
+        rt.alloc(),
+        Dim::Product,
+        "p1",
+        "P1,2024-01-11,Cola 1l,Acme,Drinks,Grocery,2019,North",
+    )?;
     expect(&rt, rt.alloc(), &sent, refused(Refused::Reused))
 }
 
 #[test]
 fn another_kind(rt: HostRuntime) -> Result<(), Fail> {
     let text = format!(in rt.alloc(); "{}\n{FIRST}\n", header(Dim::Product))?;
-    let sent = command_of_bytes(rt.alloc(), "p1", Kind::Dimension(Dim::Store), text.as_bytes())?;
+    let sent = command_of_bytes(
+        rt.alloc(),
+        "p1",
+        Kind::Dimension(Dim::Store),
+        text.as_bytes(),
+    )?;
     expect(&rt, rt.alloc(), &sent, refused(Refused::Reused))
 }
 
 /// The making is a command too.
 #[test]
 fn the_id_of_the_making(rt: HostRuntime) -> Result<(), Fail> {
-    let sent = command_of_bytes(rt.alloc(), "init", Kind::Dimension(Dim::Product), FLAT.as_bytes())?;
+    let sent = command_of_bytes(
+        rt.alloc(),
+        "init",
+        Kind::Dimension(Dim::Product),
+        FLAT.as_bytes(),
+    )?;
     expect(&rt, rt.alloc(), &sent, refused(Refused::Reused))
 }
 
@@ -62,6 +87,10 @@ fn again_after_a_while(rt: HostRuntime) -> Result<(), Fail> {
     };
     assert_eq!(rt; send_batch(alloc, &mut engine, 1), already(3, 1));
     let found = products(alloc, &mut engine)?;
-    assert!(rt; found.as_str().starts_with("1,1,P1,19000101,20240119,0,Cola 1 l,Acme,"));
+    assert!(rt;
+        found
+            .as_str()
+            .starts_with("1,1,P1,19000101,20240119,0,Cola 1 l,Acme,")
+    );
     Ok(())
 }

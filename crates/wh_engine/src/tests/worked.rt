@@ -8,7 +8,16 @@ fn answers(rt: HostRuntime) -> Result<(), Fail> {
     let alloc = rt.alloc();
     let mut engine = engine(alloc)?;
     assert_eq!(rt; send_batch(alloc, &mut engine, 0), accepted(2, 0));
-    for (place, number) in [(1, 3), (2, 4), (3, 5), (4, 6), (5, 7), (6, 8), (7, 9), (8, 10)] {
+    for (place, number) in [
+        (1, 3),
+        (2, 4),
+        (3, 5),
+        (4, 6),
+        (5, 7),
+        (6, 8),
+        (7, 9),
+        (8, 10),
+    ] {
         assert_eq!(rt; send_batch(alloc, &mut engine, place), accepted(number, 1));
     }
     Ok(())
