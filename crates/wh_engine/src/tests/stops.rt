@@ -268,7 +268,7 @@ fn try_making(alloc: Global, conn: Connection<FileStore<Fuse<Memory>>>) -> Attem
 }
 
 /// The work on disks that may stop.
-fn attempt(alloc: Global, work: Work, files: Fused) -> Attempt {
+fn make_attempt(alloc: Global, work: Work, files: Fused) -> Attempt {
     match open(alloc, files) {
         Ok(conn) => match work {
             Work::Making => try_making(alloc, conn),
@@ -326,7 +326,7 @@ fn stop_at(
     run: &Run,
     stop: Stop,
 ) -> Result<(bool, bool), Fail> {
-    let mut attempt = attempt(alloc, work, stop.fuse(copy_files(alloc, files)?));
+    let mut attempt = make_attempt(alloc, work, stop.fuse(copy_files(alloc, files)?));
     let is_stopped = has_stopped(&mut attempt.files);
     let is_done = attempt.is_done;
     if !is_right(alloc, work, run, attempt)? {
@@ -335,24 +335,11 @@ fn stop_at(
     Ok((is_stopped, is_done))
 }
 
-/// Stops the work at so many calls, and answers how many of them came after its end.
-fn stop_each(alloc: Global, work: Work, from: Stop, calls: u64) -> Result<u64, Fail> {
-    let run = whole(alloc, work)?;
-    let files = first_files(alloc, work)?;
-    let mut stop = from;
-    let mut ended = 0u64;
-    for _ in 0..calls {
-        let (is_stopped, is_done) = stop_at(alloc, work, &files, &run, stop)?;
-        if !is_stopped && is_done {
-            ended = ended.saturating_add(1);
-        }
-        stop = stop.later(1);
-    }
-    Ok(ended)
-}
+/// How many calls lie between two stops of one test, so that as many tests stop at each call.
+const STEP: u64 = 6;
 
-/// Stops the work at each call from one on, up to a run that isn't stopped. It answers whether that run was done.
-fn stop_rest(alloc: Global, work: Work, from: Stop) -> Result<bool, Fail> {
+/// Stops the work at one call in six, up to a run that isn't stopped. It answers whether that run was done.
+fn stop_all(alloc: Global, work: Work, from: Stop) -> Result<bool, Fail> {
     let run = whole(alloc, work)?;
     let files = first_files(alloc, work)?;
     let mut stop = from;
@@ -361,54 +348,132 @@ fn stop_rest(alloc: Global, work: Work, from: Stop) -> Result<bool, Fail> {
         if !is_stopped {
             return Ok(is_done);
         }
-        stop = stop.later(1);
+        stop = stop.later(STEP);
     }
     Err(Fail::from("no run without a stop"))
 }
 
-/// None of so many stops comes behind the end of the work.
-fn expect_stops(
-    rt: &impl Abort,
-    alloc: Global,
-    work: Work,
-    from: Stop,
-    calls: u64,
-) -> Result<(), Fail> {
-    assert_eq!(rt; stop_each(alloc, work, from, calls)?, 0);
-    Ok(())
-}
-
-fn expect_rest(rt: &impl Abort, alloc: Global, work: Work, from: Stop) -> Result<(), Fail> {
-    assert!(rt; stop_rest(alloc, work, from)?);
+fn expect(rt: &impl Abort, alloc: Global, work: Work, from: Stop) -> Result<(), Fail> {
+    assert!(rt; stop_all(alloc, work, from)?);
     Ok(())
 }
 
 #[test]
-fn making_over_a_log_that_stops(rt: HostRuntime) -> Result<(), Fail> {
-    expect_rest(&rt, rt.alloc(), Work::Making, Stop::Log(0))
+fn load_log_0(rt: HostRuntime) -> Result<(), Fail> {
+    expect(&rt, rt.alloc(), Work::Load, Stop::Log(0))
 }
 
 #[test]
-fn making_over_a_file_that_stops(rt: HostRuntime) -> Result<(), Fail> {
-    expect_rest(&rt, rt.alloc(), Work::Making, Stop::Database(0))
+fn load_log_1(rt: HostRuntime) -> Result<(), Fail> {
+    expect(&rt, rt.alloc(), Work::Load, Stop::Log(1))
 }
 
 #[test]
-fn load_over_a_log_that_stops(rt: HostRuntime) -> Result<(), Fail> {
-    expect_stops(&rt, rt.alloc(), Work::Load, Stop::Log(0), 8)
+fn load_log_2(rt: HostRuntime) -> Result<(), Fail> {
+    expect(&rt, rt.alloc(), Work::Load, Stop::Log(2))
 }
 
 #[test]
-fn load_over_a_log_that_stops_later(rt: HostRuntime) -> Result<(), Fail> {
-    expect_stops(&rt, rt.alloc(), Work::Load, Stop::Log(8), 8)
+fn load_log_3(rt: HostRuntime) -> Result<(), Fail> {
+    expect(&rt, rt.alloc(), Work::Load, Stop::Log(3))
 }
 
 #[test]
-fn load_over_a_log_that_stops_at_last(rt: HostRuntime) -> Result<(), Fail> {
-    expect_rest(&rt, rt.alloc(), Work::Load, Stop::Log(16))
+fn load_log_4(rt: HostRuntime) -> Result<(), Fail> {
+    expect(&rt, rt.alloc(), Work::Load, Stop::Log(4))
 }
 
 #[test]
-fn load_over_a_file_that_stops(rt: HostRuntime) -> Result<(), Fail> {
-    expect_rest(&rt, rt.alloc(), Work::Load, Stop::Database(0))
+fn load_log_5(rt: HostRuntime) -> Result<(), Fail> {
+    expect(&rt, rt.alloc(), Work::Load, Stop::Log(5))
+}
+
+#[test]
+fn load_file_0(rt: HostRuntime) -> Result<(), Fail> {
+    expect(&rt, rt.alloc(), Work::Load, Stop::Database(0))
+}
+
+#[test]
+fn load_file_1(rt: HostRuntime) -> Result<(), Fail> {
+    expect(&rt, rt.alloc(), Work::Load, Stop::Database(1))
+}
+
+#[test]
+fn load_file_2(rt: HostRuntime) -> Result<(), Fail> {
+    expect(&rt, rt.alloc(), Work::Load, Stop::Database(2))
+}
+
+#[test]
+fn load_file_3(rt: HostRuntime) -> Result<(), Fail> {
+    expect(&rt, rt.alloc(), Work::Load, Stop::Database(3))
+}
+
+#[test]
+fn load_file_4(rt: HostRuntime) -> Result<(), Fail> {
+    expect(&rt, rt.alloc(), Work::Load, Stop::Database(4))
+}
+
+#[test]
+fn load_file_5(rt: HostRuntime) -> Result<(), Fail> {
+    expect(&rt, rt.alloc(), Work::Load, Stop::Database(5))
+}
+
+#[test]
+fn making_log_0(rt: HostRuntime) -> Result<(), Fail> {
+    expect(&rt, rt.alloc(), Work::Making, Stop::Log(0))
+}
+
+#[test]
+fn making_log_1(rt: HostRuntime) -> Result<(), Fail> {
+    expect(&rt, rt.alloc(), Work::Making, Stop::Log(1))
+}
+
+#[test]
+fn making_log_2(rt: HostRuntime) -> Result<(), Fail> {
+    expect(&rt, rt.alloc(), Work::Making, Stop::Log(2))
+}
+
+#[test]
+fn making_log_3(rt: HostRuntime) -> Result<(), Fail> {
+    expect(&rt, rt.alloc(), Work::Making, Stop::Log(3))
+}
+
+#[test]
+fn making_log_4(rt: HostRuntime) -> Result<(), Fail> {
+    expect(&rt, rt.alloc(), Work::Making, Stop::Log(4))
+}
+
+#[test]
+fn making_log_5(rt: HostRuntime) -> Result<(), Fail> {
+    expect(&rt, rt.alloc(), Work::Making, Stop::Log(5))
+}
+
+#[test]
+fn making_file_0(rt: HostRuntime) -> Result<(), Fail> {
+    expect(&rt, rt.alloc(), Work::Making, Stop::Database(0))
+}
+
+#[test]
+fn making_file_1(rt: HostRuntime) -> Result<(), Fail> {
+    expect(&rt, rt.alloc(), Work::Making, Stop::Database(1))
+}
+
+#[test]
+fn making_file_2(rt: HostRuntime) -> Result<(), Fail> {
+    expect(&rt, rt.alloc(), Work::Making, Stop::Database(2))
+}
+
+#[test]
+fn making_file_3(rt: HostRuntime) -> Result<(), Fail> {
+    expect(&rt, rt.alloc(), Work::Making, Stop::Database(3))
+}
+
+#[test]
+fn making_file_4(rt: HostRuntime) -> Result<(), Fail> {
+    expect(&rt, rt.alloc(), Work::Making, Stop::Database(4))
+}
+
+#[test]
+fn making_file_5(rt: HostRuntime) -> Result<(), Fail> {
+    expect(&rt, rt.alloc(), Work::Making, Stop::Database(5))
 }
