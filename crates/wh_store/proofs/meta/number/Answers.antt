@@ -1,4 +1,4 @@
-use Rattle.std.proofs.Common.{◌≡◌, sym, pos}
+use Rattle.std.proofs.Common.{sym, pos}
 use Rattle.std.proofs.lemmas.Str.{is_utf8-from_IsUtf8}
 use Rattle.wh_rows.specs.declared.rows.MetaRow.{MetaRow}
 use Rattle.wh_store.proofs.meta.number.Goals as goal
