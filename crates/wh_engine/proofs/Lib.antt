@@ -56,3 +56,5 @@ pub mod PlanTouched
 pub mod PlanRows
 pub mod PlanProfiles
 pub mod PlanEdits
+pub mod Reopened
+pub mod Redelivered

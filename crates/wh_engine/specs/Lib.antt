@@ -13,3 +13,4 @@ pub mod Faults
 pub mod Decided
 pub mod Answered
 pub mod Opened
+pub mod Redelivered

@@ -14,6 +14,7 @@ mod making;
 mod opening;
 mod plan;
 pub mod planning;
+mod reopen;
 mod session;
 mod stored;
 mod write;
@@ -26,6 +27,7 @@ pub use fault::Fault;
 pub use making::{policies_are_good, write_making};
 pub use opening::{InitFault, OpeningFault};
 pub use plan::plan_batch;
+pub use reopen::{redeliver, restart};
 pub use write::write_batch;
 
 #[cfg(test)]

@@ -193,6 +193,7 @@ impl<S: Alter> Engine<S> {
         alloc: Global,
         conn: Connection<S>,
     ) -> Result<Engine<S>, (OpeningFault, Connection<S>)>
+        ensures clean { IfOk result (λ engine. HasCleanDisk (state S.Store engine.tables.conn) → HasCleanDisk (state S.Store conn)) }
         ensures ready { IfOk result (λ engine. HasCleanDisk (state S.Store engine.tables.conn) → (limits : Counts) (commands : List Accepted) → IsAccepted limits commands → Rests limits commands (state S.Store conn)
             → IsReady limits commands engine.session (state S.Store engine.tables.conn)) }
         ensures refused { IfErr result (λ e. HasCleanDisk (state S.Store e.1) → (limits : Counts) (commands : List Accepted) → IsAccepted limits commands → Rests limits commands (state S.Store conn)

@@ -1,3 +1,4 @@
 mod Transactions
 pub mod Looping
 mod Refusals
+mod Reopened

@@ -2,3 +2,4 @@ pub mod Meta
 pub mod Opening
 pub mod Edits
 pub mod Beginning
+pub mod InFiles

@@ -3,11 +3,13 @@
 
 mod fault;
 mod meta;
+mod reopen;
 mod tables;
 mod transaction;
 mod writing;
 
 pub use fault::{MakeFault, OpenFault};
+pub use reopen::{into_files, open_path, restart};
 pub use tables::Tables;
 pub use wh_rows::{Cause, Limits, Table};
 pub use wh_sql::{Dimension, Keeps, Question, Refusal};

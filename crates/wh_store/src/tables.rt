@@ -66,6 +66,7 @@ impl<S: Alter> Tables<S> {
         alloc: Global,
         mut conn: Connection<S>,
     ) -> Result<Tables<S>, (OpenFault, Connection<S>)>
+        ensures clean { IfOk result (λ tables. HasCleanDisk (state S.Store tables.conn) → HasCleanDisk (state S.Store conn)) }
         ensures taken { IfOk result (λ tables. HasCleanDisk (state S.Store tables.conn) → (t : Rows) → IsAtRest (Some t) (state S.Store conn) → IsTaken t × IsAtRest (Some t) (state S.Store tables.conn)) }
         ensures refused { IfErr result (λ e. HasCleanDisk (state S.Store e.1) → (t : Rows) → IsAtRest (Some t) (state S.Store conn) → are_all_there (state S.Store conn).now.schema ≡ true → IsRefusedWith t (state S.Store conn) (state S.Store e.1) e.0) }
         ensures left { IfErr result (λ e. HasCleanDisk (state S.Store e.1) → (t : Rows) → IsAtRest (Some t) (state S.Store conn) → Leaves (Some t) (state S.Store e.1)) }

@@ -4,6 +4,7 @@ mod calendar;
 mod damaged;
 mod making;
 mod opening;
+mod restarts;
 mod stops;
 mod writing;
 

@@ -1,0 +1,61 @@
+//! From one run to the next.
+
+ghost use Rattle.std.specs.Prelude.{◌≡◌, ◌⊎◌, List, IfOk};
+ghost use Rattle.sqlite.specs.Files.{file_state};
+ghost use Rattle.sqlite.specs.State.{HasCleanDisk};
+ghost use Rattle.wh_policy.specs.declared.attribute.Dim.{Dim};
+ghost use Rattle.wh_batch.specs.declared.kind.Kind.TheVariants.{Dimension};
+ghost use Rattle.wh_history.specs.Accepted.{Accepted};
+ghost use Rattle.wh_history.specs.Tables.{Limits as Counts};
+ghost use Rattle.wh_engine.specs.Answered.{LeavesOneOf, IsReady};
+ghost use Rattle.wh_engine.specs.Redelivered.{IsRedelivered};
+ghost use Rattle.wh_engine.specs.Sound.{IsAccepted};
+
+use crate::command::{Command, Reply};
+use crate::engine::Engine;
+use crate::fault::Fault;
+use crate::opening::OpeningFault;
+use sqlite::{FileStore, Options};
+use sqlite_disk::Crash;
+use std::alloc::Global;
+use wh_rows::Cause;
+use wh_store::restart as restart_connection;
+
+/// The machine stops and comes back, and the warehouse is opened again. What it has accepted then is one of what a crash could leave.
+pub fn restart<D: Crash + Drop>(
+    alloc: Global,
+    engine: Engine<FileStore<D>>,
+    options: Options,
+) -> Result<Engine<FileStore<D>>, OpeningFault>
+    ensures clean { IfOk result (λ again. HasCleanDisk (file_state again.tables.conn) → HasCleanDisk (file_state engine.tables.conn)) }
+    ensures ready { (limits : Counts) (before after : List Accepted) → IsAccepted limits before → IsAccepted limits after → LeavesOneOf limits before after (file_state engine.tables.conn)
+        → IfOk result (λ again. HasCleanDisk (file_state again.tables.conn) → ∥ IsReady limits before again.session (file_state again.tables.conn) ⊎ IsReady limits after again.session (file_state again.tables.conn) ∥₁) }
+{
+    let conn = match restart_connection(alloc, engine.close(), options) {
+        Ok(conn) => conn,
+        Err(error) => return Err(OpeningFault::Store(Cause::from(error))),
+    };
+    match Engine::open(alloc, conn) {
+        Ok(again) => Ok(again),
+        Err((fault, _)) => Err(fault),
+    }
+}
+
+/// Sends a command, stops the machine whatever was answered, opens the warehouse again and sends the command once more. It has acted once.
+pub fn redeliver<D: Crash + Drop>(
+    alloc: Global,
+    mut engine: Engine<FileStore<D>>,
+    command: &Command,
+    options: Options,
+) -> Result<(Result<Reply, Fault>, Engine<FileStore<D>>), OpeningFault>
+    ensures { (limits : Counts) (commands : List Accepted) (dim : Dim) → IsReady limits commands engine.session (file_state engine.tables.conn) → command.now.kind ≡ Dimension dim
+        → IfOk result (λ it. HasCleanDisk (file_state it.1.tables.conn) → ∥ IsRedelivered limits commands command.now it.0 it.1.session (file_state it.1.tables.conn) ∥₁) }
+{
+    let _ = engine.apply(alloc, command);
+    let mut again = match restart(alloc, engine, options) {
+        Ok(again) => again,
+        Err(fault) => return Err(fault),
+    };
+    let answer = again.apply(alloc, command);
+    Ok((answer, again))
+}

@@ -1,0 +1,53 @@
+//! From one run to the next.
+
+ghost use Rattle.std.specs.Prelude.{IfOk, Option};
+ghost use Rattle.sqlite_wal.specs.Files.{outcomes, image_at};
+ghost use Rattle.sqlite_wal.specs.Reads.{AreClean};
+ghost use Rattle.sqlite.specs.Files.{file_state};
+ghost use Rattle.sqlite.specs.State.{HasCleanDisk};
+ghost use Rattle.wh_rows.specs.AtRest.{IsAtRest};
+ghost use Rattle.wh_rows.specs.Tables.{Tables};
+ghost use Rattle.wh_store.specs.InFiles.{AreInFiles, HoldsOneOf, IsReopened};
+
+use sqlite::{Connection, Error, FileFrom, FileStore, Files, Options, Start};
+use sqlite_disk::{Crash, Disk};
+use std::alloc::Global;
+
+/// Ends the run with no more work on the files. Whatever a crash may leave of them holds one of what it could leave of the connection.
+pub fn into_files<D: Disk + Drop>(conn: Connection<FileStore<D>>) -> Files<D>
+    ensures { AreClean D.Disk result.log result.db → (image : _) → outcomes D.Disk result.log result.db image → HoldsOneOf (file_state conn) image }
+{
+    conn.into_store().close()
+}
+
+/// Opens the files at a path. What they held, the connection holds.
+pub fn open_path<S: Start>(
+    rt: &HostRuntime,
+    path: &str,
+    start: S,
+) -> Result<Connection<FileStore<FileFrom<S>>>, Error>
+    ensures { (held : Option Tables) → AreInFiles held (image_at S.Start) → IfOk result (λ conn. HasCleanDisk (file_state conn) → ∥ IsAtRest held (file_state conn) ∥₁) }
+{
+    match Connection::open_from(rt, path, false, start) {
+        Ok(conn) => Ok(conn),
+        Err((error, _)) => Err(error),
+    }
+}
+
+/// The machine stops and comes back. What is opened then is one of what a crash could leave.
+pub fn restart<D: Crash + Drop>(
+    alloc: Global,
+    conn: Connection<FileStore<D>>,
+    options: Options,
+) -> Result<Connection<FileStore<D>>, Error>
+    ensures clean { IfOk result (λ again. HasCleanDisk (file_state again) → HasCleanDisk (file_state conn)) }
+    ensures found { IfOk result (λ again. HasCleanDisk (file_state again) → ∥ IsReopened (file_state conn) (file_state again) ∥₁) }
+{
+    let mut files = conn.into_store().close();
+    files.log.crash();
+    files.db.crash();
+    match Connection::open_files(alloc, files, options) {
+        Ok(again) => Ok(again),
+        Err((error, _)) => Err(error),
+    }
+}
