@@ -1,5 +1,5 @@
 -- What a warehouse has accepted that is opened again after a crash.
-use Rattle.std.proofs.Common.{◌≡◌, ◌⊎◌, inl, inr, List, Some}
+use Rattle.std.proofs.Common.{◌⊎◌, inl, inr, List, Some}
 use Rattle.sqlite.specs.State.{State}
 use Rattle.wh_history.specs.Accepted.{Accepted}
 use Rattle.wh_history.specs.Tables.{Limits}

@@ -6,6 +6,7 @@ mod limits;
 mod opening;
 mod parts;
 mod repeats;
+mod restarts;
 mod stops;
 mod worked;
 
