@@ -1,9 +1,9 @@
 -- What clap makes of the words of a command.
-use Rattle.std.proofs.Common.{◌≡◌, ◌∙◌, ℕ, List, [], ◌∷◌, codes, refl, sym, ap, true, false, Bool, ◌==◌, ◌&&◌, Some, None, not, Option, bytes_eq, true≢false}
+use Rattle.std.proofs.Common.{◌≡◌, [], ◌∷◌, refl, sym, true, false, Bool, ◌==◌, ◌&&◌, Some, None, not, bytes_eq, true≢false}
 use Rattle.clap.specs.Words.{takes, subcommand_of, Text}
 use Rattle.clap.specs.Lexer.{long_of, short_of}
 use Rattle.clap.proofs.OnLiterals.{clap_on_literals}
-use Rattle.wh.specs.CommandLine.{CommandLine, Trial, Init, Load, Status, program_app, words_of, is_operand, is_operand_or_none, has_operands, named}
+use Rattle.wh.specs.CommandLine.{CommandLine, Trial, Init, Load, Status, program_app, words_of, is_operand, has_operands, named}
 
 not-true : (b : Bool) → not b ≡ true → b ≡ false
 not-true true h = cc

@@ -1,5 +1,5 @@
 -- The status of a run.
-use Rattle.std.proofs.Common.{◌≡◌, ◌∙◌, ◌≢◌, ◌⊎◌, inl, inr, ℕ, List, Option, Some, None, Ok, Err, sym, ap, arith}
+use Rattle.std.proofs.Common.{◌∙◌, ◌≢◌, ◌⊎◌, inl, inr, ℕ, List, Option, Some, None, Ok, Err, sym, ap, arith}
 use Rattle.std.specs.Prelude.{Result}
 use Rattle.wh_policy.specs.Policy.{trial_policy, policy_at}
 use Rattle.wh_policy.specs.declared.attribute.Dim.{Dim}

@@ -1,5 +1,5 @@
 -- What the commands on a warehouse answer.
-use Rattle.std.specs.Prelude.{ℕ, List, ◌∷◌, ◌++◌, codes, Result, Ok, Err}
+use Rattle.std.specs.Prelude.{ℕ, List, ◌++◌, codes, Result, Ok, Err}
 use Rattle.std.specs.Fmt.{decimal}
 use Rattle.wh_engine.specs.declared.command.Receipt.{Receipt}
 use Rattle.wh_engine.specs.declared.command.Reply.{Reply}

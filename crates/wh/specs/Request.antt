@@ -8,7 +8,7 @@ use Rattle.wh.specs.CommandLine as line
 use Rattle.wh.specs.declared.command.Operands.{Operands}
 use Rattle.wh.specs.declared.command.Operands.TheVariants as operands
 use Rattle.wh.specs.declared.command.Request.{Request}
-use Rattle.wh.specs.declared.command.Request.TheVariants.{Trial, Init, Load, Status, Help, Usage}
+use Rattle.wh.specs.declared.command.Request.TheVariants.{Trial, Init, Load, Status, Usage}
 
 -- the word for a dimension
 abbrev pub dim_word : Dim → List ℕ

@@ -1,10 +1,10 @@
-use Rattle.std.proofs.Common.{◌≡◌, ◌∙◌, Some, None, Ok, Err, Option, ap, subst, sym, true, true≢false, map}
+use Rattle.std.proofs.Common.{◌≡◌, ◌∙◌, Some, None, Ok, Err, ap, subst, sym, true≢false}
 use Rattle.std.specs.Prelude.{Result, IfOk, IsErr}
 use Rattle.std.proofs.lemmas.Result.{IfOk-weaker}
 use Rattle.clap.specs.Words.{takes, subcommand_of}
 use Rattle.wh.specs.declared.command.Request.{Request}
-use Rattle.wh.specs.CommandLine.{CommandLine, named, words_of, has_operands, program_app}
-use Rattle.wh.specs.Request.{Asks, line_of}
+use Rattle.wh.specs.CommandLine.{CommandLine, named, program_app}
+use Rattle.wh.specs.Request.{Asks}
 use Rattle.wh.proofs.CommandLineLemmas.{taken, found}
 use Rattle.wh.proofs.command.parse.Goals as goal
 

@@ -2,7 +2,7 @@ use Rattle.std.proofs.Common.{◌≡◌, refl, Some, true}
 use Rattle.std.proofs.lemmas.Result.{IfOk-weaker}
 use Rattle.wh_policy.specs.declared.attribute.Dim.{Dim}
 use Rattle.wh.specs.CommandLine.{Trial, is_operand, has_operands}
-use Rattle.wh.specs.Request.{dim_word, dim_of, AsksTrial}
+use Rattle.wh.specs.Request.{dim_word, dim_of}
 use Rattle.wh.proofs.program.answer_to.Goals as goal
 
 word_is : (dim : Dim) → dim_of (dim_word dim) ≡ Some dim

@@ -1,4 +1,4 @@
-use Rattle.std.proofs.Common.{inl, inr}
+use Rattle.std.proofs.Common.{inl}
 use Rattle.wh.proofs.RunLemmas.{run_is_no_usage}
 use Rattle.wh.proofs.program.run.Goals as goal
 
