@@ -44,7 +44,7 @@ fn made(alloc: Global) -> Result<InFiles, Fail> {
 
 fn products(alloc: Global) -> Result<Command, Fail> {
     Ok(Command {
-        id: Value::new(alloc, "p1")?,
+        id: text(alloc, "p1")?,
         kind: Kind::Dimension(Dim::Product),
         bytes: Bytes::from_slice(alloc, PRODUCTS.as_bytes())?,
     })
