@@ -1,5 +1,3 @@
-mod restarts;
-
 use super::*;
 use crate::kept::{command_of, members_given, stored_changes, stored_member, stored_rows};
 use crate::planning::{new_changes, new_members, rendered};

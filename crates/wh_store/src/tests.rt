@@ -4,7 +4,6 @@ mod calendar;
 mod damaged;
 mod making;
 mod opening;
-mod restarts;
 mod stops;
 mod writing;
 
