@@ -3,11 +3,22 @@
 ghost use Rattle.std.specs.Prelude.{◌≡◌, ℕ, List, Option, Some, None, ⊤, IfOk, IfErr, option_map};
 ghost use Rattle.wh.specs.declared.host.HostError.TheVariants.{NoFile};
 
-use sqlite::{Alter, Connection, Error, ErrorCode, Unknown};
+use sqlite::{Alter, Connection, Error, ErrorCode, FileStore, Options, Unknown};
+use sqlite_std_file::{File as DatabaseFile, OpenError};
 use std::alloc::{AllocError, Global};
-use std::fs::File;
+use std::fs::{self, File};
+use std::hash::{BuildHasher, RandomState};
 use std::io;
 use std::io::Read;
+
+/// How many bytes a page of a new file has.
+const PAGE: u64 = 4096;
+
+/// The most pages of a file that stay in memory, and the most written ones before they go to the log: 32 MB each.
+const MOST_PAGES: u64 = 8192;
+
+/// How many pages a file has room for to grow.
+const SPARE_PAGES: u64 = 500;
 
 /// Why a host gives no file, or lends no connection.
 #[derive(Clone, Copy, Debug, PartialEq, Eq)]
@@ -81,6 +92,52 @@ impl From<io::Error> for HostError {
     }
 }
 
+impl From<OpenError> for HostError {
+    fn from(error: OpenError) -> HostError {
+        match error {
+            OpenError::OutOfMemory => HostError::OutOfMemory,
+            OpenError::Io(error) => HostError::from(error),
+            OpenError::Busy | OpenError::HotJournal => HostError::NoFile,
+        }
+    }
+}
+
+impl From<Error> for HostError {
+    fn from(error: Error) -> HostError {
+        match error {
+            Error::SqliteFailure(ErrorCode::OutOfMemory) => HostError::OutOfMemory,
+            _ => HostError::NoFile,
+        }
+    }
+}
+
+/// How many pages of a file stay in memory: all of them, as far as memory is granted.
+fn pages_kept(runtime: &HostRuntime, name: &str) -> usize {
+    let bytes = match fs::metadata(runtime, name) {
+        Ok(found) => found.len(),
+        Err(_) => 0,
+    };
+    (bytes / PAGE + SPARE_PAGES).min(MOST_PAGES) as usize
+}
+
+/// Connects the database in a file, or in a new one of that name, whose pages get no check sums: the `sqlite3` program can write it too.
+fn connect(
+    runtime: &HostRuntime,
+    name: &str,
+) -> Result<Connection<FileStore<DatabaseFile>>, HostError> {
+    // `Unknown` says nothing of what the file holds, and supposes that a torn write leaves each byte old or new.
+    let files = sqlite_std_file::open(runtime, name, Unknown)?;
+    let options = Options {
+        cache_pages: pages_kept(runtime, name),
+        spill_pages: MOST_PAGES as usize,
+        ..Options::new(RandomState::new(runtime)?.hash_one(&0u8))
+    };
+    match Connection::open_files(runtime.alloc(), files, options) {
+        Ok(connection) => Ok(connection),
+        Err((error, _)) => Err(HostError::from(error)),
+    }
+}
+
 impl Host for SystemHost<'_> {
     fn read(&self, alloc: Global, path: &str) -> Result<Vec<u8>, HostError> {
         let mut file = File::open(self.runtime, path)?;
@@ -95,17 +152,9 @@ impl Host for SystemHost<'_> {
         name: &str,
         visitor: V,
     ) -> Result<V::Output, HostError> {
-        // A file that is new gets pages without check sums, which the `sqlite3` program can write too. `Unknown` says
-        // nothing of what the file holds, and supposes that a torn write leaves each byte old or new.
-        match Connection::open_from(self.runtime, name, false, Unknown) {
-            Ok(connection) => {
-                let (output, connection) = visitor.visit(alloc, connection);
-                // What was committed is in the files already, so a failure here loses nothing.
-                let _ = connection.close();
-                Ok(output)
-            }
-            Err((Error::SqliteFailure(ErrorCode::OutOfMemory), _)) => Err(HostError::OutOfMemory),
-            Err(_) => Err(HostError::NoFile),
-        }
+        let (output, connection) = visitor.visit(alloc, connect(self.runtime, name)?);
+        // What was committed is in the files already, so a failure here loses nothing.
+        let _ = connection.close();
+        Ok(output)
     }
 }

@@ -4,6 +4,7 @@ mod calendar;
 mod damaged;
 mod making;
 mod opening;
+mod reopening;
 mod stops;
 mod writing;
 

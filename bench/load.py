@@ -1,0 +1,77 @@
+#!/usr/bin/env python3
+"""Times `wh load` of 5,000 late product records over 5,000 members, into warehouses of 5,000 and of 50,000 members (build the program
+first: `rt run` in crates/wh). load.py [PROGRAM]. Prints the least processor time of five runs of the load, of five that are refused for
+their id right after the open, and the ratio of what the load takes more than the open.
+
+The late members came in one batch (`together`), or one in ten of the 50,000 is late (`spread`)."""
+import os
+import resource
+import shutil
+import subprocess
+import sys
+import tempfile
+
+TOP = os.path.join(os.path.dirname(os.path.abspath(__file__)), "..")
+PROGRAM = sys.argv[1] if len(sys.argv) > 1 else os.path.join(TOP, "crates", "wh", "out", "wh")
+POLICY = os.path.join(TOP, "examples", "flat.toml")
+SIZE = 5000
+
+
+def batch(path, members, day, turn):
+    """One record of each member, all of one day."""
+    with open(path, "w", encoding="ascii") as out:
+        out.write("id,day,description,brand,category,department,launched,supplier\n")
+        for number in members:
+            out.write(f"P{number:06},{day},Item {number % 17},Brand {number % 23} {turn},Category {number % 11},Department {number % 5},2019,North\n")
+    return path
+
+
+def run(*words, told="accepted"):
+    """Processor seconds of a run that is answered so."""
+    before = resource.getrusage(resource.RUSAGE_CHILDREN)
+    done = subprocess.run([PROGRAM, *words], stdout=subprocess.PIPE)
+    after = resource.getrusage(resource.RUSAGE_CHILDREN)
+    if not done.stdout.decode().startswith(told):
+        sys.exit(done.stdout.decode())
+    return after.ru_utime + after.ru_stime - before.ru_utime - before.ru_stime
+
+
+def warehouse(folder, batches):
+    path = os.path.join(folder, f"{len(batches)}.wh")
+    run("init", path, POLICY)
+    for number, members in enumerate(batches):
+        run("load", path, "product", f"b{number}", batch(os.path.join(folder, "b.csv"), members, "2024-06-01", 0))
+    return path
+
+
+def measure(folder, path, late):
+    """The least time of the load, and of an open, of five runs each on a copy of the file."""
+    load = opening = None
+    copy = os.path.join(folder, "copy.wh")
+    for _ in range(5):
+        shutil.copyfile(path, copy)
+        spent = run("load", copy, "product", "bad id", late, told="refused: E1")
+        opening = spent if opening is None else min(opening, spent)
+        spent = run("load", copy, "product", "late", late)
+        load = spent if load is None else min(load, spent)
+        os.remove(copy)
+    return load, opening
+
+
+def main():
+    with tempfile.TemporaryDirectory() as folder:
+        consecutive = [range(SIZE * turn, SIZE * (turn + 1)) for turn in range(10)]
+        large = warehouse(folder, consecutive)
+        for name, members in (("together", consecutive[0]), ("spread", range(0, SIZE * 10, 10))):
+            late = batch(os.path.join(folder, "late.csv"), members, "2024-03-01", 1)
+            small = warehouse(folder, [members])
+            spent = []
+            for count, path in ((SIZE, small), (SIZE * 10, large)):
+                load, opening = measure(folder, path, late)
+                spent.append(load - opening)
+                print(f"{name}: {count} members: load {load:.3f} s, open {opening:.3f} s, less the open {load - opening:.3f} s")
+            os.remove(small)
+            print(f"{name}: ratio {spent[1] / spent[0]:.2f}")
+
+
+main()

@@ -1,0 +1,86 @@
+#!/usr/bin/env bash
+# Refuses each growth of memory of one load in turn, and of one making, in the built program, and looks at what its file then holds.
+# Build the program first (`rt run` in crates/wh). growths.sh [STEP] [PROGRAM]: every growth, or one in STEP of them.
+#
+# A run is answered as with ample memory, with `failed: E8 memory`, or with `failed: E9 store, memory`. Behind E8 the file holds what it
+# held; the same words again are answered as accepted. Behind E9 they are answered as accepted or, of a load that was kept, as already
+# accepted, of a making that was kept, as not empty. In the end the file holds the rows that it holds without a refusal.
+set -eu
+cd "$(dirname "$0")/.."
+step=${1:-1}
+program=$(realpath "${2:-crates/wh/out/wh}")
+work=$(mktemp -d)
+trap 'rm -rf "$work"' EXIT
+cc -O1 -shared -fPIC -o "$work/refuse.so" tests/refuse_allocation.c -ldl
+printf 'failed: E8 memory\n' > "$work/short"
+printf 'failed: E9 store, memory\n' > "$work/stopped"
+
+fail() {
+    echo "$*"
+    exit 1
+}
+
+cat > "$work/policy.toml" <<'POLICY'
+first_year = 2024
+last_year = 2024
+[[product]]
+name = "brand"
+type = 2
+[[store]]
+name = "city"
+type = 2
+[[customer]]
+name = "tier"
+type = 2
+POLICY
+printf 'id,day,brand\nP1,2024-02-01,Acme\n' > "$work/first.csv"
+printf 'id,day,brand\nP1,2024-01-20,Bolt\nP2,2024-01-10,Cask\n' > "$work/second.csv"
+
+# the rows of the ten tables of a file
+rows() {
+    if command -v sqlite3 > /dev/null; then
+        sqlite3 "$1" ".dump"
+    else
+        python3 -c 'import sqlite3, sys
+for line in sqlite3.connect(sys.argv[1]).iterdump(): print(line)' "$1"
+    fi | LC_ALL=C sort
+}
+
+# name of the work; what it is told again where it was kept. The file before it is $work/NAME.before, or there is none.
+refuse_all() {
+    local name=$1 kept=$2 number=1 refused=0 short=0 stopped=0 answered
+    shift 2
+    rm -f "$work/file" "$work/file-wal"
+    if [ -e "$work/$name.before" ]; then cp "$work/$name.before" "$work/file"; fi
+    "$program" "$@" > "$work/ample" || fail "$name: $(cat "$work/ample")"
+    rows "$work/file" > "$work/rows"
+    while true; do
+        rm -f "$work/refused" "$work/file" "$work/file-wal"
+        if [ -e "$work/$name.before" ]; then cp "$work/$name.before" "$work/file"; fi
+        answered=0
+        LD_PRELOAD="$work/refuse.so" REFUSED_ALLOCATION=$number REFUSED_NOTE="$work/refused" "$program" "$@" > "$work/text" || answered=$?
+        [ -e "$work/refused" ] || break
+        "$program" "$@" > "$work/again" || true
+        if cmp -s "$work/text" "$work/ample" && [ $answered = 0 ]; then
+            [ "$(cat "$work/again")" = "$kept" ] || fail "$name, growth $number refused and the work done: then $(cat "$work/again")"
+        elif cmp -s "$work/text" "$work/short" && [ $answered = 3 ]; then
+            cmp -s "$work/again" "$work/ample" || fail "$name, growth $number refused and E8: then $(cat "$work/again")"
+            short=$((short + 1))
+        elif cmp -s "$work/text" "$work/stopped" && [ $answered = 3 ]; then
+            [ "$(cat "$work/again")" = "$kept" ] || cmp -s "$work/again" "$work/ample" || fail "$name, growth $number refused and E9: then $(cat "$work/again")"
+            stopped=$((stopped + 1))
+        else
+            fail "$name, growth $number refused: status $answered and $(cat "$work/text")"
+        fi
+        rows "$work/file" > "$work/found"
+        cmp -s "$work/found" "$work/rows" || fail "$name, growth $number refused: the rows differ"
+        refused=$((refused + 1))
+        number=$((number + step))
+    done
+    echo "$name: $refused growths refused, $short answered with E8, $stopped with E9, the others as with ample memory"
+}
+
+refuse_all making 'refused: E11 not empty' init "$work/file" "$work/policy.toml"
+"$program" init "$work/load.before" "$work/policy.toml" > "$work/told" || fail "$(cat "$work/told")"
+"$program" load "$work/load.before" product p1 "$work/first.csv" > "$work/told" || fail "$(cat "$work/told")"
+refuse_all load 'already 3 p2: 2 records, 0 placeholders' load "$work/file" product p2 "$work/second.csv"
