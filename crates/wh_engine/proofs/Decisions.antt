@@ -1,6 +1,6 @@
 -- What the rows of the tables say of the answer to a command.
-use Rattle.std.proofs.Common.{◌≡◌, ℕ, suc, ◌+◌, ◌<◌, ◌≤◌, Bool, true, false, cond, leb, ltb, List, [], ◌∷◌, ◌++◌, length, Option, Some, None, Result, Ok, Err, refl, sym, ap, subst, ◌∙◌, arith, length-append}
-use Rattle.std.proofs.lemmas.Bool.{le-leb, lt-leb, le-ltb, lt-ltb}
+use Rattle.std.proofs.Common.{◌≡◌, ℕ, suc, ◌+◌, ◌-◌, ◌<◌, ◌≤◌, Bool, true, false, cond, leb, ltb, List, [], ◌∷◌, ◌++◌, length, Option, Some, None, Result, Ok, Err, refl, sym, ap, subst, ◌∙◌, arith, length-append}
+use Rattle.std.proofs.lemmas.Bool.{le-leb, lt-leb, le-ltb, lt-ltb, leb-true, leb-false}
 use Rattle.std.specs.Prelude.{find, bytes_eq, option_map, IsSome, unwrap_or, ◌&&◌}
 use Rattle.wh_policy.specs.Policy.{trial_policy}
 use Rattle.wh_policy.specs.declared.attribute.Dim.{Dim}
@@ -51,6 +51,14 @@ module _ (limits : Limits) (commands : List Accepted) (more : ℕ) where
 
   pub has_room : length commands < limits.commands → changes_kept commands + more ≤ limits.changes → number_with_room limits commands more ≡ Ok (suc (length commands))
   has_room room few = rw (lt-leb limits.commands (length commands) room, le-ltb limits.changes (changes_kept commands + more) few) refl
+
+-- what is left below a limit
+below-limit : (b : Bool) (kept more limit left : ℕ) → left ≡ limit - kept → kept ≤ limit → leb (kept + more) limit ≡ b → leb more left ≡ b
+below-limit true kept more limit left is within h = le-leb more left (omega (arith, is, within, leb-true (kept + more) limit h))
+below-limit false kept more limit left is within h = lt-leb more left (omega (arith, is, within, leb-false (kept + more) limit h))
+
+pub room_left : (kept more limit left : ℕ) → left ≡ limit - kept → kept ≤ limit → leb more left ≡ leb (kept + more) limit
+room_left kept more limit left is within = below-limit (leb (kept + more) limit) kept more limit left is within refl
 
 -- ---- a command whose id is known
 

@@ -2,6 +2,7 @@
 use Rattle.std.proofs.Common.{◌≡◌, ℕ, suc, ◌≤◌, ◌==◌, Bool, true, false, cond, not, leb, ◌&&◌, List, [], ◌∷◌, length, map, Option, Some, None, Result, Ok, Err, refl, sym, ap, ◌∙◌, subst, arith}
 use Rattle.std.specs.List.{AllByRecursion}
 use Rattle.std.proofs.lemmas.Bool.{or_right, eqb-true, not-false}
+use Rattle.std.proofs.lemmas.List.{length-map}
 use Rattle.std.proofs.lemmas.Option.{cond_some}
 use Rattle.wh_day.specs.Day.{is_day, read_day}
 use Rattle.wh_day.specs.NaturalKey as day
@@ -103,3 +104,13 @@ unfolding dimension_records
 good_records dim policy bytes records six h =
     let batch = (reads_batches (dimension_layout (attributes_of policy dim)) bytes records).0 h in
     all_read (dimension_record (length (attributes_of policy dim))) IsGoodRecord (λ fields r. good_record _ fields r six) batch.rows records batch.each
+
+-- and a batch has few
+pub few_records : (dim : Dim) (policy : Policy) (bytes : List ℕ) (records : List DimensionRecord) → dimension_records dim policy One bytes ≡ Ok records → length records ≤ 5000
+unfolding dimension_records
+few_records dim policy bytes records h =
+    let layout = dimension_layout (attributes_of policy dim) in
+    let batch = (reads_batches layout bytes records).0 h in
+    let as_many : length batch.rows ≡ length records =
+    sym (length-map batch.rows layout.read) ∙ ap length batch.each ∙ length-map records (λ (r : DimensionRecord). Ok r) in
+    omega (arith, as_many, batch.few)

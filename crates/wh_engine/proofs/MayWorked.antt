@@ -68,6 +68,7 @@ accepted written = record {
   limited = refl;
   commands_within = omega arith;
   changes_within = omega arith;
+  few_a_batch = omega arith;
   begun = record { policy = policy; bytes = codes "policy"; rest = record { id = codes "p1"; kind = codes "product"; bytes = codes "first"; content = Describes Product (told ∷ []) } ∷ []; making = refl; written = written; kept = refl };
   governed = refl;
   six = few_slots;

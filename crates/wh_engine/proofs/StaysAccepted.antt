@@ -1,5 +1,5 @@
 -- An accepted batch of products, stores or customers leaves the list of commands one that can have been accepted.
-use Rattle.std.proofs.Common.{◌≡◌, ℕ, ◌+◌, ◌≤◌, ◌<◌, Bool, true, false, cond, leb, ltb, List, [], ◌∷◌, ◌++◌, length, map, Option, Some, None, Result, Ok, Err, refl, sym, ap, ◌∙◌, subst, arith}
+use Rattle.std.proofs.Common.{◌≡◌, ℕ, ◌+◌, ◌*◌, ◌≤◌, ◌<◌, Bool, true, false, cond, leb, ltb, List, [], ◌∷◌, ◌++◌, length, map, Option, Some, None, Result, Ok, Err, refl, sym, ap, ◌∙◌, subst, arith}
 use Rattle.std.specs.Prelude.{find, bytes_eq, IsSome, unwrap_or, option_map}
 use Rattle.std.specs.List.{AllByRecursion, IsDistinct}
 use Rattle.std.proofs.lemmas.Bool.{leb-false, ltb-false}
@@ -34,7 +34,7 @@ use Rattle.wh_engine.specs.declared.command.Refused.TheVariants.{Full}
 use Rattle.wh_engine.specs.declared.command.Limit.TheVariants.{Commands, Changes}
 use Rattle.wh_engine.proofs.GrownOthers.{sold_nothing}
 use Rattle.wh_engine.proofs.Repeats.{new_id}
-use Rattle.wh_engine.proofs.GoodRecords.{good_records}
+use Rattle.wh_engine.proofs.GoodRecords.{good_records, few_records}
 
 -- ---- ids
 
@@ -91,13 +91,17 @@ module _ (limits : Limits) (commands : List Accepted) (c : Accepted) (dim : Dim)
       omega arith
 
   batch_added : is_key 40 c.id ≡ true → is_kind c.kind ≡ true → find (λ (a : Accepted). bytes_eq a.id c.id) commands ≡ None
-      → length commands < limits.commands → changes_kept commands + length records ≤ limits.changes → AllByRecursion IsGoodRecord records → IsAccepted limits after
-  batch_added id kind new room changes good =
+      → length commands < limits.commands → changes_kept commands + length records ≤ limits.changes → length records ≤ 5000 → AllByRecursion IsGoodRecord records → IsAccepted limits after
+  batch_added id kind new room changes few good =
       let longer_by_one = length-append commands (c ∷ []) in
+      let few_before = accepted.few_a_batch in
+      let more = changes_more in
+      let few_after : changes_kept after ≤ length after * 5000 = omega arith in
       record {
         limited = accepted.limited;
         commands_within = omega arith;
         changes_within = rw changes_more changes;
+        few_a_batch = few_after;
         begun = record {
           policy = accepted.begun.policy;
           bytes = accepted.begun.bytes;
@@ -155,7 +159,7 @@ module _ (limits : Limits) (commands : List Accepted) (c : Command) (dim : Dim) 
       let changes : changes_kept commands + length records ≤ limits.changes = subst (λ k. changes_kept commands + changes_in k ≤ limits.changes) (sym e) room.changes_left in
       let six = in_force_six dim (policy_after None commands) _ accepted.governed (accepted.six dim) in
       let kind : is_kind (kind_word c.kind) ≡ true = ap (λ k. is_kind (kind_word k)) is ∙ kind_known dim in
-      batch_added limits commands (accepted_as c content) dim records (sym e) accepted good kind new room.commands_left changes (good_records dim (in_force commands) c.bytes records six read)
+      batch_added limits commands (accepted_as c content) dim records (sym e) accepted good kind new room.commands_left changes (few_records dim (in_force commands) c.bytes records read) (good_records dim (in_force commands) c.bytes records six read)
 
   by_answer : (a : Result Reply Refused) → answer limits commands c ≡ a → IsAccepted limits (after_answer commands c a)
   by_answer (Ok (Already receipt)) said = accepted

@@ -1,5 +1,5 @@
 -- What holds of every list of accepted commands, as far as batches of products, stores and customers go.
-use Rattle.std.specs.Prelude.{◌≡◌, ◌≢◌, ℕ, ◌+◌, ◌≤◌, true, Some, None, Ok, List, [], ◌∷◌, length, map, IsSome, bytes_eq}
+use Rattle.std.specs.Prelude.{◌≡◌, ◌≢◌, ℕ, ◌+◌, ◌*◌, ◌≤◌, true, Some, None, Ok, List, [], ◌∷◌, length, map, IsSome, bytes_eq}
 use Rattle.std.specs.List.{AllByRecursion, IsDistinct}
 use Rattle.wh_day.specs.Day.{is_day}
 use Rattle.wh_policy.specs.declared.attribute.Dim.{Dim}
@@ -38,11 +38,12 @@ pub record IsBegun (commands : List Accepted) : Type 0 where
   pub kept : policy_after None commands ≡ Some policy
 
 -- The list is one that a warehouse with these limits can have accepted: it begins with a making, and that policy is in force, with up to six attributes a dimension; ids and kinds are well formed, no two commands
--- share an id; its records are good; the limits aren't passed; nothing was sold yet.
+-- share an id; its records are good, and no batch has more than 5,000; the limits aren't passed; nothing was sold yet.
 pub record IsAccepted (limits : Limits) (commands : List Accepted) : Type 0 where
   pub limited : are_limits limits ≡ true
   pub commands_within : length commands ≤ limits.commands
   pub changes_within : changes_kept commands ≤ limits.changes
+  pub few_a_batch : changes_kept commands ≤ length commands * 5000
   pub begun : IsBegun commands
   pub governed : IsSome (policy_after None commands)
   pub six : (dim : Dim) → length (types_in dim commands) ≤ 6

@@ -1,17 +1,18 @@
 //! Whether a command is accepted, as far as the tables tell.
 
-ghost use Rattle.std.specs.Prelude.{◌≡◌, List, Some};
+ghost use Rattle.std.specs.Prelude.{◌≡◌, ◌+◌, nat_le, List, length, Some, IfOk};
 ghost use Rattle.sqlite.specs.Held.{state};
 ghost use Rattle.sqlite.specs.State.{HasCleanDisk};
 ghost use Rattle.wh_history.specs.Accepted.{Accepted};
 ghost use Rattle.wh_history.specs.Tables.{Limits as Counts};
 ghost use Rattle.wh_rows.specs.AtRest.{IsAtRest, Leaves};
 ghost use Rattle.wh_rows.specs.Tables.{Tables as Rows};
+ghost use Rattle.wh_sql.specs.Refusal.{IsUndamaged, IsWhole};
 ghost use Rattle.wh_engine.specs.Admission.{kind_word};
 ghost use Rattle.wh_engine.specs.Decided.{receipt_of_known, number_with_room};
 ghost use Rattle.wh_engine.specs.Defined.{AreOf};
 ghost use Rattle.wh_engine.specs.Faults.{IsServed, IsWorkedOut, Judges};
-ghost use Rattle.wh_engine.specs.Sound.{IsAccepted};
+ghost use Rattle.wh_engine.specs.Sound.{IsAccepted, changes_kept};
 
 use crate::command::{Command, Limit, Receipt, Refused};
 use crate::fault::Fault;
@@ -20,7 +21,7 @@ use std::alloc::Global;
 use wh_batch::Kind;
 use wh_policy::Dim;
 use wh_rows::{CommandRow, Limits, tables};
-use wh_store::Tables;
+use wh_store::{Refusal, Tables};
 
 /// The word for a kind of batch.
 pub fn kind_word(kind: Kind) -> &'static str
@@ -50,6 +51,32 @@ pub(crate) fn receipt_of_known(row: &CommandRow, command: &Command) -> Result<Re
     Err(Refused::Reused)
 }
 
+/// The most records that a batch holds.
+const MOST_RECORDS: u64 = 5_000;
+
+/// Whether there is room for so many more changes of members. They are counted only where full batches could have left too little.
+fn has_room_for<S: Alter>(
+    tables: &mut Tables<S>,
+    alloc: Global,
+    limits: Limits,
+    commands: u64,
+    records: u64,
+) -> Result<bool, Refusal>
+    ensures clean { HasCleanDisk (state S.Store tables.new.conn) → HasCleanDisk (state S.Store tables.old.conn) }
+    ensures room { HasCleanDisk (state S.Store tables.new.conn) → (accepted : List Accepted) (t : Rows) → AreOf limits accepted t → IsAccepted limits accepted → IsAtRest (Some t) (state S.Store tables.old.conn) → commands ≡ length accepted
+        → IfOk result (λ room. room ≡ nat_le (changes_kept accepted + records) limits.changes) }
+    ensures sound { HasCleanDisk (state S.Store tables.new.conn) → (t : Rows) → IsAtRest (Some t) (state S.Store tables.old.conn) → IsUndamaged result }
+    ensures same { HasCleanDisk (state S.Store tables.new.conn) → (t : Rows) → IsAtRest (Some t) (state S.Store tables.old.conn) → IsWhole result → IsAtRest (Some t) (state S.Store tables.new.conn) }
+    ensures left { HasCleanDisk (state S.Store tables.new.conn) → (t : Rows) → IsAtRest (Some t) (state S.Store tables.old.conn) → Leaves (Some t) (state S.Store tables.new.conn) }
+{
+    let most = commands.saturating_mul(MOST_RECORDS);
+    if records <= limits.changes().saturating_sub(most) {
+        return Ok(true);
+    }
+    let changes = tables.count::<tables::Change>(alloc)?;
+    Ok(records <= limits.changes().saturating_sub(changes))
+}
+
 /// The number of the next command, where there is room for it and for so many changes of members.
 pub(crate) fn number_with_room<S: Alter>(
     tables: &mut Tables<S>,
@@ -68,8 +95,7 @@ pub(crate) fn number_with_room<S: Alter>(
     if limits.commands() <= commands {
         return Err(Fault::Refused(Refused::Full(Limit::Commands)));
     }
-    let changes = tables.count::<tables::Change>(alloc)?;
-    if limits.changes().saturating_sub(changes) < records {
+    if !has_room_for(tables, alloc, limits, commands, records)? {
         return Err(Fault::Refused(Refused::Full(Limit::Changes)));
     }
     Ok(commands + 1)
