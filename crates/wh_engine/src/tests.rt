@@ -1,376 +1,197 @@
+//! Warehouses in memory, and in files that may stop.
+
+mod batches;
+mod dump;
+mod limits;
+mod opening;
+mod parts;
+mod repeats;
+mod restarts;
+mod worked;
+
+use self::dump::{all_tables, changes_of, customers, members_of, products, profiles, stores};
 use super::*;
-use crate::kept::{command_of, members_given, stored_changes, stored_member, stored_rows};
-use crate::planning::{new_changes, new_members, rendered};
-use sqlite::{Connection, MemStore};
+use sqlite::{Alter, Connection, MemStore};
 use sqlite_value::value::Bytes;
 use std::alloc::{AllocError, Global};
 use std::test::Fail;
-use wh_day::{Day, NaturalKey, Value, Values};
-use wh_history::{Change, Changes, DimRow, Edit, Member, Profiles};
-use wh_policy::{Dim, DimensionRecord, Policy};
-use wh_rows::tables::{Calendar, Customer, Product, Profile};
-use wh_rows::{ChangeRow, CommandRow, Limits, MemberRow};
+use wh_batch::{BatchFault, FaultKind, Kind};
+use wh_day::{Value, Values};
+use wh_history::DimRow;
+use wh_policy::{Dim, PolicyFault};
+use wh_rows::tables::{Calendar, Customer, Product, Profile, Store};
+use wh_rows::{ChangeRow, CommandRow, Limits, MemberRow, ProfileRow, Table};
 use wh_store::{Cause, Tables};
 
-fn make(alloc: Global, tables: &mut Tables<MemStore>, policy: &Policy) -> Result<(), Cause> {
-    let mut writing = tables.begin()?;
-    write_making(
-        &mut writing,
-        alloc,
-        Limits::greatest(),
-        policy,
-        b"first_year = 2023",
-    )?;
-    writing.commit()
-}
+/// Six attributes of a product, each of another type, one of a store and one of a customer.
+const FLAT: &str = r#"first_year = 2023
+last_year = 2026
+[[product]]
+name = "description"
+type = 1
+[[product]]
+name = "brand"
+type = 2
+[[product]]
+name = "category"
+type = 6
+[[product]]
+name = "department"
+type = 7
+[[product]]
+name = "launched"
+type = 0
+[[product]]
+name = "supplier"
+type = 3
+[[store]]
+name = "city"
+type = 2
+[[customer]]
+name = "tier"
+type = 2
+[[holiday]]
+day = "2024-12-25"
+name = "Christmas Day"
+"#;
 
-/// A warehouse under the policy of a trial, in memory.
-fn warehouse(alloc: Global) -> Result<Tables<MemStore>, Fail> {
-    let conn = Connection::open_in_memory(alloc)?;
-    let mut tables = Tables::make(conn).ok().ok_or("free names")?;
-    make(alloc, &mut tables, &Policy::trial(alloc)?)?;
-    Ok(tables)
-}
-
-fn text(alloc: Global, text: &str) -> Result<Value, AllocError> {
-    Value::new(alloc, text)
-}
-
-/// Two texts, and four empty ones.
-fn six(alloc: Global, first: &str, second: &str) -> Result<Values, AllocError> {
-    let mut texts = Values::new(alloc);
-    texts.push(text(alloc, first)?)?;
-    texts.push(text(alloc, second)?)?;
-    for _ in 2..6 {
-        texts.push(Value::empty(alloc))?;
+/// The header of a batch under that policy.
+fn header(dim: Dim) -> &'static str {
+    match dim {
+        Dim::Product => "id,day,description,brand,category,department,launched,supplier",
+        Dim::Store => "id,day,city",
+        Dim::Customer => "id,day,tier",
     }
-    Ok(texts)
 }
 
-fn command(alloc: Global) -> Result<Vec<CommandRow>, Fail> {
-    let mut rows = Vec::new(alloc);
-    rows.push(CommandRow {
-        number: 2,
-        id: text(alloc, "p1")?,
-        kind: text(alloc, "product")?,
-        bytes: Bytes::from_slice(alloc, b"a batch")?,
-        records: 1,
-        placeholders: 0,
-    })?;
-    Ok(rows)
+/// Batches of products, with their ids.
+const BATCHES: [(&str, &str); 9] = [
+    ("p0", ""),
+    ("p1", "P1,2024-01-10,Cola 1l,Acme,Drinks,Grocery,2019,North"),
+    ("p2", "P1,2024-02-01,Cola 1l,Bolt,Drinks,Grocery,2019,North"),
+    ("p3", "P1,2024-01-20,Cola 1l,Bolt,Drinks,Grocery,2019,North"),
+    ("p4", "P1,2024-02-01,Cola 1l,Cask,Drinks,Grocery,2019,North"),
+    (
+        "p5",
+        "P1,2024-03-01,Cola 1 l,Cask,Drinks,Grocery,2019,North",
+    ),
+    (
+        "p6",
+        "P1,2024-04-01,Cola 1 l,Cask,Soft drinks,Grocery,2019,North",
+    ),
+    (
+        "p7",
+        "P1,2024-06-01,Cola 1 l,Cask,Soft drinks,Grocery,2021,South",
+    ),
+    (
+        "p8",
+        "P1,2024-05-01,Cola 1 l,Cask,Soft drinks,Grocery,2019,East",
+    ),
+];
+
+/// A connection to an empty database in memory.
+fn empty(alloc: Global) -> Result<Connection<MemStore>, Fail> {
+    Ok(Connection::open_in_memory(alloc)?)
 }
 
-fn members(alloc: Global) -> Result<Vec<MemberRow>, Fail> {
-    let mut rows = Vec::new(alloc);
-    rows.push(MemberRow {
-        dim: Dim::Product,
-        durable: 1,
-        natural: text(alloc, "P1")?,
-        opening: 1,
-    })?;
-    Ok(rows)
+/// A warehouse with these limits in memory.
+fn limited(alloc: Global, limits: Limits) -> Result<Engine<MemStore>, Fail> {
+    match Engine::init(alloc, empty(alloc)?, FLAT.as_bytes(), limits) {
+        Ok(engine) => Ok(engine),
+        Err((fault, _)) => Err(Fail::from(fault)),
+    }
 }
 
-fn changes(alloc: Global) -> Result<Vec<ChangeRow>, Fail> {
-    let mut rows = Vec::new(alloc);
-    rows.push(ChangeRow {
-        command: 2,
-        place: 1,
-        dim: Dim::Product,
-        durable: 1,
-        day: Day::from_key(20240110).ok_or("a day")?,
-        anchor: 2,
-        values: six(alloc, "Cola 1l", "Acme")?,
-    })?;
-    Ok(rows)
+/// A warehouse in memory.
+fn engine(alloc: Global) -> Result<Engine<MemStore>, Fail> {
+    limited(alloc, Limits::greatest())
 }
 
-fn rows(alloc: Global) -> Result<Vec<Edit<DimRow, u64>>, Fail> {
-    let mut edits = Vec::new(alloc);
-    edits.push(Edit::Put(DimRow {
-        surrogate: 1,
-        durable: 1,
-        natural: text(alloc, "P1")?,
-        from_day: Day::first(),
-        to_day: Day::last(),
-        is_current: true,
-        a: six(alloc, "Cola 1l", "Acme")?,
-        b: six(alloc, "", "")?,
-        profile_now: 0,
-    }))?;
-    Ok(edits)
-}
-
-/// The edits of one record of a new product, `P1,2024-01-10,Cola 1l,Acme`.
-fn edits(alloc: Global) -> Result<Edits, Fail> {
-    Ok(Edits {
-        command: command(alloc)?,
-        members: members(alloc)?,
-        changes: changes(alloc)?,
-        rows: rows(alloc)?,
-        profiles: Vec::new(alloc),
+/// A command of these bytes.
+fn command_of_bytes(
+    alloc: Global,
+    id: &str,
+    kind: Kind,
+    bytes: &[u8],
+) -> Result<Command, AllocError> {
+    Ok(Command {
+        id: Value::new(alloc, id)?,
+        kind,
+        bytes: Bytes::from_slice(alloc, bytes)?,
     })
 }
 
-fn write(alloc: Global, tables: &mut Tables<MemStore>, edits: &Edits) -> Result<(), Cause> {
-    let mut writing = tables.begin()?;
-    write_batch(&mut writing, alloc, Dim::Product, edits)?;
-    writing.commit()
+/// A batch of these records, behind its header.
+fn batch_of(alloc: Global, dim: Dim, id: &str, records: &str) -> Result<Command, AllocError> {
+    let text = format!(in alloc; "{}\n{records}\n", header(dim))?;
+    command_of_bytes(alloc, id, Kind::Dimension(dim), text.as_bytes())
 }
 
-fn with_product(alloc: Global) -> Result<Tables<MemStore>, Fail> {
-    let mut tables = warehouse(alloc)?;
-    write(alloc, &mut tables, &edits(alloc)?)?;
-    Ok(tables)
+/// The answer to a batch of these records.
+fn send<S: Alter>(
+    alloc: Global,
+    engine: &mut Engine<S>,
+    dim: Dim,
+    id: &str,
+    records: &str,
+) -> Result<Reply, Fault> {
+    let command = batch_of(alloc, dim, id, records)?;
+    engine.apply(alloc, &command)
 }
 
-#[test]
-fn a_warehouse_is_made(rt: HostRuntime) -> Result<(), Fail> {
-    let alloc = rt.alloc();
-    let mut tables = warehouse(alloc)?;
-    assert_eq!(rt; tables.count::<Calendar>(alloc)?, 1461);
-    assert_eq!(rt; tables.count::<Profile>(alloc)?, 2);
-    assert_eq!(rt; tables.count::<Product>(alloc)?, 0);
-    Ok(())
+/// The answer to one of the batches.
+fn send_batch<S: Alter>(
+    alloc: Global,
+    engine: &mut Engine<S>,
+    place: usize,
+) -> Result<Reply, Fault> {
+    match BATCHES.get(place) {
+        Some((id, records)) => send(alloc, engine, Dim::Product, id, records),
+        None => Err(Fault::Sales),
+    }
 }
 
-#[test]
-fn sales_without_a_card_have_a_row(rt: HostRuntime) -> Result<(), Fail> {
-    let alloc = rt.alloc();
-    let row = warehouse(alloc)?
-        .get::<Customer>(alloc, &0)?
-        .ok_or("row 0")?;
-    assert_eq!(rt; row.natural.as_str(), "(no card)");
-    assert!(rt; row.is_current);
-    Ok(())
+/// The same, but only that it was accepted.
+fn load<S: Alter>(alloc: Global, engine: &mut Engine<S>, place: usize) -> Result<(), Fail> {
+    match send_batch(alloc, engine, place) {
+        Ok(Reply::Accepted(_)) => Ok(()),
+        Ok(Reply::Already(receipt)) => Err(Fail::from(receipt)),
+        Err(fault) => Err(Fail::from(fault)),
+    }
 }
 
-#[test]
-fn the_making_is_found(rt: HostRuntime) -> Result<(), Fail> {
-    let alloc = rt.alloc();
-    let id = text(alloc, "init")?;
-    let row = command_of(&mut warehouse(alloc)?, alloc, &id)?.ok_or("the making")?;
-    assert_eq!(rt; row.number, 1);
-    assert_eq!(rt; row.bytes.as_slice(), b"first_year = 2023".as_slice());
-    Ok(())
+/// A warehouse with the batches up to one of them.
+fn loaded(alloc: Global, last: usize) -> Result<Engine<MemStore>, Fail> {
+    let mut engine = engine(alloc)?;
+    for place in 0..last.saturating_add(1) {
+        load(alloc, &mut engine, place)?;
+    }
+    Ok(engine)
 }
 
-#[test]
-fn a_batch_is_written(rt: HostRuntime) -> Result<(), Fail> {
-    let alloc = rt.alloc();
-    let mut tables = with_product(alloc)?;
-    let member = stored_member(&mut tables, alloc, Dim::Product, &text(alloc, "P1")?)?;
-    assert_eq!(rt; member.durable, 1);
-    assert_eq!(rt; member.opening, 1);
-    assert_eq!(rt; member.changes.as_slice().len(), 1);
-    Ok(())
-}
-
-#[test]
-fn what_is_kept_of_a_member(rt: HostRuntime) -> Result<(), Fail> {
-    let alloc = rt.alloc();
-    let mut tables = with_product(alloc)?;
-    let changes = stored_changes(&mut tables, alloc, Dim::Product, 1)?;
-    assert_eq!(rt; changes.as_slice().len(), 1);
-    let rows = stored_rows(&mut tables, alloc, Dim::Product, 1)?;
-    assert_eq!(rt; rows.len(), 1);
-    Ok(())
-}
-
-#[test]
-fn numbers_that_were_given(rt: HostRuntime) -> Result<(), Fail> {
-    let alloc = rt.alloc();
-    let mut tables = with_product(alloc)?;
-    let given = members_given(&mut tables, alloc, Dim::Product)?;
-    assert_eq!(rt; given.members, 1);
-    assert_eq!(rt; given.opening, 1);
-    let none = members_given(&mut tables, alloc, Dim::Store)?;
-    assert_eq!(rt; none.members, 0);
-    Ok(())
-}
-
-fn change(alloc: Global, day: i64, anchor: u64, brand: &str) -> Result<Change, Fail> {
-    Ok(Change {
-        day: Day::from_key(day).ok_or("a day")?,
-        anchor,
-        values: six(alloc, "Cola 1l", brand)?,
-    })
-}
-
-/// P1 behind two records, of which the second has another brand.
-fn touched(alloc: Global) -> Result<Vec<Member>, Fail> {
-    let mut changes = Changes::new(alloc);
-    changes.push(change(alloc, 20240110, 2, "Acme")?)?;
-    changes.push(change(alloc, 20240201, 3, "Bolt")?)?;
-    let mut members = Vec::new(alloc);
-    members.push(Member {
-        durable: 1,
-        natural: text(alloc, "P1")?,
-        opening: 1,
-        changes,
-    })?;
-    Ok(members)
-}
-
-/// The second of the two records.
-fn told(alloc: Global) -> Result<Vec<DimensionRecord>, Fail> {
-    let mut values = Values::new(alloc);
-    values.push(text(alloc, "Cola 1l")?)?;
-    values.push(text(alloc, "Bolt")?)?;
-    let mut records = Vec::new(alloc);
-    records.push(DimensionRecord {
-        natural: NaturalKey::read(32, b"P1").ok_or("a key")?,
-        day: Day::from_key(20240201).ok_or("a day")?,
-        values,
-    })?;
-    Ok(records)
-}
-
-#[test]
-fn a_new_member_has_a_row(rt: HostRuntime) -> Result<(), Fail> {
-    let alloc = rt.alloc();
-    let members = touched(alloc)?;
-    let new = new_members(alloc, Dim::Product, 0, &members)?;
-    assert_eq!(rt; new.len(), 1);
-    let old = new_members(alloc, Dim::Product, 1, &members)?;
-    assert_eq!(rt; old.len(), 0);
-    Ok(())
-}
-
-#[test]
-fn a_record_has_a_row(rt: HostRuntime) -> Result<(), Fail> {
-    let alloc = rt.alloc();
-    let rows = new_changes(alloc, Dim::Product, 3, &touched(alloc)?, &told(alloc)?)?;
-    let row = rows.first().ok_or("a row")?;
-    assert_eq!(rt; row.place, 1);
-    assert_eq!(rt; row.durable, 1);
-    assert_eq!(rt; row.anchor, 3);
-    Ok(())
-}
-
-#[test]
-fn a_member_is_rendered(rt: HostRuntime) -> Result<(), Fail> {
-    let alloc = rt.alloc();
-    let policy = Policy::trial(alloc)?;
-    let profiles = Profiles::new(alloc);
-    let rows = rendered(alloc, &policy, Dim::Product, &touched(alloc)?, &profiles)?;
-    assert_eq!(rt; rows.len(), 2);
-    assert_eq!(rt; rows[1].surrogate, 3);
-    Ok(())
-}
-
-fn told_of_p1(alloc: Global, day: i64, brand: &str) -> Result<DimensionRecord, Fail> {
-    let mut values = Values::new(alloc);
-    values.push(text(alloc, "Cola 1l")?)?;
-    values.push(text(alloc, brand)?)?;
-    Ok(DimensionRecord {
-        natural: NaturalKey::read(32, b"P1").ok_or("a key")?,
-        day: Day::from_key(day).ok_or("a day")?,
-        values,
-    })
-}
-
-fn batch(alloc: Global, number: u64, id: &str, records: u64) -> Result<CommandRow, Fail> {
-    Ok(CommandRow {
+/// An acceptance under this number, of so many records.
+fn accepted(number: u64, records: u64) -> Result<Reply, Fault> {
+    Ok(Reply::Accepted(Receipt {
         number,
-        id: text(alloc, id)?,
-        kind: text(alloc, "product")?,
-        bytes: Bytes::from_slice(alloc, b"a batch")?,
         records,
         placeholders: 0,
-    })
+    }))
 }
 
-/// The edits of two records of a new product, of which the second has another brand.
-fn first_plan(alloc: Global, tables: &mut Tables<MemStore>) -> Result<Edits, Fail> {
-    let mut records = Vec::new(alloc);
-    records.push(told_of_p1(alloc, 20240110, "Acme")?)?;
-    records.push(told_of_p1(alloc, 20240201, "Bolt")?)?;
-    let policy = Policy::trial(alloc)?;
-    let command = batch(alloc, 2, "p1", 2)?;
-    Ok(plan_batch(tables, alloc, &policy, Dim::Product, command, &records)?)
+/// The receipt that such an acceptance left.
+fn already(number: u64, records: u64) -> Result<Reply, Fault> {
+    Ok(Reply::Already(Receipt {
+        number,
+        records,
+        placeholders: 0,
+    }))
 }
 
-/// Those of a record between the two, with the later brand.
-fn second_plan(alloc: Global, tables: &mut Tables<MemStore>) -> Result<Edits, Fail> {
-    let mut records = Vec::new(alloc);
-    records.push(told_of_p1(alloc, 20240120, "Bolt")?)?;
-    let policy = Policy::trial(alloc)?;
-    let command = batch(alloc, 3, "p3", 1)?;
-    Ok(plan_batch(tables, alloc, &policy, Dim::Product, command, &records)?)
+fn refused(why: Refused) -> Result<Reply, Fault> {
+    Err(Fault::Refused(why))
 }
 
-/// A row of the product with one of its brands.
-fn row_of_p1(
-    alloc: Global,
-    surrogate: u64,
-    from: i64,
-    to: i64,
-    brand: &str,
-) -> Result<DimRow, Fail> {
-    Ok(DimRow {
-        surrogate,
-        durable: 1,
-        natural: text(alloc, "P1")?,
-        from_day: Day::from_key(from).ok_or("a day")?,
-        to_day: Day::from_key(to).ok_or("a day")?,
-        is_current: to == 99991231,
-        a: six(alloc, "Cola 1l", brand)?,
-        b: six(alloc, "", "")?,
-        profile_now: 0,
-    })
-}
-
-fn puts(edit: Option<&Edit<DimRow, u64>>, row: &DimRow) -> bool {
-    match edit {
-        Some(Edit::Put(put)) => put.is_same(row),
-        _ => false,
-    }
-}
-
-fn removes(edit: Option<&Edit<DimRow, u64>>, key: u64) -> bool {
-    match edit {
-        Some(Edit::Remove(removed)) => *removed == key,
-        _ => false,
-    }
-}
-
-#[test]
-fn a_new_product_is_planned(rt: HostRuntime) -> Result<(), Fail> {
-    let alloc = rt.alloc();
-    let edits = first_plan(alloc, &mut warehouse(alloc)?)?;
-    let member = edits.members.first().ok_or("a member")?;
-    assert_eq!(rt; (member.durable, member.opening), (1, 1));
-    let second = edits.changes.get(1).ok_or("a second change")?;
-    assert_eq!(rt; (second.command, second.place, second.anchor), (2, 2, 3));
-    let acme = row_of_p1(alloc, 1, 19000101, 20240131, "Acme")?;
-    assert!(rt; puts(edits.rows.get(0), &acme));
-    let bolt = row_of_p1(alloc, 3, 20240201, 99991231, "Bolt")?;
-    assert!(rt; puts(edits.rows.get(1), &bolt));
-    assert_eq!(rt; edits.rows.len(), 2);
-    Ok(())
-}
-
-#[test]
-fn a_backdated_record_is_planned(rt: HostRuntime) -> Result<(), Fail> {
-    let alloc = rt.alloc();
-    let mut tables = warehouse(alloc)?;
-    let first = first_plan(alloc, &mut tables)?;
-    write(alloc, &mut tables, &first)?;
-    let edits = second_plan(alloc, &mut tables)?;
-    assert_eq!(rt;
-        (
-            edits.members.len(),
-            edits.changes.len(),
-            edits.profiles.len()
-        ),
-        (0, 1, 0)
-    );
-    let acme = row_of_p1(alloc, 1, 19000101, 20240119, "Acme")?;
-    assert!(rt; puts(edits.rows.get(0), &acme));
-    assert!(rt; removes(edits.rows.get(1), 3));
-    let bolt = row_of_p1(alloc, 4, 20240120, 99991231, "Bolt")?;
-    assert!(rt; puts(edits.rows.get(2), &bolt));
-    assert_eq!(rt; edits.rows.len(), 3);
-    Ok(())
+/// The refusal of a batch.
+fn bad(kind: FaultKind, number: u32) -> Result<Reply, Fault> {
+    refused(Refused::Batch(BatchFault { kind, number }))
 }
