@@ -7,6 +7,8 @@ pub mod GrownOthers
 pub mod GrownMembers
 pub mod GrownProfiles
 pub mod GrownChanges
+pub mod GrownPlain
+pub mod OneDimension
 pub mod WrittenBatch
 pub mod SmallNumbers
 pub mod MayTables
@@ -23,7 +25,6 @@ pub mod MadeFirst
 pub mod MadePolicies
 pub mod Worked
 pub mod GrownUntouched
-pub mod GrownPlain
 pub mod Repeats
 pub mod WorkedAnswers
 pub mod Listed

@@ -25,9 +25,10 @@ use Rattle.wh_rows.proofs.Members
 use Rattle.wh_rows.proofs.Orders.{member_cmp_total}
 use Rattle.wh_engine.specs.Defined.{command_at, member_at, change_at, profile_at, AreOf}
 use Rattle.wh_engine.specs.Laws.{BatchesMayBeWritten}
-use Rattle.wh_engine.specs.Planned.{Edits, AreEdits, behind}
+use Rattle.wh_engine.specs.Planned.{Edits, rows_of_dimension, AreEdits, behind}
 use Rattle.wh_engine.specs.Sound.{IsGoodRecord, IsAccepted}
-use Rattle.wh_engine.specs.Writable.{MayBePutIn}
+use Rattle.wh_engine.specs.Writable.{MayBePutIn, MayBeWritten}
+use Rattle.wh_engine.proofs.OneDimension.{members_told}
 use Rattle.wh_engine.proofs.WrittenRows.{Grows}
 use Rattle.wh_engine.proofs.GrownKeys.{at_last, all_at}
 use Rattle.wh_engine.proofs.GrownCommands.{command_grows}
@@ -61,7 +62,7 @@ valid_parts : (r : CommandRow) → is_number r.number ≡ true → is_key 40 r.i
 valid_parts r number id kind records placeholders = rw (number, id, kind, records, placeholders) refl
 
 module _ (limits : Limits) (commands : List Accepted) (c : Accepted) (dim : Dim) (records : List DimensionRecord) (t : Tables) (edits : Edits)
-    (is : c.content ≡ Describes dim records) (ok : IsAccepted limits (commands ++ c ∷ [])) (of : AreOf limits commands t) (are : AreEdits dim commands (commands ++ c ∷ []) records edits) where
+    (is : c.content ≡ Describes dim records) (ok : IsAccepted limits (commands ++ c ∷ [])) (of : AreOf limits commands t) (are : AreEdits commands c edits) where
   abbrev after : List Accepted
   after = commands ++ c ∷ []
 
@@ -121,7 +122,7 @@ module _ (limits : Limits) (commands : List Accepted) (c : Accepted) (dim : Dim)
 
   fit_members : AllByRecursion (Fit row.member (IsMemberOf after)) edits.members
   fit_members =
-      subst (AllByRecursion (Fit row.member (IsMemberOf after))) (sym are.members)
+      subst (AllByRecursion (Fit row.member (IsMemberOf after))) (sym (are.members ∙ members_told dim commands c records is))
       (all_made (Fit row.member (IsMemberOf after)) (λ n. member_at after (member.key_of dim n)) (λ n v here. ((member.key_of dim n, here), member_valid limits after ok (member.key_of dim n) v here)) (behind (length (members dim commands)) (length (members dim after))))
 
   older_members : AllByRecursion (λ e. IsMemberOf after e.1) (entries t.member)
@@ -136,7 +137,7 @@ module _ (limits : Limits) (commands : List Accepted) (c : Accepted) (dim : Dim)
       ap is_change made.2 ∙ change_made limits after ok dim records good_records few_records (length after) n made.0 (omega arith) (sym (new_row commands c dim records is n) ∙ made.1)
 
   valid_changes : AllByRecursion (Valid row.change) edits.changes
-  valid_changes = subst (AllByRecursion (Valid row.change)) (sym are.changes) (all_made (Valid row.change) (λ n. change_at after (change.key_of commands c n)) valid_change (behind 0 (length records)))
+  valid_changes = subst (AllByRecursion (Valid row.change)) (sym are.changes) (all_made (Valid row.change) (λ n. change_at after (change.key_of commands c n)) valid_change (behind 0 (records_by c.content)))
 
   valid_profiles : AllByRecursion (Valid row.profile) edits.profiles
   valid_profiles =
@@ -151,21 +152,21 @@ module _ (limits : Limits) (commands : List Accepted) (c : Accepted) (dim : Dim)
     profiles = may_put_any row.profile edits.profiles t.profile valid_profiles;
   }
 
-  -- ---- the rows of the dimension
+  -- ---- the rows of the dimensions
 
-  valid_edits : AllByRecursion (Puts (λ (r : DimRow). is_dimension dim r ≡ true)) edits.rows
-  valid_edits = plan_puts (λ (r : DimRow). r.surrogate) (λ (r : DimRow). is_dimension dim r ≡ true) (dimension_row commands dim) (dimension_row after dim) edits.rows are.rows (dimension_valid limits after ok dim)
+  valid_edits : (other : Dim) → AllByRecursion (Puts (λ (r : DimRow). is_dimension other r ≡ true)) (rows_of_dimension other edits)
+  valid_edits other =
+      plan_puts (λ (r : DimRow). r.surrogate) (λ (r : DimRow). is_dimension other r ≡ true) (dimension_row commands other) (dimension_row after other) (rows_of_dimension other edits) (are.rows other) (dimension_valid limits after ok other)
+
+  pub batch_may_be_written : MayBeWritten edits t
+  batch_may_be_written = record {
+    lists = lists_may_be_put;
+    rows = record {
+      products = may_edit_all row.product edits.products t.product (valid_edits Product);
+      stores = may_edit_all row.store edits.stores t.store (valid_edits Store);
+      customers = may_edit_all row.customer edits.customers t.customer (valid_edits Customer);
+    };
+  }
 
 pub a_batch_may_be_written : BatchesMayBeWritten
-a_batch_may_be_written limits commands c Product records t edits is ok of are = record {
-  lists = lists_may_be_put limits commands c Product records t edits is ok of are;
-  rows = may_edit_all row.product edits.rows t.product (valid_edits limits commands c Product records t edits is ok of are);
-}
-a_batch_may_be_written limits commands c Store records t edits is ok of are = record {
-  lists = lists_may_be_put limits commands c Store records t edits is ok of are;
-  rows = may_edit_all row.store edits.rows t.store (valid_edits limits commands c Store records t edits is ok of are);
-}
-a_batch_may_be_written limits commands c Customer records t edits is ok of are = record {
-  lists = lists_may_be_put limits commands c Customer records t edits is ok of are;
-  rows = may_edit_all row.customer edits.rows t.customer (valid_edits limits commands c Customer records t edits is ok of are);
-}
+a_batch_may_be_written limits commands c dim records t edits is ok of are = batch_may_be_written limits commands c dim records t edits is ok of are

@@ -4,13 +4,10 @@ use Rattle.std.specs.Prelude.{unwrap_or}
 use Rattle.sqlite.specs.Tree.{Trees}
 use Rattle.sqlite.specs.State.{State}
 use Rattle.wh_policy.specs.Policy.{trial_policy}
-use Rattle.wh_policy.specs.Written.{IsSound}
 use Rattle.wh_policy.specs.declared.attribute.Dim.{Dim}
-use Rattle.wh_policy.specs.declared.policy.Policy.{Policy}
 use Rattle.wh_batch.specs.declared.kind.Kind.TheVariants.{Dimension}
-use Rattle.wh_history.specs.Accepted.{Accepted, Describes, policy_after}
+use Rattle.wh_history.specs.Accepted.{Accepted, Describes}
 use Rattle.wh_history.specs.Tables.{Limits}
-use Rattle.wh_history.proofs.Basics.{some_is}
 use Rattle.wh_history.proofs.Stays.{policy_last}
 use Rattle.wh_rows.specs.AtRest.{AreTrees, IsAtRest, Leaves}
 use Rattle.wh_rows.specs.Tables.{Tables}
@@ -19,7 +16,7 @@ use Rattle.wh_engine.specs.Answered.{AreTreesOf, LeavesOneOf, IsReady, IsAnswere
 use Rattle.wh_engine.specs.Decided.{IsHeld, AreEditsOf, Decides}
 use Rattle.wh_engine.specs.Defined.{AreOf}
 use Rattle.wh_engine.specs.Faults.{IsServed, Judges, stops}
-use Rattle.wh_engine.specs.Planned.{Edits, with_batch_edits}
+use Rattle.wh_engine.specs.Planned.{Edits, with_all_edits}
 use Rattle.wh_engine.specs.Sound.{IsAccepted}
 use Rattle.wh_engine.specs.Writable.{MayBeWritten}
 use Rattle.wh_engine.specs.declared.command.Command.{Command}
@@ -31,8 +28,7 @@ use Rattle.wh_engine.specs.declared.decision.Decision.TheVariants.{Repeat, Accep
 use Rattle.wh_engine.specs.declared.fault.Fault.{Fault}
 use Rattle.wh_engine.specs.declared.fault.Fault.TheVariants as faults
 use Rattle.wh_engine.specs.declared.session.Session.{Session}
-use Rattle.wh_engine.proofs.Decisions.{judged_ok, after_repeat, after_accepted, policy_in_force, sound_in_force}
-use Rattle.wh_engine.proofs.GrownPlain.{sound_policies_show_none}
+use Rattle.wh_engine.proofs.Decisions.{judged_ok, after_repeat, after_accepted}
 use Rattle.wh_engine.proofs.MayBatch.{a_batch_may_be_written}
 use Rattle.wh_engine.proofs.StaysAccepted.{stays_accepted}
 use Rattle.wh_engine.proofs.WrittenBatch.{a_batch_is_written}
@@ -95,28 +91,26 @@ module _ (limits : Limits) (commands : List Accepted) (c : Command) (dim : Dim) 
     accepted : IsAccepted limits (commands ++ added ∷ [])
     accepted = subst (IsAccepted limits) list_is (stays_accepted limits commands c dim kind ready.accepted)
 
-    pub may_write : MayBeWritten dim edits tables
+    pub may_write : MayBeWritten edits tables
     may_write = a_batch_may_be_written limits commands added dim batch.records tables edits refl accepted ready.rests.are batch.edits_are
 
-    written : AreOf limits (commands ++ added ∷ []) (with_batch_edits dim edits tables)
-    written =
-        let sound : (policy : Policy) → policy_after None commands ≡ Some policy → IsSound policy = λ policy is. subst IsSound (some_is _ _ (sym (policy_in_force commands ready.accepted.governed) ∙ is)) (sound_in_force limits commands ready.accepted) in
-        a_batch_is_written limits commands added dim batch.records tables edits refl ready.accepted.unsold (λ _. sound_policies_show_none commands sound) ready.rests.are batch.edits_are
+    written : AreOf limits (commands ++ added ∷ []) (with_all_edits edits tables)
+    written = a_batch_is_written limits commands added dim batch.records tables edits refl ready.accepted.unsold ready.rests.are batch.edits_are
 
     -- its edits were kept
-    pub accept_performed : (new : State) → IsAtRest (Some (with_batch_edits dim edits tables)) new → IsPerformed limits commands c (Ok (Accepts receipt)) session new
+    pub accept_performed : (new : State) → IsAtRest (Some (with_all_edits edits tables)) new → IsPerformed limits commands c (Ok (Accepts receipt)) session new
     accept_performed new rests =
         let governed : in_force (commands ++ added ∷ []) ≡ in_force commands = ap (λ o. unwrap_or o trial_policy) (policy_last None commands added refl) in
         let kept : session ≡ record { limits = limits; policy = in_force (commands ++ added ∷ []); must_reopen = false } = rw governed ready.session_is in
-        let after : IsReady limits (commands ++ added ∷ []) session new = record { accepted = accepted; rests = record { tables = with_batch_edits dim edits tables; are = written; rests = rests }; session_is = kept } in
+        let after : IsReady limits (commands ++ added ∷ []) session new = record { accepted = accepted; rests = record { tables = with_all_edits edits tables; are = written; rests = rests }; session_is = kept } in
         (said, rw list_is after)
 
     -- or the store refused them
-    pub stop_performed : (new : State) → ((trees : Trees) → new.may_leave trees → AreTrees (Some tables) trees ⊎ AreTrees (Some (with_batch_edits dim edits tables)) trees) → LeavesOneOf limits commands (accepted_after limits commands c) new
+    pub stop_performed : (new : State) → ((trees : Trees) → new.may_leave trees → AreTrees (Some tables) trees ⊎ AreTrees (Some (with_all_edits edits tables)) trees) → LeavesOneOf limits commands (accepted_after limits commands c) new
     stop_performed new left = record {
       each = λ trees may. elim (left trees may) [
         | inl before ↦ inl (record { tables = tables; are = ready.rests.are; trees_are = before })
-        | inr after ↦ inr (subst (λ list. AreTreesOf limits list trees) (sym list_is) (record { tables = with_batch_edits dim edits tables; are = written; trees_are = after }))
+        | inr after ↦ inr (subst (λ list. AreTreesOf limits list trees) (sym list_is) (record { tables = with_all_edits edits tables; are = written; trees_are = after }))
       ];
     }
 

@@ -70,7 +70,7 @@ pub record IsHeld (session : Session) (commands : List Accepted) (tables : Table
 pub record AreEditsOf (commands : List Accepted) (c : Command) (dim : Dim) (edits : Edits) : Type 0 where
   pub records : List DimensionRecord
   pub content : content_of c.kind (in_force commands) c.bytes ≡ Ok (Describes dim records)
-  pub edits_are : AreEdits dim commands (commands ++ accepted_as c (Describes dim records) ∷ []) records edits
+  pub edits_are : AreEdits commands (accepted_as c (Describes dim records)) edits
 
 -- the decision is this reply, with the edits of an accepted command
 abbrev pub Decides : List Accepted → Command → Dim → Decision → Reply → Type 0

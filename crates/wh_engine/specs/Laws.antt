@@ -19,7 +19,7 @@ use Rattle.wh_rows.specs.Limits.{are_limits}
 use Rattle.wh_rows.specs.Tables.{Tables}
 use Rattle.wh_engine.specs.Defined.{AreOf}
 use Rattle.wh_engine.specs.Made.{making_of}
-use Rattle.wh_engine.specs.Planned.{Edits, with_batch_edits, AreEdits}
+use Rattle.wh_engine.specs.Planned.{Edits, with_all_edits, AreEdits}
 use Rattle.wh_engine.specs.Sound.{IsAccepted}
 use Rattle.wh_engine.specs.Admission.{accepted_after}
 use Rattle.wh_engine.specs.declared.command.Command.{Command}
@@ -30,16 +30,14 @@ use Rattle.wh_engine.specs.Planning.{of_members, naturals_told, durables_touched
 abbrev pub ShowsNoProfile : List Accepted → Dim → Type 0
 ShowsNoProfile commands dim = list_any is_outrigger (types_in dim commands) ≡ false
 
--- From the tables of the commands so far the edits of a batch lead to those of the commands with it, where nothing was sold yet; and,
--- since customers bring profiles, where the rows of products and stores show none if the batch is of customers.
+-- From the tables of the commands so far the edits of a batch lead to those of the commands with it, where nothing was sold yet.
 abbrev pub BatchesAreWritten : Type 0
 BatchesAreWritten = (limits : Limits) (commands : List Accepted) (c : Accepted) (dim : Dim) (records : List DimensionRecord) (tables : Tables) (edits : Edits)
     → c.content ≡ Describes dim records
     → sold commands ≡ []
-    → (dim ≡ Customer → ShowsNoProfile commands Product × ShowsNoProfile commands Store)
     → AreOf limits commands tables
-    → AreEdits dim commands (commands ++ c ∷ []) records edits
-    → AreOf limits (commands ++ c ∷ []) (with_batch_edits dim edits tables)
+    → AreEdits commands c edits
+    → AreOf limits (commands ++ c ∷ []) (with_all_edits edits tables)
 
 -- A row of a member that a batch does not mention stands under its key in the tables of the commands so far exactly where it stands
 -- there in those of the commands with it; again where rows of products and stores show no profile.
@@ -70,8 +68,8 @@ BatchesMayBeWritten = (limits : Limits) (commands : List Accepted) (c : Accepted
     → c.content ≡ Describes dim records
     → IsAccepted limits (commands ++ c ∷ [])
     → AreOf limits commands tables
-    → AreEdits dim commands (commands ++ c ∷ []) records edits
-    → MayBeWritten dim edits tables
+    → AreEdits commands c edits
+    → MayBeWritten edits tables
 
 -- Where some rows are those of the touched members in the table before a batch, and others those in the table with it, the edits
 -- between them are the edits between the tables.

@@ -1,11 +1,10 @@
--- What a batch of dimension records writes.
-use Rattle.std.specs.Prelude.{◌≡◌, ℕ, suc, ◌-◌, List, length, filter_map}
+-- What a command writes.
+use Rattle.std.specs.Prelude.{◌≡◌, ℕ, suc, ◌-◌, List, [], ◌∷◌, ◌++◌, length, map, filter_map, cond}
 use Rattle.std.specs.List.{range_with_len}
 use Rattle.std.specs.FinMap.{FinMap}
 use Rattle.wh_policy.specs.declared.attribute.Dim.{Dim}
 use Rattle.wh_policy.specs.declared.attribute.Dim.TheVariants.{Product, Store, Customer}
-use Rattle.wh_policy.specs.declared.record.DimensionRecord.{DimensionRecord}
-use Rattle.wh_history.specs.Accepted.{Accepted, members, profiles_of}
+use Rattle.wh_history.specs.Accepted.{Accepted, same_dim, members, profiles_of, records_by}
 use Rattle.wh_history.specs.Tables.{dimension_row}
 use Rattle.wh_history.specs.Plan.{IsPlan}
 use Rattle.wh_history.specs.declared.plan.Edit.{Edit}
@@ -14,19 +13,32 @@ use Rattle.wh_rows.specs.declared.rows.CommandRow.{CommandRow}
 use Rattle.wh_rows.specs.declared.rows.MemberRow.{MemberRow}
 use Rattle.wh_rows.specs.declared.rows.ChangeRow.{ChangeRow}
 use Rattle.wh_rows.specs.declared.rows.ProfileRow.{ProfileRow}
+use Rattle.wh_rows.specs.declared.key.MemberKey.{MemberKey}
 use Rattle.wh_rows.specs.Holds.{Layout}
 use Rattle.wh_rows.specs.Rows as row
 use Rattle.wh_rows.specs.Tables.{Tables}
 use Rattle.wh_store.specs.Edits.{with_row, with_edit, after_all}
 use Rattle.wh_engine.specs.Defined.{command_at, member_at, change_at, profile_at}
 
--- the edits of a batch: its own row, the new members, its records, the rows of the members that it touches, and new profiles
+-- the edits of a command: its own row, the members that it is the first to mention, its records, the rows of the three dimensions, and new profiles
 pub record Edits : Type 0 where
   pub command : List CommandRow
   pub members : List MemberRow
   pub changes : List ChangeRow
-  pub rows : List (Edit DimRow ℕ)
   pub profiles : List ProfileRow
+  pub products : List (Edit DimRow ℕ)
+  pub stores : List (Edit DimRow ℕ)
+  pub customers : List (Edit DimRow ℕ)
+
+-- those of the rows of a dimension
+abbrev pub rows_of_dimension : Dim → Edits → List (Edit DimRow ℕ)
+rows_of_dimension Product edits = edits.products
+rows_of_dimension Store edits = edits.stores
+rows_of_dimension Customer edits = edits.customers
+
+-- edits of one dimension's rows, as those of another or the same
+abbrev pub in_dimension : Dim → Dim → List (Edit DimRow ℕ) → List (Edit DimRow ℕ)
+in_dimension other dim edits = cond (same_dim other dim) edits []
 
 -- a table with rows put at their keys, the first one first
 abbrev pub with_rows : {K V : Type 0} (layout : Layout K V) → List V → FinMap layout.order V → FinMap layout.order V
@@ -35,12 +47,6 @@ with_rows layout = after_all (with_row layout)
 -- a table with edits, the first one first
 abbrev pub with_edits : {K V : Type 0} (layout : Layout K V) → List (Edit V K) → FinMap layout.order V → FinMap layout.order V
 with_edits layout = after_all (with_edit layout)
-
--- the tables with edits of the rows of one dimension
-abbrev pub with_dimension : Dim → List (Edit DimRow ℕ) → Tables → Tables
-with_dimension Product edits t = record t { product = with_edits row.product edits t.product }
-with_dimension Store edits t = record t { store = with_edits row.store edits t.store }
-with_dimension Customer edits t = record t { customer = with_edits row.customer edits t.customer }
 
 -- the tables with rows of command, member, change and profile
 abbrev pub with_lists : List CommandRow → List MemberRow → List ChangeRow → List ProfileRow → Tables → Tables
@@ -51,18 +57,34 @@ with_lists command members changes profiles t = record t {
   profile = with_rows row.profile profiles t.profile;
 }
 
--- the tables with the edits of a batch of this dimension
-abbrev pub with_batch_edits : Dim → Edits → Tables → Tables
-with_batch_edits dim edits t = with_dimension dim edits.rows (with_lists edits.command edits.members edits.changes edits.profiles t)
+-- the tables with edits of the rows of the dimensions
+abbrev pub with_dimensions : List (Edit DimRow ℕ) → List (Edit DimRow ℕ) → List (Edit DimRow ℕ) → Tables → Tables
+with_dimensions products stores customers t = record t {
+  product = with_edits row.product products t.product;
+  store = with_edits row.store stores t.store;
+  customer = with_edits row.customer customers t.customer;
+}
+
+-- the tables with the edits of a command
+abbrev pub with_all_edits : Edits → Tables → Tables
+with_all_edits edits t = with_dimensions edits.products edits.stores edits.customers (with_lists edits.command edits.members edits.changes edits.profiles t)
 
 -- so many numbers behind a number
 abbrev pub behind : ℕ → ℕ → List ℕ
 behind number upto = range_with_len (suc number) (upto - number)
 
--- The edits are exactly what leads from the tables of the first list to those of the second, which has one more command, a batch of this dimension.
-pub record AreEdits (dim : Dim) (before after : List Accepted) (records : List DimensionRecord) (edits : Edits) : Type 0 where
-  pub command : edits.command ≡ filter_map (command_at after) (behind (length before) (length after))
-  pub members : edits.members ≡ filter_map (λ n. member_at after (record { dim = dim; durable = n })) (behind (length (members dim before)) (length (members dim after)))
-  pub changes : edits.changes ≡ filter_map (λ n. change_at after (record { command = length after; place = n })) (behind 0 (length records))
-  pub rows : IsPlan (λ r. r.surrogate) (dimension_row before dim) (dimension_row after dim) edits.rows
-  pub profiles : edits.profiles ≡ filter_map (profile_at after) (behind (suc (length (profiles_of before))) (suc (length (profiles_of after))))
+-- the keys of the members of a dimension that the later list has and the earlier one hasn't
+abbrev pub members_behind : List Accepted → List Accepted → Dim → List MemberKey
+members_behind before after dim = map (λ n. record { dim = dim; durable = n }) (behind (length (members dim before)) (length (members dim after)))
+
+-- those of all dimensions
+abbrev pub new_members : List Accepted → List Accepted → List MemberKey
+new_members before after = members_behind before after Product ++ members_behind before after Store ++ members_behind before after Customer
+
+-- The edits are exactly what leads from the tables of the commands so far to those of the list with one more command.
+pub record AreEdits (before : List Accepted) (c : Accepted) (edits : Edits) : Type 0 where
+  pub command : edits.command ≡ filter_map (command_at (before ++ c ∷ [])) (behind (length before) (length (before ++ c ∷ [])))
+  pub members : edits.members ≡ filter_map (member_at (before ++ c ∷ [])) (new_members before (before ++ c ∷ []))
+  pub changes : edits.changes ≡ filter_map (λ n. change_at (before ++ c ∷ []) (record { command = length (before ++ c ∷ []); place = n })) (behind 0 (records_by c.content))
+  pub rows : (dim : Dim) → IsPlan (λ r. r.surrogate) (dimension_row before dim) (dimension_row (before ++ c ∷ []) dim) (rows_of_dimension dim edits)
+  pub profiles : edits.profiles ≡ filter_map (profile_at (before ++ c ∷ [])) (behind (suc (length (profiles_of before))) (suc (length (profiles_of (before ++ c ∷ [])))))

@@ -1,7 +1,5 @@
 -- Which edits may be written.
 use Rattle.std.specs.Prelude.{ℕ, List}
-use Rattle.wh_policy.specs.declared.attribute.Dim.{Dim}
-use Rattle.wh_policy.specs.declared.attribute.Dim.TheVariants.{Product, Store, Customer}
 use Rattle.wh_history.specs.declared.plan.Edit.{Edit}
 use Rattle.wh_history.specs.declared.rows.DimRow.{DimRow}
 use Rattle.wh_rows.specs.declared.rows.CommandRow.{CommandRow}
@@ -17,12 +15,6 @@ use Rattle.wh_sql.specs.Fits.{MayBePut}
 use Rattle.wh_store.specs.Edits.{with_row, with_edit, MayBeMade, MayAll}
 use Rattle.wh_engine.specs.Planned.{Edits}
 
--- the edits of a dimension's table may be made one after the other
-abbrev pub MayBeEdited : Dim → List (Edit DimRow ℕ) → Tables → Type 0
-MayBeEdited Product edits t = MayAll (with_edit row.product) (MayBeMade row.product any) edits t.product
-MayBeEdited Store edits t = MayAll (with_edit row.store) (MayBeMade row.store any) edits t.store
-MayBeEdited Customer edits t = MayAll (with_edit row.customer) (MayBeMade row.customer any) edits t.customer
-
 -- each row is valid, and no other command has the id, no other member the natural key
 pub record MayBePutIn (of_command : List CommandRow) (of_member : List MemberRow) (of_change : List ChangeRow) (of_profile : List ProfileRow) (t : Tables) : Type 0 where
   pub command : MayAll (with_row row.command) (MayBePut row.command Commands.may_stand) of_command t.command
@@ -30,7 +22,12 @@ pub record MayBePutIn (of_command : List CommandRow) (of_member : List MemberRow
   pub changes : MayAll (with_row row.change) (MayBePut row.change any) of_change t.change
   pub profiles : MayAll (with_row row.profile) (MayBePut row.profile any) of_profile t.profile
 
--- and each edited row is valid
-pub record MayBeWritten (dim : Dim) (edits : Edits) (t : Tables) : Type 0 where
+-- and the edits of the dimensions' tables may be made one after the other
+pub record MayBeEdited (of_product of_store of_customer : List (Edit DimRow ℕ)) (t : Tables) : Type 0 where
+  pub products : MayAll (with_edit row.product) (MayBeMade row.product any) of_product t.product
+  pub stores : MayAll (with_edit row.store) (MayBeMade row.store any) of_store t.store
+  pub customers : MayAll (with_edit row.customer) (MayBeMade row.customer any) of_customer t.customer
+
+pub record MayBeWritten (edits : Edits) (t : Tables) : Type 0 where
   pub lists : MayBePutIn edits.command edits.members edits.changes edits.profiles t
-  pub rows : MayBeEdited dim edits.rows t
+  pub rows : MayBeEdited edits.products edits.stores edits.customers t

@@ -1,18 +1,20 @@
-//! The edits of a batch.
+//! The edits of a command.
 
 use std::marker::Model;
 use wh_history::{DimRow, Edit};
 use wh_rows::{ChangeRow, CommandRow, MemberRow, ProfileRow};
 
-/// What a batch of dimension records writes: its own row, the rows of the members that it is the first to mention, its
-/// records, the edits of the rows of the members that it touches, and the profiles that it is the first to show.
+/// What a command writes: its own row, the rows of the members that it is the first to mention, its records, the profiles
+/// that it is the first to show, and the edits of the rows of the three dimensions.
 #[derive(Debug, Drop)]
 pub struct Edits {
     pub command: Vec<CommandRow>,
     pub members: Vec<MemberRow>,
     pub changes: Vec<ChangeRow>,
-    pub rows: Vec<Edit<DimRow, u64>>,
     pub profiles: Vec<ProfileRow>,
+    pub products: Vec<Edit<DimRow, u64>>,
+    pub stores: Vec<Edit<DimRow, u64>>,
+    pub customers: Vec<Edit<DimRow, u64>>,
 }
 
 impl Model for Edits {
@@ -20,5 +22,13 @@ impl Model for Edits {
 
     ghost Value = { Lists };
 
-    ghost view = { λ e. record { command = e.command.items; members = e.members.items; changes = e.changes.items; rows = e.rows.items; profiles = e.profiles.items } };
+    ghost view = { λ e. record {
+      command = e.command.items;
+      members = e.members.items;
+      changes = e.changes.items;
+      profiles = e.profiles.items;
+      products = e.products.items;
+      stores = e.stores.items;
+      customers = e.customers.items;
+    } };
 }

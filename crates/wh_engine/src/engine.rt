@@ -14,7 +14,7 @@ use crate::command::{Command, Reply};
 use crate::decision::{Decision, decide};
 use crate::fault::{Fault, stops};
 use crate::session::Session;
-use crate::write::commit_batch;
+use crate::write::commit_edits;
 use sqlite::{Alter, Connection};
 use std::alloc::Global;
 use wh_batch::Kind;
@@ -43,7 +43,7 @@ fn perform<S: Alter>(
 {
     match decide(tables, alloc, session, dim, command) {
         Ok(Decision::Repeat(receipt)) => Ok(Reply::Already(receipt)),
-        Ok(Decision::Accept(receipt, edits)) => match commit_batch(tables, alloc, dim, &edits) {
+        Ok(Decision::Accept(receipt, edits)) => match commit_edits(tables, alloc, &edits) {
             Ok(()) => Ok(Reply::Accepted(receipt)),
             Err(cause) => Err(Fault::Store(cause)),
         },

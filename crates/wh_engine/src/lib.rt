@@ -28,7 +28,7 @@ pub use making::{policies_are_good, write_making};
 pub use opening::{InitFault, OpeningFault};
 pub use plan::plan_batch;
 pub use reopen::{redeliver, restart};
-pub use write::write_batch;
+pub use write::write_edits;
 
 #[cfg(test)]
 mod tests;

@@ -6,7 +6,7 @@ ghost use Rattle.sqlite.specs.State.{HasCleanDisk};
 ghost use Rattle.wh_policy.specs.Policy.{types_of};
 ghost use Rattle.wh_policy.specs.Types.{is_profile};
 ghost use Rattle.wh_policy.specs.Written.{IsSound};
-ghost use Rattle.wh_policy.specs.declared.attribute.Dim.TheVariants.{Customer};
+ghost use Rattle.wh_policy.specs.declared.attribute.Dim.TheVariants.{Product, Store, Customer};
 ghost use Rattle.wh_policy.specs.declared.record.DimensionRecord.{DimensionRecord as Told};
 ghost use Rattle.wh_history.specs.Accepted.{Accepted, Describes, anchors, members, member_of, policy_after, profiles_of};
 ghost use Rattle.wh_history.specs.Laws.{RecordsHaveDays};
@@ -19,7 +19,7 @@ ghost use Rattle.wh_rows.specs.Tables.{Tables as Rows};
 ghost use Rattle.wh_engine.specs.Defined.{AreOf, command_at, profile_at};
 ghost use Rattle.wh_engine.specs.Found.{IsFound};
 ghost use Rattle.wh_engine.specs.Kept.{HaveNoEmptyValue};
-ghost use Rattle.wh_engine.specs.Planned.{AreEdits, behind};
+ghost use Rattle.wh_engine.specs.Planned.{AreEdits, behind, in_dimension};
 ghost use Rattle.wh_engine.specs.Planning.{members_among, naturals_told, rows_of_members};
 ghost use Rattle.wh_engine.specs.Reads.{IsCalm, FindsNoDamage};
 ghost use Rattle.wh_engine.specs.Sound.{IsAccepted};
@@ -33,7 +33,7 @@ use std::alloc::{AllocError, Global};
 use wh_day::{ReadError, Value};
 use wh_history::{DimRow, Edit, Member, Profiles, plan_rows, profile_texts};
 use wh_policy::{Dim, DimensionRecord, Policy};
-use wh_rows::{CommandRow, ProfileRow, tables};
+use wh_rows::{ChangeRow, CommandRow, MemberRow, ProfileRow, tables};
 use wh_store::{Refusal, Tables};
 
 /// The greatest number that a table holds.
@@ -255,6 +255,43 @@ fn row_edits(
     Ok(plan_rows(alloc, stored, &after)?)
 }
 
+/// Edits whose rows are all of one dimension.
+fn of_dimension(
+    alloc: Global,
+    dim: Dim,
+    rows: Vec<Edit<DimRow, u64>>,
+    command: Vec<CommandRow>,
+    members: Vec<MemberRow>,
+    changes: Vec<ChangeRow>,
+    profiles: Vec<ProfileRow>,
+) -> Edits
+    ensures { result ≡ record {
+      command = command.items;
+      members = members.items;
+      changes = changes.items;
+      profiles = profiles.items;
+      products = in_dimension Product dim rows.items;
+      stores = in_dimension Store dim rows.items;
+      customers = in_dimension Customer dim rows.items;
+    } }
+{
+    let mut edits = Edits {
+        command,
+        members,
+        changes,
+        profiles,
+        products: Vec::new(alloc),
+        stores: Vec::new(alloc),
+        customers: Vec::new(alloc),
+    };
+    match dim {
+        Dim::Product => edits.products = rows,
+        Dim::Store => edits.stores = rows,
+        Dim::Customer => edits.customers = rows,
+    }
+    edits
+}
+
 /// The edits of a batch, by what was found.
 fn edits_of(
     alloc: Global,
@@ -268,7 +305,7 @@ fn edits_of(
     requires anchors { found.given.anchors ≤ 9999999 }
     ensures { (commands : List Accepted) (c : Accepted) → c.content ≡ Describes dim records.now → policy_after None commands ≡ Some policy.now → IsSound policy.now
         → RecordsHaveDays commands → RecordsHaveDays (commands ++ c ∷ []) → command_at (commands ++ c ∷ []) (suc (length commands)) ≡ Some command
-        → IsFound dim commands (commands ++ c ∷ []) records.now found → IfOk result (λ edits. AreEdits dim commands (commands ++ c ∷ []) records.now edits) }
+        → IsFound dim commands (commands ++ c ∷ []) records.now found → IfOk result (AreEdits commands c) }
 {
     let given = found.given;
     let touched = touched_members(alloc, &found.members, given, records)?;
@@ -277,13 +314,15 @@ fn edits_of(
     let rows = row_edits(alloc, policy, dim, touched.as_slice(), &found.rows)?;
     let mut commands = Vec::new(alloc);
     commands.push(command)?;
-    Ok(Edits {
-        command: commands,
+    Ok(of_dimension(
+        alloc,
+        dim,
+        rows,
+        commands,
         members,
         changes,
-        rows,
-        profiles: found.profiles,
-    })
+        found.profiles,
+    ))
 }
 
 /// What a batch of dimension records writes, from reads of the members that it touches alone: its own row and its edits of the other tables.
@@ -298,7 +337,7 @@ pub fn plan_batch<S: Alter>(
     ensures clean { HasCleanDisk (state S.Store tables.new.conn) → HasCleanDisk (state S.Store tables.old.conn) }
     ensures edits { HasCleanDisk (state S.Store tables.new.conn) → (limits : Limits) (commands : List Accepted) (c : Accepted) (t : Rows) → AreOf limits commands t → IsAccepted limits (commands ++ c ∷ [])
         → c.content ≡ Describes dim records.now → policy_after None commands ≡ Some policy.now → IsSound policy.now → command_at (commands ++ c ∷ []) (suc (length commands)) ≡ Some command
-        → IsAtRest (Some t) (state S.Store tables.old.conn) → IfOk result (λ edits. AreEdits dim commands (commands ++ c ∷ []) records.now edits) }
+        → IsAtRest (Some t) (state S.Store tables.old.conn) → IfOk result (AreEdits commands c) }
     ensures sound { HasCleanDisk (state S.Store tables.new.conn) → (t : Rows) → IsAtRest (Some t) (state S.Store tables.old.conn) → FindsNoDamage result }
     ensures same { HasCleanDisk (state S.Store tables.new.conn) → (t : Rows) → IsAtRest (Some t) (state S.Store tables.old.conn) → IsCalm result → IsAtRest (Some t) (state S.Store tables.new.conn) }
     ensures left { HasCleanDisk (state S.Store tables.new.conn) → (t : Rows) → IsAtRest (Some t) (state S.Store tables.old.conn) → Leaves (Some t) (state S.Store tables.new.conn) }

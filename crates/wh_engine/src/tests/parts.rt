@@ -102,14 +102,16 @@ fn edits(alloc: Global) -> Result<Edits, Fail> {
         command: command(alloc)?,
         members: members(alloc)?,
         changes: changes(alloc)?,
-        rows: rows(alloc)?,
         profiles: Vec::new(alloc),
+        products: rows(alloc)?,
+        stores: Vec::new(alloc),
+        customers: Vec::new(alloc),
     })
 }
 
 fn write(alloc: Global, tables: &mut Tables<MemStore>, edits: &Edits) -> Result<(), Cause> {
     let mut writing = tables.begin()?;
-    write_batch(&mut writing, alloc, Dim::Product, edits)?;
+    write_edits(&mut writing, alloc, edits)?;
     writing.commit()
 }
 
@@ -339,10 +341,10 @@ fn a_new_product_is_planned(rt: HostRuntime) -> Result<(), Fail> {
     let second = edits.changes.get(1).ok_or("a second change")?;
     assert_eq!(rt; (second.command, second.place, second.anchor), (2, 2, 3));
     let acme = row_of_p1(alloc, 1, 19000101, 20240131, "Acme")?;
-    assert!(rt; puts(edits.rows.get(0), &acme));
+    assert!(rt; puts(edits.products.get(0), &acme));
     let bolt = row_of_p1(alloc, 3, 20240201, 99991231, "Bolt")?;
-    assert!(rt; puts(edits.rows.get(1), &bolt));
-    assert_eq!(rt; edits.rows.len(), 2);
+    assert!(rt; puts(edits.products.get(1), &bolt));
+    assert_eq!(rt; edits.products.len(), 2);
     Ok(())
 }
 
@@ -362,10 +364,10 @@ fn a_backdated_record_is_planned(rt: HostRuntime) -> Result<(), Fail> {
         (0, 1, 0)
     );
     let acme = row_of_p1(alloc, 1, 19000101, 20240119, "Acme")?;
-    assert!(rt; puts(edits.rows.get(0), &acme));
-    assert!(rt; removes(edits.rows.get(1), 3));
+    assert!(rt; puts(edits.products.get(0), &acme));
+    assert!(rt; removes(edits.products.get(1), 3));
     let bolt = row_of_p1(alloc, 4, 20240120, 99991231, "Bolt")?;
-    assert!(rt; puts(edits.rows.get(2), &bolt));
-    assert_eq!(rt; edits.rows.len(), 3);
+    assert!(rt; puts(edits.products.get(2), &bolt));
+    assert_eq!(rt; edits.products.len(), 3);
     Ok(())
 }

@@ -26,7 +26,7 @@ returns-clause-decided g c clean commands t held kind good new rests =
     let row : row_of_batch command number (length records) ≡ c.in_ok-row.row = rw c.as_slice-2.ensures at (sym c.in_ok-row.ensures) in
     let stored : command_at (commands ++ added ∷ []) (suc (length commands)) ≡ Some c.in_ok-row.row =
     row_added limits commands command dim records ∙ ap (λ n. Some (row_of_batch command n (length records))) (sym next) ∙ ap Some row in
-    let edits = rw c.as_slice-3.ensures at (c.in_ok-edits.ensures.edits clean limits commands added t held.are (list_accepted limits commands command dim kind good new unsold records read number room held.accepted)
-    (ap (Describes dim) (sym c.as_slice-3.ensures)) (policy_in_force commands held.accepted.governed ∙ ap Some (sym held.policy)) (subst IsSound (sym held.policy) (sound_in_force limits commands held.accepted)) stored still) in
+    let edits = c.in_ok-edits.ensures.edits clean limits commands added t held.are (list_accepted limits commands command dim kind good new unsold records read number room held.accepted)
+    (ap (Describes dim) (sym c.as_slice-3.ensures)) (policy_in_force commands held.accepted.governed ∙ ap Some (sym held.policy)) (subst IsSound (sym held.policy) (sound_in_force limits commands held.accepted)) stored still in
     rw (batch_accepted limits commands command dim kind good new unsold records read number room, c.as_slice-2.ensures)
     (refl, record { records = records; content = content_read limits commands command dim kind good new unsold records read number room; edits_are = edits })

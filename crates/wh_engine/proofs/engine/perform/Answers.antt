@@ -15,8 +15,8 @@ pub returns-in-Ok-clause-performed : goal.returns-in-Ok-clause-performed
 returns-in-Ok-clause-performed g c clean limits commands ready kind =
     let command = c.args.command.now in
     let old = state g.S.Store c.args.tables.now.conn in
-    let new = state g.S.Store c.commit_batch.new.tables.conn in
-    let before = c.commit_batch.ensures.clean clean in
+    let new = state g.S.Store c.commit_edits.new.tables.conn in
+    let before = c.commit_edits.ensures.clean clean in
     let rests = ready.rests.rests in
     let is_held = held limits commands command c.args.dim c.args.session.now old kind ready in
     let judged = rw c.in-Ok-Accept.field-0-is at (c.in-Ok-Accept.ensures.decided before commands ready.rests.tables is_held kind rests) in
@@ -29,15 +29,15 @@ pub returns-in-Ok-Accept-clause-performed : goal.returns-in-Ok-Accept-clause-per
 returns-in-Ok-Accept-clause-performed g c clean limits commands ready kind =
     let command = c.args.command.now in
     let old = state g.S.Store c.args.tables.now.conn in
-    let new = state g.S.Store c.commit_batch.new.tables.conn in
-    let before = c.commit_batch.ensures.clean clean in
+    let new = state g.S.Store c.commit_edits.new.tables.conn in
+    let before = c.commit_edits.ensures.clean clean in
     let rests = ready.rests.rests in
     let is_held = held limits commands command c.args.dim c.args.session.now old kind ready in
     let judged = rw c.in-Ok-Accept.field-0-is at (c.in-Ok-Accept.ensures.decided before commands ready.rests.tables is_held kind rests) in
     let still = c.in-Ok-Accept.ensures.same before ready.rests.tables rests tt in
     let may = may_write limits commands command c.args.dim c.args.session.now old kind ready c.in-Ok-Accept.receipt c.in-Ok-Accept.edits judged in
     stop_performed limits commands command c.args.dim c.args.session.now old kind ready c.in-Ok-Accept.receipt c.in-Ok-Accept.edits judged new
-    (c.commit_batch.ensures.left clean ready.rests.tables still may)
+    (c.commit_edits.ensures.left clean ready.rests.tables still may)
 
 pub returns-clause-performed : goal.returns-clause-performed
 returns-clause-performed g c clean limits commands ready kind =

@@ -1,19 +1,22 @@
 use Rattle.wh_engine.proofs.write.edit_rows.Goals as goal
 
-pub returns-in-Product-clause-edited : goal.returns-in-Product-clause-edited
-returns-in-Product-clause-edited g c = rw c.in-Product.is c.edit_all.ensures.edited
+pub returns-in_err-edit_all-clause-left : goal.returns-in_err-edit_all-clause-left
+returns-in_err-edit_all-clause-left g c clean before made at may =
+    c.edit_all.ensures.left clean before made (at) may.products
 
-pub returns-in-Product-clause-left : goal.returns-in-Product-clause-left
-returns-in-Product-clause-left g c = rw c.in-Product.is c.edit_all.ensures.left
+pub returns-in_err-edit_all-2-clause-left : goal.returns-in_err-edit_all-2-clause-left
+returns-in_err-edit_all-2-clause-left g c clean before made at may =
+    let one = c.edit_all-2.ensures.clean clean in
+    c.edit_all-2.ensures.left clean before _ (c.in_ok-edit_all.ensures.edited one before made at may.products) may.stores
 
-pub returns-in-Store-clause-edited : goal.returns-in-Store-clause-edited
-returns-in-Store-clause-edited g c = rw c.in-Store.is c.edit_all-in-Store.ensures.edited
+pub returns-clause-edited : goal.returns-clause-edited
+returns-clause-edited g c clean before made at may =
+    let two = c.edit_all-3.ensures.clean clean in
+    let one = c.edit_all-2.ensures.clean two in
+    c.edit_all-3.ensures.edited clean before _ (c.in_ok-edit_all-2.ensures.edited two before _ (c.in_ok-edit_all.ensures.edited one before made at may.products) may.stores) may.customers
 
-pub returns-in-Store-clause-left : goal.returns-in-Store-clause-left
-returns-in-Store-clause-left g c = rw c.in-Store.is c.edit_all-in-Store.ensures.left
-
-pub returns-in-Customer-clause-edited : goal.returns-in-Customer-clause-edited
-returns-in-Customer-clause-edited g c = rw c.in-Customer.is c.edit_all-in-Customer.ensures.edited
-
-pub returns-in-Customer-clause-left : goal.returns-in-Customer-clause-left
-returns-in-Customer-clause-left g c = rw c.in-Customer.is c.edit_all-in-Customer.ensures.left
+pub returns-clause-left : goal.returns-clause-left
+returns-clause-left g c clean before made at may =
+    let two = c.edit_all-3.ensures.clean clean in
+    let one = c.edit_all-2.ensures.clean two in
+    c.edit_all-3.ensures.left clean before _ (c.in_ok-edit_all-2.ensures.edited two before _ (c.in_ok-edit_all.ensures.edited one before made at may.products) may.stores) may.customers
