@@ -7,6 +7,7 @@ mod opening;
 mod parts;
 mod repeats;
 mod restarts;
+mod stops;
 mod worked;
 
 use self::dump::{all_tables, changes_of, customers, members_of, products, profiles, stores};
