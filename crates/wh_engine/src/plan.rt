@@ -314,15 +314,7 @@ fn edits_of(
     let rows = row_edits(alloc, policy, dim, touched.as_slice(), &found.rows)?;
     let mut commands = Vec::new(alloc);
     commands.push(command)?;
-    Ok(of_dimension(
-        alloc,
-        dim,
-        rows,
-        commands,
-        members,
-        changes,
-        found.profiles,
-    ))
+    Ok(of_dimension(alloc, dim, rows, commands, members, changes, found.profiles))
 }
 
 /// What a batch of dimension records writes, from reads of the members that it touches alone: its own row and its edits of the other tables.

@@ -22,8 +22,8 @@ returns c commands batch is governed sound days days_after at found =
       command = ap (λ (e : Edits). e.command) made ∙ c.in_ok-push.ensures.items ∙ ap (λ rows. rows ++ c.args.command ∷ []) c.new-commands.ensures.items ∙ own_row commands batch c.args.command at;
       members = ap (λ (e : Edits). e.members) made ∙ c.in_ok-members.ensures.planned commands batch records is (c.as_slice.ensures ∙ list) found.members_given ∙ sym (members_told dim commands batch records is);
       changes = ap (λ (e : Edits). e.changes) made ∙ c.in_ok-changes.ensures.planned commands batch is (c.as_slice-2.ensures ∙ list) number
-      ∙ ap (λ k. filter_map (λ n. change_at after (record { command = k; place = n })) (behind 0 (length records))) number
-      ∙ sym (ap (λ content. filter_map (λ n. change_at after (record { command = length after; place = n })) (behind 0 (records_by content))) is);
+          ∙ ap (λ k. filter_map (λ n. change_at after (record { command = k; place = n })) (behind 0 (length records))) number
+          ∙ sym (ap (λ content. filter_map (λ n. change_at after (record { command = length after; place = n })) (behind 0 (records_by content))) is);
       rows = all_planned dim commands batch records is c.args.policy.now governed sound _ c.in_ok-rows.rows.items (ap (λ (e : Edits). e.products) made) (ap (λ (e : Edits). e.stores) made) (ap (λ (e : Edits). e.customers) made) plan;
       profiles = ap (λ (e : Edits). e.profiles) made ∙ found.profiles;
     }
