@@ -9,6 +9,7 @@ pub mod GrownProfiles
 pub mod GrownChanges
 pub mod GrownPlain
 pub mod OneDimension
+pub mod GrownFacts
 pub mod WrittenBatch
 pub mod SmallNumbers
 pub mod MayTables

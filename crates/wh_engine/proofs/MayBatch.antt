@@ -1,17 +1,19 @@
 -- A batch's edits may be written.
 use Rattle.std.proofs.Common.{◌≡◌, inl, inr, ℕ, suc, ◌-◌, ◌≤◌, true, List, [], ◌∷◌, ◌++◌, length, Option, Some, None, refl, sym, ap, subst, ◌∙◌, arith, length-append}
-use Rattle.std.specs.Prelude.{filter_map, option_map}
+use Rattle.std.specs.Prelude.{filter_map, find, bytes_eq, ◌&&◌, ◌==◌, option_map}
 use Rattle.std.specs.List.{AllByRecursion, cons_option, range_with_len}
 use Rattle.std.specs.FinMap.{entries}
 use Rattle.std.proofs.lemmas.Cmp.{nat_cmp_total}
 use Rattle.wh_policy.specs.declared.attribute.Dim.{Dim}
 use Rattle.wh_policy.specs.declared.attribute.Dim.TheVariants.{Product, Store, Customer}
 use Rattle.wh_policy.specs.declared.record.DimensionRecord.{DimensionRecord}
+use Rattle.wh_policy.specs.declared.record.SaleRecord.{SaleRecord}
 use Rattle.wh_history.specs.Accepted.{Accepted, Describes, described, described_by, members, profiles_of, records_by, placeholders_by}
-use Rattle.wh_history.specs.Tables.{Limits, change_row, change_row_of, dimension_row}
+use Rattle.wh_history.specs.Tables.{Limits, change_row, change_row_of, dimension_row, fact_of}
 use Rattle.wh_history.specs.Tables as history
 use Rattle.wh_history.specs.declared.rows.DimRow.{DimRow}
 use Rattle.wh_history.proofs.Basics.{some_is}
+use Rattle.wh_history.proofs.Joins.{all_weaker}
 use Rattle.wh_history.proofs.Batches.{same_dimension}
 use Rattle.wh_history.proofs.Untouched.{described-last}
 use Rattle.wh_rows.specs.declared.rows.CommandRow.{CommandRow}
@@ -20,16 +22,18 @@ use Rattle.wh_rows.specs.Types.{is_number, is_key, is_kind}
 use Rattle.wh_rows.specs.Rows.{is_command, is_change, is_dimension}
 use Rattle.wh_rows.specs.Rows as row
 use Rattle.wh_rows.specs.Tables.{Tables}
+use Rattle.wh_rows.specs.declared.key.LineKey.{LineKey}
 use Rattle.wh_rows.proofs.Commands
 use Rattle.wh_rows.proofs.Members
 use Rattle.wh_rows.proofs.Orders.{member_cmp_total}
-use Rattle.wh_engine.specs.Defined.{command_at, member_at, change_at, profile_at, AreOf}
+use Rattle.wh_engine.specs.Defined.{command_at, member_at, change_at, profile_at, fact_at, AreOf}
 use Rattle.wh_engine.specs.Laws.{BatchesMayBeWritten}
 use Rattle.wh_engine.specs.Planned.{Edits, rows_of_dimension, AreEdits, behind}
 use Rattle.wh_engine.specs.Sound.{IsGoodRecord, IsAccepted}
 use Rattle.wh_engine.specs.Writable.{MayBePutIn, MayBeWritten}
 use Rattle.wh_engine.proofs.OneDimension.{members_told}
 use Rattle.wh_engine.proofs.WrittenRows.{Grows}
+use Rattle.wh_engine.proofs.GrownFacts.{stand_after}
 use Rattle.wh_engine.proofs.GrownKeys.{at_last, all_at}
 use Rattle.wh_engine.proofs.GrownCommands.{command_grows}
 use Rattle.wh_engine.proofs.GrownMembers.{member_grows}
@@ -144,12 +148,20 @@ module _ (limits : Limits) (commands : List Accepted) (c : Accepted) (dim : Dim)
       subst (AllByRecursion (Valid row.profile)) (sym are.profiles)
       (all_made (Valid row.profile) (profile_at after) (profile_valid limits after ok) (behind (suc (length (profiles_of commands))) (suc (length (profiles_of after)))))
 
-  lists_may_be_put : MayBePutIn edits.command edits.members edits.changes edits.profiles t
+  -- nothing was sold, so there is no fact
+  no_fact_after : (key : LineKey) → fact_at after key ≡ None
+  no_fact_after key = ap (λ sales. option_map (fact_of after) (find (λ (s : SaleRecord). bytes_eq s.ticket key.ticket && (s.line == key.line)) sales)) ok.unsold
+
+  valid_facts : AllByRecursion (Valid row.fact) edits.facts
+  valid_facts = all_weaker (λ f. fact_at after (row.fact.key f) ≡ Some f) (Valid row.fact) (λ f there. let none = no_fact_after (row.fact.key f) in absurd cc) edits.facts (stand_after (fact_at commands) (fact_at after) edits.facts are.facts)
+
+  lists_may_be_put : MayBePutIn edits.command edits.members edits.changes edits.profiles edits.facts t
   lists_may_be_put = record {
     command = may_put_all row.command nat_cmp_total Commands.may_stand (IsCommandOf after) (commands_stand after ok.distinct) edits.command t.command fit_commands older_commands;
     members = may_put_all row.member member_cmp_total Members.may_stand (IsMemberOf after) (members_stand after) edits.members t.member fit_members older_members;
     changes = may_put_any row.change edits.changes t.change valid_changes;
     profiles = may_put_any row.profile edits.profiles t.profile valid_profiles;
+    facts = may_put_any row.fact edits.facts t.fact valid_facts;
   }
 
   -- ---- the rows of the dimensions

@@ -1,6 +1,7 @@
 -- A batch's edits lead to the tables of the commands with it.
 use Rattle.std.proofs.Common.{◌≡◌, ℕ, suc, List, [], ◌∷◌, ◌++◌, length, sym, ◌∙◌, ap}
-use Rattle.std.specs.Prelude.{filter_map}
+use Rattle.std.specs.Prelude.{filter_map, find}
+use Rattle.std.specs.Option.{option_or}
 use Rattle.std.proofs.lemmas.Cmp.{nat_cmp_total}
 use Rattle.std.specs.Cmp.{unsigned_tied}
 use Rattle.std.specs.Ordering.{nat_cmp}
@@ -20,7 +21,7 @@ use Rattle.wh_rows.specs.declared.key.LineKey.{LineKey}
 use Rattle.wh_rows.specs.declared.key.MemberKey.{MemberKey}
 use Rattle.wh_rows.specs.declared.key.ChangeKey.{ChangeKey}
 use Rattle.wh_engine.specs.Defined.{command_at, member_at, change_at, profile_at, fact_at, AreOf}
-use Rattle.wh_engine.specs.Planned.{Edits, rows_of_dimension, with_rows, with_edits, with_all_edits, behind, AreEdits}
+use Rattle.wh_engine.specs.Planned.{Edits, rows_of_dimension, with_rows, with_edits, with_all_edits, has_line, behind, AreEdits}
 use Rattle.wh_engine.specs.Laws.{BatchesAreWritten}
 use Rattle.wh_engine.proofs.WrittenRows.{written}
 use Rattle.wh_engine.proofs.PlannedRows.{plan_leads}
@@ -30,7 +31,8 @@ use Rattle.wh_engine.proofs.GrownMembers as member
 use Rattle.wh_engine.proofs.GrownChanges.{change_keyed, change_grows}
 use Rattle.wh_engine.proofs.GrownChanges as change
 use Rattle.wh_engine.proofs.GrownProfiles.{profile_keyed, profile_grows}
-use Rattle.wh_engine.proofs.GrownOthers.{calendar_stays, no_fact}
+use Rattle.wh_engine.proofs.GrownFacts.{facts_put}
+use Rattle.wh_engine.proofs.GrownOthers.{calendar_stays}
 use Rattle.wh_engine.proofs.OneDimension.{members_told}
 
 module _ (limits : Limits) (commands : List Accepted) (c : Accepted) (dim : Dim) (records : List DimensionRecord) (t : Tables) (edits : Edits)
@@ -64,8 +66,11 @@ module _ (limits : Limits) (commands : List Accepted) (c : Accepted) (dim : Dim)
   planned : (other : Dim) (table : Table) (key : ℕ) (m : FinMap nat_cmp DimRow) → get m key ≡ dimension_row commands other key → get (with_edits (row.dimension other table) (rows_of_dimension other edits) m) key ≡ dimension_row after other key
   planned other table key m has = plan_leads (row.dimension other table) nat_cmp_total unsigned_tied (dimension_row commands other) (dimension_row after other) (rows_of_dimension other edits) m key (are.rows other) has
 
-  pub batch_written : ((key : LineKey) → fact_at after key ≡ fact_at commands key) → AreOf limits after (with_all_edits edits t)
-  batch_written facts = record {
+  fact_written : (key : LineKey) → get (with_rows row.fact edits.facts t.fact) key ≡ fact_at after key
+  fact_written key = facts_put edits.facts t.fact key are.facts.once ∙ ap (option_or (find (has_line key) edits.facts)) (of.fact key) ∙ are.facts.lead key
+
+  pub batch_written : AreOf limits after (with_all_edits edits t)
+  batch_written = record {
     meta = of.meta;
     command = command_written;
     member = member_written;
@@ -75,8 +80,8 @@ module _ (limits : Limits) (commands : List Accepted) (c : Accepted) (dim : Dim)
     customer = λ key. planned Customer row.customer.table key t.customer (of.customer key);
     profile = profile_written;
     calendar = λ day. of.calendar day ∙ sym (calendar_stays dim commands c records is day);
-    fact = λ key. of.fact key ∙ sym (facts key);
+    fact = fact_written;
   }
 
 pub a_batch_is_written : BatchesAreWritten
-a_batch_is_written limits commands c dim records t edits is none of are = batch_written limits commands c dim records t edits is of are (no_fact dim commands c records is none)
+a_batch_is_written limits commands c dim records t edits is of are = batch_written limits commands c dim records t edits is of are

@@ -30,11 +30,10 @@ use Rattle.wh_engine.specs.Planning.{of_members, naturals_told, durables_touched
 abbrev pub ShowsNoProfile : List Accepted → Dim → Type 0
 ShowsNoProfile commands dim = list_any is_outrigger (types_in dim commands) ≡ false
 
--- From the tables of the commands so far the edits of a batch lead to those of the commands with it, where nothing was sold yet.
+-- From the tables of the commands so far the edits of a batch lead to those of the commands with it.
 abbrev pub BatchesAreWritten : Type 0
 BatchesAreWritten = (limits : Limits) (commands : List Accepted) (c : Accepted) (dim : Dim) (records : List DimensionRecord) (tables : Tables) (edits : Edits)
     → c.content ≡ Describes dim records
-    → sold commands ≡ []
     → AreOf limits commands tables
     → AreEdits commands c edits
     → AreOf limits (commands ++ c ∷ []) (with_all_edits edits tables)

@@ -1,6 +1,7 @@
 -- What a command writes.
-use Rattle.std.specs.Prelude.{◌≡◌, ℕ, suc, ◌-◌, List, [], ◌∷◌, ◌++◌, length, map, filter_map, cond}
-use Rattle.std.specs.List.{range_with_len}
+use Rattle.std.specs.Prelude.{◌≡◌, ℕ, suc, ◌-◌, List, [], ◌∷◌, ◌++◌, length, map, filter_map, find, cond, bytes_eq, ◌≢◌, ◌==◌, ◌&&◌, Bool, Option, Some}
+use Rattle.std.specs.List.{range_with_len, AllByRecursion, IsDistinct}
+use Rattle.std.specs.Option.{option_or}
 use Rattle.std.specs.FinMap.{FinMap}
 use Rattle.wh_policy.specs.declared.attribute.Dim.{Dim}
 use Rattle.wh_policy.specs.declared.attribute.Dim.TheVariants.{Product, Store, Customer}
@@ -9,23 +10,26 @@ use Rattle.wh_history.specs.Tables.{dimension_row}
 use Rattle.wh_history.specs.Plan.{IsPlan}
 use Rattle.wh_history.specs.declared.plan.Edit.{Edit}
 use Rattle.wh_history.specs.declared.rows.DimRow.{DimRow}
+use Rattle.wh_history.specs.declared.facts.Fact.{Fact}
 use Rattle.wh_rows.specs.declared.rows.CommandRow.{CommandRow}
 use Rattle.wh_rows.specs.declared.rows.MemberRow.{MemberRow}
 use Rattle.wh_rows.specs.declared.rows.ChangeRow.{ChangeRow}
 use Rattle.wh_rows.specs.declared.rows.ProfileRow.{ProfileRow}
 use Rattle.wh_rows.specs.declared.key.MemberKey.{MemberKey}
+use Rattle.wh_rows.specs.declared.key.LineKey.{LineKey}
 use Rattle.wh_rows.specs.Holds.{Layout}
 use Rattle.wh_rows.specs.Rows as row
 use Rattle.wh_rows.specs.Tables.{Tables}
 use Rattle.wh_store.specs.Edits.{with_row, with_edit, after_all}
-use Rattle.wh_engine.specs.Defined.{command_at, member_at, change_at, profile_at}
+use Rattle.wh_engine.specs.Defined.{command_at, member_at, change_at, profile_at, fact_at}
 
--- the edits of a command: its own row, the members that it is the first to mention, its records, the rows of the three dimensions, and new profiles
+-- the edits of a command: its own row, the members that it is the first to mention, its records, new profiles, the facts that are new or get other keys, and the rows of the three dimensions
 pub record Edits : Type 0 where
   pub command : List CommandRow
   pub members : List MemberRow
   pub changes : List ChangeRow
   pub profiles : List ProfileRow
+  pub facts : List Fact
   pub products : List (Edit DimRow ℕ)
   pub stores : List (Edit DimRow ℕ)
   pub customers : List (Edit DimRow ℕ)
@@ -48,13 +52,14 @@ with_rows layout = after_all (with_row layout)
 abbrev pub with_edits : {K V : Type 0} (layout : Layout K V) → List (Edit V K) → FinMap layout.order V → FinMap layout.order V
 with_edits layout = after_all (with_edit layout)
 
--- the tables with rows of command, member, change and profile
-abbrev pub with_lists : List CommandRow → List MemberRow → List ChangeRow → List ProfileRow → Tables → Tables
-with_lists command members changes profiles t = record t {
+-- the tables with rows of command, member, change, profile and fact
+abbrev pub with_lists : List CommandRow → List MemberRow → List ChangeRow → List ProfileRow → List Fact → Tables → Tables
+with_lists command members changes profiles facts t = record t {
   command = with_rows row.command command t.command;
   member = with_rows row.member members t.member;
   change = with_rows row.change changes t.change;
   profile = with_rows row.profile profiles t.profile;
+  fact = with_rows row.fact facts t.fact;
 }
 
 -- the tables with edits of the rows of the dimensions
@@ -67,7 +72,7 @@ with_dimensions products stores customers t = record t {
 
 -- the tables with the edits of a command
 abbrev pub with_all_edits : Edits → Tables → Tables
-with_all_edits edits t = with_dimensions edits.products edits.stores edits.customers (with_lists edits.command edits.members edits.changes edits.profiles t)
+with_all_edits edits t = with_dimensions edits.products edits.stores edits.customers (with_lists edits.command edits.members edits.changes edits.profiles edits.facts t)
 
 -- so many numbers behind a number
 abbrev pub behind : ℕ → ℕ → List ℕ
@@ -81,6 +86,16 @@ members_behind before after dim = map (λ n. record { dim = dim; durable = n }) 
 abbrev pub new_members : List Accepted → List Accepted → List MemberKey
 new_members before after = members_behind before after Product ++ members_behind before after Store ++ members_behind before after Customer
 
+-- a fact has this key
+abbrev pub has_line : LineKey → Fact → Bool
+has_line key f = bytes_eq f.ticket key.ticket && (f.line == key.line)
+
+-- The facts are exactly what leads from one table of facts to another: put at their keys they do, each differs from what stands there, and no two have one key.
+pub record AreFacts (before after : LineKey → Option Fact) (facts : List Fact) : Type 0 where
+  pub lead : (key : LineKey) → option_or (find (has_line key) facts) (before key) ≡ after key
+  pub needed : AllByRecursion (λ f. before (row.fact.key f) ≢ Some f) facts
+  pub once : IsDistinct (λ f. has_line (row.fact.key f)) facts
+
 -- The edits are exactly what leads from the tables of the commands so far to those of the list with one more command.
 pub record AreEdits (before : List Accepted) (c : Accepted) (edits : Edits) : Type 0 where
   pub command : edits.command ≡ filter_map (command_at (before ++ c ∷ [])) (behind (length before) (length (before ++ c ∷ [])))
@@ -88,3 +103,4 @@ pub record AreEdits (before : List Accepted) (c : Accepted) (edits : Edits) : Ty
   pub changes : edits.changes ≡ filter_map (λ n. change_at (before ++ c ∷ []) (record { command = length (before ++ c ∷ []); place = n })) (behind 0 (records_by c.content))
   pub rows : (dim : Dim) → IsPlan (λ r. r.surrogate) (dimension_row before dim) (dimension_row (before ++ c ∷ []) dim) (rows_of_dimension dim edits)
   pub profiles : edits.profiles ≡ filter_map (profile_at (before ++ c ∷ [])) (behind (suc (length (profiles_of before))) (suc (length (profiles_of (before ++ c ∷ [])))))
+  pub facts : AreFacts (fact_at before) (fact_at (before ++ c ∷ [])) edits.facts

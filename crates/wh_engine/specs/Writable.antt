@@ -2,6 +2,7 @@
 use Rattle.std.specs.Prelude.{ℕ, List}
 use Rattle.wh_history.specs.declared.plan.Edit.{Edit}
 use Rattle.wh_history.specs.declared.rows.DimRow.{DimRow}
+use Rattle.wh_history.specs.declared.facts.Fact.{Fact}
 use Rattle.wh_rows.specs.declared.rows.CommandRow.{CommandRow}
 use Rattle.wh_rows.specs.declared.rows.MemberRow.{MemberRow}
 use Rattle.wh_rows.specs.declared.rows.ChangeRow.{ChangeRow}
@@ -16,11 +17,12 @@ use Rattle.wh_store.specs.Edits.{with_row, with_edit, MayBeMade, MayAll}
 use Rattle.wh_engine.specs.Planned.{Edits}
 
 -- each row is valid, and no other command has the id, no other member the natural key
-pub record MayBePutIn (of_command : List CommandRow) (of_member : List MemberRow) (of_change : List ChangeRow) (of_profile : List ProfileRow) (t : Tables) : Type 0 where
+pub record MayBePutIn (of_command : List CommandRow) (of_member : List MemberRow) (of_change : List ChangeRow) (of_profile : List ProfileRow) (of_fact : List Fact) (t : Tables) : Type 0 where
   pub command : MayAll (with_row row.command) (MayBePut row.command Commands.may_stand) of_command t.command
   pub members : MayAll (with_row row.member) (MayBePut row.member Members.may_stand) of_member t.member
   pub changes : MayAll (with_row row.change) (MayBePut row.change any) of_change t.change
   pub profiles : MayAll (with_row row.profile) (MayBePut row.profile any) of_profile t.profile
+  pub facts : MayAll (with_row row.fact) (MayBePut row.fact any) of_fact t.fact
 
 -- and the edits of the dimensions' tables may be made one after the other
 pub record MayBeEdited (of_product of_store of_customer : List (Edit DimRow ℕ)) (t : Tables) : Type 0 where
@@ -29,5 +31,5 @@ pub record MayBeEdited (of_product of_store of_customer : List (Edit DimRow ℕ)
   pub customers : MayAll (with_edit row.customer) (MayBeMade row.customer any) of_customer t.customer
 
 pub record MayBeWritten (edits : Edits) (t : Tables) : Type 0 where
-  pub lists : MayBePutIn edits.command edits.members edits.changes edits.profiles t
+  pub lists : MayBePutIn edits.command edits.members edits.changes edits.profiles edits.facts t
   pub rows : MayBeEdited edits.products edits.stores edits.customers t

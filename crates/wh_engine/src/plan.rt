@@ -8,7 +8,7 @@ ghost use Rattle.wh_policy.specs.Types.{is_profile};
 ghost use Rattle.wh_policy.specs.Written.{IsSound};
 ghost use Rattle.wh_policy.specs.declared.attribute.Dim.TheVariants.{Product, Store, Customer};
 ghost use Rattle.wh_policy.specs.declared.record.DimensionRecord.{DimensionRecord as Told};
-ghost use Rattle.wh_history.specs.Accepted.{Accepted, Describes, anchors, members, member_of, policy_after, profiles_of};
+ghost use Rattle.wh_history.specs.Accepted.{Accepted, Describes, anchors, members, member_of, policy_after, profiles_of, sold};
 ghost use Rattle.wh_history.specs.Laws.{RecordsHaveDays};
 ghost use Rattle.wh_history.specs.Plan.{IsPlan, row_of};
 ghost use Rattle.wh_history.specs.Slots.{picks, six};
@@ -255,7 +255,7 @@ fn row_edits(
     Ok(plan_rows(alloc, stored, &after)?)
 }
 
-/// Edits whose rows are all of one dimension.
+/// Edits with no fact, whose rows are all of one dimension.
 fn of_dimension(
     alloc: Global,
     dim: Dim,
@@ -270,6 +270,7 @@ fn of_dimension(
       members = members.items;
       changes = changes.items;
       profiles = profiles.items;
+      facts = [];
       products = in_dimension Product dim rows.items;
       stores = in_dimension Store dim rows.items;
       customers = in_dimension Customer dim rows.items;
@@ -280,6 +281,7 @@ fn of_dimension(
         members,
         changes,
         profiles,
+        facts: Vec::new(alloc),
         products: Vec::new(alloc),
         stores: Vec::new(alloc),
         customers: Vec::new(alloc),
@@ -304,7 +306,7 @@ fn edits_of(
     requires members { found.given.members ≤ 9999999 }
     requires anchors { found.given.anchors ≤ 9999999 }
     ensures { (commands : List Accepted) (c : Accepted) → c.content ≡ Describes dim records.now → policy_after None commands ≡ Some policy.now → IsSound policy.now
-        → RecordsHaveDays commands → RecordsHaveDays (commands ++ c ∷ []) → command_at (commands ++ c ∷ []) (suc (length commands)) ≡ Some command
+        → sold commands ≡ [] → RecordsHaveDays commands → RecordsHaveDays (commands ++ c ∷ []) → command_at (commands ++ c ∷ []) (suc (length commands)) ≡ Some command
         → IsFound dim commands (commands ++ c ∷ []) records.now found → IfOk result (AreEdits commands c) }
 {
     let given = found.given;

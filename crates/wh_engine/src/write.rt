@@ -11,7 +11,7 @@ ghost use Rattle.wh_engine.specs.Writable.{MayBeEdited, MayBePutIn, MayBeWritten
 use crate::edits::Edits;
 use sqlite::Alter;
 use std::alloc::Global;
-use wh_history::{DimRow, Edit};
+use wh_history::{DimRow, Edit, Fact};
 use wh_rows::{Cause, ChangeRow, CommandRow, MemberRow, ProfileRow, tables};
 use wh_store::{Tables, Writing};
 
@@ -23,18 +23,20 @@ fn put_lists<S: Alter>(
     members: &[MemberRow],
     changes: &[ChangeRow],
     profiles: &[ProfileRow],
+    facts: &[Fact],
 ) -> Result<(), Cause>
     ensures same_reference { writing.new.tables.ghost_name ≡ writing.old.tables.ghost_name }
     ensures clean { HasCleanDisk (state S.Store writing.new.tables.now.conn) → HasCleanDisk (state S.Store writing.old.tables.now.conn) }
     ensures put { HasCleanDisk (state S.Store writing.new.tables.now.conn) → (before : Option Rows) (made : Rows) → IsWriting before (Some made) (state S.Store writing.old.tables.now.conn)
-        → MayBePutIn command.now members.now changes.now profiles.now made → OnOk result (IsWriting before (Some (with_lists command.now members.now changes.now profiles.now made)) (state S.Store writing.new.tables.now.conn)) }
+        → MayBePutIn command.now members.now changes.now profiles.now facts.now made → OnOk result (IsWriting before (Some (with_lists command.now members.now changes.now profiles.now facts.now made)) (state S.Store writing.new.tables.now.conn)) }
     ensures left { HasCleanDisk (state S.Store writing.new.tables.now.conn) → (before : Option Rows) (made : Rows) → IsWriting before (Some made) (state S.Store writing.old.tables.now.conn)
-        → MayBePutIn command.now members.now changes.now profiles.now made → Leaves before (state S.Store writing.new.tables.now.conn) }
+        → MayBePutIn command.now members.now changes.now profiles.now facts.now made → Leaves before (state S.Store writing.new.tables.now.conn) }
 {
     writing.put_all::<tables::Command>(alloc, command)?;
     writing.put_all::<tables::Member>(alloc, members)?;
     writing.put_all::<tables::Change>(alloc, changes)?;
-    writing.put_all::<tables::Profile>(alloc, profiles)
+    writing.put_all::<tables::Profile>(alloc, profiles)?;
+    writing.put_all::<tables::Fact>(alloc, facts)
 }
 
 /// Makes the edits of the tables of the dimensions.
@@ -77,6 +79,7 @@ pub fn write_edits<S: Alter>(
         &edits.members,
         &edits.changes,
         &edits.profiles,
+        &edits.facts,
     )?;
     edit_rows(
         writing,

@@ -103,6 +103,7 @@ fn edits(alloc: Global) -> Result<Edits, Fail> {
         members: members(alloc)?,
         changes: changes(alloc)?,
         profiles: Vec::new(alloc),
+        facts: Vec::new(alloc),
         products: rows(alloc)?,
         stores: Vec::new(alloc),
         customers: Vec::new(alloc),

@@ -4,12 +4,12 @@ use Rattle.wh_history.specs.Accepted.{records_by}
 use Rattle.wh_history.specs.Plan.{row_of}
 use Rattle.wh_engine.specs.Defined.{change_at}
 use Rattle.wh_engine.specs.Planned.{Edits, behind}
-use Rattle.wh_engine.proofs.OneDimension.{members_told, all_planned}
+use Rattle.wh_engine.proofs.OneDimension.{members_told, all_planned, none_sold}
 use Rattle.wh_engine.proofs.PlanEdits.{own_row, own_number}
 use Rattle.wh_engine.proofs.plan.edits_of.Goals as goal
 
 pub returns : goal.returns
-returns c commands batch is governed sound days days_after at found =
+returns c commands batch is governed sound unsold days days_after at found =
     let records = c.args.records.now in
     let dim = c.args.dim in
     let after = commands ++ batch ∷ [] in
@@ -26,4 +26,5 @@ returns c commands batch is governed sound days days_after at found =
           ∙ sym (ap (λ content. filter_map (λ n. change_at after (record { command = length after; place = n })) (behind 0 (records_by content))) is);
       rows = all_planned dim commands batch records is c.args.policy.now governed sound _ c.in_ok-rows.rows.items (ap (λ (e : Edits). e.products) made) (ap (λ (e : Edits). e.stores) made) (ap (λ (e : Edits). e.customers) made) plan;
       profiles = ap (λ (e : Edits). e.profiles) made ∙ found.profiles;
+      facts = rw (ap (λ (e : Edits). e.facts) made) (none_sold dim commands batch records is unsold);
     }
