@@ -103,7 +103,7 @@ module _ (dim : Dim) (commands : List Accepted) (c : Accepted) where
   none_past : (list : List Accepted) (n : ℕ) → length (members dim list) < n → member_at list (key_of dim n) ≡ None
   none_past list n h = ap (λ o. option_map (keyed_row (key_of dim n)) (option_map (member_with (mentions dim list)) o)) (at_past n (members dim list) h)
 
-  of_dimension : (n : ℕ) → Grows (key_of dim) (length (members dim commands)) (length (members dim after)) (member_at commands) (member_at after) (key_of dim n)
+  pub of_dimension : (n : ℕ) → Grows (key_of dim) (length (members dim commands)) (length (members dim after)) (member_at commands) (member_at after) (key_of dim n)
   of_dimension n = grows_behind (key_of dim) (length (members dim commands)) (length (members dim after)) (member_at commands) (member_at after) n
       (λ front. ap (option_map (keyed_row (key_of dim n))) (row_stays n front)) (none_past commands n) (none_past after n)
 

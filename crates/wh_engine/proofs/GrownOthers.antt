@@ -17,9 +17,9 @@ use Rattle.wh_history.specs.Tables.{member_rows, numbered_row, dimension_row, no
 use Rattle.wh_history.specs.declared.rows.DimRow.{DimRow}
 use Rattle.wh_history.specs.declared.facts.Fact.{Fact}
 use Rattle.wh_history.proofs.Batches.{member_same}
-use Rattle.wh_history.proofs.Stays.{policy_last, types-last, rows_stay}
+use Rattle.wh_history.proofs.Stays.{types-last, rows_stay}
 use Rattle.wh_history.proofs.Untouched.{mentions-last, described-last}
-use Rattle.wh_engine.specs.Defined.{calendar_at, fact_at, day_at}
+use Rattle.wh_engine.specs.Defined.{fact_at}
 use Rattle.wh_rows.specs.declared.key.LineKey.{LineKey}
 use Rattle.wh_engine.specs.Laws.{ShowsNoProfile}
 use Rattle.wh_engine.proofs.GrownKeys.{then_same}
@@ -95,10 +95,6 @@ module _ (dim : Dim) (commands : List Accepted) (c : Accepted) (rs : List Dimens
 
   pub plain_table_stays : (other : Dim) → same_dim other dim ≡ false → ShowsNoProfile commands other → (key : ℕ) → dimension_row after other key ≡ dimension_row commands other key
   plain_table_stays other apart plain key = in_table other (numbered_stays other apart (rows_by_types other apart plain)) key
-
-  -- the calendar stays
-  pub calendar_stays : (day : ℕ) → calendar_at after day ≡ calendar_at commands day
-  calendar_stays day = ap (option_and_then (λ policy. day_at policy day)) (policy_last None commands c no_policy)
 
   -- and where nothing was sold there is no fact
   pub sold_nothing : sold commands ≡ [] → sold after ≡ []

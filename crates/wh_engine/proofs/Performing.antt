@@ -95,7 +95,7 @@ module _ (limits : Limits) (commands : List Accepted) (c : Command) (dim : Dim) 
     may_write = a_batch_may_be_written limits commands added dim batch.records tables edits refl accepted ready.rests.are batch.edits_are
 
     written : AreOf limits (commands ++ added ∷ []) (with_all_edits edits tables)
-    written = a_batch_is_written limits commands added dim batch.records tables edits refl ready.rests.are batch.edits_are
+    written = a_batch_is_written limits commands added tables edits refl ready.rests.are batch.edits_are
 
     -- its edits were kept
     pub accept_performed : (new : State) → IsAtRest (Some (with_all_edits edits tables)) new → IsPerformed limits commands c (Ok (Accepts receipt)) session new

@@ -9,7 +9,7 @@ use Rattle.wh_policy.specs.declared.attribute.Dim.{Dim}
 use Rattle.wh_policy.specs.declared.attribute.Dim.TheVariants.{Product, Store, Customer}
 use Rattle.wh_policy.specs.declared.record.DimensionRecord.{DimensionRecord}
 use Rattle.wh_batch.specs.declared.kind.Kind.TheVariants.{Dimension}
-use Rattle.wh_history.specs.Accepted.{Accepted, Describes, policy_after, types_in, sold}
+use Rattle.wh_history.specs.Accepted.{Accepted, Describes, policy_after, types_in}
 use Rattle.wh_history.specs.Laws.{RecordsHaveDays, governs, mentions_member}
 use Rattle.wh_history.specs.Plan.{IsPlan, row_of}
 use Rattle.wh_history.specs.Tables.{Limits, dimension_row}
@@ -30,10 +30,10 @@ use Rattle.wh_engine.specs.Planning.{of_members, naturals_told, durables_touched
 abbrev pub ShowsNoProfile : List Accepted → Dim → Type 0
 ShowsNoProfile commands dim = list_any is_outrigger (types_in dim commands) ≡ false
 
--- From the tables of the commands so far the edits of a batch lead to those of the commands with it.
+-- From the tables of the commands so far the edits of a batch, of records or of sales, lead to those of the commands with it.
 abbrev pub BatchesAreWritten : Type 0
-BatchesAreWritten = (limits : Limits) (commands : List Accepted) (c : Accepted) (dim : Dim) (records : List DimensionRecord) (tables : Tables) (edits : Edits)
-    → c.content ≡ Describes dim records
+BatchesAreWritten = (limits : Limits) (commands : List Accepted) (c : Accepted) (tables : Tables) (edits : Edits)
+    → governs c.content ≡ false
     → AreOf limits commands tables
     → AreEdits commands c edits
     → AreOf limits (commands ++ c ∷ []) (with_all_edits edits tables)

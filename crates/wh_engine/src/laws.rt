@@ -7,8 +7,8 @@ ghost use Rattle.wh_engine.specs.Admission.{accepted_after};
 ghost use Rattle.wh_engine.specs.declared.command.Command.{Command};
 ghost use Rattle.wh_engine.specs.Laws.{AcceptedListsBegin, AcceptedListsStaySound, BatchesAreWritten, BatchesMayBeWritten, SoundPoliciesShowNone, TouchedRowsAfter, TouchedRowsAreThePlan, TouchedRowsBefore, UntouchedMembersKeep};
 
-/// From the tables of the commands so far the edits of a batch of products, stores or customers lead to those of
-/// the commands with it, in all ten tables, where nothing was sold yet.
+/// From the tables of the commands so far the edits of a batch of records or of sales lead to those of the commands with
+/// it, in all ten tables.
 pub fn a_batch_is_written()
     ensures { BatchesAreWritten }
 {}
