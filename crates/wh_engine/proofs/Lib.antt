@@ -59,4 +59,5 @@ pub mod PlanRows
 pub mod PlanProfiles
 pub mod PlanEdits
 pub mod Reopened
+pub mod Receipts
 pub mod Redelivered

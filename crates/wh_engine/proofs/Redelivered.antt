@@ -1,5 +1,5 @@
 -- A command that is sent again after a crash.
-use Rattle.std.proofs.Common.{◌≡◌, ◌⊎◌, inl, inr, List, Result, Ok, Err, sym, ap, subst}
+use Rattle.std.proofs.Common.{◌≡◌, ◌⊎◌, inl, inr, List, Result, Ok, Err, refl, sym, ap, subst}
 use Rattle.sqlite.specs.Tree.{Trees}
 use Rattle.sqlite.specs.State.{State}
 use Rattle.wh_history.specs.Accepted.{Accepted}
@@ -12,6 +12,7 @@ use Rattle.wh_engine.specs.declared.command.Reply.{Reply}
 use Rattle.wh_engine.specs.declared.fault.Fault.{Fault}
 use Rattle.wh_engine.specs.declared.fault.Fault.TheVariants as faults
 use Rattle.wh_engine.specs.declared.session.Session.{Session}
+use Rattle.wh_engine.proofs.Receipts.{told_again, refused_again}
 use Rattle.wh_engine.proofs.Repeats.{acts_once}
 
 left_of : (limits : Limits) (commands : List Accepted) (s : State) (trees : Trees) → Rests limits commands s → s.may_leave trees → AreTreesOf limits commands trees
@@ -43,8 +44,8 @@ module _ (limits : Limits) (commands : List Accepted) (c : Command) where
 
   -- the command was not there, and comes again
   pub from_before : (result : Result Reply Fault) (session : Session) (s : State) → IsAnswered limits commands c result session s → IsRedelivered limits commands c result session s
-  from_before (Ok reply) session s answered = answered.1
-  from_before (Err (faults.Refused why)) session s answered = subst (λ list. IsReady limits list session s) (sym (ap (after_answer commands c) answered.0)) answered.1
+  from_before (Ok reply) session s answered = (record { first = reply; said = answered.0; same = refl }, answered.1)
+  from_before (Err (faults.Refused why)) session s answered = (answered.0, subst (λ list. IsReady limits list session s) (sym (ap (after_answer commands c) answered.0)) answered.1)
   from_before (Err (faults.Damaged table)) session s answered = absurd answered
   from_before (Err faults.Memory) session s answered = inl answered
   from_before (Err (faults.Store cause)) session s answered = answered
@@ -62,8 +63,8 @@ module _ (limits : Limits) (commands : List Accepted) (c : Command) where
 
   -- it was there, and comes again
   pub from_after : (result : Result Reply Fault) (session : Session) (s : State) → IsAnswered limits after c result session s → IsRedelivered limits commands c result session s
-  from_after (Ok reply) session s answered = subst (λ list. IsReady limits list session s) once answered.1
-  from_after (Err (faults.Refused why)) session s answered = answered.1
+  from_after (Ok reply) session s answered = (told_again limits commands c reply answered.0, subst (λ list. IsReady limits list session s) once answered.1)
+  from_after (Err (faults.Refused why)) session s answered = (refused_again limits commands c why answered.0, answered.1)
   from_after (Err (faults.Damaged table)) session s answered = absurd answered
   from_after (Err faults.Memory) session s answered = inr answered
   from_after (Err (faults.Store cause)) session s answered = stopped_after session s answered

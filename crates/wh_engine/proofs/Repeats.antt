@@ -14,10 +14,10 @@ use Rattle.wh_engine.specs.declared.command.Reply.TheVariants.{Accepted as Accep
 use Rattle.wh_engine.specs.declared.command.Refused.{Refused}
 use Rattle.wh_engine.specs.declared.command.Refused.TheVariants.{BadId, Reused}
 
-abbrev first_or : Bool → Accepted → Option Accepted → Option Accepted
+abbrev pub first_or : Bool → Accepted → Option Accepted → Option Accepted
 first_or b a o = cond b (Some a) o
 
-find_last : (p : Accepted → Bool) (x : Accepted) (xs : List Accepted) → find p xs ≡ None → p x ≡ true → find p (xs ++ x ∷ []) ≡ Some x
+pub find_last : (p : Accepted → Bool) (x : Accepted) (xs : List Accepted) → find p xs ≡ None → p x ≡ true → find p (xs ++ x ∷ []) ≡ Some x
 find_last p x [] none passes = rw passes refl
 find_last p x (y ∷ ys) none passes =
     elim (p y) as (λ b. first_or b y (find p ys) ≡ None → first_or b y (find p (ys ++ x ∷ [])) ≡ Some x) [

@@ -41,7 +41,8 @@ pub fn restart<D: Crash + Drop>(
     }
 }
 
-/// Sends a command, stops the machine whatever was answered, opens the warehouse again and sends the command once more. It has acted once.
+/// Sends a command, stops the machine whatever was answered, opens the warehouse again and sends the command once more. It has acted once,
+/// and is told the receipt that it is told where nothing stops it.
 pub fn redeliver<D: Crash + Drop>(
     alloc: Global,
     mut engine: Engine<FileStore<D>>,

@@ -1,0 +1,112 @@
+-- A command that comes again is told its receipt.
+use Rattle.std.proofs.Common.{◌≡◌, ℕ, suc, Bool, true, false, cond, leb, ltb, ◌+◌, List, [], ◌∷◌, ◌++◌, length, map, Option, Some, None, Result, Ok, Err, refl, sym, ◌∙◌, ap}
+use Rattle.std.specs.Prelude.{find, bytes_eq}
+use Rattle.std.proofs.lemmas.Slice.Eq.{bytes_eq-Decides}
+use Rattle.wh_batch.proofs.GoodLemmas.{cond_ok}
+use Rattle.wh_batch.specs.declared.fault.BatchFault.{BatchFault}
+use Rattle.wh_history.specs.Accepted.{Accepted, Content, sold, sold_by}
+use Rattle.wh_history.specs.Keys.{place, after_one}
+use Rattle.wh_history.specs.Tables.{Limits}
+use Rattle.wh_rows.specs.Types.{is_key}
+use Rattle.wh_engine.specs.Admission.{kind_word, content_of, in_force, accepted_as, receipt_of, changes_in, first_line_there, with_lines, when_read, answer, with_content, after_answer, accepted_after}
+use Rattle.wh_engine.specs.Redelivered.{receipt_told, HasReceipt}
+use Rattle.wh_engine.specs.Sound.{changes_kept}
+use Rattle.wh_engine.specs.declared.command.Command.{Command}
+use Rattle.wh_engine.specs.declared.command.Limit.TheVariants.{Commands, Changes, Facts}
+use Rattle.wh_engine.specs.declared.command.Receipt.{Receipt}
+use Rattle.wh_engine.specs.declared.command.Reply.{Reply}
+use Rattle.wh_engine.specs.declared.command.Reply.TheVariants.{Accepted as Accepts, Already}
+use Rattle.wh_engine.specs.declared.command.Refused.{Refused}
+use Rattle.wh_engine.specs.declared.command.Refused.TheVariants.{Full}
+use Rattle.wh_engine.proofs.Repeats.{first_or, find_last, new_id}
+
+-- an id that is new stands last
+placed_last : (id : List ℕ) (commands : List Accepted) (x : Accepted) → find (λ (a : Accepted). bytes_eq a.id id) commands ≡ None → bytes_eq x.id id ≡ true
+    → place bytes_eq id (map (λ (b : Accepted). b.id) (commands ++ x ∷ [])) ≡ suc (length commands)
+placed_last id [] x none own = rw own refl
+placed_last id (y ∷ ys) x none own =
+    elim (bytes_eq y.id id) as (λ b. first_or b y (find (λ (a : Accepted). bytes_eq a.id id) ys) ≡ None → cond b 1 (after_one (place bytes_eq id (map (λ (a : Accepted). a.id) (ys ++ x ∷ [])))) ≡ suc (suc (length ys))) [
+      | true ↦ λ h. absurd cc
+      | false ↦ λ h. ap after_one (placed_last id ys x h own)
+    ] none
+
+module _ (limits : Limits) (commands : List Accepted) (c : Command) where
+  -- what an accepted content is told
+  module _ (content : Content) (receipt : Receipt) where
+    abbrev own_receipt : Receipt
+    own_receipt = receipt_of (commands ++ accepted_as c content ∷ []) (suc (length commands)) content
+
+    after_lines : (o : Option ℕ) → with_lines limits commands c content o ≡ Ok (Accepts receipt) → own_receipt ≡ receipt
+    after_lines (Some number) h = absurd cc
+    after_lines None h =
+        let (changes, rest) = cond_ok (ltb limits.changes (changes_kept commands + changes_in content)) (Full Changes) _ (Accepts receipt) h in
+        let (facts, last) = cond_ok (ltb limits.facts (length (sold commands) + length (sold_by content))) (Full Facts) _ (Accepts receipt) rest in
+        cc
+
+    receipt_is : when_read limits commands c (Ok content) ≡ Ok (Accepts receipt) → own_receipt ≡ receipt
+    receipt_is h =
+        let (few, rest) = cond_ok (leb limits.commands (length commands)) (Full Commands) _ (Accepts receipt) h in
+        after_lines (first_line_there (sold commands) 1 (sold_by content)) rest
+
+  abbrev found : Option Accepted
+  found = find (λ (a : Accepted). bytes_eq a.id c.id) commands
+
+  same_reply : (reply : Reply) → answer limits commands c ≡ Ok reply → HasReceipt limits commands c reply
+  same_reply reply is = record { first = reply; said = is; same = refl }
+
+  again_with : (content : Content) (receipt : Receipt) (reply : Reply) → content_of c.kind (in_force commands) c.bytes ≡ Ok content → is_key 40 c.id ≡ true → found ≡ None → answer limits commands c ≡ Ok (Accepts receipt)
+      → answer limits (commands ++ accepted_as c content ∷ []) c ≡ Ok reply → HasReceipt limits commands c reply
+  again_with content receipt reply told good new is again =
+      let id = (bytes_eq-Decides c.id c.id).1 refl in
+      let kind = (bytes_eq-Decides (kind_word c.kind) (kind_word c.kind)).1 refl in
+      let bytes = (bytes_eq-Decides c.bytes c.bytes).1 refl in
+      let there = find_last (λ (a : Accepted). bytes_eq a.id c.id) (accepted_as c content) commands new id in
+      let after = commands ++ accepted_as c content ∷ [] in
+      let number = place bytes_eq c.id (map (λ (b : Accepted). b.id) after) in
+      let known : Ok (Already (receipt_of after number content)) ≡ Ok reply = rw (good, there, kind, bytes) at again in
+      let reply_is : Already (receipt_of after number content) ≡ reply = cc in
+      let read : when_read limits commands c (Ok content) ≡ Ok (Accepts receipt) = rw (good, new, told) at is in
+      record {
+        first = Accepts receipt;
+        said = is;
+        same = ap receipt_told (sym reply_is) ∙ ap (λ n. receipt_of after n content) (placed_last c.id commands (accepted_as c content) new id) ∙ receipt_is content receipt read;
+      }
+
+  by_content : (read : Result Content BatchFault) (receipt : Receipt) (reply : Reply) → content_of c.kind (in_force commands) c.bytes ≡ read → is_key 40 c.id ≡ true → found ≡ None → answer limits commands c ≡ Ok (Accepts receipt)
+      → answer limits (with_content commands c read) c ≡ Ok reply → HasReceipt limits commands c reply
+  by_content (Err fault) receipt reply told good new is again = same_reply reply again
+  by_content (Ok content) receipt reply told good new is again = again_with content receipt reply told good new is again
+
+  by_answer : (a : Result Reply Refused) (reply : Reply) → answer limits commands c ≡ a → answer limits (after_answer commands c a) c ≡ Ok reply → HasReceipt limits commands c reply
+  by_answer (Ok (Already receipt)) reply is again = same_reply reply again
+  by_answer (Err why) reply is again = same_reply reply again
+  by_answer (Ok (Accepts receipt)) reply is again =
+      let new = new_id limits commands c (is_key 40 c.id) found receipt refl refl is in
+      by_content (content_of c.kind (in_force commands) c.bytes) receipt reply refl new.0 new.1 is again
+
+  pub told_again : (reply : Reply) → answer limits (accepted_after limits commands c) c ≡ Ok reply → HasReceipt limits commands c reply
+  told_again reply again = by_answer (answer limits commands c) reply refl again
+
+  -- and what is refused then was refused before
+  not_refused : (content : Content) (why : Refused) → is_key 40 c.id ≡ true → found ≡ None → answer limits (commands ++ accepted_as c content ∷ []) c ≡ Err why → answer limits commands c ≡ Err why
+  not_refused content why good new again =
+      let id = (bytes_eq-Decides c.id c.id).1 refl in
+      let kind = (bytes_eq-Decides (kind_word c.kind) (kind_word c.kind)).1 refl in
+      let bytes = (bytes_eq-Decides c.bytes c.bytes).1 refl in
+      let there = find_last (λ (a : Accepted). bytes_eq a.id c.id) (accepted_as c content) commands new id in
+      let known = rw (good, there, kind, bytes) at again in
+      absurd cc
+
+  refused_content : (read : Result Content BatchFault) (why : Refused) → is_key 40 c.id ≡ true → found ≡ None → answer limits (with_content commands c read) c ≡ Err why → answer limits commands c ≡ Err why
+  refused_content (Err fault) why good new again = again
+  refused_content (Ok content) why good new again = not_refused content why good new again
+
+  refused_by : (a : Result Reply Refused) (why : Refused) → answer limits commands c ≡ a → answer limits (after_answer commands c a) c ≡ Err why → answer limits commands c ≡ Err why
+  refused_by (Ok (Already receipt)) why is again = again
+  refused_by (Err other) why is again = again
+  refused_by (Ok (Accepts receipt)) why is again =
+      let new = new_id limits commands c (is_key 40 c.id) found receipt refl refl is in
+      refused_content (content_of c.kind (in_force commands) c.bytes) why new.0 new.1 again
+
+  pub refused_again : (why : Refused) → answer limits (accepted_after limits commands c) c ≡ Err why → answer limits commands c ≡ Err why
+  refused_again why again = refused_by (answer limits commands c) why refl again
