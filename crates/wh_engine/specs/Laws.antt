@@ -1,5 +1,5 @@
 -- What holds of every batch.
-use Rattle.std.specs.Prelude.{◌≡◌, ◌≢◌, ◌↔◌, ℕ, true, false, List, [], ◌∷◌, ◌++◌, Some, None, Ok}
+use Rattle.std.specs.Prelude.{◌≡◌, ◌≢◌, ◌↔◌, ℕ, true, false, List, [], ◌∷◌, ◌++◌, Some, None, Ok, option_map, unwrap_or}
 use Rattle.std.specs.List.{list_any}
 use Rattle.wh_policy.specs.Policy.{policy_at}
 use Rattle.wh_policy.specs.Types.{is_outrigger}
@@ -8,11 +8,16 @@ use Rattle.wh_policy.specs.declared.policy.Policy.{Policy}
 use Rattle.wh_policy.specs.declared.attribute.Dim.{Dim}
 use Rattle.wh_policy.specs.declared.attribute.Dim.TheVariants.{Product, Store, Customer}
 use Rattle.wh_policy.specs.declared.record.DimensionRecord.{DimensionRecord}
+use Rattle.wh_policy.specs.declared.record.SaleRecord.{SaleRecord}
 use Rattle.wh_batch.specs.declared.kind.Kind.TheVariants.{Dimension}
-use Rattle.wh_history.specs.Accepted.{Accepted, Describes, policy_after, types_in}
+use Rattle.wh_history.specs.Accepted.{Accepted, Describes, policy_after, types_in, profiles_of, changes_of, member_of_sale, sold}
+use Rattle.wh_history.specs.Dated.{dated}
+use Rattle.wh_history.specs.Facts.{new_keys}
+use Rattle.wh_history.specs.Keys.{at_place}
 use Rattle.wh_history.specs.Laws.{RecordsHaveDays, governs, mentions_member}
 use Rattle.wh_history.specs.Plan.{IsPlan, row_of}
-use Rattle.wh_history.specs.Tables.{Limits, dimension_row}
+use Rattle.wh_history.specs.Tables.{Limits, dimension_row, member_rows, fact_of}
+use Rattle.wh_history.specs.declared.facts.Fact.{Fact}
 use Rattle.wh_history.specs.declared.plan.Edit.{Edit}
 use Rattle.wh_history.specs.declared.rows.DimRow.{DimRow}
 use Rattle.wh_rows.specs.Limits.{are_limits}
@@ -94,3 +99,16 @@ TouchedRowsAfter = (commands : List Accepted) (c : Accepted) (dim : Dim) (record
     → c.content ≡ Describes dim records
     → RecordsHaveDays (commands ++ c ∷ [])
     → row_of key (rows_of_members (commands ++ c ∷ []) dim (naturals_told records)) ≡ of_members (durables_touched dim commands (commands ++ c ∷ []) records) (dimension_row (commands ++ c ∷ []) dim key)
+
+-- a fact with the keys that its member's rows of a dimension give it, and the profile of its day where that is customer; a sale without a card keeps its zeros
+abbrev pub followed : List Accepted → Dim → SaleRecord → Fact → Fact
+followed commands dim s f =
+    unwrap_or (option_map (λ natural. record f { keys = new_keys (types_in dim commands) (profiles_of commands) dim (member_rows commands dim natural) (dated (changes_of dim commands natural)) f }) (member_of_sale dim s)) f
+
+-- Behind a batch of records each stored fact has the keys that its member's rows of that dimension then give it, and its other keys as they were.
+abbrev pub FactsFollow : Type 0
+FactsFollow = (commands : List Accepted) (c : Accepted) (dim : Dim) (records : List DimensionRecord) (number : ℕ) (s : SaleRecord)
+    → c.content ≡ Describes dim records
+    → (dim ≡ Customer → ShowsNoProfile commands Product × ShowsNoProfile commands Store)
+    → at_place number (sold commands) ≡ Some s
+    → fact_of (commands ++ c ∷ []) s ≡ followed (commands ++ c ∷ []) dim s (fact_of commands s)
