@@ -1,5 +1,5 @@
 -- Stored facts under a batch of records.
-use Rattle.std.proofs.Common.{◌≡◌, ℕ, ◌<◌, true, false, List, [], ◌∷◌, ◌++◌, map, Option, Some, None, refl, ap, ◌∙◌}
+use Rattle.std.proofs.Common.{◌≡◌, ℕ, ◌<◌, true, false, List, [], ◌∷◌, ◌++◌, map, Some, None, refl, ap, ◌∙◌}
 use Rattle.std.specs.Prelude.{bytes_eq, flat_map, option_map}
 use Rattle.std.specs.List.{AllByRecursion, list_any}
 use Rattle.std.proofs.lemmas.Slice.Eq.{bytes_eq-Decides}
@@ -10,7 +10,6 @@ use Rattle.wh_policy.specs.declared.record.SaleRecord.{SaleRecord}
 use Rattle.wh_history.specs.Accepted.{Accepted, Anchor, Describes, same_dim, same_anchor, opening_of, member_of_sale, anchors_of_record, anchors_of_sale, anchors_by, described_by, sold_by, sold, mentions, durable_key, member_of, types_in, profiles_of}
 use Rattle.wh_history.specs.Dated.{at, dated}
 use Rattle.wh_history.specs.Facts.{key_in}
-use Rattle.wh_history.specs.Keys.{at_place}
 use Rattle.wh_history.specs.Laws.{governs}
 use Rattle.wh_history.specs.Profiles.{current_profile}
 use Rattle.wh_history.specs.Tables.{member_rows, key_at, profile_at, fact_of}
@@ -27,7 +26,7 @@ use Rattle.wh_engine.proofs.GrownOthers.{member_stays, rows_by_profiles, rows_by
 -- ---- the members that a sale names are mentioned
 
 module _ (dim : Dim) where
-  abbrev Names : List Anchor → SaleRecord → Type 0
+  abbrev pub Names : List Anchor → SaleRecord → Type 0
   Names mentioned s = (natural : List ℕ) → member_of_sale dim s ≡ Some natural → list_any (λ a. same_anchor a (opening_of natural)) mentioned ≡ true
 
   names_itself : (s : SaleRecord) → Names (anchors_of_sale dim s) s
@@ -38,7 +37,7 @@ module _ (dim : Dim) where
   names_in_sales (s ∷ sales) = (
     λ natural is. any_left (λ a. same_anchor a (opening_of natural)) (anchors_of_sale dim s) (flat_map (anchors_of_sale dim) sales) (names_itself s natural is),
     all_weaker (Names (flat_map (anchors_of_sale dim) sales)) (Names (flat_map (anchors_of_sale dim) (s ∷ sales)))
-    (λ q named natural is. any_right (λ a. same_anchor a (opening_of natural)) (anchors_of_sale dim s) (flat_map (anchors_of_sale dim) sales) (named natural is)) sales (names_in_sales sales),
+        (λ q named natural is. any_right (λ a. same_anchor a (opening_of natural)) (anchors_of_sale dim s) (flat_map (anchors_of_sale dim) sales) (named natural is)) sales (names_in_sales sales),
   )
 
   names_in_all : (cs : List Accepted) → AllByRecursion (Names (mentions dim cs)) (sold cs)
@@ -53,20 +52,30 @@ module _ (dim : Dim) where
       (all_weaker (Names here) (Names (mentions dim (c ∷ cs))) (λ q named natural is. any_left (λ a. same_anchor a (opening_of natural)) here (mentions dim cs) (named natural is)) (sold_by c.content) in_command)
       (all_weaker (Names (mentions dim cs)) (Names (mentions dim (c ∷ cs))) (λ q named natural is. any_right (λ a. same_anchor a (opening_of natural)) here (mentions dim cs) (named natural is)) (sold cs) (names_in_all cs))
 
+-- each of the three that a sale names is mentioned
+abbrev pub Named : List Accepted → SaleRecord → Type 0
+Named commands s = (dim : Dim) → Names dim (mentions dim commands) s
+
+in_each : (mentioned : Dim → List Anchor) (sales : List SaleRecord) → ((dim : Dim) → AllByRecursion (Names dim (mentioned dim)) sales) → AllByRecursion (λ s. (dim : Dim) → Names dim (mentioned dim) s) sales
+in_each mentioned [] each = tt
+in_each mentioned (s ∷ sales) each = (λ dim. (each dim).0, in_each mentioned sales (λ dim. (each dim).1))
+
+pub all_named : (commands : List Accepted) → AllByRecursion (Named commands) (sold commands)
+all_named commands = in_each (λ dim. mentions dim commands) (sold commands) (λ dim. names_in_all dim commands)
+
 -- ---- what stays
 
-module _ (commands : List Accepted) (c : Accepted) (number : ℕ) (s : SaleRecord) (there : at_place number (sold commands) ≡ Some s) where
+module _ (commands : List Accepted) (c : Accepted) (s : SaleRecord) (named : Named commands s) where
   abbrev after : List Accepted
   after = commands ++ c ∷ []
 
-  durable_kept : (dim : Dim) (natural : List ℕ) → member_of_sale dim s ≡ Some natural → durable_key dim after natural ≡ durable_key dim commands natural
+  pub durable_kept : (dim : Dim) (natural : List ℕ) → member_of_sale dim s ≡ Some natural → durable_key dim after natural ≡ durable_key dim commands natural
   durable_kept dim natural is =
-      let named = all_at (Names dim (mentions dim commands)) number (sold commands) s (names_in_all dim commands) there natural is in
       let owned : 0 < durable_key dim commands natural =
-      place-distinct_given bytes_eq bytes_eq-Decides natural (map (λ (a : Anchor). a.natural) (mentions dim commands)) (natural_among (opening_of natural) (mentions dim commands) named) in
+      place-distinct_given bytes_eq bytes_eq-Decides natural (map (λ (a : Anchor). a.natural) (mentions dim commands)) (natural_among (opening_of natural) (mentions dim commands) (named dim natural is)) in
       durable_stays dim commands (c ∷ []) natural owned
 
-  customer_kept : option_map (durable_key Customer after) s.customer ≡ option_map (durable_key Customer commands) s.customer
+  pub customer_kept : option_map (durable_key Customer after) s.customer ≡ option_map (durable_key Customer commands) s.customer
   customer_kept = map_same (durable_key Customer after) (durable_key Customer commands) s.customer (λ natural is. durable_kept Customer natural is)
 
   module _ (dim : Dim) (rs : List DimensionRecord) (is : c.content ≡ Describes dim rs) (plain : (other : Dim) → same_dim other dim ≡ false → same_dim Customer dim ≡ true → ShowsNoProfile commands other) where
@@ -102,31 +111,34 @@ shown_in Customer commands shown Customer apart here = absurd cc
 pub facts_follow : FactsFollow
 facts_follow commands c Product rs number s is shown there =
     let plain = shown_in Product commands shown in
+    let named = all_at (Named commands) number (sold commands) s (all_named commands) there in
     rw (
-      key_kept commands c number s there Product rs is plain Store refl s.store,
-      customers_kept commands c number s there Product rs is plain refl,
-      profiles_kept commands c number s there Product rs is plain refl,
-      durable_kept commands c number s there Product s.product refl,
-      durable_kept commands c number s there Store s.store refl,
-      customer_kept commands c number s there,
+      key_kept commands c s named Product rs is plain Store refl s.store,
+      customers_kept commands c s named Product rs is plain refl,
+      profiles_kept commands c s named Product rs is plain refl,
+      durable_kept commands c s named Product s.product refl,
+      durable_kept commands c s named Store s.store refl,
+      customer_kept commands c s named,
     ) refl
 facts_follow commands c Store rs number s is shown there =
     let plain = shown_in Store commands shown in
+    let named = all_at (Named commands) number (sold commands) s (all_named commands) there in
     rw (
-      key_kept commands c number s there Store rs is plain Product refl s.product,
-      customers_kept commands c number s there Store rs is plain refl,
-      profiles_kept commands c number s there Store rs is plain refl,
-      durable_kept commands c number s there Product s.product refl,
-      durable_kept commands c number s there Store s.store refl,
-      customer_kept commands c number s there,
+      key_kept commands c s named Store rs is plain Product refl s.product,
+      customers_kept commands c s named Store rs is plain refl,
+      profiles_kept commands c s named Store rs is plain refl,
+      durable_kept commands c s named Product s.product refl,
+      durable_kept commands c s named Store s.store refl,
+      customer_kept commands c s named,
     ) refl
 facts_follow commands c Customer rs number s is shown there =
     let plain = shown_in Customer commands shown in
-    let products = key_kept commands c number s there Customer rs is plain Product refl s.product in
-    let stores = key_kept commands c number s there Customer rs is plain Store refl s.store in
-    let product = durable_kept commands c number s there Product s.product refl in
-    let store = durable_kept commands c number s there Store s.store refl in
-    let customer = customer_kept commands c number s there in
+    let named = all_at (Named commands) number (sold commands) s (all_named commands) there in
+    let products = key_kept commands c s named Customer rs is plain Product refl s.product in
+    let stores = key_kept commands c s named Customer rs is plain Store refl s.store in
+    let product = durable_kept commands c s named Product s.product refl in
+    let store = durable_kept commands c s named Store s.store refl in
+    let customer = customer_kept commands c s named in
     elim s.customer as (λ o. (s.customer ≡ o) → fact_of (commands ++ c ∷ []) s ≡ followed (commands ++ c ∷ []) Customer s (fact_of commands s)) [
       | None ↦ λ none. rw (products, stores, product, store, none) refl
       | Some natural ↦ λ some. rw (products, stores, product, store, customer, some) refl

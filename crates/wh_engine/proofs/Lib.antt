@@ -62,3 +62,4 @@ pub mod Reopened
 pub mod Receipts
 pub mod Redelivered
 pub mod Following
+pub mod Selling
