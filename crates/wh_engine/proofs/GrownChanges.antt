@@ -40,7 +40,7 @@ all_parts P f [] all = tt
 all_parts P f (x ∷ xs) all = let parts = all_apart P (f x) (flat_map f xs) all in (parts.0, all_parts P f xs parts.1)
 
 -- whose anchor is mentioned is mentioned
-natural_among : (x : Anchor) (ms : List Anchor) → list_any (λ a. same_anchor a x) ms ≡ true → list_any (λ n. bytes_eq n x.natural) (map (λ (a : Anchor). a.natural) ms) ≡ true
+pub natural_among : (x : Anchor) (ms : List Anchor) → list_any (λ a. same_anchor a x) ms ≡ true → list_any (λ n. bytes_eq n x.natural) (map (λ (a : Anchor). a.natural) ms) ≡ true
 natural_among x [] h = cc
 natural_among x (a ∷ ms) h =
     elim (bytes_eq a.natural x.natural) as (λ b. (b && same_day a.day x.day || list_any (λ a. same_anchor a x) ms) ≡ true → (b || list_any (λ n. bytes_eq n x.natural) (map (λ (a : Anchor). a.natural) ms)) ≡ true) [

@@ -32,7 +32,7 @@ opened_both here rest front back =
     (all_weaker (Opened here) (Opened (here ++ rest)) (λ a t. any_left (λ b. same_anchor b (opening_of a.natural)) here rest t) here front)
     (all_weaker (Opened rest) (Opened (here ++ rest)) (λ a t. any_right (λ b. same_anchor b (opening_of a.natural)) here rest t) rest back)
 
-opens_itself : (natural : List ℕ) → same_anchor (opening_of natural) (opening_of natural) ≡ true
+pub opens_itself : (natural : List ℕ) → same_anchor (opening_of natural) (opening_of natural) ≡ true
 opens_itself natural = (anchors_decide (opening_of natural) (opening_of natural)).1 refl
 
 opened_by_records : (rs : List DimensionRecord) → AllByRecursion (Opened (flat_map anchors_of_record rs)) (flat_map anchors_of_record rs)

@@ -1,5 +1,5 @@
 -- What a batch of one dimension leaves as it was.
-use Rattle.std.proofs.Common.{◌≡◌, ℕ, zero, suc, ◌==◌, true, false, ◌&&◌, List, [], ◌∷◌, ◌++◌, Option, Some, None, refl, sym, ◌∙◌, ap, append-nil}
+use Rattle.std.proofs.Common.{◌≡◌, ℕ, zero, suc, ◌==◌, true, false, ◌&&◌, List, [], ◌∷◌, ◌++◌, Option, Some, refl, sym, ◌∙◌, ap, append-nil}
 use Rattle.std.specs.Prelude.{find, bytes_eq, option_map}
 use Rattle.std.specs.Option.{option_and_then}
 use Rattle.std.specs.List.{list_any}
@@ -56,20 +56,20 @@ module _ (dim : Dim) (commands : List Accepted) (c : Accepted) (rs : List Dimens
     described_stays : described other after ≡ described other commands
     described_stays = described-last other commands c ∙ ap (λ ds. described other commands ++ ds) (ap (described_by other) is ∙ silent dim other rs apart) ∙ append-nil (described other commands)
 
-    member_stays : (natural : List ℕ) → member_of other after natural ≡ member_of other commands natural
+    pub member_stays : (natural : List ℕ) → member_of other after natural ≡ member_of other commands natural
     member_stays natural = member_same other after commands mentions_stay described_stays natural
 
     no_mention : (natural : List ℕ) → mentions_member other c natural ≡ false
     no_mention natural = ap (list_any (λ (a : Anchor). bytes_eq a.natural natural)) (ap (anchors_by other) is ∙ unmentioned dim other rs apart)
 
     -- its members keep their rows where no profile is new, and where rows show none
-    rows_by_profiles : profiles_of after ≡ profiles_of commands → (natural : List ℕ) → member_rows after other natural ≡ member_rows commands other natural
+    pub rows_by_profiles : profiles_of after ≡ profiles_of commands → (natural : List ℕ) → member_rows after other natural ≡ member_rows commands other natural
     rows_by_profiles numbered natural =
         ap (λ kinds. rows kinds (profiles_of after) (member_of other after natural)) (types-last other commands c no_policy)
         ∙ ap (λ combinations. rows (types_in other commands) combinations (member_of other after natural)) numbered
         ∙ ap (rows (types_in other commands) (profiles_of commands)) (member_stays natural)
 
-    rows_by_types : ShowsNoProfile commands other → (natural : List ℕ) → member_rows after other natural ≡ member_rows commands other natural
+    pub rows_by_types : ShowsNoProfile commands other → (natural : List ℕ) → member_rows after other natural ≡ member_rows commands other natural
     rows_by_types plain natural = rows_stay commands c no_policy other natural plain (no_mention natural)
 
     numbered_stays : ((natural : List ℕ) → member_rows after other natural ≡ member_rows commands other natural) → (key : ℕ) → numbered_row after other key ≡ numbered_row commands other key
@@ -84,7 +84,7 @@ module _ (dim : Dim) (commands : List Accepted) (c : Accepted) (rs : List Dimens
   in_table Customer stays zero = ap (λ kinds. Some (no_card_row kinds)) (types-last Customer commands c no_policy)
   in_table Customer stays (suc n) = stays (suc n)
 
-  profiles_stay : same_dim Customer dim ≡ false → profiles_of after ≡ profiles_of commands
+  pub profiles_stay : same_dim Customer dim ≡ false → profiles_of after ≡ profiles_of commands
   profiles_stay apart =
       ap (λ kinds. combinations_of kinds (described Customer after)) (types-last Customer commands c no_policy)
       ∙ ap (combinations_of (types_in Customer commands)) (described_stays Customer apart)

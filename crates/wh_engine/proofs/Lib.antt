@@ -61,3 +61,5 @@ pub mod PlanEdits
 pub mod Reopened
 pub mod Receipts
 pub mod Redelivered
+pub mod Following
+pub mod Selling

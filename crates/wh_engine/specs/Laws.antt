@@ -1,6 +1,6 @@
 -- What holds of every batch.
-use Rattle.std.specs.Prelude.{◌≡◌, ◌≢◌, ◌↔◌, ℕ, true, false, List, [], ◌∷◌, ◌++◌, Some, None, Ok}
-use Rattle.std.specs.List.{list_any}
+use Rattle.std.specs.Prelude.{◌≡◌, ◌≢◌, ◌↔◌, ℕ, true, false, List, [], ◌∷◌, ◌++◌, Some, None, Ok, option_map, unwrap_or, map, bytes_eq, Bool, ◌&&◌, ◌==◌}
+use Rattle.std.specs.List.{list_any, AllByRecursion, IsDistinct}
 use Rattle.wh_policy.specs.Policy.{policy_at}
 use Rattle.wh_policy.specs.Types.{is_outrigger}
 use Rattle.wh_policy.specs.Written.{IsSound}
@@ -8,18 +8,23 @@ use Rattle.wh_policy.specs.declared.policy.Policy.{Policy}
 use Rattle.wh_policy.specs.declared.attribute.Dim.{Dim}
 use Rattle.wh_policy.specs.declared.attribute.Dim.TheVariants.{Product, Store, Customer}
 use Rattle.wh_policy.specs.declared.record.DimensionRecord.{DimensionRecord}
+use Rattle.wh_policy.specs.declared.record.SaleRecord.{SaleRecord}
 use Rattle.wh_batch.specs.declared.kind.Kind.TheVariants.{Dimension}
-use Rattle.wh_history.specs.Accepted.{Accepted, Describes, policy_after, types_in}
+use Rattle.wh_history.specs.Accepted.{Accepted, Describes, Sells, policy_after, types_in, profiles_of, changes_of, member_of_sale, sold}
+use Rattle.wh_history.specs.Dated.{dated}
+use Rattle.wh_history.specs.Facts.{new_keys}
+use Rattle.wh_history.specs.Keys.{at_place}
 use Rattle.wh_history.specs.Laws.{RecordsHaveDays, governs, mentions_member}
 use Rattle.wh_history.specs.Plan.{IsPlan, row_of}
-use Rattle.wh_history.specs.Tables.{Limits, dimension_row}
+use Rattle.wh_history.specs.Tables.{Limits, dimension_row, member_rows, fact_of}
+use Rattle.wh_history.specs.declared.facts.Fact.{Fact}
 use Rattle.wh_history.specs.declared.plan.Edit.{Edit}
 use Rattle.wh_history.specs.declared.rows.DimRow.{DimRow}
 use Rattle.wh_rows.specs.Limits.{are_limits}
 use Rattle.wh_rows.specs.Tables.{Tables}
-use Rattle.wh_engine.specs.Defined.{AreOf}
+use Rattle.wh_engine.specs.Defined.{fact_at, AreOf}
 use Rattle.wh_engine.specs.Made.{making_of}
-use Rattle.wh_engine.specs.Planned.{Edits, with_all_edits, AreEdits}
+use Rattle.wh_engine.specs.Planned.{Edits, with_all_edits, AreFacts, AreEdits}
 use Rattle.wh_engine.specs.Sound.{IsAccepted}
 use Rattle.wh_engine.specs.Admission.{accepted_after}
 use Rattle.wh_engine.specs.declared.command.Command.{Command}
@@ -94,3 +99,28 @@ TouchedRowsAfter = (commands : List Accepted) (c : Accepted) (dim : Dim) (record
     → c.content ≡ Describes dim records
     → RecordsHaveDays (commands ++ c ∷ [])
     → row_of key (rows_of_members (commands ++ c ∷ []) dim (naturals_told records)) ≡ of_members (durables_touched dim commands (commands ++ c ∷ []) records) (dimension_row (commands ++ c ∷ []) dim key)
+
+-- a fact with the keys that its member's rows of a dimension give it, and the profile of its day where that is customer; a sale without a card keeps its zeros
+abbrev pub followed : List Accepted → Dim → SaleRecord → Fact → Fact
+followed commands dim s f =
+    unwrap_or (option_map (λ natural. record f { keys = new_keys (types_in dim commands) (profiles_of commands) dim (member_rows commands dim natural) (dated (changes_of dim commands natural)) f }) (member_of_sale dim s)) f
+
+-- Behind a batch of records each stored fact has the keys that its member's rows of that dimension then give it, and its other keys as they were.
+abbrev pub FactsFollow : Type 0
+FactsFollow = (commands : List Accepted) (c : Accepted) (dim : Dim) (records : List DimensionRecord) (number : ℕ) (s : SaleRecord)
+    → c.content ≡ Describes dim records
+    → (dim ≡ Customer → ShowsNoProfile commands Product × ShowsNoProfile commands Store)
+    → at_place number (sold commands) ≡ Some s
+    → fact_of (commands ++ c ∷ []) s ≡ followed (commands ++ c ∷ []) dim s (fact_of commands s)
+
+-- two sales have one line of one ticket
+abbrev pub same_line : SaleRecord → SaleRecord → Bool
+same_line a b = bytes_eq b.ticket a.ticket && (b.line == a.line)
+
+-- The facts of a batch of sales whose lines are new, no two of them the same, are exactly what leads to the facts of the commands with it: each fact that was there stays as it was.
+abbrev pub SalesAreFacts : Type 0
+SalesAreFacts = (commands : List Accepted) (c : Accepted) (sales : List SaleRecord)
+    → c.content ≡ Sells sales
+    → AllByRecursion (λ s. fact_at commands (record { ticket = s.ticket; line = s.line }) ≡ None) sales
+    → IsDistinct same_line sales
+    → AreFacts (fact_at commands) (fact_at (commands ++ c ∷ [])) (map (fact_of (commands ++ c ∷ [])) sales)

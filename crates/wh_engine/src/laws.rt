@@ -5,7 +5,7 @@ ghost use Rattle.wh_history.specs.Accepted.{Accepted};
 ghost use Rattle.wh_history.specs.Tables.{Limits};
 ghost use Rattle.wh_engine.specs.Admission.{accepted_after};
 ghost use Rattle.wh_engine.specs.declared.command.Command.{Command};
-ghost use Rattle.wh_engine.specs.Laws.{AcceptedListsBegin, AcceptedListsStaySound, BatchesAreWritten, BatchesMayBeWritten, SoundPoliciesShowNone, TouchedRowsAfter, TouchedRowsAreThePlan, TouchedRowsBefore, UntouchedMembersKeep};
+ghost use Rattle.wh_engine.specs.Laws.{AcceptedListsBegin, AcceptedListsStaySound, BatchesAreWritten, BatchesMayBeWritten, FactsFollow, SalesAreFacts, SoundPoliciesShowNone, TouchedRowsAfter, TouchedRowsAreThePlan, TouchedRowsBefore, UntouchedMembersKeep};
 
 /// From the tables of the commands so far the edits of a batch of records or of sales lead to those of the commands with
 /// it, in all ten tables.
@@ -49,4 +49,16 @@ pub fn touched_rows_are_the_plan()
     ensures plan { TouchedRowsAreThePlan }
     ensures before { TouchedRowsBefore }
     ensures after { TouchedRowsAfter }
+{}
+
+/// Behind a batch of records each stored fact has the keys that its member's rows of that dimension then give it, and its
+/// other keys as they were. A late record moves facts of its own member alone.
+pub fn facts_follow()
+    ensures { FactsFollow }
+{}
+
+/// The facts of a batch of sales whose lines are new, no two of them the same, are exactly what leads to the facts of the
+/// commands with it: each fact that was there stays as it was.
+pub fn sales_are_facts()
+    ensures { SalesAreFacts }
 {}

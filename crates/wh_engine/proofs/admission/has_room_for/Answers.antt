@@ -1,4 +1,4 @@
-use Rattle.std.proofs.Common.{◌∙◌, ◌≤◌, arith}
+use Rattle.std.proofs.Common.{◌∙◌, arith}
 use Rattle.wh_engine.specs.Sound.{changes_kept}
 use Rattle.wh_engine.proofs.ListedChanges.{changes_counted}
 use Rattle.wh_engine.proofs.Decisions.{room_left}
