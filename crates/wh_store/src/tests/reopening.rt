@@ -63,6 +63,9 @@ fn a_restart_finds_what_was_committed(rt: HostRuntime) -> Result<(), Fail> {
 fn files_hold_what_was_committed(rt: HostRuntime) -> Result<(), Fail> {
     let alloc = rt.alloc();
     let files = into_files(with_store(alloc, blank(alloc)?)?.close());
+    if !files.may_be_used() {
+        return Err(Fail::from("files that can't be used"));
+    }
     match Connection::open_files(alloc, files, Options::new(2)) {
         Ok(conn) => assert!(rt; has_store(alloc, conn)?),
         Err((error, _)) => return Err(Fail::from(error)),
