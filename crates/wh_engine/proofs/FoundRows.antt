@@ -38,7 +38,7 @@ module _ (commands : List Accepted) where
   row_key Customer zero r is = sym (ap (λ (q : DimRow). q.surrogate) (some_is _ _ is))
   row_key Customer (suc n) r is = numbered_key Customer (suc n) r is
 
-  row_past : (dim : Dim) (key : ℕ) → length (anchors dim commands) < key → dimension_row commands dim key ≡ None
+  pub row_past : (dim : Dim) (key : ℕ) → length (anchors dim commands) < key → dimension_row commands dim key ≡ None
   row_past Product key past = numbered_past Product key past
   row_past Store key past = numbered_past Store key past
   row_past Customer zero past = absurd (omega arith)

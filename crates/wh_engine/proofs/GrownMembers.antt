@@ -23,7 +23,7 @@ use Rattle.wh_engine.proofs.GrownOthers.{same_dim_is, mentions_stay}
 
 -- ---- each member's opening is mentioned
 
-abbrev Opened : List Anchor → Anchor → Type 0
+abbrev pub Opened : List Anchor → Anchor → Type 0
 Opened mentioned a = list_any (λ b. same_anchor b (opening_of a.natural)) mentioned ≡ true
 
 opened_both : (here rest : List Anchor) → AllByRecursion (Opened here) here → AllByRecursion (Opened rest) rest → AllByRecursion (Opened (here ++ rest)) (here ++ rest)

@@ -63,3 +63,4 @@ pub mod Receipts
 pub mod Redelivered
 pub mod Following
 pub mod Selling
+pub mod Placeholders

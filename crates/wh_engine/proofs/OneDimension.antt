@@ -23,7 +23,7 @@ use Rattle.wh_engine.proofs.GrownPlain.{sound_policies_show_none}
 
 -- ---- no edit
 
-none_needed : (key : ℕ) (old new : Option DimRow) → new ≡ old → Needs key old new None
+pub none_needed : (key : ℕ) (old new : Option DimRow) → new ≡ old → Needs key old new None
 none_needed key None None is = refl
 none_needed key None (Some new) is = absurd cc
 none_needed key (Some old) None is = absurd cc

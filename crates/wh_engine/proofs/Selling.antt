@@ -38,7 +38,7 @@ module _ (commands : List Accepted) (c : Accepted) (sales : List SaleRecord) (is
   abbrev after : List Accepted
   after = commands ++ c ∷ []
 
-  batch : governs c.content ≡ false
+  pub batch : governs c.content ≡ false
   batch = ap governs is
 
   sold_more : sold after ≡ sold commands ++ sales
@@ -83,7 +83,7 @@ module _ (commands : List Accepted) (c : Accepted) (sales : List SaleRecord) (is
       let given : 0 < surrogate_key dim commands (opening_of natural) = place-distinct_given same_anchor anchors_decide (opening_of natural) (mentions dim commands) named in
       rw (durable_stays dim commands (c ∷ []) natural owned, surrogate_stays dim commands (c ∷ []) (opening_of natural) given, changes_kept dim natural) refl
 
-  rows_kept : (dim : Dim) (natural : List ℕ) → list_any (λ a. same_anchor a (opening_of natural)) (mentions dim commands) ≡ true → member_rows after dim natural ≡ member_rows commands dim natural
+  pub rows_kept : (dim : Dim) (natural : List ℕ) → list_any (λ a. same_anchor a (opening_of natural)) (mentions dim commands) ≡ true → member_rows after dim natural ≡ member_rows commands dim natural
   rows_kept dim natural named =
       ap (λ kinds. rows kinds (profiles_of after) (member_of dim after natural)) (types-last dim commands c batch)
       ∙ ap (λ combinations. rows (types_in dim commands) combinations (member_of dim after natural)) profiles_kept

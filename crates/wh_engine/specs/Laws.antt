@@ -1,5 +1,5 @@
 -- What holds of every batch.
-use Rattle.std.specs.Prelude.{◌≡◌, ◌≢◌, ◌↔◌, ℕ, true, false, List, [], ◌∷◌, ◌++◌, Some, None, Ok, option_map, unwrap_or, map, bytes_eq, Bool, ◌&&◌, ◌==◌}
+use Rattle.std.specs.Prelude.{◌≡◌, ◌≢◌, ◌↔◌, ℕ, true, false, List, [], ◌∷◌, ◌++◌, Some, None, Ok, option_map, unwrap_or, map, filter_map, length, bytes_eq, Bool, ◌&&◌, ◌==◌}
 use Rattle.std.specs.List.{list_any, AllByRecursion, IsDistinct}
 use Rattle.wh_policy.specs.Policy.{policy_at}
 use Rattle.wh_policy.specs.Types.{is_outrigger}
@@ -10,7 +10,7 @@ use Rattle.wh_policy.specs.declared.attribute.Dim.TheVariants.{Product, Store, C
 use Rattle.wh_policy.specs.declared.record.DimensionRecord.{DimensionRecord}
 use Rattle.wh_policy.specs.declared.record.SaleRecord.{SaleRecord}
 use Rattle.wh_batch.specs.declared.kind.Kind.TheVariants.{Dimension}
-use Rattle.wh_history.specs.Accepted.{Accepted, Describes, Sells, policy_after, types_in, profiles_of, changes_of, member_of_sale, sold}
+use Rattle.wh_history.specs.Accepted.{Accepted, Describes, Sells, anchors, policy_after, types_in, profiles_of, changes_of, member_of_sale, sold}
 use Rattle.wh_history.specs.Dated.{dated}
 use Rattle.wh_history.specs.Facts.{new_keys}
 use Rattle.wh_history.specs.Keys.{at_place}
@@ -19,12 +19,13 @@ use Rattle.wh_history.specs.Plan.{IsPlan, row_of}
 use Rattle.wh_history.specs.Tables.{Limits, dimension_row, member_rows, fact_of}
 use Rattle.wh_history.specs.declared.facts.Fact.{Fact}
 use Rattle.wh_history.specs.declared.plan.Edit.{Edit}
+use Rattle.wh_history.specs.declared.plan.Edit.TheVariants.{Put}
 use Rattle.wh_history.specs.declared.rows.DimRow.{DimRow}
 use Rattle.wh_rows.specs.Limits.{are_limits}
 use Rattle.wh_rows.specs.Tables.{Tables}
 use Rattle.wh_engine.specs.Defined.{fact_at, AreOf}
 use Rattle.wh_engine.specs.Made.{making_of}
-use Rattle.wh_engine.specs.Planned.{Edits, with_all_edits, AreFacts, AreEdits}
+use Rattle.wh_engine.specs.Planned.{Edits, with_all_edits, behind, AreFacts, AreEdits}
 use Rattle.wh_engine.specs.Sound.{IsAccepted}
 use Rattle.wh_engine.specs.Admission.{accepted_after}
 use Rattle.wh_engine.specs.declared.command.Command.{Command}
@@ -124,3 +125,10 @@ SalesAreFacts = (commands : List Accepted) (c : Accepted) (sales : List SaleReco
     → AllByRecursion (λ s. fact_at commands (record { ticket = s.ticket; line = s.line }) ≡ None) sales
     → IsDistinct same_line sales
     → AreFacts (fact_at commands) (fact_at (commands ++ c ∷ [])) (map (fact_of (commands ++ c ∷ [])) sales)
+
+-- In a dimension's table a batch of sales puts the rows of the members that it is the first to mention, in order of their surrogate keys, and changes nothing else.
+abbrev pub SalesPutPlaceholders : Type 0
+SalesPutPlaceholders = (commands : List Accepted) (c : Accepted) (dim : Dim) (sales : List SaleRecord)
+    → c.content ≡ Sells sales
+    → IsPlan (λ r. r.surrogate) (dimension_row commands dim) (dimension_row (commands ++ c ∷ []) dim)
+    (map Put (filter_map (dimension_row (commands ++ c ∷ []) dim) (behind (length (anchors dim commands)) (length (anchors dim (commands ++ c ∷ []))))))

@@ -5,7 +5,7 @@ ghost use Rattle.wh_history.specs.Accepted.{Accepted};
 ghost use Rattle.wh_history.specs.Tables.{Limits};
 ghost use Rattle.wh_engine.specs.Admission.{accepted_after};
 ghost use Rattle.wh_engine.specs.declared.command.Command.{Command};
-ghost use Rattle.wh_engine.specs.Laws.{AcceptedListsBegin, AcceptedListsStaySound, BatchesAreWritten, BatchesMayBeWritten, FactsFollow, SalesAreFacts, SoundPoliciesShowNone, TouchedRowsAfter, TouchedRowsAreThePlan, TouchedRowsBefore, UntouchedMembersKeep};
+ghost use Rattle.wh_engine.specs.Laws.{AcceptedListsBegin, AcceptedListsStaySound, BatchesAreWritten, BatchesMayBeWritten, FactsFollow, SalesAreFacts, SalesPutPlaceholders, SoundPoliciesShowNone, TouchedRowsAfter, TouchedRowsAreThePlan, TouchedRowsBefore, UntouchedMembersKeep};
 
 /// From the tables of the commands so far the edits of a batch of records or of sales lead to those of the commands with
 /// it, in all ten tables.
@@ -61,4 +61,10 @@ pub fn facts_follow()
 /// commands with it: each fact that was there stays as it was.
 pub fn sales_are_facts()
     ensures { SalesAreFacts }
+{}
+
+/// In a dimension's table a batch of sales puts the rows of the members that it is the first to mention, in order of
+/// their surrogate keys, and changes nothing else.
+pub fn sales_put_placeholders()
+    ensures { SalesPutPlaceholders }
 {}
