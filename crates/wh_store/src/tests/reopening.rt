@@ -78,7 +78,9 @@ fn a_path_is_opened_again(rt: HostRuntime) -> Result<(), Fail> {
     let alloc = rt.alloc();
     let _ = fs::remove_dir_all(&rt, FOLDER);
     fs::create_dir(&rt, FOLDER)?;
-    with_store(alloc, open_path(&rt, PATH, Unknown)?)?.close().close()?;
+    with_store(alloc, open_path(&rt, PATH, Unknown)?)?
+        .close()
+        .close()?;
     assert!(rt; has_store(alloc, open_path(&rt, PATH, Unknown)?)?);
     fs::remove_dir_all(&rt, FOLDER)?;
     Ok(())
