@@ -1,10 +1,12 @@
 #!/usr/bin/env python3
 """Times `wh load` of 5,000 late product records over 5,000 members, into warehouses of 5,000 and of 50,000 members (build the program
-first: `rt run` in crates/wh). load.py [PROGRAM]. Prints the least processor time of five runs of the load, of five that are refused for
-their id right after the open, and the ratio of what the load takes more than the open.
+first: `rt run` in crates/wh). load.py [--instructions] [PROGRAM]. Prints the least processor time of fifteen runs of the load, of fifteen
+that are refused for their id right after the open, and the ratio of what the load takes more than the open; or, in place of times, the
+instructions of one run each, in thousand millions, as valgrind counts them (some four minutes), which don't vary with the machine's load.
 
 The late members came in one batch (`together`), or one in ten of the 50,000 is late (`spread`)."""
 import os
+import re
 import resource
 import shutil
 import subprocess
@@ -12,7 +14,9 @@ import sys
 import tempfile
 
 TOP = os.path.join(os.path.dirname(os.path.abspath(__file__)), "..")
-PROGRAM = sys.argv[1] if len(sys.argv) > 1 else os.path.join(TOP, "crates", "wh", "out", "wh")
+COUNTS = "--instructions" in sys.argv
+PATHS = [word for word in sys.argv[1:] if word != "--instructions"]
+PROGRAM = PATHS[0] if PATHS else os.path.join(TOP, "crates", "wh", "out", "wh")
 POLICY = os.path.join(TOP, "examples", "flat.toml")
 SIZE = 5000
 
@@ -36,6 +40,14 @@ def run(*words, told="accepted"):
     return after.ru_utime + after.ru_stime - before.ru_utime - before.ru_stime
 
 
+def count(*words, told="accepted"):
+    """Instructions of a run that is answered so, in thousand millions."""
+    done = subprocess.run(["valgrind", "--tool=callgrind", "--callgrind-out-file=/dev/null", PROGRAM, *words], stdout=subprocess.PIPE, stderr=subprocess.PIPE)
+    if not done.stdout.decode().startswith(told):
+        sys.exit(done.stdout.decode())
+    return int(re.search(r"Collected : (\d+)", done.stderr.decode()).group(1)) / 1e9
+
+
 def warehouse(folder, batches):
     path = os.path.join(folder, f"{len(batches)}.wh")
     run("init", path, POLICY)
@@ -45,14 +57,15 @@ def warehouse(folder, batches):
 
 
 def measure(folder, path, late):
-    """The least time of the load, and of an open, of five runs each on a copy of the file."""
+    """The least time of the load, and of an open, of fifteen runs each on a copy of the file, or the instructions of one."""
     load = opening = None
     copy = os.path.join(folder, "copy.wh")
-    for _ in range(5):
+    take = count if COUNTS else run
+    for _ in range(1 if COUNTS else 15):
         shutil.copyfile(path, copy)
-        spent = run("load", copy, "product", "bad id", late, told="refused: E1")
+        spent = take("load", copy, "product", "bad id", late, told="refused: E1")
         opening = spent if opening is None else min(opening, spent)
-        spent = run("load", copy, "product", "late", late)
+        spent = take("load", copy, "product", "late", late)
         load = spent if load is None else min(load, spent)
         os.remove(copy)
     return load, opening
@@ -66,10 +79,10 @@ def main():
             late = batch(os.path.join(folder, "late.csv"), members, "2024-03-01", 1)
             small = warehouse(folder, [members])
             spent = []
-            for count, path in ((SIZE, small), (SIZE * 10, large)):
+            for size, path in ((SIZE, small), (SIZE * 10, large)):
                 load, opening = measure(folder, path, late)
                 spent.append(load - opening)
-                print(f"{name}: {count} members: load {load:.3f} s, open {opening:.3f} s, less the open {load - opening:.3f} s")
+                print(f"{name}: {size} members: load {load:.3f}, open {opening:.3f}, less the open {load - opening:.3f}")
             os.remove(small)
             print(f"{name}: ratio {spent[1] / spent[0]:.2f}")
 
