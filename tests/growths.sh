@@ -1,6 +1,7 @@
 #!/usr/bin/env bash
 # Refuses each growth of memory of one load in turn, and of one making, in the built program, and looks at what its file then holds.
-# Build the program first (`rt run` in crates/wh). growths.sh [STEP] [PROGRAM]: every growth, or one in STEP of them.
+# Build the program first (`rt run` in crates/wh). growths.sh [STEP] [PROGRAM]: every growth of the load, or one in STEP of them, and of
+# the making, which has more, one in ten times as many.
 #
 # A run is answered as with ample memory, with `failed: E8 memory`, or with `failed: E9 store, memory`. Behind E8 the file holds what it
 # held; the same words again are answered as accepted. Behind E9 they are answered as accepted or, of a load that was kept, as already
@@ -46,10 +47,11 @@ for line in sqlite3.connect(sys.argv[1]).iterdump(): print(line)' "$1"
     fi | LC_ALL=C sort
 }
 
-# name of the work; what it is told again where it was kept. The file before it is $work/NAME.before, or there is none.
+# name of the work; what it is told again where it was kept; one growth in how many; the words. The file before the work is
+# $work/NAME.before, or there is none.
 refuse_all() {
-    local name=$1 kept=$2 number=1 refused=0 short=0 stopped=0 answered
-    shift 2
+    local name=$1 kept=$2 step=$3 number=1 refused=0 short=0 stopped=0 answered
+    shift 3
     rm -f "$work/file" "$work/file-wal"
     if [ -e "$work/$name.before" ]; then cp "$work/$name.before" "$work/file"; fi
     "$program" "$@" > "$work/ample" || fail "$name: $(cat "$work/ample")"
@@ -80,7 +82,7 @@ refuse_all() {
     echo "$name: $refused growths refused, $short answered with E8, $stopped with E9, the others as with ample memory"
 }
 
-refuse_all making 'refused: E11 not empty' init "$work/file" "$work/policy.toml"
+refuse_all making 'refused: E11 not empty' $((step * 10)) init "$work/file" "$work/policy.toml"
 "$program" init "$work/load.before" "$work/policy.toml" > "$work/told" || fail "$(cat "$work/told")"
 "$program" load "$work/load.before" product p1 "$work/first.csv" > "$work/told" || fail "$(cat "$work/told")"
-refuse_all load 'already 3 p2: 2 records, 0 placeholders' load "$work/file" product p2 "$work/second.csv"
+refuse_all load 'already 3 p2: 2 records, 0 placeholders' "$step" load "$work/file" product p2 "$work/second.csv"
