@@ -5,6 +5,7 @@ ghost use Rattle.wh.specs.Answer.{status_code, done, refused, failed, no_file_li
 ghost use Rattle.wh.specs.Reply.{receipt_line, reply_answer, limit_name, full_line, line_there_line, refused_line, damaged_line, cause_name, store_line, fault_answer, load_answer, made_line, making_answer, opening_answer, members_line, totals_text, counts_text, status_answer};
 
 use crate::answer::{Answer, Status};
+use itoa::Buffer;
 use std::alloc::{AllocError, Global};
 use wh_batch::{BatchFault, FaultKind};
 use wh_engine::{Counts, Fault, InitFault, Limit, OpeningFault, Receipt, Refused, Reply};
@@ -78,25 +79,48 @@ fn told(alloc: Global, status: Status, line: &str) -> Result<Answer, AllocError>
     Ok(Answer::new(status, text.into_bytes()))
 }
 
-/// What an accepted command is told, behind the word for how it was taken.
-fn receipt_line(alloc: Global, word: &str, id: &str, receipt: Receipt) -> Result<String, AllocError>
-    ensures { IfOk result (λ line. string_bytes line ≡ receipt_line word.now id.now receipt) }
+/// The most bytes of a receipt's line, beside the id.
+const LONGEST_RECEIPT: usize = 128;
+
+/// Room for the line of any receipt behind an id. It is taken before a command is sent, so that no memory is wanted once the
+/// command is kept.
+pub fn room_for_receipt(alloc: Global, id: &str) -> Result<Vec<u8>, AllocError> {
+    Vec::with_capacity(alloc, id.len().saturating_add(LONGEST_RECEIPT))
+}
+
+/// What an accepted command is told, behind the word for how it was taken, in room that was taken for it.
+fn receipt_line(
+    mut line: Vec<u8>,
+    word: &str,
+    id: &str,
+    receipt: Receipt,
+) -> Result<Vec<u8>, AllocError>
+    ensures { IfOk result (λ line. line.items ≡ receipt_line word.now id.now receipt) }
 {
-    let number = receipt.number;
-    let records = receipt.records;
-    let placeholders = receipt.placeholders;
-    format!(in alloc; "{word} {number} {id}: {records} records, {placeholders} placeholders\n")
+    let mut digits = Buffer::new();
+    line.clear();
+    line.extend_from_slice(word.as_bytes())?;
+    line.extend_from_slice(b" ")?;
+    line.extend_from_slice(digits.format(receipt.number).as_bytes())?;
+    line.extend_from_slice(b" ")?;
+    line.extend_from_slice(id.as_bytes())?;
+    line.extend_from_slice(b": ")?;
+    line.extend_from_slice(digits.format(receipt.records).as_bytes())?;
+    line.extend_from_slice(b" records, ")?;
+    line.extend_from_slice(digits.format(receipt.placeholders).as_bytes())?;
+    line.extend_from_slice(b" placeholders\n")?;
+    Ok(line)
 }
 
 /// The answer to a command that is kept.
-fn reply_answer(alloc: Global, id: &str, reply: Reply) -> Result<Answer, AllocError>
+fn reply_answer(room: Vec<u8>, id: &str, reply: Reply) -> Result<Answer, AllocError>
     ensures { IfOk result (λ answer. answer ≡ reply_answer id.now reply) }
 {
     let line = match reply {
-        Reply::Accepted(receipt) => receipt_line(alloc, "accepted", id, receipt)?,
-        Reply::Already(receipt) => receipt_line(alloc, "already", id, receipt)?,
+        Reply::Accepted(receipt) => receipt_line(room, "accepted", id, receipt)?,
+        Reply::Already(receipt) => receipt_line(room, "already", id, receipt)?,
     };
-    Ok(Answer::new(Status::Done, line.into_bytes()))
+    Ok(Answer::new(Status::Done, line))
 }
 
 fn limit_name(limit: Limit) -> &'static str
@@ -184,16 +208,17 @@ fn fault_answer(alloc: Global, fault: Fault) -> Result<Answer, AllocError>
     }
 }
 
-/// The answer to the load of a batch under an id.
+/// The answer to the load of a batch under an id, with room for a receipt's line.
 pub fn load_answer(
     alloc: Global,
+    room: Vec<u8>,
     id: &str,
     reply: Result<Reply, Fault>,
 ) -> Result<Answer, AllocError>
     ensures { IfOk result (λ answer. answer ≡ load_answer id.now reply) }
 {
     match reply {
-        Ok(reply) => reply_answer(alloc, id, reply),
+        Ok(reply) => reply_answer(room, id, reply),
         Err(fault) => fault_answer(alloc, fault),
     }
 }

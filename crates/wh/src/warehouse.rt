@@ -2,7 +2,9 @@
 
 use crate::answer::Answer;
 use crate::host::{Host, HostError, Visitor, file_of};
-use crate::lines::{load_answer, made, making_answer, no_file, opening_answer, status_answer};
+use crate::lines::{
+    load_answer, made, making_answer, no_file, opening_answer, room_for_receipt, status_answer,
+};
 use sqlite::{Alter, Connection};
 use sqlite_value::value::Bytes;
 use std::alloc::{AllocError, Global};
@@ -26,8 +28,12 @@ impl Visitor for Making {
         alloc: Global,
         connection: Connection<T>,
     ) -> (Result<Answer, AllocError>, Connection<T>) {
+        // The line is there before anything is written, so that no memory is wanted once the warehouse is made.
+        let Ok(answer) = made(alloc) else {
+            return (Err(AllocError), connection);
+        };
         match Engine::init(alloc, connection, &self.policy, Limits::greatest()) {
-            Ok(engine) => (made(alloc), engine.close()),
+            Ok(engine) => (Ok(answer), engine.close()),
             Err((fault, connection)) => (making_answer(alloc, fault), connection),
         }
     }
@@ -37,6 +43,8 @@ impl Visitor for Making {
 #[derive(Drop)]
 struct Loading {
     command: Command,
+    /// Room for the line of its receipt.
+    room: Vec<u8>,
 }
 
 impl Visitor for Loading {
@@ -50,7 +58,7 @@ impl Visitor for Loading {
         match Engine::open(alloc, connection) {
             Ok(mut engine) => {
                 let reply = engine.apply(alloc, &self.command);
-                let answer = load_answer(alloc, self.command.id.as_str(), reply);
+                let answer = load_answer(alloc, self.room, self.command.id.as_str(), reply);
                 (answer, engine.close())
             }
             Err((fault, connection)) => (opening_answer(alloc, fault), connection),
@@ -124,7 +132,8 @@ pub fn load<H: Host>(
         kind: Kind::Dimension(dim),
         bytes: Bytes::from_slice(alloc, &batch)?,
     };
-    let visit = host.with_connection(alloc, file, Loading { command });
+    let room = room_for_receipt(alloc, id)?;
+    let visit = host.with_connection(alloc, file, Loading { command, room });
     answered(alloc, file, visit)
 }
 

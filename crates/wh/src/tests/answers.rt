@@ -1,8 +1,10 @@
 //! The line and the status of each answer about a warehouse.
 
 use crate::answer::Answer;
-use crate::lines::{load_answer, made, making_answer, opening_answer, status_answer};
-use std::alloc::Global;
+use crate::lines::{
+    load_answer, made, making_answer, opening_answer, room_for_receipt, status_answer,
+};
+use std::alloc::{AllocError, Global};
 use std::process::Abort;
 use std::test::Fail;
 use wh_batch::{BatchFault, FaultKind};
@@ -15,14 +17,22 @@ fn expect_answer(rt: &impl Abort, answer: &Answer, status: u8, text: &str) {
     assert_eq!(rt; answer.code(), status, "{text}");
 }
 
+fn answer_of_load(
+    alloc: Global,
+    id: &str,
+    reply: Result<Reply, Fault>,
+) -> Result<Answer, AllocError> {
+    load_answer(alloc, room_for_receipt(alloc, id)?, id, reply)
+}
+
 fn expect_refused(rt: &impl Abort, alloc: Global, why: Refused, text: &str) -> Result<(), Fail> {
-    let answer = load_answer(alloc, "p1", Err(Fault::Refused(why)))?;
+    let answer = answer_of_load(alloc, "p1", Err(Fault::Refused(why)))?;
     expect_answer(rt, &answer, 2, text);
     Ok(())
 }
 
 fn expect_fault(rt: &impl Abort, alloc: Global, fault: Fault, text: &str) -> Result<(), Fail> {
-    let answer = load_answer(alloc, "p1", Err(fault))?;
+    let answer = answer_of_load(alloc, "p1", Err(fault))?;
     expect_answer(rt, &answer, 3, text);
     let answer = status_answer(alloc, Err(fault))?;
     expect_answer(rt, &answer, 3, text);
@@ -37,14 +47,14 @@ const RECEIPT: Receipt = Receipt {
 
 #[test]
 fn receipts(rt: HostRuntime) -> Result<(), Fail> {
-    let answer = load_answer(rt.alloc(), "s2", Ok(Reply::Accepted(RECEIPT)))?;
+    let answer = answer_of_load(rt.alloc(), "s2", Ok(Reply::Accepted(RECEIPT)))?;
     expect_answer(
         &rt,
         &answer,
         0,
         "accepted 12 s2: 1 records, 2 placeholders\n",
     );
-    let answer = load_answer(rt.alloc(), "s2", Ok(Reply::Already(RECEIPT)))?;
+    let answer = answer_of_load(rt.alloc(), "s2", Ok(Reply::Already(RECEIPT)))?;
     expect_answer(
         &rt,
         &answer,
@@ -119,8 +129,8 @@ fn failures(rt: HostRuntime) -> Result<(), Fail> {
         "failed: E7 damaged, command\n",
     )?;
     expect_fault(&rt, alloc, Fault::Reopen, "failed: E10 reopen\n")?;
-    assert!(rt; load_answer(alloc, "p1", Err(Fault::Memory)).is_err());
-    let answer = load_answer(alloc, "s1", Err(Fault::Sales))?;
+    assert!(rt; answer_of_load(alloc, "p1", Err(Fault::Memory)).is_err());
+    let answer = answer_of_load(alloc, "s1", Err(Fault::Sales))?;
     assert_eq!(rt; answer.code(), 4);
     Ok(())
 }
