@@ -16,14 +16,14 @@ trap 'rm -rf "$work"' EXIT
 plain=$work/plain
 killed=$work/killed
 seconds=60
-kinds=(product store customer)
+kinds=(sales product store customer)
 
 fail() {
     echo "$*"
     exit 1
 }
 
-# a batch of this kind whose records depend on this number: 300 records of 100 members, on days of three years
+# a batch of this kind whose records depend on this number: 300 records of 100 members, on days of three years, or 300 sales to them
 batch() {
     python3 - "$1" "$2" <<'PYTHON'
 import random
@@ -31,21 +31,33 @@ import sys
 
 kind, number = sys.argv[1], int(sys.argv[2])
 chance = random.Random(number)
+
+
+def day():
+    return f"{chance.randrange(2023, 2026)}-{chance.randrange(1, 13):02}-{chance.randrange(1, 29):02}"
+
+
+if kind == "sales":
+    print("ticket,line,day,store,product,customer,quantity,amount,cost")
+    for place in range(300):
+        card = f"M{chance.randrange(100)}" if place % 2 else ""
+        print(f"T{number}-{place // 3},{place % 3 + 1},{day()},M{chance.randrange(100)},M{chance.randrange(100)},{card},{chance.randrange(9)},{chance.randrange(99)}.5,1.25")
+    sys.exit()
 header = {"product": "description,brand,category,department,launched,supplier", "store": "city", "customer": "tier"}[kind]
 print("id,day," + header)
 seen = set()
 while len(seen) < 300:
-    key = (chance.randrange(100), chance.randrange(2023, 2026), chance.randrange(1, 13), chance.randrange(1, 29))
+    key = (chance.randrange(100), day())
     if key not in seen:
         seen.add(key)
         values = ",".join(f"value {chance.randrange(5)}" for _ in header.split(","))
-        print(f"M{key[0]},{key[1]}-{key[2]:02}-{key[3]:02},{values}")
+        print(f"M{key[0]},{key[1]},{values}")
 PYTHON
 }
 
 # file, number of the load
 load() {
-    "$program" load "$1" "${kinds[$(($2 % 3))]}" "b$2" "$work/$2.csv"
+    "$program" load "$1" "${kinds[$(($2 % 4))]}" "b$2" "$work/$2.csv"
 }
 
 # file, what is asked
@@ -76,7 +88,7 @@ for file in "$plain" "$killed"; do
     "$program" init "$file" "$policy" > "$work/told" || fail "no warehouse was made: $(cat "$work/told")"
 done
 for number in 1 2 3; do
-    batch "${kinds[$((number % 3))]}" "$number" > "$work/$number.csv"
+    batch "${kinds[$((number % 4))]}" "$number" > "$work/$number.csv"
     for file in "$plain" "$killed"; do
         load "$file" "$number" > "$work/told" || fail "load $number: $(cat "$work/told")"
     done
@@ -87,14 +99,17 @@ stopped=0
 SECONDS=0
 while [ $number -lt $((loads + 3)) ] && [ $SECONDS -lt $seconds ]; do
     number=$((number + 1))
-    receipt="$((number + 1)) b$number: 300 records, 0 placeholders"
-    batch "${kinds[$((number % 3))]}" "$number" > "$work/$number.csv"
+    batch "${kinds[$((number % 4))]}" "$number" > "$work/$number.csv"
     before=$(now)
     load "$plain" "$number" > "$work/told" || fail "load $number: $(cat "$work/told")"
-    [ "$(cat "$work/told")" = "accepted $receipt" ] || fail "load $number: $(cat "$work/told")"
+    case "$(cat "$work/told")" in
+        "accepted $((number + 1)) b$number: 300 records, "*" placeholders") ;;
+        *) fail "load $number: $(cat "$work/told")" ;;
+    esac
+    receipt=$(sed 's/^accepted //' "$work/told")
     took=$(($(now) - before))
 
-    "$program" load "$killed" "${kinds[$((number % 3))]}" "b$number" "$work/$number.csv" > "$work/told" &
+    "$program" load "$killed" "${kinds[$((number % 4))]}" "b$number" "$work/$number.csv" > "$work/told" &
     process=$!
     sleep "$(awk "BEGIN { print $took * $((RANDOM % 1000)) / 1000 / 1000000000 }")"
     kill -9 $process 2> /dev/null || true

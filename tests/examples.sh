@@ -42,8 +42,9 @@ trap 'rm -rf "$work"' EXIT
 line "accepted 1 init: 0 records, 0 placeholders" 0 init "$work/shop.wh" examples/flat.toml
 line "accepted 2 p1: 3 records, 0 placeholders" 0 load "$work/shop.wh" product p1 examples/late.csv
 line "already 2 p1: 3 records, 0 placeholders" 0 load "$work/shop.wh" product p1 examples/late.csv
+line "accepted 3 s1: 2 records, 1 placeholders" 0 load "$work/shop.wh" sales s1 examples/sales.csv
 line "refused: E11 not empty" 2 init "$work/shop.wh" examples/flat.toml
-line "$(printf 'format 1\ncommands 2\nchanges 3\nfacts 0\nmembers product 1 store 0 customer 0')" 0 status "$work/shop.wh"
+line "$(printf 'format 1\ncommands 3\nchanges 3\nfacts 2\nmembers product 1 store 1 customer 0')" 0 status "$work/shop.wh"
 line "failed: N1 not a warehouse" 3 status "$work/none.wh"
 echo "$passed passed, $failed failed"
 [ "$failed" = 0 ]

@@ -1,7 +1,7 @@
 #!/usr/bin/env bash
-# Refuses each growth of memory of one load in turn, and of one making, in the built program, and looks at what its file then holds.
-# Build the program first (`rt run` in crates/wh). growths.sh [STEP] [PROGRAM]: every growth of the load, or one in STEP of them, and of
-# the making, which has more, one in ten times as many.
+# Refuses each growth of memory of a load in turn, and of one making, in the built program, and looks at what its file then holds.
+# Build the program first (`rt run` in crates/wh). growths.sh [STEP] [PROGRAM]: every growth of a load of records, of a load of sales and of
+# a load of a late record that moves a sale, or one in STEP of them, and of the making, which has more, one in ten times as many.
 #
 # A run is answered as with ample memory, with `failed: E8 memory`, or with `failed: E9 store, memory`. Behind E8 the file holds what it
 # held; the same words again are answered as accepted. Behind E9 they are answered as accepted or, of a load that was kept, as already
@@ -86,3 +86,12 @@ refuse_all making 'refused: E11 not empty' $((step * 10)) init "$work/file" "$wo
 "$program" init "$work/load.before" "$work/policy.toml" > "$work/told" || fail "$(cat "$work/told")"
 "$program" load "$work/load.before" product p1 "$work/first.csv" > "$work/told" || fail "$(cat "$work/told")"
 refuse_all load 'already 3 p2: 2 records, 0 placeholders' "$step" load "$work/file" product p2 "$work/second.csv"
+
+header=ticket,line,day,store,product,customer,quantity,amount,cost
+printf '%s\nT1,1,2024-01-25,S1,P1,,2,5.00,3.20\n' "$header" > "$work/known.csv"
+printf '%s\nT2,1,2024-06-10,S1,P9,C9,1,10.00,7.00\n' "$header" > "$work/unknown.csv"
+cp "$work/load.before" "$work/sales.before"
+"$program" load "$work/sales.before" sales s1 "$work/known.csv" > "$work/told" || fail "$(cat "$work/told")"
+cp "$work/sales.before" "$work/late.before"
+refuse_all sales 'already 4 s2: 1 records, 2 placeholders' "$step" load "$work/file" sales s2 "$work/unknown.csv"
+refuse_all late 'already 4 p2: 2 records, 0 placeholders' "$step" load "$work/file" product p2 "$work/second.csv"

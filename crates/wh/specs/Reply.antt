@@ -67,7 +67,6 @@ fault_answer (fault.Damaged table) = failed (damaged_line table)
 fault_answer fault.Memory = failed memory_line
 fault_answer (fault.Store cause) = failed (store_line cause)
 fault_answer fault.Reopen = failed (line (codes "failed: E10 reopen"))
-fault_answer fault.Sales = record { status = 4; text = line (codes "error: batches of sales can't be loaded yet") }
 
 abbrev pub load_answer : List ℕ → Result Reply Fault → Printed
 load_answer id (Ok reply) = reply_answer id reply

@@ -3,6 +3,8 @@ use Rattle.std.specs.Prelude.{◌≡◌, ℕ, List, codes, ⊤, Option, Some, No
 use Rattle.std.specs.Borrow.{Bor}
 use Rattle.wh_policy.specs.declared.attribute.Dim.{Dim}
 use Rattle.wh_policy.specs.declared.attribute.Dim.TheVariants.{Product, Store, Customer}
+use Rattle.wh_batch.specs.declared.kind.Kind.{Kind}
+use Rattle.wh_batch.specs.declared.kind.Kind.TheVariants.{Dimension, Sales}
 use Rattle.wh.specs.CommandLine.{CommandLine}
 use Rattle.wh.specs.CommandLine as line
 use Rattle.wh.specs.declared.command.Operands.{Operands}
@@ -23,6 +25,10 @@ dim_of word =
     else if bytes_eq word (codes "store") then Some Store
     else if bytes_eq word (codes "customer") then Some Customer
     else None
+
+-- the kind of batch of a word
+abbrev pub batch_kind_of : List ℕ → Option Kind
+batch_kind_of word = if bytes_eq word (codes "sales") then Some Sales else option_map Dimension (dim_of word)
 
 -- what an option points to
 abbrev pub text_of : Option (Bor (List ℕ)) → Option (List ℕ)
@@ -51,10 +57,10 @@ abbrev pub AsksInit : List ℕ → List ℕ → Request → Type 0
 AsksInit file policy (Init of under) = (of.now ≡ file) × (under.now ≡ policy)
 AsksInit file policy _ = ⊥
 
--- the load of a batch of that dimension, or of a word that names none
-abbrev pub AsksLoad : List ℕ → Option Dim → List ℕ → List ℕ → Request → Type 0
-AsksLoad file (Some dim) id path (Load of kind called from) = (of.now ≡ file) × (kind ≡ dim) × (called.now ≡ id) × (from.now ≡ path)
-AsksLoad file (Some dim) id path _ = ⊥
+-- the load of a batch of that kind, or of a word that names none
+abbrev pub AsksLoad : List ℕ → Option Kind → List ℕ → List ℕ → Request → Type 0
+AsksLoad file (Some kind) id path (Load of told called from) = (of.now ≡ file) × (told ≡ kind) × (called.now ≡ id) × (from.now ≡ path)
+AsksLoad file (Some kind) id path _ = ⊥
 AsksLoad file None id path request = IsUsage request
 
 -- how much a warehouse holds
@@ -66,5 +72,5 @@ AsksStatus file _ = ⊥
 abbrev pub Asks : CommandLine → Request → Type 0
 Asks (line.Trial dimension path policy) request = AsksTrial (dim_of dimension) path policy request
 Asks (line.Init file policy) request = AsksInit file policy request
-Asks (line.Load file kind id path) request = AsksLoad file (dim_of kind) id path request
+Asks (line.Load file kind id path) request = AsksLoad file (batch_kind_of kind) id path request
 Asks (line.Status file) request = AsksStatus file request

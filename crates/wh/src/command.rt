@@ -4,13 +4,14 @@ ghost use Rattle.std.specs.Prelude.{◌≡◌, ℕ, List, Option, IfOk, IfErr, I
 ghost use Rattle.clap.specs.Words.{app_of, first_of, found_of, rows_of, subcommand_rows_of, kind_of, takes, subcommand_of};
 ghost use Rattle.clap.specs.declared.builder.command.Command.TheViews.{out-Command};
 ghost use Rattle.clap.specs.declared.error.ErrorKind.TheVariants.{OutOfMemory};
-ghost use Rattle.wh.specs.Request.{dim_of, line_of, IsUsage, Asks};
+ghost use Rattle.wh.specs.Request.{dim_of, batch_kind_of, line_of, IsUsage, Asks};
 ghost use Rattle.wh.specs.CommandLine.{CommandLine, first_app, program_app, operands_app, trial_app, init_app, batch_app, load_app, status_app, words_of, has_operands, named, named_trial, named_init, named_load, named_status};
 
 use clap::error::ErrorKind;
 use clap::{Arg, ArgMatches, Command};
 use std::alloc::{AllocError, Global};
 use std::convert::AsStr;
+use wh_batch::Kind;
 use wh_policy::Dim;
 
 /// The dimension of that name.
@@ -22,6 +23,19 @@ fn dim_of(word: &str) -> Option<Dim>
         "store" => Some(Dim::Store),
         "customer" => Some(Dim::Customer),
         _ => None,
+    }
+}
+
+/// The kind of batch of that name.
+fn batch_kind_of(word: &str) -> Option<Kind>
+    ensures { result ≡ batch_kind_of word.now }
+{
+    if word == "sales" {
+        return Some(Kind::Sales);
+    }
+    match dim_of(word) {
+        Some(dim) => Some(Kind::Dimension(dim)),
+        None => None,
     }
 }
 
@@ -42,7 +56,7 @@ pub enum Request<'a> {
     /// The load of the batch in the file `path` into the warehouse in `file`, under an id.
     Load {
         file: &'a str,
-        dim: Dim,
+        kind: Kind,
         id: &'a str,
         path: &'a str,
     },
@@ -107,7 +121,7 @@ fn batch_command<'a>(alloc: Global) -> Result<Command<'a>, AllocError>
         .help("the warehouse's file");
     let kind = Arg::new(alloc, "KIND")
         .required(true)
-        .help("product, store or customer");
+        .help("product, store, customer or sales");
     Command::new(alloc, "load")
         .about("Loads a batch into a warehouse")
         .arg(file)?
@@ -289,16 +303,16 @@ fn requested<'a>(alloc: Global, operands: Operands<'a>) -> Result<Request<'a>, A
             kind,
             id,
             path,
-        } => match dim_of(kind) {
-            Some(dim) => Ok(Request::Load {
+        } => match batch_kind_of(kind) {
+            Some(kind) => Ok(Request::Load {
                 file,
-                dim,
+                kind,
                 id,
                 path,
             }),
             None => mistake(
                 alloc,
-                "error: KIND is none of product, store and customer\n",
+                "error: KIND is none of product, store, customer and sales\n",
             ),
         },
         Operands::Status { file } => Ok(Request::Status { file }),

@@ -141,7 +141,7 @@ fn full_line(alloc: Global, limit: Limit) -> Result<Vec<u8>, AllocError>
     Ok(line.into_bytes())
 }
 
-fn line_there_line(alloc: Global, number: u32) -> Result<Vec<u8>, AllocError>
+fn line_there_line(alloc: Global, number: u64) -> Result<Vec<u8>, AllocError>
     ensures { IfOk result (λ line. line.items ≡ line_there_line number) }
 {
     let line = format!(in alloc; "refused: E6 line there, record {number}\n")?;
@@ -200,11 +200,6 @@ fn fault_answer(alloc: Global, fault: Fault) -> Result<Answer, AllocError>
         Fault::Memory => Err(AllocError),
         Fault::Store(cause) => store_failed(alloc, cause),
         Fault::Reopen => told(alloc, Status::Failed, "failed: E10 reopen\n"),
-        Fault::Sales => told(
-            alloc,
-            Status::Usage,
-            "error: batches of sales can't be loaded yet\n",
-        ),
     }
 }
 

@@ -57,10 +57,10 @@ fn answer_request<H: Host>(
         Request::Init { file, policy } => init(alloc, file, policy, host),
         Request::Load {
             file,
-            dim,
+            kind,
             id,
             path,
-        } => load(alloc, file, dim, id, path, host),
+        } => load(alloc, file, kind, id, path, host),
         Request::Status { file } => status(alloc, file, host),
         Request::Help(text) => Ok(Answer::new(Status::Done, text.into_bytes())),
         Request::Usage(text) => Ok(Answer::new(Status::Usage, text.into_bytes())),

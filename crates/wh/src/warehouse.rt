@@ -11,7 +11,6 @@ use std::alloc::{AllocError, Global};
 use wh_batch::Kind;
 use wh_day::Value;
 use wh_engine::{Command, Engine};
-use wh_policy::Dim;
 use wh_rows::Limits;
 
 /// Makes a warehouse under the policy that these bytes write.
@@ -119,7 +118,7 @@ pub fn init<H: Host>(
 pub fn load<H: Host>(
     alloc: Global,
     file: &str,
-    dim: Dim,
+    kind: Kind,
     id: &str,
     path: &str,
     host: &mut H,
@@ -129,7 +128,7 @@ pub fn load<H: Host>(
     };
     let command = Command {
         id: Value::new(alloc, id)?,
-        kind: Kind::Dimension(dim),
+        kind,
         bytes: Bytes::from_slice(alloc, &batch)?,
     };
     let room = room_for_receipt(alloc, id)?;

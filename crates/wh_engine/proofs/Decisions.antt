@@ -2,55 +2,91 @@
 use Rattle.std.proofs.Common.{◌≡◌, ℕ, suc, ◌+◌, ◌-◌, ◌<◌, ◌≤◌, Bool, true, false, cond, leb, ltb, List, [], ◌∷◌, ◌++◌, length, Option, Some, None, Result, Ok, Err, refl, sym, ap, subst, ◌∙◌, arith, length-append}
 use Rattle.std.proofs.lemmas.Bool.{le-leb, lt-leb, le-ltb, lt-ltb, leb-true, leb-false}
 use Rattle.std.specs.Prelude.{find, bytes_eq, option_map, IsSome, unwrap_or, ◌&&◌}
+use Rattle.wh_day.specs.Reading.{◌>>=◌}
 use Rattle.wh_policy.specs.Policy.{trial_policy}
 use Rattle.wh_policy.specs.declared.attribute.Dim.{Dim}
 use Rattle.wh_policy.specs.declared.policy.Policy.{Policy}
 use Rattle.wh_policy.specs.declared.record.DimensionRecord.{DimensionRecord}
+use Rattle.wh_policy.specs.declared.record.SaleRecord.{SaleRecord}
 use Rattle.wh_policy.specs.Written.{IsSound}
 use Rattle.wh_policy.proofs.FileLaws.{policies_are_sound}
 use Rattle.wh_batch.proofs.GoodLemmas.{cond_ok}
-use Rattle.wh_batch.specs.Layouts.{dimension_records}
-use Rattle.wh_batch.specs.declared.fault.BatchFault.{BatchFault}
-use Rattle.wh_batch.specs.declared.kind.Kind.TheVariants.{Dimension}
+use Rattle.wh_batch.specs.Layouts.{dimension_records, sale_records}
+use Rattle.wh_batch.specs.declared.kind.Kind.TheVariants.{Dimension, Sales}
 use Rattle.wh_batch.specs.declared.kind.Format.TheVariants.{One}
+use Rattle.wh_batch.specs.declared.fault.BatchFault.{BatchFault}
 use Rattle.wh_history.specs.Keys.{at_place}
-use Rattle.wh_history.specs.Accepted.{Accepted, Content, Describes, policy_after, sold}
+use Rattle.wh_history.specs.Accepted.{Accepted, Content, Describes, Sells, policy_after, sold, sold_by, records_by, placeholders_by}
 use Rattle.wh_history.specs.Tables.{Limits}
 use Rattle.wh_history.proofs.Basics.{some_is}
 use Rattle.wh_rows.specs.declared.rows.CommandRow.{CommandRow}
 use Rattle.wh_rows.specs.Types.{is_key}
-use Rattle.wh_engine.specs.Admission.{kind_word, content_of, in_force, accepted_as, receipt_of, with_room, when_read, by_id, answer, with_content, after_answer, accepted_after}
-use Rattle.wh_engine.specs.Decided.{already, reply_to_known, as_refused, records_told, row_of_batch, number_with_room, IsNew}
+use Rattle.wh_engine.specs.Admission.{kind_word, content_of, in_force, accepted_as, receipt_of, changes_in, first_line_there, with_lines, when_read, by_id, answer, with_content, after_answer, accepted_after}
+use Rattle.wh_engine.specs.Decided.{already, reply_to_known, as_refused, records_told, sales_told, number_past_lines, number_for, IsNew}
 use Rattle.wh_engine.specs.Defined.{command_at}
 use Rattle.wh_engine.specs.Faults.{Judges}
 use Rattle.wh_engine.specs.Kept.{number_of, command_with}
 use Rattle.wh_engine.specs.Sound.{changes_kept, IsAccepted}
 use Rattle.wh_engine.specs.declared.command.Command.{Command}
+use Rattle.wh_engine.specs.declared.fault.Fault.{Fault}
+use Rattle.wh_engine.specs.declared.fault.Fault.TheVariants as faults
 use Rattle.wh_engine.specs.declared.command.Receipt.{Receipt}
 use Rattle.wh_engine.specs.declared.command.Reply.{Reply}
 use Rattle.wh_engine.specs.declared.command.Reply.TheVariants.{Accepted as Accepts, Already}
 use Rattle.wh_engine.specs.declared.command.Refused.{Refused}
-use Rattle.wh_engine.specs.declared.command.Refused.TheVariants.{BadId, Reused, Batch, Full}
+use Rattle.wh_engine.specs.declared.command.Refused.TheVariants.{BadId, Reused, Batch, LineThere, Full}
 use Rattle.wh_engine.specs.declared.command.Limit.TheVariants.{Commands, Changes, Facts}
 use Rattle.wh_engine.proofs.FoundCommands.{stored, told, find_numbered}
 use Rattle.wh_engine.proofs.GrownKeys.{at_last}
 use Rattle.wh_engine.proofs.StaysAccepted.{stays_accepted}
 
--- no number is below none
-zero-not : (n : ℕ) → ltb n 0 ≡ false
-zero-not n = le-ltb n 0 (omega arith)
-
 -- ---- the room that there is
 
-module _ (limits : Limits) (commands : List Accepted) (more : ℕ) where
-  pub no_room : limits.commands ≤ length commands → number_with_room limits commands more ≡ Err (Full Commands)
+module _ (limits : Limits) (commands : List Accepted) (content : Content) where
+  pub no_room : limits.commands ≤ length commands → number_for limits commands content ≡ Err (Full Commands)
   no_room full = rw (le-leb limits.commands (length commands) full) refl
 
-  pub too_many : length commands < limits.commands → limits.changes < changes_kept commands + more → number_with_room limits commands more ≡ Err (Full Changes)
-  too_many room many = rw (lt-leb limits.commands (length commands) room, lt-ltb limits.changes (changes_kept commands + more) many) refl
+  module _ (room : length commands < limits.commands) where
+    past_commands : number_for limits commands content ≡ number_past_lines limits commands content (first_line_there (sold commands) 1 (sold_by content))
+    past_commands = rw (lt-leb limits.commands (length commands) room) refl
 
-  pub has_room : length commands < limits.commands → changes_kept commands + more ≤ limits.changes → number_with_room limits commands more ≡ Ok (suc (length commands))
-  has_room room few = rw (lt-leb limits.commands (length commands) room, le-ltb limits.changes (changes_kept commands + more) few) refl
+    pub line_is_there : (number : ℕ) → first_line_there (sold commands) 1 (sold_by content) ≡ Some number → number_for limits commands content ≡ Err (LineThere number)
+    line_is_there number there = past_commands ∙ ap (number_past_lines limits commands content) there
+
+    module _ (new : first_line_there (sold commands) 1 (sold_by content) ≡ None) where
+      past_lines : number_for limits commands content ≡ number_past_lines limits commands content None
+      past_lines = past_commands ∙ ap (number_past_lines limits commands content) new
+
+      pub too_many_changes : limits.changes < changes_kept commands + changes_in content → number_for limits commands content ≡ Err (Full Changes)
+      too_many_changes many = past_lines ∙ rw (lt-ltb limits.changes (changes_kept commands + changes_in content) many) refl
+
+      pub too_many_facts : changes_kept commands + changes_in content ≤ limits.changes → limits.facts < length (sold commands) + length (sold_by content) → number_for limits commands content ≡ Err (Full Facts)
+      too_many_facts few many =
+          past_lines ∙ rw (le-ltb limits.changes (changes_kept commands + changes_in content) few, lt-ltb limits.facts (length (sold commands) + length (sold_by content)) many) refl
+
+      pub has_room : changes_kept commands + changes_in content ≤ limits.changes → length (sold commands) + length (sold_by content) ≤ limits.facts → number_for limits commands content ≡ Ok (suc (length commands))
+      has_room few fewer =
+          past_lines ∙ rw (le-ltb limits.changes (changes_kept commands + changes_in content) few, le-ltb limits.facts (length (sold commands) + length (sold_by content)) fewer) refl
+
+pub is_none : {X : Type 0} (o : Option X) → ((x : X) → o ≡ Some x → ⊥) → o ≡ None
+is_none None other = refl
+is_none (Some x) other = absurd (other x refl)
+
+-- a content without sales has no line that is there
+pub no_line : (commands : List Accepted) (content : Content) → sold_by content ≡ [] → first_line_there (sold commands) 1 (sold_by content) ≡ None
+no_line commands content none = ap (first_line_there (sold commands) 1) none
+
+-- what was read, or the fault
+told_ok : {A : Type 0} (o : Result A BatchFault) (x : A) → as_refused o ≡ Ok x → o ≡ Ok x
+told_ok (Ok y) x same = ap Ok (read_same y x same)
+  where
+    read_same : {A : Type 0} (y x : A) → as_refused (Ok y) ≡ Ok x → y ≡ x
+    read_same y x h = cc
+told_ok (Err fault) x same = absurd cc
+
+told_err : {A : Type 0} (o : Result A BatchFault) (why : Refused) → as_refused o ≡ Err why → (fault : BatchFault) × (o ≡ Err fault) × (why ≡ Batch fault)
+told_err (Ok y) why same = absurd cc
+told_err (Err fault) why same = (fault, refl, cc)
 
 -- what is left below a limit
 below-limit : (b : Bool) (kept more limit left : ℕ) → left ≡ limit - kept → kept ≤ limit → leb (kept + more) limit ≡ b → leb more left ≡ b
@@ -107,71 +143,104 @@ module _ (limits : Limits) (commands : List Accepted) (c : Command) where
 
   -- ---- the batch's fault, and the room that there is
 
-  abbrev accepts : ℕ → Result ℕ Refused → Result Reply Refused
-  accepts records (Ok number) = Ok (Accepts (record { number = number; records = records; placeholders = 0 }))
-  accepts records (Err why) = Err why
+  abbrev after : Content → List Accepted
+  after content = commands ++ accepted_as c content ∷ []
 
-  -- without sales no line is there, and no limit of facts is passed
-  with_records : (dim : Dim) (records : List DimensionRecord) → sold commands ≡ [] → dimension_records dim (in_force commands) One c.bytes ≡ Ok records
-      → when_read limits commands c (content_of (Dimension dim) (in_force commands) c.bytes) ≡ accepts (length records) (number_with_room limits commands (length records))
-  with_records dim records none is = rw is (by_commands (leb limits.commands (length commands)))
+  abbrev accepts : Content → Result ℕ Refused → Result Reply Refused
+  accepts content (Ok number) = Ok (Accepts (receipt_of (after content) number content))
+  accepts content (Err why) = Err why
+
+  -- a content that was read is answered by the number that there is for it
+  read_answer : (content : Content) → when_read limits commands c (Ok content) ≡ accepts content (number_for limits commands content)
+  read_answer content = by_commands (leb limits.commands (length commands))
     where
-      sales : length (sold commands) + 0 ≡ 0
-      sales = rw none refl
+      by_facts : (own : Result Reply Refused) (full : Bool) → own ≡ accepts content (Ok (suc (length commands))) → cond full (Err (Full Facts)) own ≡ accepts content (cond full (Err (Full Facts)) (Ok (suc (length commands))))
+      by_facts own true is = refl
+      by_facts own false is = is
 
-      never : (n : ℕ) (x y : Result Reply Refused) → cond (ltb n 0) x y ≡ y
-      never n x y = rw (zero-not n) refl
-
-      by_changes : (few : Bool) → cond few (Err (Full Changes)) (cond (ltb limits.facts (length (sold commands) + 0)) (Err (Full Facts)) (Ok (Accepts (record { number = suc (length commands); records = length records; placeholders = 0 }))))
-          ≡ accepts (length records) (cond few (Err (Full Changes)) (Ok (suc (length commands))))
+      by_changes : (full : Bool) → cond full (Err (Full Changes)) (cond (ltb limits.facts (length (sold commands) + length (sold_by content))) (Err (Full Facts)) (accepts content (Ok (suc (length commands)))))
+          ≡ accepts content (cond full (Err (Full Changes)) (cond (ltb limits.facts (length (sold commands) + length (sold_by content))) (Err (Full Facts)) (Ok (suc (length commands)))))
       by_changes true = refl
-      by_changes false = ap (λ n. cond (ltb limits.facts n) (Err (Full Facts)) (Ok (Accepts (record { number = suc (length commands); records = length records; placeholders = 0 })))) sales ∙ never limits.facts _ _
+      by_changes false = by_facts (accepts content (Ok (suc (length commands)))) (ltb limits.facts (length (sold commands) + length (sold_by content))) refl
 
-      by_commands : (full : Bool) → cond full (Err (Full Commands)) (with_room limits commands c (Describes dim records))
-          ≡ accepts (length records) (cond full (Err (Full Commands)) (cond (ltb limits.changes (changes_kept commands + length records)) (Err (Full Changes)) (Ok (suc (length commands)))))
+      by_lines : (o : Option ℕ) → with_lines limits commands c content o ≡ accepts content (number_past_lines limits commands content o)
+      by_lines (Some line) = refl
+      by_lines None = by_changes (ltb limits.changes (changes_kept commands + changes_in content))
+
+      by_commands : (full : Bool) → cond full (Err (Full Commands)) (with_lines limits commands c content (first_line_there (sold commands) 1 (sold_by content)))
+          ≡ accepts content (cond full (Err (Full Commands)) (number_past_lines limits commands content (first_line_there (sold commands) 1 (sold_by content))))
       by_commands true = refl
-      by_commands false = by_changes (ltb limits.changes (changes_kept commands + length records))
+      by_commands false = by_lines (first_line_there (sold commands) 1 (sold_by content))
 
-  module _ (dim : Dim) (kind : c.kind ≡ Dimension dim) (good : is_key 40 c.id ≡ true) (new : IsNew commands c) (unsold : sold commands ≡ []) where
-    is_read : answer limits commands c ≡ when_read limits commands c (content_of (Dimension dim) (in_force commands) c.bytes)
-    is_read = new_answer good new ∙ ap (λ of-kind. when_read limits commands c (content_of of-kind (in_force commands) c.bytes)) kind
-
+  module _ (good : is_key 40 c.id ≡ true) (new : IsNew commands c) where
     -- the batch has a fault
-    pub batch_refused : (why : Refused) → records_told dim (in_force commands) c.bytes ≡ Err why → answer limits commands c ≡ Err why
-    batch_refused why h = is_read ∙ by_records (dimension_records dim (in_force commands) One c.bytes) refl h
-      where
-        by_records : (o : Result (List DimensionRecord) BatchFault) → dimension_records dim (in_force commands) One c.bytes ≡ o → as_refused o ≡ Err why → when_read limits commands c (content_of (Dimension dim) (in_force commands) c.bytes) ≡ Err why
-        by_records (Ok records) is refused = absurd cc
-        by_records (Err fault) is refused = let e : Batch fault ≡ why = cc in rw is (ap Err e)
+    pub fault_refused : (fault : BatchFault) → content_of c.kind (in_force commands) c.bytes ≡ Err fault → answer limits commands c ≡ Err (Batch fault)
+    fault_refused fault h = new_answer good new ∙ ap (when_read limits commands c) h
 
-    records_are : (records : List DimensionRecord) → records_told dim (in_force commands) c.bytes ≡ Ok records → dimension_records dim (in_force commands) One c.bytes ≡ Ok records
-    records_are records h = by_records (dimension_records dim (in_force commands) One c.bytes) h
-      where
-        by_records : (o : Result (List DimensionRecord) BatchFault) → as_refused o ≡ Ok records → o ≡ Ok records
-        by_records (Ok read) same = let e : read ≡ records = cc in ap Ok e
-        by_records (Err fault) same = absurd cc
+    -- there is no number for it
+    pub number_refused : (content : Content) (why : Refused) → content_of c.kind (in_force commands) c.bytes ≡ Ok content → number_for limits commands content ≡ Err why → answer limits commands c ≡ Err why
+    number_refused content why read none = new_answer good new ∙ ap (when_read limits commands c) read ∙ read_answer content ∙ ap (accepts content) none
 
-    -- there is no room for it
-    pub room_refused : (records : List DimensionRecord) (why : Refused) → records_told dim (in_force commands) c.bytes ≡ Ok records → number_with_room limits commands (length records) ≡ Err why → answer limits commands c ≡ Err why
-    room_refused records why read full = is_read ∙ with_records dim records unsold (records_are records read) ∙ ap (accepts (length records)) full
-
-    module _ (records : List DimensionRecord) (read : records_told dim (in_force commands) c.bytes ≡ Ok records) (next : ℕ) (room : number_with_room limits commands (length records) ≡ Ok next) where
+    module _ (content : Content) (read : content_of c.kind (in_force commands) c.bytes ≡ Ok content) (next : ℕ) (room : number_for limits commands content ≡ Ok next) where
       -- it is accepted
-      pub batch_accepted : answer limits commands c ≡ Ok (Accepts (record { number = next; records = length records; placeholders = 0 }))
-      batch_accepted = is_read ∙ with_records dim records unsold (records_are records read) ∙ ap (accepts (length records)) room
-
-      pub content_read : content_of c.kind (in_force commands) c.bytes ≡ Ok (Describes dim records)
-      content_read = ap (λ of-kind. content_of of-kind (in_force commands) c.bytes) kind ∙ rw (records_are records read) refl
+      pub batch_accepted : answer limits commands c ≡ Ok (Accepts (receipt_of (after content) next content))
+      batch_accepted = new_answer good new ∙ ap (when_read limits commands c) read ∙ read_answer content ∙ ap (accepts content) room
 
       pub next_number : next ≡ suc (length commands)
       next_number =
           let (few, rest) = cond_ok (leb limits.commands (length commands)) (Full Commands) _ next room in
-          let (some, last) = cond_ok (ltb limits.changes (changes_kept commands + length records)) (Full Changes) _ next rest in
-          cc
+          by_lines (first_line_there (sold commands) 1 (sold_by content)) rest
+        where
+          by_lines : (o : Option ℕ) → number_past_lines limits commands content o ≡ Ok next → next ≡ suc (length commands)
+          by_lines (Some number) h = absurd cc
+          by_lines None h =
+              let (some, more) = cond_ok (ltb limits.changes (changes_kept commands + changes_in content)) (Full Changes) _ next h in
+              let (left, last) = cond_ok (ltb limits.facts (length (sold commands) + length (sold_by content))) (Full Facts) _ next more in
+              cc
 
-      pub list_accepted : IsAccepted limits commands → IsAccepted limits (commands ++ accepted_as c (Describes dim records) ∷ [])
-      list_accepted accepted =
-          subst (IsAccepted limits) (ap (after_answer commands c) batch_accepted ∙ ap (with_content commands c) content_read) (stays_accepted limits commands c dim kind accepted)
+      -- no line of it is there
+      pub lines_new : first_line_there (sold commands) 1 (sold_by content) ≡ None
+      lines_new =
+          let (few, rest) = cond_ok (leb limits.commands (length commands)) (Full Commands) _ next room in
+          by_lines (first_line_there (sold commands) 1 (sold_by content)) rest
+        where
+          by_lines : (o : Option ℕ) → number_past_lines limits commands content o ≡ Ok next → o ≡ None
+          by_lines (Some line) h = absurd cc
+          by_lines None h = refl
+
+      pub list_accepted : IsAccepted limits commands → IsAccepted limits (commands ++ accepted_as c content ∷ [])
+      list_accepted accepted = subst (IsAccepted limits) (ap (after_answer commands c) batch_accepted ∙ ap (with_content commands c) read) (stays_accepted limits commands c accepted)
+
+      -- its receipt, and its row among the commands
+      pub own_receipt : receipt_of (after content) next content ≡ record { number = next; records = records_by content; placeholders = placeholders_by (after content) next content }
+      own_receipt = refl
+
+      pub own_row : command_at (after content) (suc (length commands)) ≡ Some (record { number = next; id = c.id; kind = kind_word c.kind; bytes = c.bytes; records = records_by content; placeholders = placeholders_by (after content) next content })
+      own_row =
+          let longer : suc (length commands) ≡ length (after content) = omega (arith, length-append commands (accepted_as c content ∷ [])) in
+          ap (λ (n : ℕ). option_map (stored (suc (length commands))) (option_map (told (after content) (suc (length commands))) (at_place n (after content)))) longer
+          ∙ ap (λ (o : Option Accepted). option_map (stored (suc (length commands))) (option_map (told (after content) (suc (length commands))) o)) (at_last commands (accepted_as c content))
+          ∙ ap (λ (n : ℕ). Some (record { number = n; id = c.id; kind = kind_word c.kind; bytes = c.bytes; records = records_by content; placeholders = placeholders_by (after content) n content })) (sym next_number)
+
+    -- a batch of records, and one of sales
+
+    module _ (dim : Dim) (kind : c.kind ≡ Dimension dim) where
+      pub records_content : (records : List DimensionRecord) → records_told dim (in_force commands) c.bytes ≡ Ok records → content_of c.kind (in_force commands) c.bytes ≡ Ok (Describes dim records)
+      records_content records read = ap (λ k. content_of k (in_force commands) c.bytes) kind ∙ rw (told_ok (dimension_records dim (in_force commands) One c.bytes) records read) refl
+
+      pub records_refused : (why : Refused) → records_told dim (in_force commands) c.bytes ≡ Err why → answer limits commands c ≡ Err why
+      records_refused why read =
+          let (fault, is, same) = told_err (dimension_records dim (in_force commands) One c.bytes) why read in
+          fault_refused fault (ap (λ k. content_of k (in_force commands) c.bytes) kind ∙ ap (λ o. o >>= λ records. Ok (Describes dim records)) is) ∙ ap Err (sym same)
+
+    module _ (kind : c.kind ≡ Sales) where
+      pub sales_content : (sales : List SaleRecord) → sales_told (in_force commands) c.bytes ≡ Ok sales → content_of c.kind (in_force commands) c.bytes ≡ Ok (Sells sales)
+      sales_content sales read = ap (λ k. content_of k (in_force commands) c.bytes) kind ∙ rw (told_ok (sale_records (in_force commands) One c.bytes) sales read) refl
+
+      pub sales_refused : (why : Refused) → sales_told (in_force commands) c.bytes ≡ Err why → answer limits commands c ≡ Err why
+      sales_refused why read =
+          let (fault, is, same) = told_err (sale_records (in_force commands) One c.bytes) why read in
+          fault_refused fault (ap (λ k. content_of k (in_force commands) c.bytes) kind ∙ ap (λ o. o >>= λ sales. Ok (Sells sales)) is) ∙ ap Err (sym same)
 
   -- ---- the list after a command
 
@@ -183,14 +252,6 @@ module _ (limits : Limits) (commands : List Accepted) (c : Command) where
 
   pub after_accepted : (receipt : Receipt) (content : Content) → answer limits commands c ≡ Ok (Accepts receipt) → content_of c.kind (in_force commands) c.bytes ≡ Ok content → accepted_after limits commands c ≡ commands ++ accepted_as c content ∷ []
   after_accepted receipt content said read = ap (after_answer commands c) said ∙ ap (with_content commands c) read
-
-  -- ---- the new command's row
-
-  pub row_added : (dim : Dim) (records : List DimensionRecord) → command_at (commands ++ accepted_as c (Describes dim records) ∷ []) (suc (length commands)) ≡ Some (row_of_batch c (suc (length commands)) (length records))
-  row_added dim records =
-      let longer : suc (length commands) ≡ length (commands ++ accepted_as c (Describes dim records) ∷ []) = omega (arith, length-append commands (accepted_as c (Describes dim records) ∷ [])) in
-      ap (λ (n : ℕ). option_map (stored (suc (length commands))) (option_map (told (commands ++ accepted_as c (Describes dim records) ∷ []) (suc (length commands))) (at_place n (commands ++ accepted_as c (Describes dim records) ∷ [])))) longer
-      ∙ ap (λ (o : Option Accepted). option_map (stored (suc (length commands))) (option_map (told (commands ++ accepted_as c (Describes dim records) ∷ []) (suc (length commands))) o)) (at_last commands (accepted_as c (Describes dim records)))
 
 -- the policy in force is the last that was given
 pub policy_in_force : (commands : List Accepted) → IsSome (policy_after None commands) → policy_after None commands ≡ Some (in_force commands)
@@ -211,3 +272,11 @@ sound_in_force limits commands accepted =
 pub judged_ok : {X Y : Type 0} (fits : X → Y → Type 0) (x : X) (judged : Result Y Refused) → Judges fits (Ok x) judged → (y : Y) × (judged ≡ Ok y) × fits x y
 judged_ok fits x (Ok y) h = (y, refl, h)
 judged_ok fits x (Err why) h = absurd h
+
+-- a refusal that was judged is one of what hangs on it
+pub judged_err : {X Y Z W : Type 0} (fits : X → Y → Type 0) (meets : Z → W → Type 0) (fault : Fault) (judged : Result Y Refused) (answered : Result W Refused) → Judges fits (Err fault) judged → ((why : Refused) → judged ≡ Err why → answered ≡ Err why) → Judges meets (Err fault) answered
+judged_err fits meets (faults.Refused why) judged answered h so = so why h
+judged_err fits meets faults.Memory judged answered h so = tt
+judged_err fits meets (faults.Store cause) judged answered h so = tt
+judged_err fits meets (faults.Damaged table) judged answered h so = h
+judged_err fits meets faults.Reopen judged answered h so = h

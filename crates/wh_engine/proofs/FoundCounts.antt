@@ -1,17 +1,14 @@
 -- How much the tables of accepted commands hold.
-use Rattle.std.proofs.Common.{◌≡◌, inl, ℕ, true, false, List, [], length, Some, None, Result, Ok, Err, refl, sym, ap, ◌∙◌}
-use Rattle.std.specs.FinMap.{len, values}
+use Rattle.std.proofs.Common.{◌≡◌, inl, ℕ, false, List, length, Some, Result, Ok, Err, refl, ap, ◌∙◌}
+use Rattle.std.specs.FinMap.{len}
 use Rattle.sqlite.specs.State.{State}
 use Rattle.wh_policy.specs.declared.attribute.Dim.TheVariants.{Product, Store, Customer}
-use Rattle.wh_history.specs.Accepted.{Accepted, sold, members}
+use Rattle.wh_history.specs.Accepted.{Accepted, members}
 use Rattle.wh_history.specs.Tables.{Limits}
 use Rattle.wh_rows.specs.AtRest.{IsAtRest, Leaves}
-use Rattle.wh_rows.specs.Rows as row
 use Rattle.wh_rows.specs.Tables.{Tables}
-use Rattle.wh_rows.specs.declared.key.LineKey.{LineKey}
-use Rattle.wh_rows.proofs.Orders.{line_cmp_total, line_cmp-IsAntisymmetric}
 use Rattle.wh_engine.specs.Answered.{IsReady, IsCounted, counts_of}
-use Rattle.wh_engine.specs.Defined.{AreOf, fact_at}
+use Rattle.wh_engine.specs.Defined.{AreOf}
 use Rattle.wh_engine.specs.Faults.{IsServed, Judges, stops}
 use Rattle.wh_engine.specs.Sound.{IsAccepted}
 use Rattle.wh_engine.specs.declared.counts.Counts.{Counts}
@@ -19,23 +16,14 @@ use Rattle.wh_engine.specs.declared.fault.Fault.{Fault}
 use Rattle.wh_engine.specs.declared.fault.Fault.TheVariants as faults
 use Rattle.wh_engine.specs.declared.session.Session.{Session}
 use Rattle.wh_engine.proofs.FoundCommands.{commands_counted}
-use Rattle.wh_engine.proofs.Listed.{filter_all, none_passes, len-values}
+use Rattle.wh_engine.proofs.FoundFacts.{facts_counted}
 use Rattle.wh_engine.proofs.ListedChanges.{changes_counted}
-
--- without sales there is no fact
-no_fact : (commands : List Accepted) (key : LineKey) → sold commands ≡ [] → fact_at commands key ≡ None
-no_fact commands key unsold = rw unsold refl
-
-facts_counted : (limits : Limits) (commands : List Accepted) (t : Tables) → AreOf limits commands t → sold commands ≡ [] → len t.fact ≡ length (sold commands)
-facts_counted limits commands t are unsold =
-    let none : values t.fact ≡ [] = sym (filter_all (values t.fact)) ∙ none_passes row.line_cmp line_cmp_total line_cmp-IsAntisymmetric row.fact.key (λ _. true) t.fact (λ k w here kept. let gone = are.fact k ∙ no_fact commands k unsold in cc) in
-    len-values row.line_cmp t.fact ∙ ap length none ∙ sym (ap length unsold)
 
 pub counts_are : (limits : Limits) (commands : List Accepted) (t : Tables) → AreOf limits commands t → IsAccepted limits commands → (held changes facts products stores customers : ℕ)
     → held ≡ len t.command → changes ≡ len t.change → facts ≡ len t.fact → products ≡ length (members Product commands) → stores ≡ length (members Store commands) → customers ≡ length (members Customer commands)
     → record { format = 1; commands = held; changes = changes; facts = facts; products = products; stores = stores; customers = customers } ≡ counts_of commands
 counts_are limits commands t are accepted held changes facts products stores customers held-is changes-are facts-are products-are stores-are customers-are =
-    rw (held-is ∙ commands_counted limits commands t are, changes-are ∙ changes_counted limits commands t are, facts-are ∙ facts_counted limits commands t are accepted.unsold, products-are, stores-are, customers-are) refl
+    rw (held-is ∙ commands_counted limits commands t are, changes-are ∙ changes_counted limits commands t are, facts-are ∙ facts_counted commands limits t are accepted.lines, products-are, stores-are, customers-are) refl
 
 -- ---- a count that was answered, or refused
 
@@ -54,4 +42,3 @@ module _ (limits : Limits) (commands : List Accepted) (session : Session) (old n
   counted (Err (faults.Refused why)) judged rests left = absurd cc
   counted (Err (faults.Damaged table)) judged rests left = judged
   counted (Err faults.Reopen) judged rests left = judged
-  counted (Err faults.Sales) judged rests left = judged

@@ -25,7 +25,7 @@ use Rattle.wh_engine.specs.Sound.{IsGivenValue, IsGoodRecord}
 pub same_key : (most : ℕ) (text : List ℕ) → day.is_key most text ≡ is_key most text
 same_key most text = refl
 
-read_ok : {A : Type 0} (kind : FaultKind) (o : Option A) (x : A) → or_fault kind o ≡ Ok x → o ≡ Some x
+pub read_ok : {A : Type 0} (kind : FaultKind) (o : Option A) (x : A) → or_fault kind o ≡ Ok x → o ≡ Some x
 read_ok kind (Some y) x h = let e : y ≡ x = cc in ap Some e
 read_ok kind None x h = absurd cc
 
@@ -33,7 +33,7 @@ test_ok : {A : Type 0} (b : Bool) (kind : FaultKind) (x y : A) → cond b (Ok x)
 test_ok true kind x y h = (refl, cc)
 test_ok false kind x y h = absurd cc
 
-good_key : (most : ℕ) (field key : List ℕ) → key_at most field ≡ Ok key → is_key most key ≡ true
+pub good_key : (most : ℕ) (field key : List ℕ) → key_at most field ≡ Ok key → is_key most key ≡ true
 unfolding key_at
 good_key most field key h =
     let (passed, same) = test_ok (day.is_key most field) BadKey field key h in
@@ -89,7 +89,7 @@ good_record attributes (id ∷ day ∷ fields) r six h =
     rw (← e) (record { natural = good_key 32 id natural id_is; day = good_day day number day_is; few = omega arith; values = all_given })
 
 -- what holds of each record that rows write holds of all
-all_read : {R : Type 0} (read : List (List ℕ) → Result R FaultKind) (P : R → Type 0) → ((fields : List (List ℕ)) (r : R) → read fields ≡ Ok r → P r)
+pub all_read : {R : Type 0} (read : List (List ℕ) → Result R FaultKind) (P : R → Type 0) → ((fields : List (List ℕ)) (r : R) → read fields ≡ Ok r → P r)
     → (rows : List (List (List ℕ))) (entries : List R) → map read rows ≡ map (λ entry. Ok entry) entries → AllByRecursion P entries
 all_read read P so rows [] each = tt
 all_read read P so [] (entry ∷ entries) each = absurd cc

@@ -1,6 +1,6 @@
 -- Facts that are put at their keys.
-use Rattle.std.proofs.Common.{◌≡◌, ◌==◌, true, false, cond, List, [], ◌∷◌, Option, Some, None, refl, sym, ◌∙◌, ap, subst}
-use Rattle.std.specs.Prelude.{find, bytes_eq}
+use Rattle.std.proofs.Common.{◌≡◌, ◌==◌, ◌&&◌, true, false, cond, List, [], ◌∷◌, map, Option, Some, None, refl, sym, ◌∙◌, ap, subst}
+use Rattle.std.specs.Prelude.{find, bytes_eq, option_map}
 use Rattle.std.specs.Cmp.{eq_by_cmp_equiv, Equal-is}
 use Rattle.std.specs.FinMap.{FinMap, get, insert, get-insert}
 use Rattle.std.specs.List.{AllByRecursion, IsDistinct}
@@ -8,26 +8,30 @@ use Rattle.std.specs.Option.{option_or}
 use Rattle.std.specs.Ordering.{eq_by_cmp}
 use Rattle.std.proofs.lemmas.Bool.{and_parts, eqb-true, eq-eqb}
 use Rattle.std.proofs.lemmas.Slice.Eq.{bytes_eq-Decides}
+use Rattle.wh_policy.specs.declared.record.SaleRecord.{SaleRecord}
+use Rattle.wh_history.specs.Accepted.{Accepted}
+use Rattle.wh_history.specs.Tables.{fact_of}
 use Rattle.wh_history.specs.declared.facts.Fact.{Fact}
 use Rattle.wh_history.proofs.Joins.{all_weaker}
 use Rattle.wh_rows.proofs.Orders.{line_cmp_total, line_cmp-IsAntisymmetric}
 use Rattle.wh_rows.specs.Rows as row
 use Rattle.wh_rows.specs.declared.key.LineKey.{LineKey}
 use Rattle.wh_engine.specs.Planned.{with_rows, has_line, AreFacts}
+use Rattle.wh_engine.specs.Sound.{same_line}
 
 -- ---- the key of a fact
 
-own_line : (f : Fact) → has_line (row.fact.key f) f ≡ true
+pub own_line : (f : Fact) → has_line (row.fact.key f) f ≡ true
 own_line f = rw ((bytes_eq-Decides f.ticket f.ticket).1 refl, eq-eqb f.line f.line refl) refl
 
-line_is : (key : LineKey) (f : Fact) → has_line key f ≡ true → row.fact.key f ≡ key
+pub line_is : (key : LineKey) (f : Fact) → has_line key f ≡ true → row.fact.key f ≡ key
 line_is key f h =
     let parts = and_parts (bytes_eq f.ticket key.ticket) (f.line == key.line) h in
     let ticket : f.ticket ≡ key.ticket = (bytes_eq-Decides f.ticket key.ticket).0 parts.0 in
     let line : f.line ≡ key.line = eqb-true f.line key.line parts.1 in
     rw (ticket, line) refl
 
-line_tied : (key : LineKey) (f : Fact) → eq_by_cmp row.line_cmp key (row.fact.key f) ≡ has_line key f
+pub line_tied : (key : LineKey) (f : Fact) → eq_by_cmp row.line_cmp key (row.fact.key f) ≡ has_line key f
 line_tied key f =
     elim (has_line key f) as (λ b. (has_line key f ≡ b) → eq_by_cmp row.line_cmp key (row.fact.key f) ≡ b) [
       | true ↦ λ has. ap (eq_by_cmp row.line_cmp key) (line_is key f has) ∙ (eq_by_cmp_equiv line_cmp_total).refl key
@@ -80,7 +84,7 @@ all_behind : (f : Fact) (gs fs : List Fact) → AllByRecursion (λ g. has_line (
 all_behind f [] fs apart found = tt
 all_behind f (g ∷ gs) fs apart found = (behind_other f g fs apart.0 found.0, all_behind f gs fs apart.1 found.1)
 
-found_each : (facts : List Fact) → Once facts → AllByRecursion (λ g. find (has_line (row.fact.key g)) facts ≡ Some g) facts
+pub found_each : (facts : List Fact) → Once facts → AllByRecursion (λ g. find (has_line (row.fact.key g)) facts ≡ Some g) facts
 unfolding IsDistinct
 found_each [] once = tt
 found_each (f ∷ fs) once = (rw (own_line f) refl, all_behind f fs fs once.0 (found_each fs once.1))
@@ -91,3 +95,29 @@ stand_after before after facts are = all_weaker (λ f. find (has_line (row.fact.
   where
     such : (f : Fact) → find (has_line (row.fact.key f)) facts ≡ Some f → after (row.fact.key f) ≡ Some f
     such f found = sym (are.lead (row.fact.key f)) ∙ ap (λ o. option_or o (before (row.fact.key f))) found
+
+-- ---- the facts of sales
+
+pub or_none : {X : Type 0} (o : Option X) → option_or o None ≡ o
+or_none None = refl
+or_none (Some x) = refl
+
+module _ (commands : List Accepted) where
+  -- the fact of the first sale on a line is the first fact with that line
+  pub found_mapped : (key : LineKey) (sales : List SaleRecord) → find (has_line key) (map (fact_of commands) sales) ≡ option_map (fact_of commands) (find (λ s. bytes_eq s.ticket key.ticket && (s.line == key.line)) sales)
+  found_mapped key [] = refl
+  found_mapped key (s ∷ sales) =
+      elim (bytes_eq s.ticket key.ticket && (s.line == key.line)) as (λ b. cond b (Some (fact_of commands s)) (find (has_line key) (map (fact_of commands) sales)) ≡ option_map (fact_of commands) (cond b (Some s) (find (λ (t : SaleRecord). bytes_eq t.ticket key.ticket && (t.line == key.line)) sales))) [
+        | true ↦ refl
+        | false ↦ found_mapped key sales
+      ]
+
+  apart_mapped : (s : SaleRecord) (sales : List SaleRecord) → AllByRecursion (λ t. same_line s t ≡ false) sales → AllByRecursion (λ g. has_line (row.fact.key (fact_of commands s)) g ≡ false) (map (fact_of commands) sales)
+  apart_mapped s [] all = tt
+  apart_mapped s (t ∷ sales) all = (all.0, apart_mapped s sales all.1)
+
+  -- where no two sales have one line, no two of their facts have one key
+  pub facts_once : (sales : List SaleRecord) → IsDistinct same_line sales → Once (map (fact_of commands) sales)
+  unfolding IsDistinct
+  facts_once [] once = tt
+  facts_once (s ∷ sales) once = (apart_mapped s sales once.0, facts_once sales once.1)

@@ -1,6 +1,6 @@
 -- Steps that the growing tables share.
-use Rattle.std.proofs.Common.{◌≡◌, inl, inr, ℕ, zero, suc, ◌<◌, ◌≤◌, List, [], ◌∷◌, ◌++◌, length, Option, Some, None, refl, sym, ◌∙◌, ap, subst, arith, length-append}
-use Rattle.std.specs.Prelude.{option_map, slice_get}
+use Rattle.std.proofs.Common.{◌≡◌, inl, inr, ℕ, zero, suc, ◌<◌, ◌≤◌, Bool, true, false, cond, List, [], ◌∷◌, ◌++◌, length, Option, Some, None, refl, sym, ◌∙◌, ap, subst, arith, length-append}
+use Rattle.std.specs.Prelude.{find, option_map, slice_get}
 use Rattle.std.specs.Option.{option_and_then}
 use Rattle.std.specs.List.{AllByRecursion}
 use Rattle.std.proofs.lemmas.Bool.{cases_lt}
@@ -62,3 +62,12 @@ grows_behind at low high old new n stays before past =
         | inr within ↦ inr (record { number = n; is = refl; above = later; within = within; none = before later })
       ]
     ]
+
+-- what holds of all holds of the first that passes
+pub found_is : {X : Type 0} (P : X → Type 0) (p : X → Bool) (xs : List X) (x : X) → AllByRecursion P xs → find p xs ≡ Some x → P x
+found_is P p [] x all found = absurd cc
+found_is P p (y ∷ ys) x all found =
+    elim (p y) as (λ b. cond b (Some y) (find p ys) ≡ Some x → P x) [
+      | true ↦ λ first. subst P (some_is y x first) all.0
+      | false ↦ λ later. found_is P p ys x all.1 later
+    ] found

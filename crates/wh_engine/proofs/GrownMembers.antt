@@ -63,7 +63,7 @@ module _ (dim : Dim) where
   opened_in_all (c ∷ commands) = opened_both (anchors_by dim c.content) (mentions dim commands) (opened_by c.content) (opened_in_all commands)
 
   -- so it has a number
-  opening_given : (commands : List Accepted) (durable : ℕ) (natural : List ℕ) → at_place durable (members dim commands) ≡ Some natural → 0 < surrogate_key dim commands (opening_of natural)
+  pub opening_given : (commands : List Accepted) (durable : ℕ) (natural : List ℕ) → at_place durable (members dim commands) ≡ Some natural → 0 < surrogate_key dim commands (opening_of natural)
   opening_given commands durable natural is =
       let mentioned = mentions dim commands in
       let P = λ (n : List ℕ). list_any (λ b. same_anchor b (opening_of n)) mentioned ≡ true in

@@ -22,6 +22,11 @@ numbered number values = record { number = number; values = values }
 pub profile_keyed : (commands : List Accepted) (k : ℕ) (v : ProfileRow) → profile_at commands k ≡ Some v → row.profile.key v ≡ k
 profile_keyed commands k v is = keyed_map row.profile.key k (numbered k) (λ _. refl) (profile_row commands k) v is
 
+pub none_past : (list : List Accepted) (n : ℕ) → suc (length (profiles_of list)) < n → profile_at list n ≡ None
+none_past list zero h = absurd (omega arith)
+none_past list (suc zero) h = absurd (omega arith)
+none_past list (suc (suc n)) h = ap (λ o. option_map (numbered (suc (suc n))) (option_map six o)) (at_past (suc n) (profiles_of list) (omega arith))
+
 module _ (commands : List Accepted) (c : Accepted) (batch : governs c.content ≡ false) where
   abbrev after : List Accepted
   after = commands ++ c ∷ []
@@ -32,11 +37,6 @@ module _ (commands : List Accepted) (c : Accepted) (batch : governs c.content �
   row_stays (suc (suc n)) h =
       ap (λ combinations. option_map six (at_place (suc n) combinations)) (profiles-last commands c batch)
       ∙ ap (option_map six) (at_front (suc n) (profiles_of commands) _ (omega arith))
-
-  none_past : (list : List Accepted) (n : ℕ) → suc (length (profiles_of list)) < n → profile_at list n ≡ None
-  none_past list zero h = absurd (omega arith)
-  none_past list (suc zero) h = absurd (omega arith)
-  none_past list (suc (suc n)) h = ap (λ o. option_map (numbered (suc (suc n))) (option_map six o)) (at_past (suc n) (profiles_of list) (omega arith))
 
   -- the profiles that had numbers keep their rows
   pub profile_grows : (n : ℕ) → Grows (λ n. n) (suc (length (profiles_of commands))) (suc (length (profiles_of after))) (profile_at commands) (profile_at after) n

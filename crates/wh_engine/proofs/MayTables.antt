@@ -20,7 +20,7 @@ use Rattle.wh_store.specs.Edits.{with_row, with_edit, MayBeMade, MayAll}
 
 -- ---- what holds of what is made at numbers
 
-pub all_made : {V : Type 0} (P : V → Type 0) (made : ℕ → Option V) → ((n : ℕ) (v : V) → made n ≡ Some v → P v) → (ns : List ℕ) → AllByRecursion P (filter_map made ns)
+pub all_made : {I V : Type 0} (P : V → Type 0) (made : I → Option V) → ((n : I) (v : V) → made n ≡ Some v → P v) → (ns : List I) → AllByRecursion P (filter_map made ns)
 all_made P made each [] = tt
 all_made P made each (n ∷ ns) =
     let rest = all_made P made each ns in

@@ -64,11 +64,14 @@ good_records Customer = tt
 
 -- where its text writes its policy
 accepted : policy_at (codes "policy") ≡ Ok policy → IsAccepted limits commands
+unfolding IsDistinct
 accepted written = record {
   limited = refl;
   commands_within = omega arith;
   changes_within = omega arith;
+  facts_within = omega arith;
   few_a_batch = omega arith;
+  few_sales_a_batch = omega arith;
   begun = record { policy = policy; bytes = codes "policy"; rest = record { id = codes "p1"; kind = codes "product"; bytes = codes "first"; content = Describes Product (told ∷ []) } ∷ []; making = refl; written = written; kept = refl };
   governed = refl;
   six = few_slots;
@@ -76,5 +79,6 @@ accepted written = record {
   kinds = (refl, (refl, tt));
   distinct = apart;
   records = good_records;
-  unsold = refl;
+  sales = tt;
+  lines = tt;
 }

@@ -1,24 +1,24 @@
 -- A batch of one dimension leaves the others' members and rows.
 use Rattle.std.proofs.Common.{◌≡◌, ℕ, suc, ◌-◌, true, false, cond, List, [], ◌∷◌, ◌++◌, length, map, Option, Some, None, inl, refl, sym, ◌∙◌, ap, subst, append-nil, arith}
 use Rattle.std.specs.Prelude.{bytes_eq, filter_map}
-use Rattle.std.specs.List.{range_with_len, cons_option, IsDistinct}
+use Rattle.std.specs.List.{range_with_len, cons_option}
 use Rattle.wh_policy.specs.declared.attribute.Dim.{Dim}
 use Rattle.wh_policy.specs.declared.attribute.Dim.TheVariants.{Product, Store, Customer}
 use Rattle.wh_policy.specs.declared.policy.Policy.{Policy}
 use Rattle.wh_policy.specs.declared.record.DimensionRecord.{DimensionRecord}
 use Rattle.wh_policy.specs.Written.{IsSound}
 use Rattle.wh_history.specs.Keys.{distinct}
-use Rattle.wh_history.specs.Accepted.{Accepted, Anchor, Describes, same_dim, members, policy_after, sold}
+use Rattle.wh_history.specs.Accepted.{Accepted, Anchor, Describes, same_dim, members, policy_after}
 use Rattle.wh_history.specs.Plan.{Needs, IsPlan}
 use Rattle.wh_history.specs.Tables.{dimension_row}
 use Rattle.wh_history.specs.declared.plan.Edit.{Edit}
 use Rattle.wh_history.specs.declared.rows.DimRow.{DimRow}
 use Rattle.wh_history.proofs.Basics.{some_is}
 use Rattle.wh_rows.specs.declared.key.MemberKey.{MemberKey}
-use Rattle.wh_engine.specs.Defined.{member_at, fact_at}
+use Rattle.wh_engine.specs.Defined.{member_at}
 use Rattle.wh_engine.specs.Laws.{ShowsNoProfile}
-use Rattle.wh_engine.specs.Planned.{Edits, rows_of_dimension, in_dimension, behind, members_behind, new_members, AreFacts}
-use Rattle.wh_engine.proofs.GrownOthers.{same_dim_is, mentions_stay, table_stays, plain_table_stays, no_fact}
+use Rattle.wh_engine.specs.Planned.{Edits, rows_of_dimension, in_dimension, behind, members_behind, new_members}
+use Rattle.wh_engine.proofs.GrownOthers.{same_dim_is, mentions_stay, table_stays, plain_table_stays}
 use Rattle.wh_engine.proofs.GrownPlain.{sound_policies_show_none}
 
 -- ---- no edit
@@ -34,7 +34,7 @@ empty_plan before after same = record { ordered = tt; exact = λ key. none_neede
 
 -- ---- no member
 
-none_behind : (low high : ℕ) → high ≡ low → behind low high ≡ []
+pub none_behind : (low high : ℕ) → high ≡ low → behind low high ≡ []
 none_behind low high same = let none : high - low ≡ 0 = omega (arith, same) in ap (range_with_len (suc low)) none
 
 alone : (xs ys zs : List MemberKey) → ys ≡ [] → zs ≡ [] → xs ++ ys ++ zs ≡ xs
@@ -47,7 +47,7 @@ joined Product keys none = alone (keys Product) (keys Store) (keys Customer) (no
 joined Store keys none = rw (none Product refl, none Customer refl) (append-nil (keys Store))
 joined Customer keys none = rw (none Product refl, none Store refl) refl
 
-made_mapped : {X Y Z : Type 0} (f : X → Y) (make : Y → Option Z) (xs : List X) → filter_map make (map f xs) ≡ filter_map (λ x. make (f x)) xs
+pub made_mapped : {X Y Z : Type 0} (f : X → Y) (make : Y → Option Z) (xs : List X) → filter_map make (map f xs) ≡ filter_map (λ x. make (f x)) xs
 made_mapped f make [] = refl
 made_mapped f make (x ∷ xs) = ap (cons_option (make (f x))) (made_mapped f make xs)
 
@@ -66,11 +66,6 @@ module _ (dim : Dim) (commands : List Accepted) (c : Accepted) (records : List D
   members_told =
       ap (filter_map (member_at after)) (joined dim (members_behind commands after) no_members)
       ∙ made_mapped (λ n. record { dim = dim; durable = n }) (member_at after) (behind (length (members dim commands)) (length (members dim after)))
-
-  -- where nothing was sold, no fact is new and none gets other keys
-  pub none_sold : sold commands ≡ [] → AreFacts (fact_at commands) (fact_at (commands ++ c ∷ [])) []
-  unfolding IsDistinct
-  none_sold unsold = record { lead = λ key. sym (no_fact dim commands c records is unsold key); needed = tt; once = tt }
 
   module _ (policy : Policy) (governed : policy_after None commands ≡ Some policy) (sound : IsSound policy) where
     plain : (other : Dim) → same_dim other dim ≡ false → same_dim Customer dim ≡ true → ShowsNoProfile commands other

@@ -4,9 +4,8 @@ use Rattle.std.specs.Prelude.{unwrap_or}
 use Rattle.sqlite.specs.Tree.{Trees}
 use Rattle.sqlite.specs.State.{State}
 use Rattle.wh_policy.specs.Policy.{trial_policy}
-use Rattle.wh_policy.specs.declared.attribute.Dim.{Dim}
-use Rattle.wh_batch.specs.declared.kind.Kind.TheVariants.{Dimension}
-use Rattle.wh_history.specs.Accepted.{Accepted, Describes}
+use Rattle.wh_history.specs.Accepted.{Accepted}
+use Rattle.wh_history.specs.Laws.{governs}
 use Rattle.wh_history.specs.Tables.{Limits}
 use Rattle.wh_history.proofs.Stays.{policy_last}
 use Rattle.wh_rows.specs.AtRest.{AreTrees, IsAtRest, Leaves}
@@ -30,13 +29,13 @@ use Rattle.wh_engine.specs.declared.fault.Fault.TheVariants as faults
 use Rattle.wh_engine.specs.declared.session.Session.{Session}
 use Rattle.wh_engine.proofs.Decisions.{judged_ok, after_repeat, after_accepted}
 use Rattle.wh_engine.proofs.MayBatch.{a_batch_may_be_written}
-use Rattle.wh_engine.proofs.StaysAccepted.{stays_accepted}
+use Rattle.wh_engine.proofs.StaysAccepted.{content_good, stays_accepted}
 use Rattle.wh_engine.proofs.WrittenBatch.{a_batch_is_written}
 
 held_as : (limits : Limits) (commands : List Accepted) (session : Session) (t : Tables) → session ≡ record { limits = limits; policy = in_force commands; must_reopen = false } → IsAccepted limits commands → AreOf limits commands t → IsHeld session commands t
 held_as limits commands session t is accepted are = rw is (record { accepted = accepted; are = are; policy = refl })
 
-module _ (limits : Limits) (commands : List Accepted) (c : Command) (dim : Dim) (session : Session) (old : State) (kind : c.kind ≡ Dimension dim) (ready : IsReady limits commands session old) where
+module _ (limits : Limits) (commands : List Accepted) (c : Command) (session : Session) (old : State) (ready : IsReady limits commands session old) where
   abbrev tables : Tables
   tables = ready.rests.tables
 
@@ -53,54 +52,56 @@ module _ (limits : Limits) (commands : List Accepted) (c : Command) (dim : Dim) 
   kept_ready new list same rests = rw same (still_ready new rests)
 
   -- it came again
-  pub repeat_performed : (receipt : Receipt) (new : State) → Judges (Decides commands c dim) (Ok (Repeat receipt)) (answer session.limits commands c) → IsAtRest (Some tables) new
+  pub repeat_performed : (receipt : Receipt) (new : State) → Judges (Decides commands c) (Ok (Repeat receipt)) (answer session.limits commands c) → IsAtRest (Some tables) new
       → IsPerformed limits commands c (Ok (Already receipt)) session new
   repeat_performed receipt new judged rests =
-      let (reply, is, same) = judged_ok (Decides commands c dim) (Repeat receipt) (answer session.limits commands c) judged in
+      let (reply, is, same) = judged_ok (Decides commands c) (Repeat receipt) (answer session.limits commands c) judged in
       let said : answer limits commands c ≡ Ok (Already receipt) = ap (λ l. answer l commands c) (sym limits_are) ∙ is ∙ ap Ok same in
       (said, kept_ready new _ (after_repeat limits commands c receipt said) rests)
 
   -- it was refused, or couldn't be decided
-  pub fault_performed : (fault : Fault) (new : State) → Judges (Decides commands c dim) (Err fault) (answer session.limits commands c) → (IsServed {A = Decision} (Err fault) → IsAtRest (Some tables) new) → Leaves (Some tables) new
+  pub fault_performed : (fault : Fault) (new : State) → Judges (Decides commands c) (Err fault) (answer session.limits commands c) → (IsServed {A = Decision} (Err fault) → IsAtRest (Some tables) new) → Leaves (Some tables) new
       → IsPerformed limits commands c (Err fault) session new
   fault_performed (faults.Refused why) new judged rests left = (ap (λ l. answer l commands c) (sym limits_are) ∙ judged, still_ready new (rests tt))
   fault_performed faults.Memory new judged rests left = still_ready new (rests tt)
   fault_performed (faults.Store cause) new judged rests left = record { each = λ trees may. inl (record { tables = tables; are = ready.rests.are; trees_are = left.each trees may }) }
   fault_performed (faults.Damaged table) new judged rests left = judged
   fault_performed faults.Reopen new judged rests left = judged
-  fault_performed faults.Sales new judged rests left = judged
 
   -- ---- it is accepted
 
-  module _ (receipt : Receipt) (edits : Edits) (judged : Judges (Decides commands c dim) (Ok (Accept receipt edits)) (answer session.limits commands c)) where
-    abbrev decided : (reply : Reply) × (answer session.limits commands c ≡ Ok reply) × Decides commands c dim (Accept receipt edits) reply
-    decided = judged_ok (Decides commands c dim) (Accept receipt edits) (answer session.limits commands c) judged
+  module _ (receipt : Receipt) (edits : Edits) (judged : Judges (Decides commands c) (Ok (Accept receipt edits)) (answer session.limits commands c)) where
+    abbrev decided : (reply : Reply) × (answer session.limits commands c ≡ Ok reply) × Decides commands c (Accept receipt edits) reply
+    decided = judged_ok (Decides commands c) (Accept receipt edits) (answer session.limits commands c) judged
 
     said : answer limits commands c ≡ Ok (Accepts receipt)
     said = ap (λ l. answer l commands c) (sym limits_are) ∙ decided.1 ∙ ap Ok decided.2.0
 
-    abbrev batch : AreEditsOf commands c dim edits
+    abbrev batch : AreEditsOf commands c edits
     batch = decided.2.1
 
     abbrev added : Accepted
-    added = accepted_as c (Describes dim batch.records)
+    added = accepted_as c batch.content
 
     list_is : accepted_after limits commands c ≡ commands ++ added ∷ []
-    list_is = after_accepted limits commands c receipt (Describes dim batch.records) said batch.content
+    list_is = after_accepted limits commands c receipt batch.content said batch.read
 
     accepted : IsAccepted limits (commands ++ added ∷ [])
-    accepted = subst (IsAccepted limits) list_is (stays_accepted limits commands c dim kind ready.accepted)
+    accepted = subst (IsAccepted limits) list_is (stays_accepted limits commands c ready.accepted)
+
+    is_batch : governs added.content ≡ false
+    is_batch = (content_good limits commands c ready.accepted batch.content batch.read).batch
 
     pub may_write : MayBeWritten edits tables
-    may_write = a_batch_may_be_written limits commands added dim batch.records tables edits refl accepted ready.rests.are batch.edits_are
+    may_write = a_batch_may_be_written limits commands added tables edits is_batch accepted ready.rests.are batch.edits_are
 
     written : AreOf limits (commands ++ added ∷ []) (with_all_edits edits tables)
-    written = a_batch_is_written limits commands added tables edits refl ready.rests.are batch.edits_are
+    written = a_batch_is_written limits commands added tables edits is_batch ready.rests.are batch.edits_are
 
     -- its edits were kept
     pub accept_performed : (new : State) → IsAtRest (Some (with_all_edits edits tables)) new → IsPerformed limits commands c (Ok (Accepts receipt)) session new
     accept_performed new rests =
-        let governed : in_force (commands ++ added ∷ []) ≡ in_force commands = ap (λ o. unwrap_or o trial_policy) (policy_last None commands added refl) in
+        let governed : in_force (commands ++ added ∷ []) ≡ in_force commands = ap (λ o. unwrap_or o trial_policy) (policy_last None commands added is_batch) in
         let kept : session ≡ record { limits = limits; policy = in_force (commands ++ added ∷ []); must_reopen = false } = rw governed ready.session_is in
         let after : IsReady limits (commands ++ added ∷ []) session new = record { accepted = accepted; rests = record { tables = with_all_edits edits tables; are = written; rests = rests }; session_is = kept } in
         (said, rw list_is after)
@@ -127,4 +128,3 @@ module _ (limits : Limits) (commands : List Accepted) (c : Command) (session : S
   answered (Err (faults.Store cause)) done = record { flagged = refl; left = done }
   answered (Err (faults.Damaged table)) done = done
   answered (Err faults.Reopen) done = done
-  answered (Err faults.Sales) done = done

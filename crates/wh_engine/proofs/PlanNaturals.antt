@@ -14,7 +14,7 @@ use Rattle.wh_history.proofs.Once.{among_distinct}
 use Rattle.wh_engine.specs.Planning.{naturals_told}
 use Rattle.wh_engine.proofs.PlanningMembers.{naturals}
 
-distinct_last : {X : Type 0} (same : X → X → Bool) (decides : (x y : X) → Decides (same x y) (x ≡ y)) (x : X) (xs : List X)
+pub distinct_last : {X : Type 0} (same : X → X → Bool) (decides : (x y : X) → Decides (same x y) (x ≡ y)) (x : X) (xs : List X)
     → distinct same (xs ++ x ∷ []) ≡ cond (list_any (λ y. same y x) xs) (distinct same xs) (distinct same xs ++ x ∷ [])
 distinct_last same decides x xs =
     distinct-append same xs (x ∷ []) ∙ ap (λ zs. distinct same xs ++ zs) (fresh_one same decides x xs)
@@ -34,11 +34,11 @@ test_turned a b =
           ] refl
     ] refl
 
-tests_turned : (n : List ℕ) (ns : List (List ℕ)) → list_any (bytes_eq n) ns ≡ list_any (λ m. bytes_eq m n) ns
+pub tests_turned : (n : List ℕ) (ns : List (List ℕ)) → list_any (bytes_eq n) ns ≡ list_any (λ m. bytes_eq m n) ns
 tests_turned n [] = refl
 tests_turned n (m ∷ ns) = rw (test_turned n m, tests_turned n ns) refl
 
-next_taken : {X : Type 0} (xs : List X) (i : ℕ) (x : X) → i < length xs → x ≡ get_or xs i x → take (i + 1) xs ≡ take i xs ++ x ∷ []
+pub next_taken : {X : Type 0} (xs : List X) (i : ℕ) (x : X) → i < length xs → x ≡ get_or xs i x → take (i + 1) xs ≡ take i xs ++ x ∷ []
 next_taken xs i x within is = grind (arith, common_steps)
 
 -- one record more

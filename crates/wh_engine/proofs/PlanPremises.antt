@@ -1,13 +1,12 @@
 -- What holds of the commands before a batch, where the list with it is one that can have been accepted.
-use Rattle.std.proofs.Common.{◌≡◌, ℕ, ◌≤◌, true, List, [], ◌∷◌, ◌++◌, length, refl, sym, ap, ◌∙◌, subst, arith}
-use Rattle.std.proofs.lemmas.Grind.{flat_map-append}
+use Rattle.std.proofs.Common.{◌≡◌, ℕ, ◌≤◌, true, List, [], ◌∷◌, ◌++◌, length, ap, ◌∙◌, subst, arith}
 use Rattle.std.specs.Prelude.{◌≢◌}
 use Rattle.std.specs.List.{AllByRecursion}
 use Rattle.std.proofs.lemmas.List.{length-append}
 use Rattle.wh_day.specs.Day.{is_day}
 use Rattle.wh_policy.specs.declared.attribute.Dim.{Dim}
 use Rattle.wh_policy.specs.declared.record.DimensionRecord.{DimensionRecord}
-use Rattle.wh_history.specs.Accepted.{Accepted, Anchor, anchors, members, described, described_by, sold, sold_by}
+use Rattle.wh_history.specs.Accepted.{Accepted, Anchor, anchors, members, described, described_by}
 use Rattle.wh_history.specs.Laws.{RecordsHaveDays}
 use Rattle.wh_history.specs.Tables.{Limits}
 use Rattle.wh_history.proofs.Growth.{anchors-append, members-append}
@@ -20,10 +19,6 @@ use Rattle.wh_engine.proofs.SmallNumbers.{anchors_few, members_few}
 all_front : {X : Type 0} (P : X → Type 0) (xs ys : List X) → AllByRecursion P (xs ++ ys) → AllByRecursion P xs
 all_front P [] ys all = tt
 all_front P (x ∷ xs) ys all = (all.0, all_front P xs ys all.1)
-
-none_in_front : {X : Type 0} (xs ys : List X) → xs ++ ys ≡ [] → xs ≡ []
-none_in_front [] ys h = refl
-none_in_front (x ∷ xs) ys h = absurd cc
 
 abbrev HasDay : DimensionRecord → Type 0
 HasDay r = is_day r.day ≡ true
@@ -60,6 +55,3 @@ module _ (limits : Limits) (commands : List Accepted) (c : Accepted) (ok : IsAcc
       let grown = ap (λ (ns : List (List ℕ)). length ns) (members-append dim commands (c ∷ [])) in
       let longer = grown ∙ length-append (members dim commands) _ in
       omega arith
-
-  pub unsold_before : sold commands ≡ []
-  unsold_before = none_in_front (sold commands) (sold (c ∷ [])) (sym (flat_map-append (λ (d : Accepted). sold_by d.content) commands (c ∷ [])) ∙ ok.unsold)

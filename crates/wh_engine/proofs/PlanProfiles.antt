@@ -1,11 +1,10 @@
--- The profiles that a batch is the first to show, under a policy without attributes of the profile.
-use Rattle.std.proofs.Common.{◌≡◌, ℕ, suc, ◌-◌, Bool, true, false, cond, not, List, [], ◌∷◌, ◌++◌, length, map, Option, Some, None, refl, sym, ◌∙◌, ap, arith, append-nil}
-use Rattle.std.specs.Prelude.{◌≢◌, IsTrue, filter, filter_map, option_map, unwrap_or, slice_get}
-use Rattle.std.specs.List.{list_any, range_with_len, AllByRecursion, cons_option}
-use Rattle.std.proofs.lemmas.List.Elements.{All-weaker, All-map}
-use Rattle.std.proofs.lemmas.List.Folds.{list_any_none}
+-- The profiles that a batch is the first to show, and what is known of those of its members.
+use Rattle.std.proofs.Common.{◌≡◌, ℕ, suc, ◌+◌, ◌-◌, ◌≤◌, false, not, List, [], ◌∷◌, ◌++◌, length, map, Option, Some, None, refl, sym, ◌∙◌, ap, subst, arith, append-nil, length-append, true}
+use Rattle.std.specs.Prelude.{◌≢◌, filter, filter_map, option_map, unwrap_or}
+use Rattle.std.specs.List.{list_any, range_with_len, AllByRecursion}
+use Rattle.std.proofs.lemmas.List.{length-map}
 use Rattle.wh_policy.specs.Policy.{attributes_of, types_of}
-use Rattle.wh_policy.specs.Types.{is_profile}
+use Rattle.wh_policy.specs.Types.{is_profile, is_outrigger}
 use Rattle.wh_policy.specs.Written.{IsSound}
 use Rattle.wh_policy.specs.declared.attribute.Attribute.{Attribute}
 use Rattle.wh_policy.specs.declared.attribute.AttributeType.{AttributeType}
@@ -14,67 +13,28 @@ use Rattle.wh_policy.specs.declared.attribute.Dim.TheVariants.{Product, Store, C
 use Rattle.wh_policy.specs.declared.policy.Policy.{Policy}
 use Rattle.wh_policy.specs.declared.record.DimensionRecord.{DimensionRecord}
 use Rattle.wh_history.specs.Accepted.{Accepted, Content, Describes, policy_after, types_in, described, described_by, profiles_of}
-use Rattle.wh_history.specs.Keys.{distinct, at_place}
+use Rattle.wh_history.specs.Keys.{distinct}
+use Rattle.wh_history.specs.Known.{number_in, numbered_from, KnowsEnough}
 use Rattle.wh_history.specs.Laws.{governs}
-use Rattle.wh_history.specs.Profiles.{combinations_of}
-use Rattle.wh_history.specs.Slots.{columns_from, picked, picks, slot, six, texts_eq}
-use Rattle.wh_history.proofs.Basics.{or_none, some_is, texts_decide}
+use Rattle.wh_history.specs.Profiles.{combinations_of, profile_number}
+use Rattle.wh_history.specs.Slots.{picks, texts_eq}
+use Rattle.wh_history.specs.Tables.{Limits}
+use Rattle.wh_history.specs.declared.member.Member.{Member}
+use Rattle.wh_history.specs.declared.profiles.Numbered.{Numbered}
+use Rattle.wh_history.proofs.Basics.{texts_decide}
+use Rattle.wh_history.proofs.Once.{among_distinct}
 use Rattle.wh_history.proofs.Owners.{all_distinct}
-use Rattle.wh_history.proofs.Stays.{types-last}
+use Rattle.wh_history.proofs.Stays.{types-last, profiles-last}
 use Rattle.wh_history.proofs.Untouched.{described-last}
+use Rattle.wh_rows.specs.Tables.{Tables}
 use Rattle.wh_rows.specs.declared.rows.ProfileRow.{ProfileRow}
-use Rattle.wh_engine.specs.Defined.{profile_at}
+use Rattle.wh_engine.specs.Defined.{AreOf, profile_at}
+use Rattle.wh_engine.specs.Learned.{with_combinations, told_of, said_by, number_kept, learned, is_none, unknown, row_of_profile}
 use Rattle.wh_engine.specs.Planned.{behind}
-
--- ---- all records have one combination
-
--- an attribute that is not of the profile
-abbrev IsOutside : AttributeType → Type 0
-IsOutside kind = is_profile kind ≡ false
-
-picks_alike : (kinds : List AttributeType) (v w : List (List ℕ)) (place : ℕ) → AllByRecursion IsOutside kinds → columns_from (picked is_profile v) place kinds ≡ columns_from (picked is_profile w) place kinds
-picks_alike [] v w place all = refl
-picks_alike (kind ∷ kinds) v w place all =
-    let here : picked is_profile v place kind ≡ picked is_profile w place kind = ap (λ b. cond b (slot v place) []) all.0 ∙ sym (ap (λ b. cond b (slot w place) []) all.0) in
-    ap (λ text. text ∷ columns_from (picked is_profile v) (suc place) kinds) here ∙ ap (λ texts. picked is_profile w place kind ∷ texts) (picks_alike kinds v w (suc place) all.1)
-
-none_other : (x : List (List ℕ)) (ys : List (List (List ℕ))) → AllByRecursion (λ y. y ≡ x) ys → filter (λ y. not (texts_eq x y)) ys ≡ []
-none_other x [] all = refl
-none_other x (y ∷ ys) all =
-    let rest = filter (λ z. not (texts_eq x z)) ys in
-    ap (λ b. cond (not b) (y ∷ rest) rest) ((texts_decide x y).1 (sym all.0)) ∙ none_other x ys all.1
-
-one_there : (x : List (List ℕ)) (xs : List (List (List ℕ))) → AllByRecursion (λ y. y ≡ x) xs → distinct texts_eq (x ∷ xs) ≡ x ∷ []
-one_there x xs all = ap (λ ys. x ∷ ys) (none_other x (distinct texts_eq xs) (all_distinct (λ y. y ≡ x) texts_eq xs all))
-
-module _ (kinds : List AttributeType) (outside : AllByRecursion IsOutside kinds) where
-  abbrev pick : DimensionRecord → List (List ℕ)
-  pick r = picks is_profile kinds r.values
-
-  alike : (r : DimensionRecord) (rs : List DimensionRecord) → AllByRecursion (λ y. y ≡ pick r) (map pick rs)
-  alike r [] = tt
-  alike r (q ∷ rs) = (picks_alike kinds q.values r.values 0 outside, alike r rs)
-
-  combinations : (r : DimensionRecord) (rs : List DimensionRecord) → combinations_of kinds (r ∷ rs) ≡ pick r ∷ []
-  combinations r rs = one_there (pick r) (map pick rs) (alike r rs)
-
-outside_all : (kinds : List AttributeType) → list_any is_profile kinds ≡ false → AllByRecursion IsOutside kinds
-outside_all [] none = tt
-outside_all (kind ∷ kinds) none = let split = or_none (is_profile kind) (list_any is_profile kinds) none in (split.0, outside_all kinds split.1)
-
-not_true : (b : Bool) → (IsTrue b → ⊥) → b ≡ false
-not_true true none = absurd (none refl)
-not_true false none = refl
-
--- no attribute of a sound policy is of the profile
-sound_outside : (dim : Dim) (policy : Policy) → IsSound policy → AllByRecursion IsOutside (types_of policy dim)
-sound_outside dim policy sound =
-    outside_all (types_of policy dim)
-    (list_any_none is_profile (types_of policy dim)
-    (All-map IsOutside (λ (a : Attribute). a.kind) (attributes_of policy dim)
-    (All-weaker (λ (a : Attribute). IsTrue (is_profile a.kind) → ⊥) (λ (a : Attribute). IsOutside a.kind) (λ a none. not_true (is_profile a.kind) none) (attributes_of policy dim) (sound.attributes dim).outside)))
-
--- ---- one batch more
+use Rattle.wh_engine.proofs.FoundProfiles.{number_kept_is}
+use Rattle.wh_engine.proofs.GrownPlain.{none_of}
+use Rattle.wh_engine.proofs.Learning.{any_of, distinct_with, with_append, all_there, any_left, each_change, number_looked_up, number_with, none_known, rows_fresh}
+use Rattle.wh_engine.proofs.PlanningLists.{filter_same, fresh_is}
 
 -- the profiles that are in the second list's table and not in the first's
 abbrev pub NewProfiles : List Accepted → List Accepted → List ProfileRow
@@ -89,14 +49,11 @@ none_new before after same =
     let count = length (profiles_of before) in
     sym (ap (filter_map (profile_at after)) (ap (λ n. behind (suc count) (suc n)) same ∙ none_behind (suc count)))
 
--- a first combination has the number 2
-one_new : (before after : List Accepted) (texts : List (List ℕ)) → profiles_of before ≡ [] → profiles_of after ≡ texts ∷ [] → record { number = 2; values = six texts } ∷ [] ≡ NewProfiles before after
-one_new before after texts none one =
-    let numbers : behind (suc (length (profiles_of before))) (suc (length (profiles_of after))) ≡ 2 ∷ [] =
-    ap (λ (ps : List (List (List ℕ))). behind (suc (length ps)) (suc (length (profiles_of after)))) none ∙ ap (λ (ps : List (List (List ℕ))). behind 1 (suc (length ps))) one in
-    let numbered : Option (List (List ℕ)) → Option ProfileRow = option_map (λ values. record { number = 2; values = values }) in
-    let there : profile_at after 2 ≡ Some (record { number = 2; values = six texts }) = ap (λ (ps : List (List (List ℕ))). numbered (option_map six (at_place 1 ps))) one in
-    sym (ap (filter_map (profile_at after)) numbers ∙ ap (λ o. cons_option o []) there)
+-- records of products and stores are none of customers
+pub others_bring_nothing : (dim : Dim) (records : List DimensionRecord) → dim ≢ Customer → described_by Customer (Describes dim records) ≡ []
+others_bring_nothing Product records other = refl
+others_bring_nothing Store records other = refl
+others_bring_nothing Customer records other = absurd (other refl)
 
 module _ (commands : List Accepted) (c : Accepted) (dim : Dim) (records : List DimensionRecord) (is : c.content ≡ Describes dim records) where
   abbrev after : List Accepted
@@ -115,74 +72,108 @@ module _ (commands : List Accepted) (c : Accepted) (dim : Dim) (records : List D
       none_new commands after (ap (λ kinds. length (combinations_of kinds (described Customer after))) types ∙ ap (λ rs. length (combinations_of (types_in Customer commands) rs)) same)
 
 pub others_bring_none : (commands : List Accepted) (c : Accepted) (dim : Dim) (records : List DimensionRecord) → c.content ≡ Describes dim records → dim ≢ Customer → [] ≡ NewProfiles commands (commands ++ c ∷ [])
-others_bring_none commands c Product records is other = none_brought commands c Product records is refl
-others_bring_none commands c Store records is other = none_brought commands c Store records is refl
-others_bring_none commands c Customer records is other = absurd (other refl)
+others_bring_none commands c dim records is other = none_brought commands c dim records is (others_bring_nothing dim records other)
 
-pub none_brings_none : (commands : List Accepted) (c : Accepted) (dim : Dim) (records : List DimensionRecord) → c.content ≡ Describes dim records → records ≡ [] → [] ≡ NewProfiles commands (commands ++ c ∷ [])
-none_brings_none commands c dim records is none = none_brought commands c dim records is (ap (λ rs. described_by Customer (Describes dim rs)) none ∙ nothing dim)
+-- ---- what is known of members
+
+pub types_are : (dim : Dim) (commands : List Accepted) (policy : Policy) → policy_after None commands ≡ Some policy → types_in dim commands ≡ types_of policy dim
+types_are dim commands policy governed = ap (λ (o : Option Policy). unwrap_or (option_map (λ (p : Policy). types_of p dim) o) []) governed
+
+pub types_few : (dim : Dim) (policy : Policy) → IsSound policy → length (types_of policy dim) ≤ 6
+types_few dim policy sound = let few = (sound.attributes dim).few in let same = length-map (attributes_of policy dim) (λ (a : Attribute). a.kind) in omega arith
+
+-- of products and stores enough, whatever it is
+pub others_known : (dim : Dim) (policy : Policy) → IsSound policy → dim ≢ Customer → (number : List (List ℕ) → Option ℕ) (combinations : List (List (List ℕ))) (ms : List Member) → AllByRecursion (KnowsEnough dim (types_of policy dim) number combinations) ms
+others_known dim policy sound other number combinations [] = tt
+others_known dim policy sound other number combinations (m ∷ ms) = (by_dimension dim other (none_of dim policy sound other), others_known dim policy sound other number combinations ms)
   where
-    nothing : (dim : Dim) → described_by Customer (Describes dim []) ≡ []
-    nothing Product = refl
-    nothing Store = refl
-    nothing Customer = refl
+    by_dimension : (d : Dim) → d ≢ Customer → list_any is_outrigger (types_of policy dim) ≡ false → KnowsEnough d (types_of policy dim) number combinations m
+    by_dimension Product apart none = none
+    by_dimension Store apart none = none
+    by_dimension Customer apart none = absurd (apart refl)
 
-module _ (commands : List Accepted) (c : Accepted) (policy : Policy) (r : DimensionRecord) (more : List DimensionRecord) (is : c.content ≡ Describes Customer (r ∷ more))
-    (governed : policy_after None commands ≡ Some policy) (sound : IsSound policy) where
-  abbrev with_them : List Accepted
-  with_them = commands ++ c ∷ []
-
+module _ (limits : Limits) (commands : List Accepted) (t : Tables) (are : AreOf limits commands t) (policy : Policy) (governed : policy_after None commands ≡ Some policy) (sound : IsSound policy) where
   abbrev kinds : List AttributeType
   kinds = types_of policy Customer
 
-  kinds_are : types_in Customer commands ≡ kinds
-  kinds_are = ap (λ (o : Option Policy). unwrap_or (option_map (λ (p : Policy). types_of p Customer) o) []) governed
+  abbrev base : List (List (List ℕ))
+  base = profiles_of commands
 
-  before_is : profiles_of commands ≡ combinations_of kinds (described Customer commands)
-  before_is = ap (λ ks. combinations_of ks (described Customer commands)) kinds_are
+  kept_is : (values : List (List ℕ)) → number_kept t.profile (picks is_profile kinds values) ≡ profile_number base (picks is_profile kinds values)
+  kept_is values = number_kept_is limits commands t are kinds (types_are Customer commands policy governed) (types_few Customer policy sound) values
 
-  after_is : profiles_of with_them ≡ combinations_of kinds (described Customer commands ++ r ∷ more)
-  after_is = ap (λ ks. combinations_of ks (described Customer with_them)) (types commands c Customer (r ∷ more) is ∙ kinds_are) ∙ ap (combinations_of kinds) (told commands c Customer (r ∷ more) is)
+  looked_up : (ts : List (List (List ℕ))) (values : List (List ℕ)) → any_of (picks is_profile kinds values) ts ≡ true → number_in (learned (number_kept t.profile) (with_combinations [] ts)) (picks is_profile kinds values) ≡ profile_number base (picks is_profile kinds values)
+  looked_up ts values among = number_looked_up (number_kept t.profile) ts (picks is_profile kinds values) among ∙ kept_is values
 
-  abbrev outside : AllByRecursion IsOutside kinds
-  outside = sound_outside Customer policy sound
+  -- of customers that are stored
+  pub customers_known : (ms : List Member) (known : List Numbered) → known ≡ learned (number_kept t.profile) (with_combinations [] (said_by (types_of policy Customer) ms)) → AllByRecursion (KnowsEnough Customer (types_of policy Customer) (number_in known) (profiles_of commands)) ms
+  customers_known ms known is =
+      subst (λ (ks : List Numbered). AllByRecursion (KnowsEnough Customer kinds (number_in ks) base) ms) (sym is)
+      (each_change kinds (λ t'. number_in (learned (number_kept t.profile) (with_combinations [] (said_by kinds ms))) t' ≡ profile_number base t') [] ms (looked_up (said_by kinds ms)))
 
-  abbrev second : List Accepted → Option ProfileRow
-  second list = profile_at list 2
+  module _ (c : Accepted) (records : List DimensionRecord) (is : c.content ≡ Describes Customer records) (ms : List Member) where
+    abbrev texts_told : List (List (List ℕ))
+    texts_told = told_of (types_of policy Customer) records
 
-  -- the first record of a customer brings the one combination
-  brought : (rs : List DimensionRecord) → described Customer commands ≡ rs → second commands ≡ None → record { number = 2; values = six (picks is_profile kinds r.values) } ∷ [] ≡ NewProfiles commands with_them
-  brought [] described_is absent =
-      one_new commands with_them (picks is_profile kinds r.values) (before_is ∙ ap (combinations_of kinds) described_is)
-      (after_is ∙ ap (λ rs. combinations_of kinds (rs ++ r ∷ more)) described_is ∙ combinations kinds outside r more)
-  brought (q ∷ rs) described_is absent =
-      let one : profiles_of commands ≡ picks is_profile kinds q.values ∷ [] = before_is ∙ ap (combinations_of kinds) described_is ∙ combinations kinds outside q rs in
-      let there : second commands ≡ Some (record { number = 2; values = six (picks is_profile kinds q.values) }) = ap (λ (ps : List (List (List ℕ))). option_map (λ values. record { number = 2; values = values }) (option_map six (at_place 1 ps))) one in
-      absurd (cc)
+    abbrev texts_said : List (List (List ℕ))
+    texts_said = said_by (types_of policy Customer) ms
 
-  pub first_brings : second commands ≡ None → record { number = 2; values = six (picks is_profile kinds r.values) } ∷ [] ≡ NewProfiles commands with_them
-  first_brings absent = brought (described Customer commands) refl absent
+    abbrev looked : List Numbered
+    looked = learned (number_kept t.profile) (with_combinations (with_combinations [] (told_of (types_of policy Customer) records)) (said_by (types_of policy Customer) ms))
 
-  kept : (rs : List DimensionRecord) (p : ProfileRow) → described Customer commands ≡ rs → second commands ≡ Some p → [] ≡ NewProfiles commands with_them
-  kept [] p described_is there =
-      let none : profiles_of commands ≡ [] = before_is ∙ ap (combinations_of kinds) described_is in
-      let absent : second commands ≡ None = ap (λ (ps : List (List (List ℕ))). option_map (λ values. record { number = 2; values = values }) (option_map six (at_place 1 ps))) none in
-      absurd (cc)
-  kept (q ∷ rs) p described_is there =
-      let one = before_is ∙ ap (combinations_of kinds) described_is ∙ combinations kinds outside q rs in
-      let still = after_is ∙ ap (λ rs. combinations_of kinds (rs ++ r ∷ more)) described_is ∙ combinations kinds outside q (rs ++ r ∷ more) in
-      none_new commands with_them (ap (λ (ps : List (List (List ℕ))). length ps) (still ∙ sym one))
+    abbrev new : List (List (List ℕ))
+    new = unknown looked (with_combinations [] texts_told)
 
-  -- and a later one none
-  pub later_bring_none : (p : ProfileRow) → second commands ≡ Some p → [] ≡ NewProfiles commands with_them
-  later_bring_none p there = kept (described Customer commands) p refl there
+    found_number : (values : List (List ℕ)) → any_of (picks is_profile kinds values) (texts_told ++ texts_said) ≡ true → number_in looked (picks is_profile kinds values) ≡ profile_number base (picks is_profile kinds values)
+    found_number values among = ap (λ cs. number_in (learned (number_kept t.profile) cs) (picks is_profile kinds values)) (sym (with_append [] texts_told texts_said)) ∙ looked_up (texts_told ++ texts_said) values among
 
--- ---- the first record
+    abbrev pick : DimensionRecord → List (List ℕ)
+    pick r = picks is_profile (types_in Customer commands) r.values
 
-pub first_split : (rs : List DimensionRecord) (r : DimensionRecord) → slice_get rs 0 ≡ Some r → (more : List DimensionRecord) × (rs ≡ r ∷ more)
-first_split [] r is = cc
-first_split (q ∷ rs) r is = (rs, ap (λ p. p ∷ rs) (some_is q r is))
+    abbrev Tells : List (List ℕ) → Type 0
+    Tells x = not (list_any (λ y. texts_eq y x) (map pick (described Customer commands))) ≡ is_none (number_in looked x)
 
-pub none_first : (rs : List DimensionRecord) → slice_get rs 0 ≡ None → rs ≡ []
-none_first [] is = refl
-none_first (q ∷ rs) is = cc
+    tells : (rs : List DimensionRecord) → AllByRecursion (λ x. any_of x texts_told ≡ true) (told_of kinds rs) → AllByRecursion Tells (told_of kinds rs)
+    tells [] all = tt
+    tells (r ∷ rs) all =
+        let x = picks is_profile kinds r.values in (
+          sym (ap is_none (found_number r.values (any_left x texts_told texts_said all.0)) ∙ none_known base x ∙ ap not (among_distinct texts_eq texts_decide x (map pick (described Customer commands)))),
+          tells rs all.1,
+        )
+
+    -- the new ones are those of which nothing was found
+    pub grown : profiles_of commands ++ unknown looked (with_combinations [] (told_of (types_of policy Customer) records)) ≡ profiles_of (commands ++ c ∷ [])
+    grown =
+        let types = types_are Customer commands policy governed in
+        let brought = ap (described_by Customer) is in
+        let each = tells records (all_there texts_told) in
+        sym (profiles-last commands c (ap governs is)
+        ∙ ap (λ cs. base ++ cs)
+        (fresh_is texts_eq (map pick (described Customer commands)) (distinct texts_eq (map pick (described_by Customer c.content)))
+        ∙ ap (λ rs. filter (λ x. not (list_any (λ y. texts_eq y x) (map pick (described Customer commands)))) (distinct texts_eq (map pick rs))) brought
+        ∙ ap (λ ks. filter (λ x. not (list_any (λ y. texts_eq y x) (map pick (described Customer commands)))) (distinct texts_eq (told_of ks records))) types
+        ∙ filter_same (λ x. not (list_any (λ y. texts_eq y x) (map pick (described Customer commands)))) (λ x. is_none (number_in looked x)) (distinct texts_eq texts_told) (all_distinct Tells texts_eq texts_told each)
+        ∙ ap (unknown looked) (sym (distinct_with [] texts_told))))
+
+    abbrev next : ℕ
+    next = suc (suc (length (profiles_of commands)))
+
+    -- with their numbers enough is known
+    pub touched_known : (known : List Numbered) → known ≡ looked ++ numbered_from next (unknown looked (with_combinations [] (told_of (types_of policy Customer) records))) → AllByRecursion (KnowsEnough Customer (types_of policy Customer) (number_in known) (profiles_of (commands ++ c ∷ []))) ms
+    touched_known known made =
+        let at : next ≡ length base + 2 = omega arith in
+        let whole = looked ++ numbered_from next new in
+        let each = each_change kinds (λ x. number_in whole x ≡ profile_number (base ++ new) x) texts_told ms (λ values among. number_with base new looked next (picks is_profile kinds values) at (found_number values among)) in
+        subst (λ (ks : List Numbered). AllByRecursion (KnowsEnough Customer kinds (number_in ks) (profiles_of (commands ++ c ∷ []))) ms) (sym made)
+        (subst (λ cs. AllByRecursion (KnowsEnough Customer kinds (number_in whole) cs) ms) grown each)
+
+    pub touched_fresh : map row_of_profile (numbered_from next (unknown looked (with_combinations [] (told_of (types_of policy Customer) records)))) ≡ NewProfiles commands (commands ++ c ∷ [])
+    touched_fresh = rows_fresh commands (commands ++ c ∷ []) new next refl grown
+
+-- how many there were
+pub base_few : (commands : List Accepted) (c : Accepted) → governs c.content ≡ false → length (profiles_of (commands ++ c ∷ [])) ≤ 1000000 → suc (length (profiles_of commands)) ≤ 9999999
+base_few commands c batch few =
+    let grown = ap (λ (cs : List (List (List ℕ))). length cs) (profiles-last commands c batch) in
+    let sum = length-append (profiles_of commands) _ in
+    let whole = grown ∙ sum in
+    omega arith

@@ -1,25 +1,23 @@
 -- The rows of the members that a batch touches, as they are read, and the edits between them and those behind it.
 use Rattle.std.proofs.Common.{◌≡◌, ℕ, zero, suc, ◌+◌, ◌<◌, ◌==◌, Bool, true, false, cond, nat_lt, List, [], ◌∷◌, ◌++◌, length, map, drop, get_or, Option, Some, None, refl, sym, ◌∙◌, ap, arith, append-nil}
-use Rattle.std.specs.Prelude.{flat_map, option_map, unwrap_or}
-use Rattle.std.specs.List.{list_any}
+use Rattle.std.specs.Prelude.{◌≢◌, flat_map, option_map, unwrap_or}
+use Rattle.std.specs.List.{list_any, AllByRecursion}
 use Rattle.std.specs.Option.{option_or}
 use Rattle.std.proofs.lemmas.Bool.{lt-ltb}
 use Rattle.std.proofs.lemmas.List.{append_assoc}
 use Rattle.std.proofs.lemmas.List.Folds.{find-append}
-use Rattle.wh_day.specs.Day.{first_day}
 use Rattle.wh_policy.specs.Policy.{types_of}
 use Rattle.wh_policy.specs.Types.{is_outrigger}
 use Rattle.wh_policy.specs.Written.{IsSound}
-use Rattle.wh_policy.specs.declared.attribute.AttributeType.{AttributeType}
 use Rattle.wh_policy.specs.declared.attribute.Dim.{Dim}
+use Rattle.wh_policy.specs.declared.attribute.Dim.TheVariants.{Customer}
 use Rattle.wh_policy.specs.declared.policy.Policy.{Policy}
 use Rattle.wh_policy.specs.declared.record.DimensionRecord.{DimensionRecord}
 use Rattle.wh_history.specs.Accepted.{Accepted, Describes, policy_after, durable_key, profiles_of}
-use Rattle.wh_history.specs.Dated.{dated, newest}
 use Rattle.wh_history.specs.Laws.{RecordsHaveDays, governs}
 use Rattle.wh_history.specs.Plan.{IsPlan, row_of}
-use Rattle.wh_history.specs.Profiles.{current_profile}
-use Rattle.wh_history.specs.Rows.{row, rows, spans, starts}
+use Rattle.wh_history.specs.Known.{KnowsEnough}
+use Rattle.wh_history.specs.Rows.{rows_by}
 use Rattle.wh_history.specs.Tables.{member_rows, dimension_row}
 use Rattle.wh_history.specs.Touched.{touched_by}
 use Rattle.wh_history.specs.declared.member.Member.{Member}
@@ -80,14 +78,7 @@ row_behind key found some same left is =
     ∙ ap (option_or (row_of key found)) (row_of-append key some left ∙ ap (λ o. option_or o (row_of key left)) is ∙ sym (row_of-append key same left))
     ∙ sym (row_of-append key found (same ++ left))
 
--- ---- where rows show no profile, it is all one which there are
-
-rows_plain : (kinds : List AttributeType) (a b : List (List (List ℕ))) (m : Member) → list_any is_outrigger kinds ≡ false → rows kinds a m ≡ rows kinds b m
-rows_plain kinds a b m none =
-    let shown : Bool → List (List (List ℕ)) → List DimRow = λ test combinations. map (row kinds (cond test (current_profile kinds combinations (newest (dated m.changes))) 0) m) (spans first_day (starts kinds (dated m.changes))) in
-    ap (λ test. shown test a) none ∙ sym (ap (λ test. shown test b) none)
-
-flat_map_same : {X Y : Type 0} (f g : X → List Y) → ((x : X) → f x ≡ g x) → (xs : List X) → flat_map f xs ≡ flat_map g xs
+pub flat_map_same : {X Y : Type 0} (f g : X → List Y) → ((x : X) → f x ≡ g x) → (xs : List X) → flat_map f xs ≡ flat_map g xs
 flat_map_same f g same [] = refl
 flat_map_same f g same (x ∷ xs) = ap (λ ys. ys ++ flat_map f xs) (same x) ∙ ap (λ ys. g x ++ ys) (flat_map_same f g same xs)
 
@@ -101,21 +92,18 @@ module _ (commands : List Accepted) (c : Accepted) (dim : Dim) (records : List D
   batch : governs c.content ≡ false
   batch = ap governs is
 
-  none_shown : list_any is_outrigger (types_of policy dim) ≡ false
-  none_shown = none_of dim policy sound
+  -- products and stores show none
+  shows_none : dim ≢ Customer → ShowsNoProfile commands dim
+  shows_none other = ap (λ (o : Option Policy). list_any is_outrigger (unwrap_or (option_map (λ (p : Policy). types_of p dim) o) [])) governed ∙ none_of dim policy sound other
 
-  shows_none : ShowsNoProfile commands dim
-  shows_none = ap (λ (o : Option Policy). list_any is_outrigger (unwrap_or (option_map (λ (p : Policy). types_of p dim) o) [])) governed ∙ none_shown
-
-  pub rows_planned : (touched : List Member) (stored new : List DimRow) (edits : List (Edit DimRow ℕ)) → RecordsHaveDays commands → RecordsHaveDays after → touched ≡ (touched_by dim commands after records).list
+  pub rows_planned : (number : List (List ℕ) → Option ℕ) (touched : List Member) (stored new : List DimRow) (edits : List (Edit DimRow ℕ)) → RecordsHaveDays commands → RecordsHaveDays after → touched ≡ (touched_by dim commands after records).list
       → ((key : ℕ) → row_of key stored ≡ row_of key (Left dim commands (naturals_told records)))
-      → new ≡ flat_map (rows (types_of policy dim) []) touched
+      → new ≡ flat_map (rows_by (types_of policy dim) number) touched → AllByRecursion (KnowsEnough dim (types_of policy dim) number (profiles_of after)) touched
       → IsPlan (λ (r : DimRow). r.surrogate) (λ key. row_of key stored) (λ key. row_of key new) edits
       → IsPlan (λ (r : DimRow). r.surrogate) (dimension_row commands dim) (dimension_row after dim) edits
-  rows_planned touched stored new edits days days_after list stored_is new_is plan =
-      let made = new_is ∙ flat_map_same (rows (types_of policy dim) []) (rows (types_of policy dim) (profiles_of after)) (λ m. rows_plain (types_of policy dim) [] (profiles_of after) m none_shown) touched in
-      let rendered = rendered_planned dim policy (profiles_of after) touched new made commands after records list (policy_last None commands c batch ∙ governed) refl in
-      touched_rows_are_the_plan commands c dim records stored new edits is (λ _. shows_none)
+  rows_planned number touched stored new edits days days_after list stored_is new_is enough plan =
+      let rendered = rendered_planned dim policy number touched new new_is commands after records list (policy_last None commands c batch ∙ governed) enough in
+      touched_rows_are_the_plan commands c dim records stored new edits is shows_none
       (λ key. stored_is key ∙ touched_rows_before commands c dim records key is days)
       (λ key. ap (row_of key) rendered ∙ touched_rows_after commands c dim records key is days_after)
       plan

@@ -1,10 +1,10 @@
 -- The members that a batch mentions first.
-use Rattle.std.proofs.Common.{◌≡◌, ℕ, ◌+◌, ◌<◌, Bool, true, false, cond, not, ◌||◌, List, [], ◌∷◌, ◌++◌, length, map, nat_lt, Option, Some, None, refl, sym, ◌∙◌, ap, subst, arith}
+use Rattle.std.proofs.Common.{◌≡◌, ℕ, ◌+◌, ◌<◌, Bool, true, false, cond, not, ◌||◌, List, [], ◌∷◌, ◌++◌, length, map, nat_lt, Option, Some, None, refl, sym, ◌∙◌, ap, subst, arith, length-append}
 use Rattle.std.specs.Prelude.{filter, filter_map, flat_map, bytes_eq, option_map}
 use Rattle.std.specs.List.{list_any, AllByRecursion, cons_option}
 use Rattle.std.specs.Option.{option_and_then}
 use Rattle.std.proofs.lemmas.Bool.{lt-ltb, le-ltb}
-use Rattle.std.proofs.lemmas.List.{map-append}
+use Rattle.std.proofs.lemmas.List.{map-append, length-map}
 use Rattle.std.proofs.lemmas.List.Folds.{list_any-append}
 use Rattle.std.proofs.lemmas.Slice.Eq.{bytes_eq-Decides}
 use Rattle.wh_policy.specs.declared.attribute.Dim.{Dim}
@@ -69,6 +69,52 @@ pub twice : {X Y Z : Type 0} (f : Y → Z) (g : X → Y) (o : Option X) → opti
 twice f g None = refl
 twice f g (Some x) = refl
 
+-- ---- the rows of members whose durable keys are behind those that were given
+
+module _ (dim : Dim) (commands after : List Accepted) where
+  abbrev is_later : List ℕ → Bool
+  is_later n = nat_lt (length (members dim commands)) (durable_key dim after n)
+
+  abbrev row_now : List ℕ → MemberRow
+  row_now n = row_of_member dim (member_of dim after n)
+
+  abbrev entry : Bool → MemberRow → Option MemberRow
+  entry b r = cond b (Some r) None
+
+  new_rows : (ns : List (List ℕ)) → filter_map (new_member dim (length (members dim commands))) (map (member_of dim after) ns) ≡ map row_now (filter is_later ns)
+  new_rows [] = refl
+  new_rows (n ∷ ns) =
+      let rest = new_rows ns in
+      elim (is_later n) as (λ b. cons_option (entry b (row_now n)) (filter_map (new_member dim (length (members dim commands))) (map (member_of dim after) ns)) ≡ map row_now (cond b (n ∷ filter is_later ns) (filter is_later ns))) [
+        | true ↦ ap (λ ms. row_now n ∷ ms) rest
+        | false ↦ rest
+      ]
+
+  abbrev row_under : ℕ → List ℕ → MemberRow
+  row_under k n = record { dim = dim; durable = k; natural = n; opening = surrogate_key dim after (opening_of n) }
+
+  at_key : (k : ℕ) → member_at after (record { dim = dim; durable = k }) ≡ option_and_then (λ n. Some (row_under k n)) (at_place k (members dim after))
+  at_key k = twice (λ (m : history.MemberRow). record { dim = dim; durable = k; natural = m.natural; opening = m.opening }) (λ n. record { natural = n; opening = surrogate_key dim after (opening_of n) }) (at_place k (members dim after))
+
+  -- where the members grow by those of a list, the member table gets their rows
+  pub rows_behind : (ns : List (List ℕ)) → members dim after ≡ members dim commands ++ filter (λ n. nat_lt (length (members dim commands)) (durable_key dim after n)) ns
+      → filter_map (new_member dim (length (members dim commands))) (map (member_of dim after) ns) ≡ filter_map (λ n. member_at after (record { dim = dim; durable = n })) (behind (length (members dim commands)) (length (members dim after)))
+  rows_behind ns grow =
+      let there = members dim commands in
+      new_rows ns
+      ∙ sym (by_number bytes_eq bytes_eq-Decides row_under (members dim after) there (filter is_later ns) grow (once_distinct bytes_eq bytes_eq-Decides (members_in (mentions dim after))))
+      ∙ sym (behind_gives (λ k n. Some (row_under k n)) (members dim after) there (filter is_later ns) grow)
+      ∙ sym (filter_map_same (λ k. member_at after (record { dim = dim; durable = k })) (λ k. option_and_then (λ n. Some (row_under k n)) (at_place k (members dim after))) at_key (behind (length there) (length (members dim after))))
+
+  -- and so many
+  pub rows_counted : (ns : List (List ℕ)) → members dim after ≡ members dim commands ++ filter (λ n. nat_lt (length (members dim commands)) (durable_key dim after n)) ns
+      → length (filter_map (new_member dim (length (members dim commands))) (map (member_of dim after) ns)) + length (members dim commands) ≡ length (members dim after)
+  rows_counted ns grow =
+      let more = filter is_later ns in
+      let many : length (filter_map (new_member dim (length (members dim commands))) (map (member_of dim after) ns)) ≡ length more = ap length (new_rows ns) ∙ length-map more row_now in
+      let whole : length (members dim after) ≡ length (members dim commands) + length more = ap length grow ∙ length-append (members dim commands) more in
+      omega arith
+
 module _ (dim : Dim) (commands : List Accepted) (c : Accepted) (rs : List DimensionRecord) (is : c.content ≡ Describes dim rs) where
   abbrev after : List Accepted
   after = commands ++ c ∷ []
@@ -93,7 +139,7 @@ module _ (dim : Dim) (commands : List Accepted) (c : Accepted) (rs : List Dimens
       place-distinct_given bytes_eq bytes_eq-Decides n (members_in (mentions dim after)) all
 
   -- and one behind all that were given, where nothing mentioned it before
-  new_is : (n : List ℕ) → Among (naturals rs) n → not (list_any (λ m. bytes_eq m n) before) ≡ nat_lt (length (members dim commands)) (durable_key dim after n)
+  pub new_is : (n : List ℕ) → Among (naturals rs) n → not (list_any (λ m. bytes_eq m n) before) ≡ nat_lt (length (members dim commands)) (durable_key dim after n)
   new_is n among =
       let count = length (members dim commands) in
       elim (list_any (λ m. bytes_eq m n) before) as (λ b. (list_any (λ m. bytes_eq m n) before ≡ b) → not b ≡ nat_lt count (durable_key dim after n)) [
@@ -128,36 +174,9 @@ module _ (dim : Dim) (commands : List Accepted) (c : Accepted) (rs : List Dimens
       ∙ ap (λ ms. members dim commands ++ fresh bytes_eq before ms) (once_each rs)
       ∙ ap (λ ms. members dim commands ++ ms) (fresh_is bytes_eq before ns ∙ filter_same (λ n. not (list_any (λ m. bytes_eq m n) before)) is_new ns (new_each ns (all_distinct (Among (naturals rs)) bytes_eq (naturals rs) (all_among (naturals rs)))))
 
-  abbrev row_now : List ℕ → MemberRow
-  row_now n = row_of_member dim (member_of dim after n)
-
-  abbrev entry : Bool → MemberRow → Option MemberRow
-  entry b r = cond b (Some r) None
-
-  new_rows : (ns : List (List ℕ)) → filter_map (new_member dim (length (members dim commands))) (map (member_of dim after) ns) ≡ map row_now (filter is_new ns)
-  new_rows [] = refl
-  new_rows (n ∷ ns) =
-      let rest = new_rows ns in
-      elim (is_new n) as (λ b. cons_option (entry b (row_now n)) (filter_map (new_member dim (length (members dim commands))) (map (member_of dim after) ns)) ≡ map row_now (cond b (n ∷ filter is_new ns) (filter is_new ns))) [
-        | true ↦ ap (λ ms. row_now n ∷ ms) rest
-        | false ↦ rest
-      ]
-
-  abbrev row_under : ℕ → List ℕ → MemberRow
-  row_under k n = record { dim = dim; durable = k; natural = n; opening = surrogate_key dim after (opening_of n) }
-
-  at_key : (k : ℕ) → member_at after (record { dim = dim; durable = k }) ≡ option_and_then (λ n. Some (row_under k n)) (at_place k (members dim after))
-  at_key k = twice (λ (m : history.MemberRow). record { dim = dim; durable = k; natural = m.natural; opening = m.opening }) (λ n. record { natural = n; opening = surrogate_key dim after (opening_of n) }) (at_place k (members dim after))
-
   -- the rows of the touched members with later durable keys are those that the member table gets
   pub members_planned : filter_map (new_member dim (length (members dim commands))) (touched_by dim commands after rs).list ≡ filter_map (λ n. member_at after (record { dim = dim; durable = n })) (behind (length (members dim commands)) (length (members dim after)))
-  members_planned =
-      let ns = distinct bytes_eq (naturals rs) in
-      let there = members dim commands in
-      new_rows ns
-      ∙ sym (by_number bytes_eq bytes_eq-Decides row_under (members dim after) there (filter is_new ns) members_grow (once_distinct bytes_eq bytes_eq-Decides (members_in (mentions dim after))))
-      ∙ sym (behind_gives (λ k n. Some (row_under k n)) (members dim after) there (filter is_new ns) members_grow)
-      ∙ sym (filter_map_same (λ k. member_at after (record { dim = dim; durable = k })) (λ k. option_and_then (λ n. Some (row_under k n)) (at_place k (members dim after))) at_key (behind (length there) (length (members dim after))))
+  members_planned = rows_behind dim commands after (distinct bytes_eq (naturals rs)) members_grow
 
 -- for rows that a call gives
 pub new_members_planned : (dim : Dim) (given : ℕ) (touched : List Member) (rows : List MemberRow) → rows ≡ filter_map (new_member dim given) touched

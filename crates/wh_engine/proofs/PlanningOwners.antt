@@ -142,7 +142,7 @@ table_rows Customer list ends durables ns all agree given (suc n) = numbered_row
 
 -- ---- the members that a batch touches
 
-any_kept : (p q : List ℕ → Bool) → ((n : List ℕ) → q n ≡ true → p n ≡ true) → (ns : List (List ℕ)) → list_any q (filter p ns) ≡ list_any q ns
+pub any_kept : (p q : List ℕ → Bool) → ((n : List ℕ) → q n ≡ true → p n ≡ true) → (ns : List (List ℕ)) → list_any q (filter p ns) ≡ list_any q ns
 any_kept p q passes [] = refl
 any_kept p q passes (n ∷ ns) =
     let rest = any_kept p q passes ns in
@@ -155,10 +155,10 @@ any_kept p q passes (n ∷ ns) =
           ] refl
     ] refl
 
-above_none : (k : ℕ) → nat_lt 0 k ≡ true → 0 < k
+pub above_none : (k : ℕ) → nat_lt 0 k ≡ true → 0 < k
 above_none k h = grind (arith, nat_tests)
 
-none_above : (k : ℕ) → 0 < k → nat_lt 0 k ≡ true
+pub none_above : (k : ℕ) → 0 < k → nat_lt 0 k ≡ true
 none_above k h = grind (arith, nat_tests)
 
 all_chosen : (dim : Dim) (list : List Accepted) (ns : List (List ℕ)) → AllByRecursion (IsMember dim list) (members_among list dim ns)

@@ -26,7 +26,7 @@ pub by_place_same : {X Y : Type 0} (f g : ℕ → X → Option Y) (n : ℕ) (xs 
 by_place_same f g n [] all = refl
 by_place_same f g n (x ∷ xs) all = ap (λ o. cons_option o (by_place f (suc n) xs)) (all.0 n) ∙ ap (cons_option (g n x)) (by_place_same f g (suc n) xs all.1)
 
-one_longer : {X : Type 0} (front : List X) (x : X) → length (front ++ x ∷ []) ≡ suc (length front)
+pub one_longer : {X : Type 0} (front : List X) (x : X) → length (front ++ x ∷ []) ≡ suc (length front)
 one_longer front x = length-append front (x ∷ []) ∙ omega arith
 
 -- the places behind the front of a list give what its back gives
@@ -54,7 +54,7 @@ behind_gives give whole front back is =
 
 module _ {X : Type 0} (same : X → X → Bool) (decides : (x y : X) → Decides (same x y) (x ≡ y)) where
   -- what stands once has the place where it stands
-  place_here : (front : List X) (x : X) (back : List X) → IsOnce same decides (front ++ x ∷ back) → place same x (front ++ x ∷ back) ≡ suc (length front)
+  pub place_here : (front : List X) (x : X) (back : List X) → IsOnce same decides (front ++ x ∷ back) → place same x (front ++ x ∷ back) ≡ suc (length front)
   place_here [] x back once = rw ((decides x x).1 refl) refl
   place_here (y ∷ front) x back once =
       let behind_y = any_none (λ z. same z y) front (x ∷ back) once.0 in

@@ -40,7 +40,6 @@ module _ (limits : Limits) (commands : List Accepted) (c : Command) where
   answered_leaves (Err faults.Memory) session s answered = before_left s answered.rests
   answered_leaves (Err (faults.Store cause)) session s answered = answered.left
   answered_leaves (Err faults.Reopen) session s answered = absurd answered
-  answered_leaves (Err faults.Sales) session s answered = absurd answered
 
   -- the command was not there, and comes again
   pub from_before : (result : Result Reply Fault) (session : Session) (s : State) → IsAnswered limits commands c result session s → IsRedelivered limits commands c result session s
@@ -50,7 +49,6 @@ module _ (limits : Limits) (commands : List Accepted) (c : Command) where
   from_before (Err faults.Memory) session s answered = inl answered
   from_before (Err (faults.Store cause)) session s answered = answered
   from_before (Err faults.Reopen) session s answered = absurd answered
-  from_before (Err faults.Sales) session s answered = absurd answered
 
   once : accepted_after limits after c ≡ after
   once = acts_once limits commands c
@@ -69,4 +67,3 @@ module _ (limits : Limits) (commands : List Accepted) (c : Command) where
   from_after (Err faults.Memory) session s answered = inr answered
   from_after (Err (faults.Store cause)) session s answered = stopped_after session s answered
   from_after (Err faults.Reopen) session s answered = absurd answered
-  from_after (Err faults.Sales) session s answered = absurd answered

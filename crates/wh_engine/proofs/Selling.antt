@@ -1,7 +1,7 @@
 -- What a batch of sales leaves as it was, and the facts that it brings.
-use Rattle.std.proofs.Common.{◌≡◌, ℕ, ◌<◌, ◌==◌, Bool, true, false, cond, ◌&&◌, List, [], ◌∷◌, ◌++◌, map, Option, Some, None, refl, sym, ◌∙◌, ap, subst, append-nil}
+use Rattle.std.proofs.Common.{◌≡◌, ℕ, ◌<◌, ◌==◌, Bool, true, false, cond, ◌&&◌, List, [], ◌∷◌, ◌++◌, map, Some, None, refl, sym, ◌∙◌, ap, subst, append-nil}
 use Rattle.std.specs.Prelude.{◌≢◌, bytes_eq, find, filter, option_map}
-use Rattle.std.specs.List.{AllByRecursion, IsDistinct, list_any}
+use Rattle.std.specs.List.{AllByRecursion, list_any}
 use Rattle.std.specs.Option.{option_or}
 use Rattle.std.proofs.lemmas.Bool.{and_parts, eqb-true}
 use Rattle.std.proofs.lemmas.Grind.{flat_map-append}
@@ -18,7 +18,6 @@ use Rattle.wh_history.specs.Laws.{governs}
 use Rattle.wh_history.specs.Profiles.{combinations_of, current_profile}
 use Rattle.wh_history.specs.Rows.{rows}
 use Rattle.wh_history.specs.Tables.{member_rows, key_at, profile_at, fact_of}
-use Rattle.wh_history.specs.declared.facts.Fact.{Fact}
 use Rattle.wh_history.proofs.Growth.{durable_stays, surrogate_stays}
 use Rattle.wh_history.proofs.Joins.{Told, told_in_all}
 use Rattle.wh_history.proofs.Places.{place-distinct_given, anchors_decide}
@@ -27,12 +26,12 @@ use Rattle.wh_history.proofs.Untouched.{described-last}
 use Rattle.wh_rows.specs.Rows as row
 use Rattle.wh_rows.specs.declared.key.LineKey.{LineKey}
 use Rattle.wh_engine.specs.Defined.{fact_at}
-use Rattle.wh_engine.specs.Laws.{same_line, SalesAreFacts}
+use Rattle.wh_engine.specs.Laws.{SalesAreFacts}
 use Rattle.wh_engine.specs.Planned.{has_line}
 use Rattle.wh_engine.proofs.Following.{Named, all_named, durable_kept, customer_kept}
 use Rattle.wh_engine.proofs.GrownChanges.{natural_among}
-use Rattle.wh_engine.proofs.GrownFacts.{Once}
-use Rattle.wh_engine.proofs.GrownKeys.{map_same}
+use Rattle.wh_engine.proofs.GrownFacts.{found_mapped, facts_once, or_none}
+use Rattle.wh_engine.proofs.GrownKeys.{found_is, map_same}
 
 module _ (commands : List Accepted) (c : Accepted) (sales : List SaleRecord) (is : c.content ≡ Sells sales) where
   abbrev after : List Accepted
@@ -41,7 +40,7 @@ module _ (commands : List Accepted) (c : Accepted) (sales : List SaleRecord) (is
   pub batch : governs c.content ≡ false
   batch = ap governs is
 
-  sold_more : sold after ≡ sold commands ++ sales
+  pub sold_more : sold after ≡ sold commands ++ sales
   sold_more =
       flat_map-append (λ (d : Accepted). sold_by d.content) commands (c ∷ [])
       ∙ ap (λ ss. sold commands ++ ss) (append-nil (sold_by c.content))
@@ -50,7 +49,7 @@ module _ (commands : List Accepted) (c : Accepted) (sales : List SaleRecord) (is
   described_kept : (dim : Dim) → described dim after ≡ described dim commands
   described_kept dim = described-last dim commands c ∙ ap (λ content. described dim commands ++ described_by dim content) is ∙ append-nil (described dim commands)
 
-  profiles_kept : profiles_of after ≡ profiles_of commands
+  pub profiles_kept : profiles_of after ≡ profiles_of commands
   profiles_kept = ap (λ kinds. combinations_of kinds (described Customer after)) (types-last Customer commands c batch) ∙ ap (combinations_of (types_in Customer commands)) (described_kept Customer)
 
   -- ---- a member that was mentioned is as it was
@@ -71,7 +70,7 @@ module _ (commands : List Accepted) (c : Accepted) (sales : List SaleRecord) (is
         | false ↦ rest
       ]
 
-  changes_kept : (dim : Dim) (natural : List ℕ) → changes_of dim after natural ≡ changes_of dim commands natural
+  pub changes_kept : (dim : Dim) (natural : List ℕ) → changes_of dim after natural ≡ changes_of dim commands natural
   changes_kept dim natural =
       ap (λ rs. map (change_of dim after) (filter (λ r. bytes_eq r.natural natural) rs)) (described_kept dim)
       ∙ each_kept dim natural (described dim commands) (told_in_all dim commands)
@@ -117,13 +116,6 @@ module _ (commands : List Accepted) (c : Accepted) (sales : List SaleRecord) (is
   abbrev on_line : LineKey → SaleRecord → Bool
   on_line key s = bytes_eq s.ticket key.ticket && (s.line == key.line)
 
-  mapped : (key : LineKey) (ss : List SaleRecord) → find (has_line key) (map (fact_of after) ss) ≡ option_map (fact_of after) (find (on_line key) ss)
-  mapped key [] = refl
-  mapped key (s ∷ ss) = elim (on_line key s) as (λ b. cond b (Some (fact_of after s)) (find (has_line key) (map (fact_of after) ss)) ≡ option_map (fact_of after) (cond b (Some s) (find (on_line key) ss))) [
-    | true ↦ refl
-    | false ↦ mapped key ss
-  ]
-
   line_is : (key : LineKey) (s : SaleRecord) → on_line key s ≡ true → line_of s ≡ key
   line_is key s h =
       let parts = and_parts (bytes_eq s.ticket key.ticket) (s.line == key.line) h in
@@ -140,27 +132,15 @@ module _ (commands : List Accepted) (c : Accepted) (sales : List SaleRecord) (is
         | false ↦ λ _. none_new key old ss found new.1
       ] refl
 
-  or_none : (o : Option Fact) → option_or o None ≡ o
-  or_none None = refl
-  or_none (Some f) = refl
-
-  found_has : (P : SaleRecord → Type 0) (p : SaleRecord → Bool) (ss : List SaleRecord) (s : SaleRecord) → AllByRecursion P ss → find p ss ≡ Some s → P s
-  found_has P p [] s all h = absurd cc
-  found_has P p (q ∷ ss) s all h =
-      elim (p q) as (λ b. cond b (Some q) (find p ss) ≡ Some s → P s) [
-        | true ↦ λ first. let same : q ≡ s = cc in subst P same all.0
-        | false ↦ λ later. found_has P p ss s all.1 later
-      ] h
-
   facts_lead : AllByRecursion (λ s. fact_at commands (line_of s) ≡ None) sales → (key : LineKey) → option_or (find (has_line key) (map (fact_of after) sales)) (fact_at commands key) ≡ fact_at after key
   facts_lead new key =
       let whole : fact_at after key ≡ option_map (fact_of after) (option_or (find (on_line key) (sold commands)) (find (on_line key) sales)) =
       ap (λ ss. option_map (fact_of after) (find (on_line key) ss)) sold_more ∙ ap (option_map (fact_of after)) (find-append (on_line key) (sold commands) sales) in
-      ap (λ o. option_or o (fact_at commands key)) (mapped key sales)
+      ap (λ o. option_or o (fact_at commands key)) (found_mapped after key sales)
       ∙ elim (find (on_line key) (sold commands)) as (λ o. (find (on_line key) (sold commands) ≡ o) → option_or (option_map (fact_of after) (find (on_line key) sales)) (option_map (fact_of commands) o) ≡ option_map (fact_of after) (option_or o (find (on_line key) sales))) [
         | None ↦ λ none. or_none (option_map (fact_of after) (find (on_line key) sales))
         | Some old ↦ λ some.
-            let kept = fact_kept old (found_has (Named commands) (on_line key) (sold commands) old (all_named commands) some) in
+            let kept = fact_kept old (found_is (Named commands) (on_line key) (sold commands) old (all_named commands) some) in
             ap (λ o. option_or (option_map (fact_of after) o) (Some (fact_of commands old))) (none_new key old sales some new) ∙ ap Some (sym kept)
       ] refl
       ∙ sym whole
@@ -169,18 +149,9 @@ module _ (commands : List Accepted) (c : Accepted) (sales : List SaleRecord) (is
   facts_needed [] new = tt
   facts_needed (s ∷ ss) new = (λ there. let none : fact_at commands (line_of s) ≡ None = new.0 in absurd cc, facts_needed ss new.1)
 
-  apart_mapped : (s : SaleRecord) (ss : List SaleRecord) → AllByRecursion (λ q. same_line s q ≡ false) ss → AllByRecursion (λ g. has_line (line_of s) g ≡ false) (map (fact_of after) ss)
-  apart_mapped s [] apart = tt
-  apart_mapped s (q ∷ ss) apart = (apart.0, apart_mapped s ss apart.1)
-
-  facts_once : (ss : List SaleRecord) → IsDistinct same_line ss → Once (map (fact_of after) ss)
-  unfolding IsDistinct
-  facts_once [] distinct = tt
-  facts_once (s ∷ ss) distinct = (apart_mapped s ss distinct.0, facts_once ss distinct.1)
-
 pub sales_are_facts : SalesAreFacts
 sales_are_facts commands c sales is new distinct = record {
   lead = facts_lead commands c sales is new;
   needed = facts_needed commands c sales is sales new;
-  once = facts_once commands c sales is sales distinct;
+  once = facts_once (commands ++ c ∷ []) sales distinct;
 }

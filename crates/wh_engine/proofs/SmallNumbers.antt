@@ -1,5 +1,5 @@
 -- The numbers that accepted commands give are small.
-use Rattle.std.proofs.Common.{◌≡◌, inl, inr, ℕ, suc, ◌+◌, ◌*◌, ◌≤◌, Bool, true, false, cond, not, List, [], ◌∷◌, length, map, Option, Some, None, refl, ap, arith, length-append}
+use Rattle.std.proofs.Common.{◌≡◌, inl, inr, ℕ, suc, ◌+◌, ◌*◌, ◌≤◌, Bool, true, false, cond, not, ◌&&◌, List, [], ◌∷◌, length, map, Option, Some, None, refl, arith, length-append}
 use Rattle.std.specs.Prelude.{filter, flat_map, option_to_list, nat_le, bytes_eq}
 use Rattle.std.proofs.lemmas.Bool.{cases_lt, leb-true, le-leb}
 use Rattle.std.proofs.lemmas.List.{length-map}
@@ -90,6 +90,7 @@ below_most most count is = leb-true count most (both_true (nat_le 1 count) (nat_
 record Few (l : Limits) : Type 0 where
   pub commands : l.commands ≤ 100000
   pub changes : l.changes ≤ 1000000
+  pub facts : l.facts ≤ 1000000
 
 limits_few : (l : Limits) → are_limits l ≡ true → Few l
 limits_few l is =
@@ -97,7 +98,7 @@ limits_few l is =
       | false ↦ λ no. absurd (cc)
       | true ↦ λ commands. elim (is_limit 1000000 l.changes) as (λ b. (is_limit 1000000 l.changes ≡ b) → Few l) [
         | false ↦ λ no. absurd (cc)
-        | true ↦ λ changes. record { commands = below_most 100000 l.commands commands; changes = below_most 1000000 l.changes changes }
+        | true ↦ λ changes. record { commands = below_most 100000 l.commands commands; changes = below_most 1000000 l.changes changes; facts = below_most 1000000 l.facts (both_true (is_limit 100000 l.commands && is_limit 1000000 l.changes) (is_limit 1000000 l.facts) is).1 }
       ] refl
     ] refl
 
@@ -111,17 +112,20 @@ module _ (limits : Limits) (commands : List Accepted) (ok : IsAccepted limits co
   pub described_few : (dim : Dim) → length (described dim commands) ≤ 1000000
   described_few dim = let most = few.changes in let within = ok.changes_within in let one = described_kept dim commands in omega arith
 
-  mentioned_few : (dim : Dim) → length (mentions dim commands) ≤ 2000000
+  pub sold_few : length (sold commands) ≤ 1000000
+  sold_few = let most = few.facts in let within = ok.facts_within in omega arith
+
+  mentioned_few : (dim : Dim) → length (mentions dim commands) ≤ 3000000
   mentioned_few dim =
       let told = mentions_few dim commands in
       let one = described_few dim in
-      let none : length (sold commands) ≡ 0 = ap length ok.unsold in
+      let gone = sold_few in
       omega arith
 
-  pub anchors_few : (dim : Dim) → length (anchors dim commands) ≤ 2000000
+  pub anchors_few : (dim : Dim) → length (anchors dim commands) ≤ 3000000
   anchors_few dim = let all = mentioned_few dim in let once = distinct_few same_anchor (mentions dim commands) in omega arith
 
-  pub members_few : (dim : Dim) → length (members dim commands) ≤ 2000000
+  pub members_few : (dim : Dim) → length (members dim commands) ≤ 3000000
   members_few dim =
       let all = mentioned_few dim in
       let names = length-map (mentions dim commands) (λ (a : Anchor). a.natural) in

@@ -1,8 +1,9 @@
--- An accepted batch of products, stores or customers leaves the list of commands one that can have been accepted.
-use Rattle.std.proofs.Common.{◌≡◌, ℕ, ◌+◌, ◌*◌, ◌≤◌, ◌<◌, Bool, true, false, cond, leb, ltb, List, [], ◌∷◌, ◌++◌, length, map, Option, Some, None, Result, Ok, Err, refl, sym, ap, ◌∙◌, subst, arith}
+-- An accepted batch leaves the list of commands one that can have been accepted.
+use Rattle.std.proofs.Common.{◌≡◌, ℕ, suc, ◌+◌, ◌*◌, ◌≤◌, ◌<◌, Bool, true, false, cond, leb, ltb, ◌||◌, List, [], ◌∷◌, ◌++◌, length, map, Option, Some, None, Result, Ok, Err, refl, ap, ◌∙◌, arith, append-nil}
 use Rattle.std.specs.Prelude.{find, bytes_eq, IsSome, unwrap_or, option_map}
-use Rattle.std.specs.List.{AllByRecursion, IsDistinct}
+use Rattle.std.specs.List.{AllByRecursion, IsDistinct, list_any}
 use Rattle.std.proofs.lemmas.Bool.{leb-false, ltb-false}
+use Rattle.std.proofs.lemmas.Grind.{flat_map-append}
 use Rattle.std.proofs.lemmas.List.{length-append, length-map, map-append}
 use Rattle.wh_policy.specs.Policy.{attributes_of, types_of}
 use Rattle.wh_policy.specs.declared.attribute.Attribute.{Attribute}
@@ -10,12 +11,14 @@ use Rattle.wh_policy.specs.declared.attribute.Dim.{Dim}
 use Rattle.wh_policy.specs.declared.attribute.Dim.TheVariants.{Product, Store, Customer}
 use Rattle.wh_policy.specs.declared.policy.Policy.{Policy}
 use Rattle.wh_policy.specs.declared.record.DimensionRecord.{DimensionRecord}
-use Rattle.wh_batch.specs.Layouts.{dimension_records}
+use Rattle.wh_policy.specs.declared.record.SaleRecord.{SaleRecord}
+use Rattle.wh_batch.specs.Layouts.{dimension_records, sale_records}
 use Rattle.wh_batch.specs.declared.fault.BatchFault.{BatchFault}
-use Rattle.wh_batch.specs.declared.kind.Kind.TheVariants.{Dimension}
+use Rattle.wh_batch.specs.declared.kind.Kind.{Kind}
+use Rattle.wh_batch.specs.declared.kind.Kind.TheVariants.{Dimension, Sales}
 use Rattle.wh_batch.specs.declared.kind.Format.TheVariants.{One}
 use Rattle.wh_batch.proofs.GoodLemmas.{bind_ok, cond_ok}
-use Rattle.wh_history.specs.Accepted.{Accepted, Content, Describes, policy_after, described, described_by, sold, sold_by, same_dim}
+use Rattle.wh_history.specs.Accepted.{Accepted, Content, Governs, Describes, Sells, policy_after, described, described_by, sold, sold_by, same_dim}
 use Rattle.wh_history.specs.Laws.{governs}
 use Rattle.wh_history.specs.Tables.{Limits}
 use Rattle.wh_history.proofs.Joins.{all_append}
@@ -23,7 +26,7 @@ use Rattle.wh_history.proofs.Stays.{policy_last, types-last}
 use Rattle.wh_history.proofs.Untouched.{described-last}
 use Rattle.wh_rows.specs.Types.{is_key, is_kind}
 use Rattle.wh_engine.specs.Admission.{kind_word, content_of, in_force, accepted_as, changes_in, first_line_there, with_lines, when_read, answer, with_content, after_answer, accepted_after}
-use Rattle.wh_engine.specs.Sound.{IsGoodRecord, changes_kept, IsAccepted}
+use Rattle.wh_engine.specs.Sound.{IsGoodRecord, IsGoodSale, same_line, changes_kept, IsAccepted}
 use Rattle.wh_engine.specs.Laws.{AcceptedListsStaySound}
 use Rattle.wh_engine.specs.declared.command.Command.{Command}
 use Rattle.wh_engine.specs.declared.command.Receipt.{Receipt}
@@ -31,10 +34,10 @@ use Rattle.wh_engine.specs.declared.command.Reply.{Reply}
 use Rattle.wh_engine.specs.declared.command.Reply.TheVariants.{Accepted as Accepts, Already}
 use Rattle.wh_engine.specs.declared.command.Refused.{Refused}
 use Rattle.wh_engine.specs.declared.command.Refused.TheVariants.{Full}
-use Rattle.wh_engine.specs.declared.command.Limit.TheVariants.{Commands, Changes}
-use Rattle.wh_engine.proofs.GrownOthers.{sold_nothing}
+use Rattle.wh_engine.specs.declared.command.Limit.TheVariants.{Commands, Changes, Facts}
 use Rattle.wh_engine.proofs.Repeats.{new_id}
 use Rattle.wh_engine.proofs.GoodRecords.{good_records, few_records}
+use Rattle.wh_engine.proofs.GoodSales.{good_sales, few_sales, sales_once}
 
 -- ---- ids
 
@@ -57,66 +60,114 @@ unknown id (a ∷ commands) h =
     let (other, none) = none_first (bytes_eq a.id id) a (find (λ (b : Accepted). bytes_eq b.id id) commands) h in
     (other, unknown id commands none)
 
+-- ---- the lines of sales
+
+neither : (a b : Bool) → a || b ≡ false → (a ≡ false) × (b ≡ false)
+neither true b h = absurd cc
+neither false b h = (refl, h)
+
+-- no sale before has the line of one of these
+abbrev pub AreNew : List SaleRecord → List SaleRecord → Type 0
+AreNew before sales = AllByRecursion (λ s. list_any (λ t. same_line t s) before ≡ false) sales
+
+first_apart : (t : SaleRecord) (before sales : List SaleRecord) → AreNew (t ∷ before) sales → AllByRecursion (λ s. same_line t s ≡ false) sales
+first_apart t before [] new = tt
+first_apart t before (s ∷ sales) new = ((neither (same_line t s) (list_any (λ q. same_line q s) before) new.0).0, first_apart t before sales new.1)
+
+later_apart : (t : SaleRecord) (before sales : List SaleRecord) → AreNew (t ∷ before) sales → AreNew before sales
+later_apart t before [] new = tt
+later_apart t before (s ∷ sales) new = ((neither (same_line t s) (list_any (λ q. same_line q s) before) new.0).1, later_apart t before sales new.1)
+
+lines_joined : (before sales : List SaleRecord) → IsDistinct same_line before → IsDistinct same_line sales → AreNew before sales → IsDistinct same_line (before ++ sales)
+unfolding IsDistinct
+lines_joined [] sales once more new = more
+lines_joined (t ∷ before) sales once more new = (all_append (λ s. same_line t s ≡ false) before sales once.0 (first_apart t before sales new), lines_joined before sales once.1 more (later_apart t before sales new))
+
+-- where no line is there, each is new
+pub all_new : (before : List SaleRecord) (number : ℕ) (sales : List SaleRecord) → first_line_there before number sales ≡ None → AreNew before sales
+all_new before number [] none = tt
+all_new before number (s ∷ sales) none =
+    elim (list_any (λ t. same_line t s) before) as (λ b. (list_any (λ t. same_line t s) before ≡ b) → cond b (Some number) (first_line_there before (suc number) sales) ≡ None → AreNew before (s ∷ sales)) [
+      | true ↦ λ is h. absurd cc
+      | false ↦ λ is h. (is, all_new before (suc number) sales h)
+    ] refl none
+
 -- ---- one batch more
+
+-- a content that a batch can hold: few good records, or few good sales of which no two have one line
+pub record IsGoodContent (content : Content) : Type 0 where
+  pub batch : governs content ≡ false
+  pub few : changes_in content ≤ 5000
+  pub few_sales : length (sold_by content) ≤ 5000
+  pub records : (dim : Dim) → AllByRecursion IsGoodRecord (described_by dim content)
+  pub sales : AllByRecursion IsGoodSale (sold_by content)
+  pub lines : IsDistinct same_line (sold_by content)
 
 all_if : (P : DimensionRecord → Type 0) (b : Bool) (records : List DimensionRecord) → AllByRecursion P records → AllByRecursion P (cond b records [])
 all_if P true records all = all
 all_if P false records all = tt
 
 -- the dimensions' records together
-counted : (dim : Dim) (records : List DimensionRecord) → length (described_by Product (Describes dim records)) + length (described_by Store (Describes dim records)) + length (described_by Customer (Describes dim records)) ≡ length records
-counted Product records = omega arith
-counted Store records = omega arith
-counted Customer records = omega arith
+counted : (content : Content) → length (described_by Product content) + length (described_by Store content) + length (described_by Customer content) ≡ changes_in content
+counted (Governs policy) = omega arith
+counted (Describes Product records) = omega arith
+counted (Describes Store records) = omega arith
+counted (Describes Customer records) = omega arith
+counted (Sells sales) = omega arith
 
-module _ (limits : Limits) (commands : List Accepted) (c : Accepted) (dim : Dim) (records : List DimensionRecord) (is : c.content ≡ Describes dim records) (accepted : IsAccepted limits commands) where
+module _ (limits : Limits) (commands : List Accepted) (c : Accepted) (accepted : IsAccepted limits commands) (good : IsGoodContent c.content) where
   abbrev after : List Accepted
   after = commands ++ c ∷ []
 
-  batch : governs c.content ≡ false
-  batch = ap governs is
+  longer : (other : Dim) → length (described other after) ≡ length (described other commands) + length (described_by other c.content)
+  longer other = ap length (described-last other commands c) ∙ length-append (described other commands) (described_by other c.content)
 
-  described_more : (other : Dim) → described other after ≡ described other commands ++ described_by other (Describes dim records)
-  described_more other = described-last other commands c ∙ ap (λ content. described other commands ++ described_by other content) is
-
-  longer : (other : Dim) → length (described other after) ≡ length (described other commands) + length (described_by other (Describes dim records))
-  longer other = ap length (described_more other) ∙ length-append (described other commands) (described_by other (Describes dim records))
-
-  changes_more : changes_kept after ≡ changes_kept commands + length records
+  pub changes_more : changes_kept after ≡ changes_kept commands + changes_in c.content
   changes_more =
       let products = longer Product in
       let stores = longer Store in
       let customers = longer Customer in
-      let all = counted dim records in
+      let all = counted c.content in
       omega arith
 
-  batch_added : is_key 40 c.id ≡ true → is_kind c.kind ≡ true → find (λ (a : Accepted). bytes_eq a.id c.id) commands ≡ None
-      → length commands < limits.commands → changes_kept commands + length records ≤ limits.changes → length records ≤ 5000 → AllByRecursion IsGoodRecord records → IsAccepted limits after
-  batch_added id kind new room changes few good =
+  sold_more : sold after ≡ sold commands ++ sold_by c.content
+  sold_more = flat_map-append (λ (d : Accepted). sold_by d.content) commands (c ∷ []) ∙ ap (λ ss. sold commands ++ ss) (append-nil (sold_by c.content))
+
+  pub batch_added : is_key 40 c.id ≡ true → is_kind c.kind ≡ true → find (λ (a : Accepted). bytes_eq a.id c.id) commands ≡ None
+      → length commands < limits.commands → changes_kept commands + changes_in c.content ≤ limits.changes → length (sold commands) + length (sold_by c.content) ≤ limits.facts → AreNew (sold commands) (sold_by c.content) → IsAccepted limits after
+  batch_added id kind new room changes facts lines =
       let longer_by_one = length-append commands (c ∷ []) in
       let few_before = accepted.few_a_batch in
+      let few_sold = accepted.few_sales_a_batch in
+      let few = good.few in
+      let few_sales = good.few_sales in
       let more = changes_more in
+      let sales = ap length sold_more ∙ length-append (sold commands) (sold_by c.content) in
       let few_after : changes_kept after ≤ length after * 5000 = omega arith in
+      let few_sales_after : length (sold after) ≤ length after * 5000 = omega arith in
       record {
         limited = accepted.limited;
         commands_within = omega arith;
         changes_within = rw changes_more changes;
+        facts_within = omega arith;
         few_a_batch = few_after;
+        few_sales_a_batch = few_sales_after;
         begun = record {
           policy = accepted.begun.policy;
           bytes = accepted.begun.bytes;
           rest = accepted.begun.rest ++ c ∷ [];
           making = ap (λ cs. cs ++ c ∷ []) accepted.begun.making;
           written = accepted.begun.written;
-          kept = policy_last None commands c batch ∙ accepted.begun.kept;
+          kept = policy_last None commands c good.batch ∙ accepted.begun.kept;
         };
-        governed = rw (policy_last None commands c batch) accepted.governed;
-        six = λ other. rw (types-last other commands c batch) (accepted.six other);
+        governed = rw (policy_last None commands c good.batch) accepted.governed;
+        six = λ other. rw (types-last other commands c good.batch) (accepted.six other);
         ids = all_append (λ a. is_key 40 a.id ≡ true) commands (c ∷ []) accepted.ids (id, tt);
         kinds = all_append (λ a. is_kind a.kind ≡ true) commands (c ∷ []) accepted.kinds (kind, tt);
         distinct = rw (map-append (λ (a : Accepted). a.id) commands (c ∷ [])) (distinct_last bytes_eq (map (λ (a : Accepted). a.id) commands) c.id (unknown c.id commands new) accepted.distinct);
-        records = λ other. rw (described_more other) (all_append IsGoodRecord (described other commands) (described_by other (Describes dim records)) (accepted.records other) (all_if IsGoodRecord (same_dim other dim) records good));
-        unsold = sold_nothing dim commands c records is accepted.unsold;
+        records = λ other. rw (described-last other commands c) (all_append IsGoodRecord (described other commands) (described_by other c.content) (accepted.records other) (good.records other));
+        sales = rw sold_more (all_append IsGoodSale (sold commands) (sold_by c.content) accepted.sales good.sales);
+        lines = rw sold_more (lines_joined (sold commands) (sold_by c.content) accepted.lines good.lines lines);
       }
 
 -- ---- the answer's cases
@@ -126,40 +177,69 @@ in_force_six : (dim : Dim) (o : Option Policy) (other : Policy) → IsSome o →
 in_force_six dim None other some six = absurd cc
 in_force_six dim (Some policy) other some six = omega (arith, length-map (attributes_of policy dim) (λ (a : Attribute). a.kind))
 
-kind_known : (dim : Dim) → is_kind (kind_word (Dimension dim)) ≡ true
-kind_known Product = refl
-kind_known Store = refl
-kind_known Customer = refl
+kind_known : (kind : Kind) → is_kind (kind_word kind) ≡ true
+kind_known (Dimension Product) = refl
+kind_known (Dimension Store) = refl
+kind_known (Dimension Customer) = refl
+kind_known Sales = refl
 
--- there was room for what was accepted
-record HasRoom (limits : Limits) (commands : List Accepted) (content : Content) : Type 0 where
-  commands_left : length commands < limits.commands
-  changes_left : changes_kept commands + changes_in content ≤ limits.changes
+-- there was room for what was accepted, and no line of it was there
+pub record HasRoom (limits : Limits) (commands : List Accepted) (content : Content) : Type 0 where
+  pub commands_left : length commands < limits.commands
+  pub changes_left : changes_kept commands + changes_in content ≤ limits.changes
+  pub facts_left : length (sold commands) + length (sold_by content) ≤ limits.facts
+  pub lines_new : first_line_there (sold commands) 1 (sold_by content) ≡ None
 
 module _ (limits : Limits) (commands : List Accepted) (c : Command) (content : Content) (receipt : Receipt) where
-  room_after_lines : (o : Option ℕ) → with_lines limits commands c content o ≡ Ok (Accepts receipt) → changes_kept commands + changes_in content ≤ limits.changes
-  room_after_lines (Some number) h = absurd cc
-  room_after_lines None h =
+  room_after_lines : length commands < limits.commands → (o : Option ℕ) → first_line_there (sold commands) 1 (sold_by content) ≡ o → with_lines limits commands c content o ≡ Ok (Accepts receipt) → HasRoom limits commands content
+  room_after_lines left (Some number) is h = absurd cc
+  room_after_lines left None is h =
       let (few, rest) = cond_ok (ltb limits.changes (changes_kept commands + changes_in content)) (Full Changes) _ (Accepts receipt) h in
-      ltb-false _ _ few
+      let (fewer, last) = cond_ok (ltb limits.facts (length (sold commands) + length (sold_by content))) (Full Facts) _ (Accepts receipt) rest in
+      record { commands_left = left; changes_left = ltb-false _ _ few; facts_left = ltb-false _ _ fewer; lines_new = is }
 
-  had_room : when_read limits commands c (Ok content) ≡ Ok (Accepts receipt) → HasRoom limits commands content
+  pub had_room : when_read limits commands c (Ok content) ≡ Ok (Accepts receipt) → HasRoom limits commands content
   had_room h =
       let (few, rest) = cond_ok (leb limits.commands (length commands)) (Full Commands) _ (Accepts receipt) h in
-      record { commands_left = leb-false _ _ few; changes_left = room_after_lines (first_line_there (sold commands) 1 (sold_by content)) rest }
+      room_after_lines (leb-false _ _ few) (first_line_there (sold commands) 1 (sold_by content)) refl rest
 
-module _ (limits : Limits) (commands : List Accepted) (c : Command) (dim : Dim) (is : c.kind ≡ Dimension dim) (accepted : IsAccepted limits commands) where
-  by_content : (read : Result Content BatchFault) (receipt : Receipt) → content_of (Dimension dim) (in_force commands) c.bytes ≡ read → is_key 40 c.id ≡ true → find (λ (a : Accepted). bytes_eq a.id c.id) commands ≡ None
+-- what was read is good
+good_content : (kind : Kind) (policy : Policy) (bytes : List ℕ) (content : Content) → ((dim : Dim) → length (attributes_of policy dim) ≤ 6) → content_of kind policy bytes ≡ Ok content → IsGoodContent content
+unfolding IsDistinct
+good_content (Dimension dim) policy bytes content six told =
+    let (records, read, last) = bind_ok (dimension_records dim policy One bytes) _ content told in
+    let e : Describes dim records ≡ content = cc in
+    let good = good_records dim policy bytes records (six dim) read in
+    rw (← e) (record {
+      batch = refl;
+      few = few_records dim policy bytes records read;
+      few_sales = omega arith;
+      records = λ other. all_if IsGoodRecord (same_dim other dim) records good;
+      sales = tt;
+      lines = tt;
+    })
+good_content Sales policy bytes content six told =
+    let (sales, read, last) = bind_ok (sale_records policy One bytes) _ content told in
+    let e : Sells sales ≡ content = cc in
+    rw (← e) (record {
+      batch = refl;
+      few = omega arith;
+      few_sales = few_sales policy bytes sales read;
+      records = λ other. tt;
+      sales = good_sales policy bytes sales read;
+      lines = sales_once policy bytes sales read;
+    })
+
+module _ (limits : Limits) (commands : List Accepted) (c : Command) (accepted : IsAccepted limits commands) where
+  pub content_good : (content : Content) → content_of c.kind (in_force commands) c.bytes ≡ Ok content → IsGoodContent content
+  content_good content told = good_content c.kind (in_force commands) c.bytes content (λ dim. in_force_six dim (policy_after None commands) _ accepted.governed (accepted.six dim)) told
+
+  by_content : (read : Result Content BatchFault) (receipt : Receipt) → content_of c.kind (in_force commands) c.bytes ≡ read → is_key 40 c.id ≡ true → find (λ (a : Accepted). bytes_eq a.id c.id) commands ≡ None
       → when_read limits commands c read ≡ Ok (Accepts receipt) → IsAccepted limits (with_content commands c read)
   by_content (Err fault) receipt told good new h = accepted
   by_content (Ok content) receipt told good new h =
-      let (records, read, last) = bind_ok (dimension_records dim (in_force commands) One c.bytes) _ content told in
-      let e : Describes dim records ≡ content = cc in
       let room = had_room limits commands c content receipt h in
-      let changes : changes_kept commands + length records ≤ limits.changes = subst (λ k. changes_kept commands + changes_in k ≤ limits.changes) (sym e) room.changes_left in
-      let six = in_force_six dim (policy_after None commands) _ accepted.governed (accepted.six dim) in
-      let kind : is_kind (kind_word c.kind) ≡ true = ap (λ k. is_kind (kind_word k)) is ∙ kind_known dim in
-      batch_added limits commands (accepted_as c content) dim records (sym e) accepted good kind new room.commands_left changes (few_records dim (in_force commands) c.bytes records read) (good_records dim (in_force commands) c.bytes records six read)
+      batch_added limits commands (accepted_as c content) accepted (content_good content told) good (kind_known c.kind) new room.commands_left room.changes_left room.facts_left (all_new (sold commands) 1 (sold_by content) room.lines_new)
 
   by_answer : (a : Result Reply Refused) → answer limits commands c ≡ a → IsAccepted limits (after_answer commands c a)
   by_answer (Ok (Already receipt)) said = accepted
@@ -167,7 +247,7 @@ module _ (limits : Limits) (commands : List Accepted) (c : Command) (dim : Dim) 
   by_answer (Ok (Accepts receipt)) said =
       let new = new_id limits commands c (is_key 40 c.id) (find (λ (a : Accepted). bytes_eq a.id c.id) commands) receipt refl refl said in
       let read : when_read limits commands c (content_of c.kind (in_force commands) c.bytes) ≡ Ok (Accepts receipt) = rw (new.0, new.1) at said in
-      by_content (content_of c.kind (in_force commands) c.bytes) receipt (ap (λ k. content_of k (in_force commands) c.bytes) (sym is)) new.0 new.1 read
+      by_content (content_of c.kind (in_force commands) c.bytes) receipt refl new.0 new.1 read
 
   pub stays_accepted : IsAccepted limits (accepted_after limits commands c)
   stays_accepted = by_answer (answer limits commands c) refl

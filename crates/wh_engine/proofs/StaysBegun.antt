@@ -25,7 +25,9 @@ accepted_lists_begin limits policy bytes limited written =
       limited = limited;
       commands_within = room_for_one limits limited;
       changes_within = omega arith;
+      facts_within = omega arith;
       few_a_batch = omega arith;
+      few_sales_a_batch = omega arith;
       begun = record { policy = policy; bytes = bytes; rest = []; making = refl; written = written; kept = refl };
       governed = refl;
       six = λ dim. omega (arith, length-map (attributes_of policy dim) (λ (a : Attribute). a.kind), (sound.attributes dim).few);
@@ -33,5 +35,6 @@ accepted_lists_begin limits policy bytes limited written =
       kinds = (refl, tt);
       distinct = (tt, tt);
       records = λ dim. tt;
-      unsold = refl;
+      sales = tt;
+      lines = tt;
     }

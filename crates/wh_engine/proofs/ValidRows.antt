@@ -145,7 +145,7 @@ behind_small : (n : ℕ) → unwrap_or (behind_unknown n) 0 ≤ suc n
 behind_small zero = omega arith
 behind_small (suc n) = omega arith
 
-current_small : (kinds : List AttributeType) (combinations : List (List (List ℕ))) (o : Option Change) → current_profile kinds combinations o ≤ suc (length combinations)
+pub current_small : (kinds : List AttributeType) (combinations : List (List (List ℕ))) (o : Option Change) → current_profile kinds combinations o ≤ suc (length combinations)
 current_small kinds combinations None = omega arith
 current_small kinds combinations (Some c) =
     let texts = picks is_profile kinds c.values in

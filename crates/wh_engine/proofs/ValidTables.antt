@@ -1,6 +1,6 @@
 -- The rows that accepted commands define are valid.
-use Rattle.std.proofs.Common.{◌≡◌, ℕ, zero, suc, ◌≤◌, ◌==◌, true, false, cond, List, [], ◌∷◌, ◌++◌, length, map, Option, Some, None, refl, sym, ap, subst, ◌∙◌, arith}
-use Rattle.std.specs.Prelude.{option_map, flat_map, find, bytes_eq}
+use Rattle.std.proofs.Common.{◌≡◌, ℕ, zero, suc, ◌≤◌, ◌==◌, true, false, cond, List, [], ◌∷◌, length, map, Option, Some, None, refl, sym, ap, subst, ◌∙◌, arith}
+use Rattle.std.specs.Prelude.{option_map, option_to_list, flat_map, find, bytes_eq}
 use Rattle.std.specs.Option.{option_and_then}
 use Rattle.std.specs.List.{AllByRecursion}
 use Rattle.wh_day.specs.Value.{no_card_text, unknown_text}
@@ -10,9 +10,10 @@ use Rattle.wh_policy.specs.declared.attribute.Dim.TheVariants.{Product, Store, C
 use Rattle.wh_policy.specs.declared.attribute.AttributeType.{AttributeType}
 use Rattle.wh_policy.specs.declared.attribute.AttributeType.TheVariants.{RetainOriginal, Overwrite, NewRow, NewAttribute, MiniDimension, MiniDimensionOutrigger, NewRowAndOverwrite, DualKeys}
 use Rattle.wh_policy.specs.declared.record.DimensionRecord.{DimensionRecord}
+use Rattle.wh_policy.specs.declared.record.SaleRecord.{SaleRecord}
 use Rattle.wh_history.specs.Keys.{at_place, place}
 use Rattle.wh_history.specs.Slots.{slot, picked, picks, six, texts_eq}
-use Rattle.wh_history.specs.Accepted.{Accepted, Anchor, same_anchor, opening_of, day_of, anchors_of_record, anchors_of_sale, anchors_by, described_by, sold_by, described, sold, mentions, anchors, members, types_in, durable_key, surrogate_key, member_of, profiles_of}
+use Rattle.wh_history.specs.Accepted.{Accepted, Anchor, same_anchor, opening_of, day_of, anchors_of_record, anchors_of_sale, member_of_sale, anchors_by, described_by, sold_by, described, sold, mentions, anchors, members, types_in, durable_key, surrogate_key, member_of, profiles_of}
 use Rattle.wh_history.specs.Tables.{Limits, numbered_row, dimension_row, member_rows, no_card_row, no_card_main, no_card_second, change_row_of, change_row_in}
 use Rattle.wh_history.specs.Tables as history
 use Rattle.wh_history.specs.declared.rows.DimRow.{DimRow}
@@ -27,7 +28,7 @@ use Rattle.wh_rows.specs.Types.{is_number, is_key, are_slots}
 use Rattle.wh_rows.specs.Rows.{is_command, is_member, is_change, is_natural, is_dimension}
 use Rattle.wh_rows.specs.Rows as row
 use Rattle.wh_engine.specs.Defined.{member_at, profile_at}
-use Rattle.wh_engine.specs.Sound.{IsGoodRecord, IsAccepted}
+use Rattle.wh_engine.specs.Sound.{IsGoodRecord, IsGoodSale, IsAccepted}
 use Rattle.wh_engine.proofs.GrownKeys.{all_at}
 use Rattle.wh_engine.proofs.GrownChanges.{all_apart}
 use Rattle.wh_engine.proofs.SmallNumbers.{is_small, at_within, commands_few, anchors_few, members_few, profiles_few}
@@ -39,7 +40,7 @@ pub made_of : {X Y : Type 0} (f : X → Y) (o : Option X) (y : Y) → option_map
 made_of f None y is = absurd (cc)
 made_of f (Some x) y is = (x, refl, sym (some_is (f x) y is))
 
-then_of : {X Y : Type 0} (f : X → Option Y) (o : Option X) (y : Y) → option_and_then f o ≡ Some y → (x : X) × (o ≡ Some x) × (f x ≡ Some y)
+pub then_of : {X Y : Type 0} (f : X → Option Y) (o : Option X) (y : Y) → option_and_then f o ≡ Some y → (x : X) × (o ≡ Some x) × (f x ≡ Some y)
 then_of f None y is = absurd (cc)
 then_of f (Some x) y is = (x, refl, is)
 
@@ -52,19 +53,22 @@ named_records : (rs : List DimensionRecord) → AllByRecursion IsGoodRecord rs �
 named_records [] all = tt
 named_records (r ∷ rs) all = (all.0.natural, (all.0.natural, named_records rs all.1))
 
-none_left : {X : Type 0} (xs ys : List X) → xs ++ ys ≡ [] → (xs ≡ []) × (ys ≡ [])
-none_left [] ys none = (refl, none)
-none_left (x ∷ xs) ys none = absurd (cc)
+named_option : (o : Option (List ℕ)) → ((natural : List ℕ) → o ≡ Some natural → is_key 32 natural ≡ true) → AllByRecursion IsNamed (map opening_of (option_to_list o))
+named_option None each = tt
+named_option (Some natural) each = (each natural refl, tt)
 
-named_mentions : (dim : Dim) (commands : List Accepted) → AllByRecursion IsGoodRecord (described dim commands) → sold commands ≡ [] → AllByRecursion IsNamed (mentions dim commands)
-named_mentions dim [] good unsold = tt
-named_mentions dim (c ∷ commands) good unsold =
-    let parts = all_apart IsGoodRecord (described_by dim c.content) (described dim commands) good in
-    let none = none_left (sold_by c.content) (sold commands) unsold in
-    let sales : AllByRecursion IsNamed (flat_map (anchors_of_sale dim) (sold_by c.content)) = subst (λ ss. AllByRecursion IsNamed (flat_map (anchors_of_sale dim) ss)) (sym none.0) tt in
+named_sales : (dim : Dim) (sales : List SaleRecord) → AllByRecursion IsGoodSale sales → AllByRecursion IsNamed (flat_map (anchors_of_sale dim) sales)
+named_sales dim [] all = tt
+named_sales dim (s ∷ sales) all = all_append IsNamed (anchors_of_sale dim s) (flat_map (anchors_of_sale dim) sales) (named_option (member_of_sale dim s) (all.0.members dim)) (named_sales dim sales all.1)
+
+named_mentions : (dim : Dim) (commands : List Accepted) → AllByRecursion IsGoodRecord (described dim commands) → AllByRecursion IsGoodSale (sold commands) → AllByRecursion IsNamed (mentions dim commands)
+named_mentions dim [] good gone = tt
+named_mentions dim (c ∷ commands) good gone =
+    let records = all_apart IsGoodRecord (described_by dim c.content) (described dim commands) good in
+    let sales = all_apart IsGoodSale (sold_by c.content) (sold commands) gone in
     all_append IsNamed (anchors_by dim c.content) (mentions dim commands)
-    (all_append IsNamed (flat_map anchors_of_record (described_by dim c.content)) (flat_map (anchors_of_sale dim) (sold_by c.content)) (named_records (described_by dim c.content) parts.0) sales)
-    (named_mentions dim commands parts.1 none.1)
+    (all_append IsNamed (flat_map anchors_of_record (described_by dim c.content)) (flat_map (anchors_of_sale dim) (sold_by c.content)) (named_records (described_by dim c.content) records.0) (named_sales dim (sold_by c.content) sales.0))
+    (named_mentions dim commands records.1 sales.1)
 
 -- ---- the row of sales without a card, and the profiles
 
@@ -109,17 +113,17 @@ good_picks kinds few r good = record {
 module _ (limits : Limits) (commands : List Accepted) (ok : IsAccepted limits commands) where
   named_anchor : (dim : Dim) (key : ℕ) (a : Anchor) → at_place key (anchors dim commands) ≡ Some a → is_key 32 a.natural ≡ true
   named_anchor dim key a is =
-      all_at IsNamed key (anchors dim commands) a (all_distinct IsNamed same_anchor (mentions dim commands) (named_mentions dim commands (ok.records dim) ok.unsold)) is
+      all_at IsNamed key (anchors dim commands) a (all_distinct IsNamed same_anchor (mentions dim commands) (named_mentions dim commands (ok.records dim) ok.sales)) is
 
   named_member : (dim : Dim) (durable : ℕ) (natural : List ℕ) → at_place durable (members dim commands) ≡ Some natural → is_key 32 natural ≡ true
   named_member dim durable natural is =
       let P = λ (text : List ℕ). is_key 32 text ≡ true in
       let names = map (λ (a : Anchor). a.natural) (mentions dim commands) in
-      let all : AllByRecursion P names = all_mapped IsNamed P (λ (a : Anchor). a.natural) (λ a named. named) (mentions dim commands) (named_mentions dim commands (ok.records dim) ok.unsold) in
+      let all : AllByRecursion P names = all_mapped IsNamed P (λ (a : Anchor). a.natural) (λ a named. named) (mentions dim commands) (named_mentions dim commands (ok.records dim) ok.sales) in
       all_at P durable (members dim commands) natural (all_distinct P bytes_eq names all) is
 
   -- numbers of anchors and members
-  anchor_number : (dim : Dim) (key : ℕ) → key ≤ length (anchors dim commands) → is_number key ≡ true
+  pub anchor_number : (dim : Dim) (key : ℕ) → key ≤ length (anchors dim commands) → is_number key ≡ true
   anchor_number dim key within = let few = anchors_few limits commands ok dim in is_small key (omega arith)
 
   member_number : (dim : Dim) (key : ℕ) → key ≤ length (members dim commands) → is_number key ≡ true
@@ -128,7 +132,7 @@ module _ (limits : Limits) (commands : List Accepted) (ok : IsAccepted limits co
   surrogate_number : (dim : Dim) (a : Anchor) → is_number (surrogate_key dim commands a) ≡ true
   surrogate_number dim a = anchor_number dim (surrogate_key dim commands a) (place_within same_anchor a (anchors dim commands))
 
-  durable_number : (dim : Dim) (natural : List ℕ) → is_number (durable_key dim commands natural) ≡ true
+  pub durable_number : (dim : Dim) (natural : List ℕ) → is_number (durable_key dim commands natural) ≡ true
   durable_number dim natural = member_number dim (durable_key dim commands natural) (place_within bytes_eq natural (members dim commands))
 
   -- ---- product, store and customer

@@ -1,5 +1,5 @@
 -- The answer to a command, and the list of those that are accepted.
-use Rattle.std.specs.Prelude.{ℕ, suc, ◌+◌, ◌==◌, ◌&&◌, nat_le, nat_lt, cond, codes, List, [], ◌∷◌, ◌++◌, length, map, find, Option, Some, None, unwrap_or, bytes_eq, Result, Ok, Err}
+use Rattle.std.specs.Prelude.{ℕ, suc, ◌+◌, ◌&&◌, nat_le, nat_lt, cond, codes, List, [], ◌∷◌, ◌++◌, length, map, find, Option, Some, None, unwrap_or, bytes_eq, Result, Ok, Err}
 use Rattle.std.specs.List.{list_any}
 use Rattle.wh_day.specs.Reading.{◌>>=◌}
 use Rattle.wh_policy.specs.declared.attribute.Dim.TheVariants.{Product, Store, Customer}
@@ -15,7 +15,7 @@ use Rattle.wh_history.specs.Keys.{place}
 use Rattle.wh_history.specs.Accepted.{Accepted, Content, Governs, Describes, Sells, policy_after, sold, sold_by, records_by, placeholders_by}
 use Rattle.wh_history.specs.Tables.{Limits}
 use Rattle.wh_rows.specs.Types.{is_key}
-use Rattle.wh_engine.specs.Sound.{changes_kept}
+use Rattle.wh_engine.specs.Sound.{changes_kept, same_line}
 use Rattle.wh_engine.specs.declared.command.Command.{Command}
 use Rattle.wh_engine.specs.declared.command.Receipt.{Receipt}
 use Rattle.wh_engine.specs.declared.command.Reply.{Reply}
@@ -52,7 +52,7 @@ receipt_of commands number content = record { number = number; records = records
 abbrev pub first_line_there : List SaleRecord → ℕ → List SaleRecord → Option ℕ
 first_line_there before number [] = None
 first_line_there before number (s ∷ sales) =
-    cond (list_any (λ t. bytes_eq s.ticket t.ticket && (s.line == t.line)) before) (Some number) (first_line_there before (suc number) sales)
+    cond (list_any (λ t. same_line t s) before) (Some number) (first_line_there before (suc number) sales)
 
 -- how many dimension records a content holds
 abbrev pub changes_in : Content → ℕ

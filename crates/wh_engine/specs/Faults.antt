@@ -26,7 +26,6 @@ IsServed (Err (faults.Damaged table)) = Unit {0}
 IsServed (Err faults.Memory) = Unit {0}
 IsServed (Err (faults.Store cause)) = ⊥
 IsServed (Err faults.Reopen) = Unit {0}
-IsServed (Err faults.Sales) = Unit {0}
 
 -- the store refused a call
 abbrev pub stops : {A : Type 0} → Result A Fault → Bool
@@ -36,7 +35,6 @@ stops (Err (faults.Damaged table)) = false
 stops (Err faults.Memory) = false
 stops (Err (faults.Store cause)) = true
 stops (Err faults.Reopen) = false
-stops (Err faults.Sales) = false
 
 -- it isn't one of the answers that are given before any work
 abbrev pub IsWorkedOut : {A : Type 0} → Result A Fault → Type 0
@@ -46,7 +44,6 @@ IsWorkedOut (Err (faults.Damaged table)) = Unit {0}
 IsWorkedOut (Err faults.Memory) = Unit {0}
 IsWorkedOut (Err (faults.Store cause)) = Unit {0}
 IsWorkedOut (Err faults.Reopen) = ⊥
-IsWorkedOut (Err faults.Sales) = ⊥
 
 -- The answer is that of the definition; or memory ran out, or the store refused a call. Nothing else comes.
 abbrev pub Judges : {X Y : Type 0} → (X → Y → Type 0) → Result X Fault → Result Y Refused → Type 0

@@ -1,5 +1,5 @@
 -- What holds of every batch.
-use Rattle.std.specs.Prelude.{◌≡◌, ◌≢◌, ◌↔◌, ℕ, true, false, List, [], ◌∷◌, ◌++◌, Some, None, Ok, option_map, unwrap_or, map, filter_map, length, bytes_eq, Bool, ◌&&◌, ◌==◌}
+use Rattle.std.specs.Prelude.{◌≡◌, ◌≢◌, ◌⊎◌, ◌↔◌, ℕ, true, false, List, [], ◌∷◌, ◌++◌, Some, None, Ok, option_map, unwrap_or, map, filter_map, length}
 use Rattle.std.specs.List.{list_any, AllByRecursion, IsDistinct}
 use Rattle.wh_policy.specs.Policy.{policy_at}
 use Rattle.wh_policy.specs.Types.{is_outrigger}
@@ -9,24 +9,24 @@ use Rattle.wh_policy.specs.declared.attribute.Dim.{Dim}
 use Rattle.wh_policy.specs.declared.attribute.Dim.TheVariants.{Product, Store, Customer}
 use Rattle.wh_policy.specs.declared.record.DimensionRecord.{DimensionRecord}
 use Rattle.wh_policy.specs.declared.record.SaleRecord.{SaleRecord}
-use Rattle.wh_batch.specs.declared.kind.Kind.TheVariants.{Dimension}
 use Rattle.wh_history.specs.Accepted.{Accepted, Describes, Sells, anchors, policy_after, types_in, profiles_of, changes_of, member_of_sale, sold}
 use Rattle.wh_history.specs.Dated.{dated}
 use Rattle.wh_history.specs.Facts.{new_keys}
 use Rattle.wh_history.specs.Keys.{at_place}
-use Rattle.wh_history.specs.Laws.{RecordsHaveDays, governs, mentions_member}
+use Rattle.wh_history.specs.Laws.{RecordsHaveDays, IsEffective, governs, mentions_member}
 use Rattle.wh_history.specs.Plan.{IsPlan, row_of}
 use Rattle.wh_history.specs.Tables.{Limits, dimension_row, member_rows, fact_of}
 use Rattle.wh_history.specs.declared.facts.Fact.{Fact}
 use Rattle.wh_history.specs.declared.plan.Edit.{Edit}
 use Rattle.wh_history.specs.declared.plan.Edit.TheVariants.{Put}
 use Rattle.wh_history.specs.declared.rows.DimRow.{DimRow}
+use Rattle.wh_rows.specs.declared.key.LineKey.{LineKey}
 use Rattle.wh_rows.specs.Limits.{are_limits}
 use Rattle.wh_rows.specs.Tables.{Tables}
 use Rattle.wh_engine.specs.Defined.{fact_at, AreOf}
 use Rattle.wh_engine.specs.Made.{making_of}
 use Rattle.wh_engine.specs.Planned.{Edits, with_all_edits, behind, AreFacts, AreEdits}
-use Rattle.wh_engine.specs.Sound.{IsAccepted}
+use Rattle.wh_engine.specs.Sound.{IsAccepted, same_line}
 use Rattle.wh_engine.specs.Admission.{accepted_after}
 use Rattle.wh_engine.specs.declared.command.Command.{Command}
 use Rattle.wh_engine.specs.Writable.{MayBeWritten}
@@ -58,9 +58,9 @@ UntouchedMembersKeep = (commands : List Accepted) (c : Accepted) (dim : Dim) (na
 abbrev pub SoundPoliciesShowNone : Type 0
 SoundPoliciesShowNone = (commands : List Accepted) → ((policy : Policy) → policy_after None commands ≡ Some policy → IsSound policy) → ShowsNoProfile commands Product × ShowsNoProfile commands Store
 
--- After a batch of products, stores or customers, accepted or not, the list of accepted commands is again one that a warehouse can have accepted.
+-- After a batch, accepted or not, the list of accepted commands is again one that a warehouse can have accepted.
 abbrev pub AcceptedListsStaySound : Type 0
-AcceptedListsStaySound = (limits : Limits) (commands : List Accepted) (c : Command) (dim : Dim) → c.kind ≡ Dimension dim → IsAccepted limits commands → IsAccepted limits (accepted_after limits commands c)
+AcceptedListsStaySound = (limits : Limits) (commands : List Accepted) (c : Command) → IsAccepted limits commands → IsAccepted limits (accepted_after limits commands c)
 
 -- A making under a policy that was read begins such a list.
 abbrev pub AcceptedListsBegin : Type 0
@@ -69,8 +69,8 @@ AcceptedListsBegin = (limits : Limits) (policy : Policy) (bytes : List ℕ) → 
 -- The edits of a batch that can be accepted after the commands so far may be written: each row is valid, and no other command has the
 -- id, no other member of the dimension the natural key.
 abbrev pub BatchesMayBeWritten : Type 0
-BatchesMayBeWritten = (limits : Limits) (commands : List Accepted) (c : Accepted) (dim : Dim) (records : List DimensionRecord) (tables : Tables) (edits : Edits)
-    → c.content ≡ Describes dim records
+BatchesMayBeWritten = (limits : Limits) (commands : List Accepted) (c : Accepted) (tables : Tables) (edits : Edits)
+    → governs c.content ≡ false
     → IsAccepted limits (commands ++ c ∷ [])
     → AreOf limits commands tables
     → AreEdits commands c edits
@@ -114,10 +114,6 @@ FactsFollow = (commands : List Accepted) (c : Accepted) (dim : Dim) (records : L
     → at_place number (sold commands) ≡ Some s
     → fact_of (commands ++ c ∷ []) s ≡ followed (commands ++ c ∷ []) dim s (fact_of commands s)
 
--- two sales have one line of one ticket
-abbrev pub same_line : SaleRecord → SaleRecord → Bool
-same_line a b = bytes_eq b.ticket a.ticket && (b.line == a.line)
-
 -- The facts of a batch of sales whose lines are new, no two of them the same, are exactly what leads to the facts of the commands with it: each fact that was there stays as it was.
 abbrev pub SalesAreFacts : Type 0
 SalesAreFacts = (commands : List Accepted) (c : Accepted) (sales : List SaleRecord)
@@ -132,3 +128,14 @@ SalesPutPlaceholders = (commands : List Accepted) (c : Accepted) (dim : Dim) (sa
     → c.content ≡ Sells sales
     → IsPlan (λ r. r.surrogate) (dimension_row commands dim) (dimension_row (commands ++ c ∷ []) dim)
     (map Put (filter_map (dimension_row (commands ++ c ∷ []) dim) (behind (length (anchors dim commands)) (length (anchors dim (commands ++ c ∷ []))))))
+
+-- what a fact names of its customer: the one row that holds its day, or without a card the row 0, with no member and no profile
+abbrev pub NamesCustomer : List Accepted → Fact → Type 0
+NamesCustomer commands f = IsEffective commands Customer f.customer_durable f.day f.keys.customer_key ⊎ ((f.customer_durable ≡ 0) × (f.keys.customer_key ≡ 0) × (f.keys.profile ≡ 0))
+
+-- Each fact names in each dimension the one row of its member that holds the day of the sale; without a card it names the customer row 0.
+abbrev pub FactsAreEffective : Type 0
+FactsAreEffective = (limits : Limits) (commands : List Accepted) (key : LineKey) (f : Fact)
+    → IsAccepted limits commands
+    → fact_at commands key ≡ Some f
+    → IsEffective commands Product f.product_durable f.day f.keys.product_key × IsEffective commands Store f.store_durable f.day f.keys.store_key × NamesCustomer commands f

@@ -8,9 +8,12 @@ pub mod Admission
 pub mod Made
 pub mod Planning
 pub mod Found
+pub mod Learned
 pub mod Laws
+pub mod Moved
 pub mod Faults
 pub mod Decided
 pub mod Answered
 pub mod Opened
 pub mod Redelivered
+pub mod Mentioned

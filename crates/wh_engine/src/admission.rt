@@ -1,27 +1,31 @@
 //! Whether a command is accepted, as far as the tables tell.
 
-ghost use Rattle.std.specs.Prelude.{◌≡◌, ◌+◌, nat_le, List, length, Some, IfOk};
+ghost use Rattle.std.specs.Prelude.{◌≡◌, ◌+◌, ◌*◌, ◌≤◌, nat_le, [], List, length, Some, IfOk};
+ghost use Rattle.std.specs.FinMap.{len};
+ghost use Rattle.std.specs.List.{list_any};
 ghost use Rattle.sqlite.specs.Held.{state};
 ghost use Rattle.sqlite.specs.State.{HasCleanDisk};
-ghost use Rattle.wh_history.specs.Accepted.{Accepted};
+ghost use Rattle.wh_history.specs.Accepted.{Accepted, Content, Sells, sold, sold_by};
 ghost use Rattle.wh_history.specs.Tables.{Limits as Counts};
 ghost use Rattle.wh_rows.specs.AtRest.{IsAtRest, Leaves};
 ghost use Rattle.wh_rows.specs.Tables.{Tables as Rows};
 ghost use Rattle.wh_sql.specs.Refusal.{IsUndamaged, IsWhole};
-ghost use Rattle.wh_engine.specs.Admission.{kind_word};
-ghost use Rattle.wh_engine.specs.Decided.{receipt_of_known, number_with_room};
+ghost use Rattle.wh_engine.specs.Admission.{kind_word, changes_in, first_line_there};
+ghost use Rattle.wh_engine.specs.Decided.{receipt_of_known, number_for};
 ghost use Rattle.wh_engine.specs.Defined.{AreOf};
 ghost use Rattle.wh_engine.specs.Faults.{IsServed, IsWorkedOut, Judges};
-ghost use Rattle.wh_engine.specs.Sound.{IsAccepted, changes_kept};
+ghost use Rattle.wh_engine.specs.Reads.{IsCalm, FindsNoDamage};
+ghost use Rattle.wh_engine.specs.Sound.{IsAccepted, same_line};
 
 use crate::command::{Command, Limit, Receipt, Refused};
 use crate::fault::Fault;
 use sqlite::Alter;
 use std::alloc::Global;
 use wh_batch::Kind;
-use wh_policy::Dim;
-use wh_rows::{CommandRow, Limits, tables};
-use wh_store::{Refusal, Tables};
+use wh_day::{ReadError, Value};
+use wh_policy::{Dim, SaleRecord};
+use wh_rows::{CommandRow, Limits, LineKey, tables};
+use wh_store::{Keeps, Refusal, Tables};
 
 /// The word for a kind of batch.
 pub fn kind_word(kind: Kind) -> &'static str
@@ -54,31 +58,76 @@ pub(crate) fn receipt_of_known(row: &CommandRow, command: &Command) -> Result<Re
 /// The most records that a batch holds.
 const MOST_RECORDS: u64 = 5_000;
 
-/// Whether there is room for so many more changes of members. They are counted only where full batches could have left too little.
-fn has_room_for<S: Alter>(
+/// Whether there is room for so many more rows of a table that a limit counts. They are counted only where full batches
+/// could have left too little.
+fn has_room_for<T: Keeps, S: Alter>(
     tables: &mut Tables<S>,
     alloc: Global,
-    limits: Limits,
+    limit: u64,
     commands: u64,
     records: u64,
 ) -> Result<bool, Refusal>
     ensures clean { HasCleanDisk (state S.Store tables.new.conn) → HasCleanDisk (state S.Store tables.old.conn) }
-    ensures room { HasCleanDisk (state S.Store tables.new.conn) → (accepted : List Accepted) (t : Rows) → AreOf limits accepted t → IsAccepted limits accepted → IsAtRest (Some t) (state S.Store tables.old.conn) → commands ≡ length accepted
-        → IfOk result (λ room. room ≡ nat_le (changes_kept accepted + records) limits.changes) }
+    ensures room { HasCleanDisk (state S.Store tables.new.conn) → (t : Rows) → IsAtRest (Some t) (state S.Store tables.old.conn) → len (T.rows t) ≤ commands * 5000 → len (T.rows t) ≤ limit
+        → IfOk result (λ room. room ≡ nat_le (len (T.rows t) + records) limit) }
     ensures sound { HasCleanDisk (state S.Store tables.new.conn) → (t : Rows) → IsAtRest (Some t) (state S.Store tables.old.conn) → IsUndamaged result }
     ensures same { HasCleanDisk (state S.Store tables.new.conn) → (t : Rows) → IsAtRest (Some t) (state S.Store tables.old.conn) → IsWhole result → IsAtRest (Some t) (state S.Store tables.new.conn) }
     ensures left { HasCleanDisk (state S.Store tables.new.conn) → (t : Rows) → IsAtRest (Some t) (state S.Store tables.old.conn) → Leaves (Some t) (state S.Store tables.new.conn) }
 {
     let most = commands.saturating_mul(MOST_RECORDS);
-    if records <= limits.changes().saturating_sub(most) {
+    if records <= limit.saturating_sub(most) {
         return Ok(true);
     }
-    let changes = tables.count::<tables::Change>(alloc)?;
-    Ok(records <= limits.changes().saturating_sub(changes))
+    let kept = tables.count::<T>(alloc)?;
+    Ok(records <= limit.saturating_sub(kept))
+}
+
+/// Whether a fact with a sale's ticket and line is stored.
+fn is_line_there<S: Alter>(
+    tables: &mut Tables<S>,
+    alloc: Global,
+    sale: &SaleRecord,
+) -> Result<bool, ReadError<Refusal>>
+    ensures clean { HasCleanDisk (state S.Store tables.new.conn) → HasCleanDisk (state S.Store tables.old.conn) }
+    ensures there { HasCleanDisk (state S.Store tables.new.conn) → (limits : Counts) (commands : List Accepted) (t : Rows) → AreOf limits commands t → IsAtRest (Some t) (state S.Store tables.old.conn)
+        → IfOk result (λ there. there ≡ list_any (λ s. same_line s sale.now) (sold commands)) }
+    ensures sound { HasCleanDisk (state S.Store tables.new.conn) → (t : Rows) → IsAtRest (Some t) (state S.Store tables.old.conn) → FindsNoDamage result }
+    ensures same { HasCleanDisk (state S.Store tables.new.conn) → (t : Rows) → IsAtRest (Some t) (state S.Store tables.old.conn) → IsCalm result → IsAtRest (Some t) (state S.Store tables.new.conn) }
+    ensures left { HasCleanDisk (state S.Store tables.new.conn) → (t : Rows) → IsAtRest (Some t) (state S.Store tables.old.conn) → Leaves (Some t) (state S.Store tables.new.conn) }
+{
+    let key = LineKey {
+        ticket: Value::new(alloc, sale.ticket.as_str())?,
+        line: sale.line,
+    };
+    match tables.get::<tables::Fact>(alloc, &key) {
+        Ok(fact) => Ok(fact.is_some()),
+        Err(refusal) => Err(ReadError::Fault(refusal)),
+    }
+}
+
+/// The first sale, from 1, whose ticket and line are those of a stored fact.
+fn first_line_there<S: Alter>(
+    tables: &mut Tables<S>,
+    alloc: Global,
+    sales: &[SaleRecord],
+) -> Result<Option<u64>, ReadError<Refusal>>
+    ensures clean { HasCleanDisk (state S.Store tables.new.conn) → HasCleanDisk (state S.Store tables.old.conn) }
+    ensures there { HasCleanDisk (state S.Store tables.new.conn) → (limits : Counts) (commands : List Accepted) (t : Rows) → AreOf limits commands t → IsAtRest (Some t) (state S.Store tables.old.conn)
+        → IfOk result (λ there. there ≡ first_line_there (sold commands) 1 sales.now) }
+    ensures sound { HasCleanDisk (state S.Store tables.new.conn) → (t : Rows) → IsAtRest (Some t) (state S.Store tables.old.conn) → FindsNoDamage result }
+    ensures same { HasCleanDisk (state S.Store tables.new.conn) → (t : Rows) → IsAtRest (Some t) (state S.Store tables.old.conn) → IsCalm result → IsAtRest (Some t) (state S.Store tables.new.conn) }
+    ensures left { HasCleanDisk (state S.Store tables.new.conn) → (t : Rows) → IsAtRest (Some t) (state S.Store tables.old.conn) → Leaves (Some t) (state S.Store tables.new.conn) }
+{
+    for (place, sale) in sales.iter().enumerate() {
+        if is_line_there(tables, alloc, sale)? {
+            return Ok(Some(place as u64 + 1));
+        }
+    }
+    Ok(None)
 }
 
 /// The number of the next command, where there is room for it and for so many changes of members.
-pub(crate) fn number_with_room<S: Alter>(
+pub(crate) fn number_for_records<S: Alter>(
     tables: &mut Tables<S>,
     alloc: Global,
     limits: Limits,
@@ -86,7 +135,7 @@ pub(crate) fn number_with_room<S: Alter>(
 ) -> Result<u64, Fault>
     ensures clean { HasCleanDisk (state S.Store tables.new.conn) → HasCleanDisk (state S.Store tables.old.conn) }
     ensures number { HasCleanDisk (state S.Store tables.new.conn) → (commands : List Accepted) (t : Rows) → AreOf limits commands t → IsAccepted limits commands → IsAtRest (Some t) (state S.Store tables.old.conn)
-        → Judges (λ number next. number ≡ next) result (number_with_room limits commands records) }
+        → (content : Content) → sold_by content ≡ [] → changes_in content ≡ records → Judges (λ number next. number ≡ next) result (number_for limits commands content) }
     ensures work { IsWorkedOut result }
     ensures same { HasCleanDisk (state S.Store tables.new.conn) → (t : Rows) → IsAtRest (Some t) (state S.Store tables.old.conn) → IsServed result → IsAtRest (Some t) (state S.Store tables.new.conn) }
     ensures left { HasCleanDisk (state S.Store tables.new.conn) → (t : Rows) → IsAtRest (Some t) (state S.Store tables.old.conn) → Leaves (Some t) (state S.Store tables.new.conn) }
@@ -95,8 +144,36 @@ pub(crate) fn number_with_room<S: Alter>(
     if limits.commands() <= commands {
         return Err(Fault::Refused(Refused::Full(Limit::Commands)));
     }
-    if !has_room_for(tables, alloc, limits, commands, records)? {
+    if !has_room_for::<tables::Change, S>(tables, alloc, limits.changes(), commands, records)? {
         return Err(Fault::Refused(Refused::Full(Limit::Changes)));
+    }
+    Ok(commands + 1)
+}
+
+/// The number of the next command, where there is room for it and for these sales, and none of their lines is there.
+pub(crate) fn number_for_sales<S: Alter>(
+    tables: &mut Tables<S>,
+    alloc: Global,
+    limits: Limits,
+    sales: &[SaleRecord],
+) -> Result<u64, Fault>
+    ensures clean { HasCleanDisk (state S.Store tables.new.conn) → HasCleanDisk (state S.Store tables.old.conn) }
+    ensures number { HasCleanDisk (state S.Store tables.new.conn) → (commands : List Accepted) (t : Rows) → AreOf limits commands t → IsAccepted limits commands → IsAtRest (Some t) (state S.Store tables.old.conn)
+        → Judges (λ number next. number ≡ next) result (number_for limits commands (Sells sales.now)) }
+    ensures work { IsWorkedOut result }
+    ensures same { HasCleanDisk (state S.Store tables.new.conn) → (t : Rows) → IsAtRest (Some t) (state S.Store tables.old.conn) → IsServed result → IsAtRest (Some t) (state S.Store tables.new.conn) }
+    ensures left { HasCleanDisk (state S.Store tables.new.conn) → (t : Rows) → IsAtRest (Some t) (state S.Store tables.old.conn) → Leaves (Some t) (state S.Store tables.new.conn) }
+{
+    let commands = tables.count::<tables::Command>(alloc)?;
+    if limits.commands() <= commands {
+        return Err(Fault::Refused(Refused::Full(Limit::Commands)));
+    }
+    if let Some(number) = first_line_there(tables, alloc, sales)? {
+        return Err(Fault::Refused(Refused::LineThere(number)));
+    }
+    let count = sales.len() as u64;
+    if !has_room_for::<tables::Fact, S>(tables, alloc, limits.facts(), commands, count)? {
+        return Err(Fault::Refused(Refused::Full(Limit::Facts)));
     }
     Ok(commands + 1)
 }

@@ -49,7 +49,7 @@ pub enum Refused {
     /// The batch has this fault.
     Batch(BatchFault),
     /// The first sale, from 1, whose ticket and line are those of a stored fact.
-    LineThere(u32),
+    LineThere(u64),
     /// A limit of the warehouse is reached, or would be passed.
     Full(Limit),
 }

@@ -1,33 +1,39 @@
 //! What is to be done about a command: the reads, and nothing written.
 
-ghost use Rattle.std.specs.Prelude.{◌≡◌, true, List, Some, IfOk};
+ghost use Rattle.std.specs.Prelude.{◌≡◌, ◌++◌, ◌∷◌, [], suc, true, List, length, None, Some, Ok, IfOk};
 ghost use Rattle.sqlite.specs.Held.{state};
 ghost use Rattle.sqlite.specs.State.{HasCleanDisk};
-ghost use Rattle.wh_policy.specs.declared.attribute.Dim.{Dim};
-ghost use Rattle.wh_batch.specs.declared.kind.Kind.TheVariants.{Dimension};
-ghost use Rattle.wh_history.specs.Accepted.{Accepted};
+ghost use Rattle.wh_batch.specs.declared.kind.Kind.TheVariants.{Dimension, Sales};
+ghost use Rattle.wh_policy.specs.Written.{IsSound};
+ghost use Rattle.wh_history.specs.Accepted.{Accepted, Sells, placeholders_by, policy_after, sold};
+ghost use Rattle.wh_history.specs.Tables.{Limits};
 ghost use Rattle.wh_rows.specs.AtRest.{IsAtRest, Leaves};
 ghost use Rattle.wh_rows.specs.Tables.{Tables as Rows};
 ghost use Rattle.wh_rows.specs.Types.{is_key};
-ghost use Rattle.wh_engine.specs.Admission.{answer};
-ghost use Rattle.wh_engine.specs.Decided.{records_told, row_of_batch, IsHeld, IsNew, reply_to_known, Decides};
+ghost use Rattle.wh_engine.specs.Admission.{answer, content_of, first_line_there, in_force};
+ghost use Rattle.wh_engine.specs.Decided.{records_told, sales_told, row_of_batch, IsHeld, IsNew, reply_to_known, Decides};
+ghost use Rattle.wh_engine.specs.Defined.{AreOf, command_at};
 ghost use Rattle.wh_engine.specs.Faults.{IsServed, IsWorkedOut, Judges};
+ghost use Rattle.wh_engine.specs.Planned.{AreEdits};
+ghost use Rattle.wh_engine.specs.Reads.{IsCalm, FindsNoDamage};
+ghost use Rattle.wh_engine.specs.Sound.{IsAccepted};
 
-use crate::admission::{kind_word, number_with_room, receipt_of_known};
+use crate::admission::{kind_word, number_for_records, number_for_sales, receipt_of_known};
 use crate::command::{Command, Receipt, Refused};
 use crate::edits::Edits;
 use crate::fault::Fault;
 use crate::kept::command_of;
 use crate::plan::plan_batch;
+use crate::sales::plan_sales;
 use crate::session::Session;
 use sqlite::Alter;
 use sqlite_value::value::Bytes;
 use std::alloc::{AllocError, Global};
-use wh_batch::{DimensionRecords, Format, dimension_records};
+use wh_batch::{DimensionRecords, Format, Kind, SaleRecords, dimension_records, sale_records};
 use wh_day::{ReadError, Value};
-use wh_policy::{Dim, Policy};
+use wh_policy::{Dim, Policy, SaleRecord};
 use wh_rows::{CommandRow, is_key};
-use wh_store::Tables;
+use wh_store::{Refusal, Tables};
 
 /// What is to be done about a command.
 #[derive(Debug, Drop)]
@@ -55,6 +61,18 @@ fn records_of(
     }
 }
 
+/// The sales of a batch.
+fn sales_of(alloc: Global, policy: &Policy, bytes: &[u8]) -> Result<SaleRecords, Fault>
+    ensures read { Judges (λ sales told. sales ≡ told) result (sales_told policy.now bytes.now) }
+    ensures work { IsWorkedOut result }
+{
+    match sale_records(alloc, policy, Format::One, bytes) {
+        Ok(sales) => Ok(sales),
+        Err(ReadError::Fault(fault)) => Err(Fault::Refused(Refused::Batch(fault))),
+        Err(ReadError::Memory) => Err(Fault::Memory),
+    }
+}
+
 /// The row of a batch among the commands.
 fn command_row(
     alloc: Global,
@@ -74,8 +92,8 @@ fn command_row(
     })
 }
 
-/// What is to be done about a batch whose id is new.
-fn decide_new<S: Alter>(
+/// What is to be done about a batch of products, stores or customers whose id is new.
+fn decide_records<S: Alter>(
     tables: &mut Tables<S>,
     alloc: Global,
     session: &Session,
@@ -84,14 +102,17 @@ fn decide_new<S: Alter>(
 ) -> Result<Decision, Fault>
     ensures clean { HasCleanDisk (state S.Store tables.new.conn) → HasCleanDisk (state S.Store tables.old.conn) }
     ensures decided { HasCleanDisk (state S.Store tables.new.conn) → (commands : List Accepted) (t : Rows) → IsHeld session.now commands t → command.now.kind ≡ Dimension dim → is_key 40 command.now.id ≡ true → IsNew commands command.now
-        → IsAtRest (Some t) (state S.Store tables.old.conn) → Judges (Decides commands command.now dim) result (answer session.now.limits commands command.now) }
+        → IsAtRest (Some t) (state S.Store tables.old.conn) → Judges (Decides commands command.now) result (answer session.now.limits commands command.now) }
     ensures work { IsWorkedOut result }
     ensures same { HasCleanDisk (state S.Store tables.new.conn) → (t : Rows) → IsAtRest (Some t) (state S.Store tables.old.conn) → IsServed result → IsAtRest (Some t) (state S.Store tables.new.conn) }
     ensures left { HasCleanDisk (state S.Store tables.new.conn) → (t : Rows) → IsAtRest (Some t) (state S.Store tables.old.conn) → Leaves (Some t) (state S.Store tables.new.conn) }
 {
     let records = records_of(alloc, &session.policy, dim, command.bytes.as_slice())?;
     let count = records.as_slice().len() as u64;
-    let number = number_with_room(tables, alloc, session.limits, count)?;
+    let number = match number_for_records(tables, alloc, session.limits, count) {
+        Ok(number) => number,
+        Err(fault) => return Err(fault),
+    };
     let row = command_row(alloc, command, number, count)?;
     let edits = plan_batch(tables, alloc, &session.policy, dim, row, records.as_slice())?;
     let receipt = Receipt {
@@ -102,10 +123,99 @@ fn decide_new<S: Alter>(
     Ok(Decision::Accept(receipt, edits))
 }
 
+/// What an accepted batch of sales writes, under its number.
+fn accept_sales<S: Alter>(
+    tables: &mut Tables<S>,
+    alloc: Global,
+    policy: &Policy,
+    row: CommandRow,
+    sales: &[SaleRecord],
+) -> Result<Edits, ReadError<Refusal>>
+    ensures clean { HasCleanDisk (state S.Store tables.new.conn) → HasCleanDisk (state S.Store tables.old.conn) }
+    ensures edits { HasCleanDisk (state S.Store tables.new.conn) → (limits : Limits) (commands : List Accepted) (c : Accepted) (t : Rows) → AreOf limits commands t → IsAccepted limits (commands ++ c ∷ [])
+        → c.content ≡ Sells sales.now → policy_after None commands ≡ Some policy.now → IsSound policy.now
+        → first_line_there (sold commands) 1 sales.now ≡ None
+        → command_at (commands ++ c ∷ []) (suc (length commands)) ≡ Some (record row { placeholders = placeholders_by (commands ++ c ∷ []) (suc (length commands)) c.content })
+        → IsAtRest (Some t) (state S.Store tables.old.conn) → IfOk result (AreEdits commands c) }
+    ensures sound { HasCleanDisk (state S.Store tables.new.conn) → (t : Rows) → IsAtRest (Some t) (state S.Store tables.old.conn) → FindsNoDamage result }
+    ensures same { HasCleanDisk (state S.Store tables.new.conn) → (t : Rows) → IsAtRest (Some t) (state S.Store tables.old.conn) → IsCalm result → IsAtRest (Some t) (state S.Store tables.new.conn) }
+    ensures left { HasCleanDisk (state S.Store tables.new.conn) → (t : Rows) → IsAtRest (Some t) (state S.Store tables.old.conn) → Leaves (Some t) (state S.Store tables.new.conn) }
+{
+    let edits = plan_sales(tables, alloc, policy, row, sales)?;
+    Ok(edits)
+}
+
+/// What is to be done about sales whose batch has a new id.
+fn decide_sold<S: Alter>(
+    tables: &mut Tables<S>,
+    alloc: Global,
+    session: &Session,
+    command: &Command,
+    sales: &[SaleRecord],
+) -> Result<Decision, Fault>
+    ensures clean { HasCleanDisk (state S.Store tables.new.conn) → HasCleanDisk (state S.Store tables.old.conn) }
+    ensures decided { HasCleanDisk (state S.Store tables.new.conn) → (commands : List Accepted) (t : Rows) → IsHeld session.now commands t → is_key 40 command.now.id ≡ true → IsNew commands command.now
+        → content_of command.now.kind (in_force commands) command.now.bytes ≡ Ok (Sells sales.now) → IsAtRest (Some t) (state S.Store tables.old.conn) → Judges (Decides commands command.now) result (answer session.now.limits commands command.now) }
+    ensures work { IsWorkedOut result }
+    ensures same { HasCleanDisk (state S.Store tables.new.conn) → (t : Rows) → IsAtRest (Some t) (state S.Store tables.old.conn) → IsServed result → IsAtRest (Some t) (state S.Store tables.new.conn) }
+    ensures left { HasCleanDisk (state S.Store tables.new.conn) → (t : Rows) → IsAtRest (Some t) (state S.Store tables.old.conn) → Leaves (Some t) (state S.Store tables.new.conn) }
+{
+    let number = match number_for_sales(tables, alloc, session.limits, sales) {
+        Ok(number) => number,
+        Err(fault) => return Err(fault),
+    };
+    let row = command_row(alloc, command, number, sales.len() as u64)?;
+    let edits = accept_sales(tables, alloc, &session.policy, row, sales)?;
+    let receipt = Receipt {
+        number,
+        records: sales.len() as u64,
+        placeholders: edits.members.len() as u64,
+    };
+    Ok(Decision::Accept(receipt, edits))
+}
+
+/// What is to be done about a batch of sales whose id is new.
+fn decide_sales<S: Alter>(
+    tables: &mut Tables<S>,
+    alloc: Global,
+    session: &Session,
+    command: &Command,
+) -> Result<Decision, Fault>
+    ensures clean { HasCleanDisk (state S.Store tables.new.conn) → HasCleanDisk (state S.Store tables.old.conn) }
+    ensures decided { HasCleanDisk (state S.Store tables.new.conn) → (commands : List Accepted) (t : Rows) → IsHeld session.now commands t → command.now.kind ≡ Sales → is_key 40 command.now.id ≡ true → IsNew commands command.now
+        → IsAtRest (Some t) (state S.Store tables.old.conn) → Judges (Decides commands command.now) result (answer session.now.limits commands command.now) }
+    ensures work { IsWorkedOut result }
+    ensures same { HasCleanDisk (state S.Store tables.new.conn) → (t : Rows) → IsAtRest (Some t) (state S.Store tables.old.conn) → IsServed result → IsAtRest (Some t) (state S.Store tables.new.conn) }
+    ensures left { HasCleanDisk (state S.Store tables.new.conn) → (t : Rows) → IsAtRest (Some t) (state S.Store tables.old.conn) → Leaves (Some t) (state S.Store tables.new.conn) }
+{
+    let sales = sales_of(alloc, &session.policy, command.bytes.as_slice())?;
+    decide_sold(tables, alloc, session, command, sales.as_slice())
+}
+
+/// What is to be done about a batch whose id is new.
+fn decide_new<S: Alter>(
+    tables: &mut Tables<S>,
+    alloc: Global,
+    session: &Session,
+    command: &Command,
+) -> Result<Decision, Fault>
+    ensures clean { HasCleanDisk (state S.Store tables.new.conn) → HasCleanDisk (state S.Store tables.old.conn) }
+    ensures decided { HasCleanDisk (state S.Store tables.new.conn) → (commands : List Accepted) (t : Rows) → IsHeld session.now commands t → is_key 40 command.now.id ≡ true → IsNew commands command.now
+        → IsAtRest (Some t) (state S.Store tables.old.conn) → Judges (Decides commands command.now) result (answer session.now.limits commands command.now) }
+    ensures work { IsWorkedOut result }
+    ensures same { HasCleanDisk (state S.Store tables.new.conn) → (t : Rows) → IsAtRest (Some t) (state S.Store tables.old.conn) → IsServed result → IsAtRest (Some t) (state S.Store tables.new.conn) }
+    ensures left { HasCleanDisk (state S.Store tables.new.conn) → (t : Rows) → IsAtRest (Some t) (state S.Store tables.old.conn) → Leaves (Some t) (state S.Store tables.new.conn) }
+{
+    match command.kind {
+        Kind::Dimension(dim) => decide_records(tables, alloc, session, dim, command),
+        Kind::Sales => decide_sales(tables, alloc, session, command),
+    }
+}
+
 /// What is to be done about a command whose id is that of an accepted one.
 fn decide_known(row: &CommandRow, command: &Command) -> Result<Decision, Fault>
     ensures work { IsWorkedOut result }
-    ensures known { (commands : List Accepted) (dim : Dim) → Judges (Decides commands command.now dim) result (reply_to_known row.now command.now) }
+    ensures known { (commands : List Accepted) → Judges (Decides commands command.now) result (reply_to_known row.now command.now) }
 {
     match receipt_of_known(row, command) {
         Ok(receipt) => Ok(Decision::Repeat(receipt)),
@@ -113,17 +223,16 @@ fn decide_known(row: &CommandRow, command: &Command) -> Result<Decision, Fault>
     }
 }
 
-/// What is to be done about a batch of products, stores or customers.
+/// What is to be done about a command.
 pub(crate) fn decide<S: Alter>(
     tables: &mut Tables<S>,
     alloc: Global,
     session: &Session,
-    dim: Dim,
     command: &Command,
 ) -> Result<Decision, Fault>
     ensures clean { HasCleanDisk (state S.Store tables.new.conn) → HasCleanDisk (state S.Store tables.old.conn) }
-    ensures decided { HasCleanDisk (state S.Store tables.new.conn) → (commands : List Accepted) (t : Rows) → IsHeld session.now commands t → command.now.kind ≡ Dimension dim → IsAtRest (Some t) (state S.Store tables.old.conn)
-        → Judges (Decides commands command.now dim) result (answer session.now.limits commands command.now) }
+    ensures decided { HasCleanDisk (state S.Store tables.new.conn) → (commands : List Accepted) (t : Rows) → IsHeld session.now commands t → IsAtRest (Some t) (state S.Store tables.old.conn)
+        → Judges (Decides commands command.now) result (answer session.now.limits commands command.now) }
     ensures work { IsWorkedOut result }
     ensures same { HasCleanDisk (state S.Store tables.new.conn) → (t : Rows) → IsAtRest (Some t) (state S.Store tables.old.conn) → IsServed result → IsAtRest (Some t) (state S.Store tables.new.conn) }
     ensures left { HasCleanDisk (state S.Store tables.new.conn) → (t : Rows) → IsAtRest (Some t) (state S.Store tables.old.conn) → Leaves (Some t) (state S.Store tables.new.conn) }
@@ -133,6 +242,6 @@ pub(crate) fn decide<S: Alter>(
     }
     match command_of(tables, alloc, &command.id)? {
         Some(row) => decide_known(&row, command),
-        None => decide_new(tables, alloc, session, dim, command),
+        None => decide_new(tables, alloc, session, command),
     }
 }

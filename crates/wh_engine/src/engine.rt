@@ -1,10 +1,8 @@
 //! A warehouse that is open for commands.
 
-ghost use Rattle.std.specs.Prelude.{◌≡◌, ◌≢◌, List, Err, IsTrue};
+ghost use Rattle.std.specs.Prelude.{◌≡◌, List, Err, IsTrue};
 ghost use Rattle.sqlite.specs.Held.{state};
 ghost use Rattle.sqlite.specs.State.{HasCleanDisk};
-ghost use Rattle.wh_policy.specs.declared.attribute.Dim.{Dim};
-ghost use Rattle.wh_batch.specs.declared.kind.Kind.TheVariants.{Dimension, Sales};
 ghost use Rattle.wh_history.specs.Accepted.{Accepted};
 ghost use Rattle.wh_history.specs.Tables.{Limits as Counts};
 ghost use Rattle.wh_engine.specs.Answered.{IsReady, IsAnswered, IsPerformed};
@@ -17,8 +15,7 @@ use crate::session::Session;
 use crate::write::commit_edits;
 use sqlite::{Alter, Connection};
 use std::alloc::Global;
-use wh_batch::Kind;
-use wh_policy::{Dim, Policy};
+use wh_policy::Policy;
 use wh_store::Tables;
 
 /// A warehouse that is open for commands, over one connection.
@@ -28,20 +25,19 @@ pub struct Engine<S: Alter> {
     pub(crate) session: Session,
 }
 
-/// Does what is decided about a batch of products, stores or customers.
+/// Does what is decided about a command.
 fn perform<S: Alter>(
     tables: &mut Tables<S>,
     alloc: Global,
     session: &Session,
-    dim: Dim,
     command: &Command,
 ) -> Result<Reply, Fault>
     ensures clean { HasCleanDisk (state S.Store tables.new.conn) → HasCleanDisk (state S.Store tables.old.conn) }
-    ensures performed { HasCleanDisk (state S.Store tables.new.conn) → (limits : Counts) (commands : List Accepted) → IsReady limits commands session.now (state S.Store tables.old.conn) → command.now.kind ≡ Dimension dim
+    ensures performed { HasCleanDisk (state S.Store tables.new.conn) → (limits : Counts) (commands : List Accepted) → IsReady limits commands session.now (state S.Store tables.old.conn)
         → IsPerformed limits commands command.now result session.now (state S.Store tables.new.conn) }
     ensures work { IsWorkedOut result }
 {
-    match decide(tables, alloc, session, dim, command) {
+    match decide(tables, alloc, session, command) {
         Ok(Decision::Repeat(receipt)) => Ok(Reply::Already(receipt)),
         Ok(Decision::Accept(receipt, edits)) => match commit_edits(tables, alloc, &edits) {
             Ok(()) => Ok(Reply::Accepted(receipt)),
@@ -70,19 +66,15 @@ impl<S: Alter> Engine<S> {
     /// refusal of the store every call answers `Reopen`.
     pub fn apply(&mut self, alloc: Global, command: &Command) -> Result<Reply, Fault>
         ensures clean { HasCleanDisk (state S.Store self.new.tables.conn) → HasCleanDisk (state S.Store self.old.tables.conn) }
-        ensures answered { HasCleanDisk (state S.Store self.new.tables.conn) → (limits : Counts) (commands : List Accepted) (dim : Dim) → IsReady limits commands self.old.session (state S.Store self.old.tables.conn)
-            → command.now.kind ≡ Dimension dim → IsAnswered limits commands command.now result self.new.session (state S.Store self.new.tables.conn) }
+        ensures answered { HasCleanDisk (state S.Store self.new.tables.conn) → (limits : Counts) (commands : List Accepted) → IsReady limits commands self.old.session (state S.Store self.old.tables.conn)
+            → IsAnswered limits commands command.now result self.new.session (state S.Store self.new.tables.conn) }
         ensures reopen { IsTrue self.old.session.must_reopen → (result ≡ Err Fault.Reopen) × (self.new ≡ self.old) }
         ensures only { result ≡ Err Fault.Reopen → IsTrue self.old.session.must_reopen }
-        ensures sales { command.now.kind ≡ Sales → result ≢ Err Fault.Reopen → (result ≡ Err Fault.Sales) × (self.new ≡ self.old) }
     {
         if self.session.must_reopen {
             return Err(Fault::Reopen);
         }
-        let Kind::Dimension(dim) = command.kind else {
-            return Err(Fault::Sales);
-        };
-        let answer = perform(&mut self.tables, alloc, &self.session, dim, command);
+        let answer = perform(&mut self.tables, alloc, &self.session, command);
         self.session.must_reopen = stops(&answer);
         answer
     }

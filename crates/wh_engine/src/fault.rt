@@ -23,8 +23,6 @@ pub enum Fault {
     Store(Cause),
     /// The store refused an earlier call: the warehouse has to be opened again. Nothing changed.
     Reopen,
-    /// Batches of sales can't be loaded yet. Nothing changed.
-    Sales,
 }
 
 /// Whether the store refused a call.

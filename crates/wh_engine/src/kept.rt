@@ -26,7 +26,7 @@ use wh_sql::{CommandOf, GreatestOf, MemberOf, RecordsOf, RowsOf};
 use wh_store::{Keeps, Question, Refusal, Tables};
 
 /// The rows that answer a question about one table. A refusal is told apart from want of memory for what is made of them.
-fn asked<T: Keeps, Q: Question<T>, S: Alter>(
+pub(crate) fn asked<T: Keeps, Q: Question<T>, S: Alter>(
     tables: &mut Tables<S>,
     alloc: Global,
     question: &Q,

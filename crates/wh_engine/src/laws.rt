@@ -5,7 +5,8 @@ ghost use Rattle.wh_history.specs.Accepted.{Accepted};
 ghost use Rattle.wh_history.specs.Tables.{Limits};
 ghost use Rattle.wh_engine.specs.Admission.{accepted_after};
 ghost use Rattle.wh_engine.specs.declared.command.Command.{Command};
-ghost use Rattle.wh_engine.specs.Laws.{AcceptedListsBegin, AcceptedListsStaySound, BatchesAreWritten, BatchesMayBeWritten, FactsFollow, SalesAreFacts, SalesPutPlaceholders, SoundPoliciesShowNone, TouchedRowsAfter, TouchedRowsAreThePlan, TouchedRowsBefore, UntouchedMembersKeep};
+ghost use Rattle.wh_engine.specs.Moved.{LateRecordsMoveFacts};
+ghost use Rattle.wh_engine.specs.Laws.{AcceptedListsBegin, AcceptedListsStaySound, BatchesAreWritten, BatchesMayBeWritten, FactsAreEffective, FactsFollow, SalesAreFacts, SalesPutPlaceholders, SoundPoliciesShowNone, TouchedRowsAfter, TouchedRowsAreThePlan, TouchedRowsBefore, UntouchedMembersKeep};
 
 /// From the tables of the commands so far the edits of a batch of records or of sales lead to those of the commands with
 /// it, in all ten tables.
@@ -33,7 +34,7 @@ pub fn accepted_lists_begin()
     ensures { AcceptedListsBegin }
 {}
 
-/// Such a list stays one after each batch of products, stores or customers, accepted or refused.
+/// Such a list stays one after each batch, accepted or refused.
 pub fn accepted_lists_stay_sound()
     ensures { AcceptedListsStaySound }
 {}
@@ -57,6 +58,12 @@ pub fn facts_follow()
     ensures { FactsFollow }
 {}
 
+/// The facts of the touched members whose keys change with a batch of records, with their new keys, are exactly what leads
+/// from the facts of the commands so far to those of the commands with it.
+pub fn late_records_move_facts()
+    ensures { LateRecordsMoveFacts }
+{}
+
 /// The facts of a batch of sales whose lines are new, no two of them the same, are exactly what leads to the facts of the
 /// commands with it: each fact that was there stays as it was.
 pub fn sales_are_facts()
@@ -67,4 +74,10 @@ pub fn sales_are_facts()
 /// their surrogate keys, and changes nothing else.
 pub fn sales_put_placeholders()
     ensures { SalesPutPlaceholders }
+{}
+
+/// Each fact of the table names, in each dimension, the one row of its member that holds the day of its sale, whatever came
+/// late; without a card it names the customer row 0.
+pub fn facts_are_effective()
+    ensures { FactsAreEffective }
 {}

@@ -9,13 +9,18 @@ mod edits;
 mod engine;
 mod fault;
 pub mod kept;
+mod keyed;
 pub mod laws;
 mod making;
+mod moving;
 mod opening;
 mod plan;
 pub mod planning;
+mod profiles;
 mod reopen;
+mod sales;
 mod session;
+mod side;
 mod stored;
 mod write;
 
@@ -28,6 +33,7 @@ pub use making::{policies_are_good, write_making};
 pub use opening::{InitFault, OpeningFault};
 pub use plan::plan_batch;
 pub use reopen::{redeliver, restart};
+pub use sales::plan_sales;
 pub use write::write_edits;
 
 #[cfg(test)]

@@ -1,37 +1,40 @@
 //! What a batch of dimension records writes, by reads of what it touches.
 
 ghost use Rattle.std.specs.Prelude.{◌≡◌, ◌≤◌, ◌++◌, ◌∷◌, [], suc, ℕ, List, map, length, filter_map, None, Some, IfOk};
+ghost use Rattle.std.specs.List.{AllByRecursion};
 ghost use Rattle.sqlite.specs.Held.{state};
 ghost use Rattle.sqlite.specs.State.{HasCleanDisk};
 ghost use Rattle.wh_policy.specs.Policy.{types_of};
-ghost use Rattle.wh_policy.specs.Types.{is_profile};
 ghost use Rattle.wh_policy.specs.Written.{IsSound};
 ghost use Rattle.wh_policy.specs.declared.attribute.Dim.TheVariants.{Product, Store, Customer};
 ghost use Rattle.wh_policy.specs.declared.record.DimensionRecord.{DimensionRecord as Told};
-ghost use Rattle.wh_history.specs.Accepted.{Accepted, Describes, anchors, members, member_of, policy_after, profiles_of, sold};
+ghost use Rattle.wh_history.specs.Accepted.{Accepted, Describes, anchors, members, member_of, policy_after, profiles_of};
 ghost use Rattle.wh_history.specs.Laws.{RecordsHaveDays};
 ghost use Rattle.wh_history.specs.Plan.{IsPlan, row_of};
-ghost use Rattle.wh_history.specs.Slots.{picks, six};
+ghost use Rattle.wh_history.specs.Known.{number_in, KnowsEnough};
 ghost use Rattle.wh_history.specs.Tables.{Limits, dimension_row};
 ghost use Rattle.wh_history.specs.Touched.{touched_by};
 ghost use Rattle.wh_rows.specs.AtRest.{IsAtRest, Leaves};
 ghost use Rattle.wh_rows.specs.Tables.{Tables as Rows};
-ghost use Rattle.wh_engine.specs.Defined.{AreOf, command_at, profile_at};
+ghost use Rattle.wh_engine.specs.Defined.{AreOf, command_at, fact_at};
 ghost use Rattle.wh_engine.specs.Found.{IsFound};
+ghost use Rattle.wh_engine.specs.Learned.{IsLearned};
 ghost use Rattle.wh_engine.specs.Kept.{HaveNoEmptyValue};
-ghost use Rattle.wh_engine.specs.Planned.{AreEdits, behind, in_dimension};
+ghost use Rattle.wh_engine.specs.Planned.{AreEdits, AreFacts, in_dimension};
 ghost use Rattle.wh_engine.specs.Planning.{members_among, naturals_told, rows_of_members};
 ghost use Rattle.wh_engine.specs.Reads.{IsCalm, FindsNoDamage};
 ghost use Rattle.wh_engine.specs.Sound.{IsAccepted};
 
 use crate::edits::Edits;
 use crate::kept::{members_given, stored_member, stored_rows};
-use crate::planning::{new_changes, new_members, rendered, six_texts};
+use crate::moving::moved_facts;
+use crate::planning::{new_changes, new_members, rendered};
+use crate::profiles::{Learned, learned_of};
 use crate::stored::{Given, naturals_told, touched_members};
 use sqlite::Alter;
 use std::alloc::{AllocError, Global};
 use wh_day::{ReadError, Value};
-use wh_history::{DimRow, Edit, Member, Profiles, plan_rows, profile_texts};
+use wh_history::{DimRow, Edit, Fact, Member, Profiles, plan_rows};
 use wh_policy::{Dim, DimensionRecord, Policy};
 use wh_rows::{ChangeRow, CommandRow, MemberRow, ProfileRow, tables};
 use wh_store::{Refusal, Tables};
@@ -104,7 +107,7 @@ fn rows_of_stored<S: Alter>(
 }
 
 /// How many members and anchors of a dimension have numbers.
-fn numbers_given<S: Alter>(
+pub(crate) fn numbers_given<S: Alter>(
     tables: &mut Tables<S>,
     alloc: Global,
     dim: Dim,
@@ -128,72 +131,6 @@ fn numbers_given<S: Alter>(
     }
 }
 
-/// The profile of a record of a customer, as the first that there is.
-fn first_profile(
-    alloc: Global,
-    policy: &Policy,
-    told: &DimensionRecord,
-) -> Result<Vec<ProfileRow>, AllocError>
-    ensures { IfOk result (λ rows. rows.items ≡ record { number = 2; values = six (picks is_profile (types_of policy.now Customer) told.now.values) } ∷ []) }
-{
-    let types = policy.types(alloc, Dim::Customer)?;
-    let texts = profile_texts(alloc, &types, told.values.as_slice())?;
-    let mut rows = Vec::new(alloc);
-    rows.push(ProfileRow {
-        number: 2,
-        values: six_texts(alloc, &texts)?,
-    })?;
-    Ok(rows)
-}
-
-/// The profile that a record of a customer brings. Under a policy without attributes of the profile it is the same for all
-/// records, so the first brings it.
-fn profile_brought<S: Alter>(
-    tables: &mut Tables<S>,
-    alloc: Global,
-    policy: &Policy,
-    told: &DimensionRecord,
-) -> Result<Vec<ProfileRow>, ReadError<Refusal>>
-    ensures clean { HasCleanDisk (state S.Store tables.new.conn) → HasCleanDisk (state S.Store tables.old.conn) }
-    ensures profiles { HasCleanDisk (state S.Store tables.new.conn) → (limits : Limits) (commands : List Accepted) (c : Accepted) (t : Rows) → AreOf limits commands t → (more : List Told) → c.content ≡ Describes Customer (told.now ∷ more)
-        → policy_after None commands ≡ Some policy.now → IsSound policy.now → IsAtRest (Some t) (state S.Store tables.old.conn)
-        → IfOk result (λ rows. rows.items ≡ filter_map (profile_at (commands ++ c ∷ [])) (behind (suc (length (profiles_of commands))) (suc (length (profiles_of (commands ++ c ∷ [])))))) }
-    ensures sound { HasCleanDisk (state S.Store tables.new.conn) → (t : Rows) → IsAtRest (Some t) (state S.Store tables.old.conn) → FindsNoDamage result }
-    ensures same { HasCleanDisk (state S.Store tables.new.conn) → (t : Rows) → IsAtRest (Some t) (state S.Store tables.old.conn) → IsCalm result → IsAtRest (Some t) (state S.Store tables.new.conn) }
-    ensures left { HasCleanDisk (state S.Store tables.new.conn) → (t : Rows) → IsAtRest (Some t) (state S.Store tables.old.conn) → Leaves (Some t) (state S.Store tables.new.conn) }
-{
-    match tables.get::<tables::Profile>(alloc, &2) {
-        Ok(Some(_)) => Ok(Vec::new(alloc)),
-        Ok(None) => Ok(first_profile(alloc, policy, told)?),
-        Err(refusal) => Err(ReadError::Fault(refusal)),
-    }
-}
-
-/// The profiles that a batch is the first to show. Only customers have profiles.
-fn new_profiles<S: Alter>(
-    tables: &mut Tables<S>,
-    alloc: Global,
-    policy: &Policy,
-    dim: Dim,
-    records: &[DimensionRecord],
-) -> Result<Vec<ProfileRow>, ReadError<Refusal>>
-    ensures clean { HasCleanDisk (state S.Store tables.new.conn) → HasCleanDisk (state S.Store tables.old.conn) }
-    ensures profiles { HasCleanDisk (state S.Store tables.new.conn) → (limits : Limits) (commands : List Accepted) (c : Accepted) (t : Rows) → AreOf limits commands t → c.content ≡ Describes dim records.now
-        → policy_after None commands ≡ Some policy.now → IsSound policy.now → IsAtRest (Some t) (state S.Store tables.old.conn)
-        → IfOk result (λ rows. rows.items ≡ filter_map (profile_at (commands ++ c ∷ [])) (behind (suc (length (profiles_of commands))) (suc (length (profiles_of (commands ++ c ∷ [])))))) }
-    ensures sound { HasCleanDisk (state S.Store tables.new.conn) → (t : Rows) → IsAtRest (Some t) (state S.Store tables.old.conn) → FindsNoDamage result }
-    ensures same { HasCleanDisk (state S.Store tables.new.conn) → (t : Rows) → IsAtRest (Some t) (state S.Store tables.old.conn) → IsCalm result → IsAtRest (Some t) (state S.Store tables.new.conn) }
-    ensures left { HasCleanDisk (state S.Store tables.new.conn) → (t : Rows) → IsAtRest (Some t) (state S.Store tables.old.conn) → Leaves (Some t) (state S.Store tables.new.conn) }
-{
-    match dim {
-        Dim::Customer => match records.first() {
-            Some(told) => profile_brought(tables, alloc, policy, told),
-            None => Ok(Vec::new(alloc)),
-        },
-        _ => Ok(Vec::new(alloc)),
-    }
-}
-
 /// What is read for a batch.
 #[derive(Drop)]
 pub(crate) struct Found {
@@ -202,22 +139,19 @@ pub(crate) struct Found {
     /// Their rows.
     pub(crate) rows: Vec<DimRow>,
     pub(crate) given: Given,
-    /// The profiles that it is the first to show.
-    pub(crate) profiles: Vec<ProfileRow>,
 }
 
 /// Reads what is kept of the members that a batch touches.
 fn read_touched<S: Alter>(
     tables: &mut Tables<S>,
     alloc: Global,
-    policy: &Policy,
     dim: Dim,
     records: &[DimensionRecord],
 ) -> Result<Found, ReadError<Refusal>>
     ensures clean { HasCleanDisk (state S.Store tables.new.conn) → HasCleanDisk (state S.Store tables.old.conn) }
     ensures found { HasCleanDisk (state S.Store tables.new.conn) → (limits : Limits) (commands : List Accepted) (c : Accepted) (t : Rows) → AreOf limits commands t → IsAccepted limits (commands ++ c ∷ [])
-        → c.content ≡ Describes dim records.now → policy_after None commands ≡ Some policy.now → IsSound policy.now
-        → IsAtRest (Some t) (state S.Store tables.old.conn) → IfOk result (IsFound dim commands (commands ++ c ∷ []) records.now) }
+        → c.content ≡ Describes dim records.now
+        → IsAtRest (Some t) (state S.Store tables.old.conn) → IfOk result (IsFound dim commands records.now) }
     ensures few { IfOk result (λ found. (found.given.members ≤ 9999999) × (found.given.anchors ≤ 9999999)) }
     ensures sound { HasCleanDisk (state S.Store tables.new.conn) → (t : Rows) → IsAtRest (Some t) (state S.Store tables.old.conn) → FindsNoDamage result }
     ensures same { HasCleanDisk (state S.Store tables.new.conn) → (t : Rows) → IsAtRest (Some t) (state S.Store tables.old.conn) → IsCalm result → IsAtRest (Some t) (state S.Store tables.new.conn) }
@@ -227,35 +161,34 @@ fn read_touched<S: Alter>(
     let members = stored_members(tables, alloc, dim, &naturals)?;
     let rows = rows_of_stored(tables, alloc, dim, &members)?;
     let given = numbers_given(tables, alloc, dim)?;
-    let profiles = new_profiles(tables, alloc, policy, dim, records)?;
     Ok(Found {
         members,
         rows,
         given,
-        profiles,
     })
 }
 
-/// The edits that lead from the touched members' stored rows to those behind the batch. No row shows a profile, since no
-/// policy that is read has an attribute of the profile.
+/// The edits that lead from the touched members' stored rows to those behind the batch.
 fn row_edits(
     alloc: Global,
     policy: &Policy,
     dim: Dim,
     touched: &[Member],
     stored: &[DimRow],
+    profiles: &Profiles,
 ) -> Result<Vec<Edit<DimRow, u64>>, AllocError>
     ensures { (commands : List Accepted) (c : Accepted) (records : List Told) → c.content ≡ Describes dim records → policy_after None commands ≡ Some policy.now → IsSound policy.now
         → RecordsHaveDays commands → RecordsHaveDays (commands ++ c ∷ [])
         → touched.now ≡ (touched_by dim commands (commands ++ c ∷ []) records).list
+        → AllByRecursion (KnowsEnough dim (types_of policy.now dim) (number_in profiles.now) (profiles_of (commands ++ c ∷ []))) touched.now
         → ((key : ℕ) → row_of key stored.now ≡ row_of key (rows_of_members commands dim (members_among commands dim (naturals_told records))))
         → IfOk result (λ edits. IsPlan (λ r. r.surrogate) (dimension_row commands dim) (dimension_row (commands ++ c ∷ []) dim) edits.items) }
 {
-    let after = rendered(alloc, policy, dim, touched, &Profiles::new(alloc))?;
+    let after = rendered(alloc, policy, dim, touched, profiles)?;
     Ok(plan_rows(alloc, stored, &after)?)
 }
 
-/// Edits with no fact, whose rows are all of one dimension.
+/// Edits whose rows of dimensions are all of one.
 fn of_dimension(
     alloc: Global,
     dim: Dim,
@@ -264,13 +197,14 @@ fn of_dimension(
     members: Vec<MemberRow>,
     changes: Vec<ChangeRow>,
     profiles: Vec<ProfileRow>,
+    facts: Vec<Fact>,
 ) -> Edits
     ensures { result ≡ record {
       command = command.items;
       members = members.items;
       changes = changes.items;
       profiles = profiles.items;
-      facts = [];
+      facts = facts.items;
       products = in_dimension Product dim rows.items;
       stores = in_dimension Store dim rows.items;
       customers = in_dimension Customer dim rows.items;
@@ -281,7 +215,7 @@ fn of_dimension(
         members,
         changes,
         profiles,
-        facts: Vec::new(alloc),
+        facts,
         products: Vec::new(alloc),
         stores: Vec::new(alloc),
         customers: Vec::new(alloc),
@@ -294,7 +228,7 @@ fn of_dimension(
     edits
 }
 
-/// The edits of a batch, by what was found.
+/// The edits of a batch, by what was found, the members as they are behind it, their profiles, and the facts that it moves.
 fn edits_of(
     alloc: Global,
     policy: &Policy,
@@ -302,21 +236,30 @@ fn edits_of(
     command: CommandRow,
     records: &[DimensionRecord],
     found: Found,
+    touched: &[Member],
+    profiles: Learned,
+    facts: Vec<Fact>,
 ) -> Result<Edits, AllocError>
-    requires members { found.given.members ≤ 9999999 }
-    requires anchors { found.given.anchors ≤ 9999999 }
     ensures { (commands : List Accepted) (c : Accepted) → c.content ≡ Describes dim records.now → policy_after None commands ≡ Some policy.now → IsSound policy.now
-        → sold commands ≡ [] → RecordsHaveDays commands → RecordsHaveDays (commands ++ c ∷ []) → command_at (commands ++ c ∷ []) (suc (length commands)) ≡ Some command
-        → IsFound dim commands (commands ++ c ∷ []) records.now found → IfOk result (AreEdits commands c) }
+        → RecordsHaveDays commands → RecordsHaveDays (commands ++ c ∷ []) → command_at (commands ++ c ∷ []) (suc (length commands)) ≡ Some command
+        → IsFound dim commands records.now found → touched.now ≡ (touched_by dim commands (commands ++ c ∷ []) records.now).list → IsLearned dim policy.now commands (commands ++ c ∷ []) touched.now profiles
+        → AreFacts (fact_at commands) (fact_at (commands ++ c ∷ [])) facts.items → IfOk result (AreEdits commands c) }
 {
-    let given = found.given;
-    let touched = touched_members(alloc, &found.members, given, records)?;
-    let members = new_members(alloc, dim, given.members, touched.as_slice())?;
-    let changes = new_changes(alloc, dim, command.number, touched.as_slice(), records)?;
-    let rows = row_edits(alloc, policy, dim, touched.as_slice(), &found.rows)?;
+    let members = new_members(alloc, dim, found.given.members, touched)?;
+    let changes = new_changes(alloc, dim, command.number, touched, records)?;
+    let rows = row_edits(alloc, policy, dim, touched, &found.rows, &profiles.known)?;
     let mut commands = Vec::new(alloc);
     commands.push(command)?;
-    Ok(of_dimension(alloc, dim, rows, commands, members, changes, found.profiles))
+    Ok(of_dimension(
+        alloc,
+        dim,
+        rows,
+        commands,
+        members,
+        changes,
+        profiles.fresh,
+        facts,
+    ))
 }
 
 /// What a batch of dimension records writes, from reads of the members that it touches alone: its own row and its edits of the other tables.
@@ -336,6 +279,23 @@ pub fn plan_batch<S: Alter>(
     ensures same { HasCleanDisk (state S.Store tables.new.conn) → (t : Rows) → IsAtRest (Some t) (state S.Store tables.old.conn) → IsCalm result → IsAtRest (Some t) (state S.Store tables.new.conn) }
     ensures left { HasCleanDisk (state S.Store tables.new.conn) → (t : Rows) → IsAtRest (Some t) (state S.Store tables.old.conn) → Leaves (Some t) (state S.Store tables.new.conn) }
 {
-    let found = read_touched(tables, alloc, policy, dim, records)?;
-    Ok(edits_of(alloc, policy, dim, command, records, found)?)
+    let found = read_touched(tables, alloc, dim, records)?;
+    let given = found.given;
+    let touched = touched_members(alloc, &found.members, given, records)?;
+    let after = touched.as_slice();
+    let stored = found.members.as_slice();
+    let profiles = learned_of(tables, alloc, policy, dim, records, after)?;
+    let facts = moved_facts(
+        tables,
+        alloc,
+        policy,
+        dim,
+        given.members,
+        stored,
+        after,
+        &profiles.known,
+    )?;
+    Ok(edits_of(
+        alloc, policy, dim, command, records, found, after, profiles, facts,
+    )?)
 }

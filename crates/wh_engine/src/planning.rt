@@ -4,11 +4,13 @@ ghost use Rattle.std.specs.Prelude.{◌≡◌, ◌++◌, ◌∷◌, [], ℕ, Lis
 ghost use Rattle.std.specs.BTreeMap.{get_by};
 ghost use Rattle.std.specs.Cmp.Lexicographic.{slice_cmp};
 ghost use Rattle.std.specs.Ordering.{nat_cmp};
+ghost use Rattle.std.specs.List.{AllByRecursion};
 ghost use Rattle.std.specs.Option.{option_copied};
 ghost use Rattle.wh_policy.specs.declared.record.DimensionRecord.{DimensionRecord as Told};
 ghost use Rattle.wh_policy.specs.Policy.{types_of};
 ghost use Rattle.wh_history.specs.Accepted.{Accepted, Describes, members, policy_after, profiles_of};
-ghost use Rattle.wh_history.specs.Rows.{rows};
+ghost use Rattle.wh_history.specs.Rows.{rows_by};
+ghost use Rattle.wh_history.specs.Known.{number_in, KnowsEnough};
 ghost use Rattle.wh_history.specs.Slots.{six};
 ghost use Rattle.wh_history.specs.Touched.{touched_by};
 ghost use Rattle.wh_engine.specs.Defined.{member_at, change_at};
@@ -136,10 +138,11 @@ pub fn rendered(
     touched: &[Member],
     profiles: &Profiles,
 ) -> Result<Vec<DimRow>, AllocError>
-    ensures rows { IfOk result (λ found. found.items ≡ flat_map (λ m. rows (types_of policy.now dim) profiles.now m) touched.now) }
-    // Under the policy in force with a batch, and with its profiles, they are the rows that the members have then.
+    ensures rows { IfOk result (λ found. found.items ≡ flat_map (λ m. rows_by (types_of policy.now dim) (number_in profiles.now) m) touched.now) }
+    // Under the policy in force with a batch, where enough is known of the members' profiles, they are the rows that the members have then.
     ensures planned { (before after : List Accepted) (records : List Told) → touched.now ≡ (touched_by dim before after records).list
-        → policy_after None after ≡ Some policy.now → profiles.now ≡ profiles_of after
+        → policy_after None after ≡ Some policy.now
+        → AllByRecursion (KnowsEnough dim (types_of policy.now dim) (number_in profiles.now) (profiles_of after)) touched.now
         → IfOk result (λ found. found.items ≡ rows_of_members after dim (naturals_told records)) }
 {
     let types = policy.types(alloc, dim)?;

@@ -3,8 +3,6 @@
 ghost use Rattle.std.specs.Prelude.{◌≡◌, ◌⊎◌, List, IfOk};
 ghost use Rattle.sqlite.specs.Files.{file_state};
 ghost use Rattle.sqlite.specs.State.{HasCleanDisk};
-ghost use Rattle.wh_policy.specs.declared.attribute.Dim.{Dim};
-ghost use Rattle.wh_batch.specs.declared.kind.Kind.TheVariants.{Dimension};
 ghost use Rattle.wh_history.specs.Accepted.{Accepted};
 ghost use Rattle.wh_history.specs.Tables.{Limits as Counts};
 ghost use Rattle.wh_engine.specs.Answered.{LeavesOneOf, IsReady};
@@ -49,7 +47,7 @@ pub fn redeliver<D: Crash + Drop>(
     command: &Command,
     options: Options,
 ) -> Result<(Result<Reply, Fault>, Engine<FileStore<D>>), OpeningFault>
-    ensures { (limits : Counts) (commands : List Accepted) (dim : Dim) → IsReady limits commands engine.session (file_state engine.tables.conn) → command.now.kind ≡ Dimension dim
+    ensures { (limits : Counts) (commands : List Accepted) → IsReady limits commands engine.session (file_state engine.tables.conn)
         → IfOk result (λ it. HasCleanDisk (file_state it.1.tables.conn) → ∥ IsRedelivered limits commands command.now it.0 it.1.session (file_state it.1.tables.conn) ∥₁) }
 {
     let _ = engine.apply(alloc, command);

@@ -7,10 +7,13 @@ mod opening;
 mod parts;
 mod repeats;
 mod restarts;
+mod sales;
 mod stops;
 mod worked;
 
-use self::dump::{all_tables, changes_of, customers, members_of, products, profiles, stores};
+use self::dump::{
+    all_tables, changes_of, customers, facts, members_of, products, profiles, stores,
+};
 use super::*;
 use sqlite::{Alter, Connection, MemStore};
 use sqlite_value::value::Bytes;
@@ -90,6 +93,12 @@ const BATCHES: [(&str, &str); 9] = [
     ),
 ];
 
+/// The header of a batch of sales.
+const OF_SALES: &str = "ticket,line,day,store,product,customer,quantity,amount,cost";
+
+/// Two sales of a product that records describe, in a store that none does.
+const TWO_SALES: &str = "T1,1,2024-02-05,S1,P1,,2,5.00,3.20\nT0,1,2023-12-31,S1,P1,,1,2.5,1.60";
+
 /// A connection to an empty database in memory.
 fn empty(alloc: Global) -> Result<Connection<MemStore>, Fail> {
     Ok(Connection::open_in_memory(alloc)?)
@@ -128,6 +137,12 @@ fn batch_of(alloc: Global, dim: Dim, id: &str, records: &str) -> Result<Command,
     command_of_bytes(alloc, id, Kind::Dimension(dim), text.as_bytes())
 }
 
+/// A batch of these sales, behind its header.
+fn batch_of_sales(alloc: Global, id: &str, sales: &str) -> Result<Command, AllocError> {
+    let text = format!(in alloc; "{OF_SALES}\n{sales}\n")?;
+    command_of_bytes(alloc, id, Kind::Sales, text.as_bytes())
+}
+
 /// The answer to a batch of these records.
 fn send<S: Alter>(
     alloc: Global,
@@ -140,6 +155,17 @@ fn send<S: Alter>(
     engine.apply(alloc, &command)
 }
 
+/// The answer to a batch of these sales.
+fn send_sales<S: Alter>(
+    alloc: Global,
+    engine: &mut Engine<S>,
+    id: &str,
+    sales: &str,
+) -> Result<Reply, Fault> {
+    let command = batch_of_sales(alloc, id, sales)?;
+    engine.apply(alloc, &command)
+}
+
 /// The answer to one of the batches.
 fn send_batch<S: Alter>(
     alloc: Global,
@@ -148,7 +174,7 @@ fn send_batch<S: Alter>(
 ) -> Result<Reply, Fault> {
     match BATCHES.get(place) {
         Some((id, records)) => send(alloc, engine, Dim::Product, id, records),
-        None => Err(Fault::Sales),
+        None => Err(Fault::Refused(Refused::BadId)),
     }
 }
 
@@ -185,6 +211,15 @@ fn already(number: u64, records: u64) -> Result<Reply, Fault> {
         number,
         records,
         placeholders: 0,
+    }))
+}
+
+/// An acceptance under this number, of so many sales, which mention so many members first.
+fn accepted_sales(number: u64, records: u64, placeholders: u64) -> Result<Reply, Fault> {
+    Ok(Reply::Accepted(Receipt {
+        number,
+        records,
+        placeholders,
     }))
 }
 

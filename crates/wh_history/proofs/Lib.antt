@@ -12,9 +12,11 @@ pub mod Joins
 pub mod Effective
 pub mod Combinations
 pub mod Stays
+pub mod Knowing
 pub mod Members
 pub mod Shown
 pub mod Walks
+pub mod Since
 pub mod Worked
 pub mod Touching
 pub mod Lasts

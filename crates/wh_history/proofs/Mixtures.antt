@@ -14,7 +14,7 @@ use Rattle.wh_history.proofs.Lasts.{fresh_one}
 use Rattle.wh_history.proofs.Once.{among_distinct}
 
 -- a list with one more, if it is new
-put_last : {X : Type 0} (b : Bool) (xs : List X) (x : X) → xs ++ cond b [] (x ∷ []) ≡ cond b xs (xs ++ x ∷ [])
+pub put_last : {X : Type 0} (b : Bool) (xs : List X) (x : X) → xs ++ cond b [] (x ∷ []) ≡ cond b xs (xs ++ x ∷ [])
 put_last true xs x = append-nil xs
 put_last false xs x = refl
 

@@ -43,7 +43,7 @@ module _ {X : Type 0} (same : X → X → Bool) (decides : (x y : X) → Decides
       let rest = none_filtered p q xs split.1 in
       elim (p x) as (λ b. list_any q (cond b (x ∷ filter p xs) (filter p xs)) ≡ false) [ true ↦ rw (split.0, rest) refl | false ↦ rest ]
 
-  once_filtered : (p : X → Bool) (xs : List X) → IsOnce xs → IsOnce (filter p xs)
+  pub once_filtered : (p : X → Bool) (xs : List X) → IsOnce xs → IsOnce (filter p xs)
   once_filtered p [] h = tt
   once_filtered p (x ∷ xs) h =
       let rest = once_filtered p xs h.1 in

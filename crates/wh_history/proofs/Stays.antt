@@ -8,7 +8,7 @@ use Rattle.wh_history.specs.Keys.{distinct, place}
 use Rattle.wh_policy.specs.Policy.{types_of}
 use Rattle.wh_policy.specs.Types.{is_profile, is_outrigger}
 use Rattle.wh_history.specs.Slots.{columns_from, picked, picks, padded, texts_eq}
-use Rattle.wh_history.specs.Dated.{dated, newest}
+use Rattle.wh_history.specs.Dated.{at, dated, newest}
 use Rattle.wh_history.specs.Rows.{row, rows, spans, starts}
 use Rattle.wh_history.specs.Profiles.{behind_unknown, profile_number, current_profile, profile_now}
 use Rattle.wh_history.specs.Accepted.{Accepted, Content, Governs, Describes, Sells, governed, policy_after, types_in, described, described_by, change_of, changes_of, member_of, profiles_of}
@@ -24,7 +24,7 @@ use Rattle.wh_day.specs.Day.{first_day}
 use Rattle.wh_history.proofs.Basics.{or_true, texts_decide}
 use Rattle.wh_history.proofs.Numbers.{fresh, distinct-append, place-append_front}
 use Rattle.wh_history.proofs.Places.{place-distinct_given}
-use Rattle.wh_history.proofs.Joins.{all_weaker, all_dated}
+use Rattle.wh_history.proofs.Joins.{all_weaker, all_dated, all_in_force}
 use Rattle.wh_history.proofs.Untouched.{described-last, member-last}
 
 governed_same : (before : Option Policy) (content : Content) → governs content ≡ false → governed before content ≡ before
@@ -70,6 +70,10 @@ all_get P (ch ∷ cs) (suc i) all = all_get P cs i all.1
 pub all_newest : (P : Change → Type 0) (cs : List Change) → AllByRecursion P cs → IfThere P (newest cs)
 all_newest P cs all = all_get P cs (length cs - 1) all
 
+pub all_at : (P : Change → Type 0) (day : ℕ) (cs : List Change) → AllByRecursion P cs → IfThere P (at day cs)
+all_at P day [] all = tt
+all_at P day (ch ∷ cs) all = all_in_force P day ch cs all.0 all.1
+
 module _ (commands : List Accepted) (c : Accepted) (batch : governs c.content ≡ false) where
   abbrev pick : DimensionRecord → List (List ℕ)
   pick r = picks is_profile (types_in Customer commands) r.values
@@ -114,6 +118,14 @@ module _ (commands : List Accepted) (c : Accepted) (batch : governs c.content �
   current_stays : (o : Option Change) → IfThere Combined o → current_profile (types_in Customer commands) (profiles_of (commands ++ c ∷ [])) o ≡ current_profile (types_in Customer commands) (profiles_of commands) o
   current_stays None all = refl
   current_stays (Some ch) all = ap (λ (o : Option ℕ). unwrap_or o 0) (profile_stays _ (place-distinct_given texts_eq texts_decide _ (map pick (described Customer commands)) all))
+
+  -- the profile that a customer's changes before it say of a day has the number that it had
+  pub profile_of_day_stays : (natural : List ℕ) (day : ℕ) → current_profile (types_in Customer commands) (profiles_of (commands ++ c ∷ [])) (at day (dated (changes_of Customer commands natural)))
+      ≡ current_profile (types_in Customer commands) (profiles_of commands) (at day (dated (changes_of Customer commands natural)))
+  profile_of_day_stays natural day =
+      let changes = dated (changes_of Customer commands natural) in
+      let all = all_dated Combined (changes_of Customer commands natural) (combined_in natural (described Customer commands) (picked_in (described Customer commands))) in
+      current_stays (at day changes) (all_at Combined day changes all)
 
   -- a customer that the batch does not mention keeps its rows
   pub customer_rows_stay : (natural : List ℕ) → mentions_member Customer c natural ≡ false → member_rows (commands ++ c ∷ []) Customer natural ≡ member_rows commands Customer natural

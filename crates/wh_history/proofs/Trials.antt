@@ -13,13 +13,16 @@ use Rattle.wh_policy.specs.declared.attribute.Dim.TheVariants.{Product, Store, C
 use Rattle.wh_policy.specs.declared.record.DimensionRecord.{DimensionRecord}
 use Rattle.wh_history.specs.Keys.{distinct, at_place}
 use Rattle.wh_history.specs.Profiles.{combinations_of}
-use Rattle.wh_history.specs.Rows.{rows}
+use Rattle.wh_history.specs.Rows.{rows_by, rows}
+use Rattle.wh_history.specs.Known.{number_in, all_numbered}
 use Rattle.wh_history.specs.Plan.{row_of}
 use Rattle.wh_history.specs.Accepted.{Accepted, Governs, Anchor, anchors_of_record, anchors, members, durable_key, member_of, types_in, profiles_of}
 use Rattle.wh_history.specs.Tables.{member_rows, numbered_row, dimension_row, dimension_table, unnamed, trial_commands}
 use Rattle.wh_history.specs.Touched.{Touched, touched, untouched, nothing_stored}
 use Rattle.wh_history.specs.Picked.{first_rows, profiles_in, owned_row, picked_from}
 use Rattle.wh_history.specs.declared.rows.DimRow.{DimRow}
+use Rattle.wh_history.specs.declared.profiles.Numbered.{Numbered}
+use Rattle.wh_history.proofs.Knowing.{rows_of_all}
 use Rattle.wh_history.proofs.Places.{at_place-place}
 use Rattle.wh_history.proofs.Members.{row_of_member_now}
 use Rattle.wh_history.proofs.Effective.{in_table}
@@ -139,7 +142,10 @@ module _ (policy : Policy) (dim : Dim) (records : List DimensionRecord) where
       rw (is ∙ touched_is dim making [] [] [] records) (ap row_of_owners rows_are ∙ table_is dim whole)
 
   -- the same by its parts
-  pub made_is : (t : Touched) (combinations : List (List (List ℕ))) (of_members : List (List DimRow)) (front table : List DimRow)
-      → t ≡ touched nothing_stored (untouched 0 0) records → combinations ≡ profiles_in dim (types_of policy dim) records → of_members ≡ map (rows (types_of policy dim) combinations) t.list
+  pub made_is : (t : Touched) (known : List Numbered) (of_members : List (List DimRow)) (front table : List DimRow)
+      → t ≡ touched nothing_stored (untouched 0 0) records → known ≡ all_numbered (profiles_in dim (types_of policy dim) records) → of_members ≡ map (rows_by (types_of policy dim) (number_in known)) t.list
       → front ≡ first_rows dim (types_of policy dim) → table ≡ front ++ picked_from of_members 1 t.owners → table ≡ dimension_table whole dim
-  made_is t combinations of_members front table is numbered rendered first made = rw (made, first, rendered, numbered) (trial_is t is)
+  made_is t known of_members front table is numbered rendered first made =
+      let all : of_members ≡ map (rows (types_of policy dim) (profiles_in dim (types_of policy dim) records)) t.list =
+      rendered ∙ ap (λ ks. map (rows_by (types_of policy dim) (number_in ks)) t.list) numbered ∙ rows_of_all (types_of policy dim) (profiles_in dim (types_of policy dim) records) t.list in
+      rw (made, first, all) (trial_is t is)

@@ -24,7 +24,7 @@ use Rattle.wh_history.proofs.Joins.{stays, all_weaker}
 abbrev pub InForceAtOwn : List Change → List Change → Type 0
 InForceAtOwn all changes = AllByRecursion (λ d. at d.day all ≡ Some d) changes
 
-follows_weaker : (low day : ℕ) (cs : List Change) → low ≤ day → Follows day cs → Follows low cs
+pub follows_weaker : (low day : ℕ) (cs : List Change) → low ≤ day → Follows day cs → Follows low cs
 follows_weaker low day [] le up = tt
 follows_weaker low day (c ∷ cs) le up = (omega arith, up.1, up.2)
 

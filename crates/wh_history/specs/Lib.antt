@@ -11,3 +11,4 @@ pub mod Tables
 pub mod Laws
 pub mod Touched
 pub mod Picked
+pub mod Known

@@ -23,11 +23,18 @@ behind_unknown (suc n) = Some (suc (suc n))
 abbrev pub profile_number : List (List (List ℕ)) → List (List ℕ) → Option ℕ
 profile_number combinations texts = behind_unknown (place texts_eq texts combinations)
 
--- the number of a change's combination, and 1 where no change says one
-abbrev pub current_profile : List AttributeType → List (List (List ℕ)) → Option Change → ℕ
-current_profile kinds combinations None = 1
-current_profile kinds combinations (Some c) = unwrap_or (profile_number combinations (picks is_profile kinds c.values)) 0
+-- the number of a change's combination, where a function gives those of combinations; it is 1 where no change says one
+abbrev pub current_by : List AttributeType → (List (List ℕ) → Option ℕ) → Option Change → ℕ
+current_by kinds number None = 1
+current_by kinds number (Some c) = unwrap_or (number (picks is_profile kinds c.values)) 0
 
--- the number that a member's rows show: that of the greatest day's combination, where an attribute is of type 5
+-- the number that a member's rows then show: that of the greatest day's combination, where an attribute is of type 5
+abbrev pub profile_now_by : List AttributeType → (List (List ℕ) → Option ℕ) → Member → ℕ
+profile_now_by kinds number m = cond (list_any is_outrigger kinds) (current_by kinds number (newest (dated m.changes))) 0
+
+-- both by the combinations that were accepted
+abbrev pub current_profile : List AttributeType → List (List (List ℕ)) → Option Change → ℕ
+current_profile kinds combinations = current_by kinds (profile_number combinations)
+
 abbrev pub profile_now : List AttributeType → List (List (List ℕ)) → Member → ℕ
-profile_now kinds combinations m = cond (list_any is_outrigger kinds) (current_profile kinds combinations (newest (dated m.changes))) 0
+profile_now kinds combinations = profile_now_by kinds (profile_number combinations)

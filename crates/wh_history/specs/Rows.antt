@@ -1,12 +1,12 @@
 -- The rows of a member.
-use Rattle.std.specs.Prelude.{ℕ, Bool, cond, ◌==◌, ◌&&◌, nat_le, List, [], ◌∷◌, map, option_map, unwrap_or}
+use Rattle.std.specs.Prelude.{ℕ, Bool, cond, ◌==◌, ◌&&◌, nat_le, List, [], ◌∷◌, map, Option, option_map, unwrap_or}
 use Rattle.wh_day.specs.Day.{first_day, last_day, day_before}
 use Rattle.wh_policy.specs.Types.{is_tracked}
 use Rattle.wh_policy.specs.declared.attribute.AttributeType.{AttributeType}
 use Rattle.wh_policy.specs.declared.attribute.AttributeType.TheVariants.{RetainOriginal, Overwrite, NewRow, NewAttribute, MiniDimension, MiniDimensionOutrigger, NewRowAndOverwrite, DualKeys}
 use Rattle.wh_history.specs.Slots.{columns_from, picks, six, texts_eq}
 use Rattle.wh_history.specs.Dated.{dated, at, value_at, latest, original, prior}
-use Rattle.wh_history.specs.Profiles.{profile_now}
+use Rattle.wh_history.specs.Profiles.{profile_number, profile_now_by}
 use Rattle.wh_history.specs.declared.member.Change.{Change}
 use Rattle.wh_history.specs.declared.member.Member.{Member}
 use Rattle.wh_history.specs.declared.rows.DimRow.{DimRow}
@@ -70,9 +70,13 @@ row kinds profile_now m span = record {
   profile_now = profile_now;
 }
 
--- a member's rows, in order of their starts
+-- a member's rows, in order of their starts, where a function gives the numbers of combinations
+abbrev pub rows_by : List AttributeType → (List (List ℕ) → Option ℕ) → Member → List DimRow
+rows_by kinds number m = map (row kinds (profile_now_by kinds number m) m) (spans first_day (starts kinds (dated m.changes)))
+
+-- and by the combinations that were accepted
 abbrev pub rows : List AttributeType → List (List (List ℕ)) → Member → List DimRow
-rows kinds combinations m = map (row kinds (profile_now kinds combinations m) m) (spans first_day (starts kinds (dated m.changes)))
+rows kinds combinations = rows_by kinds (profile_number combinations)
 
 -- whether a row holds a day
 abbrev pub holds : ℕ → DimRow → Bool

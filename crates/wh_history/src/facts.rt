@@ -1,10 +1,11 @@
 //! The keys of facts, and those that a member's new rows give them.
 
-ghost use Rattle.std.specs.Prelude.{◌≡◌, map, IfOk};
+ghost use Rattle.std.specs.Prelude.{◌≡◌, filter_map, map, IfOk};
 ghost use Rattle.std.specs.Option.{option_copied};
 ghost use Rattle.wh_history.specs.Dated.{at};
-ghost use Rattle.wh_history.specs.Profiles.{current_profile};
-ghost use Rattle.wh_history.specs.Facts.{key_in, keys_with, same_keys, rekey_of, rekeys};
+ghost use Rattle.wh_history.specs.Profiles.{current_by};
+ghost use Rattle.wh_history.specs.Known.{number_in};
+ghost use Rattle.wh_history.specs.Facts.{key_in, keys_with, same_keys, moved_by};
 
 use crate::dated::change_at;
 use crate::member::Change;
@@ -44,14 +45,6 @@ pub struct Fact {
     pub cost: i64,
 }
 
-/// Other keys for a stored fact, which its ticket and line name.
-#[derive(Debug, Drop)]
-pub struct Rekey {
-    pub ticket: Value,
-    pub line: u32,
-    pub keys: FactKeys,
-}
-
 /// What gives a member's facts their keys: its rows, and its changes in order of their days.
 #[derive(Drop)]
 pub struct Keys<'a> {
@@ -72,7 +65,7 @@ fn is_same_keys(a: FactKeys, b: FactKeys) -> bool
 }
 
 /// The surrogate key of the row that holds a day.
-fn key_in(rows: &[DimRow], day: Day) -> u64
+pub fn key_in(rows: &[DimRow], day: Day) -> u64
     ensures { result ≡ key_in rows.now day }
 {
     match rows.iter().find(|row| row.holds(day)) {
@@ -81,19 +74,25 @@ fn key_in(rows: &[DimRow], day: Day) -> u64
     }
 }
 
-/// The number of a customer's profile at a day.
-fn profile_in(alloc: Global, keys: &Keys, day: Day) -> Result<u64, AllocError>
-    ensures { IfOk result (λ n. n ≡ current_profile keys.now.types.now keys.now.profiles.now (at day (map (λ c. c.now) keys.now.dated.now))) }
+/// The number of a customer's profile at a day, by the customer's changes in order of their days.
+pub fn profile_at(
+    alloc: Global,
+    types: &[AttributeType],
+    profiles: &Profiles,
+    dated: &[&Change],
+    day: Day,
+) -> Result<u64, AllocError>
+    ensures { IfOk result (λ n. n ≡ current_by types.now (number_in profiles.now) (at day (map (λ c. c.now) dated.now))) }
 {
-    match change_at(keys.dated, day) {
+    match change_at(dated, day) {
         None => Ok(1),
-        Some(change) => number_of(alloc, keys.types, keys.profiles, change.values.as_slice()),
+        Some(change) => number_of(alloc, types, profiles, change.values.as_slice()),
     }
 }
 
 /// A fact's keys by the member's rows and changes.
 fn new_keys(alloc: Global, keys: &Keys, fact: &Fact) -> Result<FactKeys, AllocError>
-    ensures { IfOk result (λ k. k ≡ keys_with keys.now.dim (key_in keys.now.rows.now fact.now.day) (current_profile keys.now.types.now keys.now.profiles.now (at fact.now.day (map (λ c. c.now) keys.now.dated.now))) fact.now.keys) }
+    ensures { IfOk result (λ k. k ≡ keys_with keys.now.dim (key_in keys.now.rows.now fact.now.day) (current_by keys.now.types.now (number_in keys.now.profiles.now) (at fact.now.day (map (λ c. c.now) keys.now.dated.now))) fact.now.keys) }
 {
     let key = key_in(keys.rows, fact.day);
     match keys.dim {
@@ -107,36 +106,43 @@ fn new_keys(alloc: Global, keys: &Keys, fact: &Fact) -> Result<FactKeys, AllocEr
         }),
         Dim::Customer => Ok(FactKeys {
             customer_key: key,
-            profile: profile_in(alloc, keys, fact.day)?,
+            profile: profile_at(alloc, keys.types, keys.profiles, keys.dated, fact.day)?,
             ..fact.keys
         }),
     }
 }
 
-/// A fact's edit, if its keys change.
-fn rekey_of(alloc: Global, keys: &Keys, fact: &Fact) -> Result<Option<Rekey>, AllocError>
-    ensures { IfOk result (λ r. r ≡ rekey_of keys.now.types.now keys.now.profiles.now keys.now.dim keys.now.rows.now (map (λ c. c.now) keys.now.dated.now) fact.now) }
+/// A fact with its new keys, if they change.
+fn moved(alloc: Global, keys: &Keys, fact: &Fact) -> Result<Option<Fact>, AllocError>
+    ensures { IfOk result (λ f. f ≡ moved_by keys.now.types.now (number_in keys.now.profiles.now) keys.now.dim keys.now.rows.now (map (λ c. c.now) keys.now.dated.now) fact.now) }
 {
     let new = new_keys(alloc, keys, fact)?;
     if is_same_keys(new, fact.keys) {
         return Ok(None);
     }
-    Ok(Some(Rekey {
+    Ok(Some(Fact {
         ticket: fact.ticket.copy()?,
         line: fact.line,
+        day: fact.day,
         keys: new,
+        store_durable: fact.store_durable,
+        product_durable: fact.product_durable,
+        customer_durable: fact.customer_durable,
+        quantity: fact.quantity,
+        amount: fact.amount,
+        cost: fact.cost,
     }))
 }
 
-/// The edits of a member's facts: those whose keys change, in their order.
-pub fn plan_facts(alloc: Global, keys: &Keys, facts: &[Fact]) -> Result<Vec<Rekey>, AllocError>
-    ensures { IfOk result (λ edits. edits.items ≡ rekeys keys.now.types.now keys.now.profiles.now keys.now.dim keys.now.rows.now (map (λ c. c.now) keys.now.dated.now) facts.now) }
+/// A member's facts whose keys change, with their new keys, in their order.
+pub fn moved_facts(alloc: Global, keys: &Keys, facts: &[Fact]) -> Result<Vec<Fact>, AllocError>
+    ensures { IfOk result (λ found. found.items ≡ filter_map (moved_by keys.now.types.now (number_in keys.now.profiles.now) keys.now.dim keys.now.rows.now (map (λ c. c.now) keys.now.dated.now)) facts.now) }
 {
-    let mut edits = Vec::new(alloc);
+    let mut found = Vec::new(alloc);
     for fact in facts {
-        if let Some(edit) = rekey_of(alloc, keys, fact)? {
-            edits.push(edit)?;
+        if let Some(fact) = moved(alloc, keys, fact)? {
+            found.push(fact)?;
         }
     }
-    Ok(edits)
+    Ok(found)
 }

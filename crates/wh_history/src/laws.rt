@@ -1,20 +1,22 @@
 //! Laws that every member's rows keep. They speak of the definitions alone and do nothing.
 
-ghost use Rattle.std.specs.Prelude.{◌≡◌, ◌<◌, ◌++◌, ◌∷◌, [], ℕ, List, length, false, true, Some, find, slice_get};
-ghost use Rattle.std.specs.List.{list_any};
+ghost use Rattle.std.specs.Prelude.{◌≡◌, ◌<◌, ◌≤◌, ◌++◌, ◌∷◌, [], ℕ, nat_lt, List, length, false, true, Some, find, slice_get};
+ghost use Rattle.std.specs.List.{list_any, AllByRecursion};
 ghost use Rattle.wh_day.specs.Day.{is_day};
 ghost use Rattle.wh_policy.specs.Types.{is_outrigger, is_tracked};
 ghost use Rattle.wh_policy.specs.declared.attribute.Dim.{Dim};
 ghost use Rattle.wh_policy.specs.declared.attribute.AttributeType.{AttributeType};
 ghost use Rattle.wh_policy.specs.declared.record.DimensionRecord.{DimensionRecord};
 ghost use Rattle.wh_history.specs.Keys.{at_place};
-ghost use Rattle.wh_history.specs.Dated.{value_at};
+ghost use Rattle.wh_history.specs.Dated.{at, dated, value_at};
+ghost use Rattle.wh_history.specs.Facts.{key_in};
 ghost use Rattle.wh_history.specs.Rows.{rows, holds};
 ghost use Rattle.wh_history.specs.Plan.{row_of};
 ghost use Rattle.wh_history.specs.Accepted.{Accepted, Anchor, durable_key, surrogate_key, anchors, members, member_of, types_in};
 ghost use Rattle.wh_history.specs.Tables.{key_at, member_rows, numbered_row};
 ghost use Rattle.wh_history.specs.Touched.{touched, untouched, touched_by, with_batch};
 ghost use Rattle.wh_history.specs.Laws.{ChangesHaveDays, RecordsHaveDays, EachDayHasOneRow, OneRowIsCurrent, mentions_member, IsMember, IsEffective, governs};
+ghost use Rattle.wh_history.specs.declared.member.Change.{Change};
 ghost use Rattle.wh_history.specs.declared.member.Member.{Member};
 ghost use Rattle.wh_history.specs.declared.rows.DimRow.{DimRow};
 
@@ -56,6 +58,16 @@ pub fn rows_by_member()
 /// The row that holds a day shows in each tracked slot the value in force on that day.
 pub fn shows_the_day()
     ensures { (kinds : List AttributeType) (combinations : List (List (List ℕ))) (m : Member) (day : ℕ) (r : DimRow) (place : ℕ) (kind : AttributeType) → ChangesHaveDays m.changes → find (holds day) (rows kinds combinations m) ≡ Some r → slice_get kinds place ≡ Some kind → is_tracked kind ≡ true → slice_get r.a place ≡ Some (value_at day place m.changes) }
+{}
+
+/// Of a member with a change of an earlier day, more changes that are all since a day leave the days before it as they
+/// were: the row of each has the number that it had, and the same change holds.
+pub fn days_before_stay()
+    ensures keys { (kinds : List AttributeType) (old new : List (List (List ℕ))) (before after : Member) (first day : ℕ) (more : List Change) → after.changes ≡ before.changes ++ more → AllByRecursion (λ c. first ≤ c.day) more
+        → list_any (λ c. nat_lt c.day first) before.changes ≡ true → ChangesHaveDays before.changes → ChangesHaveDays after.changes → after.opening ≡ before.opening
+        → is_day day ≡ true → day < first → key_in (rows kinds new after) day ≡ key_in (rows kinds old before) day }
+    ensures changes { (before after : Member) (first day : ℕ) (more : List Change) → after.changes ≡ before.changes ++ more → AllByRecursion (λ c. first ≤ c.day) more
+        → list_any (λ c. nat_lt c.day first) before.changes ≡ true → day < first → at day (dated after.changes) ≡ at day (dated before.changes) }
 {}
 
 /// A batch is its records, one after the other: from what is stored of each member that it touches, and from how many

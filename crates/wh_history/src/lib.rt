@@ -14,13 +14,13 @@ mod touched;
 mod trial;
 
 pub use dated::{latest, original, prior, value_at};
-pub use facts::{Fact, FactKeys, Keys, Rekey, plan_facts};
+pub use facts::{Fact, FactKeys, Keys, key_in, moved_facts, profile_at};
 pub use member::{Change, Changes, Member};
 pub use plan::{Edit, Plan, plan_member, plan_rows};
-pub use profiles::{Profiles, number_of, profile_texts};
+pub use profiles::{Numbered, Profiles, is_same_texts, number_of, profile_texts};
 pub use rendering::{render, render_types};
 pub use rows::{DimRow, row_at};
-pub use touched::{Stored, Touched, anchor_of_day, padded, touch_all};
+pub use touched::{Stored, Touched, anchor_of_day, number_or_next, padded, touch_all};
 pub use trial::{no_card_row, trial_table};
 
 #[cfg(test)]

@@ -6,12 +6,13 @@ ghost use Rattle.std.specs.Ordering.{nat_cmp};
 ghost use Rattle.std.specs.Option.{option_copied};
 ghost use Rattle.wh_policy.specs.Policy.{types_of};
 ghost use Rattle.wh_history.specs.Dated.{dated};
-ghost use Rattle.wh_history.specs.Rows.{rows};
-ghost use Rattle.wh_history.specs.Facts.{rekeys};
+ghost use Rattle.wh_history.specs.Rows.{rows_by};
+ghost use Rattle.wh_history.specs.Facts.{moved_by};
+ghost use Rattle.wh_history.specs.Known.{number_in};
 ghost use Rattle.wh_history.specs.Plan.{IsPlan, row_of, with_keys, edit_between, edit_in};
 
 use crate::dated::dated;
-use crate::facts::{Fact, Keys, Rekey, plan_facts};
+use crate::facts::{Fact, Keys, moved_facts};
 use crate::member::Member;
 use crate::profiles::Profiles;
 use crate::rendering::render_types;
@@ -111,11 +112,11 @@ pub fn plan_rows(
     edits_of(alloc, &keys, &old, &new)
 }
 
-/// The edits of one member: of its rows in order of their keys, and of its facts in their order.
+/// The edits of one member: of its rows in order of their keys, and its facts that get other keys, with them, in their order.
 #[derive(Debug, Drop)]
 pub struct Plan {
     pub rows: Vec<Edit<DimRow, u64>>,
-    pub facts: Vec<Rekey>,
+    pub facts: Vec<Fact>,
 }
 
 /// The edits that lead from a member's stored rows and facts to what they are to be.
@@ -128,8 +129,8 @@ pub fn plan_member(
     after: &Member,
     profiles: &Profiles,
 ) -> Result<Plan, AllocError>
-    ensures rows { IfOk result (λ plan. IsPlan (λ r. r.surrogate) (λ key. row_of key stored.now) (λ key. row_of key (rows (types_of policy.now dim) profiles.now after.now)) plan.rows.items) }
-    ensures facts { IfOk result (λ plan. plan.facts.items ≡ rekeys (types_of policy.now dim) profiles.now dim (rows (types_of policy.now dim) profiles.now after.now) (dated after.now.changes) facts.now) }
+    ensures rows { IfOk result (λ plan. IsPlan (λ r. r.surrogate) (λ key. row_of key stored.now) (λ key. row_of key (rows_by (types_of policy.now dim) (number_in profiles.now) after.now)) plan.rows.items) }
+    ensures facts { IfOk result (λ plan. plan.facts.items ≡ filter_map (moved_by (types_of policy.now dim) (number_in profiles.now) dim (rows_by (types_of policy.now dim) (number_in profiles.now) after.now) (dated after.now.changes)) facts.now) }
 {
     let types = policy.types(alloc, dim)?;
     let rows = render_types(alloc, &types, after, profiles)?;
@@ -143,6 +144,6 @@ pub fn plan_member(
     };
     Ok(Plan {
         rows: plan_rows(alloc, stored, &rows)?,
-        facts: plan_facts(alloc, &keys, facts)?,
+        facts: moved_facts(alloc, &keys, facts)?,
     })
 }

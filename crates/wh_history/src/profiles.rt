@@ -1,11 +1,12 @@
 //! The profile mini-dimension: combinations of the values of types 4 and 5, and their numbers.
 
-ghost use Rattle.std.specs.Prelude.{◌≡◌, ◌++◌, ◌∷◌, [], IfOk, OnOk, position, cond, unwrap_or};
+ghost use Rattle.std.specs.Prelude.{◌≡◌, ◌++◌, ◌∷◌, [], ℕ, List, IfOk, OnOk, find, cond, unwrap_or};
 ghost use Rattle.std.specs.List.{list_any};
 ghost use Rattle.std.specs.Option.{option_copied};
 ghost use Rattle.wh_policy.specs.Types.{is_profile, is_outrigger};
 ghost use Rattle.wh_history.specs.Slots.{picks, texts_eq};
-ghost use Rattle.wh_history.specs.Profiles.{profile_number, current_profile};
+ghost use Rattle.wh_history.specs.Profiles.{current_by};
+ghost use Rattle.wh_history.specs.Known.{number_in, all_numbered};
 
 use crate::dated::slot_text;
 use crate::member::Change;
@@ -14,18 +15,26 @@ use std::marker::Model;
 use wh_day::{Value, Values};
 use wh_policy::AttributeType;
 
-/// The distinct combinations of profile values, in order of first acceptance.
+/// A combination of profile values with its number.
+#[derive(Debug, Drop)]
+pub struct Numbered {
+    pub texts: Values,
+    pub number: u64,
+}
+
+/// What is known of combinations of profile values: some, with their numbers.
 #[derive(Debug, Drop)]
 pub struct Profiles {
-    combinations: Vec<Values>,
+    known: Vec<Numbered>,
 }
 
 impl Model for Profiles {
-    ghost use Rattle.std.specs.Prelude.{List, ℕ};
+    ghost use Rattle.std.specs.Prelude.{List};
+    ghost use Rattle.wh_history.specs.declared.profiles.Numbered.{Numbered};
 
-    ghost Value = { List (List (List ℕ)) };
+    ghost Value = { List Numbered };
 
-    ghost view = { λ a. a.combinations.items };
+    ghost view = { λ a. a.known.items };
 }
 
 /// Whether two lists of texts are the same.
@@ -43,59 +52,62 @@ pub fn is_same_texts(some: &[Value], other: &[Value]) -> bool
     true
 }
 
-/// The place of a combination.
-fn place_of(combinations: &[Values], texts: &[Value]) -> Option<usize>
-    ensures { result ≡ position (λ c. texts_eq c texts.now) combinations.now }
+/// A combination with its number, if it is known.
+fn known_as<'a>(known: &'a [Numbered], texts: &[Value]) -> Option<&'a Numbered>
+    ensures { option_copied result ≡ find (λ k. texts_eq k.texts texts.now) known.now }
 {
-    combinations
+    known
         .iter()
-        .position(|c| is_same_texts(c.as_slice(), texts))
+        .find(|k| is_same_texts(k.texts.as_slice(), texts))
 }
 
-/// The number of a combination; the first has 2.
-#[tactic(auto, using(crate::proofs::Combinations::number_from_position))]
-fn number_in(combinations: &[Values], texts: &[Value]) -> Option<u64>
-    ensures { result ≡ profile_number combinations.now texts.now }
+/// The number that is known of a combination.
+fn number_known(known: &[Numbered], texts: &[Value]) -> Option<u64>
+    ensures { result ≡ number_in known.now texts.now }
 {
-    match place_of(combinations, texts) {
-        Some(place) => Some(place as u64 + 2),
+    match known_as(known, texts) {
+        Some(numbered) => Some(numbered.number),
         None => None,
     }
 }
 
-/// Whether a combination is there.
-fn contains(combinations: &[Values], texts: &[Value]) -> bool
-    ensures { result ≡ list_any (λ c. texts_eq c texts.now) combinations.now }
-{
-    combinations
-        .iter()
-        .any(|c| is_same_texts(c.as_slice(), texts))
-}
-
 impl Profiles {
+    /// Nothing is known yet.
     pub fn new(alloc: Global) -> Profiles
         ensures { result ≡ [] }
     {
         Profiles {
-            combinations: Vec::new(alloc),
+            known: Vec::new(alloc),
         }
     }
 
-    /// The number of a combination; the first has 2.
+    /// The number of a combination, if it is known.
     pub fn number(&self, texts: &[Value]) -> Option<u64>
-        ensures { result ≡ profile_number self.now texts.now }
+        ensures { result ≡ number_in self.now texts.now }
     {
-        number_in(self.combinations.as_slice(), texts)
+        number_known(self.known.as_slice(), texts)
     }
 
-    /// Adds a combination, unless it is there.
-    pub fn add(&mut self, texts: Values) -> Result<(), AllocError>
-        ensures { OnOk result (self.new ≡ cond (list_any (λ c. texts_eq c texts) self.old) self.old (self.old ++ texts ∷ [])) }
+    /// Adds a combination with its number.
+    pub fn add(&mut self, texts: Values, number: u64) -> Result<(), AllocError>
+        ensures { OnOk result (self.new ≡ self.old ++ record { texts = texts; number = number } ∷ []) }
     {
-        if !contains(self.combinations.as_slice(), texts.as_slice()) {
-            self.combinations.push(texts)?;
-        }
+        self.known.push(Numbered { texts, number })?;
         Ok(())
+    }
+
+    /// Where all combinations so far are known, adds one with the next number, unless it is there. The first has 2.
+    pub fn add_next(&mut self, texts: Values) -> Result<(), AllocError>
+        ensures { OnOk result ((combinations : List (List (List ℕ))) → self.old ≡ all_numbered combinations
+            → self.new ≡ all_numbered (cond (list_any (λ c. texts_eq c texts) combinations) combinations (combinations ++ texts ∷ []))) }
+    {
+        match self.number(texts.as_slice()) {
+            Some(_) => Ok(()),
+            None => {
+                let number = self.known.len() as u64 + 2;
+                self.add(texts, number)
+            }
+        }
     }
 }
 
@@ -125,7 +137,7 @@ pub fn number_of(
     profiles: &Profiles,
     values: &[Value],
 ) -> Result<u64, AllocError>
-    ensures { IfOk result (λ n. n ≡ unwrap_or (profile_number profiles.now (picks is_profile types.now values.now)) 0) }
+    ensures { IfOk result (λ n. n ≡ unwrap_or (number_in profiles.now (picks is_profile types.now values.now)) 0) }
 {
     let texts = profile_texts(alloc, types, values)?;
     Ok(profiles.number(texts.as_slice()).unwrap_or(0))
@@ -145,7 +157,7 @@ pub fn profile_now(
     profiles: &Profiles,
     newest: Option<&Change>,
 ) -> Result<u64, AllocError>
-    ensures { IfOk result (λ n. n ≡ cond (list_any is_outrigger types.now) (current_profile types.now profiles.now (option_copied newest.entry)) 0) }
+    ensures { IfOk result (λ n. n ≡ cond (list_any is_outrigger types.now) (current_by types.now (number_in profiles.now) (option_copied newest.entry)) 0) }
 {
     if !has_outrigger(types) {
         return Ok(0);

@@ -6,8 +6,9 @@ ghost use Rattle.wh_day.specs.Day.{first_day, day_before};
 ghost use Rattle.wh_policy.specs.Policy.{types_of};
 ghost use Rattle.wh_history.specs.Slots.{slot, six, columns_from};
 ghost use Rattle.wh_history.specs.Dated.{dated, at};
-ghost use Rattle.wh_history.specs.Profiles.{profile_now};
-ghost use Rattle.wh_history.specs.Rows.{same_tracked, starts, spans, main_column, second_column, row, rows, start_key};
+ghost use Rattle.wh_history.specs.Profiles.{profile_now_by};
+ghost use Rattle.wh_history.specs.Known.{number_in};
+ghost use Rattle.wh_history.specs.Rows.{same_tracked, starts, spans, main_column, second_column, row, rows_by, start_key};
 ghost use Rattle.wh_history.specs.Rendering.{steady_column, shown_column, IsStart, IsFrame};
 ghost use Rattle.wh_history.specs.Laws.{ChangesHaveDays, EachDayHasOneRow, OneRowIsCurrent};
 
@@ -254,7 +255,7 @@ pub fn render_types(
     member: &Member,
     profiles: &Profiles,
 ) -> Result<Vec<DimRow>, AllocError>
-    ensures rows { IfOk result (λ found. found.items ≡ rows types.now profiles.now member.now) }
+    ensures rows { IfOk result (λ found. found.items ≡ rows_by types.now (number_in profiles.now) member.now) }
     // No two rows overlap, and no day is left out.
     ensures days { IfOk result (λ found. EachDayHasOneRow found.items) }
     ensures current { IfOk result (λ found. OneRowIsCurrent found.items) }
@@ -283,7 +284,7 @@ pub fn render(
     member: &Member,
     profiles: &Profiles,
 ) -> Result<Vec<DimRow>, AllocError>
-    ensures rows { IfOk result (λ found. found.items ≡ rows (types_of policy.now dim) profiles.now member.now) }
+    ensures rows { IfOk result (λ found. found.items ≡ rows_by (types_of policy.now dim) (number_in profiles.now) member.now) }
     // No two rows overlap, and no day is left out.
     ensures days { IfOk result (λ found. EachDayHasOneRow found.items) }
     ensures current { IfOk result (λ found. OneRowIsCurrent found.items) }

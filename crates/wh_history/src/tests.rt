@@ -216,8 +216,8 @@ fn profile_of_the_newest_record(rt: HostRuntime) -> Result<(), Fail> {
     ];
     let c9 = member(alloc, "C9", (1, 1), &told)?;
     for change in c9.changes.as_slice() {
-        profiles.add(profile_texts(alloc, &CUSTOMER, change.values.as_slice())?)?;
-        profiles.add(profile_texts(alloc, &CUSTOMER, change.values.as_slice())?)?;
+        profiles.add_next(profile_texts(alloc, &CUSTOMER, change.values.as_slice())?)?;
+        profiles.add_next(profile_texts(alloc, &CUSTOMER, change.values.as_slice())?)?;
     }
     let rows = render(alloc, &policy(alloc)?, Dim::Customer, &c9, &profiles)?;
     assert_eq!(rt;
@@ -332,7 +332,7 @@ fn fact(alloc: Global, ticket: &str, key: i64, product_key: u64) -> Result<Fact,
     })
 }
 
-/// Edits as `put KEY` and `remove KEY`.
+/// Edits as `put KEY` and `remove KEY`, and facts that move as `moved TICKET KEY`.
 fn edits(alloc: Global, plan: &Plan) -> Result<String, AllocError> {
     let mut out = String::new(alloc);
     for edit in &plan.rows {
@@ -342,11 +342,11 @@ fn edits(alloc: Global, plan: &Plan) -> Result<String, AllocError> {
         };
         out.push_str(line.as_str())?;
     }
-    for rekey in &plan.facts {
+    for moved in &plan.facts {
         let line = format!(in alloc;
-            "rekey {} {}\n",
-            rekey.ticket.as_str(),
-            rekey.keys.product_key
+            "moved {} {}\n",
+            moved.ticket.as_str(),
+            moved.keys.product_key
         )?;
         out.push_str(line.as_str())?;
     }
@@ -375,7 +375,7 @@ fn plan_of_a_backdated_record(rt: HostRuntime) -> Result<(), Fail> {
     )?;
     assert_eq!(rt;
         edits(alloc, &plan)?.as_str(),
-        "put 1\nremove 3\nput 4\nrekey T1 4\n"
+        "put 1\nremove 3\nput 4\nmoved T1 4\n"
     );
     Ok(())
 }

@@ -89,7 +89,7 @@ struct Touching {
 }
 
 /// The number that was given, or else the next one.
-fn number(given: u64, count: &mut u64) -> u64
+pub fn number_or_next(given: u64, count: &mut u64) -> u64
     requires { count.old + 1 < 2 ^ 64 }
     ensures given { result ≡ given_or given (suc count.old) }
     ensures counted { count.new ≡ grown given count.old }
@@ -145,10 +145,10 @@ fn add_record(
     ensures members { OnOk result (members.new ≡ grown member.old.durable members.old) }
     ensures anchors { OnOk result (anchors.new ≡ anchors_with anchors.old member.old told.now) }
 {
-    member.durable = number(member.durable, members);
-    member.opening = number(member.opening, anchors);
+    member.durable = number_or_next(member.durable, members);
+    member.opening = number_or_next(member.opening, anchors);
     let given = anchor_of_day(member.changes.as_slice(), told.day);
-    let anchor = number(given, anchors);
+    let anchor = number_or_next(given, anchors);
     let values = padded(alloc, &told.values)?;
     member.changes.push(Change {
         day: told.day,

@@ -5,7 +5,8 @@ ghost use Rattle.std.specs.Option.{option_copied};
 ghost use Rattle.wh_policy.specs.Policy.{types_of};
 ghost use Rattle.wh_history.specs.Slots.{six, columns_from};
 ghost use Rattle.wh_history.specs.Profiles.{combinations_of};
-ghost use Rattle.wh_history.specs.Rows.{rows};
+ghost use Rattle.wh_history.specs.Rows.{rows_by};
+ghost use Rattle.wh_history.specs.Known.{number_in, all_numbered};
 ghost use Rattle.wh_history.specs.Tables.{no_card_main, no_card_second, no_card_row, dimension_table, trial_commands};
 ghost use Rattle.wh_history.specs.Touched.{touched, untouched, nothing_stored};
 ghost use Rattle.wh_history.specs.Picked.{owned_row, picked_from, first_rows, profiles_in};
@@ -55,11 +56,11 @@ fn profiles_of(
     types: &[AttributeType],
     records: &[DimensionRecord],
 ) -> Result<Profiles, AllocError>
-    ensures { IfOk result (λ found. found ≡ combinations_of types.now records.now) }
+    ensures { IfOk result (λ found. found ≡ all_numbered (combinations_of types.now records.now)) }
 {
     let mut found = Profiles::new(alloc);
     for told in records {
-        found.add(profile_texts(alloc, types, told.values.as_slice())?)?;
+        found.add_next(profile_texts(alloc, types, told.values.as_slice())?)?;
     }
     Ok(found)
 }
@@ -71,7 +72,7 @@ fn profiles_in(
     types: &[AttributeType],
     records: &[DimensionRecord],
 ) -> Result<Profiles, AllocError>
-    ensures { IfOk result (λ found. found ≡ profiles_in dim types.now records.now) }
+    ensures { IfOk result (λ found. found ≡ all_numbered (profiles_in dim types.now records.now)) }
 {
     match dim {
         Dim::Product | Dim::Store => Ok(Profiles::new(alloc)),
@@ -158,7 +159,7 @@ fn member_rows(
     profiles: &Profiles,
     members: &[Member],
 ) -> Result<Vec<DimRows>, AllocError>
-    ensures { IfOk result (λ found. found.items ≡ map (rows types.now profiles.now) members.now) }
+    ensures { IfOk result (λ found. found.items ≡ map (rows_by types.now (number_in profiles.now)) members.now) }
 {
     let mut found = Vec::new(alloc);
     for member in members {

@@ -22,19 +22,19 @@ use Rattle.wh_policy.proofs.TypeLemmas.{type_of_number-again, type_of_number-is,
 use Rattle.wh_policy.proofs.WrittenLemmas.{as_str-is, as_integer-is, has_only-true, has_only-from, same_bytes, arrays_same, required-judged, tables_at-judged, each_after-judged, found_before, none_found, All-middle, AllPairs-middle, absent}
 
 -- the table writes the attribute, and keeps what is asked of one
-pub record IsAttribute (t : Members) (a : Attribute) : Type 0 where
+pub record IsAttribute (dim : Dim) (t : Members) (a : Attribute) : Type 0 where
   pub only : HasOnly attribute_keys t
   pub writes : WritesAttribute t a
   pub named : IsTrue (is_name a.name)
-  pub outside : is_profile a.kind ≡ false
+  pub outside : takes_profile dim ≡ false → is_profile a.kind ≡ false
 
 -- what follows from a fault in one of the tables
-pub record Reasons (bad : PolicyFault → Type 0) (tables : List Members) : Type 0 where
+pub record Reasons (dim : Dim) (bad : PolicyFault → Type 0) (tables : List Members) : Type 0 where
   pub unknown : ¬ All (HasOnly attribute_keys) tables → bad UnknownKey
   pub missing : ¬ All (HasAll attribute_keys) tables → bad Missing
   pub name : ¬ All (At (codes "name") IsNameData) tables → bad BadName
   pub kind : ¬ All (At (codes "type") IsTypeData) tables → bad BadType
-  pub outside : ¬ All IsOutsideProfile tables → bad ProfileOutside
+  pub outside : takes_profile dim ≡ false → ¬ All IsOutsideProfile tables → bad ProfileOutside
   pub twice : ¬ AllPairs (DifferAt (codes "name")) tables → bad NamedTwice
 
 abbrev pub AreDistinct : List Attribute → Type 0
@@ -67,10 +67,9 @@ kind_at-judged content fails = judged-or BadType (option_and_then type_of_number
     (λ kind e. option_and_then_some type_of_number (as_integer content) kind e (λ z found same.
     as_integer-is content z found ∙ ap integer (type_of_number-is z kind same)))
 
-none_takes : (dim : Dim) (b : Bool) → (takes_profile dim || b) ≡ b
-none_takes Product b = refl
-none_takes Store b = refl
-none_takes Customer b = refl
+neither : (a b : Bool) → (a || b) ≡ false → (a ≡ false) × (b ≡ false)
+neither true b h = cc
+neither false b h = (refl, h)
 
 profile_refused : (t : Members) (kind : AttributeType) → get_member (codes "type") t ≡ Some (integer (pos (type_number kind))) → is_profile kind ≡ true → IsOutsideProfile t → ⊥
 profile_refused t kind is profile outside =
@@ -78,7 +77,7 @@ profile_refused t kind is profile outside =
     elim (profile_numbers kind profile) [ inl a ↦ four a | inr b ↦ five b ]
 
 pub attribute_at-judged : {bad : PolicyFault → Type 0} (dim : Dim) (before : List Members) (t : Members) (after : List Members) (earlier : List Attribute)
-    → AllZip IsAttribute before earlier → Reasons bad (before ++ t ∷ after) → Judged (λ a. IsAttribute t a × All (λ b. b.name ≢ a.name) earlier) bad (attribute_at dim earlier t)
+    → AllZip (IsAttribute dim) before earlier → Reasons dim bad (before ++ t ∷ after) → Judged (λ a. IsAttribute dim t a × All (λ b. b.name ≢ a.name) earlier) bad (attribute_at dim earlier t)
 unfolding attribute_at
 attribute_at-judged dim before t after earlier zip reasons =
     judged-unless (has_only attribute_keys t) UnknownKey _
@@ -94,26 +93,26 @@ attribute_at-judged dim before t after earlier zip reasons =
     let kind_is : get_member (codes "type") t ≡ Some (integer (pos (type_number kind))) = kind_there ∙ ap Some typed in
     let name_is : get_member (codes "name") t ≡ Some (string name) = name_there ∙ ap Some named.0 in
     judged-unless (takes_profile dim || not (is_profile kind)) ProfileOutside _
-    (λ no. reasons.outside (λ all. profile_refused t kind kind_is (not-false _ (rw (none_takes dim (not (is_profile kind))) at no)) (All-middle IsOutsideProfile before t after all))) (λ yes.
+    (λ no. let none = neither (takes_profile dim) (not (is_profile kind)) no in reasons.outside none.0 (λ all. profile_refused t kind kind_is (not-false _ none.1) (All-middle IsOutsideProfile before t after all))) (λ yes.
     judged-unless (not (list_any (is_named name) earlier)) NamedTwice _
     (λ no. reasons.twice (λ all.
-    let (k, a, lt, same, is) = found_before IsAttribute (is_named name) before earlier t zip (not-false _ no) in
+    let (k, a, lt, same, is) = found_before (IsAttribute dim) (is_named name) before earlier t zip (not-false _ no) in
     AllPairs-middle (DifferAt (codes "name")) before t after k lt all name (rw (same_bytes a.name name same) at is.writes.name) name_is)) (λ new.
     judged-ok (record { name = name; kind = kind }) (
       record {
         only = has_only-true attribute_keys t only;
         writes = record { name = name_is; kind = kind_is };
         named = named.1;
-        outside = not-true _ (rw (none_takes dim (not (is_profile kind))) at yes);
+        outside = λ none. not-true _ (sym (ap (λ b. b || not (is_profile kind)) none) ∙ yes);
       },
       (λ k d lt same. false≢true (sym (none_found (is_named name) earlier (not-true _ new) k d lt) ∙ rw same (nat_list_eq_equiv.refl name))),
     ))))))))
 
 -- the attributes that an array of tables writes
-pub record AreWritten (content : Data) (attributes : List Attribute) : Type 0 where
+pub record AreWritten (dim : Dim) (content : Data) (attributes : List Attribute) : Type 0 where
   pub tables : List Members
   pub array : IsArrayOf tables content
-  pub each : AllZip IsAttribute tables attributes
+  pub each : AllZip (IsAttribute dim) tables attributes
   pub some : 1 ≤ length tables
   pub few : length tables ≤ 6
   pub once : AreDistinct attributes
@@ -121,8 +120,8 @@ pub record AreWritten (content : Data) (attributes : List Attribute) : Type 0 wh
 pub attributes_at-judged : {bad : PolicyFault → Type 0} (dim : Dim) (content : Data)
     → (((tables : List Members) → IsArrayOf tables content → ¬ (1 ≤ length tables)) → bad Missing)
     → ((tables : List Members) → IsArrayOf tables content → ¬ (length tables ≤ 6) → bad TooMany)
-    → ((tables : List Members) → IsArrayOf tables content → Reasons bad tables)
-    → Judged (AreWritten content) bad (attributes_at dim content)
+    → ((tables : List Members) → IsArrayOf tables content → Reasons dim bad tables)
+    → Judged (AreWritten dim content) bad (attributes_at dim content)
 unfolding attributes_at
 attributes_at-judged {bad = bad} dim content missing many reasons =
     judged-bind {mid = λ tables. IsArrayOf tables content} _ _
@@ -134,8 +133,8 @@ attributes_at-judged {bad = bad} dim content missing many reasons =
     omega (arith, empty, here))) (λ yes.
     judged-unless (nat_le (length tables) 6) TooMany _
     (λ no. many tables is (λ few. both_ways _ no (le-leb _ _ few))) (λ few.
-    judged-more {mid = λ attributes. AllZip IsAttribute tables attributes × AreDistinct attributes} _
-    (each_after-judged (attribute_at dim) IsAttribute (λ a b. a.name ≢ b.name) (Reasons bad) (attribute_at-judged dim) [] [] tables tt
+    judged-more {mid = λ attributes. AllZip (IsAttribute dim) tables attributes × AreDistinct attributes} _
+    (each_after-judged (attribute_at dim) (IsAttribute dim) (λ a b. a.name ≢ b.name) (Reasons dim bad) (attribute_at-judged dim) [] [] tables tt
     (λ i j d below within. absurd (omega arith)) (reasons tables is)) (λ attributes p.
     let some : 1 ≤ length tables = omega (arith, eqb-false _ _ (not-true _ yes)) in
     record { tables = tables; array = is; each = p.0; some = some; few = leb-true _ _ few; once = p.1 }))))

@@ -1,30 +1,34 @@
 -- A whole policy file, judged.
-use Rattle.std.proofs.Common.{◌≡◌, [], Some, codes, sym, ap, ◌∙◌, arith}
-use Rattle.std.proofs.lemmas.Bool.{both_ways}
+use Rattle.std.proofs.Common.{◌≡◌, ◌≢◌, Bool, true, false, not, ◌&&◌, pos, List, [], Some, codes, refl, sym, ap, ◌∙◌, arith, inl, inr}
+use Rattle.std.proofs.lemmas.Bool.{both_ways, not-false, not-true}
 use Rattle.std.proofs.lemmas.Option.{same_Some}
-use Rattle.toml.specs.Data.{Data, Members, get_member}
+use Rattle.toml.specs.Data.{Data, integer, Members, get_member}
 use Rattle.wh_policy.specs.declared.fault.PolicyFault.{PolicyFault}
-use Rattle.wh_policy.specs.declared.fault.PolicyFault.TheVariants.{UnknownKey}
+use Rattle.wh_policy.specs.declared.fault.PolicyFault.TheVariants.{UnknownKey, ProfileMixed}
+use Rattle.wh_policy.specs.declared.attribute.Attribute.{Attribute}
 use Rattle.wh_policy.specs.declared.attribute.Dim.{Dim}
 use Rattle.wh_policy.specs.declared.attribute.Dim.TheVariants.{Product, Store, Customer}
 use Rattle.wh_policy.specs.declared.policy.Policy.{Policy}
 use Rattle.wh_policy.specs.declared.policy.Years.{Years}
-use Rattle.wh_policy.specs.Attributes.{attributes_at}
+use Rattle.wh_policy.specs.Attributes.{takes_profile, is_mixed, attributes_at}
 use Rattle.wh_policy.specs.Document.{has_only}
 use Rattle.wh_policy.specs.Holidays.{holidays_at}
+use Rattle.wh_policy.specs.Types.{is_mini, is_outrigger}
 use Rattle.wh_policy.specs.Years.{years_at}
 use Rattle.wh_policy.specs.Policy.{attributes_of, top_keys, policy_in}
 use Rattle.wh_policy.specs.Written.{HasOnly, key_of, AreYears, WritesYears, IsFreeOf}
 use Rattle.wh_policy.proofs.Judged.{Judged, judged-ok, judged-bind, judged-more, judged-unless}
-use Rattle.wh_policy.proofs.AttributeLaws.{AreWritten, attributes_at-judged}
+use Rattle.wh_policy.proofs.AttributeLaws.{IsAttribute, AreWritten, attributes_at-judged}
 use Rattle.wh_policy.proofs.HolidayLaws.{HolidaysAre, holidays_at-judged}
-use Rattle.wh_policy.proofs.WrittenLemmas.{has_only-true, has_only-from, required-judged, absent}
+use Rattle.wh_policy.proofs.WrittenLemmas.{found_before, has_only-true, has_only-from, required-judged, absent}
+use Rattle.wh_policy.proofs.TypeLemmas.{mini_number, outrigger_number}
 use Rattle.wh_policy.proofs.YearLaws.{years_at-judged}
 
 -- the table writes the policy, and keeps what is asked of one
 pub record IsRead (ms : Members) (policy : Policy) : Type 0 where
   pub only : HasOnly top_keys ms
-  pub attributes : (dim : Dim) → (content : Data) × (get_member (key_of dim) ms ≡ Some content) × AreWritten content (attributes_of policy dim)
+  pub attributes : (dim : Dim) → (content : Data) × (get_member (key_of dim) ms ≡ Some content) × AreWritten dim content (attributes_of policy dim)
+  pub unmixed : is_mixed policy.customer ≡ false
   pub writes : WritesYears ms policy.years
   pub years : AreYears policy.years
   pub holidays : HolidaysAre policy.years (get_member (codes "holiday") ms) policy.holidays
@@ -38,7 +42,13 @@ each_dim P product store customer Customer = customer
 abbrev pub IsIn : Members → PolicyFault → Type 0
 IsIn ms fault = ¬ IsFreeOf fault ms
 
-dimension-judged : (ms : Members) (dim : Dim) (content : Data) → get_member (key_of dim) ms ≡ Some content → Judged (AreWritten content) (IsIn ms) (attributes_at dim content)
+-- a dimension that takes no profile isn't customer
+not_customer : (dim : Dim) → takes_profile dim ≡ false → dim ≢ Customer
+not_customer Product takes is = cc
+not_customer Store takes is = cc
+not_customer Customer takes is = cc
+
+dimension-judged : (ms : Members) (dim : Dim) (content : Data) → get_member (key_of dim) ms ≡ Some content → Judged (AreWritten dim content) (IsIn ms) (attributes_at dim content)
 dimension-judged ms dim content there = attributes_at-judged dim content
     (λ none whole. let (tables, has, some) = whole.dimensions dim in none tables (same_Some _ _ (sym there ∙ has)) some)
     (λ tables is more each. more (each dim tables (there ∙ ap Some is)))
@@ -47,9 +57,26 @@ dimension-judged ms dim content there = attributes_at-judged dim content
       missing = λ none whole. none (whole.attributes dim tables has);
       name = λ none each. none (each dim tables has);
       kind = λ none each. none (each dim tables has);
-      outside = λ none each. none (each dim tables has);
+      outside = λ takes none each. none (each dim (not_customer dim takes) tables has);
       twice = λ none each. none (each dim tables has);
     })
+
+-- types 4 and 5 in one dimension are so in the table
+mixed-judged : (ms : Members) (content : Data) (customer : List Attribute) → get_member (key_of Customer) ms ≡ Some content → AreWritten Customer content customer → is_mixed customer ≡ true → IsIn ms ProfileMixed
+mixed-judged ms content customer there written mixed free =
+    let both = and_cases mixed in
+    elim (free written.tables (there ∙ ap Some written.array)) [
+      | inl none ↦
+          let (k, a, lt, same, is) = found_before (IsAttribute Customer) (λ a. is_mini a.kind) written.tables customer ms written.each both.0 in
+          none k ms lt (is.writes.kind ∙ ap (λ n. Some (integer (pos n))) (mini_number a.kind same))
+      | inr none ↦
+          let (k, a, lt, same, is) = found_before (IsAttribute Customer) (λ a. is_outrigger a.kind) written.tables customer ms written.each both.1 in
+          none k ms lt (is.writes.kind ∙ ap (λ n. Some (integer (pos n))) (outrigger_number a.kind same))
+    ]
+  where
+    and_cases : {a b : Bool} → (a && b) ≡ true → (a ≡ true) × (b ≡ true)
+    and_cases {a = true} {b = b} h = (refl, h)
+    and_cases {a = false} {b = b} h = cc
 
 years-judged : (ms : Members) (first last : Data) → get_member (codes "first_year") ms ≡ Some first → get_member (codes "last_year") ms ≡ Some last
     → Judged (λ years. WritesYears ms years × AreYears years) (IsIn ms) (years_at first last)
@@ -78,15 +105,17 @@ policy_in-judged ms =
     judged-bind {mid = λ content. get_member (codes "product") ms ≡ Some content} _ _ (required-judged (codes "product") ms (λ none whole. absent none (whole.top 2 [] (omega arith)))) (λ product_content product_there.
     judged-bind {mid = λ content. get_member (codes "store") ms ≡ Some content} _ _ (required-judged (codes "store") ms (λ none whole. absent none (whole.top 3 [] (omega arith)))) (λ store_content store_there.
     judged-bind {mid = λ content. get_member (codes "customer") ms ≡ Some content} _ _ (required-judged (codes "customer") ms (λ none whole. absent none (whole.top 4 [] (omega arith)))) (λ customer_content customer_there.
-    judged-bind {mid = AreWritten product_content} _ _ (dimension-judged ms Product product_content product_there) (λ product product_is.
-    judged-bind {mid = AreWritten store_content} _ _ (dimension-judged ms Store store_content store_there) (λ store store_is.
-    judged-bind {mid = AreWritten customer_content} _ _ (dimension-judged ms Customer customer_content customer_there) (λ customer customer_is.
+    judged-bind {mid = AreWritten Product product_content} _ _ (dimension-judged ms Product product_content product_there) (λ product product_is.
+    judged-bind {mid = AreWritten Store store_content} _ _ (dimension-judged ms Store store_content store_there) (λ store store_is.
+    judged-bind {mid = AreWritten Customer customer_content} _ _ (dimension-judged ms Customer customer_content customer_there) (λ customer customer_is.
+    judged-unless (not (is_mixed customer)) ProfileMixed _ (λ no. mixed-judged ms customer_content customer customer_there customer_is (not-false _ no)) (λ unmixed.
     judged-bind {mid = λ years. WritesYears ms years × AreYears years} _ _ (years-judged ms first_year last_year first_there last_there) (λ years years_are.
     judged-bind {mid = HolidaysAre years (get_member (codes "holiday") ms)} _ _ (holidays-judged ms years years_are.0) (λ holidays holidays_are.
     judged-ok (record { product = product; store = store; customer = customer; years = years; holidays = holidays }) (record {
       only = has_only-true top_keys ms only;
       attributes = each_dim _ (product_content, product_there, product_is) (store_content, store_there, store_is) (customer_content, customer_there, customer_is);
+      unmixed = not-true _ unmixed;
       writes = years_are.0;
       years = years_are.1;
       holidays = holidays_are;
-    }))))))))))))
+    })))))))))))))

@@ -5,7 +5,7 @@ use Rattle.std.proofs.lemmas.Bool.{cases_Bool, eqb-true, true≢false}
 use Rattle.std.proofs.lemmas.Option.{same_Some, none-some}
 use Rattle.wh_policy.specs.declared.attribute.AttributeType.{AttributeType}
 use Rattle.wh_policy.specs.declared.attribute.AttributeType.TheVariants.{RetainOriginal, Overwrite, NewRow, NewAttribute, MiniDimension, MiniDimensionOutrigger, NewRowAndOverwrite, DualKeys}
-use Rattle.wh_policy.specs.Types.{every_type, type_number, type_of_number, is_profile}
+use Rattle.wh_policy.specs.Types.{every_type, type_number, type_of_number, is_profile, is_mini, is_outrigger}
 
 -- each type is found by its number
 pub type_of_number-again : (kind : AttributeType) → type_of_number (pos (type_number kind)) ≡ Some kind
@@ -61,3 +61,31 @@ pub other_numbers : (kind : AttributeType) → is_profile kind ≡ false → (ty
 other_numbers MiniDimension h = absurd (true≢false h)
 other_numbers MiniDimensionOutrigger h = absurd (true≢false h)
 other_numbers _ h = (λ e. omega (arith, e), λ e. omega (arith, e))
+
+pub mini_number : (kind : AttributeType) → is_mini kind ≡ true → type_number kind ≡ 4
+mini_number MiniDimension h = refl
+mini_number _ h = absurd cc
+
+pub outrigger_number : (kind : AttributeType) → is_outrigger kind ≡ true → type_number kind ≡ 5
+outrigger_number MiniDimensionOutrigger h = refl
+outrigger_number _ h = absurd cc
+
+pub not_four : (kind : AttributeType) → is_mini kind ≡ false → type_number kind ≢ 4
+not_four MiniDimension h e = cc
+not_four RetainOriginal h e = cc
+not_four Overwrite h e = cc
+not_four NewRow h e = cc
+not_four NewAttribute h e = cc
+not_four MiniDimensionOutrigger h e = cc
+not_four NewRowAndOverwrite h e = cc
+not_four DualKeys h e = cc
+
+pub not_five : (kind : AttributeType) → is_outrigger kind ≡ false → type_number kind ≢ 5
+not_five MiniDimensionOutrigger h e = cc
+not_five RetainOriginal h e = cc
+not_five Overwrite h e = cc
+not_five NewRow h e = cc
+not_five NewAttribute h e = cc
+not_five MiniDimension h e = cc
+not_five NewRowAndOverwrite h e = cc
+not_five DualKeys h e = cc

@@ -6,7 +6,7 @@ use Rattle.toml.specs.View.{items_of}
 use Rattle.wh_policy.specs.declared.attribute.Attribute.{Attribute}
 use Rattle.wh_policy.specs.declared.attribute.AttributeType.TheVariants.{RetainOriginal, Overwrite, NewRow, NewAttribute, MiniDimension, MiniDimensionOutrigger, NewRowAndOverwrite, DualKeys}
 use Rattle.wh_policy.specs.declared.attribute.Dim.TheVariants.{Product, Store, Customer}
-use Rattle.wh_policy.specs.declared.fault.PolicyFault.TheVariants.{Missing, UnknownKey, BadName, BadType, TooMany, NamedTwice, ProfileOutside, BadYears, BadHoliday}
+use Rattle.wh_policy.specs.declared.fault.PolicyFault.TheVariants.{Missing, UnknownKey, BadName, BadType, TooMany, NamedTwice, ProfileOutside, ProfileMixed, BadYears, BadHoliday}
 use Rattle.wh_policy.specs.declared.policy.Years.{Years}
 use Rattle.wh_policy.specs.Attributes.{is_name, name_at, kind_at, attributes_at}
 use Rattle.wh_policy.specs.Holidays.{day_at, title_at, holidays_at}
@@ -342,11 +342,11 @@ type_5_in_store : attributes_at Store (list (attribute (codes "brand") 5 ∷ [])
 unfolding policy_on_literals
 type_5_in_store = refl
 
-type_4_in_customer : attributes_at Customer (list (attribute (codes "brand") 4 ∷ [])) ≡ Err ProfileOutside
+type_4_in_customer : attributes_at Customer (list (attribute (codes "brand") 4 ∷ [])) ≡ Ok (record { name = codes "brand"; kind = MiniDimension } ∷ [])
 unfolding policy_on_literals
 type_4_in_customer = refl
 
-type_5_in_customer : attributes_at Customer (list (attribute (codes "brand") 5 ∷ [])) ≡ Err ProfileOutside
+type_5_in_customer : attributes_at Customer (list (attribute (codes "brand") 5 ∷ [])) ≡ Ok (record { name = codes "brand"; kind = MiniDimensionOutrigger } ∷ [])
 unfolding policy_on_literals
 type_5_in_customer = refl
 
@@ -506,9 +506,18 @@ unfolding policy_on_literals
 store_before_customer = refl
 
 -- the customer's before bad years
-customer_before_years : policy_in (member (codes "customer") (list (attribute (codes "tier") 4 ∷ [])) (member (codes "last_year") (integer (pos 2053)) small)) ≡ Err ProfileOutside
+customer_before_years : policy_in (member (codes "customer") (list (attribute (codes "tier") 8 ∷ [])) (member (codes "last_year") (integer (pos 2053)) small)) ≡ Err BadType
 unfolding policy_on_literals
 customer_before_years = refl
+
+-- types 4 and 5 side by side before bad years, but behind a name twice
+mixed_before_years : policy_in (member (codes "customer") (list (attribute (codes "age_band") 4 ∷ attribute (codes "spend_band") 5 ∷ [])) (member (codes "last_year") (integer (pos 2053)) small)) ≡ Err ProfileMixed
+unfolding policy_on_literals
+mixed_before_years = refl
+
+named_twice_before_mixed : policy_in (member (codes "customer") (list (attribute (codes "age_band") 5 ∷ attribute (codes "age_band") 4 ∷ [])) small) ≡ Err NamedTwice
+unfolding policy_on_literals
+named_twice_before_mixed = refl
 
 -- bad years before bad holidays
 years_before_holidays : policy_in (member (codes "holiday") (integer (pos 1)) (member (codes "last_year") (integer (pos 2053)) small)) ≡ Err BadYears

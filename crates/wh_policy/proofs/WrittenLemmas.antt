@@ -208,7 +208,7 @@ AllPairs-first R x xs h k d lt = h 0 (suc k) d (omega arith) (omega arith)
 pub AllPairs-rest : {X : Type 0} (R : X → X → Type 0) (x : X) (xs : List X) → AllPairs R (x ∷ xs) → AllPairs R xs
 AllPairs-rest R x xs h i j d below within = h (suc i) (suc j) d (omega arith) (omega arith)
 
-zip-with_first : {A B : Type 0} (R : A → B → Type 0) (P : A → Type 0) (S : B → Type 0) → ((u : A) (v : B) → R u v → S v → P u) → (xs : List A) (ys : List B) → AllZip R xs ys → All S ys → All P xs
+pub zip-with_first : {A B : Type 0} (R : A → B → Type 0) (P : A → Type 0) (S : B → Type 0) → ((u : A) (v : B) → R u v → S v → P u) → (xs : List A) (ys : List B) → AllZip R xs ys → All S ys → All P xs
 zip-with_first R P S f [] ys h all = All-nil P
 zip-with_first R P S f (x ∷ xs) [] h all = absurd h
 zip-with_first R P S f (x ∷ xs) (y ∷ ys) h all = All-cons P x xs (f x y h.0 (all 0 y (omega arith))) (zip-with_first R P S f xs ys h.1 (λ k d lt. all (suc k) d (omega arith)))

@@ -1,5 +1,5 @@
 -- The attributes of a dimension, as a policy file writes them.
-use Rattle.std.specs.Prelude.{ℕ, Bool, false, ◌&&◌, ◌||◌, not, ◌==◌, nat_le, nat_lt, codes, List, [], ◌∷◌, length, Option, Some, None, Result, Ok, Err, option_and_then}
+use Rattle.std.specs.Prelude.{ℕ, Bool, true, false, ◌&&◌, ◌||◌, not, ◌==◌, nat_le, nat_lt, codes, List, [], ◌∷◌, length, Option, Some, None, Result, Ok, Err, option_and_then}
 use Rattle.std.specs.List.{list_any, list_all}
 use Rattle.std.specs.Char.{is_ascii_lowercase, is_ascii_digit}
 use Rattle.std.specs.Str.{bytes_eq}
@@ -12,7 +12,7 @@ use Rattle.wh_policy.specs.declared.attribute.AttributeType.{AttributeType}
 use Rattle.wh_policy.specs.declared.attribute.Dim.{Dim}
 use Rattle.wh_policy.specs.declared.attribute.Dim.TheVariants.{Product, Store, Customer}
 use Rattle.wh_policy.specs.Document.{or_fault, unless_fault, has_only, required, tables_at, each_after}
-use Rattle.wh_policy.specs.Types.{is_profile, type_of_number}
+use Rattle.wh_policy.specs.Types.{is_profile, is_mini, is_outrigger, type_of_number}
 
 -- a lower-case letter, a digit or '_'
 abbrev pub is_name_byte : ℕ → Bool
@@ -40,11 +40,15 @@ name_at content = found_name (as_str content)
 unfoldable pub kind_at : Data → Result AttributeType PolicyFault
 kind_at content = or_fault BadType (option_and_then type_of_number (as_integer content))
 
--- which dimensions take attributes of the profile, of types 4 and 5: none so far
+-- which dimensions take attributes of the profile, of types 4 and 5: only customer
 abbrev pub takes_profile : Dim → Bool
 takes_profile Product = false
 takes_profile Store = false
-takes_profile Customer = false
+takes_profile Customer = true
+
+-- whether attributes of types 4 and 5 stand side by side
+abbrev pub is_mixed : List Attribute → Bool
+is_mixed attributes = list_any (λ a. is_mini a.kind) attributes && list_any (λ a. is_outrigger a.kind) attributes
 
 -- the keys of an attribute's table
 abbrev pub attribute_keys : List (List ℕ)

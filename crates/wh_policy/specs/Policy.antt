@@ -1,8 +1,8 @@
 -- The policy of a warehouse.
-use Rattle.std.specs.Prelude.{ℕ, List, [], ◌∷◌, codes, Result, Ok}
+use Rattle.std.specs.Prelude.{ℕ, not, List, [], ◌∷◌, codes, Result, Ok}
 use Rattle.toml.specs.Data.{Members, get_member}
 use Rattle.wh_day.specs.Reading.{◌>>=◌}
-use Rattle.wh_policy.specs.Attributes.{attributes_at}
+use Rattle.wh_policy.specs.Attributes.{is_mixed, attributes_at}
 use Rattle.wh_policy.specs.Document.{unless_fault, document_at, has_only, required}
 use Rattle.wh_policy.specs.Holidays.{holidays_at}
 use Rattle.wh_policy.specs.Types.{kinds_of}
@@ -13,7 +13,7 @@ use Rattle.wh_policy.specs.declared.attribute.AttributeType.TheVariants.{Overwri
 use Rattle.wh_policy.specs.declared.attribute.Dim.{Dim}
 use Rattle.wh_policy.specs.declared.attribute.Dim.TheVariants.{Product, Store, Customer}
 use Rattle.wh_policy.specs.declared.fault.PolicyFault.{PolicyFault}
-use Rattle.wh_policy.specs.declared.fault.PolicyFault.TheVariants.{UnknownKey}
+use Rattle.wh_policy.specs.declared.fault.PolicyFault.TheVariants.{UnknownKey, ProfileMixed}
 use Rattle.wh_policy.specs.declared.policy.Policy.{Policy}
 
 -- the attributes of a dimension, by slot
@@ -55,9 +55,10 @@ policy_in members = unless_fault (has_only top_keys members) UnknownKey (do
   product ← attributes_at Product product_content
   store ← attributes_at Store store_content
   customer ← attributes_at Customer customer_content
-  years ← years_at first_year last_year
-  holidays ← holidays_at years (get_member (codes "holiday") members)
-  Ok (record { product = product; store = store; customer = customer; years = years; holidays = holidays }))
+  unless_fault (not (is_mixed customer)) ProfileMixed (do
+    years ← years_at first_year last_year
+    holidays ← holidays_at years (get_member (codes "holiday") members)
+    Ok (record { product = product; store = store; customer = customer; years = years; holidays = holidays })))
 
 -- the policy that the bytes write, or the first fault
 unfoldable pub policy_at : List ℕ → Result Policy PolicyFault

@@ -47,6 +47,17 @@ is_profile MiniDimensionOutrigger = true
 is_profile NewRowAndOverwrite = false
 is_profile DualKeys = false
 
+-- whether it is one whose number rows don't show: type 4
+abbrev pub is_mini : AttributeType → Bool
+is_mini RetainOriginal = false
+is_mini Overwrite = false
+is_mini NewRow = false
+is_mini NewAttribute = false
+is_mini MiniDimension = true
+is_mini MiniDimensionOutrigger = false
+is_mini NewRowAndOverwrite = false
+is_mini DualKeys = false
+
 -- whether rows show the profile's number: type 5
 abbrev pub is_outrigger : AttributeType → Bool
 is_outrigger RetainOriginal = false

@@ -1,5 +1,5 @@
 -- What a policy file has to keep, said for each fault by itself, and what it writes. No order of checks stands here.
-use Rattle.std.specs.Prelude.{◌≡◌, ◌≢◌, ℕ, ◌+◌, ◌<◌, ◌≤◌, IsTrue, ⊤, pos, codes, List, [], ◌∷◌, length, map, Option, Some, None, IsSome, IfSome, All, AllPairs, Contains}
+use Rattle.std.specs.Prelude.{◌≡◌, ◌≢◌, ◌⊎◌, false, ℕ, ◌+◌, ◌<◌, ◌≤◌, IsTrue, ⊤, pos, codes, List, [], ◌∷◌, length, map, Option, Some, None, IsSome, IfSome, All, AllPairs, Contains}
 use Rattle.std.specs.List.{AllZip}
 use Rattle.std.specs.Str.{IsUtf8}
 use Rattle.toml.specs.Data.{Data, string, integer, array, table, Members, get_member}
@@ -16,7 +16,7 @@ use Rattle.wh_policy.specs.declared.fault.PolicyFault.{PolicyFault}
 use Rattle.wh_policy.specs.declared.fault.PolicyFault.TheVariants.{NotToml, Missing, UnknownKey, BadName, BadType, TooMany, NamedTwice, ProfileOutside, ProfileMixed, BadYears, BadHoliday}
 use Rattle.wh_policy.specs.declared.policy.Policy.{Policy}
 use Rattle.wh_policy.specs.declared.policy.Years.{Years}
-use Rattle.wh_policy.specs.Attributes.{attribute_keys, is_name}
+use Rattle.wh_policy.specs.Attributes.{attribute_keys, is_name, is_mixed}
 use Rattle.wh_policy.specs.Holidays.{holiday_keys}
 use Rattle.wh_policy.specs.Policy.{attributes_of, top_keys}
 use Rattle.wh_policy.specs.Types.{is_profile, type_number}
@@ -115,6 +115,10 @@ DifferAt key t u = (text : List ℕ) → get_member key t ≡ Some (string text)
 abbrev pub IsOutsideProfile : Members → Type 0
 IsOutsideProfile t = (n : ℕ) → get_member (codes "type") t ≡ Some (integer (pos n)) → (n ≢ 4) × (n ≢ 5)
 
+-- the type isn't this number
+abbrev pub IsNotOfType : ℕ → Members → Type 0
+IsNotOfType n t = get_member (codes "type") t ≢ Some (integer (pos n))
+
 -- the years that the table writes
 pub record WritesYears (members : Members) (years : Years) : Type 0 where
   pub first : get_member (codes "first_year") members ≡ Some (integer (pos years.first))
@@ -143,8 +147,8 @@ IsFreeOf BadName members = EachAttribute (At (codes "name") IsNameData) members
 IsFreeOf BadType members = EachAttribute (At (codes "type") IsTypeData) members
 IsFreeOf TooMany members = EachDimension (λ tables. length tables ≤ 6) members
 IsFreeOf NamedTwice members = EachDimension (AllPairs (DifferAt (codes "name"))) members
-IsFreeOf ProfileOutside members = EachAttribute IsOutsideProfile members
-IsFreeOf ProfileMixed _ = ⊤
+IsFreeOf ProfileOutside members = (dim : Dim) → dim ≢ Customer → (tables : List Members) → HasTables (key_of dim) members tables → All IsOutsideProfile tables
+IsFreeOf ProfileMixed members = (tables : List Members) → HasTables (key_of Customer) members tables → All (IsNotOfType 4) tables ⊎ All (IsNotOfType 5) tables
 IsFreeOf BadYears members = (years : Years) × WritesYears members years × AreYears years
 IsFreeOf BadHoliday members = HolidaysAreGood members
 
@@ -169,17 +173,18 @@ pub record Writes (members : Members) (policy : Policy) : Type 0 where
   pub years : WritesYears members policy.years
   pub holidays : WritesHolidays (get_member (codes "holiday") members) policy.holidays
 
--- one to six attributes, each with a name of its own and none of the profile
+-- one to six attributes, each with a name of its own
 pub record AreAttributes (attributes : List Attribute) : Type 0 where
   pub some : 1 ≤ length attributes
   pub few : length attributes ≤ 6
   pub names : All (λ a. IsTrue (is_name a.name)) attributes
   pub once : AllPairs (λ a b. a.name ≢ b.name) attributes
-  pub outside : All (λ a. ¬ IsTrue (is_profile a.kind)) attributes
 
 -- what the crates above may count on
 pub record IsSound (policy : Policy) : Type 0 where
   pub attributes : (dim : Dim) → AreAttributes (attributes_of policy dim)
+  pub outside : (dim : Dim) → dim ≢ Customer → All (λ a. ¬ IsTrue (is_profile a.kind)) (attributes_of policy dim)
+  pub unmixed : is_mixed policy.customer ≡ false
   pub years : AreYears policy.years
   pub holidays : All (λ holiday. IsTrue (is_day holiday.day) × IsWithin policy.years holiday.day) policy.holidays
   pub once : HaveDistinctDays policy.holidays

@@ -1,7 +1,7 @@
 //! Dimensions, their attributes and the types of slowly changing attributes.
 
 ghost use Rattle.std.specs.Prelude.{◌≡◌, ◌++◌, ◌∷◌, [], map, IfOk, OnOk, OnErr};
-ghost use Rattle.wh_policy.specs.Types.{is_tracked, is_profile, is_outrigger, type_number, type_of_number, kinds_of};
+ghost use Rattle.wh_policy.specs.Types.{is_tracked, is_profile, is_mini, is_outrigger, type_number, type_of_number, kinds_of};
 
 use std::alloc::{AllocError, Global};
 use std::marker::Model;
@@ -90,6 +90,13 @@ impl AttributeType {
             AttributeType::MiniDimension | AttributeType::MiniDimensionOutrigger => true,
             _ => false,
         }
+    }
+
+    /// Whether the attribute is of type 4.
+    pub fn is_mini(self) -> bool
+        ensures { result ≡ is_mini self }
+    {
+        matches!(self, AttributeType::MiniDimension)
     }
 
     /// Whether the rows of the dimension name the newest profile for it: type 5.

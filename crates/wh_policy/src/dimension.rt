@@ -5,7 +5,8 @@ ghost use Rattle.std.specs.List.{list_any, list_all};
 ghost use Rattle.wh_day.specs.Reading.{Gives};
 ghost use Rattle.toml.specs.View.{view, table_view};
 ghost use Rattle.wh_policy.specs.Document.{each_after};
-ghost use Rattle.wh_policy.specs.Attributes.{is_name_byte, is_word, is_name, name_at, kind_at, takes_profile, is_named, attribute_at, attributes_at};
+ghost use Rattle.wh_policy.specs.Types.{is_mini, is_outrigger};
+ghost use Rattle.wh_policy.specs.Attributes.{is_name_byte, is_word, is_name, name_at, kind_at, takes_profile, is_mixed, is_named, attribute_at, attributes_at};
 
 use crate::attribute::{Attribute, AttributeType, Attributes, Dim};
 use crate::document::{has_only, required, tables};
@@ -66,13 +67,35 @@ fn kind_of(value: &TomlValue) -> Result<AttributeType, ReadError<PolicyFault>>
     }
 }
 
-// Whether a dimension takes attributes of the profile, of types 4 and 5. None does so far.
+// Whether a dimension takes attributes of the profile, of types 4 and 5. Only customer does.
 fn takes_profile(dim: Dim) -> bool
     ensures { result ≡ takes_profile dim }
 {
     match dim {
-        Dim::Product | Dim::Store | Dim::Customer => false,
+        Dim::Product | Dim::Store => false,
+        Dim::Customer => true,
     }
+}
+
+/// Whether attributes of types 4 and 5 stand side by side.
+pub(crate) fn is_mixed(attributes: &[Attribute]) -> bool
+    ensures { result ≡ is_mixed attributes.now }
+{
+    has_mini(attributes) && has_outrigger(attributes)
+}
+
+fn has_mini(attributes: &[Attribute]) -> bool
+    ensures { result ≡ list_any (λ a. is_mini a.kind) attributes.now }
+{
+    attributes.iter().any(|attribute| attribute.kind.is_mini())
+}
+
+fn has_outrigger(attributes: &[Attribute]) -> bool
+    ensures { result ≡ list_any (λ a. is_outrigger a.kind) attributes.now }
+{
+    attributes
+        .iter()
+        .any(|attribute| attribute.kind.is_outrigger())
 }
 
 fn has_name(attributes: &[Attribute], name: &str) -> bool

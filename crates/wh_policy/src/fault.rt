@@ -18,10 +18,9 @@ pub enum PolicyFault {
     TooMany,
     /// Two attributes of a dimension have one name.
     NamedTwice,
-    /// An attribute of type 4 or 5 stands in a dimension without a profile.
+    /// An attribute of type 4 or 5 stands in a dimension without a profile: product or store.
     ProfileOutside,
-    /// Attributes of types 4 and 5 stand side by side. This can't come yet, since no dimension has a profile so far: each
-    /// attribute of type 4 or 5 is `ProfileOutside`.
+    /// Customer has attributes of types 4 and 5 side by side.
     ProfileMixed,
     /// The years aren't integers from 1900 to 2199, the first not after the last, and at most 30 of them.
     BadYears,

@@ -82,6 +82,9 @@ impl Policy {
         let product = dimension::attributes_of(alloc, Dim::Product, product)?;
         let store = dimension::attributes_of(alloc, Dim::Store, store)?;
         let customer = dimension::attributes_of(alloc, Dim::Customer, customer)?;
+        if dimension::is_mixed(customer.as_slice()) {
+            return Err(ReadError::Fault(PolicyFault::ProfileMixed));
+        }
         let years = years_of(first_year, last_year)?;
         let holidays = holidays_of(alloc, years, optional(table, "holiday"))?;
         Ok(Policy {

@@ -1,13 +1,13 @@
 -- The statements on fact.
 use Rattle.std.proofs.Common.{ℕ, List, [], ◌∷◌, codes, map, pos, true, false, ◌&&◌, refl, sym, ap₂, ◌∙◌}
-use Rattle.std.specs.Ordering.{is_gt, eq_by_cmp, nat_cmp, ordering_then}
+use Rattle.std.specs.Ordering.{is_gt, is_ge, eq_by_cmp, nat_cmp, ordering_then}
 use Rattle.std.specs.Cmp.Lexicographic.{slice_cmp}
 use Rattle.sqlite_value.specs.declared.value.Value.TheVariants.{Null, Int, Text}
 use Rattle.sqlite_value.specs.declared.keys.Key.{Key}
 use Rattle.sqlite_value.specs.Keys.{first_key, ascending}
 use Rattle.sqlite_value.proofs.OrderLemmas.{then-Equal, value_cmp-Text}
 use Rattle.sqlite_sql.specs.declared.ops.BinaryOp.TheVariants.{Compare}
-use Rattle.sqlite_sql.specs.declared.ops.CompareOp.TheVariants.{Eq, Gt}
+use Rattle.sqlite_sql.specs.declared.ops.CompareOp.TheVariants.{Eq, Gt, Ge}
 use Rattle.sqlite_sql.specs.declared.ops.UnaryOp.TheVariants.{ToNumeric}
 use Rattle.sqlite_sql.specs.Ops.{unary}
 use Rattle.sqlite_schema.specs.Rules.{equal}
@@ -22,7 +22,7 @@ use Rattle.wh_rows.specs.Rows as row
 use Rattle.wh_rows.specs.Meaning.{any, PutsOne, RemovesOne, ReadsSome, CountsAll}
 use Rattle.wh_rows.specs.Firsts.{ReadsFirst}
 use Rattle.wh_rows.proofs.Cast.{cast_row_own}
-use Rattle.wh_rows.proofs.Keys.{and-true, trimmed_pair, free_rowid, equal-Nat, equal-Text, sorted-Nat, greater, greater-Nat, greater-Text, then_eq}
+use Rattle.wh_rows.proofs.Keys.{and-true, trimmed_pair, free_rowid, equal-Nat, equal-Text, sorted-Nat, greater, greater-Nat, at_least, at_least-Nat, greater-Text, then_eq}
 
 -- ---- put
 
@@ -122,67 +122,67 @@ get k = record {
   in_order = λ v w. ap₂ ordering_then (value_cmp-Text v.ticket w.ticket) (then-Equal _ ∙ sorted-Nat v.line w.line);
 }
 
--- the facts of a store
-abbrev pub of_store_text : List ℕ
-of_store_text = codes "SELECT * FROM fact WHERE store_durable = ?1 ORDER BY ticket, line"
+-- the facts of a store since a day
+abbrev pub of_store_since_text : List ℕ
+of_store_since_text = codes "SELECT * FROM fact WHERE store_durable = ?1 AND day >= ?2 ORDER BY ticket, line"
 
-pub of_store : (durable : ℕ) → ReadsSome row.fact (Int (pos durable) ∷ []) (λ r. eq_by_cmp nat_cmp durable r.store_durable) of_store_text
+pub of_store_since : (durable from : ℕ) → ReadsSome row.fact (Int (pos durable) ∷ Int (pos from) ∷ []) (λ r. eq_by_cmp nat_cmp durable r.store_durable && is_ge (nat_cmp r.day from)) of_store_since_text
 unfolding understood everything unary
-of_store durable = record {
-  tests = op2 (Compare Eq Binary) (col 1 7) (op1 ToNumeric (col 0 0)) ∷ [];
+of_store_since durable from = record {
+  tests = op2 (Compare Eq Binary) (col 1 7) (op1 ToNumeric (col 0 0)) ∷ op2 (Compare Ge Binary) (col 1 3) (op1 ToNumeric (col 0 1)) ∷ [];
   project = shown;
   order = by_key;
   names = map (λ c. c.name) row.fact.table.columns;
   command = refl;
   plain = (refl, refl);
   unlisted = refl;
-  test = λ r. equal Binary (column r 6) (Int (pos durable)) && true;
+  test = λ r. equal Binary (column r 6) (Int (pos durable)) && (at_least (column r 2) (Int (pos from)) && true);
   hits = λ r. refl;
-  agree = λ w. and-true _ ∙ equal-Nat w.store_durable durable;
+  agree = λ w. ap₂ ◌&&◌ (equal-Nat w.store_durable durable) (and-true _ ∙ at_least-Nat w.day from);
   sorted_by = λ r. column r 0 ∷ column r 1 ∷ [];
   shows = λ r. refl;
   in_order = λ v w. ap₂ ordering_then (value_cmp-Text v.ticket w.ticket) (then-Equal _ ∙ sorted-Nat v.line w.line);
 }
 
--- the facts of a product
-abbrev pub of_product_text : List ℕ
-of_product_text = codes "SELECT * FROM fact WHERE product_durable = ?1 ORDER BY ticket, line"
+-- the facts of a product since a day
+abbrev pub of_product_since_text : List ℕ
+of_product_since_text = codes "SELECT * FROM fact WHERE product_durable = ?1 AND day >= ?2 ORDER BY ticket, line"
 
-pub of_product : (durable : ℕ) → ReadsSome row.fact (Int (pos durable) ∷ []) (λ r. eq_by_cmp nat_cmp durable r.product_durable) of_product_text
+pub of_product_since : (durable from : ℕ) → ReadsSome row.fact (Int (pos durable) ∷ Int (pos from) ∷ []) (λ r. eq_by_cmp nat_cmp durable r.product_durable && is_ge (nat_cmp r.day from)) of_product_since_text
 unfolding understood everything unary
-of_product durable = record {
-  tests = op2 (Compare Eq Binary) (col 1 8) (op1 ToNumeric (col 0 0)) ∷ [];
+of_product_since durable from = record {
+  tests = op2 (Compare Eq Binary) (col 1 8) (op1 ToNumeric (col 0 0)) ∷ op2 (Compare Ge Binary) (col 1 3) (op1 ToNumeric (col 0 1)) ∷ [];
   project = shown;
   order = by_key;
   names = map (λ c. c.name) row.fact.table.columns;
   command = refl;
   plain = (refl, refl);
   unlisted = refl;
-  test = λ r. equal Binary (column r 7) (Int (pos durable)) && true;
+  test = λ r. equal Binary (column r 7) (Int (pos durable)) && (at_least (column r 2) (Int (pos from)) && true);
   hits = λ r. refl;
-  agree = λ w. and-true _ ∙ equal-Nat w.product_durable durable;
+  agree = λ w. ap₂ ◌&&◌ (equal-Nat w.product_durable durable) (and-true _ ∙ at_least-Nat w.day from);
   sorted_by = λ r. column r 0 ∷ column r 1 ∷ [];
   shows = λ r. refl;
   in_order = λ v w. ap₂ ordering_then (value_cmp-Text v.ticket w.ticket) (then-Equal _ ∙ sorted-Nat v.line w.line);
 }
 
--- the facts of a customer
-abbrev pub of_customer_text : List ℕ
-of_customer_text = codes "SELECT * FROM fact WHERE customer_durable = ?1 ORDER BY ticket, line"
+-- the facts of a customer since a day
+abbrev pub of_customer_since_text : List ℕ
+of_customer_since_text = codes "SELECT * FROM fact WHERE customer_durable = ?1 AND day >= ?2 ORDER BY ticket, line"
 
-pub of_customer : (durable : ℕ) → ReadsSome row.fact (Int (pos durable) ∷ []) (λ r. eq_by_cmp nat_cmp durable r.customer_durable) of_customer_text
+pub of_customer_since : (durable from : ℕ) → ReadsSome row.fact (Int (pos durable) ∷ Int (pos from) ∷ []) (λ r. eq_by_cmp nat_cmp durable r.customer_durable && is_ge (nat_cmp r.day from)) of_customer_since_text
 unfolding understood everything unary
-of_customer durable = record {
-  tests = op2 (Compare Eq Binary) (col 1 9) (op1 ToNumeric (col 0 0)) ∷ [];
+of_customer_since durable from = record {
+  tests = op2 (Compare Eq Binary) (col 1 9) (op1 ToNumeric (col 0 0)) ∷ op2 (Compare Ge Binary) (col 1 3) (op1 ToNumeric (col 0 1)) ∷ [];
   project = shown;
   order = by_key;
   names = map (λ c. c.name) row.fact.table.columns;
   command = refl;
   plain = (refl, refl);
   unlisted = refl;
-  test = λ r. equal Binary (column r 8) (Int (pos durable)) && true;
+  test = λ r. equal Binary (column r 8) (Int (pos durable)) && (at_least (column r 2) (Int (pos from)) && true);
   hits = λ r. refl;
-  agree = λ w. and-true _ ∙ equal-Nat w.customer_durable durable;
+  agree = λ w. ap₂ ◌&&◌ (equal-Nat w.customer_durable durable) (and-true _ ∙ at_least-Nat w.day from);
   sorted_by = λ r. column r 0 ∷ column r 1 ∷ [];
   shows = λ r. refl;
   in_order = λ v w. ap₂ ordering_then (value_cmp-Text v.ticket w.ticket) (then-Equal _ ∙ sorted-Nat v.line w.line);

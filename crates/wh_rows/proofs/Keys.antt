@@ -1,7 +1,7 @@
 -- Keys as SQL compares them.
 use Rattle.std.proofs.Common.{arith, ◌≡◌, inl, inr, ℕ, ℤ, pos, List, [], ◌∷◌, Bool, true, false, Some, ◌&&◌, ◌||◌, refl, sym, ap, ◌∙◌, Ordering, Less, Equal, Greater}
 use Rattle.std.specs.Prelude.{unwrap_or, ◌<◌, ◌<ℤ◌}
-use Rattle.std.specs.Ordering.{is_eq, is_gt, eq_by_cmp, int_cmp, nat_cmp, MatchOrdering}
+use Rattle.std.specs.Ordering.{is_eq, is_gt, is_ge, eq_by_cmp, int_cmp, nat_cmp, MatchOrdering}
 use Rattle.std.specs.Cmp.{eq_by_cmp_equiv, ranks, int_cmp_is}
 use Rattle.std.specs.Cmp.Lexicographic.{slice_cmp, nat_list_cmp_total}
 use Rattle.std.proofs.lemmas.Cmp.{int_cmp_total}
@@ -23,7 +23,7 @@ use Rattle.sqlite_rules.proofs.PlaceLemmas.{next_is_free}
 use Rattle.wh_rows.specs.Holds.{IsRising}
 use Rattle.sqlite_sql.specs.Ops.{binary, truth, from_truth, is_true}
 use Rattle.sqlite_sql.specs.declared.ops.BinaryOp.TheVariants.{Compare}
-use Rattle.sqlite_sql.specs.declared.ops.CompareOp.TheVariants.{Gt}
+use Rattle.sqlite_sql.specs.declared.ops.CompareOp.TheVariants.{Gt, Ge}
 use Rattle.sqlite_value.specs.declared.value.Value.{Value}
 use Rattle.sqlite_schema.specs.Rules.{equal}
 
@@ -70,6 +70,14 @@ greater-Nat a b = truth_is (is_gt (value_cmp (Int (pos a)) (Int (pos b)))) ∙ a
 pub greater-Text : (s t : List ℕ) → greater (Text s) (Text t) ≡ is_gt (slice_cmp nat_cmp s t)
 unfolding binary
 greater-Text s t = truth_is (is_gt (value_cmp (Text s) (Text t))) ∙ ap is_gt (value_cmp-Text s t)
+
+-- whether SQL's >= is true of two values
+abbrev pub at_least : Value → Value → Bool
+at_least a b = is_true (binary (Compare Ge Binary) a b)
+
+pub at_least-Nat : (a b : ℕ) → at_least (Int (pos a)) (Int (pos b)) ≡ is_ge (nat_cmp a b)
+unfolding binary
+at_least-Nat a b = truth_is (is_ge (value_cmp (Int (pos a)) (Int (pos b)))) ∙ ap is_ge (sorted-Nat a b)
 
 -- ---- a rowid that is chosen meets no other
 

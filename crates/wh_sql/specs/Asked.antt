@@ -1,6 +1,6 @@
 -- What questions ask for.
 use Rattle.std.specs.Prelude.{ℕ, List, [], ◌∷◌, pos, Bool, ◌&&◌, slice_index_or}
-use Rattle.std.specs.Ordering.{eq_by_cmp, nat_cmp}
+use Rattle.std.specs.Ordering.{eq_by_cmp, is_ge, nat_cmp}
 use Rattle.std.specs.Cmp.Lexicographic.{slice_cmp}
 use Rattle.sqlite_value.specs.declared.value.Value.TheVariants.{Int}
 use Rattle.wh_policy.specs.declared.attribute.Dim.{Dim}
@@ -26,14 +26,14 @@ durable_of Product fact = fact.product_durable
 durable_of Store fact = fact.store_durable
 durable_of Customer fact = fact.customer_durable
 
--- the text that asks for the facts of a member of this dimension
+-- the text that asks for the facts of a member of this dimension since a day
 abbrev pub sales_text : Dim → List ℕ
-sales_text Product = facts.of_product_text
-sales_text Store = facts.of_store_text
-sales_text Customer = facts.of_customer_text
+sales_text Product = facts.of_product_since_text
+sales_text Store = facts.of_store_since_text
+sales_text Customer = facts.of_customer_since_text
 
 -- what it means
-pub sales_read : (dim : Dim) (durable : ℕ) → ReadsSome row.fact (Int (pos durable) ∷ []) (λ fact. eq_by_cmp nat_cmp durable (durable_of dim fact)) (sales_text dim)
-sales_read Product durable = facts.of_product durable
-sales_read Store durable = facts.of_store durable
-sales_read Customer durable = facts.of_customer durable
+pub sales_read : (dim : Dim) (durable from : ℕ) → ReadsSome row.fact (Int (pos durable) ∷ Int (pos from) ∷ []) (λ fact. eq_by_cmp nat_cmp durable (durable_of dim fact) && is_ge (nat_cmp fact.day from)) (sales_text dim)
+sales_read Product durable from = facts.of_product_since durable from
+sales_read Store durable from = facts.of_store_since durable from
+sales_read Customer durable from = facts.of_customer_since durable from

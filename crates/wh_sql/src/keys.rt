@@ -54,6 +54,20 @@ pub(crate) fn dim_and_number(
     Ok(values)
 }
 
+/// A number and a day.
+pub(crate) fn number_and_day(
+    alloc: Global,
+    number: u64,
+    day: Day,
+) -> Result<Vec<ValueRef<'static>>, Cause>
+    ensures ok { IfOk result (λ values. bound values.items ≡ Int (pos number) ∷ Int (pos day) ∷ []) }
+    ensures err { IfErr result (λ cause. cause ≢ Memory → (cause ≡ Size) × (is_number number ≡ false)) }
+{
+    let number = bound::number(number)?;
+    let values = Vec::from_array(alloc, [number, bound::day(day)])?;
+    Ok(values)
+}
+
 /// A dimension and a text.
 pub(crate) fn dim_and_text<'a>(
     alloc: Global,

@@ -18,7 +18,7 @@ pub use greatest::{Greatest, GreatestOf, greatest_anchor};
 pub use keeps::Keeps;
 pub use making::{create, has_tables, has_taken_name};
 pub use question::{Question, ask};
-pub use questions::{CommandOf, MemberOf, ProfileOf, RecordsOf, RecordsOn, RowsOf, SalesOf};
+pub use questions::{CommandOf, MemberOf, ProfileOf, RecordsOf, RecordsOn, RowsOf, SalesSince};
 pub use read::{all, count, get};
 pub use refusal::Refusal;
 pub use write::{put, remove};

@@ -1,11 +1,11 @@
 //! The questions that are asked of the tables.
 
 use crate::dimension::Dimension;
-use crate::keys::{dim_and_number, dim_and_text, number_key, text_key};
+use crate::keys::{dim_and_number, dim_and_text, number_and_day, number_key, text_key};
 use crate::question::Question;
 use sqlite::types::ValueRef;
 use std::alloc::Global;
-use wh_day::{Value, Values};
+use wh_day::{Day, Value, Values};
 use wh_policy::Dim;
 use wh_rows::{Cause, bound, tables};
 
@@ -181,25 +181,26 @@ impl<'q> Question<tables::Member> for MemberOf<'q> {
     ghost reads = { λ q. of_natural q.dim q.natural.now };
 }
 
-/// The facts of one member of a dimension, in the order of their keys.
+/// The facts of one member of a dimension since a day, in the order of their keys.
 #[derive(Clone, Copy, Debug, PartialEq, Eq)]
-pub struct SalesOf {
+pub struct SalesSince {
     pub dim: Dim,
     pub durable: u64,
+    pub from: Day,
 }
 
-impl Question<tables::Fact> for SalesOf {
-    ghost use Rattle.std.specs.Prelude.{◌≡◌, true, [], ◌∷◌, pos, None};
-    ghost use Rattle.std.specs.Ordering.{eq_by_cmp, nat_cmp};
+impl Question<tables::Fact> for SalesSince {
+    ghost use Rattle.std.specs.Prelude.{◌≡◌, true, [], ◌∷◌, pos, None, ◌&&◌};
+    ghost use Rattle.std.specs.Ordering.{eq_by_cmp, is_ge, nat_cmp};
     ghost use Rattle.sqlite_value.specs.declared.value.Value.TheVariants.{Int};
     ghost use Rattle.wh_rows.specs.Types.{is_number};
     ghost use Rattle.wh_sql.specs.Asked.{durable_of, sales_text, sales_read};
 
-    ghost keep = { λ q r. eq_by_cmp nat_cmp q.durable (durable_of q.dim r) };
+    ghost keep = { λ q r. eq_by_cmp nat_cmp q.durable (durable_of q.dim r) && is_ge (nat_cmp r.day q.from) };
 
     ghost front = { None };
 
-    ghost bind = { λ q. Int (pos q.durable) ∷ [] };
+    ghost bind = { λ q. Int (pos q.durable) ∷ Int (pos q.from) ∷ [] };
 
     ghost can_be_asked = { λ q. is_number q.durable ≡ true };
 
@@ -207,17 +208,23 @@ impl Question<tables::Fact> for SalesOf {
 
     fn text(&self) -> &'static str {
         match self.dim {
-            Dim::Product => "SELECT * FROM fact WHERE product_durable = ?1 ORDER BY ticket, line",
-            Dim::Store => "SELECT * FROM fact WHERE store_durable = ?1 ORDER BY ticket, line",
-            Dim::Customer => "SELECT * FROM fact WHERE customer_durable = ?1 ORDER BY ticket, line",
+            Dim::Product => {
+                "SELECT * FROM fact WHERE product_durable = ?1 AND day >= ?2 ORDER BY ticket, line"
+            }
+            Dim::Store => {
+                "SELECT * FROM fact WHERE store_durable = ?1 AND day >= ?2 ORDER BY ticket, line"
+            }
+            Dim::Customer => {
+                "SELECT * FROM fact WHERE customer_durable = ?1 AND day >= ?2 ORDER BY ticket, line"
+            }
         }
     }
 
     fn values<'a>(&'a self, alloc: Global) -> Result<Vec<ValueRef<'a>>, Cause> {
-        number_key(alloc, &self.durable)
+        number_and_day(alloc, self.durable, self.from)
     }
 
-    ghost reads = { λ q. sales_read q.dim q.durable };
+    ghost reads = { λ q. sales_read q.dim q.durable q.from };
 }
 
 /// The profile of a combination of values.

@@ -130,8 +130,6 @@ fn failures(rt: HostRuntime) -> Result<(), Fail> {
     )?;
     expect_fault(&rt, alloc, Fault::Reopen, "failed: E10 reopen\n")?;
     assert!(rt; answer_of_load(alloc, "p1", Err(Fault::Memory)).is_err());
-    let answer = answer_of_load(alloc, "s1", Err(Fault::Sales))?;
-    assert_eq!(rt; answer.code(), 4);
     Ok(())
 }
 

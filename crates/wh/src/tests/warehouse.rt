@@ -26,8 +26,20 @@ const BERN: &[u8] = b"id,day,city\nS1,2024-01-01,Bern\nS2,2024-01-01,Chur\n";
 
 const GOLD: &[u8] = b"id,day,tier\nC9,2024-06-08,Gold\n";
 
+/// Two sales of a product that records describe, in a store that none does.
+const COLA: &[u8] =
+    b"ticket,line,day,store,product,customer,quantity,amount,cost\nT1,1,2024-02-05,S1,P1,,2,5.00,3.20\nT0,1,2023-12-31,S1,P1,,1,2.5,1.60\n";
+
+/// A sale of a product and to a customer that nothing mentioned.
+const TEA: &[u8] =
+    b"ticket,line,day,store,product,customer,quantity,amount,cost\nT2,1,2024-06-10,S1,P9,C9,1,10.00,7.00\n";
+
+/// Two sales, the second on a line of the batch before.
+const TEA_AGAIN: &[u8] =
+    b"ticket,line,day,store,product,customer,quantity,amount,cost\nT3,1,2024-07-02,S1,P1,,1,2.50,1.60\nT2,1,2024-07-02,S1,P1,,1,2.50,1.60\n";
+
 /// The files of the runs.
-const FILES: [(&str, &[u8]); 9] = [
+const FILES: [(&str, &[u8]); 12] = [
     ("flat.toml", FLAT),
     ("cut.toml", b"first_year = 2023\nlast_year = "),
     ("p0.csv", HEADER),
@@ -37,6 +49,9 @@ const FILES: [(&str, &[u8]); 9] = [
     ("p2.csv", BOLT),
     ("s.csv", BERN),
     ("c.csv", GOLD),
+    ("s1.csv", COLA),
+    ("s2.csv", TEA),
+    ("s3.csv", TEA_AGAIN),
 ];
 
 fn expect(
@@ -243,6 +258,47 @@ fn loads_stores_and_customers(rt: HostRuntime) {
     expect(&rt, rt.alloc(), &mut host, &["status", "w"], 0, counts);
 }
 
+/// The load of a batch of sales.
+fn expect_sales(
+    rt: &impl Abort,
+    alloc: Global,
+    host: &mut MemoryHost<'_>,
+    id: &str,
+    path: &str,
+    status: u8,
+    text: &str,
+) {
+    let words = ["load", "w", "sales", id, path];
+    expect(rt, alloc, host, &words, status, text);
+}
+
+/// A warehouse with two batches of products and two of sales.
+fn make_with_sales(rt: &impl Abort, alloc: Global, host: &mut MemoryHost<'_>) {
+    make_with_products(rt, alloc, host);
+    let cola = "accepted 5 s1: 2 records, 1 placeholders\n";
+    expect_sales(rt, alloc, host, "s1", "s1.csv", 0, cola);
+    let tea = "accepted 6 s2: 1 records, 2 placeholders\n";
+    expect_sales(rt, alloc, host, "s2", "s2.csv", 0, tea);
+}
+
+#[test]
+fn loads_batches_of_sales(rt: HostRuntime) {
+    let mut host = MemoryHost::new(rt.alloc(), &FILES);
+    make_with_sales(&rt, rt.alloc(), &mut host);
+    let text = "format 1\ncommands 6\nchanges 2\nfacts 3\nmembers product 2 store 1 customer 1\n";
+    expect(&rt, rt.alloc(), &mut host, &["status", "w"], 0, text);
+}
+
+#[test]
+fn refuses_a_line_that_is_there(rt: HostRuntime) {
+    let mut host = MemoryHost::new(rt.alloc(), &FILES);
+    make_with_sales(&rt, rt.alloc(), &mut host);
+    let there = "refused: E6 line there, record 2\n";
+    expect_sales(&rt, rt.alloc(), &mut host, "s3", "s3.csv", 2, there);
+    let already = "already 5 s1: 2 records, 1 placeholders\n";
+    expect_sales(&rt, rt.alloc(), &mut host, "s1", "s1.csv", 0, already);
+}
+
 #[test]
 fn repeats_the_receipt(rt: HostRuntime) {
     let mut host = MemoryHost::new(rt.alloc(), &FILES);
@@ -376,7 +432,6 @@ fn refuses_words_that_are_wrong(rt: HostRuntime) {
     for words in [
         ["init", "w"].as_slice(),
         ["load", "w", "shop", "p1", "p1.csv"].as_slice(),
-        ["load", "w", "sales", "s1", "s.csv"].as_slice(),
         ["load", "w", "product", "-p1", "p1.csv"].as_slice(),
         ["status"].as_slice(),
         ["status", "w", "v"].as_slice(),

@@ -65,19 +65,13 @@ fn no_bytes(rt: HostRuntime) -> Result<(), Fail> {
     Ok(())
 }
 
-/// Batches of sales can't be loaded yet.
 #[test]
-fn sales(rt: HostRuntime) -> Result<(), Fail> {
+fn no_sales(rt: HostRuntime) -> Result<(), Fail> {
     let alloc = rt.alloc();
     let mut engine = engine(alloc)?;
-    let sent = command_of_bytes(
-        alloc,
-        "s1",
-        Kind::Sales,
-        b"ticket,line,day,store,product,customer,quantity,amount,cost\n",
-    )?;
-    assert_eq!(rt; engine.apply(alloc, &sent), Err(Fault::Sales));
-    assert_eq!(rt; send_batch(alloc, &mut engine, 0), accepted(2, 0));
+    assert_eq!(rt; send_sales(alloc, &mut engine, "s0", ""), accepted(2, 0));
+    assert_eq!(rt; facts(alloc, &mut engine)?.as_str(), "");
+    assert_eq!(rt; send_batch(alloc, &mut engine, 0), accepted(3, 0));
     Ok(())
 }
 

@@ -121,8 +121,25 @@ fn push_rest(alloc: Global, out: &mut String, row: &DateRow) -> Result<(), Alloc
     out.push_str(text.as_str())
 }
 
+fn push_keys(alloc: Global, out: &mut String, row: &Fact) -> Result<(), AllocError> {
+    let keys = &row.keys;
+    let text = format!(in alloc;
+        ",{},{},{}",
+        keys.store_key, keys.product_key, keys.customer_key
+    )?;
+    out.push_str(text.as_str())?;
+    let text = format!(in alloc;
+        ",{},{},{},{}",
+        row.store_durable, row.product_durable, row.customer_durable, keys.profile
+    )?;
+    out.push_str(text.as_str())
+}
+
 fn push_fact(alloc: Global, out: &mut String, row: &Fact) -> Result<(), AllocError> {
-    let text = format!(in alloc; "{},{}\n", row.ticket.as_str(), row.line)?;
+    let text = format!(in alloc; "{},{},{}", row.ticket.as_str(), row.line, row.day.key())?;
+    out.push_str(text.as_str())?;
+    push_keys(alloc, out, row)?;
+    let text = format!(in alloc; ",{},{},{}\n", row.quantity, row.amount, row.cost)?;
     out.push_str(text.as_str())
 }
 
@@ -255,6 +272,27 @@ pub(crate) fn members_of<S: Alter>(alloc: Global, engine: &mut Engine<S>) -> Res
 pub(crate) fn changes_of<S: Alter>(alloc: Global, engine: &mut Engine<S>) -> Result<String, Fail> {
     let mut out = String::new(alloc);
     push_changes(alloc, &mut out, &mut engine.tables)?;
+    Ok(out)
+}
+
+pub(crate) fn facts<S: Alter>(alloc: Global, engine: &mut Engine<S>) -> Result<String, Fail> {
+    let mut out = String::new(alloc);
+    push_facts(alloc, &mut out, &mut engine.tables)?;
+    Ok(out)
+}
+
+/// The row of the command with this number.
+pub(crate) fn command_row<S: Alter>(
+    alloc: Global,
+    engine: &mut Engine<S>,
+    number: u64,
+) -> Result<String, Fail> {
+    let row = engine
+        .tables
+        .get::<tables::Command>(alloc, &number)?
+        .ok_or("a command")?;
+    let mut out = String::new(alloc);
+    push_command(alloc, &mut out, &row)?;
     Ok(out)
 }
 

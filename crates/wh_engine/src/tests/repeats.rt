@@ -3,7 +3,7 @@
 use super::*;
 use std::process::Abort;
 
-/// The warehouse of the first two batches answers this, and is as before.
+/// The warehouse of the first two batches and two sales answers this, and is as before.
 fn expect(
     rt: &impl Abort,
     alloc: Global,
@@ -11,6 +11,7 @@ fn expect(
     answer: Result<Reply, Fault>,
 ) -> Result<(), Fail> {
     let mut engine = loaded(alloc, 2)?;
+    send_sales(alloc, &mut engine, "s1", TWO_SALES)?;
     let before = all_tables(alloc, &mut engine)?;
     assert_eq!(rt; engine.apply(alloc, sent), answer);
     let after = all_tables(alloc, &mut engine)?;
@@ -63,6 +64,33 @@ fn another_kind(rt: HostRuntime) -> Result<(), Fail> {
         Kind::Dimension(Dim::Store),
         text.as_bytes(),
     )?;
+    expect(&rt, rt.alloc(), &sent, refused(Refused::Reused))
+}
+
+#[test]
+fn sales_again(rt: HostRuntime) -> Result<(), Fail> {
+    let sent = batch_of_sales(rt.alloc(), "s1", TWO_SALES)?;
+    let receipt = Receipt {
+        number: 5,
+        records: 2,
+        placeholders: 1,
+    };
+    expect(&rt, rt.alloc(), &sent, Ok(Reply::Already(receipt)))
+}
+
+#[test]
+fn sales_with_another_byte(rt: HostRuntime) -> Result<(), Fail> {
+    let sent = batch_of_sales(
+        rt.alloc(),
+        "s1",
+        "T1,1,2024-02-05,S1,P1,,2,5.00,3.20\nT0,1,2023-12-31,S1,P1,,1,2.5,1.61",
+    )?;
+    expect(&rt, rt.alloc(), &sent, refused(Refused::Reused))
+}
+
+#[test]
+fn sales_under_the_id_of_products(rt: HostRuntime) -> Result<(), Fail> {
+    let sent = batch_of_sales(rt.alloc(), "p1", TWO_SALES)?;
     expect(&rt, rt.alloc(), &sent, refused(Refused::Reused))
 }
 

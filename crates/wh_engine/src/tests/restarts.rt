@@ -42,24 +42,17 @@ fn made(alloc: Global) -> Result<InFiles, Fail> {
     }
 }
 
-fn products(alloc: Global) -> Result<Command, Fail> {
-    Ok(Command {
-        id: Value::new(alloc, "p1")?,
-        kind: Kind::Dimension(Dim::Product),
-        bytes: Bytes::from_slice(alloc, PRODUCTS.as_bytes())?,
-    })
-}
-
 /// What a batch is told that is sent again after a crash, and how much the warehouse holds then.
-fn told_again(alloc: Global) -> Result<(Result<Reply, Fault>, Counts), Fail> {
-    let command = products(alloc)?;
-    let (answer, mut again) = redeliver(alloc, made(alloc)?, &command, Options::new(1))?;
+fn told_again(alloc: Global, command: &Command) -> Result<(Result<Reply, Fault>, Counts), Fail> {
+    let (answer, mut again) = redeliver(alloc, made(alloc)?, command, Options::new(1))?;
     Ok((answer, again.counts(alloc)?))
 }
 
 #[test]
 fn a_batch_acts_once_over_a_crash(rt: HostRuntime) -> Result<(), Fail> {
-    let (answer, counts) = told_again(rt.alloc())?;
+    let kind = Kind::Dimension(Dim::Product);
+    let command = command_of_bytes(rt.alloc(), "p1", kind, PRODUCTS.as_bytes())?;
+    let (answer, counts) = told_again(rt.alloc(), &command)?;
     let receipt = Receipt {
         number: 2,
         records: 2,
@@ -70,5 +63,19 @@ fn a_batch_acts_once_over_a_crash(rt: HostRuntime) -> Result<(), Fail> {
         (counts.commands, counts.changes, counts.products),
         (2, 2, 1)
     );
+    Ok(())
+}
+
+#[test]
+fn sales_act_once_over_a_crash(rt: HostRuntime) -> Result<(), Fail> {
+    let command = batch_of_sales(rt.alloc(), "s2", "T2,1,2024-06-10,S1,P9,C9,1,10.00,7.00")?;
+    let (answer, counts) = told_again(rt.alloc(), &command)?;
+    let receipt = Receipt {
+        number: 2,
+        records: 1,
+        placeholders: 3,
+    };
+    assert_eq!(rt; answer, Ok(Reply::Already(receipt)));
+    assert_eq!(rt; (counts.commands, counts.facts, counts.products), (2, 1, 1));
     Ok(())
 }

@@ -29,6 +29,14 @@ const FIRST: &[u8] = b"id,day,brand\nP1,2024-02-01,Acme\n";
 /// The load: a record of an earlier day of the product, and one of a product that is new.
 const SECOND: &[u8] = b"id,day,brand\nP1,2024-01-20,Bolt\nP2,2024-01-10,Cask\n";
 
+/// The sales before the load of sales: one of the product, in a store that nothing mentioned.
+const FIRST_SALES: &[u8] =
+    b"ticket,line,day,store,product,customer,quantity,amount,cost\nT1,1,2024-02-05,S1,P1,,2,5.00,3.20\n";
+
+/// The load of sales: one of a product and to a customer that nothing mentioned.
+const SECOND_SALES: &[u8] =
+    b"ticket,line,day,store,product,customer,quantity,amount,cost\nT2,1,2024-06-10,S1,P9,C9,1,10.00,7.00\n";
+
 // These have no clause, so that the proof of a caller doesn't carry the state of each call.
 fn open<D: Disk + Drop>(
     alloc: Global,
@@ -149,14 +157,23 @@ struct Run {
 enum Work {
     Making,
     Load,
+    Sales,
 }
 
 fn first(alloc: Global) -> Result<Command, AllocError> {
     command_of_bytes(alloc, "p1", Kind::Dimension(Dim::Product), FIRST)
 }
 
-fn second(alloc: Global) -> Result<Command, AllocError> {
-    command_of_bytes(alloc, "p2", Kind::Dimension(Dim::Product), SECOND)
+fn first_sales(alloc: Global) -> Result<Command, AllocError> {
+    command_of_bytes(alloc, "s1", Kind::Sales, FIRST_SALES)
+}
+
+/// The command of the load.
+fn second(alloc: Global, work: Work) -> Result<Command, AllocError> {
+    match work {
+        Work::Sales => command_of_bytes(alloc, "s2", Kind::Sales, SECOND_SALES),
+        _ => command_of_bytes(alloc, "p2", Kind::Dimension(Dim::Product), SECOND),
+    }
 }
 
 fn init<S: Alter>(
@@ -185,8 +202,17 @@ fn apply_first<S: Alter>(alloc: Global, engine: &mut Engine<S>) -> Result<Reply,
     engine.apply(alloc, &command)
 }
 
-fn apply_second<S: Alter>(alloc: Global, engine: &mut Engine<S>) -> Result<Reply, Fault> {
-    let command = second(alloc)?;
+fn apply_first_sales<S: Alter>(alloc: Global, engine: &mut Engine<S>) -> Result<Reply, Fault> {
+    let command = first_sales(alloc)?;
+    engine.apply(alloc, &command)
+}
+
+fn apply_second<S: Alter>(
+    alloc: Global,
+    work: Work,
+    engine: &mut Engine<S>,
+) -> Result<Reply, Fault> {
+    let command = second(alloc, work)?;
     engine.apply(alloc, &command)
 }
 
@@ -198,19 +224,28 @@ fn first_engine(alloc: Global) -> Result<Engine<FileStore<Memory>>, Fail> {
     Ok(engine)
 }
 
+/// The warehouse before the load.
+fn engine_before(alloc: Global, work: Work) -> Result<Engine<FileStore<Memory>>, Fail> {
+    let mut engine = first_engine(alloc)?;
+    if let Work::Sales = work {
+        apply_first_sales(alloc, &mut engine)?;
+    }
+    Ok(engine)
+}
+
 /// The files before the work, as a close leaves them.
 fn first_files(alloc: Global, work: Work) -> Result<Files<Memory>, Fail> {
     match work {
         Work::Making => Ok(blank(alloc)),
-        Work::Load => Ok(files_of(first_engine(alloc)?.close())),
+        _ => Ok(files_of(engine_before(alloc, work)?.close())),
     }
 }
 
 /// The load without a stop.
-fn whole_load(alloc: Global) -> Result<Run, Fail> {
-    let mut engine = first_engine(alloc)?;
+fn whole_load(alloc: Global, work: Work) -> Result<Run, Fail> {
+    let mut engine = engine_before(alloc, work)?;
     let before = all_tables(alloc, &mut engine)?;
-    apply_second(alloc, &mut engine)?;
+    apply_second(alloc, work, &mut engine)?;
     let after = all_tables(alloc, &mut engine)?;
     Ok(Run { before, after })
 }
@@ -228,24 +263,29 @@ fn whole_making(alloc: Global) -> Result<Run, Fail> {
 fn whole(alloc: Global, work: Work) -> Result<Run, Fail> {
     match work {
         Work::Making => whole_making(alloc),
-        Work::Load => whole_load(alloc),
+        _ => whole_load(alloc, work),
     }
 }
 
 /// Whether the engine answers although the store refused a call.
-fn serves<S: Alter>(alloc: Global, engine: &mut Engine<S>, answer: Result<Reply, Fault>) -> bool {
+fn serves<S: Alter>(
+    alloc: Global,
+    work: Work,
+    engine: &mut Engine<S>,
+    answer: Result<Reply, Fault>,
+) -> bool {
     match answer {
         Err(Fault::Store(_)) => engine.counts(alloc) != Err(Fault::Reopen)
-            || apply_second(alloc, engine) != Err(Fault::Reopen),
+            || apply_second(alloc, work, engine) != Err(Fault::Reopen),
         _ => false,
     }
 }
 
-fn try_load(alloc: Global, conn: Connection<FileStore<Fuse<Memory>>>) -> Attempt {
+fn try_load(alloc: Global, work: Work, conn: Connection<FileStore<Fuse<Memory>>>) -> Attempt {
     match Engine::open(alloc, conn) {
         Ok(mut engine) => {
-            let answer = apply_second(alloc, &mut engine);
-            let is_served = serves(alloc, &mut engine, answer);
+            let answer = apply_second(alloc, work, &mut engine);
+            let is_served = serves(alloc, work, &mut engine, answer);
             Attempt {
                 files: files_of(engine.close()),
                 is_done: answer.is_ok(),
@@ -272,7 +312,7 @@ fn make_attempt(alloc: Global, work: Work, files: Fused) -> Attempt {
     match open(alloc, files) {
         Ok(conn) => match work {
             Work::Making => try_making(alloc, conn),
-            Work::Load => try_load(alloc, conn),
+            _ => try_load(alloc, work, conn),
         },
         Err(files) => Attempt::failed(files),
     }
@@ -299,8 +339,8 @@ fn tables_again<S: Alter>(
 ) -> Result<String, Fail> {
     match work {
         Work::Making => {}
-        Work::Load => {
-            apply_second(alloc, engine)?;
+        _ => {
+            apply_second(alloc, work, engine)?;
         }
     }
     all_tables(alloc, engine)
@@ -376,6 +416,26 @@ fn load_file_even(rt: HostRuntime) -> Result<(), Fail> {
 #[test]
 fn load_file_odd(rt: HostRuntime) -> Result<(), Fail> {
     expect(&rt, rt.alloc(), Work::Load, Stop::Database(1))
+}
+
+#[test]
+fn sales_log_even(rt: HostRuntime) -> Result<(), Fail> {
+    expect(&rt, rt.alloc(), Work::Sales, Stop::Log(0))
+}
+
+#[test]
+fn sales_log_odd(rt: HostRuntime) -> Result<(), Fail> {
+    expect(&rt, rt.alloc(), Work::Sales, Stop::Log(1))
+}
+
+#[test]
+fn sales_file_even(rt: HostRuntime) -> Result<(), Fail> {
+    expect(&rt, rt.alloc(), Work::Sales, Stop::Database(0))
+}
+
+#[test]
+fn sales_file_odd(rt: HostRuntime) -> Result<(), Fail> {
+    expect(&rt, rt.alloc(), Work::Sales, Stop::Database(1))
 }
 
 #[test]

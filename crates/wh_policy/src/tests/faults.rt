@@ -20,7 +20,7 @@ fn worked_faults(rt: HostRuntime) -> Result<(), Fail> {
 }
 
 /// What may stand at a dimension, here `DIM`, and its fault. Each `|` ends a line.
-const DIMENSIONS: [(&str, PolicyFault); 27] = [
+const DIMENSIONS: [(&str, PolicyFault); 25] = [
     ("", PolicyFault::Missing),
     ("DIM = 1", PolicyFault::Missing),
     ("DIM = []", PolicyFault::Missing),
@@ -53,14 +53,6 @@ const DIMENSIONS: [(&str, PolicyFault); 27] = [
     ("[[DIM]]|name = 'size'|type = -1", PolicyFault::BadType),
     ("[[DIM]]|name = 'size'|type = '2'", PolicyFault::BadType),
     ("[[DIM]]|name = 'size'|type = 2.0", PolicyFault::BadType),
-    (
-        "[[DIM]]|name = 'size'|type = 4",
-        PolicyFault::ProfileOutside,
-    ),
-    (
-        "[[DIM]]|name = 'size'|type = 5",
-        PolicyFault::ProfileOutside,
-    ),
     (
         "[[DIM]]|name = 'size'|type = 2|[[DIM]]|name = 'size'|type = 1",
         PolicyFault::NamedTwice,
@@ -97,6 +89,34 @@ fn faults_of_dimensions(rt: HostRuntime) -> Result<(), Fail> {
             let answer = fault_at(rt.alloc(), dim, others, text)?;
             assert_eq!(rt; answer, Some(expected), "{dim}: {text}");
         }
+    }
+    Ok(())
+}
+
+#[test]
+fn faults_of_profiles(rt: HostRuntime) -> Result<(), Fail> {
+    let outside = Some(PolicyFault::ProfileOutside);
+    let mixed = Some(PolicyFault::ProfileMixed);
+    let four = "[[DIM]]|name = 'size'|type = 4";
+    let five = "[[DIM]]|name = 'size'|type = 5|[[DIM]]|name = 'tier'|type = 5";
+    let both = "[[DIM]]|name = 'size'|type = 4|[[DIM]]|name = 'tier'|type = 5";
+    let places = [
+        (
+            "product",
+            ["store", "customer"],
+            [outside, outside, outside],
+        ),
+        (
+            "store",
+            ["product", "customer"],
+            [outside, outside, outside],
+        ),
+        ("customer", ["product", "store"], [None, None, mixed]),
+    ];
+    for (dim, others, [first, second, third]) in places {
+        assert_eq!(rt; fault_at(rt.alloc(), dim, others, four)?, first, "{dim}");
+        assert_eq!(rt; fault_at(rt.alloc(), dim, others, five)?, second, "{dim}");
+        assert_eq!(rt; fault_at(rt.alloc(), dim, others, both)?, third, "{dim}");
     }
     Ok(())
 }

@@ -36,9 +36,9 @@ fn faults_of_the_file_in_order(rt: HostRuntime) -> Result<(), Fail> {
             PolicyFault::ProfileOutside,
         ),
         (
-            ("\"tier\"\ntype = 2", "\"tier\"\ntype = 4"),
+            ("\"tier\"\ntype = 2", "\"tier\"\ntype = 8"),
             ("2026", "2053"),
-            PolicyFault::ProfileOutside,
+            PolicyFault::BadType,
         ),
         (
             ("2026", "2053"),

@@ -214,24 +214,28 @@ fn put_fact(
     alloc: Global,
     conn: &mut Connection<MemStore>,
     line: u32,
+    on: Day,
     durables: (u64, u64, u64),
 ) -> Result<(), Cause> {
     let mut row = fact_row(alloc)?;
     row.line = line;
+    row.day = on;
     row.product_durable = durables.0;
     row.store_durable = durables.1;
     row.customer_durable = durables.2;
     put::<tables::Fact, MemStore>(alloc, conn, &row)
 }
 
-/// The lines of the facts of a member, as one text.
-fn sales_of(
+/// The lines of the facts of a member since a day, as one text.
+fn sales_since(
     alloc: Global,
     conn: &mut Connection<MemStore>,
     dim: Dim,
     durable: u64,
+    from: Day,
 ) -> Result<String, Fail> {
-    let rows = ask::<tables::Fact, SalesOf, MemStore>(alloc, conn, &SalesOf { dim, durable })?;
+    let question = SalesSince { dim, durable, from };
+    let rows = ask::<tables::Fact, SalesSince, MemStore>(alloc, conn, &question)?;
     let mut out = String::new(alloc);
     for row in &rows {
         let line = format!(in alloc; "{} ", row.line)?;
@@ -244,19 +248,43 @@ fn sales_of(
 fn sales(rt: HostRuntime) -> Result<(), Fail> {
     let alloc = rt.alloc();
     let mut conn = made(alloc)?;
-    put_fact(alloc, &mut conn, 30, (1, 2, 3))?;
-    put_fact(alloc, &mut conn, 2, (1, 3, 2))?;
-    put_fact(alloc, &mut conn, 10, (2, 1, 3))?;
-    assert_eq!(rt;
-        sales_of(alloc, &mut conn, Dim::Product, 1)?.as_str(),
-        "2 30 "
-    );
-    assert_eq!(rt; sales_of(alloc, &mut conn, Dim::Store, 1)?.as_str(), "10 ");
-    assert_eq!(rt;
-        sales_of(alloc, &mut conn, Dim::Customer, 3)?.as_str(),
-        "10 30 "
-    );
-    assert_eq!(rt; sales_of(alloc, &mut conn, Dim::Customer, 1)?.as_str(), "");
+    let on = day(20240610);
+    put_fact(alloc, &mut conn, 30, on, (1, 2, 3))?;
+    put_fact(alloc, &mut conn, 2, on, (1, 3, 2))?;
+    put_fact(alloc, &mut conn, 10, on, (2, 1, 3))?;
+    let product = sales_since(alloc, &mut conn, Dim::Product, 1, on)?;
+    assert_eq!(rt; product.as_str(), "2 30 ");
+    let store = sales_since(alloc, &mut conn, Dim::Store, 1, on)?;
+    assert_eq!(rt; store.as_str(), "10 ");
+    let customer = sales_since(alloc, &mut conn, Dim::Customer, 3, on)?;
+    assert_eq!(rt; customer.as_str(), "10 30 ");
+    let none = sales_since(alloc, &mut conn, Dim::Customer, 1, on)?;
+    assert_eq!(rt; none.as_str(), "");
+    Ok(())
+}
+
+/// Three facts of one product, store and customer: on the day before, on the day and on the day after.
+fn put_days(alloc: Global, conn: &mut Connection<MemStore>) -> Result<(), Cause> {
+    put_fact(alloc, conn, 3, day(20240611), (1, 1, 1))?;
+    put_fact(alloc, conn, 2, day(20240610), (1, 1, 1))?;
+    put_fact(alloc, conn, 1, day(20240609), (1, 1, 1))
+}
+
+#[test]
+fn sales_since_a_day(rt: HostRuntime) -> Result<(), Fail> {
+    let alloc = rt.alloc();
+    let mut conn = made(alloc)?;
+    put_days(alloc, &mut conn)?;
+    for dim in [Dim::Product, Dim::Store, Dim::Customer] {
+        let before = sales_since(alloc, &mut conn, dim, 1, day(20240609))?;
+        assert_eq!(rt; before.as_str(), "1 2 3 ");
+        let on = sales_since(alloc, &mut conn, dim, 1, day(20240610))?;
+        assert_eq!(rt; on.as_str(), "2 3 ");
+        let later = sales_since(alloc, &mut conn, dim, 1, day(20240611))?;
+        assert_eq!(rt; later.as_str(), "3 ");
+        let none = sales_since(alloc, &mut conn, dim, 1, day(20240612))?;
+        assert_eq!(rt; none.as_str(), "");
+    }
     Ok(())
 }
 

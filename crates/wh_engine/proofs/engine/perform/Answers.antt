@@ -3,47 +3,47 @@ use Rattle.wh_engine.proofs.Performing.{held, repeat_performed, fault_performed,
 use Rattle.wh_engine.proofs.engine.perform.Goals as goal
 
 pub returns-in-Ok-Repeat-clause-performed : goal.returns-in-Ok-Repeat-clause-performed
-returns-in-Ok-Repeat-clause-performed g c clean limits commands ready kind =
+returns-in-Ok-Repeat-clause-performed g c clean limits commands ready =
     let old = state g.S.Store c.args.tables.now.conn in
     let new = state g.S.Store c.decide.new.tables.conn in
     let rests = ready.rests.rests in
-    let is_held = held limits commands c.args.command.now c.args.dim c.args.session.now old kind ready in
-    repeat_performed limits commands c.args.command.now c.args.dim c.args.session.now old kind ready c.in-Ok-Repeat.receipt new
-    (rw c.in-Ok-Repeat.field-0-is at (c.in-Ok-Repeat.ensures.decided clean commands ready.rests.tables is_held kind rests)) (c.in-Ok-Repeat.ensures.same clean ready.rests.tables rests tt)
+    let is_held = held limits commands c.args.command.now c.args.session.now old ready in
+    repeat_performed limits commands c.args.command.now c.args.session.now old ready c.in-Ok-Repeat.receipt new
+    (rw c.in-Ok-Repeat.field-0-is at (c.in-Ok-Repeat.ensures.decided clean commands ready.rests.tables is_held rests)) (c.in-Ok-Repeat.ensures.same clean ready.rests.tables rests tt)
 
 pub returns-in-Ok-clause-performed : goal.returns-in-Ok-clause-performed
-returns-in-Ok-clause-performed g c clean limits commands ready kind =
+returns-in-Ok-clause-performed g c clean limits commands ready =
     let command = c.args.command.now in
     let old = state g.S.Store c.args.tables.now.conn in
     let new = state g.S.Store c.commit_edits.new.tables.conn in
     let before = c.commit_edits.ensures.clean clean in
     let rests = ready.rests.rests in
-    let is_held = held limits commands command c.args.dim c.args.session.now old kind ready in
-    let judged = rw c.in-Ok-Accept.field-0-is at (c.in-Ok-Accept.ensures.decided before commands ready.rests.tables is_held kind rests) in
+    let is_held = held limits commands command c.args.session.now old ready in
+    let judged = rw c.in-Ok-Accept.field-0-is at (c.in-Ok-Accept.ensures.decided before commands ready.rests.tables is_held rests) in
     let still = c.in-Ok-Accept.ensures.same before ready.rests.tables rests tt in
-    let may = may_write limits commands command c.args.dim c.args.session.now old kind ready c.in-Ok-Accept.receipt c.in-Ok-Accept.edits judged in
-    accept_performed limits commands command c.args.dim c.args.session.now old kind ready c.in-Ok-Accept.receipt c.in-Ok-Accept.edits judged new
+    let may = may_write limits commands command c.args.session.now old ready c.in-Ok-Accept.receipt c.in-Ok-Accept.edits judged in
+    accept_performed limits commands command c.args.session.now old ready c.in-Ok-Accept.receipt c.in-Ok-Accept.edits judged new
     (c.in-Ok.ensures.written clean ready.rests.tables still may)
 
 pub returns-in-Ok-Accept-clause-performed : goal.returns-in-Ok-Accept-clause-performed
-returns-in-Ok-Accept-clause-performed g c clean limits commands ready kind =
+returns-in-Ok-Accept-clause-performed g c clean limits commands ready =
     let command = c.args.command.now in
     let old = state g.S.Store c.args.tables.now.conn in
     let new = state g.S.Store c.commit_edits.new.tables.conn in
     let before = c.commit_edits.ensures.clean clean in
     let rests = ready.rests.rests in
-    let is_held = held limits commands command c.args.dim c.args.session.now old kind ready in
-    let judged = rw c.in-Ok-Accept.field-0-is at (c.in-Ok-Accept.ensures.decided before commands ready.rests.tables is_held kind rests) in
+    let is_held = held limits commands command c.args.session.now old ready in
+    let judged = rw c.in-Ok-Accept.field-0-is at (c.in-Ok-Accept.ensures.decided before commands ready.rests.tables is_held rests) in
     let still = c.in-Ok-Accept.ensures.same before ready.rests.tables rests tt in
-    let may = may_write limits commands command c.args.dim c.args.session.now old kind ready c.in-Ok-Accept.receipt c.in-Ok-Accept.edits judged in
-    stop_performed limits commands command c.args.dim c.args.session.now old kind ready c.in-Ok-Accept.receipt c.in-Ok-Accept.edits judged new
+    let may = may_write limits commands command c.args.session.now old ready c.in-Ok-Accept.receipt c.in-Ok-Accept.edits judged in
+    stop_performed limits commands command c.args.session.now old ready c.in-Ok-Accept.receipt c.in-Ok-Accept.edits judged new
     (c.commit_edits.ensures.left clean ready.rests.tables still may)
 
 pub returns-clause-performed : goal.returns-clause-performed
-returns-clause-performed g c clean limits commands ready kind =
+returns-clause-performed g c clean limits commands ready =
     let old = state g.S.Store c.args.tables.now.conn in
     let new = state g.S.Store c.decide.new.tables.conn in
     let rests = ready.rests.rests in
-    let is_held = held limits commands c.args.command.now c.args.dim c.args.session.now old kind ready in
-    fault_performed limits commands c.args.command.now c.args.dim c.args.session.now old kind ready c.in-Err.fault new
-    (c.in-Err.ensures.decided clean commands ready.rests.tables is_held kind rests) (c.in-Err.ensures.same clean ready.rests.tables rests) (c.in-Err.ensures.left clean ready.rests.tables rests)
+    let is_held = held limits commands c.args.command.now c.args.session.now old ready in
+    fault_performed limits commands c.args.command.now c.args.session.now old ready c.in-Err.fault new
+    (c.in-Err.ensures.decided clean commands ready.rests.tables is_held rests) (c.in-Err.ensures.same clean ready.rests.tables rests) (c.in-Err.ensures.left clean ready.rests.tables rests)

@@ -8,17 +8,17 @@ use Rattle.wh_engine.proofs.StaysAccepted.{stays_accepted}
 use Rattle.wh_engine.proofs.reopen.redeliver.Goals as goal
 
 pub returns : goal.returns
-returns g c limits commands dim ready kind clean =
+returns g c limits commands ready clean =
     let command = c.args.command.now in
     let after = accepted_after limits commands command in
     let stopped = c.apply.new.self in
     let again = c.in-Ok.again in
     let last = c.apply-answer.new.self in
     let opened : HasCleanDisk (file_state again.tables.conn) = c.apply-answer.ensures.clean clean in
-    let told = c.apply.ensures.answered (c.in-Ok.ensures.clean opened) limits commands dim ready kind in
+    let told = c.apply.ensures.answered (c.in-Ok.ensures.clean opened) limits commands ready in
     let left = answered_leaves limits commands command c.apply.result stopped.session (file_state stopped.tables.conn) told in
-    let accepted = stays_accepted limits commands command dim kind ready.accepted in
+    let accepted = stays_accepted limits commands command ready.accepted in
     ∥∥₁_map (c.in-Ok.ensures.ready limits commands after ready.accepted accepted left opened) (λ which. elim which [
-      | inl first ↦ from_before limits commands command c.apply-answer.result last.session (file_state last.tables.conn) (c.apply-answer.ensures.answered clean limits commands dim first kind)
-      | inr second ↦ from_after limits commands command c.apply-answer.result last.session (file_state last.tables.conn) (c.apply-answer.ensures.answered clean limits after dim second kind)
+      | inl first ↦ from_before limits commands command c.apply-answer.result last.session (file_state last.tables.conn) (c.apply-answer.ensures.answered clean limits commands first)
+      | inr second ↦ from_after limits commands command c.apply-answer.result last.session (file_state last.tables.conn) (c.apply-answer.ensures.answered clean limits after second)
     ])

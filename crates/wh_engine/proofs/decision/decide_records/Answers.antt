@@ -1,0 +1,43 @@
+use Rattle.std.proofs.Common.{◌≡◌, ◌∙◌, ℕ, sym, ap, subst, refl, Ok, Some, length}
+use Rattle.wh_policy.specs.Written.{IsSound}
+use Rattle.wh_history.specs.Accepted.{Describes}
+use Rattle.wh_engine.specs.Admission.{in_force, accepted_as, answer}
+use Rattle.wh_engine.specs.Decided.{Decides, records_told, number_for, row_of_batch}
+use Rattle.wh_engine.proofs.Decisions.{judged_ok, judged_err, number_refused, records_content, batch_accepted, list_accepted, own_row, policy_in_force, sound_in_force}
+use Rattle.wh_engine.proofs.decision.decide_records.Goals as goal
+
+pub returns-clause-decided : goal.returns-clause-decided
+returns-clause-decided g c clean commands t held kind good new rests =
+    let limits = c.args.session.now.limits in
+    let command = c.args.command.now in
+    let dim = c.args.dim in
+    let records = c.in_ok-records.records in
+    let number = c.in-Ok.number in
+    let content = Describes dim records in
+    let before = c.plan_batch.ensures.clean clean in
+    let found = judged_ok (λ records told. records ≡ told) records (records_told dim (in_force commands) command.bytes) (rw (held.policy, c.as_slice.ensures) at c.in_ok-records.ensures.read) in
+    let told : records_told dim (in_force commands) command.bytes ≡ Ok records = found.1 ∙ ap Ok (sym found.2) in
+    let read = records_content limits commands command good new dim kind records told in
+    let count : length c.as_slice-2.result.now ≡ length records = ap length c.as_slice-2.ensures in
+    let numbered = judged_ok (λ number next. number ≡ next) number (number_for limits commands content) (c.in-Ok.ensures.number before commands t held.are held.accepted rests content refl (sym count)) in
+    let room : number_for limits commands content ≡ Ok number = numbered.1 ∙ ap Ok (sym numbered.2) in
+    let still = c.in-Ok.ensures.same before t rests tt in
+    let stored = own_row limits commands command good new content read number room ∙ ap Some (sym (c.in_ok-row.ensures ∙ ap (row_of_batch command number) count)) in
+    let edits = c.in_ok-edits.ensures.edits clean limits commands (accepted_as command content) t held.are (list_accepted limits commands command good new content read number room held.accepted)
+    (ap (Describes dim) (sym c.as_slice-3.ensures)) (policy_in_force commands held.accepted.governed ∙ ap Some (sym held.policy)) (subst IsSound (sym held.policy) (sound_in_force limits commands held.accepted)) stored still in
+    rw (batch_accepted limits commands command good new content read number room, count) (refl, record { content = content; read = read; edits_are = edits })
+
+pub returns-in-Err-clause-decided : goal.returns-in-Err-clause-decided
+returns-in-Err-clause-decided g c clean commands t held kind good new rests =
+    let limits = c.args.session.now.limits in
+    let command = c.args.command.now in
+    let dim = c.args.dim in
+    let records = c.in_ok-records.records in
+    let content = Describes dim records in
+    let found = judged_ok (λ records told. records ≡ told) records (records_told dim (in_force commands) command.bytes) (rw (held.policy, c.as_slice.ensures) at c.in_ok-records.ensures.read) in
+    let told : records_told dim (in_force commands) command.bytes ≡ Ok records = found.1 ∙ ap Ok (sym found.2) in
+    let read = records_content limits commands command good new dim kind records told in
+    let count : length c.as_slice-2.result.now ≡ length records = ap length c.as_slice-2.ensures in
+    let judged = c.in-Err.ensures.number clean commands t held.are held.accepted rests content refl (sym count) in
+    judged_err (λ (number next : ℕ). number ≡ next) (Decides commands command) c.in-Err.fault (number_for limits commands content) (answer limits commands command) judged
+    (λ why none. number_refused limits commands command good new content why read none)
