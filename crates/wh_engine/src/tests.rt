@@ -1,5 +1,6 @@
 //! Warehouses in memory, and in files that may stop.
 
+mod bands;
 mod batches;
 mod dump;
 mod limits;
@@ -99,17 +100,28 @@ const OF_SALES: &str = "ticket,line,day,store,product,customer,quantity,amount,c
 /// Two sales of a product that records describe, in a store that none does.
 const TWO_SALES: &str = "T1,1,2024-02-05,S1,P1,,2,5.00,3.20\nT0,1,2023-12-31,S1,P1,,1,2.5,1.60";
 
+/// A sale of a product and to a customer that nothing mentioned.
+const TEA: &str = "T2,1,2024-06-10,S1,P9,C9,1,10.00,7.00";
+
+/// A record of that product.
+const LEAF: &str = "P9,2024-06-05,Tea 50,Leaf,Drinks,Grocery,2024,North";
+
 /// A connection to an empty database in memory.
 fn empty(alloc: Global) -> Result<Connection<MemStore>, Fail> {
     Ok(Connection::open_in_memory(alloc)?)
 }
 
-/// A warehouse with these limits in memory.
-fn limited(alloc: Global, limits: Limits) -> Result<Engine<MemStore>, Fail> {
-    match Engine::init(alloc, empty(alloc)?, FLAT.as_bytes(), limits) {
+/// A warehouse of this policy in memory.
+fn made(alloc: Global, policy: &[u8], limits: Limits) -> Result<Engine<MemStore>, Fail> {
+    match Engine::init(alloc, empty(alloc)?, policy, limits) {
         Ok(engine) => Ok(engine),
         Err((fault, _)) => Err(Fail::from(fault)),
     }
+}
+
+/// A warehouse with these limits in memory.
+fn limited(alloc: Global, limits: Limits) -> Result<Engine<MemStore>, Fail> {
+    made(alloc, FLAT.as_bytes(), limits)
 }
 
 /// A warehouse in memory.
@@ -187,12 +199,32 @@ fn load<S: Alter>(alloc: Global, engine: &mut Engine<S>, place: usize) -> Result
     }
 }
 
+/// Loads batches of products, from one to another.
+fn load_between<S: Alter>(
+    alloc: Global,
+    engine: &mut Engine<S>,
+    first: usize,
+    last: usize,
+) -> Result<(), Fail> {
+    for place in first..last.saturating_add(1) {
+        load(alloc, engine, place)?;
+    }
+    Ok(())
+}
+
+/// Loads all batches of products, and three sales.
+fn bring_tea<S: Alter>(alloc: Global, engine: &mut Engine<S>) -> Result<(), Fail> {
+    load_between(alloc, engine, 0, 2)?;
+    send_sales(alloc, engine, "s1", TWO_SALES)?;
+    load_between(alloc, engine, 3, 8)?;
+    send_sales(alloc, engine, "s2", TEA)?;
+    Ok(())
+}
+
 /// A warehouse with the batches up to one of them.
 fn loaded(alloc: Global, last: usize) -> Result<Engine<MemStore>, Fail> {
     let mut engine = engine(alloc)?;
-    for place in 0..last.saturating_add(1) {
-        load(alloc, &mut engine, place)?;
-    }
+    load_between(alloc, &mut engine, 0, last)?;
     Ok(engine)
 }
 

@@ -4,12 +4,6 @@ use super::dump::command_row;
 use super::*;
 use std::process::Abort;
 
-/// A sale of a product and to a customer that nothing mentioned.
-const TEA: &str = "T2,1,2024-06-10,S1,P9,C9,1,10.00,7.00";
-
-/// A record of that product.
-const LEAF: &str = "P9,2024-06-05,Tea 50,Leaf,Drinks,Grocery,2024,North";
-
 /// A warehouse with the first three batches of products, and two sales.
 fn with_two_sales(alloc: Global) -> Result<Engine<MemStore>, Fail> {
     let mut engine = loaded(alloc, 2)?;
@@ -20,16 +14,14 @@ fn with_two_sales(alloc: Global) -> Result<Engine<MemStore>, Fail> {
 /// The same with the batches of products behind them, up to one of them.
 fn with_two_sales_up_to(alloc: Global, last: usize) -> Result<Engine<MemStore>, Fail> {
     let mut engine = with_two_sales(alloc)?;
-    for place in 3..last.saturating_add(1) {
-        load(alloc, &mut engine, place)?;
-    }
+    load_between(alloc, &mut engine, 3, last)?;
     Ok(engine)
 }
 
 /// A warehouse with all batches of products, and three sales.
 fn with_tea(alloc: Global) -> Result<Engine<MemStore>, Fail> {
-    let mut engine = with_two_sales_up_to(alloc, 8)?;
-    send_sales(alloc, &mut engine, "s2", TEA)?;
+    let mut engine = engine(alloc)?;
+    bring_tea(alloc, &mut engine)?;
     Ok(engine)
 }
 
