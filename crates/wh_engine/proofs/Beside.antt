@@ -8,8 +8,8 @@ use Rattle.wh_rows.specs.declared.rows.MemberRow.{MemberRow}
 use Rattle.wh_rows.specs.declared.rows.ChangeRow.{ChangeRow}
 use Rattle.wh_rows.specs.declared.rows.ProfileRow.{ProfileRow}
 use Rattle.wh_rows.specs.Tables.{Tables}
-use Rattle.wh_engine.specs.Planned.{with_lists}
-use Rattle.wh_engine.specs.Writable.{MayBeEdited}
+use Rattle.wh_plan.specs.Planned.{with_lists}
+use Rattle.wh_plan.specs.Writable.{MayBeEdited}
 
 pub may_still : (products stores customers : List (Edit DimRow ℕ)) (command : List CommandRow) (members : List MemberRow) (changes : List ChangeRow) (profiles : List ProfileRow) (facts : List Fact) (t : Tables)
     → MayBeEdited products stores customers t → MayBeEdited products stores customers (with_lists command members changes profiles facts t)

@@ -23,10 +23,10 @@ use Rattle.wh_rows.specs.declared.rows.CommandRow.{CommandRow}
 use Rattle.wh_rows.specs.Types.{is_key}
 use Rattle.wh_engine.specs.Admission.{kind_word, content_of, in_force, accepted_as, receipt_of, changes_in, first_line_there, with_lines, when_read, by_id, answer, with_content, after_answer, accepted_after}
 use Rattle.wh_engine.specs.Decided.{already, reply_to_known, as_refused, records_told, sales_told, number_past_lines, number_for, IsNew}
-use Rattle.wh_engine.specs.Defined.{command_at}
+use Rattle.wh_plan.specs.Defined.{command_at}
 use Rattle.wh_engine.specs.Faults.{Judges}
-use Rattle.wh_engine.specs.Kept.{number_of, command_with}
-use Rattle.wh_engine.specs.Sound.{changes_kept, IsAccepted}
+use Rattle.wh_plan.specs.Kept.{number_of, command_with}
+use Rattle.wh_plan.specs.Sound.{changes_kept, IsAccepted}
 use Rattle.wh_engine.specs.declared.command.Command.{Command}
 use Rattle.wh_engine.specs.declared.fault.Fault.{Fault}
 use Rattle.wh_engine.specs.declared.fault.Fault.TheVariants as faults
@@ -36,8 +36,8 @@ use Rattle.wh_engine.specs.declared.command.Reply.TheVariants.{Accepted as Accep
 use Rattle.wh_engine.specs.declared.command.Refused.{Refused}
 use Rattle.wh_engine.specs.declared.command.Refused.TheVariants.{BadId, Reused, Batch, LineThere, Full}
 use Rattle.wh_engine.specs.declared.command.Limit.TheVariants.{Commands, Changes, Facts}
-use Rattle.wh_engine.proofs.FoundCommands.{stored, told, find_numbered}
-use Rattle.wh_engine.proofs.GrownKeys.{at_last}
+use Rattle.wh_plan.proofs.FoundCommands.{stored, told, find_numbered}
+use Rattle.wh_plan.proofs.GrownKeys.{at_last}
 use Rattle.wh_engine.proofs.StaysAccepted.{stays_accepted}
 
 -- ---- the room that there is

@@ -13,10 +13,10 @@ use Rattle.wh_day.proofs.Days.{Parts, parts, number_is}
 use Rattle.wh_policy.specs.declared.policy.Policy.{Policy}
 use Rattle.wh_history.proofs.Basics.{some_is}
 use Rattle.wh_rows.specs.Rows as row
-use Rattle.wh_engine.specs.Defined.{day_at}
-use Rattle.wh_engine.specs.Made.{calendar_rows}
-use Rattle.wh_engine.specs.Planned.{with_rows}
-use Rattle.wh_engine.proofs.WrittenRows.{Grows, written}
+use Rattle.wh_plan.specs.Defined.{day_at}
+use Rattle.wh_plan.specs.Made.{calendar_rows}
+use Rattle.wh_plan.specs.Planned.{with_rows}
+use Rattle.wh_plan.proofs.WrittenRows.{Grows, written}
 
 -- the rows of the days from a number on
 abbrev pub rows_from : Policy → ℕ → ℕ → List DateRow

@@ -32,8 +32,8 @@ use Rattle.wh_rows.specs.Types.{is_special, is_slot, are_slots}
 use Rattle.wh_sql.specs.Fits.{MayBePut}
 use Rattle.wh_store.specs.Edits.{with_row, MayAll}
 use Rattle.wh_store.specs.Meta.{made_with}
-use Rattle.wh_engine.specs.Defined.{day_at}
-use Rattle.wh_engine.specs.Made.{IsGoodPolicy, making_row, first_profiles, calendar_rows, MayBeFirst}
+use Rattle.wh_plan.specs.Defined.{day_at}
+use Rattle.wh_plan.specs.Made.{IsGoodPolicy, making_row, first_profiles, calendar_rows, MayBeFirst}
 
 -- ---- any rows
 

@@ -21,17 +21,17 @@ use Rattle.wh_store.specs.declared.fault.OpenFault.{OpenFault}
 use Rattle.wh_store.specs.declared.fault.OpenFault.TheVariants as store
 use Rattle.wh_engine.specs.Admission.{in_force}
 use Rattle.wh_engine.specs.Answered.{Rests, IsReady}
-use Rattle.wh_engine.specs.Defined.{AreOf, meta_at}
-use Rattle.wh_engine.specs.Kept.{command_with}
-use Rattle.wh_engine.specs.Made.{making_of}
+use Rattle.wh_plan.specs.Defined.{AreOf, meta_at}
+use Rattle.wh_plan.specs.Kept.{command_with}
+use Rattle.wh_plan.specs.Made.{making_of}
 use Rattle.wh_engine.specs.Opened.{making_in, of_tables, of_limits, of_policy, of_making, session_in, opened, IsTold, IsRead, IsNotOpened, LeavesMaking, LeavesMade}
-use Rattle.wh_engine.specs.Sound.{IsAccepted}
+use Rattle.wh_plan.specs.Sound.{IsAccepted}
 use Rattle.wh_engine.specs.declared.opening.OpeningFault.{OpeningFault}
 use Rattle.wh_engine.specs.declared.opening.OpeningFault.TheVariants as faults
 use Rattle.wh_engine.specs.declared.session.Session.{Session}
 use Rattle.wh_engine.proofs.Decisions.{policy_in_force}
-use Rattle.wh_engine.proofs.FoundCommands.{command_of}
-use Rattle.wh_engine.proofs.StaysBegun.{accepted_lists_begin}
+use Rattle.wh_plan.proofs.FoundCommands.{command_of}
+use Rattle.wh_plan.proofs.StaysBegun.{accepted_lists_begin}
 
 -- ---- readings in turn
 

@@ -13,11 +13,11 @@ use Rattle.wh_rows.specs.Tables.{Tables}
 use Rattle.wh_engine.specs.Admission.{accepted_as, answer, accepted_after, in_force}
 use Rattle.wh_engine.specs.Answered.{AreTreesOf, LeavesOneOf, IsReady, IsAnswered, IsPerformed}
 use Rattle.wh_engine.specs.Decided.{IsHeld, AreEditsOf, Decides}
-use Rattle.wh_engine.specs.Defined.{AreOf}
+use Rattle.wh_plan.specs.Defined.{AreOf}
 use Rattle.wh_engine.specs.Faults.{IsServed, Judges, stops}
-use Rattle.wh_engine.specs.Planned.{Edits, with_all_edits}
-use Rattle.wh_engine.specs.Sound.{IsAccepted}
-use Rattle.wh_engine.specs.Writable.{MayBeWritten}
+use Rattle.wh_plan.specs.Planned.{Edits, with_all_edits}
+use Rattle.wh_plan.specs.Sound.{IsAccepted}
+use Rattle.wh_plan.specs.Writable.{MayBeWritten}
 use Rattle.wh_engine.specs.declared.command.Command.{Command}
 use Rattle.wh_engine.specs.declared.command.Receipt.{Receipt}
 use Rattle.wh_engine.specs.declared.command.Reply.{Reply}
@@ -28,9 +28,9 @@ use Rattle.wh_engine.specs.declared.fault.Fault.{Fault}
 use Rattle.wh_engine.specs.declared.fault.Fault.TheVariants as faults
 use Rattle.wh_engine.specs.declared.session.Session.{Session}
 use Rattle.wh_engine.proofs.Decisions.{judged_ok, after_repeat, after_accepted}
-use Rattle.wh_engine.proofs.MayBatch.{a_batch_may_be_written}
+use Rattle.wh_plan.proofs.MayBatch.{a_batch_may_be_written}
 use Rattle.wh_engine.proofs.StaysAccepted.{content_good, stays_accepted}
-use Rattle.wh_engine.proofs.WrittenBatch.{a_batch_is_written}
+use Rattle.wh_plan.proofs.WrittenBatch.{a_batch_is_written}
 
 held_as : (limits : Limits) (commands : List Accepted) (session : Session) (t : Tables) → session ≡ record { limits = limits; policy = in_force commands; must_reopen = false } → IsAccepted limits commands → AreOf limits commands t → IsHeld session commands t
 held_as limits commands session t is accepted are = rw is (record { accepted = accepted; are = are; policy = refl })

@@ -10,7 +10,7 @@ use Rattle.wh_history.specs.Tables.{Limits}
 use Rattle.wh_rows.specs.Types.{is_key}
 use Rattle.wh_engine.specs.Admission.{kind_word, content_of, in_force, accepted_as, receipt_of, changes_in, first_line_there, with_lines, when_read, answer, with_content, after_answer, accepted_after}
 use Rattle.wh_engine.specs.Redelivered.{receipt_told, HasReceipt}
-use Rattle.wh_engine.specs.Sound.{changes_kept}
+use Rattle.wh_plan.specs.Sound.{changes_kept}
 use Rattle.wh_engine.specs.declared.command.Command.{Command}
 use Rattle.wh_engine.specs.declared.command.Limit.TheVariants.{Commands, Changes, Facts}
 use Rattle.wh_engine.specs.declared.command.Receipt.{Receipt}

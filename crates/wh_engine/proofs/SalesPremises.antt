@@ -7,13 +7,13 @@ use Rattle.wh_policy.specs.declared.record.SaleRecord.{SaleRecord}
 use Rattle.wh_history.specs.Accepted.{Accepted, Sells, anchors, members, placeholders_by, sold}
 use Rattle.wh_history.specs.Tables.{Limits}
 use Rattle.wh_engine.specs.Admission.{first_line_there}
-use Rattle.wh_engine.specs.Defined.{fact_at}
-use Rattle.wh_engine.specs.Planned.{Edits, AreEdits}
-use Rattle.wh_engine.specs.Sound.{same_line, IsAccepted}
-use Rattle.wh_engine.proofs.SalesEdits.{members_joined, all_counted}
+use Rattle.wh_plan.specs.Defined.{fact_at}
+use Rattle.wh_plan.specs.Planned.{Edits, AreEdits}
+use Rattle.wh_plan.specs.Sound.{same_line, IsAccepted}
+use Rattle.wh_plan.proofs.SalesEdits.{members_joined, all_counted}
 use Rattle.wh_engine.proofs.SameLines.{line_stored}
-use Rattle.wh_engine.proofs.Selling.{sold_more}
-use Rattle.wh_engine.proofs.SmallNumbers.{anchors_few, members_few}
+use Rattle.wh_plan.proofs.Selling.{sold_more}
+use Rattle.wh_plan.proofs.SmallNumbers.{anchors_few, members_few}
 use Rattle.wh_engine.proofs.StaysAccepted.{AreNew, all_new}
 
 distinct_back : {X : Type 0} (same : X → X → Bool) (xs ys : List X) → IsDistinct same (xs ++ ys) → IsDistinct same ys

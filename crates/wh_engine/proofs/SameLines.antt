@@ -8,8 +8,8 @@ use Rattle.wh_policy.specs.declared.record.SaleRecord.{SaleRecord}
 use Rattle.wh_history.specs.Accepted.{Accepted, sold}
 use Rattle.wh_history.specs.Tables.{fact_of}
 use Rattle.wh_engine.specs.Admission.{first_line_there}
-use Rattle.wh_engine.specs.Defined.{fact_at}
-use Rattle.wh_engine.specs.Sound.{same_line}
+use Rattle.wh_plan.specs.Defined.{fact_at}
+use Rattle.wh_plan.specs.Sound.{same_line}
 
 same_back : (a b : SaleRecord) → same_line a b ≡ true → same_line b a ≡ true
 same_back a b h =

@@ -25,9 +25,8 @@ use Rattle.wh_history.proofs.Joins.{all_append}
 use Rattle.wh_history.proofs.Stays.{policy_last, types-last}
 use Rattle.wh_history.proofs.Untouched.{described-last}
 use Rattle.wh_rows.specs.Types.{is_key, is_kind}
-use Rattle.wh_engine.specs.Admission.{kind_word, content_of, in_force, accepted_as, changes_in, first_line_there, with_lines, when_read, answer, with_content, after_answer, accepted_after}
-use Rattle.wh_engine.specs.Sound.{IsGoodRecord, IsGoodSale, same_line, changes_kept, IsAccepted}
-use Rattle.wh_engine.specs.Laws.{AcceptedListsStaySound}
+use Rattle.wh_engine.specs.Admission.{kind_word, content_of, in_force, accepted_as, changes_in, first_line_there, with_lines, when_read, answer, with_content, after_answer, accepted_after, AcceptedListsStaySound}
+use Rattle.wh_plan.specs.Sound.{IsGoodRecord, IsGoodSale, same_line, changes_kept, IsAccepted}
 use Rattle.wh_engine.specs.declared.command.Command.{Command}
 use Rattle.wh_engine.specs.declared.command.Receipt.{Receipt}
 use Rattle.wh_engine.specs.declared.command.Reply.{Reply}

@@ -15,7 +15,7 @@ use Rattle.wh_history.specs.Keys.{place}
 use Rattle.wh_history.specs.Accepted.{Accepted, Content, Governs, Describes, Sells, policy_after, sold, sold_by, records_by, placeholders_by}
 use Rattle.wh_history.specs.Tables.{Limits}
 use Rattle.wh_rows.specs.Types.{is_key}
-use Rattle.wh_engine.specs.Sound.{changes_kept, same_line}
+use Rattle.wh_plan.specs.Sound.{IsAccepted, changes_kept, same_line}
 use Rattle.wh_engine.specs.declared.command.Command.{Command}
 use Rattle.wh_engine.specs.declared.command.Receipt.{Receipt}
 use Rattle.wh_engine.specs.declared.command.Reply.{Reply}
@@ -102,3 +102,7 @@ after_answer commands c (Err why) = commands
 
 abbrev pub accepted_after : Limits → List Accepted → Command → List Accepted
 accepted_after limits commands c = after_answer commands c (answer limits commands c)
+
+-- After a batch, accepted or not, the list of accepted commands is again one that a warehouse can have accepted.
+abbrev pub AcceptedListsStaySound : Type 0
+AcceptedListsStaySound = (limits : Limits) (commands : List Accepted) (c : Command) → IsAccepted limits commands → IsAccepted limits (accepted_after limits commands c)

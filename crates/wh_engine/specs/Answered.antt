@@ -8,8 +8,8 @@ use Rattle.wh_history.specs.Tables.{Limits}
 use Rattle.wh_rows.specs.AtRest.{AreTrees, IsAtRest}
 use Rattle.wh_rows.specs.Tables.{Tables}
 use Rattle.wh_engine.specs.Admission.{in_force, answer, accepted_after}
-use Rattle.wh_engine.specs.Defined.{AreOf}
-use Rattle.wh_engine.specs.Sound.{changes_kept, IsAccepted}
+use Rattle.wh_plan.specs.Defined.{AreOf}
+use Rattle.wh_plan.specs.Sound.{changes_kept, IsAccepted}
 use Rattle.wh_engine.specs.declared.command.Command.{Command}
 use Rattle.wh_engine.specs.declared.command.Reply.{Reply}
 use Rattle.wh_engine.specs.declared.counts.Counts.{Counts}

@@ -12,10 +12,10 @@ ghost use Rattle.wh_rows.specs.Tables.{Tables as Rows};
 ghost use Rattle.wh_sql.specs.Refusal.{IsUndamaged, IsWhole};
 ghost use Rattle.wh_engine.specs.Admission.{kind_word, changes_in, first_line_there};
 ghost use Rattle.wh_engine.specs.Decided.{receipt_of_known, number_for};
-ghost use Rattle.wh_engine.specs.Defined.{AreOf};
+ghost use Rattle.wh_plan.specs.Defined.{AreOf};
 ghost use Rattle.wh_engine.specs.Faults.{IsServed, IsWorkedOut, Judges};
-ghost use Rattle.wh_engine.specs.Reads.{IsCalm, FindsNoDamage};
-ghost use Rattle.wh_engine.specs.Sound.{IsAccepted, same_line};
+ghost use Rattle.wh_plan.specs.Reads.{IsCalm, FindsNoDamage};
+ghost use Rattle.wh_plan.specs.Sound.{IsAccepted, same_line};
 
 use crate::command::{Command, Limit, Receipt, Refused};
 use crate::fault::Fault;

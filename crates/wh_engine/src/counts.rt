@@ -8,13 +8,13 @@ ghost use Rattle.wh_history.specs.Tables.{Limits};
 ghost use Rattle.wh_rows.specs.AtRest.{IsAtRest, Leaves};
 ghost use Rattle.wh_rows.specs.Tables.{Tables as Rows};
 ghost use Rattle.wh_engine.specs.Answered.{IsReady, IsCounted, counts_of};
-ghost use Rattle.wh_engine.specs.Defined.{AreOf};
+ghost use Rattle.wh_plan.specs.Defined.{AreOf};
 ghost use Rattle.wh_engine.specs.Faults.{IsServed, IsWorkedOut, Judges};
-ghost use Rattle.wh_engine.specs.Sound.{IsAccepted};
+ghost use Rattle.wh_plan.specs.Sound.{IsAccepted};
 
 use crate::engine::Engine;
 use crate::fault::{Fault, stops};
-use crate::kept::members_given;
+use wh_plan::kept::members_given;
 use sqlite::Alter;
 use std::alloc::Global;
 use wh_day::ReadError;

@@ -7,7 +7,7 @@ ghost use Rattle.wh_history.specs.Accepted.{Accepted};
 ghost use Rattle.wh_history.specs.Tables.{Limits as Counts};
 ghost use Rattle.wh_engine.specs.Answered.{LeavesOneOf, IsReady};
 ghost use Rattle.wh_engine.specs.Redelivered.{IsRedelivered};
-ghost use Rattle.wh_engine.specs.Sound.{IsAccepted};
+ghost use Rattle.wh_plan.specs.Sound.{IsAccepted};
 
 use crate::command::{Command, Reply};
 use crate::engine::Engine;

@@ -5,10 +5,10 @@ ghost use Rattle.sqlite.specs.Held.{state};
 ghost use Rattle.sqlite.specs.State.{HasCleanDisk};
 ghost use Rattle.wh_rows.specs.AtRest.{AreTrees, IsAtRest, IsWriting, Leaves};
 ghost use Rattle.wh_rows.specs.Tables.{Tables as Rows};
-ghost use Rattle.wh_engine.specs.Planned.{with_dimensions, with_lists, with_all_edits};
-ghost use Rattle.wh_engine.specs.Writable.{MayBeEdited, MayBePutIn, MayBeWritten};
+ghost use Rattle.wh_plan.specs.Planned.{with_dimensions, with_lists, with_all_edits};
+ghost use Rattle.wh_plan.specs.Writable.{MayBeEdited, MayBePutIn, MayBeWritten};
 
-use crate::edits::Edits;
+use wh_plan::Edits;
 use sqlite::Alter;
 use std::alloc::Global;
 use wh_history::{DimRow, Edit, Fact};

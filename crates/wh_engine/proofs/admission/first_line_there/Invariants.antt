@@ -6,7 +6,7 @@ use Rattle.wh_history.specs.Tables.{Limits}
 use Rattle.wh_rows.specs.AtRest.{IsAtRest}
 use Rattle.wh_rows.specs.Tables.{Tables as Rows}
 use Rattle.wh_engine.specs.Admission.{first_line_there}
-use Rattle.wh_engine.specs.Defined.{AreOf}
+use Rattle.wh_plan.specs.Defined.{AreOf}
 use Rattle.wh_engine.proofs.admission.first_line_there.Given as goal
 
 -- the first line among the sales that are left, counted on, is the first among all

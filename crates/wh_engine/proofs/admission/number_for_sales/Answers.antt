@@ -3,8 +3,8 @@ use Rattle.std.specs.FinMap.{len}
 use Rattle.std.proofs.lemmas.Bool.{leb-true, leb-false}
 use Rattle.wh_history.specs.Accepted.{Sells, sold}
 use Rattle.wh_engine.specs.Admission.{first_line_there}
-use Rattle.wh_engine.specs.Sound.{changes_kept}
-use Rattle.wh_engine.proofs.FoundCommands.{commands_counted}
+use Rattle.wh_plan.specs.Sound.{changes_kept}
+use Rattle.wh_plan.proofs.FoundCommands.{commands_counted}
 use Rattle.wh_engine.proofs.FoundFacts.{facts_counted}
 use Rattle.wh_engine.proofs.Decisions.{no_room, line_is_there, too_many_facts, has_room, is_none}
 use Rattle.wh_engine.proofs.admission.number_for_sales.Goals as goal

@@ -1,4 +1,4 @@
-use Rattle.wh_engine.proofs.PlanPremises.{values_before}
+use Rattle.wh_plan.proofs.PlanPremises.{values_before}
 use Rattle.wh_engine.proofs.SalesPremises.{lines_absent, lines_distinct, numbers_small}
 use Rattle.wh_engine.proofs.decision.accept_sales.Goals as goal
 

@@ -1,5 +1,0 @@
-use Rattle.wh_engine.proofs.Placeholders.{sales_put_placeholders}
-use Rattle.wh_engine.proofs.laws.sales_put_placeholders.Goals as goal
-
-pub returns : goal.returns
-returns c = sales_put_placeholders

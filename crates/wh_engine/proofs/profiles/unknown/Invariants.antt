@@ -1,6 +1,0 @@
-use Rattle.std.proofs.Common.{◌≡◌, ◌++◌, drop}
-use Rattle.wh_engine.specs.Learned.{unknown}
-use Rattle.wh_engine.proofs.profiles.unknown.Given as goal
-
-abbrev pub invariant-loop-texts : goal.invariant-loop-texts
-invariant-loop-texts l = l.found.items ++ unknown l.known (drop l.texts-index l.combinations) ≡ unknown l.known l.combinations

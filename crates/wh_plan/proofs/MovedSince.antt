@@ -1,0 +1,204 @@
+-- Where a member has an earlier record, its facts of the days before a batch's first record of it stay.
+use Rattle.std.proofs.Common.{◌≡◌, ℕ, ◌<◌, ◌≤◌, Bool, true, false, cond, not, ◌&&◌, nat_lt, List, [], ◌∷◌, ◌++◌, length, drop, map, Option, Some, None, refl, sym, ◌∙◌, ap, subst, arith, inl, inr, Ordering, Less, Equal, Greater}
+use Rattle.std.specs.Prelude.{bytes_eq, find, filter, is_some, option_map}
+use Rattle.std.specs.FinMap.{values, get}
+use Rattle.std.specs.List.{AllByRecursion, list_any}
+use Rattle.std.specs.Ordering.{eq_by_cmp, is_ge, nat_cmp, MatchOrdering}
+use Rattle.std.specs.Cmp.{ranks}
+use Rattle.std.proofs.Math.Seq.{drop-append_seam}
+use Rattle.std.proofs.lemmas.Bool.{cases_lt, lt-ltb, le-ltb}
+use Rattle.std.proofs.lemmas.List.{map-append}
+use Rattle.std.proofs.lemmas.List.Elements.{filter-append}
+use Rattle.std.proofs.lemmas.Slice.Eq.{bytes_eq-Decides}
+use Rattle.wh_day.specs.Day.{is_day, first_day}
+use Rattle.wh_day.proofs.Days.{from_first}
+use Rattle.wh_policy.specs.declared.attribute.AttributeType.{AttributeType}
+use Rattle.wh_policy.specs.declared.attribute.Dim.{Dim}
+use Rattle.wh_policy.specs.declared.attribute.Dim.TheVariants.{Product, Store, Customer}
+use Rattle.wh_policy.specs.declared.record.DimensionRecord.{DimensionRecord}
+use Rattle.wh_policy.specs.declared.record.SaleRecord.{SaleRecord}
+use Rattle.wh_history.specs.Accepted.{Accepted, Content, Describes, described, described_by, sold, member_of_sale, members, durable_key, surrogate_key, opening_of, member_of, types_in, profiles_of, change_of, changes_of}
+use Rattle.wh_history.specs.Dated.{at, dated}
+use Rattle.wh_history.specs.Facts.{key_in, keys_with, moved_to}
+use Rattle.wh_history.specs.Laws.{ChangesHaveDays, governs}
+use Rattle.wh_history.specs.Profiles.{current_profile, profile_now, profile_number}
+use Rattle.wh_history.specs.Rows.{rows}
+use Rattle.wh_history.specs.Tables.{Limits, fact_of, key_at, profile_at}
+use Rattle.wh_history.specs.declared.facts.Fact.{Fact}
+use Rattle.wh_history.specs.declared.facts.FactKeys.{FactKeys}
+use Rattle.wh_history.specs.declared.member.Change.{Change}
+use Rattle.wh_history.proofs.Basics.{both_true, some_is}
+use Rattle.wh_history.proofs.Batches.{same_dimension}
+use Rattle.wh_history.proofs.Effective.{days_in}
+use Rattle.wh_history.proofs.Growth.{durable_stays, surrogate_stays}
+use Rattle.wh_history.proofs.Joins.{all_weaker}
+use Rattle.wh_history.proofs.Places.{at_place-place}
+use Rattle.wh_history.proofs.Records.{changes_stay}
+use Rattle.wh_history.proofs.Since.{at_stays, key_stays}
+use Rattle.wh_history.proofs.Stays.{types-last, profile_of_day_stays}
+use Rattle.wh_history.proofs.Untouched.{described-last}
+use Rattle.wh_rows.proofs.Orders.{line_cmp_total, line_cmp-IsAntisymmetric}
+use Rattle.wh_rows.specs.Rows as row
+use Rattle.wh_rows.specs.Tables.{Tables}
+use Rattle.wh_rows.specs.declared.key.LineKey.{LineKey}
+use Rattle.wh_sql.specs.Asked.{durable_of}
+use Rattle.wh_plan.specs.Defined.{AreOf, fact_at}
+use Rattle.wh_plan.specs.Moved.{moved_for, moves_by, earliest, moves_since, since_first, facts_with, facts_since}
+use Rattle.wh_plan.specs.Sound.{IsGoodSale, IsAccepted}
+use Rattle.wh_plan.proofs.FoundPlaces.{same_number_is}
+use Rattle.wh_plan.proofs.GrownMembers.{opening_given}
+use Rattle.wh_plan.proofs.Listed.{none_passes}
+use Rattle.wh_plan.proofs.MovedFacts.{on_line}
+use Rattle.wh_plan.proofs.MovedKeys.{keys_for, own_keys, owner_is, same_as_itself, sold_same}
+use Rattle.wh_plan.proofs.MovedLists.{found_has, idle_left_out, none_left}
+use Rattle.wh_plan.proofs.PlanPremises.{days_after, days_before}
+
+-- ---- the earliest day
+
+earliest_first : (cs : List Change) → AllByRecursion (λ (d : Change). earliest cs ≤ d.day) cs
+earliest_first [] = tt
+earliest_first (c ∷ cs) =
+    let rest = earliest_first cs in
+    elim (cases_lt c.day (earliest cs)) [
+      | inl less ↦ subst (λ b. AllByRecursion (λ (d : Change). cond b c.day (earliest cs) ≤ d.day) (c ∷ cs)) (sym (lt-ltb c.day (earliest cs) less))
+          (omega arith, all_weaker (λ (d : Change). earliest cs ≤ d.day) (λ (d : Change). c.day ≤ d.day) (λ d late. omega (arith, late, less)) cs rest)
+      | inr late ↦ subst (λ b. AllByRecursion (λ (d : Change). cond b c.day (earliest cs) ≤ d.day) (c ∷ cs)) (sym (le-ltb c.day (earliest cs) late)) (late, rest)
+    ]
+
+-- a day that isn't since another is before it
+before_it : (day from : ℕ) → is_ge (nat_cmp day from) ≡ false → day < from
+before_it day from h = go (nat_cmp day from) (ranks day from) h
+  where
+    go : (o : Ordering) → MatchOrdering o (day < from) (day ≡ from) (from < day) → is_ge o ≡ false → day < from
+    go Less less h = less
+    go Equal same h = absurd cc
+    go Greater more h = absurd cc
+
+not_is : (b : Bool) → not b ≡ true → b ≡ false
+not_is true h = absurd cc
+not_is false h = refl
+
+module _ (limits : Limits) (commands : List Accepted) (c : Accepted) (rs : List DimensionRecord) (ok : IsAccepted limits (commands ++ c ∷ [])) where
+  abbrev after : List Accepted
+  after = commands ++ c ∷ []
+
+  module _ (dim : Dim) (is : c.content ≡ Describes dim rs) (natural : List ℕ) where
+    abbrev named : DimensionRecord → Bool
+    named r = bytes_eq r.natural natural
+
+    abbrev old : List Change
+    old = changes_of dim commands natural
+
+    abbrev new : List Change
+    new = map (change_of dim after) (filter named rs)
+
+    more : changes_of dim after natural ≡ old ++ new
+    more =
+        let told : described dim after ≡ described dim commands ++ rs =
+        described-last dim commands c ∙ ap (λ (content : Content). described dim commands ++ described_by dim content) is ∙ ap (λ (qs : List DimensionRecord). described dim commands ++ qs) (same_dimension dim rs) in
+        ap (λ (qs : List DimensionRecord). map (change_of dim after) (filter named qs)) told
+        ∙ ap (map (change_of dim after)) (filter-append named (described dim commands) rs)
+        ∙ map-append (change_of dim after) (filter named (described dim commands)) (filter named rs)
+        ∙ ap (λ (cs : List Change). cs ++ new) (changes_stay dim commands (c ∷ []) natural)
+
+    -- the first day of the new changes
+    abbrev first : ℕ
+    first = earliest (drop (length old) (changes_of dim after natural))
+
+    late : AllByRecursion (λ (d : Change). first ≤ d.day) new
+    late =
+        let left : drop (length old) (changes_of dim after natural) ≡ new = ap (drop (length old)) more ∙ drop-append_seam old new in
+        subst (λ (cs : List Change). AllByRecursion (λ (d : Change). earliest cs ≤ d.day) new) (sym left) (earliest_first new)
+
+    days_old : ChangesHaveDays old
+    days_old = days_in dim commands natural (described dim commands) (days_before limits commands c ok dim)
+
+    days_all : ChangesHaveDays (changes_of dim after natural)
+    days_all = days_in dim after natural (described dim after) (days_after limits commands c ok dim)
+
+    module _ (given : 0 < durable_key dim commands natural) (earlier : list_any (λ (d : Change). nat_lt d.day first) old ≡ true) (day : ℕ) (less : day < first) where
+      at_same : at day (dated (changes_of dim after natural)) ≡ at day (dated old)
+      at_same = at_stays (member_of dim commands natural) (member_of dim after natural) first new more late earlier day less
+
+      key_same : is_day day ≡ true → key_at after dim day natural ≡ key_at commands dim day natural
+      key_same within =
+          let opening : surrogate_key dim after (opening_of natural) ≡ surrogate_key dim commands (opening_of natural) =
+          surrogate_stays dim commands (c ∷ []) (opening_of natural) (opening_given dim commands (durable_key dim commands natural) natural (at_place-place bytes_eq bytes_eq-Decides natural (members dim commands) given)) in
+          ap (λ (kinds : List AttributeType). key_in (rows kinds (profiles_of after) (member_of dim after natural)) day) (types-last dim commands c (ap governs is))
+          ∙ key_stays (member_of dim commands natural) (member_of dim after natural) first new more late earlier (types_in dim commands) days_old days_all opening
+          (profile_now (types_in dim commands) (profiles_of after) (member_of dim after natural)) (profile_now (types_in dim commands) (profiles_of commands) (member_of dim commands natural)) day within less
+
+  profile_same : (is : c.content ≡ Describes Customer rs) (natural : List ℕ) (given : 0 < durable_key Customer commands natural) → list_any (λ (d : Change). nat_lt d.day (first Customer is natural)) (changes_of Customer commands natural) ≡ true
+      → (day : ℕ) → day < first Customer is natural → profile_at after day natural ≡ profile_at commands day natural
+  profile_same is natural given earlier day less =
+      ap (λ (kinds : List AttributeType). current_profile kinds (profiles_of after) (at day (dated (changes_of Customer after natural)))) (types-last Customer commands c (ap governs is))
+      ∙ ap (current_profile (types_in Customer commands) (profiles_of after)) (at_same Customer is natural given earlier day less)
+      ∙ profile_of_day_stays commands c (ap governs is) natural day
+
+  -- a fact of an earlier day gets the keys that it would have had
+  keys_early : (dim : Dim) (is : c.content ≡ Describes dim rs) (natural : List ℕ) (given : 0 < durable_key dim commands natural) → list_any (λ (d : Change). nat_lt d.day (first dim is natural)) (changes_of dim commands natural) ≡ true
+      → (f : Fact) → is_day f.day ≡ true → f.day < first dim is natural → keys_for after dim natural f ≡ keys_for commands dim natural f
+  keys_early Product is natural given earlier f within less = ap (λ key. keys_with Product key 0 f.keys) (key_same Product is natural given earlier f.day less within)
+  keys_early Store is natural given earlier f within less = ap (λ key. keys_with Store key 0 f.keys) (key_same Store is natural given earlier f.day less within)
+  keys_early Customer is natural given earlier f within less =
+      ap (λ key. keys_with Customer key (profile_at after f.day natural) f.keys) (key_same Customer is natural given earlier f.day less within)
+      ∙ ap (λ number. keys_with Customer (key_at commands Customer f.day natural) number f.keys) (profile_same is natural given earlier f.day less)
+
+  module _ (dim : Dim) (is : c.content ≡ Describes dim rs) (t : Tables) (are : AreOf limits commands t) where
+    good_sales : AllByRecursion IsGoodSale (sold commands)
+    good_sales = subst (AllByRecursion IsGoodSale) (sold_same commands c rs dim is) ok.sales
+
+    -- a stored fact is that of a sale
+    sale_of : (key : LineKey) (f : Fact) → fact_at commands key ≡ Some f → (s : SaleRecord) × (fact_of commands s ≡ f) × (is_day s.day ≡ true)
+    sale_of key f there = by_sale (find (on_line key) (sold commands)) refl there
+      where
+        by_sale : (o : Option SaleRecord) → find (on_line key) (sold commands) ≡ o → option_map (fact_of commands) o ≡ Some f → (s : SaleRecord) × (fact_of commands s ≡ f) × (is_day s.day ≡ true)
+        by_sale None found h = absurd cc
+        by_sale (Some s) found h = (s, some_is (fact_of commands s) f h, (found_has IsGoodSale (on_line key) (sold commands) s good_sales found).day)
+
+    module _ (natural : List ℕ) (given : 0 < durable_key dim commands natural) where
+      abbrev since : ℕ
+      since = moves_since (changes_of dim commands natural) (changes_of dim after natural)
+
+      keys_since : (f : Fact) → is_day f.day ≡ true → f.day < since → keys_for after dim natural f ≡ keys_for commands dim natural f
+      keys_since f within before =
+          elim (list_any (λ (d : Change). nat_lt d.day (first dim is natural)) (changes_of dim commands natural)) as (λ b. (list_any (λ (d : Change). nat_lt d.day (first dim is natural)) (changes_of dim commands natural) ≡ b)
+          → f.day < cond b (first dim is natural) first_day → keys_for after dim natural f ≡ keys_for commands dim natural f) [
+            | true ↦ λ earlier less. keys_early dim is natural given earlier f within less
+            | false ↦ λ _ less. absurd (omega (arith, less, from_first f.day within))
+          ] refl before
+
+      -- a fact of the member before that day doesn't move
+      stays_before : (key : LineKey) (f : Fact) → get t.fact key ≡ Some f → eq_by_cmp nat_cmp (durable_key dim after natural) (durable_of dim f) ≡ true → f.day < since → moved_for after dim natural f ≡ None
+      stays_before key f here own before =
+          let sale = sale_of key f (sym (are.fact key) ∙ here) in
+          let s : SaleRecord = sale.0 in
+          let durable : durable_key dim commands natural ≡ durable_of dim f = sym (durable_stays dim commands (c ∷ []) natural given) ∙ same_number_is (durable_key dim after natural) (durable_of dim f) own in
+          let its : member_of_sale dim s ≡ Some natural = owner_is dim commands s natural given (durable ∙ ap (durable_of dim) (sym sale.1)) in
+          let keys : keys_for commands dim natural f ≡ f.keys = subst (λ (g : Fact). keys_for commands dim natural g ≡ g.keys) sale.1 (own_keys dim commands s natural its) in
+          let within : is_day f.day ≡ true = subst (λ (g : Fact). is_day g.day ≡ true) sale.1 sale.2 in
+          ap (moved_to f) (keys_since f within before ∙ keys) ∙ ap (λ b. cond b None (Some f)) (same_as_itself f.keys)
+
+      abbrev own : Fact → Bool
+      own f = eq_by_cmp nat_cmp (durable_key dim after natural) (durable_of dim f)
+
+      abbrev is_since : Fact → Bool
+      is_since f = is_ge (nat_cmp f.day since)
+
+      abbrev moves_early : Fact → Bool
+      moves_early f = own f && (not (is_since f) && is_some (moved_for after dim natural f))
+
+      none_early : (key : LineKey) (f : Fact) → get t.fact key ≡ Some f → moves_early f ≡ true → ⊥
+      none_early key f here passes =
+          let parts = both_true (own f) (not (is_since f) && is_some (moved_for after dim natural f)) passes in
+          let rest = both_true (not (is_since f)) (is_some (moved_for after dim natural f)) parts.1 in
+          let none = stays_before key f here parts.0 (before_it f.day since (not_is (is_since f) rest.0)) in
+          let some : is_some (moved_for after dim natural f) ≡ true = rest.1 in
+          let not_some : is_some (moved_for after dim natural f) ≡ false = ap is_some none in
+          cc
+
+      -- so of its facts only those since it are asked for
+      pub moves_since_are_all : moves_by (types_in dim after) (profile_number (profiles_of after)) dim (member_of dim after natural) (facts_since t.fact dim (durable_key dim after natural) since)
+          ≡ moves_by (types_in dim after) (profile_number (profiles_of after)) dim (member_of dim after natural) (facts_with t.fact dim (durable_key dim after natural))
+      moves_since_are_all = idle_left_out own is_since (moved_for after dim natural) (values t.fact)
+          (none_left moves_early (values t.fact) (none_passes row.line_cmp line_cmp_total line_cmp-IsAntisymmetric row.fact.key moves_early t.fact none_early))

@@ -1,0 +1,97 @@
+-- A batch of one dimension leaves the others' members and rows.
+use Rattle.std.proofs.Common.{◌≡◌, ℕ, suc, ◌-◌, true, false, cond, List, [], ◌∷◌, ◌++◌, length, map, Option, Some, None, inl, refl, sym, ◌∙◌, ap, subst, append-nil, arith}
+use Rattle.std.specs.Prelude.{bytes_eq, filter_map}
+use Rattle.std.specs.List.{range_with_len, cons_option}
+use Rattle.wh_policy.specs.declared.attribute.Dim.{Dim}
+use Rattle.wh_policy.specs.declared.attribute.Dim.TheVariants.{Product, Store, Customer}
+use Rattle.wh_policy.specs.declared.policy.Policy.{Policy}
+use Rattle.wh_policy.specs.declared.record.DimensionRecord.{DimensionRecord}
+use Rattle.wh_policy.specs.Written.{IsSound}
+use Rattle.wh_history.specs.Keys.{distinct}
+use Rattle.wh_history.specs.Accepted.{Accepted, Anchor, Describes, same_dim, members, policy_after}
+use Rattle.wh_history.specs.Plan.{Needs, IsPlan}
+use Rattle.wh_history.specs.Tables.{dimension_row}
+use Rattle.wh_history.specs.declared.plan.Edit.{Edit}
+use Rattle.wh_history.specs.declared.rows.DimRow.{DimRow}
+use Rattle.wh_history.proofs.Basics.{some_is}
+use Rattle.wh_rows.specs.declared.key.MemberKey.{MemberKey}
+use Rattle.wh_plan.specs.Defined.{member_at}
+use Rattle.wh_plan.specs.Laws.{ShowsNoProfile}
+use Rattle.wh_plan.specs.Planned.{Edits, rows_of_dimension, in_dimension, behind, members_behind, new_members}
+use Rattle.wh_plan.proofs.GrownOthers.{same_dim_is, mentions_stay, table_stays, plain_table_stays}
+use Rattle.wh_plan.proofs.GrownPlain.{sound_policies_show_none}
+
+-- ---- no edit
+
+pub none_needed : (key : ℕ) (old new : Option DimRow) → new ≡ old → Needs key old new None
+none_needed key None None is = refl
+none_needed key None (Some new) is = absurd cc
+none_needed key (Some old) None is = absurd cc
+none_needed key (Some old) (Some new) is = inl (sym (some_is new old is), refl)
+
+empty_plan : (before after : ℕ → Option DimRow) → ((key : ℕ) → after key ≡ before key) → IsPlan (λ (r : DimRow). r.surrogate) before after []
+empty_plan before after same = record { ordered = tt; exact = λ key. none_needed key (before key) (after key) (same key) }
+
+-- ---- no member
+
+pub none_behind : (low high : ℕ) → high ≡ low → behind low high ≡ []
+none_behind low high same = let none : high - low ≡ 0 = omega (arith, same) in ap (range_with_len (suc low)) none
+
+alone : (xs ys zs : List MemberKey) → ys ≡ [] → zs ≡ [] → xs ++ ys ++ zs ≡ xs
+alone xs [] [] first second = append-nil (xs ++ []) ∙ append-nil xs
+alone xs [] (z ∷ zs) first second = absurd cc
+alone xs (y ∷ ys) zs first second = absurd cc
+
+joined : (dim : Dim) (keys : Dim → List MemberKey) → ((other : Dim) → same_dim other dim ≡ false → keys other ≡ []) → keys Product ++ keys Store ++ keys Customer ≡ keys dim
+joined Product keys none = alone (keys Product) (keys Store) (keys Customer) (none Store refl) (none Customer refl)
+joined Store keys none = rw (none Product refl, none Customer refl) (append-nil (keys Store))
+joined Customer keys none = rw (none Product refl, none Store refl) refl
+
+pub made_mapped : {X Y Z : Type 0} (f : X → Y) (make : Y → Option Z) (xs : List X) → filter_map make (map f xs) ≡ filter_map (λ x. make (f x)) xs
+made_mapped f make [] = refl
+made_mapped f make (x ∷ xs) = ap (cons_option (make (f x))) (made_mapped f make xs)
+
+module _ (dim : Dim) (commands : List Accepted) (c : Accepted) (records : List DimensionRecord) (is : c.content ≡ Describes dim records) where
+  abbrev after : List Accepted
+  after = commands ++ c ∷ []
+
+  no_members : (other : Dim) → same_dim other dim ≡ false → members_behind commands after other ≡ []
+  no_members other apart =
+      let as_many : length (members other after) ≡ length (members other commands) = ap (λ ms. length (distinct bytes_eq (map (λ (a : Anchor). a.natural) ms))) (mentions_stay dim commands c records is other apart) in
+      ap (map (λ n. record { dim = other; durable = n })) (none_behind (length (members other commands)) (length (members other after)) as_many)
+
+  -- the new members are those of the batch's dimension
+  pub members_told : filter_map (member_at (commands ++ c ∷ [])) (new_members commands (commands ++ c ∷ []))
+      ≡ filter_map (λ n. member_at (commands ++ c ∷ []) (record { dim = dim; durable = n })) (behind (length (members dim commands)) (length (members dim (commands ++ c ∷ []))))
+  members_told =
+      ap (filter_map (member_at after)) (joined dim (members_behind commands after) no_members)
+      ∙ made_mapped (λ n. record { dim = dim; durable = n }) (member_at after) (behind (length (members dim commands)) (length (members dim after)))
+
+  module _ (policy : Policy) (governed : policy_after None commands ≡ Some policy) (sound : IsSound policy) where
+    plain : (other : Dim) → same_dim other dim ≡ false → same_dim Customer dim ≡ true → ShowsNoProfile commands other
+    plain Product apart here = (sound_policies_show_none commands (λ p p_is. subst IsSound (some_is policy p (sym governed ∙ p_is)) sound)).0
+    plain Store apart here = (sound_policies_show_none commands (λ p p_is. subst IsSound (some_is policy p (sym governed ∙ p_is)) sound)).1
+    plain Customer apart here = absurd cc
+
+    stays : (other : Dim) → same_dim other dim ≡ false → (key : ℕ) → dimension_row after other key ≡ dimension_row commands other key
+    stays other apart key =
+        elim (same_dim Customer dim) as (λ b. (same_dim Customer dim ≡ b) → dimension_row after other key ≡ dimension_row commands other key) [
+          | true ↦ λ here. plain_table_stays dim commands c records is other apart (plain other apart here) key
+          | false ↦ λ none. table_stays dim commands c records is other apart none key
+        ] refl
+
+    -- the plan of the batch's dimension, and none for the others
+    planned_for : (rows : List (Edit DimRow ℕ)) → IsPlan (λ (r : DimRow). r.surrogate) (dimension_row commands dim) (dimension_row (commands ++ c ∷ []) dim) rows
+        → (other : Dim) → IsPlan (λ (r : DimRow). r.surrogate) (dimension_row commands other) (dimension_row (commands ++ c ∷ []) other) (in_dimension other dim rows)
+    planned_for rows plan other =
+        elim (same_dim other dim) as (λ b. (same_dim other dim ≡ b) → IsPlan (λ (r : DimRow). r.surrogate) (dimension_row commands other) (dimension_row after other) (cond b rows [])) [
+          | true ↦ λ same. subst (λ d. IsPlan (λ (r : DimRow). r.surrogate) (dimension_row commands d) (dimension_row after d) rows) (sym (same_dim_is other dim same)) plan
+          | false ↦ λ apart. empty_plan (dimension_row commands other) (dimension_row after other) (stays other apart)
+        ] refl
+
+    pub all_planned : (edits : Edits) (rows : List (Edit DimRow ℕ)) → edits.products ≡ in_dimension Product dim rows → edits.stores ≡ in_dimension Store dim rows → edits.customers ≡ in_dimension Customer dim rows
+        → IsPlan (λ (r : DimRow). r.surrogate) (dimension_row commands dim) (dimension_row (commands ++ c ∷ []) dim) rows
+        → (other : Dim) → IsPlan (λ (r : DimRow). r.surrogate) (dimension_row commands other) (dimension_row (commands ++ c ∷ []) other) (rows_of_dimension other edits)
+    all_planned edits rows products stores customers plan Product = rw products (planned_for rows plan Product)
+    all_planned edits rows products stores customers plan Store = rw stores (planned_for rows plan Store)
+    all_planned edits rows products stores customers plan Customer = rw customers (planned_for rows plan Customer)

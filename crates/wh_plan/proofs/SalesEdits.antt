@@ -1,0 +1,130 @@
+-- The edits of a batch of sales.
+use Rattle.std.proofs.Common.{◌≡◌, ℕ, suc, ◌-◌, List, [], ◌∷◌, ◌++◌, length, map, take, Option, Some, None, refl, sym, ◌∙◌, ap, subst, arith, length-append}
+use Rattle.std.specs.Prelude.{filter_map, option_map}
+use Rattle.std.specs.Option.{option_and_then}
+use Rattle.std.specs.List.{AllByRecursion, IsDistinct, cons_option}
+use Rattle.std.proofs.lemmas.List.Elements.{filter_map-append}
+use Rattle.wh_policy.specs.declared.attribute.Dim.{Dim}
+use Rattle.wh_policy.specs.declared.attribute.Dim.TheVariants.{Product, Store, Customer}
+use Rattle.wh_policy.specs.declared.record.SaleRecord.{SaleRecord}
+use Rattle.wh_history.specs.Accepted.{Accepted, Sells, anchors, members, members_after, placeholders_by, profiles_of, records_by}
+use Rattle.wh_history.specs.Plan.{IsPlan}
+use Rattle.wh_history.specs.Tables.{dimension_row, fact_of, change_row_in}
+use Rattle.wh_history.specs.Tables as history
+use Rattle.wh_history.specs.declared.plan.Edit.{Edit}
+use Rattle.wh_history.specs.declared.plan.Edit.TheVariants.{Put}
+use Rattle.wh_history.specs.declared.rows.DimRow.{DimRow}
+use Rattle.wh_rows.specs.declared.rows.ChangeRow.{ChangeRow}
+use Rattle.wh_rows.specs.declared.rows.CommandRow.{CommandRow}
+use Rattle.wh_rows.specs.declared.rows.MemberRow.{MemberRow}
+use Rattle.wh_plan.specs.Defined.{command_at, member_at, change_at, profile_at, fact_at}
+use Rattle.wh_plan.specs.Sound.{same_line}
+use Rattle.wh_plan.specs.Planned.{Edits, AreFacts, AreEdits, behind, members_behind, new_members, rows_of_dimension}
+use Rattle.wh_plan.proofs.GrownKeys.{at_last}
+use Rattle.wh_plan.proofs.OneDimension.{none_behind, made_mapped}
+use Rattle.wh_plan.proofs.Placeholders.{sales_put_placeholders}
+use Rattle.wh_plan.proofs.PlanEdits.{own_row}
+use Rattle.wh_plan.proofs.SalesRows.{members_counted}
+use Rattle.wh_plan.proofs.Selling.{profiles_kept, sales_are_facts}
+
+-- ---- lists
+
+take_front : {X : Type 0} (xs ys : List X) → take (length xs) (xs ++ ys) ≡ xs
+take_front [] ys = refl
+take_front (x ∷ xs) ys = ap (λ zs. x ∷ zs) (take_front xs ys)
+
+take_last : {X : Type 0} (xs : List X) (x : X) → take (suc (length xs)) (xs ++ x ∷ []) ≡ xs ++ x ∷ []
+take_last [] x = refl
+take_last (y ∷ xs) x = ap (λ zs. y ∷ zs) (take_last xs x)
+
+none_given : {X Y : Type 0} (f : X → Option Y) → ((x : X) → f x ≡ None) → (xs : List X) → filter_map f xs ≡ []
+none_given f none [] = refl
+none_given f none (x ∷ xs) = ap (λ o. cons_option o (filter_map f xs)) (none x) ∙ none_given f none xs
+
+module _ (commands : List Accepted) (c : Accepted) (sales : List SaleRecord) (is : c.content ≡ Sells sales) where
+  abbrev after : List Accepted
+  after = commands ++ c ∷ []
+
+  -- ---- the members of three dimensions
+
+  abbrev pub rows_planned : Dim → List MemberRow
+  rows_planned dim = filter_map (λ n. member_at (commands ++ c ∷ []) (record { dim = dim; durable = n })) (behind (length (members dim commands)) (length (members dim (commands ++ c ∷ []))))
+
+  of_dimension : (dim : Dim) → filter_map (member_at after) (members_behind commands after dim) ≡ rows_planned dim
+  of_dimension dim = made_mapped (λ n. record { dim = dim; durable = n }) (member_at after) (behind (length (members dim commands)) (length (members dim after)))
+
+  pub members_joined : (rows_planned Product ++ rows_planned Store) ++ rows_planned Customer ≡ filter_map (member_at after) (new_members commands after)
+  members_joined =
+      let keys = members_behind commands after in
+      sym (filter_map-append (member_at after) (keys Product ++ keys Store) (keys Customer)
+      ∙ ap (λ rs. rs ++ filter_map (member_at after) (keys Customer)) (filter_map-append (member_at after) (keys Product) (keys Store))
+      ∙ ap (λ rs. (rs ++ filter_map (member_at after) (keys Store)) ++ filter_map (member_at after) (keys Customer)) (of_dimension Product)
+      ∙ ap (λ rs. (rows_planned Product ++ rs) ++ filter_map (member_at after) (keys Customer)) (of_dimension Store)
+      ∙ ap (λ rs. (rows_planned Product ++ rows_planned Store) ++ rs) (of_dimension Customer))
+
+  -- as many placeholders are counted
+  pub all_counted : length ((rows_planned Product ++ rows_planned Store) ++ rows_planned Customer) ≡ placeholders_by after (suc (length commands)) c.content
+  all_counted =
+      let products = members_counted Product commands c sales is (rows_planned Product) refl in
+      let stores = members_counted Store commands c sales is (rows_planned Store) refl in
+      let customers = members_counted Customer commands c sales is (rows_planned Customer) refl in
+      let two = length-append (rows_planned Product) (rows_planned Store) in
+      let three = length-append (rows_planned Product ++ rows_planned Store) (rows_planned Customer) in
+      let one_less : suc (length commands) - 1 ≡ length commands = omega arith in
+      let counted : length ((rows_planned Product ++ rows_planned Store) ++ rows_planned Customer) ≡ members_after after - members_after commands = omega arith in
+      counted
+      ∙ sym (ap (placeholders_by after (suc (length commands))) is
+      ∙ ap (λ k. members_after (take (suc (length commands)) after) - members_after (take k after)) one_less
+      ∙ ap (λ cs. members_after cs - members_after (take (length commands) after)) (take_last commands c)
+      ∙ ap (λ cs. members_after after - members_after cs) (take_front commands (c ∷ [])))
+
+  -- ---- no change, and no profile
+
+  no_change : (n : ℕ) → change_at after (record { command = length after; place = n }) ≡ None
+  no_change n =
+      let row : history.ChangeRow → ChangeRow = λ r. record { command = length after; place = n; dim = r.dim; durable = r.durable; day = r.day; anchor = r.anchor; values = r.texts } in
+      ap (λ o. option_map row (option_and_then (λ (d : Accepted). change_row_in after n d.content) o)) (at_last commands c) ∙ ap (λ content. option_map row (change_row_in after n content)) is
+
+  no_changes : filter_map (λ n. change_at after (record { command = length after; place = n })) (behind 0 (records_by c.content)) ≡ []
+  no_changes = none_given (λ n. change_at after (record { command = length after; place = n })) no_change (behind 0 (records_by c.content))
+
+  no_profiles : filter_map (profile_at after) (behind (suc (length (profiles_of commands))) (suc (length (profiles_of after)))) ≡ []
+  no_profiles = ap (filter_map (profile_at after)) (none_behind (suc (length (profiles_of commands))) (suc (length (profiles_of after))) (ap (λ ps. suc (length ps)) (profiles_kept commands c sales is)))
+
+  -- ---- the edits
+
+  abbrev pub table_planned : Dim → List (Edit DimRow ℕ)
+  table_planned dim = map Put (filter_map (dimension_row (commands ++ c ∷ []) dim) (behind (length (anchors dim commands)) (length (anchors dim (commands ++ c ∷ [])))))
+
+  planned : (dim : Dim) (rows : List (Edit DimRow ℕ)) → rows ≡ table_planned dim → IsPlan (λ (r : DimRow). r.surrogate) (dimension_row commands dim) (dimension_row after dim) rows
+  planned dim rows made = subst (IsPlan (λ (r : DimRow). r.surrogate) (dimension_row commands dim) (dimension_row after dim)) (sym made) (sales_put_placeholders commands c dim sales is)
+
+  abbrev counted_as : CommandRow → ℕ → CommandRow
+  counted_as command count = record command { placeholders = count }
+
+  pub edits_sold : (edits : Edits) (command : CommandRow) (count : ℕ) (products stores customers : List MemberRow)
+      → edits.command ≡ record command { placeholders = count } ∷ [] → count ≡ length ((products ++ stores) ++ customers) → edits.members ≡ (products ++ stores) ++ customers
+      → edits.changes ≡ [] → edits.profiles ≡ [] → edits.facts ≡ map (fact_of (commands ++ c ∷ [])) sales
+      → products ≡ rows_planned Product → stores ≡ rows_planned Store → customers ≡ rows_planned Customer
+      → edits.products ≡ table_planned Product → edits.stores ≡ table_planned Store → edits.customers ≡ table_planned Customer
+      → AllByRecursion (λ s. fact_at commands (record { ticket = s.ticket; line = s.line }) ≡ None) sales → IsDistinct same_line sales
+      → command_at (commands ++ c ∷ []) (suc (length commands)) ≡ Some (record command { placeholders = placeholders_by (commands ++ c ∷ []) (suc (length commands)) c.content })
+      → AreEdits commands c edits
+  edits_sold edits command count products stores customers command_is count_is members_are changes_are profiles_are facts_are products_are stores_are customers_are product_rows store_rows customer_rows new distinct at =
+      let all : (products ++ stores) ++ customers ≡ (rows_planned Product ++ rows_planned Store) ++ rows_planned Customer =
+      ap (λ rs. (rs ++ stores) ++ customers) products_are ∙ ap (λ rs. (rows_planned Product ++ rs) ++ customers) stores_are ∙ ap (λ rs. (rows_planned Product ++ rows_planned Store) ++ rs) customers_are in
+      let placeholders = placeholders_by after (suc (length commands)) c.content in
+      let count_all : count ≡ placeholders = count_is ∙ ap length all ∙ all_counted in
+      record {
+        command = command_is ∙ ap (λ n. counted_as command n ∷ []) count_all ∙ own_row commands c (counted_as command placeholders) at;
+        members = members_are ∙ all ∙ members_joined;
+        changes = changes_are ∙ sym no_changes;
+        rows = rows;
+        profiles = profiles_are ∙ sym no_profiles;
+        facts = subst (AreFacts (fact_at commands) (fact_at after)) (sym facts_are) (sales_are_facts commands c sales is new distinct);
+      }
+    where
+      rows : (dim : Dim) → IsPlan (λ (r : DimRow). r.surrogate) (dimension_row commands dim) (dimension_row after dim) (rows_of_dimension dim edits)
+      rows Product = planned Product edits.products product_rows
+      rows Store = planned Store edits.stores store_rows
+      rows Customer = planned Customer edits.customers customer_rows

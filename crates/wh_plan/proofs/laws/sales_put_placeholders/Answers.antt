@@ -1,0 +1,5 @@
+use Rattle.wh_plan.proofs.Placeholders.{sales_put_placeholders}
+use Rattle.wh_plan.proofs.laws.sales_put_placeholders.Goals as goal
+
+pub returns : goal.returns
+returns c = sales_put_placeholders

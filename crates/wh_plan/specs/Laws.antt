@@ -1,0 +1,135 @@
+-- What holds of every batch.
+use Rattle.std.specs.Prelude.{◌≡◌, ◌≢◌, ◌⊎◌, ◌↔◌, ℕ, true, false, List, [], ◌∷◌, ◌++◌, Some, None, Ok, option_map, unwrap_or, map, filter_map, length}
+use Rattle.std.specs.List.{list_any, AllByRecursion, IsDistinct}
+use Rattle.wh_policy.specs.Policy.{policy_at}
+use Rattle.wh_policy.specs.Types.{is_outrigger}
+use Rattle.wh_policy.specs.Written.{IsSound}
+use Rattle.wh_policy.specs.declared.policy.Policy.{Policy}
+use Rattle.wh_policy.specs.declared.attribute.Dim.{Dim}
+use Rattle.wh_policy.specs.declared.attribute.Dim.TheVariants.{Product, Store, Customer}
+use Rattle.wh_policy.specs.declared.record.DimensionRecord.{DimensionRecord}
+use Rattle.wh_policy.specs.declared.record.SaleRecord.{SaleRecord}
+use Rattle.wh_history.specs.Accepted.{Accepted, Describes, Sells, anchors, policy_after, types_in, profiles_of, changes_of, member_of_sale, sold}
+use Rattle.wh_history.specs.Dated.{dated}
+use Rattle.wh_history.specs.Facts.{new_keys}
+use Rattle.wh_history.specs.Keys.{at_place}
+use Rattle.wh_history.specs.Laws.{RecordsHaveDays, IsEffective, governs, mentions_member}
+use Rattle.wh_history.specs.Plan.{IsPlan, row_of}
+use Rattle.wh_history.specs.Tables.{Limits, dimension_row, member_rows, fact_of}
+use Rattle.wh_history.specs.declared.facts.Fact.{Fact}
+use Rattle.wh_history.specs.declared.plan.Edit.{Edit}
+use Rattle.wh_history.specs.declared.plan.Edit.TheVariants.{Put}
+use Rattle.wh_history.specs.declared.rows.DimRow.{DimRow}
+use Rattle.wh_rows.specs.declared.key.LineKey.{LineKey}
+use Rattle.wh_rows.specs.Limits.{are_limits}
+use Rattle.wh_rows.specs.Tables.{Tables}
+use Rattle.wh_plan.specs.Defined.{fact_at, AreOf}
+use Rattle.wh_plan.specs.Made.{making_of}
+use Rattle.wh_plan.specs.Planned.{Edits, with_all_edits, behind, AreFacts, AreEdits}
+use Rattle.wh_plan.specs.Sound.{IsAccepted, same_line}
+use Rattle.wh_plan.specs.Writable.{MayBeWritten}
+use Rattle.wh_plan.specs.Planning.{of_members, naturals_told, durables_touched, rows_of_members, members_among}
+
+-- the rows of a dimension show no profile
+abbrev pub ShowsNoProfile : List Accepted → Dim → Type 0
+ShowsNoProfile commands dim = list_any is_outrigger (types_in dim commands) ≡ false
+
+-- From the tables of the commands so far the edits of a batch, of records or of sales, lead to those of the commands with it.
+abbrev pub BatchesAreWritten : Type 0
+BatchesAreWritten = (limits : Limits) (commands : List Accepted) (c : Accepted) (tables : Tables) (edits : Edits)
+    → governs c.content ≡ false
+    → AreOf limits commands tables
+    → AreEdits commands c edits
+    → AreOf limits (commands ++ c ∷ []) (with_all_edits edits tables)
+
+-- A row of a member that a batch does not mention stands under its key in the tables of the commands so far exactly where it stands
+-- there in those of the commands with it; again where rows of products and stores show no profile.
+abbrev pub UntouchedMembersKeep : Type 0
+UntouchedMembersKeep = (commands : List Accepted) (c : Accepted) (dim : Dim) (natural : List ℕ) (key : ℕ) (r : DimRow)
+    → governs c.content ≡ false
+    → (dim ≢ Customer → ShowsNoProfile commands dim)
+    → mentions_member dim c natural ≡ false
+    → r.natural ≡ natural
+    → (dimension_row commands dim key ≡ Some r) ↔ (dimension_row (commands ++ c ∷ []) dim key ≡ Some r)
+
+-- The rows of products and stores show no profile where the policy in force is sound, as every policy that is read is.
+abbrev pub SoundPoliciesShowNone : Type 0
+SoundPoliciesShowNone = (commands : List Accepted) → ((policy : Policy) → policy_after None commands ≡ Some policy → IsSound policy) → ShowsNoProfile commands Product × ShowsNoProfile commands Store
+
+-- A making under a policy that was read begins such a list.
+abbrev pub AcceptedListsBegin : Type 0
+AcceptedListsBegin = (limits : Limits) (policy : Policy) (bytes : List ℕ) → are_limits limits ≡ true → policy_at bytes ≡ Ok policy → IsAccepted limits (making_of policy bytes ∷ [])
+
+-- The edits of a batch that can be accepted after the commands so far may be written: each row is valid, and no other command has the
+-- id, no other member of the dimension the natural key.
+abbrev pub BatchesMayBeWritten : Type 0
+BatchesMayBeWritten = (limits : Limits) (commands : List Accepted) (c : Accepted) (tables : Tables) (edits : Edits)
+    → governs c.content ≡ false
+    → IsAccepted limits (commands ++ c ∷ [])
+    → AreOf limits commands tables
+    → AreEdits commands c edits
+    → MayBeWritten edits tables
+
+-- Where some rows are those of the touched members in the table before a batch, and others those in the table with it, the edits
+-- between them are the edits between the tables.
+abbrev pub TouchedRowsAreThePlan : Type 0
+TouchedRowsAreThePlan = (commands : List Accepted) (c : Accepted) (dim : Dim) (records : List DimensionRecord) (stored after : List DimRow) (edits : List (Edit DimRow ℕ))
+    → c.content ≡ Describes dim records
+    → (dim ≢ Customer → ShowsNoProfile commands dim)
+    → ((key : ℕ) → row_of key stored ≡ of_members (durables_touched dim commands (commands ++ c ∷ []) records) (dimension_row commands dim key))
+    → ((key : ℕ) → row_of key after ≡ of_members (durables_touched dim commands (commands ++ c ∷ []) records) (dimension_row (commands ++ c ∷ []) dim key))
+    → IsPlan (λ r. r.surrogate) (λ key. row_of key stored) (λ key. row_of key after) edits
+    → IsPlan (λ r. r.surrogate) (dimension_row commands dim) (dimension_row (commands ++ c ∷ []) dim) edits
+
+-- The rows of the touched members that the older commands mention, one member after the other, are those in the table before the batch.
+abbrev pub TouchedRowsBefore : Type 0
+TouchedRowsBefore = (commands : List Accepted) (c : Accepted) (dim : Dim) (records : List DimensionRecord) (key : ℕ)
+    → c.content ≡ Describes dim records
+    → RecordsHaveDays commands
+    → row_of key (rows_of_members commands dim (members_among commands dim (naturals_told records))) ≡ of_members (durables_touched dim commands (commands ++ c ∷ []) records) (dimension_row commands dim key)
+
+-- The rows of all touched members with the batch are those in the table with it.
+abbrev pub TouchedRowsAfter : Type 0
+TouchedRowsAfter = (commands : List Accepted) (c : Accepted) (dim : Dim) (records : List DimensionRecord) (key : ℕ)
+    → c.content ≡ Describes dim records
+    → RecordsHaveDays (commands ++ c ∷ [])
+    → row_of key (rows_of_members (commands ++ c ∷ []) dim (naturals_told records)) ≡ of_members (durables_touched dim commands (commands ++ c ∷ []) records) (dimension_row (commands ++ c ∷ []) dim key)
+
+-- a fact with the keys that its member's rows of a dimension give it, and the profile of its day where that is customer; a sale without a card keeps its zeros
+abbrev pub followed : List Accepted → Dim → SaleRecord → Fact → Fact
+followed commands dim s f =
+    unwrap_or (option_map (λ natural. record f { keys = new_keys (types_in dim commands) (profiles_of commands) dim (member_rows commands dim natural) (dated (changes_of dim commands natural)) f }) (member_of_sale dim s)) f
+
+-- Behind a batch of records each stored fact has the keys that its member's rows of that dimension then give it, and its other keys as they were.
+abbrev pub FactsFollow : Type 0
+FactsFollow = (commands : List Accepted) (c : Accepted) (dim : Dim) (records : List DimensionRecord) (number : ℕ) (s : SaleRecord)
+    → c.content ≡ Describes dim records
+    → (dim ≡ Customer → ShowsNoProfile commands Product × ShowsNoProfile commands Store)
+    → at_place number (sold commands) ≡ Some s
+    → fact_of (commands ++ c ∷ []) s ≡ followed (commands ++ c ∷ []) dim s (fact_of commands s)
+
+-- The facts of a batch of sales whose lines are new, no two of them the same, are exactly what leads to the facts of the commands with it: each fact that was there stays as it was.
+abbrev pub SalesAreFacts : Type 0
+SalesAreFacts = (commands : List Accepted) (c : Accepted) (sales : List SaleRecord)
+    → c.content ≡ Sells sales
+    → AllByRecursion (λ s. fact_at commands (record { ticket = s.ticket; line = s.line }) ≡ None) sales
+    → IsDistinct same_line sales
+    → AreFacts (fact_at commands) (fact_at (commands ++ c ∷ [])) (map (fact_of (commands ++ c ∷ [])) sales)
+
+-- In a dimension's table a batch of sales puts the rows of the members that it is the first to mention, in order of their surrogate keys, and changes nothing else.
+abbrev pub SalesPutPlaceholders : Type 0
+SalesPutPlaceholders = (commands : List Accepted) (c : Accepted) (dim : Dim) (sales : List SaleRecord)
+    → c.content ≡ Sells sales
+    → IsPlan (λ r. r.surrogate) (dimension_row commands dim) (dimension_row (commands ++ c ∷ []) dim)
+    (map Put (filter_map (dimension_row (commands ++ c ∷ []) dim) (behind (length (anchors dim commands)) (length (anchors dim (commands ++ c ∷ []))))))
+
+-- what a fact names of its customer: the one row that holds its day, or without a card the row 0, with no member and no profile
+abbrev pub NamesCustomer : List Accepted → Fact → Type 0
+NamesCustomer commands f = IsEffective commands Customer f.customer_durable f.day f.keys.customer_key ⊎ ((f.customer_durable ≡ 0) × (f.keys.customer_key ≡ 0) × (f.keys.profile ≡ 0))
+
+-- Each fact names in each dimension the one row of its member that holds the day of the sale; without a card it names the customer row 0.
+abbrev pub FactsAreEffective : Type 0
+FactsAreEffective = (limits : Limits) (commands : List Accepted) (key : LineKey) (f : Fact)
+    → IsAccepted limits commands
+    → fact_at commands key ≡ Some f
+    → IsEffective commands Product f.product_durable f.day f.keys.product_key × IsEffective commands Store f.store_durable f.day f.keys.store_key × NamesCustomer commands f

@@ -1,0 +1,13 @@
+pub mod Defined
+pub mod Kept
+pub mod Reads
+pub mod Planned
+pub mod Writable
+pub mod Sound
+pub mod Made
+pub mod Planning
+pub mod Found
+pub mod Learned
+pub mod Laws
+pub mod Moved
+pub mod Mentioned

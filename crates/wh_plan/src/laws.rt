@@ -1,0 +1,68 @@
+//! Laws of the tables that accepted commands define. They speak of the definitions alone and do nothing.
+
+ghost use Rattle.wh_plan.specs.Moved.{LateRecordsMoveFacts};
+ghost use Rattle.wh_plan.specs.Laws.{AcceptedListsBegin, BatchesAreWritten, BatchesMayBeWritten, FactsAreEffective, FactsFollow, SalesAreFacts, SalesPutPlaceholders, SoundPoliciesShowNone, TouchedRowsAfter, TouchedRowsAreThePlan, TouchedRowsBefore, UntouchedMembersKeep};
+
+/// From the tables of the commands so far the edits of a batch of records or of sales lead to those of the commands with
+/// it, in all ten tables.
+pub fn a_batch_is_written()
+    ensures { BatchesAreWritten }
+{}
+
+/// Under a sound policy no row of a product or a store shows a profile, as a batch of customers asks.
+pub fn sound_policies_show_none()
+    ensures { SoundPoliciesShowNone }
+{}
+
+/// A member that a batch does not mention has the same rows under the same keys before and after it.
+pub fn untouched_member_keeps()
+    ensures { UntouchedMembersKeep }
+{}
+
+/// A making under a sound policy begins a list of commands that a warehouse can have accepted.
+pub fn accepted_lists_begin()
+    ensures { AcceptedListsBegin }
+{}
+
+/// The edits of a batch that can be accepted may be written: each row is valid, no other command has its id, and no
+/// other member of the dimension has the natural key of a new one.
+pub fn a_batch_may_be_written()
+    ensures { BatchesMayBeWritten }
+{}
+
+/// The edits between the rows that the touched members have before and with a batch are those of their dimension's table.
+pub fn touched_rows_are_the_plan()
+    ensures plan { TouchedRowsAreThePlan }
+    ensures before { TouchedRowsBefore }
+    ensures after { TouchedRowsAfter }
+{}
+
+/// Behind a batch of records each stored fact has the keys that its member's rows of that dimension then give it, and its
+/// other keys as they were. A late record moves facts of its own member alone.
+pub fn facts_follow()
+    ensures { FactsFollow }
+{}
+
+/// The facts of the touched members whose keys change with a batch of records, with their new keys, are exactly what leads
+/// from the facts of the commands so far to those of the commands with it.
+pub fn late_records_move_facts()
+    ensures { LateRecordsMoveFacts }
+{}
+
+/// The facts of a batch of sales whose lines are new, no two of them the same, are exactly what leads to the facts of the
+/// commands with it: each fact that was there stays as it was.
+pub fn sales_are_facts()
+    ensures { SalesAreFacts }
+{}
+
+/// In a dimension's table a batch of sales puts the rows of the members that it is the first to mention, in order of
+/// their surrogate keys, and changes nothing else.
+pub fn sales_put_placeholders()
+    ensures { SalesPutPlaceholders }
+{}
+
+/// Each fact of the table names, in each dimension, the one row of its member that holds the day of its sale, whatever came
+/// late; without a card it names the customer row 0.
+pub fn facts_are_effective()
+    ensures { FactsAreEffective }
+{}

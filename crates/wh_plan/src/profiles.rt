@@ -1,0 +1,355 @@
+//! What a batch has to know of profiles: the numbers of the combinations of its customers' changes, each looked up once, and
+//! the combinations that it is the first to bring.
+
+ghost use Rattle.std.specs.Prelude.{◌≡◌, ◌≤◌, ◌++◌, ◌∷◌, [], ℕ, suc, List, nat_le, length, map, find, option_map, None, Some, IfOk, OnOk};
+ghost use Rattle.std.specs.List.{list_any, AllByRecursion};
+ghost use Rattle.std.specs.Option.{option_copied, option_to_list};
+ghost use Rattle.sqlite.specs.Held.{state};
+ghost use Rattle.sqlite.specs.State.{HasCleanDisk};
+ghost use Rattle.wh_policy.specs.Policy.{types_of};
+ghost use Rattle.wh_policy.specs.Written.{IsSound};
+ghost use Rattle.wh_policy.specs.declared.attribute.Dim.TheVariants.{Customer};
+ghost use Rattle.wh_history.specs.Accepted.{Accepted, Describes, policy_after, profiles_of};
+ghost use Rattle.wh_history.specs.Known.{number_in, numbered_from, KnowsEnough};
+ghost use Rattle.wh_history.specs.Slots.{texts_eq};
+ghost use Rattle.wh_history.specs.Tables.{Limits};
+ghost use Rattle.wh_history.specs.Touched.{touched_by};
+ghost use Rattle.wh_rows.specs.AtRest.{IsAtRest, Leaves};
+ghost use Rattle.wh_rows.specs.Tables.{Tables as Rows};
+ghost use Rattle.wh_plan.specs.Defined.{AreOf};
+ghost use Rattle.wh_plan.specs.Learned.{with_combination, with_combinations, told_of, said_of, said_by, number_kept, numbered_as, learned, is_none, unknown, row_of_profile, IsLearned};
+ghost use Rattle.wh_plan.specs.Reads.{IsCalm, FindsNoDamage};
+ghost use Rattle.wh_plan.specs.Sound.{IsAccepted};
+
+use crate::kept::asked;
+use crate::planning::six_texts;
+use sqlite::Alter;
+use std::alloc::{AllocError, Global};
+use wh_day::{ReadError, Values};
+use wh_history::{Change, Member, Profiles, is_same_texts, profile_texts};
+use wh_policy::{AttributeType, Dim, DimensionRecord, Policy};
+use wh_rows::{ProfileRow, tables};
+use wh_sql::{Greatest, ProfileOf};
+use wh_store::{Refusal, Tables};
+
+/// The number of the first combination; before it stand no card and unknown.
+const FIRST: u64 = 2;
+
+/// The greatest number that a table holds.
+const GREATEST: u64 = 9_999_999;
+
+/// What is read of profiles for a batch of records.
+#[derive(Drop)]
+pub(crate) struct Learned {
+    /// What is known of the combinations of the members that it touches.
+    pub(crate) known: Profiles,
+    /// The rows of the profiles that it is the first to show.
+    pub(crate) fresh: Vec<ProfileRow>,
+}
+
+/// Whether a combination is there.
+fn contains(combinations: &[Values], texts: &Values) -> bool
+    ensures { result ≡ list_any (λ c. texts_eq c texts.now) combinations.now }
+{
+    combinations
+        .iter()
+        .any(|c| is_same_texts(c.as_slice(), texts.as_slice()))
+}
+
+/// Adds a combination, unless it is there.
+fn add_combination(found: &mut Vec<Values>, texts: Values) -> Result<(), AllocError>
+    ensures { OnOk result (found.new.items ≡ with_combination found.old.items texts) }
+{
+    if !contains(found.as_slice(), &texts) {
+        found.push(texts)?;
+    }
+    Ok(())
+}
+
+/// The combinations of records, each once.
+fn combinations_told(
+    alloc: Global,
+    types: &[AttributeType],
+    records: &[DimensionRecord],
+) -> Result<Vec<Values>, AllocError>
+    ensures { IfOk result (λ found. found.items ≡ with_combinations [] (told_of types.now records.now)) }
+{
+    let mut found = Vec::new(alloc);
+    for told in records {
+        add_combination(
+            &mut found,
+            profile_texts(alloc, types, told.values.as_slice())?,
+        )?;
+    }
+    Ok(found)
+}
+
+/// Adds the combinations of changes.
+fn add_said(
+    alloc: Global,
+    types: &[AttributeType],
+    found: &mut Vec<Values>,
+    changes: &[Change],
+) -> Result<(), AllocError>
+    ensures { OnOk result (found.new.items ≡ with_combinations found.old.items (said_of types.now changes.now)) }
+{
+    for change in changes {
+        add_combination(
+            found,
+            profile_texts(alloc, types, change.values.as_slice())?,
+        )?;
+    }
+    Ok(())
+}
+
+/// Adds the combinations of the changes of members.
+fn add_said_by(
+    alloc: Global,
+    types: &[AttributeType],
+    found: &mut Vec<Values>,
+    members: &[Member],
+) -> Result<(), AllocError>
+    ensures { OnOk result (found.new.items ≡ with_combinations found.old.items (said_by types.now members.now)) }
+{
+    for member in members {
+        add_said(alloc, types, found, member.changes.as_slice())?;
+    }
+    Ok(())
+}
+
+/// The number of the one among rows of the same values that is not of no card or unknown.
+fn number_among(rows: &[ProfileRow]) -> Option<u64>
+    ensures { result ≡ option_map (λ r. r.number) (find (λ r. nat_le 2 r.number) rows.now) }
+{
+    match rows.iter().find(|row| FIRST <= row.number) {
+        Some(row) => Some(row.number),
+        None => None,
+    }
+}
+
+/// The number that a combination has in the table, if it is there.
+fn number_kept<S: Alter>(
+    tables: &mut Tables<S>,
+    alloc: Global,
+    texts: &Values,
+) -> Result<Option<u64>, ReadError<Refusal>>
+    ensures clean { HasCleanDisk (state S.Store tables.new.conn) → HasCleanDisk (state S.Store tables.old.conn) }
+    ensures number { HasCleanDisk (state S.Store tables.new.conn) → (t : Rows) → IsAtRest (Some t) (state S.Store tables.old.conn) → IfOk result (λ number. number ≡ number_kept t.profile texts.now) }
+    ensures sound { HasCleanDisk (state S.Store tables.new.conn) → (t : Rows) → IsAtRest (Some t) (state S.Store tables.old.conn) → FindsNoDamage result }
+    ensures same { HasCleanDisk (state S.Store tables.new.conn) → (t : Rows) → IsAtRest (Some t) (state S.Store tables.old.conn) → IsCalm result → IsAtRest (Some t) (state S.Store tables.new.conn) }
+    ensures left { HasCleanDisk (state S.Store tables.new.conn) → (t : Rows) → IsAtRest (Some t) (state S.Store tables.old.conn) → Leaves (Some t) (state S.Store tables.new.conn) }
+{
+    let question = ProfileOf { values: texts };
+    let rows = asked::<tables::Profile, ProfileOf<'_>, S>(tables, alloc, &question)?;
+    Ok(number_among(&rows))
+}
+
+/// Adds a combination to what is known, if it has a number.
+fn add_numbered(
+    alloc: Global,
+    known: &mut Profiles,
+    texts: &Values,
+    number: Option<u64>,
+) -> Result<(), AllocError>
+    ensures { OnOk result (known.new ≡ known.old ++ option_to_list (option_map (λ n. record { texts = texts.now; number = n }) number)) }
+{
+    match number {
+        Some(number) => known.add(texts.copy(alloc)?, number),
+        None => Ok(()),
+    }
+}
+
+/// What the table says of combinations.
+fn looked_up<S: Alter>(
+    tables: &mut Tables<S>,
+    alloc: Global,
+    combinations: &[Values],
+) -> Result<Profiles, ReadError<Refusal>>
+    ensures clean { HasCleanDisk (state S.Store tables.new.conn) → HasCleanDisk (state S.Store tables.old.conn) }
+    ensures known { HasCleanDisk (state S.Store tables.new.conn) → (t : Rows) → IsAtRest (Some t) (state S.Store tables.old.conn) → IfOk result (λ known. known ≡ learned (number_kept t.profile) combinations.now) }
+    ensures sound { HasCleanDisk (state S.Store tables.new.conn) → (t : Rows) → IsAtRest (Some t) (state S.Store tables.old.conn) → FindsNoDamage result }
+    ensures same { HasCleanDisk (state S.Store tables.new.conn) → (t : Rows) → IsAtRest (Some t) (state S.Store tables.old.conn) → IsCalm result → IsAtRest (Some t) (state S.Store tables.new.conn) }
+    ensures left { HasCleanDisk (state S.Store tables.new.conn) → (t : Rows) → IsAtRest (Some t) (state S.Store tables.old.conn) → Leaves (Some t) (state S.Store tables.new.conn) }
+{
+    let mut known = Profiles::new(alloc);
+    for texts in combinations {
+        let number = number_kept(tables, alloc, texts)?;
+        add_numbered(alloc, &mut known, texts, number)?;
+    }
+    Ok(known)
+}
+
+fn is_unknown(known: &Profiles, texts: &Values) -> bool
+    ensures { result ≡ is_none (number_in known.now texts.now) }
+{
+    match known.number(texts.as_slice()) {
+        Some(_) => false,
+        None => true,
+    }
+}
+
+/// The combinations of which nothing is known.
+fn unknown(
+    alloc: Global,
+    known: &Profiles,
+    combinations: &[Values],
+) -> Result<Vec<Values>, AllocError>
+    ensures { IfOk result (λ found. found.items ≡ unknown known.now combinations.now) }
+{
+    let mut found = Vec::new(alloc);
+    for texts in combinations {
+        if is_unknown(known, texts) {
+            found.push(texts.copy(alloc)?)?;
+        }
+    }
+    Ok(found)
+}
+
+/// Gives combinations the next numbers, and makes their rows.
+fn add_fresh(
+    alloc: Global,
+    known: &mut Profiles,
+    next: u64,
+    combinations: &[Values],
+) -> Result<Vec<ProfileRow>, AllocError>
+    requires few { next ≤ 10000000 }
+    ensures { IfOk result (λ rows. (rows.items ≡ map row_of_profile (numbered_from next combinations.now)) × (known.new ≡ known.old ++ numbered_from next combinations.now)) }
+{
+    let mut rows = Vec::new(alloc);
+    for (place, texts) in combinations.iter().enumerate() {
+        let number = next + place as u64;
+        known.add(texts.copy(alloc)?, number)?;
+        rows.push(ProfileRow {
+            number,
+            values: six_texts(alloc, texts)?,
+        })?;
+    }
+    Ok(rows)
+}
+
+/// The greatest number of a profile.
+fn profiles_given<S: Alter>(
+    tables: &mut Tables<S>,
+    alloc: Global,
+) -> Result<u64, ReadError<Refusal>>
+    ensures clean { HasCleanDisk (state S.Store tables.new.conn) → HasCleanDisk (state S.Store tables.old.conn) }
+    ensures given { HasCleanDisk (state S.Store tables.new.conn) → (limits : Limits) (commands : List Accepted) (t : Rows) → AreOf limits commands t → IsAtRest (Some t) (state S.Store tables.old.conn)
+        → suc (length (profiles_of commands)) ≤ 9999999 → IfOk result (λ given. given ≡ suc (length (profiles_of commands))) }
+    ensures few { IfOk result (λ given. given ≤ 9999999) }
+    ensures sound { HasCleanDisk (state S.Store tables.new.conn) → (t : Rows) → IsAtRest (Some t) (state S.Store tables.old.conn) → FindsNoDamage result }
+    ensures same { HasCleanDisk (state S.Store tables.new.conn) → (t : Rows) → IsAtRest (Some t) (state S.Store tables.old.conn) → IsCalm result → IsAtRest (Some t) (state S.Store tables.new.conn) }
+    ensures left { HasCleanDisk (state S.Store tables.new.conn) → (t : Rows) → IsAtRest (Some t) (state S.Store tables.old.conn) → Leaves (Some t) (state S.Store tables.new.conn) }
+{
+    let mut found = asked::<tables::Profile, Greatest, S>(tables, alloc, &Greatest)?;
+    match found.pop() {
+        Some(row) => Ok(row.number.min(GREATEST)),
+        None => Ok(0),
+    }
+}
+
+/// What is known of the combinations of customers that are stored.
+fn known_of_customers<S: Alter>(
+    tables: &mut Tables<S>,
+    alloc: Global,
+    policy: &Policy,
+    members: &[Member],
+) -> Result<Profiles, ReadError<Refusal>>
+    ensures clean { HasCleanDisk (state S.Store tables.new.conn) → HasCleanDisk (state S.Store tables.old.conn) }
+    ensures known { HasCleanDisk (state S.Store tables.new.conn) → (t : Rows) → IsAtRest (Some t) (state S.Store tables.old.conn)
+        → IfOk result (λ known. known ≡ learned (number_kept t.profile) (with_combinations [] (said_by (types_of policy.now Customer) members.now))) }
+    ensures sound { HasCleanDisk (state S.Store tables.new.conn) → (t : Rows) → IsAtRest (Some t) (state S.Store tables.old.conn) → FindsNoDamage result }
+    ensures same { HasCleanDisk (state S.Store tables.new.conn) → (t : Rows) → IsAtRest (Some t) (state S.Store tables.old.conn) → IsCalm result → IsAtRest (Some t) (state S.Store tables.new.conn) }
+    ensures left { HasCleanDisk (state S.Store tables.new.conn) → (t : Rows) → IsAtRest (Some t) (state S.Store tables.old.conn) → Leaves (Some t) (state S.Store tables.new.conn) }
+{
+    let types = policy.types(alloc, Dim::Customer)?;
+    let mut combinations = Vec::new(alloc);
+    add_said_by(alloc, &types, &mut combinations, members)?;
+    looked_up(tables, alloc, &combinations)
+}
+
+/// What is known of profiles for members that are stored. Only customers have profiles.
+pub(crate) fn known_of<S: Alter>(
+    tables: &mut Tables<S>,
+    alloc: Global,
+    policy: &Policy,
+    dim: Dim,
+    members: &[Member],
+) -> Result<Profiles, ReadError<Refusal>>
+    ensures clean { HasCleanDisk (state S.Store tables.new.conn) → HasCleanDisk (state S.Store tables.old.conn) }
+    ensures enough { HasCleanDisk (state S.Store tables.new.conn) → (limits : Limits) (commands : List Accepted) (t : Rows) → AreOf limits commands t → policy_after None commands ≡ Some policy.now → IsSound policy.now
+        → IsAtRest (Some t) (state S.Store tables.old.conn) → IfOk result (λ known. AllByRecursion (KnowsEnough dim (types_of policy.now dim) (number_in known) (profiles_of commands)) members.now) }
+    ensures sound { HasCleanDisk (state S.Store tables.new.conn) → (t : Rows) → IsAtRest (Some t) (state S.Store tables.old.conn) → FindsNoDamage result }
+    ensures same { HasCleanDisk (state S.Store tables.new.conn) → (t : Rows) → IsAtRest (Some t) (state S.Store tables.old.conn) → IsCalm result → IsAtRest (Some t) (state S.Store tables.new.conn) }
+    ensures left { HasCleanDisk (state S.Store tables.new.conn) → (t : Rows) → IsAtRest (Some t) (state S.Store tables.old.conn) → Leaves (Some t) (state S.Store tables.new.conn) }
+{
+    match dim {
+        Dim::Customer => known_of_customers(tables, alloc, policy, members),
+        _ => Ok(Profiles::new(alloc)),
+    }
+}
+
+/// The combinations of records and of members, each once.
+fn combinations_touched(
+    alloc: Global,
+    types: &[AttributeType],
+    records: &[DimensionRecord],
+    members: &[Member],
+) -> Result<Vec<Values>, AllocError>
+    ensures { IfOk result (λ found. found.items ≡ with_combinations (with_combinations [] (told_of types.now records.now)) (said_by types.now members.now)) }
+{
+    let mut found = combinations_told(alloc, types, records)?;
+    add_said_by(alloc, types, &mut found, members)?;
+    Ok(found)
+}
+
+/// What is read of profiles for records of customers.
+fn learned_of_customers<S: Alter>(
+    tables: &mut Tables<S>,
+    alloc: Global,
+    policy: &Policy,
+    records: &[DimensionRecord],
+    touched: &[Member],
+) -> Result<Learned, ReadError<Refusal>>
+    ensures clean { HasCleanDisk (state S.Store tables.new.conn) → HasCleanDisk (state S.Store tables.old.conn) }
+    ensures learned { HasCleanDisk (state S.Store tables.new.conn) → (limits : Limits) (commands : List Accepted) (c : Accepted) (t : Rows) → AreOf limits commands t → IsAccepted limits (commands ++ c ∷ [])
+        → c.content ≡ Describes Customer records.now → policy_after None commands ≡ Some policy.now → IsSound policy.now
+        → IsAtRest (Some t) (state S.Store tables.old.conn) → IfOk result (IsLearned Customer policy.now commands (commands ++ c ∷ []) touched.now) }
+    ensures sound { HasCleanDisk (state S.Store tables.new.conn) → (t : Rows) → IsAtRest (Some t) (state S.Store tables.old.conn) → FindsNoDamage result }
+    ensures same { HasCleanDisk (state S.Store tables.new.conn) → (t : Rows) → IsAtRest (Some t) (state S.Store tables.old.conn) → IsCalm result → IsAtRest (Some t) (state S.Store tables.new.conn) }
+    ensures left { HasCleanDisk (state S.Store tables.new.conn) → (t : Rows) → IsAtRest (Some t) (state S.Store tables.old.conn) → Leaves (Some t) (state S.Store tables.new.conn) }
+{
+    let types = policy.types(alloc, Dim::Customer)?;
+    let told = combinations_told(alloc, &types, records)?;
+    let all = combinations_touched(alloc, &types, records, touched)?;
+    let mut known = looked_up(tables, alloc, &all)?;
+    let given = profiles_given(tables, alloc)?;
+    let combinations = unknown(alloc, &known, &told)?;
+    let fresh = add_fresh(alloc, &mut known, given + 1, &combinations)?;
+    Ok(Learned { known, fresh })
+}
+
+/// What is read of profiles for a batch of records. Only customers have profiles.
+pub(crate) fn learned_of<S: Alter>(
+    tables: &mut Tables<S>,
+    alloc: Global,
+    policy: &Policy,
+    dim: Dim,
+    records: &[DimensionRecord],
+    touched: &[Member],
+) -> Result<Learned, ReadError<Refusal>>
+    ensures clean { HasCleanDisk (state S.Store tables.new.conn) → HasCleanDisk (state S.Store tables.old.conn) }
+    ensures learned { HasCleanDisk (state S.Store tables.new.conn) → (limits : Limits) (commands : List Accepted) (c : Accepted) (t : Rows) → AreOf limits commands t → IsAccepted limits (commands ++ c ∷ [])
+        → c.content ≡ Describes dim records.now → policy_after None commands ≡ Some policy.now → IsSound policy.now
+        → IsAtRest (Some t) (state S.Store tables.old.conn) → IfOk result (IsLearned dim policy.now commands (commands ++ c ∷ []) touched.now) }
+    ensures sound { HasCleanDisk (state S.Store tables.new.conn) → (t : Rows) → IsAtRest (Some t) (state S.Store tables.old.conn) → FindsNoDamage result }
+    ensures same { HasCleanDisk (state S.Store tables.new.conn) → (t : Rows) → IsAtRest (Some t) (state S.Store tables.old.conn) → IsCalm result → IsAtRest (Some t) (state S.Store tables.new.conn) }
+    ensures left { HasCleanDisk (state S.Store tables.new.conn) → (t : Rows) → IsAtRest (Some t) (state S.Store tables.old.conn) → Leaves (Some t) (state S.Store tables.new.conn) }
+{
+    match dim {
+        Dim::Customer => learned_of_customers(tables, alloc, policy, records, touched),
+        _ => Ok(Learned {
+            known: Profiles::new(alloc),
+            fresh: Vec::new(alloc),
+        }),
+    }
+}
