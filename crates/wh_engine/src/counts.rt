@@ -14,10 +14,10 @@ ghost use Rattle.wh_plan.specs.Sound.{IsAccepted};
 
 use crate::engine::Engine;
 use crate::fault::{Fault, stops};
-use wh_plan::kept::members_given;
 use sqlite::Alter;
 use std::alloc::Global;
 use wh_day::ReadError;
+use wh_plan::kept::members_given;
 use wh_policy::Dim;
 use wh_rows::tables;
 use wh_store::Tables;

@@ -8,10 +8,10 @@ ghost use Rattle.wh_rows.specs.Tables.{Tables as Rows};
 ghost use Rattle.wh_plan.specs.Planned.{with_dimensions, with_lists, with_all_edits};
 ghost use Rattle.wh_plan.specs.Writable.{MayBeEdited, MayBePutIn, MayBeWritten};
 
-use wh_plan::Edits;
 use sqlite::Alter;
 use std::alloc::Global;
 use wh_history::{DimRow, Edit, Fact};
+use wh_plan::Edits;
 use wh_rows::{Cause, ChangeRow, CommandRow, MemberRow, ProfileRow, tables};
 use wh_store::{Tables, Writing};
 

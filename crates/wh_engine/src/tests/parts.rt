@@ -1,10 +1,11 @@
 //! The reads and writes that a command is made of.
 
 use super::*;
-use wh_plan::kept::{command_of, members_given, stored_changes, stored_member, stored_rows};
-use wh_plan::planning::{new_changes, new_members, rendered};
 use wh_day::{Day, NaturalKey};
 use wh_history::{Change, Changes, Edit, Member, Profiles};
+use wh_plan::kept::{command_of, members_given, stored_changes, stored_member, stored_rows};
+use wh_plan::planning::{new_changes, new_members, rendered};
+use wh_plan::{Edits, plan_batch};
 use wh_policy::{DimensionRecord, Policy};
 
 fn make(alloc: Global, tables: &mut Tables<MemStore>, policy: &Policy) -> Result<(), Cause> {
