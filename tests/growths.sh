@@ -1,7 +1,7 @@
 #!/usr/bin/env bash
 # Refuses each growth of memory of a load in turn, and of one making, in the built program, and looks at what its file then holds.
-# Build the program first (`rt run` in crates/wh). growths.sh [STEP] [PROGRAM]: every growth of a load of records, of a load of sales and of
-# a load of a late record that moves a sale, or one in STEP of them, and of the making, which has more, one in ten times as many.
+# Build the program first (`rt run` in crates/wh). growths.sh [STEP] [PROGRAM] [NAME]: every growth of a load of records, of a load of sales and of
+# a load of a late record that moves a sale, or one in STEP of them, and of the making, which has more, one in ten times as many; with NAME (making, load, sales, late) of that one alone.
 #
 # A run is answered as with ample memory, with `failed: E8 memory`, or with `failed: E9 store, memory`. Behind E8 the file holds what it
 # held; the same words again are answered as accepted. Behind E9 they are answered as accepted or, of a load that was kept, as already
@@ -10,6 +10,7 @@ set -eu
 cd "$(dirname "$0")/.."
 step=${1:-1}
 program=$(realpath "${2:-crates/wh/out/wh}")
+alone=${3:-}
 work=$(mktemp -d)
 trap 'rm -rf "$work"' EXIT
 cc -O1 -shared -fPIC -o "$work/refuse.so" tests/refuse_allocation.c -ldl
@@ -52,6 +53,7 @@ for line in sqlite3.connect(sys.argv[1]).iterdump(): print(line)' "$1"
 refuse_all() {
     local name=$1 kept=$2 step=$3 number=1 refused=0 short=0 stopped=0 answered
     shift 3
+    [ -z "$alone" ] || [ "$alone" = "$name" ] || return 0
     rm -f "$work/file" "$work/file-wal"
     if [ -e "$work/$name.before" ]; then cp "$work/$name.before" "$work/file"; fi
     "$program" "$@" > "$work/ample" || fail "$name: $(cat "$work/ample")"
