@@ -1,5 +1,5 @@
 -- The statements on calendar.
-use Rattle.std.proofs.Common.{ℕ, List, [], ◌∷◌, codes, map, drop, pos, true, false, ◌&&◌, refl, ◌∙◌}
+use Rattle.std.proofs.Common.{Bool, ℕ, List, [], ◌∷◌, codes, map, drop, pos, true, false, ◌&&◌, refl, ◌∙◌, sym, ap}
 use Rattle.std.specs.Ordering.{is_gt, eq_by_cmp, nat_cmp}
 use Rattle.sqlite_value.specs.declared.value.Value.TheVariants.{Null, Int}
 use Rattle.sqlite_value.specs.declared.keys.Key.{Key}
@@ -14,7 +14,8 @@ use Rattle.sqlite.specs.Order.{Row, column}
 use Rattle.sqlite.specs.Term.{Term, lit, col, op2}
 use Rattle.sqlite.specs.Listing.{understood}
 use Rattle.wh_rows.specs.Rows as row
-use Rattle.wh_rows.specs.Meaning.{any, PutsOne, RemovesOne, ReadsSome, CountsAll}
+use Rattle.wh_rows.specs.Meaning.{PutsOne, RemovesOne, ReadsSome, CountsAll}
+use Rattle.wh_rows.specs.Raw.{ReadsStored}
 use Rattle.wh_rows.specs.Firsts.{ReadsFirst}
 use Rattle.wh_rows.proofs.Cast.{cast_row_own}
 use Rattle.wh_rows.proofs.Keys.{and-true, trimmed, equal-Nat, sorted-Nat, greater, greater-Nat}
@@ -22,27 +23,35 @@ use Rattle.wh_rows.proofs.Keys.{and-true, trimmed, equal-Nat, sorted-Nat, greate
 -- ---- put
 
 abbrev pub put_text : List ℕ
-put_text = codes "INSERT OR REPLACE INTO calendar VALUES (?1, ?2, ?3, ?4, ?5, ?6, ?7, ?8, ?9, ?10, ?11)"
+put_text = codes "INSERT INTO calendar VALUES (?1, ?2, ?3, ?4, ?5, ?6, ?7, ?8, ?9, ?10, ?11) ON CONFLICT (date_key) DO UPDATE SET iso = excluded.iso, year = excluded.year, quarter = excluded.quarter, month = excluded.month, day = excluded.day, day_of_year = excluded.day_of_year, weekday = excluded.weekday, weekday_name = excluded.weekday_name, weekend = excluded.weekend, holiday = excluded.holiday"
 
-pub put : PutsOne row.calendar any put_text
+pub put : PutsOne row.calendar put_text
 unfolding understood everything first_key
 put = record {
   at = 8;
   table = record { has = refl; uncounted = refl; unstamped = refl; idle = λ keys olds news. refl };
   terms = col 0 0 ∷ lit Null ∷ col 0 1 ∷ col 0 2 ∷ col 0 3 ∷ col 0 4 ∷ col 0 5 ∷ col 0 6 ∷ col 0 7 ∷ col 0 8 ∷ col 0 9 ∷ col 0 10 ∷ [];
   width = 12;
+  target = 0 ∷ [];
+  here = 11;
+  cells = col 1 0 ∷ lit Null ∷ col 0 14 ∷ col 0 15 ∷ col 0 16 ∷ col 0 17 ∷ col 0 18 ∷ col 0 19 ∷ col 0 20 ∷ col 0 21 ∷ col 0 22 ∷ col 0 23 ∷ [];
   command = refl;
   plain = (refl, refl);
   source = λ v. Int (pos v.date_key) ∷ Null ∷ drop 1 (row.calendar.encode v);
   given = λ v. refl;
-  whole = λ v. refl;
   own = λ v. cast_row_own row.calendar.table (Int (pos v.date_key)) (Null ∷ drop 1 (row.calendar.encode v)) refl refl;
   kept = λ v rows. cast_row_own row.calendar.table (Int (pos v.date_key)) (Null ∷ drop 1 (row.calendar.encode v)) refl refl;
-  numbered = λ v rows. refl;
   shows = λ v rows. refl;
   test = λ v r. equal Binary (column r 0) (Int (pos v.date_key));
-  hits = λ v rows rising r here. trimmed _;
-  agree = λ v w stands. equal-Nat w.date_key v.date_key;
+  hits = λ v rows r. trimmed _;
+  agree = λ v w. equal-Nat w.date_key v.date_key;
+  finds = λ v rows id r. refl;
+  over = λ v vs. Null ∷ drop 1 (row.calendar.encode v);
+  writes = λ v rows id r. refl;
+  remade = λ v w same r n number is. (
+    cast_row_own row.calendar.table (Int n) (Null ∷ drop 1 (row.calendar.encode v)) refl refl,
+    ap (λ id. id ∷ drop 1 (row.calendar.encode v)) (sym number ∙ ap (λ vs. column vs 0) is ∙ ap (λ k. Int (pos k)) same),
+  );
 }
 
 -- ---- remove
@@ -160,6 +169,19 @@ after k = record {
   shows = λ r. refl;
   in_order = λ v w. then-Equal _ ∙ sorted-Nat v.date_key w.date_key;
 }
+
+-- ---- read, whoever wrote the rows
+
+abbrev pub stands_at : ℕ → Row → Bool
+stands_at k r = equal Binary (column r 0) (Int (pos k)) && true
+
+pub all_stored : ReadsStored row.calendar [] (λ r. true) (λ r. true) all_text
+unfolding all
+all_stored = record { reads = all; tested = λ r. refl }
+
+pub get_stored : (k : ℕ) → ReadsStored row.calendar (bind k) (stands_at k) (λ r. eq_by_cmp row.calendar.order k (row.calendar.key r)) get_text
+unfolding get
+get_stored k = record { reads = get k; tested = λ r. refl }
 
 -- ---- count
 

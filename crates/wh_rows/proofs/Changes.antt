@@ -1,5 +1,5 @@
 -- The statements on change.
-use Rattle.std.proofs.Common.{ℕ, List, [], ◌∷◌, codes, map, pos, true, false, ◌&&◌, refl, sym, ap₂, ◌∙◌}
+use Rattle.std.proofs.Common.{Bool, ℕ, List, [], ◌∷◌, codes, map, pos, true, false, ◌&&◌, refl, sym, ap₂, ◌∙◌, drop, ap}
 use Rattle.std.specs.Ordering.{is_gt, eq_by_cmp, nat_cmp, ordering_then}
 use Rattle.sqlite_value.specs.declared.value.Value.TheVariants.{Null, Int}
 use Rattle.sqlite_value.specs.declared.keys.Key.{Key}
@@ -20,35 +20,41 @@ use Rattle.wh_policy.specs.declared.attribute.Dim.{Dim}
 use Rattle.wh_rows.specs.Types.{dim_number}
 use Rattle.wh_rows.specs.Rows.{ChangeKey}
 use Rattle.wh_rows.specs.Rows as row
-use Rattle.wh_rows.specs.Meaning.{any, PutsOne, RemovesOne, ReadsSome, CountsAll}
+use Rattle.wh_rows.specs.Meaning.{PutsOne, RemovesOne, ReadsSome, CountsAll}
+use Rattle.wh_rows.specs.Raw.{ReadsStored}
 use Rattle.wh_rows.specs.Firsts.{ReadsFirst, ReadsGreatest}
 use Rattle.wh_rows.proofs.Cast.{cast_row_own}
-use Rattle.wh_rows.proofs.Keys.{and-true, trimmed_pair, free_rowid, equal-Nat, sorted-Nat, greater, greater-Nat, then_eq}
+use Rattle.wh_rows.proofs.Keys.{and-true, equal-Nat, sorted-Nat, greater, greater-Nat, then_eq, trimmed_and}
 
 -- ---- put
 
 abbrev pub put_text : List ℕ
-put_text = codes "INSERT OR REPLACE INTO change VALUES (?1, ?2, ?3, ?4, ?5, ?6, ?7, ?8, ?9, ?10, ?11, ?12)"
+put_text = codes "INSERT INTO change VALUES (?1, ?2, ?3, ?4, ?5, ?6, ?7, ?8, ?9, ?10, ?11, ?12) ON CONFLICT (command, record) DO UPDATE SET dim = excluded.dim, durable = excluded.durable, day = excluded.day, anchor = excluded.anchor, v1 = excluded.v1, v2 = excluded.v2, v3 = excluded.v3, v4 = excluded.v4, v5 = excluded.v5, v6 = excluded.v6"
 
-pub put : PutsOne row.change any put_text
+pub put : PutsOne row.change put_text
 unfolding understood everything first_key
 put = record {
   at = 3;
   table = record { has = refl; uncounted = refl; unstamped = refl; idle = λ keys olds news. refl };
   terms = lit Null ∷ col 0 0 ∷ col 0 1 ∷ col 0 2 ∷ col 0 3 ∷ col 0 4 ∷ col 0 5 ∷ col 0 6 ∷ col 0 7 ∷ col 0 8 ∷ col 0 9 ∷ col 0 10 ∷ col 0 11 ∷ [];
   width = 13;
+  target = 1 ∷ 2 ∷ [];
+  here = 12;
+  cells = col 1 0 ∷ col 1 1 ∷ col 1 2 ∷ col 0 16 ∷ col 0 17 ∷ col 0 18 ∷ col 0 19 ∷ col 0 20 ∷ col 0 21 ∷ col 0 22 ∷ col 0 23 ∷ col 0 24 ∷ col 0 25 ∷ [];
   command = refl;
   plain = (refl, refl);
   source = λ v. Null ∷ row.change.encode v;
   given = λ v. refl;
-  whole = λ v. refl;
   own = λ v. cast_row_own row.change.table Null (row.change.encode v) refl refl;
   kept = λ v rows. cast_row_own row.change.table (Int (next_rowid rows)) (row.change.encode v) refl refl;
-  numbered = λ v rows. refl;
   shows = λ v rows. refl;
   test = λ v r. equal Binary (column r 0) (Int (pos v.command)) && equal Binary (column r 1) (Int (pos v.place));
-  hits = λ v rows rising r here. trimmed_pair _ _ _ (free_rowid rows rising r here);
-  agree = λ v w stands. ap₂ ◌&&◌ (equal-Nat w.command v.command) (equal-Nat w.place v.place) ∙ sym (then_eq (nat_cmp v.command w.command) (nat_cmp v.place w.place));
+  hits = λ v rows r. trimmed_and _ _;
+  agree = λ v w. ap₂ ◌&&◌ (equal-Nat w.command v.command) (equal-Nat w.place v.place) ∙ sym (then_eq (nat_cmp v.command w.command) (nat_cmp v.place w.place));
+  finds = λ v rows id r. refl;
+  over = λ v vs. column vs 0 ∷ column vs 1 ∷ drop 2 (row.change.encode v);
+  writes = λ v rows id r. refl;
+  remade = λ v w same r n number is. (cast_row_own row.change.table (Int n) (Int (pos w.command) ∷ Int (pos w.place) ∷ drop 2 (row.change.encode v)) refl refl, ap (λ (k : ChangeKey). Int (pos k.command) ∷ Int (pos k.place) ∷ drop 2 (row.change.encode v)) same);
 }
 
 -- ---- remove
@@ -232,6 +238,19 @@ greatest_anchor dim = record {
   shows = λ r. refl;
   in_order = λ v w. then-Equal _ ∙ sorted-Nat w.anchor v.anchor;
 }
+
+-- ---- read, whoever wrote the rows
+
+abbrev pub stands_at : ChangeKey → Row → Bool
+stands_at k r = equal Binary (column r 0) (Int (pos k.command)) && (equal Binary (column r 1) (Int (pos k.place)) && true)
+
+pub all_stored : ReadsStored row.change [] (λ r. true) (λ r. true) all_text
+unfolding all
+all_stored = record { reads = all; tested = λ r. refl }
+
+pub get_stored : (k : ChangeKey) → ReadsStored row.change (bind k) (stands_at k) (λ r. eq_by_cmp row.change.order k (row.change.key r)) get_text
+unfolding get
+get_stored k = record { reads = get k; tested = λ r. refl }
 
 -- ---- count
 

@@ -1,10 +1,7 @@
 -- The statements on command.
-use Rattle.std.proofs.Common.{◌≡◌, ℕ, List, [], ◌∷◌, codes, map, drop, pos, true, false, ◌&&◌, ◌||◌, refl, sym, ap, ap₂, ◌∙◌}
+use Rattle.std.proofs.Common.{Bool, ℕ, List, [], ◌∷◌, codes, map, drop, pos, true, false, ◌&&◌, refl, sym, ap, ◌∙◌, inl, inr}
 use Rattle.std.specs.Ordering.{is_eq, is_gt, eq_by_cmp, nat_cmp}
-use Rattle.std.specs.Cmp.{tied_itself}
-use Rattle.std.proofs.lemmas.Cmp.{nat_cmp_total}
 use Rattle.std.specs.Cmp.Lexicographic.{slice_cmp}
-use Rattle.std.specs.FinMap.{nat_cmp-IsAntisymmetric, slice_cmp-IsAntisymmetric}
 use Rattle.sqlite_value.specs.declared.value.Value.TheVariants.{Null, Int, Text}
 use Rattle.sqlite_value.specs.declared.keys.Key.{Key}
 use Rattle.sqlite_value.specs.Keys.{first_key, ascending}
@@ -17,46 +14,58 @@ use Rattle.sqlite.specs.Collation.TheVariants.{Binary}
 use Rattle.sqlite.specs.Order.{Row, column}
 use Rattle.sqlite.specs.Term.{Term, lit, col, op2}
 use Rattle.sqlite.specs.Listing.{understood}
-use Rattle.wh_rows.specs.declared.rows.CommandRow.{CommandRow}
 use Rattle.wh_rows.specs.Rows as row
-use Rattle.wh_rows.specs.Meaning.{PutsOne, RemovesOne, ReadsSome, CountsAll}
+use Rattle.wh_rows.specs.Meaning.{PutsOne, KeepsApart, RemovesOne, ReadsSome, CountsAll}
+use Rattle.wh_rows.specs.Raw.{ReadsStored}
 use Rattle.wh_rows.specs.Firsts.{ReadsFirst}
 use Rattle.wh_rows.proofs.Cast.{cast_row_own}
-use Rattle.wh_rows.proofs.Keys.{and-true, trimmed_or, equal-Nat, equal-Text, sorted-Nat, greater, greater-Nat, equal_is, implied}
+use Rattle.wh_rows.proofs.Keys.{and-true, equal-Nat, equal-Text, sorted-Nat, greater, greater-Nat, trimmed}
+use Rattle.wh_rows.specs.Schema.{index}
 
 -- ---- put
 
 abbrev pub put_text : List ℕ
-put_text = codes "INSERT OR REPLACE INTO command VALUES (?1, ?2, ?3, ?4, ?5, ?6)"
+put_text = codes "INSERT INTO command VALUES (?1, ?2, ?3, ?4, ?5, ?6) ON CONFLICT (number) DO UPDATE SET id = excluded.id, kind = excluded.kind, bytes = excluded.bytes, records = excluded.records, placeholders = excluded.placeholders"
 
--- only the command itself has its id
-abbrev pub may_stand : CommandRow → CommandRow → Type 0
-may_stand v w = v.id ≡ w.id → v.number ≡ w.number
-
-same_id : (v w : CommandRow) → may_stand v w → (is_eq (nat_cmp v.number w.number) || is_eq (slice_cmp nat_cmp v.id w.id)) ≡ is_eq (nat_cmp v.number w.number)
-same_id v w stands = implied _ _ (λ one.
-    let same = slice_cmp-IsAntisymmetric nat_cmp-IsAntisymmetric v.id w.id (equal_is _ one) in
-    ap (λ n. is_eq (nat_cmp v.number n)) (sym (stands same)) ∙ ap is_eq (tied_itself nat_cmp_total v.number))
-
-pub put : PutsOne row.command may_stand put_text
+pub put : PutsOne row.command put_text
 unfolding understood everything first_key
 put = record {
   at = 1;
   table = record { has = refl; uncounted = refl; unstamped = refl; idle = λ keys olds news. refl };
   terms = col 0 0 ∷ lit Null ∷ col 0 1 ∷ col 0 2 ∷ col 0 3 ∷ col 0 4 ∷ col 0 5 ∷ [];
   width = 7;
+  target = 0 ∷ [];
+  here = 6;
+  cells = col 1 0 ∷ lit Null ∷ col 0 9 ∷ col 0 10 ∷ col 0 11 ∷ col 0 12 ∷ col 0 13 ∷ [];
   command = refl;
   plain = (refl, refl);
   source = λ v. Int (pos v.number) ∷ Null ∷ drop 1 (row.command.encode v);
   given = λ v. refl;
-  whole = λ v. refl;
   own = λ v. cast_row_own row.command.table (Int (pos v.number)) (Null ∷ drop 1 (row.command.encode v)) refl refl;
   kept = λ v rows. cast_row_own row.command.table (Int (pos v.number)) (Null ∷ drop 1 (row.command.encode v)) refl refl;
-  numbered = λ v rows. refl;
   shows = λ v rows. refl;
-  test = λ v r. equal Binary (column r 0) (Int (pos v.number)) || equal Binary (column r 1) (Text v.id);
-  hits = λ v rows rising r here. trimmed_or _ _;
-  agree = λ v w stands. ap₂ ◌||◌ (equal-Nat w.number v.number) (equal-Text w.id v.id) ∙ same_id v w stands;
+  test = λ v r. equal Binary (column r 0) (Int (pos v.number));
+  hits = λ v rows r. trimmed _;
+  agree = λ v w. equal-Nat w.number v.number;
+  finds = λ v rows id r. refl;
+  over = λ v vs. Null ∷ drop 1 (row.command.encode v);
+  writes = λ v rows id r. refl;
+  remade = λ v w same r n number is. (
+    cast_row_own row.command.table (Int n) (Null ∷ drop 1 (row.command.encode v)) refl refl,
+    ap (λ id. id ∷ drop 1 (row.command.encode v)) (sym number ∙ ap (λ vs. column vs 0) is ∙ ap (λ k. Int (pos k)) same),
+  );
+}
+
+-- commands have identifiers of their own
+pub own_ids : KeepsApart row.command (λ v w. is_eq (slice_cmp nat_cmp v.id w.id))
+unfolding first_key
+own_ids = record {
+  index = index (codes "sqlite_autoindex_command_1") 3 2 (2 ∷ []) true;
+  among = inr (inl refl);
+  guards = refl;
+  meets = λ r x. equal Binary (column r 1) (column x 1) && true;
+  agrees = λ r x. refl;
+  same = λ v w. and-true _ ∙ equal-Text w.id v.id;
 }
 
 -- ---- remove
@@ -196,6 +205,19 @@ after k = record {
   shows = λ r. refl;
   in_order = λ v w. then-Equal _ ∙ sorted-Nat v.number w.number;
 }
+
+-- ---- read, whoever wrote the rows
+
+abbrev pub stands_at : ℕ → Row → Bool
+stands_at k r = equal Binary (column r 0) (Int (pos k)) && true
+
+pub all_stored : ReadsStored row.command [] (λ r. true) (λ r. true) all_text
+unfolding all
+all_stored = record { reads = all; tested = λ r. refl }
+
+pub get_stored : (k : ℕ) → ReadsStored row.command (bind k) (stands_at k) (λ r. eq_by_cmp row.command.order k (row.command.key r)) get_text
+unfolding get
+get_stored k = record { reads = get k; tested = λ r. refl }
 
 -- ---- count
 

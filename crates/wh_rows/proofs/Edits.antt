@@ -94,7 +94,7 @@ module _ (p : Row → Bool) (rows : List Row) (ids : List ℤ) (rising : IsRisin
   pub without_named : without_all rows ids ≡ filter (λ r. not (p r)) rows
   without_named = without_each ids rows ∙ filter_same _ _ rows (λ r here. ap not (is_named r here))
 
-passing_names : (p : Row → Bool) (rows : List Row) → Names p rows (ids_of (filter p rows))
+pub passing_names : (p : Row → Bool) (rows : List Row) → Names p rows (ids_of (filter p rows))
 passing_names p rows = record {
   sound = λ id h. let from = has_mapped (λ r. id_in (rowid r)) (filter p rows) id h in let kept = has_filtered p rows from.0 from.1 in (from.0, kept.0, kept.1, from.2);
   complete = λ r here passed. mapped_has (λ r. id_in (rowid r)) (filter p rows) r (has_kept p rows r here passed);

@@ -1,5 +1,7 @@
 -- The statements on fact.
-use Rattle.std.proofs.Common.{ℕ, List, [], ◌∷◌, codes, map, pos, true, false, ◌&&◌, refl, sym, ap₂, ◌∙◌}
+use Rattle.std.proofs.Common.{Bool, ◌≡◌, ℕ, List, [], ◌∷◌, codes, map, pos, true, false, ◌&&◌, refl, sym, ap₂, ◌∙◌, drop, ap}
+use Rattle.std.specs.Prelude.{IsTrue}
+use Rattle.std.proofs.lemmas.Bool.{and_parts}
 use Rattle.std.specs.Ordering.{is_gt, is_ge, eq_by_cmp, nat_cmp, ordering_then}
 use Rattle.std.specs.Cmp.Lexicographic.{slice_cmp}
 use Rattle.sqlite_value.specs.declared.value.Value.TheVariants.{Null, Int, Text}
@@ -17,38 +19,96 @@ use Rattle.sqlite.specs.Collation.TheVariants.{Binary}
 use Rattle.sqlite.specs.Order.{Row, column}
 use Rattle.sqlite.specs.Term.{Term, lit, col, op1, op2}
 use Rattle.sqlite.specs.Listing.{understood}
-use Rattle.wh_rows.specs.Rows.{LineKey}
+use Rattle.wh_rows.specs.Rows.{LineKey, is_fact}
+use Rattle.wh_rows.specs.Types.{is_key, is_line, is_number, is_measure}
 use Rattle.wh_rows.specs.Rows as row
-use Rattle.wh_rows.specs.Meaning.{any, PutsOne, RemovesOne, ReadsSome, CountsAll}
+use Rattle.wh_rows.specs.Meaning.{PutsOne, MovesOne, RemovesOne, ReadsSome, CountsAll}
+use Rattle.wh_rows.specs.Raw.{ReadsStored}
+use Rattle.wh_rows.specs.Rekey.{Rekey, rekey_text, bind_rekey, are_keys, with_keys}
 use Rattle.wh_rows.specs.Firsts.{ReadsFirst}
 use Rattle.wh_rows.proofs.Cast.{cast_row_own}
-use Rattle.wh_rows.proofs.Keys.{and-true, trimmed_pair, free_rowid, equal-Nat, equal-Text, sorted-Nat, greater, greater-Nat, at_least, at_least-Nat, greater-Text, then_eq}
+use Rattle.wh_rows.proofs.ColumnLemmas.{both}
+use Rattle.wh_rows.proofs.Keys.{and-true, equal-Nat, equal-Text, sorted-Nat, greater, greater-Nat, at_least, at_least-Nat, greater-Text, then_eq, trimmed_and}
+use Rattle.wh_history.specs.declared.facts.Fact.{Fact}
+use Rattle.wh_day.specs.Day.{is_day}
 
 -- ---- put
 
 abbrev pub put_text : List ℕ
-put_text = codes "INSERT OR REPLACE INTO fact VALUES (?1, ?2, ?3, ?4, ?5, ?6, ?7, ?8, ?9, ?10, ?11, ?12, ?13)"
+put_text = codes "INSERT INTO fact VALUES (?1, ?2, ?3, ?4, ?5, ?6, ?7, ?8, ?9, ?10, ?11, ?12, ?13) ON CONFLICT (ticket, line) DO UPDATE SET day = excluded.day, store_key = excluded.store_key, product_key = excluded.product_key, customer_key = excluded.customer_key, store_durable = excluded.store_durable, product_durable = excluded.product_durable, customer_durable = excluded.customer_durable, profile = excluded.profile, quantity = excluded.quantity, amount = excluded.amount, cost = excluded.cost"
 
-pub put : PutsOne row.fact any put_text
+pub put : PutsOne row.fact put_text
 unfolding understood everything first_key
 put = record {
   at = 9;
   table = record { has = refl; uncounted = refl; unstamped = refl; idle = λ keys olds news. refl };
   terms = lit Null ∷ col 0 0 ∷ col 0 1 ∷ col 0 2 ∷ col 0 3 ∷ col 0 4 ∷ col 0 5 ∷ col 0 6 ∷ col 0 7 ∷ col 0 8 ∷ col 0 9 ∷ col 0 10 ∷ col 0 11 ∷ col 0 12 ∷ [];
   width = 14;
+  target = 1 ∷ 2 ∷ [];
+  here = 13;
+  cells = col 1 0 ∷ col 1 1 ∷ col 1 2 ∷ col 0 17 ∷ col 0 18 ∷ col 0 19 ∷ col 0 20 ∷ col 0 21 ∷ col 0 22 ∷ col 0 23 ∷ col 0 24 ∷ col 0 25 ∷ col 0 26 ∷ col 0 27 ∷ [];
   command = refl;
   plain = (refl, refl);
   source = λ v. Null ∷ row.fact.encode v;
   given = λ v. refl;
-  whole = λ v. refl;
   own = λ v. cast_row_own row.fact.table Null (row.fact.encode v) refl refl;
   kept = λ v rows. cast_row_own row.fact.table (Int (next_rowid rows)) (row.fact.encode v) refl refl;
-  numbered = λ v rows. refl;
   shows = λ v rows. refl;
   test = λ v r. equal Binary (column r 0) (Text v.ticket) && equal Binary (column r 1) (Int (pos v.line));
-  hits = λ v rows rising r here. trimmed_pair _ _ _ (free_rowid rows rising r here);
-  agree = λ v w stands. ap₂ ◌&&◌ (equal-Text w.ticket v.ticket) (equal-Nat w.line v.line) ∙ sym (then_eq (slice_cmp nat_cmp v.ticket w.ticket) (nat_cmp v.line w.line));
+  hits = λ v rows r. trimmed_and _ _;
+  agree = λ v w. ap₂ ◌&&◌ (equal-Text w.ticket v.ticket) (equal-Nat w.line v.line) ∙ sym (then_eq (slice_cmp nat_cmp v.ticket w.ticket) (nat_cmp v.line w.line));
+  finds = λ v rows id r. refl;
+  over = λ v vs. column vs 0 ∷ column vs 1 ∷ drop 2 (row.fact.encode v);
+  writes = λ v rows id r. refl;
+  remade = λ v w same r n number is. (cast_row_own row.fact.table (Int n) (Text w.ticket ∷ Int (pos w.line) ∷ drop 2 (row.fact.encode v)) refl refl, ap (λ (k : LineKey). Text k.ticket ∷ Int (pos k.line) ∷ drop 2 (row.fact.encode v)) same);
 }
+
+-- ---- other keys
+
+pub rekey : MovesOne row.fact bind_rekey (λ r. r.0) with_keys rekey_text
+unfolding understood everything unary
+rekey = record {
+  at = 9;
+  table = record { has = refl; uncounted = refl; unstamped = refl; idle = λ keys olds news. refl };
+  tests = op2 (Compare Eq Binary) (col 1 1) (col 0 0) ∷ op2 (Compare Eq Binary) (col 1 2) (op1 ToNumeric (col 0 1)) ∷ [];
+  cells = col 1 0 ∷ col 1 1 ∷ col 1 2 ∷ col 1 3 ∷ col 0 2 ∷ col 0 3 ∷ col 0 4 ∷ col 1 7 ∷ col 1 8 ∷ col 1 9 ∷ col 0 5 ∷ col 1 11 ∷ col 1 12 ∷ col 1 13 ∷ [];
+  command = refl;
+  plain = (refl, refl);
+  test = λ p r. equal Binary (column r 0) (Text p.0.ticket) && (equal Binary (column r 1) (Int (pos p.0.line)) && true);
+  hits = λ p r. refl;
+  agree = λ p w. ap₂ ◌&&◌ (equal-Text w.ticket p.0.ticket) (and-true _ ∙ equal-Nat w.line p.0.line) ∙ sym (then_eq (slice_cmp nat_cmp p.0.ticket w.ticket) (nat_cmp p.0.line w.line));
+  over = λ p vs. column vs 0 ∷ column vs 1 ∷ column vs 2 ∷ Int (pos p.1.store_key) ∷ Int (pos p.1.product_key) ∷ Int (pos p.1.customer_key) ∷ column vs 6 ∷ column vs 7 ∷ column vs 8 ∷ Int (pos p.1.profile)
+      ∷ column vs 10 ∷ column vs 11 ∷ column vs 12 ∷ [];
+  writes = λ p r. refl;
+  remade = λ p w r n number is. (cast_row_own row.fact.table (Int n) (row.fact.encode (with_keys p w)) refl refl, refl);
+  same_key = λ p w. refl;
+}
+
+exchanged : (front s p c sd pd cd q x y z s2 p2 c2 q2 : Bool) → (front && s && p && c && sd && pd && cd && q && x && y && z) ≡ true → (s2 && p2 && c2 && q2) ≡ true
+    → (front && s2 && p2 && c2 && sd && pd && cd && q2 && x && y && z) ≡ true
+exchanged front s p c sd pd cd q x y z s2 p2 c2 q2 all keys =
+    let of_z = and_parts (front && s && p && c && sd && pd && cd && q && x && y) z all in
+    let of_y = and_parts (front && s && p && c && sd && pd && cd && q && x) y of_z.0 in
+    let of_x = and_parts (front && s && p && c && sd && pd && cd && q) x of_y.0 in
+    let of_q = and_parts (front && s && p && c && sd && pd && cd) q of_x.0 in
+    let of_cd = and_parts (front && s && p && c && sd && pd) cd of_q.0 in
+    let of_pd = and_parts (front && s && p && c && sd) pd of_cd.0 in
+    let of_sd = and_parts (front && s && p && c) sd of_pd.0 in
+    let of_c = and_parts (front && s && p) c of_sd.0 in
+    let of_p = and_parts (front && s) p of_c.0 in
+    let of_s = and_parts front s of_p.0 in
+    let last = and_parts (s2 && p2 && c2) q2 keys in
+    let third = and_parts (s2 && p2) c2 last.0 in
+    let two = and_parts s2 p2 third.0 in
+    both (both (both (both (both (both (both (both (both (both of_s.0 two.0) two.1) third.1) of_sd.1) of_pd.1) of_cd.1) last.1) of_x.1) of_y.1) of_z.1
+
+-- a valid fact with other keys that can be stored is valid
+pub valid_rekeyed : (r : Rekey) (f : Fact) → IsTrue (are_keys r.1) → IsTrue (is_fact f) → IsTrue (is_fact (with_keys r f))
+valid_rekeyed r f keys valid =
+    exchanged (is_key 20 f.ticket && is_line f.line && is_day f.day) (is_number f.keys.store_key) (is_number f.keys.product_key) (is_number f.keys.customer_key)
+    (is_number f.store_durable) (is_number f.product_durable) (is_number f.customer_durable) (is_number f.keys.profile)
+    (is_measure 9999 f.quantity) (is_measure 999999999 f.amount) (is_measure 999999999 f.cost)
+    (is_number r.1.store_key) (is_number r.1.product_key) (is_number r.1.customer_key) (is_number r.1.profile) valid keys
 
 -- ---- remove
 
@@ -231,6 +291,19 @@ rest k = record {
   shows = λ r. refl;
   in_order = λ v w. ap₂ ordering_then (value_cmp-Text v.ticket w.ticket) (then-Equal _ ∙ sorted-Nat v.line w.line);
 }
+
+-- ---- read, whoever wrote the rows
+
+abbrev pub stands_at : LineKey → Row → Bool
+stands_at k r = equal Binary (column r 0) (Text k.ticket) && (equal Binary (column r 1) (Int (pos k.line)) && true)
+
+pub all_stored : ReadsStored row.fact [] (λ r. true) (λ r. true) all_text
+unfolding all
+all_stored = record { reads = all; tested = λ r. refl }
+
+pub get_stored : (k : LineKey) → ReadsStored row.fact (bind k) (stands_at k) (λ r. eq_by_cmp row.fact.order k (row.fact.key r)) get_text
+unfolding get
+get_stored k = record { reads = get k; tested = λ r. refl }
 
 -- ---- count
 

@@ -1,7 +1,7 @@
 -- Keys as SQL compares them.
 use Rattle.std.proofs.Common.{arith, ◌≡◌, inl, inr, ℕ, ℤ, pos, List, [], ◌∷◌, Bool, true, false, Some, ◌&&◌, ◌||◌, refl, sym, ap, ◌∙◌, Ordering, Less, Equal, Greater}
 use Rattle.std.specs.Prelude.{unwrap_or, ◌<◌, ◌<ℤ◌}
-use Rattle.std.specs.Ordering.{is_eq, is_gt, is_ge, eq_by_cmp, int_cmp, nat_cmp, MatchOrdering}
+use Rattle.std.specs.Ordering.{is_eq, is_ne, is_gt, is_ge, eq_by_cmp, int_cmp, nat_cmp, MatchOrdering}
 use Rattle.std.specs.Cmp.{eq_by_cmp_equiv, ranks, int_cmp_is}
 use Rattle.std.specs.Cmp.Lexicographic.{slice_cmp, nat_list_cmp_total}
 use Rattle.std.proofs.lemmas.Cmp.{int_cmp_total}
@@ -12,20 +12,12 @@ use Rattle.sqlite_value.proofs.OrderLemmas.{value_cmp-Int, value_cmp-Text}
 use Rattle.std.specs.List.{list_any}
 use Rattle.std.specs.Ordering.{ordering_then}
 use Rattle.std.proofs.lemmas.Bool.{or_parts}
-use Rattle.sqlite_value.specs.Order.{Row, column}
-use Rattle.sqlite_trees.specs.Tree.{rowid}
 use Rattle.sqlite_rules.specs.Lists.{Has}
-use Rattle.sqlite_rules.specs.Edit.{id_in, next_rowid}
-use Rattle.sqlite_rules.specs.declared.error.Rowids.TheVariants.{Chosen}
-use Rattle.sqlite_rules.proofs.ListLemmas.{all_has}
-use Rattle.sqlite_rules.proofs.TableLemmas.{int_is}
-use Rattle.sqlite_rules.proofs.PlaceLemmas.{next_is_free}
-use Rattle.wh_rows.specs.Holds.{IsRising}
 use Rattle.sqlite_sql.specs.Ops.{binary, truth, from_truth, is_true}
 use Rattle.sqlite_sql.specs.declared.ops.BinaryOp.TheVariants.{Compare}
 use Rattle.sqlite_sql.specs.declared.ops.CompareOp.TheVariants.{Gt, Ge}
 use Rattle.sqlite_value.specs.declared.value.Value.{Value}
-use Rattle.sqlite_schema.specs.Rules.{equal}
+use Rattle.sqlite_schema.specs.Rules.{equal, differ}
 
 pub trimmed : (b : Bool) → ((b && true) || false) ≡ b
 trimmed true = refl
@@ -79,42 +71,12 @@ pub at_least-Nat : (a b : ℕ) → at_least (Int (pos a)) (Int (pos b)) ≡ is_g
 unfolding binary
 at_least-Nat a b = truth_is (is_ge (value_cmp (Int (pos a)) (Int (pos b)))) ∙ ap is_ge (sorted-Nat a b)
 
--- ---- a rowid that is chosen meets no other
+-- ---- a row that no test finds
 
-misses : {X : Type 0} (p : X → Bool) (xs : List X) (x : X) → list_any p xs ≡ false → Has xs x → p x ≡ false
+pub misses : {X : Type 0} (p : X → Bool) (xs : List X) (x : X) → list_any p xs ≡ false → Has xs x → p x ≡ false
 misses p [] x none h = absurd h
 misses p (y ∷ xs) x none (inl same) = rw same (or_parts _ _ none).0
 misses p (y ∷ xs) x none (inr later) = misses p xs x (or_parts _ _ none).1 later
-
-pub free_rowid : (rows : List Row) → IsRising rows → (r : Row) → Has rows r → equal Binary (column r 0) (Int (next_rowid rows)) ≡ false
-unfolding binary
-free_rowid rows rising r here =
-    let id : rowid r ≡ Int (id_in (rowid r)) = int_is (rowid r) (all_has _ rows r rising.1 here) in
-    let apart : is_eq (value_cmp (rowid r) (Int (next_rowid rows))) ≡ false = misses (λ y. is_eq (value_cmp (rowid y) (Int (next_rowid rows)))) rows r (next_is_free Chosen rows [] rising.0 rising.1) here in
-    ap (λ v. equal Binary v (Int (next_rowid rows))) id ∙ truth_is _ ∙ ap (λ v. is_eq (value_cmp v (Int (next_rowid rows)))) (sym id) ∙ apart
-
-pub trimmed_or : (a b : Bool) → ((a && true) || ((b && true) || false)) ≡ (a || b)
-trimmed_or true b = refl
-trimmed_or false true = refl
-trimmed_or false false = refl
-
-pub trimmed_one : (a b : Bool) → a ≡ false → ((a && true) || ((b && true) || false)) ≡ b
-trimmed_one true b h = absurd (cc)
-trimmed_one false true h = refl
-trimmed_one false false h = refl
-
-pub trimmed_both : (a b c n : Bool) → a ≡ false → ((a && true) || ((b && (c && true)) || ((b && (n && true)) || false))) ≡ ((b && c) || (b && n))
-trimmed_both true b c n h = absurd (cc)
-trimmed_both false true true n h = refl
-trimmed_both false true false true h = refl
-trimmed_both false true false false h = refl
-trimmed_both false false c n h = refl
-
-pub trimmed_pair : (a b c : Bool) → a ≡ false → ((a && true) || ((b && (c && true)) || false)) ≡ (b && c)
-trimmed_pair true b c h = absurd (cc)
-trimmed_pair false true true h = refl
-trimmed_pair false true false h = refl
-trimmed_pair false false c h = refl
 
 -- ---- keys of two parts
 
@@ -132,20 +94,25 @@ pub and-true : (b : Bool) → (b && true) ≡ b
 and-true true = refl
 and-true false = refl
 
--- ---- a second unique key that only the row itself has
-
-pub implied : (a b : Bool) → (b ≡ true → a ≡ true) → (a || b) ≡ a
-implied true b h = refl
-implied false true h = sym (h refl)
-implied false false h = refl
-
-pub absorbed : (b c n : Bool) → (b ≡ true → n ≡ true → c ≡ true) → ((b && c) || (b && n)) ≡ (b && c)
-absorbed true true n h = refl
-absorbed true false true h = sym (h refl refl)
-absorbed true false false h = refl
-absorbed false c n h = refl
-
 pub equal_is : (o : Ordering) → is_eq o ≡ true → o ≡ Equal
 equal_is Less h = absurd (cc)
 equal_is Equal h = refl
 equal_is Greater h = absurd (cc)
+
+pub equal-tie : (a b : ℤ) → equal Binary (Int a) (Int b) ≡ is_eq (value_cmp (Int a) (Int b))
+unfolding binary
+equal-tie a b = truth_is (is_eq (value_cmp (Int a) (Int b)))
+
+pub differ-tie : (a b : ℤ) → differ (Int a) (Int b) ≡ is_ne (value_cmp (Int a) (Int b))
+unfolding binary
+differ-tie a b = truth_is (is_ne (value_cmp (Int a) (Int b)))
+
+pub apart_is : (o : Ordering) → is_eq o ≡ false → is_ne o ≡ true
+apart_is Less h = refl
+apart_is Equal h = absurd (cc)
+apart_is Greater h = refl
+
+pub trimmed_and : (a b : Bool) → ((a && (b && true)) || false) ≡ (a && b)
+trimmed_and true true = refl
+trimmed_and true false = refl
+trimmed_and false b = refl

@@ -1,12 +1,15 @@
 pub mod Named
 pub mod Answers
 pub mod Edits
-pub mod Replaces
+pub mod Over
 pub mod Typed
 pub mod Maps
 pub mod Puts
 pub mod Removes
 pub mod Selects
+pub mod Raw
+pub mod RawTables
+pub mod RawKeys
 pub mod Cast
 pub mod Keys
 pub mod Counts

@@ -21,7 +21,7 @@ use Rattle.sqlite_tied.specs.Compute.{everything}
 use Rattle.wh_rows.specs.Schema as schema
 use Rattle.wh_rows.specs.Schema.{no_schema, warehouse}
 use Rattle.wh_rows.specs.Holds.{Layout, Holds, IsRising}
-use Rattle.wh_rows.specs.Tables.{no_tables, Tables, Stores}
+use Rattle.wh_rows.specs.Tables.{no_tables, Stores}
 use Rattle.wh_rows.specs.Rows as row
 use Rattle.wh_rows.specs.Making.{AreEmpty, MakesTable, MakesIndex, Extends, Leads, making_texts}
 use Rattle.wh_rows.proofs.Edits.{went, same_value}

@@ -1,10 +1,7 @@
 -- The statements on member.
-use Rattle.std.proofs.Common.{◌≡◌, ℕ, List, [], ◌∷◌, codes, map, pos, true, false, ◌&&◌, ◌||◌, refl, sym, ap, ap₂, ◌∙◌}
+use Rattle.std.proofs.Common.{Bool, ℕ, List, [], ◌∷◌, codes, map, pos, true, false, ◌&&◌, refl, sym, ap, ap₂, ◌∙◌, drop, inl, inr}
 use Rattle.std.specs.Ordering.{is_eq, is_gt, eq_by_cmp, nat_cmp, ordering_then}
-use Rattle.std.specs.Cmp.{tied_itself}
-use Rattle.std.proofs.lemmas.Cmp.{nat_cmp_total}
 use Rattle.std.specs.Cmp.Lexicographic.{slice_cmp}
-use Rattle.std.specs.FinMap.{nat_cmp-IsAntisymmetric, slice_cmp-IsAntisymmetric}
 use Rattle.sqlite_value.specs.declared.value.Value.TheVariants.{Null, Int, Text}
 use Rattle.sqlite_value.specs.declared.keys.Key.{Key}
 use Rattle.sqlite_value.specs.Keys.{first_key, ascending}
@@ -21,53 +18,57 @@ use Rattle.sqlite.specs.Order.{Row, column}
 use Rattle.sqlite.specs.Term.{Term, lit, col, op1, op2}
 use Rattle.sqlite.specs.Listing.{understood}
 use Rattle.wh_policy.specs.declared.attribute.Dim.{Dim}
-use Rattle.wh_rows.specs.declared.rows.MemberRow.{MemberRow}
 use Rattle.wh_rows.specs.Types.{dim_number}
 use Rattle.wh_rows.specs.Rows.{MemberKey}
 use Rattle.wh_rows.specs.Rows as row
-use Rattle.wh_rows.specs.Meaning.{PutsOne, RemovesOne, ReadsSome, CountsAll}
+use Rattle.wh_rows.specs.Meaning.{PutsOne, KeepsApart, RemovesOne, ReadsSome, CountsAll}
+use Rattle.wh_rows.specs.Raw.{ReadsStored}
 use Rattle.wh_rows.specs.Firsts.{ReadsFirst}
 use Rattle.wh_rows.proofs.Cast.{cast_row_own}
-use Rattle.wh_rows.proofs.Keys.{and-true, trimmed_both, free_rowid, equal-Nat, equal-Text, sorted-Nat, greater, greater-Nat, then_eq, equal_is, absorbed}
+use Rattle.wh_rows.proofs.Keys.{and-true, equal-Nat, equal-Text, sorted-Nat, greater, greater-Nat, then_eq, trimmed_and}
+use Rattle.wh_rows.specs.Schema.{index}
 
 -- ---- put
 
 abbrev pub put_text : List ℕ
-put_text = codes "INSERT OR REPLACE INTO member VALUES (?1, ?2, ?3, ?4)"
+put_text = codes "INSERT INTO member VALUES (?1, ?2, ?3, ?4) ON CONFLICT (dim, durable) DO UPDATE SET natural = excluded.natural, opening = excluded.opening"
 
--- only the member itself has its natural key in its dimension
-abbrev pub may_stand : MemberRow → MemberRow → Type 0
-may_stand v w = dim_number v.dim ≡ dim_number w.dim → v.natural ≡ w.natural → v.durable ≡ w.durable
-
-same_natural : (v w : MemberRow) → may_stand v w
-    → ((is_eq (nat_cmp (dim_number v.dim) (dim_number w.dim)) && is_eq (nat_cmp v.durable w.durable)) || (is_eq (nat_cmp (dim_number v.dim) (dim_number w.dim)) && is_eq (slice_cmp nat_cmp v.natural w.natural)))
-    ≡ (is_eq (nat_cmp (dim_number v.dim) (dim_number w.dim)) && is_eq (nat_cmp v.durable w.durable))
-same_natural v w stands = absorbed _ _ _ (λ one three.
-    let first = nat_cmp-IsAntisymmetric (dim_number v.dim) (dim_number w.dim) (equal_is _ one) in
-    let same = slice_cmp-IsAntisymmetric nat_cmp-IsAntisymmetric v.natural w.natural (equal_is _ three) in
-    ap (λ n. is_eq (nat_cmp v.durable n)) (sym (stands first same)) ∙ ap is_eq (tied_itself nat_cmp_total v.durable))
-
-pub put : PutsOne row.member may_stand put_text
+pub put : PutsOne row.member put_text
 unfolding understood everything first_key
 put = record {
   at = 2;
   table = record { has = refl; uncounted = refl; unstamped = refl; idle = λ keys olds news. refl };
   terms = lit Null ∷ col 0 0 ∷ col 0 1 ∷ col 0 2 ∷ col 0 3 ∷ [];
   width = 5;
+  target = 1 ∷ 2 ∷ [];
+  here = 4;
+  cells = col 1 0 ∷ col 1 1 ∷ col 1 2 ∷ col 0 8 ∷ col 0 9 ∷ [];
   command = refl;
   plain = (refl, refl);
   source = λ v. Null ∷ row.member.encode v;
   given = λ v. refl;
-  whole = λ v. refl;
   own = λ v. cast_row_own row.member.table Null (row.member.encode v) refl refl;
   kept = λ v rows. cast_row_own row.member.table (Int (next_rowid rows)) (row.member.encode v) refl refl;
-  numbered = λ v rows. refl;
   shows = λ v rows. refl;
-  test = λ v r. (equal Binary (column r 0) (Int (pos (dim_number v.dim))) && equal Binary (column r 1) (Int (pos v.durable))) || (equal Binary (column r 0) (Int (pos (dim_number v.dim))) && equal Binary (column r 2) (Text v.natural));
-  hits = λ v rows rising r here. trimmed_both _ _ _ _ (free_rowid rows rising r here);
-  agree = λ v w stands.
-      ap₂ ◌||◌ (ap₂ ◌&&◌ (equal-Nat (dim_number w.dim) (dim_number v.dim)) (equal-Nat w.durable v.durable)) (ap₂ ◌&&◌ (equal-Nat (dim_number w.dim) (dim_number v.dim)) (equal-Text w.natural v.natural))
-      ∙ same_natural v w stands ∙ sym (then_eq (nat_cmp (dim_number v.dim) (dim_number w.dim)) (nat_cmp v.durable w.durable));
+  test = λ v r. equal Binary (column r 0) (Int (pos (dim_number v.dim))) && equal Binary (column r 1) (Int (pos v.durable));
+  hits = λ v rows r. trimmed_and _ _;
+  agree = λ v w. ap₂ ◌&&◌ (equal-Nat (dim_number w.dim) (dim_number v.dim)) (equal-Nat w.durable v.durable) ∙ sym (then_eq (nat_cmp (dim_number v.dim) (dim_number w.dim)) (nat_cmp v.durable w.durable));
+  finds = λ v rows id r. refl;
+  over = λ v vs. column vs 0 ∷ column vs 1 ∷ drop 2 (row.member.encode v);
+  writes = λ v rows id r. refl;
+  remade = λ v w same r n number is. (cast_row_own row.member.table (Int n) (Int (pos (dim_number w.dim)) ∷ Int (pos w.durable) ∷ drop 2 (row.member.encode v)) refl refl, ap (λ (k : MemberKey). Int (pos (dim_number k.dim)) ∷ Int (pos k.durable) ∷ drop 2 (row.member.encode v)) same);
+}
+
+-- members of one dimension have natural keys of their own
+pub own_naturals : KeepsApart row.member (λ v w. is_eq (nat_cmp (dim_number v.dim) (dim_number w.dim)) && is_eq (slice_cmp nat_cmp v.natural w.natural))
+unfolding first_key
+own_naturals = record {
+  index = index (codes "sqlite_autoindex_member_2") 6 4 (1 ∷ 3 ∷ []) true;
+  among = inr (inr (inr (inl refl)));
+  guards = refl;
+  meets = λ r x. equal Binary (column r 0) (column x 0) && (equal Binary (column r 2) (column x 2) && true);
+  agrees = λ r x. refl;
+  same = λ v w. ap₂ ◌&&◌ (equal-Nat (dim_number w.dim) (dim_number v.dim)) (and-true _ ∙ equal-Text w.natural v.natural);
 }
 
 -- ---- remove
@@ -229,6 +230,19 @@ rest k = record {
   shows = λ r. refl;
   in_order = λ v w. ap₂ ordering_then (sorted-Nat (dim_number v.dim) (dim_number w.dim)) (then-Equal _ ∙ sorted-Nat v.durable w.durable);
 }
+
+-- ---- read, whoever wrote the rows
+
+abbrev pub stands_at : MemberKey → Row → Bool
+stands_at k r = equal Binary (column r 0) (Int (pos (dim_number k.dim))) && (equal Binary (column r 1) (Int (pos k.durable)) && true)
+
+pub all_stored : ReadsStored row.member [] (λ r. true) (λ r. true) all_text
+unfolding all
+all_stored = record { reads = all; tested = λ r. refl }
+
+pub get_stored : (k : MemberKey) → ReadsStored row.member (bind k) (stands_at k) (λ r. eq_by_cmp row.member.order k (row.member.key r)) get_text
+unfolding get
+get_stored k = record { reads = get k; tested = λ r. refl }
 
 -- ---- count
 

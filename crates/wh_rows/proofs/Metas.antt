@@ -1,5 +1,5 @@
 -- The statements on meta.
-use Rattle.std.proofs.Common.{ℕ, List, [], ◌∷◌, codes, map, true, ◌&&◌, refl, ◌∙◌}
+use Rattle.std.proofs.Common.{Bool, ℕ, List, [], ◌∷◌, codes, map, true, ◌&&◌, refl, ◌∙◌, drop, ap}
 use Rattle.std.specs.Ordering.{eq_by_cmp}
 use Rattle.sqlite_value.specs.declared.value.Value.TheVariants.{Null, Int, Text}
 use Rattle.sqlite_value.specs.declared.keys.Key.{Key}
@@ -15,34 +15,40 @@ use Rattle.sqlite.specs.Order.{Row, column}
 use Rattle.sqlite.specs.Term.{Term, lit, col, op2}
 use Rattle.sqlite.specs.Listing.{understood}
 use Rattle.wh_rows.specs.Rows as row
-use Rattle.wh_rows.specs.Meaning.{any, PutsOne, RemovesOne, ReadsSome, CountsAll}
+use Rattle.wh_rows.specs.Meaning.{PutsOne, RemovesOne, ReadsSome, CountsAll}
+use Rattle.wh_rows.specs.Raw.{ReadsStored}
 use Rattle.wh_rows.proofs.Cast.{cast_row_own}
-use Rattle.wh_rows.proofs.Keys.{and-true, trimmed_one, free_rowid, equal-Text}
+use Rattle.wh_rows.proofs.Keys.{and-true, equal-Text, trimmed}
 
 -- ---- put
 
 abbrev pub put_text : List ℕ
-put_text = codes "INSERT OR REPLACE INTO meta VALUES (?1, ?2)"
+put_text = codes "INSERT INTO meta VALUES (?1, ?2) ON CONFLICT (name) DO UPDATE SET value = excluded.value"
 
-pub put : PutsOne row.meta any put_text
+pub put : PutsOne row.meta put_text
 unfolding understood everything first_key
 put = record {
   at = 0;
   table = record { has = refl; uncounted = refl; unstamped = refl; idle = λ keys olds news. refl };
   terms = lit Null ∷ col 0 0 ∷ col 0 1 ∷ [];
   width = 3;
+  target = 1 ∷ [];
+  here = 2;
+  cells = col 1 0 ∷ col 1 1 ∷ col 0 5 ∷ [];
   command = refl;
   plain = (refl, refl);
   source = λ v. Null ∷ row.meta.encode v;
   given = λ v. refl;
-  whole = λ v. refl;
   own = λ v. cast_row_own row.meta.table Null (row.meta.encode v) refl refl;
   kept = λ v rows. cast_row_own row.meta.table (Int (next_rowid rows)) (row.meta.encode v) refl refl;
-  numbered = λ v rows. refl;
   shows = λ v rows. refl;
   test = λ v r. equal Binary (column r 0) (Text v.name);
-  hits = λ v rows rising r here. trimmed_one _ _ (free_rowid rows rising r here);
-  agree = λ v w stands. equal-Text w.name v.name;
+  hits = λ v rows r. trimmed _;
+  agree = λ v w. equal-Text w.name v.name;
+  finds = λ v rows id r. refl;
+  over = λ v vs. column vs 0 ∷ drop 1 (row.meta.encode v);
+  writes = λ v rows id r. refl;
+  remade = λ v w same r n number is. (cast_row_own row.meta.table (Int n) (Text w.name ∷ drop 1 (row.meta.encode v)) refl refl, ap (λ k. Text k ∷ drop 1 (row.meta.encode v)) same);
 }
 
 -- ---- remove
@@ -116,6 +122,19 @@ get k = record {
   shows = λ r. refl;
   in_order = λ v w. then-Equal _ ∙ value_cmp-Text v.name w.name;
 }
+
+-- ---- read, whoever wrote the rows
+
+abbrev pub stands_at : List ℕ → Row → Bool
+stands_at k r = equal Binary (column r 0) (Text k) && true
+
+pub all_stored : ReadsStored row.meta [] (λ r. true) (λ r. true) all_text
+unfolding all
+all_stored = record { reads = all; tested = λ r. refl }
+
+pub get_stored : (k : List ℕ) → ReadsStored row.meta (bind k) (stands_at k) (λ r. eq_by_cmp row.meta.order k (row.meta.key r)) get_text
+unfolding get
+get_stored k = record { reads = get k; tested = λ r. refl }
 
 -- ---- count
 

@@ -1,48 +1,80 @@
 -- What the statements on a table make of the ten tables, and what they show.
-use Rattle.std.proofs.Common.{◌≡◌, ℕ, List, [], ◌∷◌, map, filter, take, reverse, zero, suc, Bool, true, false, cond, Option, None, Some, IfSome, Ok, refl, sym, ap, ap₂, ◌∙◌}
+use Rattle.std.proofs.Common.{◌≡◌, ℕ, List, [], ◌∷◌, map, filter, take, reverse, zero, suc, Bool, true, false, cond, Option, None, Some, IfSome, Ok, refl, sym, ap, ap₂, subst, ◌∙◌, ◌≢◌, ◌⊎◌, inl, inr, Err, Result}
 use Rattle.std.specs.Prelude.{IsTrue}
-use Rattle.std.specs.List.{list_all}
+use Rattle.std.specs.List.{list_all, AllByRecursion, take-map}
 use Rattle.std.specs.Ordering.{eq_by_cmp}
 use Rattle.std.specs.Option.{option_to_list}
 use Rattle.std.specs.FinMap.{FinMap, entries, values, get, insert, remove, len}
-use Rattle.std.specs.List.{AllByRecursion}
 use Rattle.sqlite.specs.Order.{Row}
-use Rattle.sqlite.specs.State.{State, Executes, IsUnchanged, Survives, Shown, CommitsShowing}
+use Rattle.sqlite.specs.State.{State, Executes, IsUnchanged, Survives, Shown, CommitsShowing, ExecutesIn, IsNotRun, IsRolledBack, shows_rows}
 use Rattle.sqlite_rules.specs.Lists.{Has}
 use Rattle.sqlite_rules.proofs.ListLemmas.{test_has}
 use Rattle.wh_rows.specs.Schema.{warehouse}
 use Rattle.wh_rows.specs.Holds.{Layout}
 use Rattle.wh_rows.specs.Place.{IsPlaced}
 use Rattle.wh_rows.specs.Tables.{Tables, Stores}
-use Rattle.wh_rows.specs.Meaning.{PutsOne, RemovesOne, ReadsSome, CountsAll}
+use Rattle.wh_rows.specs.Meaning.{PutsOne, MovesOne, moved_at, KeepsApart, RemovesOne, ReadsSome, CountsAll}
 use Rattle.wh_rows.specs.Firsts.{from_end, ReadsFirst, ReadsGreatest}
 use Rattle.sqlite_sql.specs.Aggregate.{count as number_of_rows}
-use Rattle.std.specs.List.{take-map}
 use Rattle.std.proofs.lemmas.Grind.{reverse_onto}
 use Rattle.std.proofs.lemmas.List.Folds.{list_all-append}
 use Rattle.wh_rows.proofs.Firsts.{reads_first, IsGreatestOf, reads_greatest}
 use Rattle.wh_rows.proofs.Counts.{counts_rows}
-use Rattle.std.proofs.lemmas.Bool.{and_parts}
+use Rattle.std.proofs.lemmas.Bool.{and_parts, cases_Bool, both_ways}
 use Rattle.wh_rows.proofs.ColumnLemmas.{both}
 use Rattle.wh_rows.proofs.Maps.{filter-get}
-use Rattle.wh_rows.proofs.Puts.{holds_inserted}
-use Rattle.wh_rows.proofs.Puts
 use Rattle.wh_rows.proofs.Removes.{holds_removed}
-use Rattle.wh_rows.proofs.Removes
 use Rattle.wh_rows.proofs.Selects.{reads_rows}
 use Rattle.wh_rows.proofs.Queries.{query_keeps, query_commits_nothing}
+use Rattle.sqlite.specs.declared.error.Error.{Error}
+use Rattle.wh_rows.proofs.Puts.{holds_put, was_free, is_moved}
+use Rattle.wh_rows.specs.Rows as row
+use Rattle.wh_rows.specs.Rekey.{Rekey, rekey_text, bind_rekey, are_keys, with_keys, rekeyed}
+use Rattle.wh_rows.proofs.Facts.{rekey, valid_rekeyed}
+use Rattle.wh_rows.proofs.Places as places
+use Rattle.wh_rows.proofs.Puts
+use Rattle.wh_rows.proofs.Removes
+
+-- a statement that is refused leaves all as it was, unless the store failed, and then the transaction is undone
+pub stays_or_undone : (text : List ℕ) (params : Row) (old new : State) (e : Error) → Executes text params old new (Err e) → IsUnchanged old new ⊎ IsRolledBack old new
+unfolding ExecutesIn IsNotRun
+stays_or_undone text params old new e (inl (inl stays)) = inl stays.1
+stays_or_undone text params old new e (inl (inr fails)) = inr fails.3
+stays_or_undone text params old new e (inr ran) = elim (cases_Bool (shows_rows false ran.0)) [
+  | inl shows ↦ inl (rw shows at ran.2).1
+  | inr runs ↦ elim (rw runs at ran.2) [ inl refused ↦ inl refused.1 | inr fails ↦ inr fails.3 ]
+]
+
+module _ {K V : Type 0} (layout : Layout K V) (rows : Tables → FinMap layout.order V) (with_rows : FinMap layout.order V → Tables → Tables) (placed : IsPlaced layout rows with_rows) (text : List ℕ)
+    (old new : State) (t : Tables) (stored : Stores old.now t) where
+  module _ (puts : PutsOne layout text) (row : V) where
+    -- a valid row is put at its key
+    pub row_put : IsTrue (layout.is_valid row) → (count : ℕ) → Executes text (layout.encode row) old new (Ok count) → Stores new.now (with_rows (insert (rows t) (layout.key row) row) t)
+    row_put valid count ran =
+        let rise = placed.rising old.now t stored in
+        let held = placed.held old.now t stored in
+        placed.changed old.now new.now t (insert (rows t) (layout.key row) row)
+        (Puts.leaves layout placed.total placed.same text puts old new row count stored.schema rise (rows t) held ran)
+        (holds_put layout placed.total placed.same text puts old new row count stored.schema rise (rows t) held ran valid) stored
+
+    -- where a row of another key has its second key, it is refused
+    pub is_refused : (clash : V → V → _) → KeepsApart layout clash → (w : V) → Has (values (rows t)) w → layout.key w ≢ layout.key row → clash row w ≡ true
+        → (r : Result ℕ Error) → Executes text (layout.encode row) old new r → (e : Error) × (r ≡ Err e) × (IsUnchanged old new ⊎ IsRolledBack old new)
+    is_refused clash second w here other taken (Ok count) ran =
+        absurd (both_ways _ (was_free layout placed.total placed.same text puts old new row count stored.schema (placed.rising old.now t stored) (rows t) (placed.held old.now t stored) ran clash second w here other) taken)
+    is_refused clash second w here other taken (Err e) ran = (e, refl, stays_or_undone text (layout.encode row) old new e ran)
+
+  -- the row of a key, if there is one, is changed
+  pub row_moved : {P : Type 0} (bind : P → Row) (key : P → K) (moved : P → V → V) → MovesOne layout bind key moved text → (p : P)
+      → ((w : V) → get (rows t) (key p) ≡ Some w → IsTrue (layout.is_valid (moved p w))) → (count : ℕ) → Executes text (bind p) old new (Ok count)
+      → Stores new.now (with_rows (moved_at (rows t) (key p) (moved p) (get (rows t) (key p))) t)
+  row_moved bind key moved moves p valid count ran =
+      let rise = placed.rising old.now t stored in
+      let made = is_moved layout placed.total placed.same bind key moved text moves old new p count stored.schema rise (rows t) (placed.held old.now t stored) ran in
+      placed.changed old.now new.now t (moved_at (rows t) (key p) (moved p) (get (rows t) (key p))) made.leaves (made.holds valid) stored
 
 module _ {K V : Type 0} (layout : Layout K V) (rows : Tables → FinMap layout.order V) (with_rows : FinMap layout.order V → Tables → Tables) (placed : IsPlaced layout rows with_rows) (text : List ℕ)
     (old new : State) where
-  -- a valid row that may stand beside those that are there is put at its key
-  pub row_put : (may_stand : V → V → Type 0) → PutsOne layout may_stand text → (row : V) → IsTrue (layout.is_valid row) → (count : ℕ) → Executes text (layout.encode row) old new (Ok count)
-      → (t : Tables) → Stores old.now t → ((w : V) → Has (values (rows t)) w → may_stand row w) → Stores new.now (with_rows (insert (rows t) (layout.key row) row) t)
-  row_put may_stand puts row valid count ran t stored stands =
-      let rise = placed.rising old.now t stored in
-      placed.changed old.now new.now t (insert (rows t) (layout.key row) row)
-      (Puts.leaves layout placed.total placed.same may_stand text puts old new row count stored.schema rise ran)
-      (holds_inserted layout placed.total placed.same may_stand text puts old new row count stored.schema rise ran valid (rows t) stands (placed.held old.now t stored)) stored
-
   -- the row of a key is taken out
   pub key_removed : (bind : K → Row) → RemovesOne layout bind text → (k : K) (count : ℕ) → Executes text (bind k) old new (Ok count) → (t : Tables) → Stores old.now t → Stores new.now (with_rows (remove (rows t) k) t)
   key_removed bind removes k count ran t stored =
@@ -157,3 +189,20 @@ read_back encode is_valid once (v ∷ vs) (w ∷ ws) p q same =
 pub read_is : {K V : Type 0} (layout : Layout K V) (rows : Tables → FinMap layout.order V) (with_rows : FinMap layout.order V → Tables → Tables) → IsPlaced layout rows with_rows
     → (answer : List Row) (read stored : List V) → IsTrue (list_all layout.is_valid read) → answer ≡ map layout.encode read → IsTrue (list_all layout.is_valid stored) → answer ≡ map layout.encode stored → read ≡ stored
 read_is layout rows with_rows placed answer read stored valid is valid_stored was = read_back layout.encode layout.is_valid placed.once read stored valid valid_stored (sym is ∙ was)
+
+module _ {K V : Type 0} (layout : Layout K V) (rows : Tables → FinMap layout.order V) (with_rows : FinMap layout.order V → Tables → Tables) (placed : IsPlaced layout rows with_rows)
+    (state : State) (t : Tables) (stored : Stores state.now t) where
+  -- the row at a key is valid
+  pub valid_at : (k : K) (v : V) → get (rows t) k ≡ Some v → IsTrue (layout.is_valid v)
+  valid_at k v there =
+      let keep : V → Bool = λ w. eq_by_cmp layout.order k (layout.key w) in
+      let found : filter keep (values (rows t)) ≡ v ∷ [] = filter-get layout.order placed.total layout.key (rows t) k (placed.held state.now t stored).keyed ∙ ap option_to_list there in
+      let all = subst (λ vs. IsTrue (list_all layout.is_valid vs)) found (valid_answer layout rows with_rows placed keep state t stored) in
+      (and_parts (layout.is_valid v) true all).0
+
+-- the fact of a line has other keys
+pub fact_rekeyed : (old new : State) (t : Tables) → Stores old.now t → (r : Rekey) → IsTrue (are_keys r.1) → (count : ℕ) → Executes rekey_text (bind_rekey r) old new (Ok count)
+    → Stores new.now (record t { fact = rekeyed r t.fact })
+fact_rekeyed old new t stored r keys count ran =
+    row_moved row.fact (λ t. t.fact) (λ m t. record t { fact = m }) places.fact rekey_text old new t stored bind_rekey (λ r. r.0) with_keys rekey r
+    (λ f there. valid_rekeyed r f keys (valid_at row.fact (λ t. t.fact) (λ m t. record t { fact = m }) places.fact old t stored r.0 f there)) count ran

@@ -1,5 +1,5 @@
 -- The statements on profile.
-use Rattle.std.proofs.Common.{ℕ, List, [], ◌∷◌, codes, map, drop, slice_index_or, pos, true, false, ◌&&◌, refl, ap₂, ◌∙◌}
+use Rattle.std.proofs.Common.{Bool, ℕ, List, [], ◌∷◌, codes, map, drop, slice_index_or, pos, true, false, ◌&&◌, refl, ap₂, ◌∙◌, sym, ap}
 use Rattle.std.specs.Ordering.{is_gt, eq_by_cmp, nat_cmp}
 use Rattle.std.specs.Cmp.Lexicographic.{slice_cmp}
 use Rattle.sqlite_value.specs.declared.value.Value.TheVariants.{Null, Int, Text}
@@ -16,7 +16,8 @@ use Rattle.sqlite.specs.Term.{Term, lit, col, op2}
 use Rattle.sqlite.specs.Listing.{understood}
 use Rattle.wh_rows.specs.Rows.{slot_columns}
 use Rattle.wh_rows.specs.Rows as row
-use Rattle.wh_rows.specs.Meaning.{any, PutsOne, RemovesOne, ReadsSome, CountsAll}
+use Rattle.wh_rows.specs.Meaning.{PutsOne, RemovesOne, ReadsSome, CountsAll}
+use Rattle.wh_rows.specs.Raw.{ReadsStored}
 use Rattle.wh_rows.specs.Firsts.{ReadsFirst}
 use Rattle.wh_rows.proofs.Cast.{cast_row_own}
 use Rattle.wh_rows.proofs.Keys.{and-true, trimmed, equal-Nat, equal-Text, sorted-Nat, greater, greater-Nat}
@@ -24,27 +25,35 @@ use Rattle.wh_rows.proofs.Keys.{and-true, trimmed, equal-Nat, equal-Text, sorted
 -- ---- put
 
 abbrev pub put_text : List ℕ
-put_text = codes "INSERT OR REPLACE INTO profile VALUES (?1, ?2, ?3, ?4, ?5, ?6, ?7)"
+put_text = codes "INSERT INTO profile VALUES (?1, ?2, ?3, ?4, ?5, ?6, ?7) ON CONFLICT (number) DO UPDATE SET v1 = excluded.v1, v2 = excluded.v2, v3 = excluded.v3, v4 = excluded.v4, v5 = excluded.v5, v6 = excluded.v6"
 
-pub put : PutsOne row.profile any put_text
+pub put : PutsOne row.profile put_text
 unfolding understood everything first_key
 put = record {
   at = 7;
   table = record { has = refl; uncounted = refl; unstamped = refl; idle = λ keys olds news. refl };
   terms = col 0 0 ∷ lit Null ∷ col 0 1 ∷ col 0 2 ∷ col 0 3 ∷ col 0 4 ∷ col 0 5 ∷ col 0 6 ∷ [];
   width = 8;
+  target = 0 ∷ [];
+  here = 7;
+  cells = col 1 0 ∷ lit Null ∷ col 0 10 ∷ col 0 11 ∷ col 0 12 ∷ col 0 13 ∷ col 0 14 ∷ col 0 15 ∷ [];
   command = refl;
   plain = (refl, refl);
   source = λ v. Int (pos v.number) ∷ Null ∷ drop 1 (row.profile.encode v);
   given = λ v. refl;
-  whole = λ v. refl;
   own = λ v. cast_row_own row.profile.table (Int (pos v.number)) (Null ∷ drop 1 (row.profile.encode v)) refl refl;
   kept = λ v rows. cast_row_own row.profile.table (Int (pos v.number)) (Null ∷ drop 1 (row.profile.encode v)) refl refl;
-  numbered = λ v rows. refl;
   shows = λ v rows. refl;
   test = λ v r. equal Binary (column r 0) (Int (pos v.number));
-  hits = λ v rows rising r here. trimmed _;
-  agree = λ v w stands. equal-Nat w.number v.number;
+  hits = λ v rows r. trimmed _;
+  agree = λ v w. equal-Nat w.number v.number;
+  finds = λ v rows id r. refl;
+  over = λ v vs. Null ∷ drop 1 (row.profile.encode v);
+  writes = λ v rows id r. refl;
+  remade = λ v w same r n number is. (
+    cast_row_own row.profile.table (Int n) (Null ∷ drop 1 (row.profile.encode v)) refl refl,
+    ap (λ id. id ∷ drop 1 (row.profile.encode v)) (sym number ∙ ap (λ vs. column vs 0) is ∙ ap (λ k. Int (pos k)) same),
+  );
 }
 
 -- ---- remove
@@ -184,6 +193,19 @@ of_values texts = record {
   shows = λ r. refl;
   in_order = λ v w. then-Equal _ ∙ sorted-Nat v.number w.number;
 }
+
+-- ---- read, whoever wrote the rows
+
+abbrev pub stands_at : ℕ → Row → Bool
+stands_at k r = equal Binary (column r 0) (Int (pos k)) && true
+
+pub all_stored : ReadsStored row.profile [] (λ r. true) (λ r. true) all_text
+unfolding all
+all_stored = record { reads = all; tested = λ r. refl }
+
+pub get_stored : (k : ℕ) → ReadsStored row.profile (bind k) (stands_at k) (λ r. eq_by_cmp row.profile.order k (row.profile.key r)) get_text
+unfolding get
+get_stored k = record { reads = get k; tested = λ r. refl }
 
 -- ---- count
 

@@ -1,7 +1,7 @@
 -- Reading rows one after the other.
-use Rattle.std.proofs.Common.{◌≡◌, ◌≢◌, ℕ, ◌+◌, ◌<◌, ◌≤◌, Bool, true, List, [], ◌∷◌, ◌++◌, length, map, drop, get_or, refl, sym, ap, ◌∙◌}
+use Rattle.std.proofs.Common.{zero, suc, inl, inr, arith, ◌≡◌, ℕ, ◌+◌, ◌<◌, ◌≤◌, Bool, true, List, [], ◌∷◌, ◌++◌, length, map, drop, get_or, refl, ap, ◌∙◌}
 use Rattle.std.specs.List.{list_all}
-use Rattle.std.proofs.lemmas.Bool.{and_parts}
+use Rattle.sqlite_rules.specs.Lists.{Has}
 use Rattle.std.proofs.lemmas.List.{drop_more, drop_all}
 use Rattle.std.proofs.lemmas.List.Folds.{list_all-append}
 use Rattle.wh_rows.proofs.ColumnLemmas.{both}
@@ -25,15 +25,8 @@ module _ {V C : Type 0} (encode : V → C) (is_valid : V → Bool) where
       nothing_more [] = refl
       nothing_more (x ∷ l) = ap (λ r. x ∷ r) (nothing_more l)
 
-  -- a row among valid ones is the encoding of a valid one
-  among : (front : List C) (c : C) (rest : List C) (all : List V) → list_all is_valid all ≡ true → front ++ c ∷ rest ≡ map encode all → (v : V) × (is_valid v ≡ true) × (c ≡ encode v)
-  among [] c rest [] valid is = absurd (cc)
-  among [] c rest (v ∷ all) valid is = (v, (and_parts (is_valid v) (list_all is_valid all) valid).0, cc)
-  among (x ∷ front) c rest [] valid is = absurd (cc)
-  among (x ∷ front) c rest (v ∷ all) valid is = among front c rest all (and_parts (is_valid v) (list_all is_valid all) valid).1 (cc)
-
-  pub refused : (rows : List C) (i : ℕ) (read all : List V) (d : C) → i < length rows → rows ≡ map encode read ++ drop i rows → ((v : V) → is_valid v ≡ true → get_or rows i d ≢ encode v)
-      → list_all is_valid all ≡ true → rows ≢ map encode all
-  refused rows i read all d lt h none valid is =
-      let found = among (map encode read) (get_or rows i d) (drop (i + 1) rows) all valid (ap (λ l. map encode read ++ l) (sym (drop_more rows i d lt)) ∙ sym h ∙ is) in
-      none found.0 found.1 found.2
+-- the element at a place is among them
+pub is_among : {C : Type 0} (rows : List C) (i : ℕ) (d : C) → i < length rows → Has rows (get_or rows i d)
+is_among [] i d within = absurd (omega arith)
+is_among (c ∷ rows) zero d within = inl refl
+is_among (c ∷ rows) (suc i) d within = inr (is_among rows i d (omega arith))

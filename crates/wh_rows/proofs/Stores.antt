@@ -1,5 +1,5 @@
 -- The statements on store.
-use Rattle.std.proofs.Common.{ℕ, List, [], ◌∷◌, codes, map, drop, pos, true, false, ◌&&◌, refl, ◌∙◌}
+use Rattle.std.proofs.Common.{Bool, ℕ, List, [], ◌∷◌, codes, map, drop, pos, true, false, ◌&&◌, refl, ◌∙◌, sym, ap}
 use Rattle.std.specs.Ordering.{is_gt, eq_by_cmp, nat_cmp}
 use Rattle.sqlite_value.specs.declared.value.Value.TheVariants.{Null, Int}
 use Rattle.sqlite_value.specs.declared.keys.Key.{Key}
@@ -16,7 +16,8 @@ use Rattle.sqlite.specs.Order.{Row, column}
 use Rattle.sqlite.specs.Term.{Term, lit, col, op1, op2}
 use Rattle.sqlite.specs.Listing.{understood}
 use Rattle.wh_rows.specs.Rows as row
-use Rattle.wh_rows.specs.Meaning.{any, PutsOne, RemovesOne, ReadsSome, CountsAll}
+use Rattle.wh_rows.specs.Meaning.{PutsOne, RemovesOne, ReadsSome, CountsAll}
+use Rattle.wh_rows.specs.Raw.{ReadsStored}
 use Rattle.wh_rows.specs.Firsts.{ReadsFirst}
 use Rattle.wh_rows.proofs.Cast.{cast_row_own}
 use Rattle.wh_rows.proofs.Keys.{and-true, trimmed, equal-Nat, sorted-Nat, greater, greater-Nat}
@@ -24,27 +25,35 @@ use Rattle.wh_rows.proofs.Keys.{and-true, trimmed, equal-Nat, sorted-Nat, greate
 -- ---- put
 
 abbrev pub put_text : List ℕ
-put_text = codes "INSERT OR REPLACE INTO store VALUES (?1, ?2, ?3, ?4, ?5, ?6, ?7, ?8, ?9, ?10, ?11, ?12, ?13, ?14, ?15, ?16, ?17, ?18, ?19)"
+put_text = codes "INSERT INTO store VALUES (?1, ?2, ?3, ?4, ?5, ?6, ?7, ?8, ?9, ?10, ?11, ?12, ?13, ?14, ?15, ?16, ?17, ?18, ?19) ON CONFLICT (surrogate) DO UPDATE SET durable = excluded.durable, natural = excluded.natural, from_day = excluded.from_day, to_day = excluded.to_day, is_current = excluded.is_current, a1 = excluded.a1, a2 = excluded.a2, a3 = excluded.a3, a4 = excluded.a4, a5 = excluded.a5, a6 = excluded.a6, b1 = excluded.b1, b2 = excluded.b2, b3 = excluded.b3, b4 = excluded.b4, b5 = excluded.b5, b6 = excluded.b6, profile_now = excluded.profile_now"
 
-pub put : PutsOne row.store any put_text
+pub put : PutsOne row.store put_text
 unfolding understood everything first_key
 put = record {
   at = 5;
   table = record { has = refl; uncounted = refl; unstamped = refl; idle = λ keys olds news. refl };
   terms = col 0 0 ∷ lit Null ∷ col 0 1 ∷ col 0 2 ∷ col 0 3 ∷ col 0 4 ∷ col 0 5 ∷ col 0 6 ∷ col 0 7 ∷ col 0 8 ∷ col 0 9 ∷ col 0 10 ∷ col 0 11 ∷ col 0 12 ∷ col 0 13 ∷ col 0 14 ∷ col 0 15 ∷ col 0 16 ∷ col 0 17 ∷ col 0 18 ∷ [];
   width = 20;
+  target = 0 ∷ [];
+  here = 19;
+  cells = col 1 0 ∷ lit Null ∷ col 0 22 ∷ col 0 23 ∷ col 0 24 ∷ col 0 25 ∷ col 0 26 ∷ col 0 27 ∷ col 0 28 ∷ col 0 29 ∷ col 0 30 ∷ col 0 31 ∷ col 0 32 ∷ col 0 33 ∷ col 0 34 ∷ col 0 35 ∷ col 0 36 ∷ col 0 37 ∷ col 0 38 ∷ col 0 39 ∷ [];
   command = refl;
   plain = (refl, refl);
   source = λ v. Int (pos v.surrogate) ∷ Null ∷ drop 1 (row.store.encode v);
   given = λ v. refl;
-  whole = λ v. refl;
   own = λ v. cast_row_own row.store.table (Int (pos v.surrogate)) (Null ∷ drop 1 (row.store.encode v)) refl refl;
   kept = λ v rows. cast_row_own row.store.table (Int (pos v.surrogate)) (Null ∷ drop 1 (row.store.encode v)) refl refl;
-  numbered = λ v rows. refl;
   shows = λ v rows. refl;
   test = λ v r. equal Binary (column r 0) (Int (pos v.surrogate));
-  hits = λ v rows rising r here. trimmed _;
-  agree = λ v w stands. equal-Nat w.surrogate v.surrogate;
+  hits = λ v rows r. trimmed _;
+  agree = λ v w. equal-Nat w.surrogate v.surrogate;
+  finds = λ v rows id r. refl;
+  over = λ v vs. Null ∷ drop 1 (row.store.encode v);
+  writes = λ v rows id r. refl;
+  remade = λ v w same r n number is. (
+    cast_row_own row.store.table (Int n) (Null ∷ drop 1 (row.store.encode v)) refl refl,
+    ap (λ id. id ∷ drop 1 (row.store.encode v)) (sym number ∙ ap (λ vs. column vs 0) is ∙ ap (λ k. Int (pos k)) same),
+  );
 }
 
 -- ---- remove
@@ -184,6 +193,19 @@ after k = record {
   shows = λ r. refl;
   in_order = λ v w. then-Equal _ ∙ sorted-Nat v.surrogate w.surrogate;
 }
+
+-- ---- read, whoever wrote the rows
+
+abbrev pub stands_at : ℕ → Row → Bool
+stands_at k r = equal Binary (column r 0) (Int (pos k)) && true
+
+pub all_stored : ReadsStored row.store [] (λ r. true) (λ r. true) all_text
+unfolding all
+all_stored = record { reads = all; tested = λ r. refl }
+
+pub get_stored : (k : ℕ) → ReadsStored row.store (bind k) (stands_at k) (λ r. eq_by_cmp row.store.order k (row.store.key r)) get_text
+unfolding get
+get_stored k = record { reads = get k; tested = λ r. refl }
 
 -- ---- count
 

@@ -16,3 +16,5 @@ pub mod Making
 pub mod Firsts
 pub mod Cause
 pub mod AtRest
+pub mod Raw
+pub mod Rekey

@@ -18,6 +18,3 @@ pub use limits::Limits;
 pub use rows::{ChangeRow, CommandRow, MemberRow, MetaRow, ProfileRow, TableRow};
 pub use table::Table;
 pub use tables::{StoredTable, read_all};
-
-#[cfg(test)]
-mod tests;

@@ -26,7 +26,7 @@ pub struct CommandRow {
     pub bytes: Bytes,
     /// How many records it has.
     pub records: u64,
-    /// How many members it mentions that no record has described.
+    /// How many members its sales were the first to mention.
     pub placeholders: u64,
 }
 

@@ -1,11 +1,12 @@
 //! The tables as types, for code that is the same for each of them.
 
-ghost use Rattle.std.specs.Prelude.{◌≡◌, ◌≢◌, List, map, IsTrue, IfOk, IfErr};
+ghost use Rattle.std.specs.Prelude.{◌≡◌, ◌≢◌, map, IsTrue, IfOk, IfErr};
 ghost use Rattle.std.specs.List.{list_all};
 ghost use Rattle.wh_day.specs.declared.error.ReadError.TheVariants.{Memory};
 ghost use Rattle.std.specs.FinMap.{FinMap};
 ghost use Rattle.wh_rows.specs.Holds.{Layout};
 ghost use Rattle.wh_rows.specs.Tables.{Tables};
+ghost use Rattle.wh_rows.specs.Raw.{HasDamage};
 
 use crate::columns::Damaged;
 use crate::key::{ChangeKey, LineKey, MemberKey};
@@ -255,7 +256,7 @@ pub fn read_all<T: StoredTable>(
     rows: &[Row],
 ) -> Result<Vec<T::Row>, ReadError<Damaged>>
     ensures ok { IfOk result (λ read. IsTrue (list_all T.layout.is_valid read.items) × (rows.now ≡ map T.layout.encode read.items)) }
-    ensures err { IfErr result (λ e. e ≢ Memory → (read : List T.Row) → IsTrue (list_all T.layout.is_valid read) → rows.now ≢ map T.layout.encode read) }
+    ensures err { IfErr result (λ e. e ≢ Memory → HasDamage T.layout rows.now) }
 {
     let mut read = Vec::new(alloc);
     'rows: for row in rows {

@@ -17,13 +17,18 @@ use Rattle.wh_rows.specs.Place.{IsPlaced}
 use Rattle.wh_rows.specs.Tables.{Tables, Stores}
 use Rattle.wh_rows.specs.AtRest.{Has, IsAtRest, Leaves}
 use Rattle.wh_rows.specs.Meaning.{ReadsSome}
+use Rattle.std.specs.List.Sorted.{IsPermutation}
+use Rattle.std.proofs.lemmas.List.Sorted.{IsPermutation-refl, IsPermutation-sym, IsPermutation-trans}
+use Rattle.sqlite_trees.proofs.ListLemmas.{IsPermutation-filter}
+use Rattle.wh_rows.specs.Raw.{Stored, IsStored, RestsOn, LeavesStored, ReadsStored, AreRows, table_of, rows_in}
+use Rattle.wh_rows.proofs.Raw.{no_damage, damage_again, shows_stored, shows_in_order}
 use Rattle.wh_rows.specs.Firsts.{Front, part, greatest, ReadsPart, ReadsGreatest}
 use Rattle.wh_rows.specs.declared.table.Table.{Table}
 use Rattle.wh_rows.proofs.Edits.{filter_all}
 use Rattle.wh_rows.proofs.Maps.{filter-get}
 use Rattle.wh_rows.proofs.Queries.{query_keeps, query_commits_nothing}
 use Rattle.wh_rows.proofs.OnTables.{answer_is, first_is, greatest_is, valid_answer, valid_first, valid_among, read_is}
-use Rattle.wh_sql.specs.Refusal.{IsWhole, IsUndamaged, Shows, FailsToShow, FailsToCount}
+use Rattle.wh_sql.specs.Refusal.{IsWhole, IsUndamaged, Shows, FailsToShow, FailsToCount, IsOfDamage}
 use Rattle.wh_sql.specs.declared.refusal.Refusal.{Refusal}
 use Rattle.wh_sql.specs.declared.refusal.Refusal.TheVariants.{Damaged, Store}
 
@@ -45,6 +50,56 @@ module _ (text : List ℕ) (params : Row) (plain : IsPlain (understood warehouse
         committed = same.0.committed_is ∙ (at.committed ∙ sym same.0.now_is);
         left = leaves_same;
       }
+
+-- ---- a text that shows stored rows, whoever wrote them
+
+module _ (text : List ℕ) (params : Row) (plain : IsPlain (understood warehouse text)) (stored : Stored) (old new : State) (at : RestsOn stored old)
+    (survives : Survives old new (CommitsShowing text params old)) (clean : HasCleanDisk new) where
+  pub leaves_stored : LeavesStored stored new
+  leaves_stored = record { each = λ trees may. elim ((query_commits_nothing text params old new at.now.schema plain survives).crash clean trees may) [ inl before ↦ at.left.each trees before | inr none ↦ absurd none ] }
+
+  pub still_stored : (answer : List Row) → Shown text params old new answer → RestsOn stored new
+  still_stored answer shown =
+      let same : IsUnchanged old new = query_keeps text params old new at.now.schema plain answer shown in
+      record {
+        is_open = same.0.is_open;
+        autocommit = same.0.mode ∙ at.autocommit;
+        unmarked = same.2 ∙ at.unmarked;
+        now = subst (IsStored stored) (sym same.0.now_is) at.now;
+        committed = same.0.committed_is ∙ (at.committed ∙ sym same.0.now_is);
+        left = leaves_stored;
+      }
+
+-- a text that means the stored rows that pass a test, of a table among the ten
+module _ {K V : Type 0} {layout : Layout K V} (name : Table) (named : table_of name ≡ layout.table) {stands : Row → Bool} {keep : V → Bool} {text : List ℕ} {params : Row} (it : ReadsStored layout params stands keep text)
+    (old new : State) (stored : Stored) (is : IsStored stored old.now) where
+  answer_stored : (answer : List Row) → Shown text params old new answer → IsPermutation (filter stands (stored name)) answer
+  answer_stored answer shown =
+      let rows : IsPermutation (rows_in layout.table old.now.trees) (stored name) = subst (λ t. IsPermutation (rows_in t old.now.trees) (stored name)) named (is.rows name) in
+      IsPermutation-trans _ _ _ (IsPermutation-sym _ _ (IsPermutation-filter stands _ _ rows)) (shows_stored layout params stands keep text it old new answer is.schema shown)
+
+  -- what is read is all of them, none damaged
+  pub reads_stored : (result : Result (Vec V Global) Refusal) → IfOk result (λ rows. Shows layout text params old new rows.items) → IfOk result (λ rows. AreRows layout (filter stands (stored name)) rows.items)
+  reads_stored (Err refusal) shows = tt
+  reads_stored (Ok rows) shows = record {
+    same = answer_stored (map layout.encode rows.items) shows.1;
+    valid = shows.0;
+    in_order = shows_in_order layout params stands keep text it old new (map layout.encode rows.items) is.schema shows.1 rows.items refl;
+  }
+
+  -- or one of them is damaged
+  pub finds_damage : {A : Type 0} (result : Result A Refusal) → IfErr result (FailsToShow layout name text params old new) → IfErr result (IsOfDamage layout name (filter stands (stored name)))
+  finds_damage (Ok x) fails = tt
+  finds_damage (Err (Damaged met)) fails = (fails.0, damage_again layout (filter stands (stored name)) fails.1 (answer_stored fails.1 fails.2) fails.3)
+  finds_damage (Err (Store cause)) fails = tt
+
+-- and nothing changed
+pub stored_whole : {K V : Type 0} (layout : Layout K V) (text : List ℕ) (params : Row) (plain : IsPlain (understood warehouse text)) (table : Table) (stored : Stored) (old new : State) → RestsOn stored old
+    → Survives old new (CommitsShowing text params old) → HasCleanDisk new → (result : Result (Vec V Global) Refusal)
+    → IfOk result (λ rows. Shows layout text params old new rows.items) → IfErr result (FailsToShow layout table text params old new) → IsWhole result → RestsOn stored new
+stored_whole layout text params plain table stored old new at survives clean (Ok rows) shows fails whole = still_stored text params plain stored old new at survives clean (map layout.encode rows.items) shows.1
+stored_whole layout text params plain table stored old new at survives clean (Err (Damaged which)) shows fails whole = still_stored text params plain stored old new at survives clean fails.1 fails.2
+stored_whole layout text params plain table stored old new at survives clean (Err (Store cause)) shows fails whole = absurd whole
 
 -- ---- a text that shows rows of one table
 
@@ -122,7 +177,7 @@ module _ {K V : Type 0} {layout : Layout K V} {text : List ℕ} {params : Row} {
   -- and no row is out of its type
   pub undamaged : {A : Type 0} (result : Result A Refusal) (table : Table) → IfErr result (FailsToShow layout table text params old new) → (t : Tables) → Stores old.now t → IsUndamaged result
   undamaged (Ok x) table fails t stored = tt
-  undamaged (Err (Damaged met)) table fails t stored = let told = asked.shows fails.1 t stored fails.2 in fails.3 told.0 told.2 told.3
+  undamaged (Err (Damaged met)) table fails t stored = let told = asked.shows fails.1 t stored fails.2 in no_damage layout fails.1 told.0 told.2 (subst (IsPermutation fails.1) told.3 (IsPermutation-refl fails.1)) fails.3
   undamaged (Err (Store cause)) table fails t stored = tt
 
   module _ (t : Tables) (at : IsAtRest (Some t) old) (survives : Survives old new (CommitsShowing text params old)) (clean : HasCleanDisk new) where

@@ -10,11 +10,13 @@ use Rattle.sqlite.proofs.Callers.{IsPlain, command_of}
 use Rattle.wh_rows.specs.Schema.{warehouse}
 use Rattle.wh_rows.specs.Holds.{Layout}
 use Rattle.wh_rows.specs.Place.{IsPlaced}
+use Rattle.std.specs.Prelude.{IsTrue}
 use Rattle.wh_rows.specs.Meaning.{PutsOne, RemovesOne}
 use Rattle.wh_rows.specs.Tables.{Tables, Stores}
 use Rattle.wh_rows.specs.AtRest.{Leaves, IsWriting}
-use Rattle.wh_rows.proofs.OnTables.{row_put, key_removed}
-use Rattle.wh_sql.specs.Fits.{MayBePut}
+use Rattle.wh_rows.specs.Rekey.{Rekey, rekey_text, bind_rekey, are_keys, rekeyed}
+use Rattle.wh_rows.proofs.Facts.{rekey}
+use Rattle.wh_rows.proofs.OnTables.{row_put, key_removed, fact_rekeyed}
 use Rattle.wh_sql.proofs.Inside.{leaves_inside, stays_inside, writes_on, has_tables}
 
 module _ (text : List ℕ) (params : Row) (old new : State) (before : Option Tables) (t : Tables) (at : IsWriting before (Some t) old) (clean : HasCleanDisk new) (survives : Survives old new (CommitsBy text params old)) where
@@ -28,19 +30,25 @@ module _ (text : List ℕ) (params : Row) (old new : State) (before : Option Tab
     makes count ran now stored = writes_on before (Some t) (Some now) old new at (stays_inside text params old new warehouse at.now.schema command is plain write at.inside count ran) leaves (has_tables new.now now stored)
 
   module _ {K V : Type 0} (layout : Layout K V) where
-    pub put_leaves : (may_stand : V → V → Type 0) → PutsOne layout may_stand text → Leaves before new
-    put_leaves may_stand puts = leaves _ puts.command puts.plain tt
+    pub put_leaves : PutsOne layout text → Leaves before new
+    put_leaves puts = leaves _ puts.command puts.plain tt
 
     pub remove_leaves : (bind : K → Row) → RemovesOne layout bind text → Leaves before new
     remove_leaves bind removes = leaves _ removes.command removes.plain tt
 
     module _ (rows : Tables → FinMap layout.order V) (with_rows : FinMap layout.order V → Tables → Tables) (placed : IsPlaced layout rows with_rows) (count : ℕ) (ran : Executes text params old new (Ok count)) where
       -- the transaction has put the row at its key
-      pub puts_on : (may_stand : V → V → Type 0) → PutsOne layout may_stand text → (row : V) → params ≡ layout.encode row → MayBePut layout may_stand row (rows t)
-          → IsWriting before (Some (with_rows (insert (rows t) (layout.key row) row) t)) new
-      puts_on may_stand puts row is may =
-          makes _ puts.command puts.plain tt count ran _ (row_put layout rows with_rows placed text old new may_stand puts row may.valid count (rw is at ran) t at.now.tables may.stands)
+      pub puts_on : PutsOne layout text → (row : V) → params ≡ layout.encode row → IsTrue (layout.is_valid row) → IsWriting before (Some (with_rows (insert (rows t) (layout.key row) row) t)) new
+      puts_on puts row is valid = makes _ puts.command puts.plain tt count ran _ (row_put layout rows with_rows placed text old new t at.now.tables puts row valid count (rw is at ran))
 
       -- the transaction has taken out the row at the key
       pub removes_on : (bind : K → Row) → RemovesOne layout bind text → (key : K) → params ≡ bind key → IsWriting before (Some (with_rows (remove (rows t) key) t)) new
       removes_on bind removes key is = makes _ removes.command removes.plain tt count ran _ (key_removed layout rows with_rows placed text old new bind removes key count (rw is at ran) t at.now.tables)
+
+module _ (params : Row) (old new : State) (before : Option Tables) (t : Tables) (at : IsWriting before (Some t) old) (clean : HasCleanDisk new) (survives : Survives old new (CommitsBy rekey_text params old)) where
+  pub rekey_leaves : Leaves before new
+  rekey_leaves = leaves rekey_text params old new before t at clean survives _ rekey.command rekey.plain tt
+
+  -- the transaction has given the fact of a line other keys
+  pub rekeys_on : (count : ℕ) → Executes rekey_text params old new (Ok count) → (r : Rekey) → params ≡ bind_rekey r → IsTrue (are_keys r.1) → IsWriting before (Some (record t { fact = rekeyed r t.fact })) new
+  rekeys_on count ran r is keys = makes rekey_text params old new before t at clean survives _ rekey.command rekey.plain tt count ran _ (fact_rekeyed old new t at.now.tables r keys count (rw is at ran))

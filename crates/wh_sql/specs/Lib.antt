@@ -1,4 +1,3 @@
-pub mod Fits
 pub mod Refusal
 pub mod Present
 pub mod Asked

@@ -10,6 +10,7 @@ use Rattle.sqlite.specs.declared.error.Error.{Error}
 use Rattle.wh_rows.specs.declared.cause.Cause.{Cause}
 use Rattle.wh_rows.specs.Cause.{cause_of}
 use Rattle.wh_rows.specs.Holds.{Layout}
+use Rattle.wh_rows.specs.Raw.{HasDamage}
 use Rattle.wh_rows.specs.declared.table.Table.{Table}
 use Rattle.wh_sql.specs.declared.refusal.Refusal.{Refusal}
 use Rattle.wh_sql.specs.declared.refusal.Refusal.TheVariants.{Damaged, Store}
@@ -37,9 +38,13 @@ IsCauseOfQuery text params old new cause = (error : Error) × (cause ≡ cause_o
 
 -- it shows a row that is out of its type; or the store refused it
 abbrev pub FailsToShow : {K V : Type 0} → Layout K V → Table → List ℕ → Row → State → State → Refusal → Type 0
-FailsToShow layout table text params old new (Damaged which) =
-    (which ≡ table) × (answer : List Row) × Shown text params old new answer × ((rows : List _) → IsTrue (list_all layout.is_valid rows) → answer ≢ map layout.encode rows)
+FailsToShow layout table text params old new (Damaged which) = (which ≡ table) × (answer : List Row) × Shown text params old new answer × HasDamage layout answer
 FailsToShow layout table text params old new (Store cause) = cause ≢ Memory → IsCauseOfQuery text params old new cause
+
+-- Damaged names the table, and a row stored in it is out of its type
+abbrev pub IsOfDamage : {K V : Type 0} → Layout K V → Table → List Row → Refusal → Type 0
+IsOfDamage layout table stored (Damaged which) = (which ≡ table) × HasDamage layout stored
+IsOfDamage layout table stored (Store cause) = Unit {0}
 
 -- the rows are more than the store counts; or it refused to count them
 abbrev pub FailsToCount : ℕ → List ℕ → State → State → Refusal → Type 0

@@ -1,6 +1,6 @@
 //! What the ten tables have in common: rows that stand at keys.
 
-ghost use Rattle.std.specs.Prelude.{◌≡◌, ◌≢◌, ℕ, List, [], true, false, IfOk, IfErr};
+ghost use Rattle.std.specs.Prelude.{◌≡◌, ◌≢◌, ℕ, Bool, List, [], true, false, IfOk, IfErr};
 ghost use Rattle.std.specs.Ordering.{eq_by_cmp};
 ghost use Rattle.sqlite_value.specs.declared.value.Value.TheVariants.{Int};
 ghost use Rattle.wh_rows.specs.Types.{is_number};
@@ -9,6 +9,7 @@ ghost use Rattle.sqlite.specs.Values.{bound};
 ghost use Rattle.wh_rows.specs.declared.cause.Cause.TheVariants.{Memory, Size};
 ghost use Rattle.wh_rows.specs.declared.table.Table.{Table};
 ghost use Rattle.wh_rows.specs.Place.{IsPlaced};
+ghost use Rattle.wh_rows.specs.Raw.{ReadsStored, table_of};
 ghost use Rattle.wh_rows.specs.Meaning.{PutsOne, RemovesOne, ReadsSome, CountsAll};
 
 use sqlite::types::ValueRef;
@@ -19,13 +20,13 @@ use wh_rows::{Cause, StoredTable, Table, bound};
 
 /// One of the ten tables, with the texts of its statements.
 pub trait Keeps: StoredTable {
-    // Beside which other rows a row may stand.
-    ghost may_stand: { Self.Row → Self.Row → Type 0 };
-
     // A key as the parameters of a statement.
     ghost bind: { Self.Key → Columns };
 
     ghost name: { Table };
+
+    // Which stored rows stand at a key, whoever wrote them.
+    ghost stands_at: { Self.Key → Columns → Bool };
 
     ghost put_means: { List ℕ };
 
@@ -66,7 +67,7 @@ pub trait Keeps: StoredTable {
         ensures err { IfErr result (λ cause. cause ≢ Memory → (cause ≡ Size) × ((row : Self.Row) → Self.layout.is_valid row ≡ true → Self.layout.key row ≢ key.now)) };
 
     // What the texts mean.
-    ghost puts: { PutsOne Self.layout may_stand put_means };
+    ghost puts: { PutsOne Self.layout put_means };
 
     ghost removes: { RemovesOne Self.layout bind remove_means };
 
@@ -75,6 +76,13 @@ pub trait Keeps: StoredTable {
     ghost finds: { (key : Self.Key) → ReadsSome Self.layout (bind key) (λ row. eq_by_cmp Self.layout.order key (Self.layout.key row)) get_means };
 
     ghost counts: { CountsAll Self.layout count_means };
+
+    // The same, whoever wrote the rows.
+    ghost lists_stored: { ReadsStored Self.layout [] (λ row. true) (λ row. true) all_means };
+
+    ghost finds_stored: { (key : Self.Key) → ReadsStored Self.layout (bind key) (stands_at key) (λ row. eq_by_cmp Self.layout.order key (Self.layout.key row)) get_means };
+
+    ghost named: { table_of name ≡ Self.layout.table };
 
     ghost placed: { IsPlaced Self.layout Self.rows Self.with_rows };
 }

@@ -5,10 +5,12 @@ ghost use Rattle.sqlite_value.specs.declared.value.Value.TheVariants.{Int, Text}
 ghost use Rattle.sqlite.specs.Values.{bound};
 ghost use Rattle.wh_rows.specs.declared.cause.Cause.TheVariants.{Memory, Size};
 ghost use Rattle.wh_rows.specs.Types.{is_number, dim_number};
+ghost use Rattle.wh_rows.specs.Rekey.{bind_rekey, are_keys};
 
 use sqlite::types::ValueRef;
 use std::alloc::Global;
 use wh_day::{Day, Value};
+use wh_history::FactKeys;
 use wh_policy::Dim;
 use wh_rows::{Cause, ChangeKey, LineKey, bound};
 
@@ -108,5 +110,33 @@ pub(crate) fn line_key<'a>(alloc: Global, key: &'a LineKey) -> Result<Vec<ValueR
 {
     let line = ValueRef::Int(key.line as i64);
     let values = Vec::from_array(alloc, [bound::text(&key.ticket), line])?;
+    Ok(values)
+}
+
+/// The key of fact, and keys for that fact.
+pub(crate) fn line_and_keys<'a>(
+    alloc: Global,
+    line: &'a LineKey,
+    keys: &FactKeys,
+) -> Result<Vec<ValueRef<'a>>, Cause>
+    ensures ok { IfOk result (λ values. bound values.items ≡ bind_rekey (line.now, keys.now)) }
+    ensures err { IfErr result (λ cause. cause ≢ Memory → (cause ≡ Size) × (are_keys keys.now ≡ false)) }
+{
+    let number = ValueRef::Int(line.line as i64);
+    let store_key = bound::number(keys.store_key)?;
+    let product_key = bound::number(keys.product_key)?;
+    let customer_key = bound::number(keys.customer_key)?;
+    let profile = bound::number(keys.profile)?;
+    let values = Vec::from_array(
+        alloc,
+        [
+            bound::text(&line.ticket),
+            number,
+            store_key,
+            product_key,
+            customer_key,
+            profile,
+        ],
+    )?;
     Ok(values)
 }

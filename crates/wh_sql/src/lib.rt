@@ -21,7 +21,4 @@ pub use question::{Question, ask};
 pub use questions::{CommandOf, MemberOf, ProfileOf, RecordsOf, RecordsOn, RowsOf, SalesSince};
 pub use read::{all, count, get};
 pub use refusal::Refusal;
-pub use write::{put, remove};
-
-#[cfg(test)]
-mod tests;
+pub use write::{put, rekey, remove};

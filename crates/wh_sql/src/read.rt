@@ -1,6 +1,6 @@
 //! Reading rows of the tables, in the order of their keys.
 
-ghost use Rattle.std.specs.Prelude.{◌≡◌, ◌≢◌, ◌≤◌, ℕ, Err, [], ◌∷◌, Some, MatchResult, IsTrue, IfOk, IfErr};
+ghost use Rattle.std.specs.Prelude.{◌≡◌, ◌≢◌, ◌≤◌, ℕ, filter, Err, [], ◌∷◌, Some, MatchResult, IsTrue, IfOk, IfErr};
 ghost use Rattle.std.specs.FinMap.{values, get, len};
 ghost use Rattle.sqlite_sql.specs.Aggregate.{count as number_of};
 ghost use Rattle.sqlite.specs.Held.{state};
@@ -8,7 +8,8 @@ ghost use Rattle.sqlite.specs.Values.{bound};
 ghost use Rattle.sqlite.specs.State.{HasCleanDisk, Survives, CommitsShowing};
 ghost use Rattle.wh_rows.specs.Tables.{Tables, Stores};
 ghost use Rattle.wh_rows.specs.AtRest.{IsAtRest, Leaves};
-ghost use Rattle.wh_sql.specs.Refusal.{IsWhole, IsUndamaged, Shows, FailsToShow, FailsToCount};
+ghost use Rattle.wh_rows.specs.Raw.{Stored, IsStored, RestsOn, LeavesStored, AreRows, IsLastOf};
+ghost use Rattle.wh_sql.specs.Refusal.{IsWhole, IsUndamaged, IsOfDamage, Shows, FailsToShow, FailsToCount};
 ghost use Rattle.wh_sql.specs.declared.refusal.Refusal.TheVariants.{Damaged, Store};
 ghost use Rattle.wh_rows.specs.declared.cause.Cause.TheVariants.{Size};
 
@@ -52,6 +53,11 @@ pub fn all<T: Keeps, S: Alter>(
     ensures sound { HasCleanDisk (state S.Store conn.new) → (t : Tables) → Stores (state S.Store conn.old).now t → IsUndamaged result }
     ensures same { HasCleanDisk (state S.Store conn.new) → (t : Tables) → IsAtRest (Some t) (state S.Store conn.old) → IsWhole result → IsAtRest (Some t) (state S.Store conn.new) }
     ensures left { HasCleanDisk (state S.Store conn.new) → (t : Tables) → IsAtRest (Some t) (state S.Store conn.old) → Leaves (Some t) (state S.Store conn.new) }
+    // The same of any rows, whoever wrote them: all that is stored is read, or a row of it is out of its type.
+    ensures stored { HasCleanDisk (state S.Store conn.new) → (stored : Stored) → IsStored stored (state S.Store conn.old).now → IfOk result (λ rows. AreRows T.layout (stored T.name) rows.items) }
+    ensures damaged { HasCleanDisk (state S.Store conn.new) → (stored : Stored) → IsStored stored (state S.Store conn.old).now → IfErr result (IsOfDamage T.layout T.name (stored T.name)) }
+    ensures rests { HasCleanDisk (state S.Store conn.new) → (stored : Stored) → RestsOn stored (state S.Store conn.old) → IsWhole result → RestsOn stored (state S.Store conn.new) }
+    ensures leaves { HasCleanDisk (state S.Store conn.new) → (stored : Stored) → RestsOn stored (state S.Store conn.old) → LeavesStored stored (state S.Store conn.new) }
     ensures shows { HasCleanDisk (state S.Store conn.new) → IfOk result (λ rows. Shows T.layout T.all_means [] (state S.Store conn.old) (state S.Store conn.new) rows.items) }
     ensures refused { HasCleanDisk (state S.Store conn.new) → IfErr result (FailsToShow T.layout T.name T.all_means [] (state S.Store conn.old) (state S.Store conn.new)) }
 {
@@ -70,6 +76,11 @@ pub fn get<T: Keeps, S: Alter>(
     ensures sound { HasCleanDisk (state S.Store conn.new) → (t : Tables) → Stores (state S.Store conn.old).now t → IsUndamaged result }
     ensures same { HasCleanDisk (state S.Store conn.new) → (t : Tables) → IsAtRest (Some t) (state S.Store conn.old) → IsWhole result → IsAtRest (Some t) (state S.Store conn.new) }
     ensures left { HasCleanDisk (state S.Store conn.new) → (t : Tables) → IsAtRest (Some t) (state S.Store conn.old) → Leaves (Some t) (state S.Store conn.new) }
+    // The same of any rows, whoever wrote them: of those that are stored at the key.
+    ensures stored { HasCleanDisk (state S.Store conn.new) → (stored : Stored) → IsStored stored (state S.Store conn.old).now → IfOk result (IsLastOf T.layout (filter (T.stands_at key.now) (stored T.name))) }
+    ensures damaged { HasCleanDisk (state S.Store conn.new) → (stored : Stored) → IsStored stored (state S.Store conn.old).now → IfErr result (IsOfDamage T.layout T.name (filter (T.stands_at key.now) (stored T.name))) }
+    ensures rests { HasCleanDisk (state S.Store conn.new) → (stored : Stored) → RestsOn stored (state S.Store conn.old) → IsWhole result → RestsOn stored (state S.Store conn.new) }
+    ensures leaves { HasCleanDisk (state S.Store conn.new) → (stored : Stored) → RestsOn stored (state S.Store conn.old) → LeavesStored stored (state S.Store conn.new) }
     ensures refused { HasCleanDisk (state S.Store conn.new) → (row : T.Row) → IsTrue (T.layout.is_valid row) → T.layout.key row ≡ key.now → IfErr result (FailsToShow T.layout T.name T.get_means (T.bind key.now) (state S.Store conn.old) (state S.Store conn.new)) }
 {
     let values = T::key(alloc, key)?;

@@ -13,16 +13,16 @@ use wh_rows::{
 };
 
 impl Keeps for tables::Meta {
-    ghost use Rattle.wh_rows.proofs.Metas.{bind, put_text, put, remove_text, remove, all_text, all, get_text, get, count_text, count};
+    ghost use Rattle.wh_rows.proofs.Metas.{bind, put_text, put, remove_text, remove, all_text, all, get_text, get, stands_at, all_stored, get_stored, count_text, count};
+    ghost use Rattle.std.specs.Prelude.{refl};
     ghost use Rattle.wh_rows.proofs.Places.{meta as place};
-    ghost use Rattle.wh_rows.specs.Meaning.{any};
     ghost use Rattle.wh_rows.specs.declared.table.Table.TheVariants.{Meta};
-
-    ghost may_stand = { any };
 
     ghost bind = { bind };
 
     ghost name = { Meta };
+
+    ghost stands_at = { stands_at };
 
     ghost put_means = { put_text };
 
@@ -39,7 +39,7 @@ impl Keeps for tables::Meta {
     }
 
     fn put_text() -> &'static str {
-        "INSERT OR REPLACE INTO meta VALUES (?1, ?2)"
+        "INSERT INTO meta VALUES (?1, ?2) ON CONFLICT (name) DO UPDATE SET value = excluded.value"
     }
 
     fn remove_text() -> &'static str {
@@ -76,19 +76,26 @@ impl Keeps for tables::Meta {
 
     ghost counts = { count };
 
+    ghost lists_stored = { all_stored };
+
+    ghost finds_stored = { get_stored };
+
+    ghost named = { refl };
+
     ghost placed = { place };
 }
 
 impl Keeps for tables::Command {
-    ghost use Rattle.wh_rows.proofs.Commands.{bind, may_stand, put_text, put, remove_text, remove, all_text, all, get_text, get, count_text, count};
+    ghost use Rattle.wh_rows.proofs.Commands.{bind, put_text, put, remove_text, remove, all_text, all, get_text, get, stands_at, all_stored, get_stored, count_text, count};
+    ghost use Rattle.std.specs.Prelude.{refl};
     ghost use Rattle.wh_rows.proofs.Places.{command as place};
     ghost use Rattle.wh_rows.specs.declared.table.Table.TheVariants.{Command};
-
-    ghost may_stand = { may_stand };
 
     ghost bind = { bind };
 
     ghost name = { Command };
+
+    ghost stands_at = { stands_at };
 
     ghost put_means = { put_text };
 
@@ -105,7 +112,7 @@ impl Keeps for tables::Command {
     }
 
     fn put_text() -> &'static str {
-        "INSERT OR REPLACE INTO command VALUES (?1, ?2, ?3, ?4, ?5, ?6)"
+        "INSERT INTO command VALUES (?1, ?2, ?3, ?4, ?5, ?6) ON CONFLICT (number) DO UPDATE SET id = excluded.id, kind = excluded.kind, bytes = excluded.bytes, records = excluded.records, placeholders = excluded.placeholders"
     }
 
     fn remove_text() -> &'static str {
@@ -142,19 +149,26 @@ impl Keeps for tables::Command {
 
     ghost counts = { count };
 
+    ghost lists_stored = { all_stored };
+
+    ghost finds_stored = { get_stored };
+
+    ghost named = { refl };
+
     ghost placed = { place };
 }
 
 impl Keeps for tables::Member {
-    ghost use Rattle.wh_rows.proofs.Members.{bind, may_stand, put_text, put, remove_text, remove, all_text, all, get_text, get, count_text, count};
+    ghost use Rattle.wh_rows.proofs.Members.{bind, put_text, put, remove_text, remove, all_text, all, get_text, get, stands_at, all_stored, get_stored, count_text, count};
+    ghost use Rattle.std.specs.Prelude.{refl};
     ghost use Rattle.wh_rows.proofs.Places.{member as place};
     ghost use Rattle.wh_rows.specs.declared.table.Table.TheVariants.{Member};
-
-    ghost may_stand = { may_stand };
 
     ghost bind = { bind };
 
     ghost name = { Member };
+
+    ghost stands_at = { stands_at };
 
     ghost put_means = { put_text };
 
@@ -171,7 +185,7 @@ impl Keeps for tables::Member {
     }
 
     fn put_text() -> &'static str {
-        "INSERT OR REPLACE INTO member VALUES (?1, ?2, ?3, ?4)"
+        "INSERT INTO member VALUES (?1, ?2, ?3, ?4) ON CONFLICT (dim, durable) DO UPDATE SET natural = excluded.natural, opening = excluded.opening"
     }
 
     fn remove_text() -> &'static str {
@@ -208,20 +222,26 @@ impl Keeps for tables::Member {
 
     ghost counts = { count };
 
+    ghost lists_stored = { all_stored };
+
+    ghost finds_stored = { get_stored };
+
+    ghost named = { refl };
+
     ghost placed = { place };
 }
 
 impl Keeps for tables::Change {
-    ghost use Rattle.wh_rows.proofs.Changes.{bind, put_text, put, remove_text, remove, all_text, all, get_text, get, count_text, count};
+    ghost use Rattle.wh_rows.proofs.Changes.{bind, put_text, put, remove_text, remove, all_text, all, get_text, get, stands_at, all_stored, get_stored, count_text, count};
+    ghost use Rattle.std.specs.Prelude.{refl};
     ghost use Rattle.wh_rows.proofs.Places.{change as place};
-    ghost use Rattle.wh_rows.specs.Meaning.{any};
     ghost use Rattle.wh_rows.specs.declared.table.Table.TheVariants.{Change};
-
-    ghost may_stand = { any };
 
     ghost bind = { bind };
 
     ghost name = { Change };
+
+    ghost stands_at = { stands_at };
 
     ghost put_means = { put_text };
 
@@ -238,7 +258,7 @@ impl Keeps for tables::Change {
     }
 
     fn put_text() -> &'static str {
-        "INSERT OR REPLACE INTO change VALUES (?1, ?2, ?3, ?4, ?5, ?6, ?7, ?8, ?9, ?10, ?11, ?12)"
+        "INSERT INTO change VALUES (?1, ?2, ?3, ?4, ?5, ?6, ?7, ?8, ?9, ?10, ?11, ?12) ON CONFLICT (command, record) DO UPDATE SET dim = excluded.dim, durable = excluded.durable, day = excluded.day, anchor = excluded.anchor, v1 = excluded.v1, v2 = excluded.v2, v3 = excluded.v3, v4 = excluded.v4, v5 = excluded.v5, v6 = excluded.v6"
     }
 
     fn remove_text() -> &'static str {
@@ -275,20 +295,26 @@ impl Keeps for tables::Change {
 
     ghost counts = { count };
 
+    ghost lists_stored = { all_stored };
+
+    ghost finds_stored = { get_stored };
+
+    ghost named = { refl };
+
     ghost placed = { place };
 }
 
 impl Keeps for tables::Product {
-    ghost use Rattle.wh_rows.proofs.Products.{bind, put_text, put, remove_text, remove, all_text, all, get_text, get, count_text, count};
+    ghost use Rattle.wh_rows.proofs.Products.{bind, put_text, put, remove_text, remove, all_text, all, get_text, get, stands_at, all_stored, get_stored, count_text, count};
+    ghost use Rattle.std.specs.Prelude.{refl};
     ghost use Rattle.wh_rows.proofs.Places.{product as place};
-    ghost use Rattle.wh_rows.specs.Meaning.{any};
     ghost use Rattle.wh_rows.specs.declared.table.Table.TheVariants.{Product};
-
-    ghost may_stand = { any };
 
     ghost bind = { bind };
 
     ghost name = { Product };
+
+    ghost stands_at = { stands_at };
 
     ghost put_means = { put_text };
 
@@ -305,7 +331,7 @@ impl Keeps for tables::Product {
     }
 
     fn put_text() -> &'static str {
-        "INSERT OR REPLACE INTO product VALUES (?1, ?2, ?3, ?4, ?5, ?6, ?7, ?8, ?9, ?10, ?11, ?12, ?13, ?14, ?15, ?16, ?17, ?18, ?19)"
+        "INSERT INTO product VALUES (?1, ?2, ?3, ?4, ?5, ?6, ?7, ?8, ?9, ?10, ?11, ?12, ?13, ?14, ?15, ?16, ?17, ?18, ?19) ON CONFLICT (surrogate) DO UPDATE SET durable = excluded.durable, natural = excluded.natural, from_day = excluded.from_day, to_day = excluded.to_day, is_current = excluded.is_current, a1 = excluded.a1, a2 = excluded.a2, a3 = excluded.a3, a4 = excluded.a4, a5 = excluded.a5, a6 = excluded.a6, b1 = excluded.b1, b2 = excluded.b2, b3 = excluded.b3, b4 = excluded.b4, b5 = excluded.b5, b6 = excluded.b6, profile_now = excluded.profile_now"
     }
 
     fn remove_text() -> &'static str {
@@ -342,20 +368,26 @@ impl Keeps for tables::Product {
 
     ghost counts = { count };
 
+    ghost lists_stored = { all_stored };
+
+    ghost finds_stored = { get_stored };
+
+    ghost named = { refl };
+
     ghost placed = { place };
 }
 
 impl Keeps for tables::Store {
-    ghost use Rattle.wh_rows.proofs.Stores.{bind, put_text, put, remove_text, remove, all_text, all, get_text, get, count_text, count};
+    ghost use Rattle.wh_rows.proofs.Stores.{bind, put_text, put, remove_text, remove, all_text, all, get_text, get, stands_at, all_stored, get_stored, count_text, count};
+    ghost use Rattle.std.specs.Prelude.{refl};
     ghost use Rattle.wh_rows.proofs.Places.{store as place};
-    ghost use Rattle.wh_rows.specs.Meaning.{any};
     ghost use Rattle.wh_rows.specs.declared.table.Table.TheVariants.{Store};
-
-    ghost may_stand = { any };
 
     ghost bind = { bind };
 
     ghost name = { Store };
+
+    ghost stands_at = { stands_at };
 
     ghost put_means = { put_text };
 
@@ -372,7 +404,7 @@ impl Keeps for tables::Store {
     }
 
     fn put_text() -> &'static str {
-        "INSERT OR REPLACE INTO store VALUES (?1, ?2, ?3, ?4, ?5, ?6, ?7, ?8, ?9, ?10, ?11, ?12, ?13, ?14, ?15, ?16, ?17, ?18, ?19)"
+        "INSERT INTO store VALUES (?1, ?2, ?3, ?4, ?5, ?6, ?7, ?8, ?9, ?10, ?11, ?12, ?13, ?14, ?15, ?16, ?17, ?18, ?19) ON CONFLICT (surrogate) DO UPDATE SET durable = excluded.durable, natural = excluded.natural, from_day = excluded.from_day, to_day = excluded.to_day, is_current = excluded.is_current, a1 = excluded.a1, a2 = excluded.a2, a3 = excluded.a3, a4 = excluded.a4, a5 = excluded.a5, a6 = excluded.a6, b1 = excluded.b1, b2 = excluded.b2, b3 = excluded.b3, b4 = excluded.b4, b5 = excluded.b5, b6 = excluded.b6, profile_now = excluded.profile_now"
     }
 
     fn remove_text() -> &'static str {
@@ -409,20 +441,26 @@ impl Keeps for tables::Store {
 
     ghost counts = { count };
 
+    ghost lists_stored = { all_stored };
+
+    ghost finds_stored = { get_stored };
+
+    ghost named = { refl };
+
     ghost placed = { place };
 }
 
 impl Keeps for tables::Customer {
-    ghost use Rattle.wh_rows.proofs.Customers.{bind, put_text, put, remove_text, remove, all_text, all, get_text, get, count_text, count};
+    ghost use Rattle.wh_rows.proofs.Customers.{bind, put_text, put, remove_text, remove, all_text, all, get_text, get, stands_at, all_stored, get_stored, count_text, count};
+    ghost use Rattle.std.specs.Prelude.{refl};
     ghost use Rattle.wh_rows.proofs.Places.{customer as place};
-    ghost use Rattle.wh_rows.specs.Meaning.{any};
     ghost use Rattle.wh_rows.specs.declared.table.Table.TheVariants.{Customer};
-
-    ghost may_stand = { any };
 
     ghost bind = { bind };
 
     ghost name = { Customer };
+
+    ghost stands_at = { stands_at };
 
     ghost put_means = { put_text };
 
@@ -439,7 +477,7 @@ impl Keeps for tables::Customer {
     }
 
     fn put_text() -> &'static str {
-        "INSERT OR REPLACE INTO customer VALUES (?1, ?2, ?3, ?4, ?5, ?6, ?7, ?8, ?9, ?10, ?11, ?12, ?13, ?14, ?15, ?16, ?17, ?18, ?19)"
+        "INSERT INTO customer VALUES (?1, ?2, ?3, ?4, ?5, ?6, ?7, ?8, ?9, ?10, ?11, ?12, ?13, ?14, ?15, ?16, ?17, ?18, ?19) ON CONFLICT (surrogate) DO UPDATE SET durable = excluded.durable, natural = excluded.natural, from_day = excluded.from_day, to_day = excluded.to_day, is_current = excluded.is_current, a1 = excluded.a1, a2 = excluded.a2, a3 = excluded.a3, a4 = excluded.a4, a5 = excluded.a5, a6 = excluded.a6, b1 = excluded.b1, b2 = excluded.b2, b3 = excluded.b3, b4 = excluded.b4, b5 = excluded.b5, b6 = excluded.b6, profile_now = excluded.profile_now"
     }
 
     fn remove_text() -> &'static str {
@@ -476,20 +514,26 @@ impl Keeps for tables::Customer {
 
     ghost counts = { count };
 
+    ghost lists_stored = { all_stored };
+
+    ghost finds_stored = { get_stored };
+
+    ghost named = { refl };
+
     ghost placed = { place };
 }
 
 impl Keeps for tables::Profile {
-    ghost use Rattle.wh_rows.proofs.Profiles.{bind, put_text, put, remove_text, remove, all_text, all, get_text, get, count_text, count};
+    ghost use Rattle.wh_rows.proofs.Profiles.{bind, put_text, put, remove_text, remove, all_text, all, get_text, get, stands_at, all_stored, get_stored, count_text, count};
+    ghost use Rattle.std.specs.Prelude.{refl};
     ghost use Rattle.wh_rows.proofs.Places.{profile as place};
-    ghost use Rattle.wh_rows.specs.Meaning.{any};
     ghost use Rattle.wh_rows.specs.declared.table.Table.TheVariants.{Profile};
-
-    ghost may_stand = { any };
 
     ghost bind = { bind };
 
     ghost name = { Profile };
+
+    ghost stands_at = { stands_at };
 
     ghost put_means = { put_text };
 
@@ -506,7 +550,7 @@ impl Keeps for tables::Profile {
     }
 
     fn put_text() -> &'static str {
-        "INSERT OR REPLACE INTO profile VALUES (?1, ?2, ?3, ?4, ?5, ?6, ?7)"
+        "INSERT INTO profile VALUES (?1, ?2, ?3, ?4, ?5, ?6, ?7) ON CONFLICT (number) DO UPDATE SET v1 = excluded.v1, v2 = excluded.v2, v3 = excluded.v3, v4 = excluded.v4, v5 = excluded.v5, v6 = excluded.v6"
     }
 
     fn remove_text() -> &'static str {
@@ -543,20 +587,26 @@ impl Keeps for tables::Profile {
 
     ghost counts = { count };
 
+    ghost lists_stored = { all_stored };
+
+    ghost finds_stored = { get_stored };
+
+    ghost named = { refl };
+
     ghost placed = { place };
 }
 
 impl Keeps for tables::Calendar {
-    ghost use Rattle.wh_rows.proofs.Calendars.{bind, put_text, put, remove_text, remove, all_text, all, get_text, get, count_text, count};
+    ghost use Rattle.wh_rows.proofs.Calendars.{bind, put_text, put, remove_text, remove, all_text, all, get_text, get, stands_at, all_stored, get_stored, count_text, count};
+    ghost use Rattle.std.specs.Prelude.{refl};
     ghost use Rattle.wh_rows.proofs.Places.{calendar as place};
-    ghost use Rattle.wh_rows.specs.Meaning.{any};
     ghost use Rattle.wh_rows.specs.declared.table.Table.TheVariants.{Calendar};
-
-    ghost may_stand = { any };
 
     ghost bind = { bind };
 
     ghost name = { Calendar };
+
+    ghost stands_at = { stands_at };
 
     ghost put_means = { put_text };
 
@@ -573,7 +623,7 @@ impl Keeps for tables::Calendar {
     }
 
     fn put_text() -> &'static str {
-        "INSERT OR REPLACE INTO calendar VALUES (?1, ?2, ?3, ?4, ?5, ?6, ?7, ?8, ?9, ?10, ?11)"
+        "INSERT INTO calendar VALUES (?1, ?2, ?3, ?4, ?5, ?6, ?7, ?8, ?9, ?10, ?11) ON CONFLICT (date_key) DO UPDATE SET iso = excluded.iso, year = excluded.year, quarter = excluded.quarter, month = excluded.month, day = excluded.day, day_of_year = excluded.day_of_year, weekday = excluded.weekday, weekday_name = excluded.weekday_name, weekend = excluded.weekend, holiday = excluded.holiday"
     }
 
     fn remove_text() -> &'static str {
@@ -610,20 +660,26 @@ impl Keeps for tables::Calendar {
 
     ghost counts = { count };
 
+    ghost lists_stored = { all_stored };
+
+    ghost finds_stored = { get_stored };
+
+    ghost named = { refl };
+
     ghost placed = { place };
 }
 
 impl Keeps for tables::Fact {
-    ghost use Rattle.wh_rows.proofs.Facts.{bind, put_text, put, remove_text, remove, all_text, all, get_text, get, count_text, count};
+    ghost use Rattle.wh_rows.proofs.Facts.{bind, put_text, put, remove_text, remove, all_text, all, get_text, get, stands_at, all_stored, get_stored, count_text, count};
+    ghost use Rattle.std.specs.Prelude.{refl};
     ghost use Rattle.wh_rows.proofs.Places.{fact as place};
-    ghost use Rattle.wh_rows.specs.Meaning.{any};
     ghost use Rattle.wh_rows.specs.declared.table.Table.TheVariants.{Fact};
-
-    ghost may_stand = { any };
 
     ghost bind = { bind };
 
     ghost name = { Fact };
+
+    ghost stands_at = { stands_at };
 
     ghost put_means = { put_text };
 
@@ -640,7 +696,7 @@ impl Keeps for tables::Fact {
     }
 
     fn put_text() -> &'static str {
-        "INSERT OR REPLACE INTO fact VALUES (?1, ?2, ?3, ?4, ?5, ?6, ?7, ?8, ?9, ?10, ?11, ?12, ?13)"
+        "INSERT INTO fact VALUES (?1, ?2, ?3, ?4, ?5, ?6, ?7, ?8, ?9, ?10, ?11, ?12, ?13) ON CONFLICT (ticket, line) DO UPDATE SET day = excluded.day, store_key = excluded.store_key, product_key = excluded.product_key, customer_key = excluded.customer_key, store_durable = excluded.store_durable, product_durable = excluded.product_durable, customer_durable = excluded.customer_durable, profile = excluded.profile, quantity = excluded.quantity, amount = excluded.amount, cost = excluded.cost"
     }
 
     fn remove_text() -> &'static str {
@@ -676,6 +732,12 @@ impl Keeps for tables::Fact {
     ghost finds = { get };
 
     ghost counts = { count };
+
+    ghost lists_stored = { all_stored };
+
+    ghost finds_stored = { get_stored };
+
+    ghost named = { refl };
 
     ghost placed = { place };
 }

@@ -6,13 +6,15 @@ ghost use Rattle.sqlite.specs.Held.{state};
 ghost use Rattle.sqlite.specs.State.{HasCleanDisk};
 ghost use Rattle.wh_rows.specs.declared.cause.Cause.TheVariants.{Memory, Disk};
 ghost use Rattle.wh_rows.specs.Tables.{Tables};
+ghost use Rattle.wh_rows.specs.Rekey.{rekey_text, bind_rekey, are_keys, rekeyed};
 ghost use Rattle.wh_rows.specs.AtRest.{IsWriting, Leaves, IsCauseOf};
-ghost use Rattle.wh_sql.specs.Fits.{MayBePut};
 
 use crate::keeps::Keeps;
+use crate::keys::line_and_keys;
 use sqlite::{Alter, Connection};
 use std::alloc::Global;
-use wh_rows::Cause;
+use wh_history::FactKeys;
+use wh_rows::{Cause, LineKey};
 
 /// Puts the row at its key, in place of the one that was there. Outside a transaction it is refused.
 pub fn put<T: Keeps, S: Alter>(
@@ -23,7 +25,7 @@ pub fn put<T: Keeps, S: Alter>(
     ensures clean { HasCleanDisk (state S.Store conn.new) → HasCleanDisk (state S.Store conn.old) }
     ensures counts { (state S.Store conn.old).faults ≤ (state S.Store conn.new).faults }
     ensures put { HasCleanDisk (state S.Store conn.new) → (before : Option Tables) (made : Tables) → IsWriting before (Some made) (state S.Store conn.old)
-        → MayBePut T.layout T.may_stand row.now (T.rows made) → OnOk result (IsWriting before (Some (T.with_rows (insert (T.rows made) (T.layout.key row.now) row.now) made)) (state S.Store conn.new)) }
+        → IsTrue (T.layout.is_valid row.now) → OnOk result (IsWriting before (Some (T.with_rows (insert (T.rows made) (T.layout.key row.now) row.now) made)) (state S.Store conn.new)) }
     ensures left { HasCleanDisk (state S.Store conn.new) → (before : Option Tables) (made : Tables) → IsWriting before (Some made) (state S.Store conn.old) → Leaves before (state S.Store conn.new) }
     ensures cause { HasCleanDisk (state S.Store conn.new) → IsTrue (state S.Store conn.old).in_transaction → IsTrue (T.layout.is_valid row.now)
         → IfErr result (λ cause. cause ≢ Memory → IsCauseOf T.put_means (T.layout.encode row.now) (state S.Store conn.old) (state S.Store conn.new) cause) }
@@ -57,5 +59,32 @@ pub fn remove<T: Keeps, S: Alter>(
     }
     let values = T::key(alloc, key)?;
     conn.execute(T::remove_text(), &values)?;
+    Ok(())
+}
+
+/// Gives the fact of a line other keys, if it is there; its other columns stay. Outside a transaction it is refused.
+pub fn rekey<S: Alter>(
+    alloc: Global,
+    conn: &mut Connection<S>,
+    line: &LineKey,
+    keys: &FactKeys,
+) -> Result<(), Cause>
+    ensures clean { HasCleanDisk (state S.Store conn.new) → HasCleanDisk (state S.Store conn.old) }
+    ensures counts { (state S.Store conn.old).faults ≤ (state S.Store conn.new).faults }
+    ensures rekeyed { HasCleanDisk (state S.Store conn.new) → (before : Option Tables) (made : Tables) → IsWriting before (Some made) (state S.Store conn.old)
+        → IsTrue (are_keys keys.now) → OnOk result (IsWriting before (Some (record made { fact = rekeyed (line.now, keys.now) made.fact })) (state S.Store conn.new)) }
+    ensures left { HasCleanDisk (state S.Store conn.new) → (before : Option Tables) (made : Tables) → IsWriting before (Some made) (state S.Store conn.old) → Leaves before (state S.Store conn.new) }
+    ensures cause { HasCleanDisk (state S.Store conn.new) → IsTrue (state S.Store conn.old).in_transaction → IsTrue (are_keys keys.now)
+        → IfErr result (λ cause. cause ≢ Memory → IsCauseOf rekey_text (bind_rekey (line.now, keys.now)) (state S.Store conn.old) (state S.Store conn.new) cause) }
+    ensures late { conn.old.in_transaction ≡ false → (result ≡ Err Disk) × (conn.new ≡ conn.old) }
+{
+    if conn.is_autocommit() {
+        return Err(Cause::Disk);
+    }
+    let values = line_and_keys(alloc, line, keys)?;
+    conn.execute(
+        "UPDATE fact SET store_key = ?3, product_key = ?4, customer_key = ?5, profile = ?6 WHERE ticket = ?1 AND line = ?2",
+        &values,
+    )?;
     Ok(())
 }

@@ -1,11 +1,12 @@
 -- Steps on one table, one after the other.
 use Rattle.std.proofs.Common.{◌≡◌, ℕ, ◌+◌, ◌<◌, ◌≤◌, List, [], ◌∷◌, length, drop, get_or, sym, ap, subst, ◌∙◌, arith, drop-cons}
 use Rattle.std.proofs.lemmas.Grind.{common_steps}
+use Rattle.std.specs.List.{AllByRecursion}
 use Rattle.std.specs.FinMap.{FinMap}
 use Rattle.wh_rows.specs.Holds.{Layout}
 use Rattle.wh_rows.specs.Place.{IsPlaced}
 use Rattle.wh_rows.specs.Tables.{Tables}
-use Rattle.wh_store.specs.Edits.{after_all, MayAll}
+use Rattle.wh_store.specs.Edits.{after_all}
 
 next : {X : Type 0} (xs : List X) (i : ℕ) (d : X) → i < length xs → drop i xs ≡ get_or xs i d ∷ drop (i + 1) xs
 next xs i d within = grind (arith, common_steps, drop-cons)
@@ -16,19 +17,19 @@ next_is xs i x within is = next xs i x within ∙ ap (λ y. y ∷ drop (i + 1) x
 none_left : {X : Type 0} (xs : List X) (i : ℕ) → length xs ≤ i → drop i xs ≡ []
 none_left xs i over = grind (arith, common_steps)
 
--- tables on the way to a whole: the steps that are left may be taken, and lead there
-pub record IsOnTheWay {E M : Type 0} (step : E → M → M) (may : E → M → Type 0) (rows : Tables → M) (with_rows : M → Tables → Tables) (left : List E) (now whole : Tables) : Type 0 where
-  pub may_all : MayAll step may left (rows now)
+-- tables on the way to a whole: each step that is left may be taken, and they lead there
+pub record IsOnTheWay {E M : Type 0} (step : E → M → M) (may : E → Type 0) (rows : Tables → M) (with_rows : M → Tables → Tables) (left : List E) (now whole : Tables) : Type 0 where
+  pub may_all : AllByRecursion may left
   pub leads : with_rows (after_all step left (rows now)) now ≡ whole
 
-module _ {K V E : Type 0} (layout : Layout K V) (step : E → FinMap layout.order V → FinMap layout.order V) (may : E → FinMap layout.order V → Type 0)
+module _ {K V E : Type 0} (layout : Layout K V) (step : E → FinMap layout.order V → FinMap layout.order V) (may : E → Type 0)
     (rows : Tables → FinMap layout.order V) (with_rows : FinMap layout.order V → Tables → Tables) (placed : IsPlaced layout rows with_rows) where
   module _ (es : List E) (i : ℕ) (e : E) (now whole : Tables) (is : drop i es ≡ e ∷ drop (i + 1) es) (way : IsOnTheWay step may rows with_rows (drop i es) now whole) where
     here : IsOnTheWay step may rows with_rows (e ∷ drop (i + 1) es) now whole
     here = subst (λ left. IsOnTheWay step may rows with_rows left now whole) is way
 
     -- the next step may be taken
-    pub next_may : may e (rows now)
+    pub next_may : may e
     next_may = here.may_all.0
 
     -- and leaves the rest
@@ -36,7 +37,7 @@ module _ {K V E : Type 0} (layout : Layout K V) (step : E → FinMap layout.orde
     next_way =
         let m = step e (rows now) in
         record {
-          may_all = subst (MayAll step may (drop (i + 1) es)) (sym (placed.put_in m now)) here.may_all.1;
+          may_all = here.may_all.1;
           leads = ap (λ n. with_rows (after_all step (drop (i + 1) es) n) (with_rows m now)) (placed.put_in m now) ∙ placed.put_again (after_all step (drop (i + 1) es) m) m now ∙ here.leads;
         }
 

@@ -1,11 +1,10 @@
 -- Edits of one table, one after the other.
-use Rattle.std.specs.Prelude.{◌≡◌, ℕ, List, [], ◌∷◌, IsTrue}
+use Rattle.std.specs.Prelude.{◌≡◌, ℕ, List, [], ◌∷◌, IsTrue, ⊤}
 use Rattle.std.specs.FinMap.{FinMap, insert, remove}
 use Rattle.sqlite.specs.Order.{Row}
 use Rattle.wh_history.specs.declared.plan.Edit.{Edit}
 use Rattle.wh_history.specs.declared.plan.Edit.TheVariants.{Put, Remove}
 use Rattle.wh_rows.specs.Holds.{Layout}
-use Rattle.wh_sql.specs.Fits.{MayBePut}
 
 -- a table with a row put at its key
 abbrev pub with_row : {K V : Type 0} (layout : Layout K V) → V → FinMap layout.order V → FinMap layout.order V
@@ -16,20 +15,19 @@ abbrev pub with_edit : {K V : Type 0} (layout : Layout K V) → Edit V K → Fin
 with_edit layout (Put row) m = with_row layout row m
 with_edit layout (Remove key) m = remove m key
 
--- an edit may be made where its row may be put
-abbrev pub MayBeMade : {K V : Type 0} (layout : Layout K V) (may_stand : V → V → Type 0) → Edit V K → FinMap layout.order V → Type 0
-MayBeMade layout may_stand (Put row) m = MayBePut layout may_stand row m
-MayBeMade layout may_stand (Remove key) m = Unit {0}
+-- its values are of their types
+abbrev pub IsValid : {K V : Type 0} → Layout K V → V → Type 0
+IsValid layout row = IsTrue (layout.is_valid row)
+
+-- the row that an edit puts, if it puts one, is so
+abbrev pub Puts : {K V : Type 0} → (V → Type 0) → Edit V K → Type 0
+Puts P (Put row) = P row
+Puts P (Remove key) = ⊤
 
 -- what steps lead to, the first one first
 abbrev pub after_all : {E M : Type 0} → (E → M → M) → List E → M → M
 after_all step [] m = m
 after_all step (e ∷ es) m = after_all step es (step e m)
-
--- each step may be taken where those before it lead
-abbrev pub MayAll : {E M : Type 0} → (E → M → M) → (E → M → Type 0) → List E → M → Type 0
-MayAll step may [] m = Unit {0}
-MayAll step may (e ∷ es) m = may e m × MayAll step may es (step e m)
 
 -- what is put, or stands at the key that is taken out, has values of their types
 abbrev pub IsOfTypes : {K V : Type 0} (layout : Layout K V) → Edit V K → Type 0

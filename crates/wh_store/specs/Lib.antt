@@ -3,3 +3,4 @@ pub mod Opening
 pub mod Edits
 pub mod Beginning
 pub mod InFiles
+pub mod Raw

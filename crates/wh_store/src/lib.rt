@@ -14,6 +14,3 @@ pub use tables::Tables;
 pub use wh_rows::{Cause, Limits, Table};
 pub use wh_sql::{Dimension, Keeps, Question, Refusal};
 pub use writing::Writing;
-
-#[cfg(test)]
-mod tests;

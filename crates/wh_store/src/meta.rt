@@ -1,6 +1,6 @@
 //! The rows of meta: the format and the limits.
 
-ghost use Rattle.std.specs.Prelude.{◌≡◌, ◌≢◌, ◌≤◌, [], ◌∷◌, pos, codes, false, Some, Err, IfOk, IfErr, OnOk};
+ghost use Rattle.std.specs.Prelude.{◌≡◌, ◌≢◌, ◌≤◌, [], ◌∷◌, pos, codes, false, Some, Ok, Err, IfOk, IfErr, OnOk};
 ghost use Rattle.sqlite_value.specs.declared.value.Value.TheVariants.{Text};
 ghost use Rattle.sqlite.specs.Held.{state};
 ghost use Rattle.sqlite.specs.State.{HasCleanDisk};
@@ -12,7 +12,9 @@ ghost use Rattle.wh_rows.specs.Rows.{meta};
 ghost use Rattle.wh_rows.proofs.Metas.{get_text};
 ghost use Rattle.wh_rows.specs.AtRest.{IsAtRest, Leaves};
 ghost use Rattle.wh_rows.specs.Tables.{Tables};
-ghost use Rattle.wh_sql.specs.Refusal.{IsWhole, IsUndamaged, FailsToShow};
+ghost use Rattle.wh_rows.specs.Raw.{Stored, RestsOn, LeavesStored};
+ghost use Rattle.wh_store.specs.Raw.{rows_named, IsNumberIn, FormatIs, IsRefusedOn};
+ghost use Rattle.wh_sql.specs.Refusal.{IsWhole, IsUndamaged, IsOfDamage, FailsToShow};
 ghost use Rattle.wh_sql.specs.declared.refusal.Refusal.TheVariants.{Damaged};
 ghost use Rattle.wh_store.specs.Meta.{number_in, limits_of_numbers};
 ghost use Rattle.wh_store.specs.Opening.{IsTaken, IsRefusedWith};
@@ -37,6 +39,11 @@ pub(crate) fn number<S: Alter>(
     ensures sound { HasCleanDisk (state S.Store conn.new) → (t : Tables) → IsAtRest (Some t) (state S.Store conn.old) → IsUndamaged result }
     ensures same { HasCleanDisk (state S.Store conn.new) → (t : Tables) → IsAtRest (Some t) (state S.Store conn.old) → IsWhole result → IsAtRest (Some t) (state S.Store conn.new) }
     ensures left { HasCleanDisk (state S.Store conn.new) → (t : Tables) → IsAtRest (Some t) (state S.Store conn.old) → Leaves (Some t) (state S.Store conn.new) }
+    // The same of any rows, whoever wrote them: of those under the name.
+    ensures stored { HasCleanDisk (state S.Store conn.new) → (stored : Stored) → RestsOn stored (state S.Store conn.old) → IfOk result (IsNumberIn stored name.now) }
+    ensures damaged { HasCleanDisk (state S.Store conn.new) → (stored : Stored) → RestsOn stored (state S.Store conn.old) → IfErr result (IsOfDamage meta OfMeta (rows_named stored name.now)) }
+    ensures rests { HasCleanDisk (state S.Store conn.new) → (stored : Stored) → RestsOn stored (state S.Store conn.old) → IsWhole result → RestsOn stored (state S.Store conn.new) }
+    ensures leaves { HasCleanDisk (state S.Store conn.new) → (stored : Stored) → RestsOn stored (state S.Store conn.old) → LeavesStored stored (state S.Store conn.new) }
     ensures unread { HasCleanDisk (state S.Store conn.new) → IfErr result (FailsToShow meta OfMeta get_text (Text name.now ∷ []) (state S.Store conn.old) (state S.Store conn.new)) }
 {
     let name = match Value::new(alloc, name) {
@@ -59,6 +66,10 @@ pub(crate) fn check_format<S: Alter>(
     ensures taken { HasCleanDisk (state S.Store conn.new) → (t : Tables) → IsAtRest (Some t) (state S.Store conn.old) → OnOk result (IsTaken t × IsAtRest (Some t) (state S.Store conn.new)) }
     ensures refused { HasCleanDisk (state S.Store conn.new) → (t : Tables) → IsAtRest (Some t) (state S.Store conn.old) → IfErr result (IsRefusedWith t (state S.Store conn.old) (state S.Store conn.new)) }
     ensures left { HasCleanDisk (state S.Store conn.new) → (t : Tables) → IsAtRest (Some t) (state S.Store conn.old) → Leaves (Some t) (state S.Store conn.new) }
+    // The same of any rows, whoever wrote them: by those of the format.
+    ensures taken_stored { HasCleanDisk (state S.Store conn.new) → (stored : Stored) → RestsOn stored (state S.Store conn.old) → OnOk result (FormatIs stored (Ok tt) × RestsOn stored (state S.Store conn.new)) }
+    ensures refused_stored { HasCleanDisk (state S.Store conn.new) → (stored : Stored) → RestsOn stored (state S.Store conn.old) → IfErr result (IsRefusedOn stored (state S.Store conn.new)) }
+    ensures leaves { HasCleanDisk (state S.Store conn.new) → (stored : Stored) → RestsOn stored (state S.Store conn.old) → LeavesStored stored (state S.Store conn.new) }
 {
     match number(alloc, conn, "format") {
         Ok(None) => Err(OpenFault::NotAWarehouse),

@@ -1,6 +1,6 @@
 //! The tables over one connection.
 
-ghost use Rattle.std.specs.Prelude.{◌≡◌, ◌≢◌, ◌⊎◌, [], ◌∷◌, pos, true, false, map, filter, Err, Some, None, Option, IsTrue, IfOk, IfErr};
+ghost use Rattle.std.specs.Prelude.{◌≡◌, ◌≢◌, ◌⊎◌, [], ◌∷◌, pos, true, false, map, filter, Ok, Err, Some, None, Option, IsTrue, IfOk, IfErr};
 ghost use Rattle.std.specs.Borrow.{sem, RestsIfErr};
 ghost use Rattle.std.specs.FinMap.{values, get, len};
 ghost use Rattle.sqlite_value.specs.declared.value.Value.TheVariants.{Int as Number};
@@ -17,11 +17,13 @@ ghost use Rattle.wh_rows.specs.Tables.{Tables as Rows};
 ghost use Rattle.std.specs.Ordering.{eq_by_cmp, nat_cmp};
 ghost use Rattle.wh_rows.specs.Types.{dim_number};
 ghost use Rattle.wh_rows.specs.Firsts.{part, greatest as greatest_of};
-ghost use Rattle.wh_sql.specs.Refusal.{IsWhole, IsUndamaged, FailsToShow, FailsToCount, IsCauseOfQuery, IsOneRefused};
+ghost use Rattle.wh_rows.specs.Raw.{Stored, RestsOn, LeavesStored, AreRows, IsLastOf};
+ghost use Rattle.wh_sql.specs.Refusal.{IsWhole, IsUndamaged, IsOfDamage, FailsToShow, FailsToCount, IsCauseOfQuery, IsOneRefused};
 ghost use Rattle.wh_sql.specs.Present.{is_any_taken, are_all_there};
 ghost use Rattle.wh_sql.specs.declared.refusal.Refusal.TheVariants.{Damaged, Store as Refused};
 ghost use Rattle.wh_store.specs.Meta.{limits_in, limits_asked};
 ghost use Rattle.wh_store.specs.Opening.{IsTaken, IsRefusedWith};
+ghost use Rattle.wh_store.specs.Raw.{FormatIs, IsRefusedOn, LimitsAre, IsLimitless};
 ghost use Rattle.wh_store.specs.Beginning.{FailsToBegin};
 
 use crate::fault::{MakeFault, OpenFault};
@@ -70,6 +72,10 @@ impl<S: Alter> Tables<S> {
         ensures taken { IfOk result (λ tables. HasCleanDisk (state S.Store tables.conn) → (t : Rows) → IsAtRest (Some t) (state S.Store conn) → IsTaken t × IsAtRest (Some t) (state S.Store tables.conn)) }
         ensures refused { IfErr result (λ e. HasCleanDisk (state S.Store e.1) → (t : Rows) → IsAtRest (Some t) (state S.Store conn) → are_all_there (state S.Store conn).now.schema ≡ true → IsRefusedWith t (state S.Store conn) (state S.Store e.1) e.0) }
         ensures left { IfErr result (λ e. HasCleanDisk (state S.Store e.1) → (t : Rows) → IsAtRest (Some t) (state S.Store conn) → Leaves (Some t) (state S.Store e.1)) }
+        // The same of any rows, whoever wrote them: by those of the format.
+        ensures taken_stored { IfOk result (λ tables. HasCleanDisk (state S.Store tables.conn) → (stored : Stored) → RestsOn stored (state S.Store conn) → FormatIs stored (Ok tt) × RestsOn stored (state S.Store tables.conn)) }
+        ensures refused_stored { IfErr result (λ e. HasCleanDisk (state S.Store e.1) → (stored : Stored) → RestsOn stored (state S.Store conn) → are_all_there (state S.Store conn).now.schema ≡ true → IsRefusedOn stored (state S.Store e.1) e.0) }
+        ensures leaves { IfErr result (λ e. HasCleanDisk (state S.Store e.1) → (stored : Stored) → RestsOn stored (state S.Store conn) → LeavesStored stored (state S.Store e.1)) }
         ensures missing { conn.in_transaction ≡ false → are_all_there (state S.Store conn).now.schema ≡ false → result ≡ Err (OpenFault.NotAWarehouse, conn) }
     {
         if !conn.is_autocommit() {
@@ -91,6 +97,11 @@ impl<S: Alter> Tables<S> {
         ensures damaged { HasCleanDisk (state S.Store self.new.conn) → (t : Rows) → IsAtRest (Some t) (state S.Store self.old.conn) → (table : Table) → result ≡ Err (Damaged table) → (table ≡ Table.Meta) × (limits_in t ≡ None) }
         ensures same { HasCleanDisk (state S.Store self.new.conn) → (t : Rows) → IsAtRest (Some t) (state S.Store self.old.conn) → IsWhole result → IsAtRest (Some t) (state S.Store self.new.conn) }
         ensures left { HasCleanDisk (state S.Store self.new.conn) → (t : Rows) → IsAtRest (Some t) (state S.Store self.old.conn) → Leaves (Some t) (state S.Store self.new.conn) }
+        // The same of any rows, whoever wrote them: by those of the three names.
+        ensures stored { HasCleanDisk (state S.Store self.new.conn) → (stored : Stored) → RestsOn stored (state S.Store self.old.conn) → IfOk result (λ limits. LimitsAre stored (Some limits)) }
+        ensures limitless { HasCleanDisk (state S.Store self.new.conn) → (stored : Stored) → RestsOn stored (state S.Store self.old.conn) → IfErr result (IsLimitless stored) }
+        ensures rests { HasCleanDisk (state S.Store self.new.conn) → (stored : Stored) → RestsOn stored (state S.Store self.old.conn) → IsWhole result → RestsOn stored (state S.Store self.new.conn) }
+        ensures leaves { HasCleanDisk (state S.Store self.new.conn) → (stored : Stored) → RestsOn stored (state S.Store self.old.conn) → LeavesStored stored (state S.Store self.new.conn) }
         ensures refused { HasCleanDisk (state S.Store self.new.conn) → (cause : Cause) → result ≡ Err (Refused cause) → cause ≢ Memory → IsOneRefused S.Store IsCauseOfQuery limits_asked self.old.conn self.new.conn cause }
     {
         let commands = meta::number(alloc, &mut self.conn, "commands_max")?;
@@ -109,6 +120,11 @@ impl<S: Alter> Tables<S> {
         ensures sound { HasCleanDisk (state S.Store self.new.conn) → (t : Rows) → IsAtRest (Some t) (state S.Store self.old.conn) → IsUndamaged result }
         ensures same { HasCleanDisk (state S.Store self.new.conn) → (t : Rows) → IsAtRest (Some t) (state S.Store self.old.conn) → IsWhole result → IsAtRest (Some t) (state S.Store self.new.conn) }
         ensures left { HasCleanDisk (state S.Store self.new.conn) → (t : Rows) → IsAtRest (Some t) (state S.Store self.old.conn) → Leaves (Some t) (state S.Store self.new.conn) }
+        // The same of any rows, whoever wrote them: all that is stored is read, or a row of it is out of its type.
+        ensures stored { HasCleanDisk (state S.Store self.new.conn) → (stored : Stored) → RestsOn stored (state S.Store self.old.conn) → IfOk result (λ rows. AreRows T.layout (stored T.name) rows.items) }
+        ensures damaged { HasCleanDisk (state S.Store self.new.conn) → (stored : Stored) → RestsOn stored (state S.Store self.old.conn) → IfErr result (IsOfDamage T.layout T.name (stored T.name)) }
+        ensures rests { HasCleanDisk (state S.Store self.new.conn) → (stored : Stored) → RestsOn stored (state S.Store self.old.conn) → IsWhole result → RestsOn stored (state S.Store self.new.conn) }
+        ensures leaves { HasCleanDisk (state S.Store self.new.conn) → (stored : Stored) → RestsOn stored (state S.Store self.old.conn) → LeavesStored stored (state S.Store self.new.conn) }
         ensures refused { HasCleanDisk (state S.Store self.new.conn) → IfErr result (FailsToShow T.layout T.name T.all_means [] (state S.Store self.old.conn) (state S.Store self.new.conn)) }
     {
         all::<T, S>(alloc, &mut self.conn)
@@ -121,6 +137,11 @@ impl<S: Alter> Tables<S> {
         ensures sound { HasCleanDisk (state S.Store self.new.conn) → (t : Rows) → IsAtRest (Some t) (state S.Store self.old.conn) → IsUndamaged result }
         ensures same { HasCleanDisk (state S.Store self.new.conn) → (t : Rows) → IsAtRest (Some t) (state S.Store self.old.conn) → IsWhole result → IsAtRest (Some t) (state S.Store self.new.conn) }
         ensures left { HasCleanDisk (state S.Store self.new.conn) → (t : Rows) → IsAtRest (Some t) (state S.Store self.old.conn) → Leaves (Some t) (state S.Store self.new.conn) }
+        // The same of any rows, whoever wrote them: of those that are stored at the key.
+        ensures stored { HasCleanDisk (state S.Store self.new.conn) → (stored : Stored) → RestsOn stored (state S.Store self.old.conn) → IfOk result (IsLastOf T.layout (filter (T.stands_at key.now) (stored T.name))) }
+        ensures damaged { HasCleanDisk (state S.Store self.new.conn) → (stored : Stored) → RestsOn stored (state S.Store self.old.conn) → IfErr result (IsOfDamage T.layout T.name (filter (T.stands_at key.now) (stored T.name))) }
+        ensures rests { HasCleanDisk (state S.Store self.new.conn) → (stored : Stored) → RestsOn stored (state S.Store self.old.conn) → IsWhole result → RestsOn stored (state S.Store self.new.conn) }
+        ensures leaves { HasCleanDisk (state S.Store self.new.conn) → (stored : Stored) → RestsOn stored (state S.Store self.old.conn) → LeavesStored stored (state S.Store self.new.conn) }
         ensures refused { HasCleanDisk (state S.Store self.new.conn) → (row : T.Row) → IsTrue (T.layout.is_valid row) → T.layout.key row ≡ key.now → IfErr result (FailsToShow T.layout T.name T.get_means (T.bind key.now) (state S.Store self.old.conn) (state S.Store self.new.conn)) }
     {
         get::<T, S>(alloc, &mut self.conn, key)

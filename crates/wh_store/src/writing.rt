@@ -2,6 +2,7 @@
 
 ghost use Rattle.std.specs.Prelude.{◌≡◌, ◌≢◌, ◌⊎◌, ◌+◌, ◌<◌, ◌≤◌, [], pos, codes, map, Option, None, Some, IsTrue, IfOk, IfErr, OnOk, length};
 ghost use Rattle.std.specs.FinMap.{insert, remove};
+ghost use Rattle.std.specs.List.{AllByRecursion};
 ghost use Rattle.sqlite.specs.Held.{state};
 ghost use Rattle.sqlite.specs.State.{HasCleanDisk, Survives};
 ghost use Rattle.sqlite_rules.specs.Lists.{Has};
@@ -11,9 +12,9 @@ ghost use Rattle.wh_rows.specs.Rows.{encode_meta};
 ghost use Rattle.wh_rows.proofs.Metas.{put_text};
 ghost use Rattle.wh_rows.specs.AtRest.{AreTrees, IsAtRest, IsWriting, Leaves, IsCauseOf};
 ghost use Rattle.wh_rows.specs.Tables.{Tables as Rows};
-ghost use Rattle.wh_sql.specs.Fits.{MayBePut};
+ghost use Rattle.wh_rows.specs.Rekey.{rekey_text, bind_rekey, are_keys, rekeyed};
 ghost use Rattle.wh_sql.specs.Refusal.{IsOneRefused};
-ghost use Rattle.wh_store.specs.Edits.{with_row, with_edit, MayBeMade, after_all, MayAll, IsOfTypes, statement_of};
+ghost use Rattle.wh_store.specs.Edits.{with_row, with_edit, IsValid, Puts, after_all, IsOfTypes, statement_of};
 ghost use Rattle.wh_store.specs.Meta.{made_with, with_number, making};
 
 use crate::meta;
@@ -21,10 +22,10 @@ use crate::tables::Tables;
 use crate::transaction::{commit, roll_back};
 use sqlite::Alter;
 use std::alloc::Global;
-use wh_history::Edit;
+use wh_history::{Edit, FactKeys};
 use wh_rows::tables::Meta;
-use wh_rows::{Cause, Limits};
-use wh_sql::{Keeps, create, put, remove};
+use wh_rows::{Cause, Limits, LineKey};
+use wh_sql::{Keeps, create, put, rekey, remove};
 
 /// Edits of the tables. They are kept by `commit` alone: where it is dropped before that, it leaves nothing.
 pub struct Writing<'t, S: Alter> {
@@ -66,9 +67,9 @@ impl<'t, S: Alter> Writing<'t, S> {
         ensures clean { HasCleanDisk (state S.Store self.new.tables.now.conn) → HasCleanDisk (state S.Store self.old.tables.now.conn) }
         ensures counts { (state S.Store self.old.tables.now.conn).faults ≤ (state S.Store self.new.tables.now.conn).faults }
         ensures put { HasCleanDisk (state S.Store self.new.tables.now.conn) → (before : Option Rows) (made : Rows) → IsWriting before (Some made) (state S.Store self.old.tables.now.conn)
-            → MayBePut T.layout T.may_stand row.now (T.rows made) → OnOk result (IsWriting before (Some (T.with_rows (insert (T.rows made) (T.layout.key row.now) row.now) made)) (state S.Store self.new.tables.now.conn)) }
+            → IsValid T.layout row.now → OnOk result (IsWriting before (Some (T.with_rows (insert (T.rows made) (T.layout.key row.now) row.now) made)) (state S.Store self.new.tables.now.conn)) }
         ensures left { HasCleanDisk (state S.Store self.new.tables.now.conn) → (before : Option Rows) (made : Rows) → IsWriting before (Some made) (state S.Store self.old.tables.now.conn) → Leaves before (state S.Store self.new.tables.now.conn) }
-        ensures cause { HasCleanDisk (state S.Store self.new.tables.now.conn) → IsTrue (state S.Store self.old.tables.now.conn).in_transaction → self.old.writes < u64.MAX → IsTrue (T.layout.is_valid row.now)
+        ensures cause { HasCleanDisk (state S.Store self.new.tables.now.conn) → IsTrue (state S.Store self.old.tables.now.conn).in_transaction → self.old.writes < u64.MAX → IsValid T.layout row.now
             → IfErr result (λ cause. cause ≢ Memory → IsCauseOf T.put_means (T.layout.encode row.now) (state S.Store self.old.tables.now.conn) (state S.Store self.new.tables.now.conn) cause) }
         ensures counted { OnOk result (self.new.writes ≡ self.old.writes + 1) }
     {
@@ -96,17 +97,35 @@ impl<'t, S: Alter> Writing<'t, S> {
         Ok(())
     }
 
+    /// Gives the fact of a line other keys, if it is there; its other columns stay.
+    pub fn rekey(&mut self, alloc: Global, line: &LineKey, keys: &FactKeys) -> Result<(), Cause>
+        ensures same_reference { self.new.tables.ghost_name ≡ self.old.tables.ghost_name }
+        ensures clean { HasCleanDisk (state S.Store self.new.tables.now.conn) → HasCleanDisk (state S.Store self.old.tables.now.conn) }
+        ensures counts { (state S.Store self.old.tables.now.conn).faults ≤ (state S.Store self.new.tables.now.conn).faults }
+        ensures rekeyed { HasCleanDisk (state S.Store self.new.tables.now.conn) → (before : Option Rows) (made : Rows) → IsWriting before (Some made) (state S.Store self.old.tables.now.conn)
+            → IsTrue (are_keys keys.now) → OnOk result (IsWriting before (Some (record made { fact = rekeyed (line.now, keys.now) made.fact })) (state S.Store self.new.tables.now.conn)) }
+        ensures left { HasCleanDisk (state S.Store self.new.tables.now.conn) → (before : Option Rows) (made : Rows) → IsWriting before (Some made) (state S.Store self.old.tables.now.conn) → Leaves before (state S.Store self.new.tables.now.conn) }
+        ensures cause { HasCleanDisk (state S.Store self.new.tables.now.conn) → IsTrue (state S.Store self.old.tables.now.conn).in_transaction → self.old.writes < u64.MAX → IsTrue (are_keys keys.now)
+            → IfErr result (λ cause. cause ≢ Memory → IsCauseOf rekey_text (bind_rekey (line.now, keys.now)) (state S.Store self.old.tables.now.conn) (state S.Store self.new.tables.now.conn) cause) }
+        ensures counted { OnOk result (self.new.writes ≡ self.old.writes + 1) }
+    {
+        let writes = self.one_more()?;
+        rekey(alloc, &mut self.tables.conn, line, keys)?;
+        self.writes = writes;
+        Ok(())
+    }
+
     /// Puts rows at their keys, one after the other.
     pub fn put_all<T: Keeps>(&mut self, alloc: Global, rows: &[T::Row]) -> Result<(), Cause>
         ensures same_reference { self.new.tables.ghost_name ≡ self.old.tables.ghost_name }
         ensures clean { HasCleanDisk (state S.Store self.new.tables.now.conn) → HasCleanDisk (state S.Store self.old.tables.now.conn) }
         ensures counts { (state S.Store self.old.tables.now.conn).faults ≤ (state S.Store self.new.tables.now.conn).faults }
         ensures put { HasCleanDisk (state S.Store self.new.tables.now.conn) → (before : Option Rows) (made : Rows) → IsWriting before (Some made) (state S.Store self.old.tables.now.conn)
-            → MayAll (with_row T.layout) (MayBePut T.layout T.may_stand) rows.now (T.rows made) → OnOk result (IsWriting before (Some (T.with_rows (after_all (with_row T.layout) rows.now (T.rows made)) made)) (state S.Store self.new.tables.now.conn)) }
+            → AllByRecursion (IsValid T.layout) rows.now → OnOk result (IsWriting before (Some (T.with_rows (after_all (with_row T.layout) rows.now (T.rows made)) made)) (state S.Store self.new.tables.now.conn)) }
         ensures left { HasCleanDisk (state S.Store self.new.tables.now.conn) → (before : Option Rows) (made : Rows) → IsWriting before (Some made) (state S.Store self.old.tables.now.conn)
-            → MayAll (with_row T.layout) (MayBePut T.layout T.may_stand) rows.now (T.rows made) → Leaves before (state S.Store self.new.tables.now.conn) }
+            → AllByRecursion (IsValid T.layout) rows.now → Leaves before (state S.Store self.new.tables.now.conn) }
         ensures cause { HasCleanDisk (state S.Store self.new.tables.now.conn) → (before : Option Rows) (made : Rows) → IsWriting before (Some made) (state S.Store self.old.tables.now.conn)
-            → MayAll (with_row T.layout) (MayBePut T.layout T.may_stand) rows.now (T.rows made) → self.old.writes + length rows.now ≤ u64.MAX
+            → AllByRecursion (IsValid T.layout) rows.now → self.old.writes + length rows.now ≤ u64.MAX
             → IfErr result (λ cause. cause ≢ Memory → IsOneRefused S.Store IsCauseOf (map (λ row. (T.put_means, T.layout.encode row)) rows.now) self.old.tables.now.conn self.new.tables.now.conn cause) }
         ensures counted { OnOk result (self.new.writes ≡ self.old.writes + length rows.now) }
     {
@@ -126,7 +145,7 @@ impl<'t, S: Alter> Writing<'t, S> {
         ensures clean { HasCleanDisk (state S.Store self.new.tables.now.conn) → HasCleanDisk (state S.Store self.old.tables.now.conn) }
         ensures counts { (state S.Store self.old.tables.now.conn).faults ≤ (state S.Store self.new.tables.now.conn).faults }
         ensures edited { HasCleanDisk (state S.Store self.new.tables.now.conn) → (before : Option Rows) (made : Rows) → IsWriting before (Some made) (state S.Store self.old.tables.now.conn)
-            → MayBeMade T.layout T.may_stand edit.now (T.rows made) → OnOk result (IsWriting before (Some (T.with_rows (with_edit T.layout edit.now (T.rows made)) made)) (state S.Store self.new.tables.now.conn)) }
+            → Puts (IsValid T.layout) edit.now → OnOk result (IsWriting before (Some (T.with_rows (with_edit T.layout edit.now (T.rows made)) made)) (state S.Store self.new.tables.now.conn)) }
         ensures left { HasCleanDisk (state S.Store self.new.tables.now.conn) → (before : Option Rows) (made : Rows) → IsWriting before (Some made) (state S.Store self.old.tables.now.conn) → Leaves before (state S.Store self.new.tables.now.conn) }
         ensures cause { HasCleanDisk (state S.Store self.new.tables.now.conn) → IsTrue (state S.Store self.old.tables.now.conn).in_transaction → self.old.writes < u64.MAX → IsOfTypes T.layout edit.now
             → IfErr result (λ cause. cause ≢ Memory → IsCauseOf (statement_of T.layout T.put_means T.remove_means T.bind edit.now).0 (statement_of T.layout T.put_means T.remove_means T.bind edit.now).1 (state S.Store self.old.tables.now.conn) (state S.Store self.new.tables.now.conn) cause) }
@@ -148,11 +167,11 @@ impl<'t, S: Alter> Writing<'t, S> {
         ensures clean { HasCleanDisk (state S.Store self.new.tables.now.conn) → HasCleanDisk (state S.Store self.old.tables.now.conn) }
         ensures counts { (state S.Store self.old.tables.now.conn).faults ≤ (state S.Store self.new.tables.now.conn).faults }
         ensures edited { HasCleanDisk (state S.Store self.new.tables.now.conn) → (before : Option Rows) (made : Rows) → IsWriting before (Some made) (state S.Store self.old.tables.now.conn)
-            → MayAll (with_edit T.layout) (MayBeMade T.layout T.may_stand) edits.now (T.rows made) → OnOk result (IsWriting before (Some (T.with_rows (after_all (with_edit T.layout) edits.now (T.rows made)) made)) (state S.Store self.new.tables.now.conn)) }
+            → AllByRecursion (Puts (IsValid T.layout)) edits.now → OnOk result (IsWriting before (Some (T.with_rows (after_all (with_edit T.layout) edits.now (T.rows made)) made)) (state S.Store self.new.tables.now.conn)) }
         ensures left { HasCleanDisk (state S.Store self.new.tables.now.conn) → (before : Option Rows) (made : Rows) → IsWriting before (Some made) (state S.Store self.old.tables.now.conn)
-            → MayAll (with_edit T.layout) (MayBeMade T.layout T.may_stand) edits.now (T.rows made) → Leaves before (state S.Store self.new.tables.now.conn) }
+            → AllByRecursion (Puts (IsValid T.layout)) edits.now → Leaves before (state S.Store self.new.tables.now.conn) }
         ensures cause { HasCleanDisk (state S.Store self.new.tables.now.conn) → (before : Option Rows) (made : Rows) → IsWriting before (Some made) (state S.Store self.old.tables.now.conn)
-            → MayAll (with_edit T.layout) (MayBeMade T.layout T.may_stand) edits.now (T.rows made) → ((edit : _) → Has edits.now edit → IsOfTypes T.layout edit) → self.old.writes + length edits.now ≤ u64.MAX
+            → AllByRecursion (Puts (IsValid T.layout)) edits.now → ((edit : _) → Has edits.now edit → IsOfTypes T.layout edit) → self.old.writes + length edits.now ≤ u64.MAX
             → IfErr result (λ cause. cause ≢ Memory → IsOneRefused S.Store IsCauseOf (map (statement_of T.layout T.put_means T.remove_means T.bind) edits.now) self.old.tables.now.conn self.new.tables.now.conn cause) }
         ensures counted { OnOk result (self.new.writes ≡ self.old.writes + length edits.now) }
     {

@@ -1,13 +1,14 @@
-use Rattle.std.proofs.Common.{◌≡◌, ◌++◌, drop, map, ◌+◌, true, sym, ◌∙◌, subst}
+use Rattle.std.proofs.Common.{get_or, ◌≡◌, ◌++◌, drop, map, ◌+◌, true, sym, ◌∙◌, subst}
 use Rattle.std.specs.List.{list_all}
-use Rattle.wh_rows.proofs.ReadAll.{one_more, all_read, refused}
+use Rattle.wh_rows.proofs.ReadAll.{one_more, all_read, is_among}
 use Rattle.wh_rows.proofs.tables.read_all.Goals as goal
 
 pub returns-in-Err-clause-err : goal.returns-in-Err-clause-err
-returns-in-Err-clause-err g c fault all valid =
-    let l = g.T.StoredTable.layout in
-    refused l.encode l.is_valid c.args.rows.now c.rows.row-index c.rows.read.items all c.row-item.result c.rows-test.true c.rows.invariant.1
-    (λ r ok same. c.in-Err.ensures.err fault r ok (c.row-item.is ∙ same)) valid
+returns-in-Err-clause-err g c fault = (
+  get_or c.args.rows.now c.rows.row-index c.row-item.result,
+  is_among c.args.rows.now c.rows.row-index c.row-item.result c.rows-test.true,
+  λ r ok same. c.in-Err.ensures.err fault r ok (c.row-item.is ∙ same),
+)
 
 pub rows-preserved : goal.rows-preserved
 rows-preserved g c =

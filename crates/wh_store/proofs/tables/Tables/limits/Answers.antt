@@ -42,3 +42,14 @@ returns-in-None-clause-damaged g c clean t at table is =
     let two = c.in_ok-changes.ensures.same second t one tt in
     let found : None ≡ limits_of_numbers c.in_ok-commands.commands c.in_ok-changes.changes c.in_ok-facts.facts = c.in-None.ensures in
     (cc, sym (rw (c.in_ok-commands.ensures.number first t at, c.in_ok-changes.ensures.number second t one, c.in_ok-facts.ensures.number clean t two) at found))
+
+-- ---- whoever wrote the rows
+
+pub returns-in-None-clause-limitless : goal.returns-in-None-clause-limitless
+returns-in-None-clause-limitless g c clean stored at =
+    let second = c.number-3.ensures.clean clean in
+    let first = c.number-2.ensures.clean second in
+    let one = c.in_ok-commands.ensures.rests first stored at tt in
+    let two = c.in_ok-changes.ensures.rests second stored one tt in
+    let found : None ≡ limits_of_numbers c.in_ok-commands.commands c.in_ok-changes.changes c.in_ok-facts.facts = c.in-None.ensures in
+    (refl, inl (_, _, _, c.in_ok-commands.ensures.stored first stored at, c.in_ok-changes.ensures.stored second stored one, c.in_ok-facts.ensures.stored clean stored two, sym found))

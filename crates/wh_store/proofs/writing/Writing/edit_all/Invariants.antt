@@ -1,9 +1,10 @@
 use Rattle.std.proofs.Common.{◌≡◌, ◌+◌, ◌≤◌, Option, Some, drop}
+use Rattle.std.specs.List.{AllByRecursion}
 use Rattle.sqlite.specs.Held.{state}
 use Rattle.sqlite.specs.State.{HasCleanDisk}
 use Rattle.wh_rows.specs.AtRest.{IsWriting}
 use Rattle.wh_rows.specs.Tables.{Tables as Rows}
-use Rattle.wh_store.specs.Edits.{with_edit, MayBeMade, after_all, MayAll}
+use Rattle.wh_store.specs.Edits.{with_edit, after_all, IsValid, Puts}
 use Rattle.wh_store.proofs.Looping.{IsOnTheWay}
 use Rattle.wh_store.proofs.writing.Writing.edit_all.Given as goal
 
@@ -13,12 +14,12 @@ invariant-loop-edit g l =
     let now = state g.S.Store l.self.tables.now.conn in
     let table = g.T.StoredTable in
     let step = with_edit table.layout in
-    let may = MayBeMade table.layout g.T.Keeps.may_stand in
+    let may = Puts (IsValid table.layout) in
     record {
       same_reference : l.self.tables.ghost_name ≡ l.fn.self.tables.ghost_name;
       clean : HasCleanDisk now → HasCleanDisk old;
       counts : old.faults ≤ now.faults;
-      put : HasCleanDisk now → (before : Option Rows) (made : Rows) → IsWriting before (Some made) old → MayAll step may l.edits (table.rows made)
+      put : HasCleanDisk now → (before : Option Rows) (made : Rows) → IsWriting before (Some made) old → AllByRecursion may l.edits
           → (mid : Rows) × IsWriting before (Some mid) now × IsOnTheWay step may table.rows table.with_rows (drop l.edit-index l.edits) mid (table.with_rows (after_all step l.edits (table.rows made)) made);
       counted : l.self.writes ≡ l.fn.self.writes + l.edit-index;
     }

@@ -2,8 +2,7 @@ use Rattle.std.proofs.Common.{Some, subst, ◌∙◌, arith}
 use Rattle.std.proofs.lemmas.Result.{err_from_is_err_and}
 use Rattle.sqlite.specs.Held.{state}
 use Rattle.wh_rows.specs.AtRest.{IsWriting, IsCauseOf}
-use Rattle.wh_sql.specs.Fits.{MayBePut}
-use Rattle.wh_store.specs.Edits.{with_row}
+use Rattle.wh_store.specs.Edits.{with_row, IsValid}
 use Rattle.wh_store.proofs.Refusals.{is_among, one_refused}
 use Rattle.wh_store.proofs.Looping.{next_is, next_may, next_way, way_ends}
 use Rattle.wh_store.proofs.writing.Writing.put_all.Goals as goal
@@ -18,8 +17,8 @@ returns-in_err-put-clause-cause g c clean before made at may room =
     let was = c.loop-row.invariant.put (c.put.ensures.clean clean) before made at may in
     let among = is_among c.args.rows.now c.loop-row.row-index c.row-item.result c.loop-row-test.true c.row-item.is in
     let next = next_is c.args.rows.now c.loop-row.row-index c.row-item.result c.loop-row-test.true c.row-item.is in
-    let one = next_may g.T.StoredTable.layout (with_row g.T.StoredTable.layout) (MayBePut g.T.StoredTable.layout g.T.Keeps.may_stand) g.T.StoredTable.rows g.T.StoredTable.with_rows g.met.T.Keeps.placed c.args.rows.now c.loop-row.row-index c.row-item.result was.0 _ next was.2 in
-    let refused = c.in_err-put.ensures.cause clean was.1.inside (omega (arith, c.loop-row.invariant.counted, c.loop-row-test.true, room)) one.valid in
+    let one = next_may g.T.StoredTable.layout (with_row g.T.StoredTable.layout) (IsValid g.T.StoredTable.layout) g.T.StoredTable.rows g.T.StoredTable.with_rows g.met.T.Keeps.placed c.args.rows.now c.loop-row.row-index c.row-item.result was.0 _ next was.2 in
+    let refused = c.in_err-put.ensures.cause clean was.1.inside (omega (arith, c.loop-row.invariant.counted, c.loop-row-test.true, room)) one in
     let p = err_from_is_err_and c.from_residual.result c.from_residual.ensures.1 in
     rw (p.1, p.2) (λ other. one_refused g.S.Store c.args.self.now.tables.now.conn c.loop-row.self.tables.now.conn c.put.new.self.tables.now.conn c.loop-row.invariant.counts IsCauseOf (λ row. (g.T.Keeps.put_means, g.T.StoredTable.layout.encode row)) c.args.rows.now c.row-item.result c.in_err-put.field-0.0 among (refused other))
 
@@ -33,15 +32,15 @@ loop-row-preserved g c =
       put = λ clean before made at may.
           let was = kept.put (c.put.ensures.clean clean) before made at may in
           let next = next_is c.args.rows.now c.loop-row.row-index c.row-item.result c.loop-row-test.true c.row-item.is in
-          let one = next_may g.T.StoredTable.layout (with_row g.T.StoredTable.layout) (MayBePut g.T.StoredTable.layout g.T.Keeps.may_stand) g.T.StoredTable.rows g.T.StoredTable.with_rows g.met.T.Keeps.placed c.args.rows.now c.loop-row.row-index c.row-item.result was.0 _ next was.2 in
-          (_, c.in_ok-put.ensures.put clean before was.0 was.1 one, next_way g.T.StoredTable.layout (with_row g.T.StoredTable.layout) (MayBePut g.T.StoredTable.layout g.T.Keeps.may_stand) g.T.StoredTable.rows g.T.StoredTable.with_rows g.met.T.Keeps.placed c.args.rows.now c.loop-row.row-index c.row-item.result was.0 _ next was.2);
+          let one = next_may g.T.StoredTable.layout (with_row g.T.StoredTable.layout) (IsValid g.T.StoredTable.layout) g.T.StoredTable.rows g.T.StoredTable.with_rows g.met.T.Keeps.placed c.args.rows.now c.loop-row.row-index c.row-item.result was.0 _ next was.2 in
+          (_, c.in_ok-put.ensures.put clean before was.0 was.1 one, next_way g.T.StoredTable.layout (with_row g.T.StoredTable.layout) (IsValid g.T.StoredTable.layout) g.T.StoredTable.rows g.T.StoredTable.with_rows g.met.T.Keeps.placed c.args.rows.now c.loop-row.row-index c.row-item.result was.0 _ next was.2);
       counted = omega (arith, c.in_ok-put.ensures.counted, kept.counted);
     }
 
 pub returns-clause-put : goal.returns-clause-put
 returns-clause-put g c clean before made at may =
     let was = c.loop-row.invariant.put clean before made at may in
-    subst (λ all. IsWriting before (Some all) (state g.S.Store c.loop-row.self.tables.now.conn)) (way_ends g.T.StoredTable.layout (with_row g.T.StoredTable.layout) (MayBePut g.T.StoredTable.layout g.T.Keeps.may_stand) g.T.StoredTable.rows g.T.StoredTable.with_rows g.met.T.Keeps.placed c.args.rows.now c.loop-row.row-index was.0 _ c.loop-row-test.false was.2) was.1
+    subst (λ all. IsWriting before (Some all) (state g.S.Store c.loop-row.self.tables.now.conn)) (way_ends g.T.StoredTable.layout (with_row g.T.StoredTable.layout) (IsValid g.T.StoredTable.layout) g.T.StoredTable.rows g.T.StoredTable.with_rows g.met.T.Keeps.placed c.args.rows.now c.loop-row.row-index was.0 _ c.loop-row-test.false was.2) was.1
 
 pub returns-clause-left : goal.returns-clause-left
 returns-clause-left g c clean before made at may = (c.loop-row.invariant.put clean before made at may).1.left

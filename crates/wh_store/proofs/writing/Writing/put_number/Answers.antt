@@ -15,7 +15,7 @@ pub returns-clause-put : goal.returns-clause-put
 returns-clause-put g c clean before made at =
     let same : c.in_ok-row.row ≡ (record { name = c.args.name.now; value = pos c.args.count }) = c.in_ok-row.ensures.ok in
     let utf8 : is_utf8 c.args.name.now ≡ true = is_utf8-from_IsUtf8 c.args.name.now c.utf8.name in
-    let put = c.put.ensures.put clean before made at (record { valid = ap (λ (r : MetaRow). is_utf8 r.name) same ∙ utf8; stands = λ other has. tt }) in
+    let put = c.put.ensures.put clean before made at (ap (λ (r : MetaRow). is_utf8 r.name) same ∙ utf8) in
     subst (λ (r : MetaRow). OnOk c.put.result (IsWriting before (Some (record made { meta = insert made.meta r.name r })) (state g.S.Store c.put.new.self.tables.now.conn))) same put
 
 pub returns-clause-cause : goal.returns-clause-cause

@@ -1,0 +1,121 @@
+-- What is stored in the tables, whoever wrote it: rows of values of their types, and rows that are damaged.
+use Rattle.std.specs.Prelude.{◌≡◌, ◌≢◌, ℕ, Bool, false, List, [], ◌∷◌, ◌++◌, map, Option, None, Some, IsTrue}
+use Rattle.std.specs.List.{AllByRecursion, list_all}
+use Rattle.std.specs.List.Sorted.{IsPermutation, IsSorted}
+use Rattle.std.specs.FinMap.{FinMap, entries, values}
+use Rattle.sqlite.specs.Order.{Row}
+use Rattle.sqlite.specs.Tree.{Trees}
+use Rattle.sqlite.specs.Table as stored
+use Rattle.sqlite.specs.Effect.{Database, IsDatabase}
+use Rattle.sqlite.specs.State.{State}
+use Rattle.sqlite_rules.specs.Lists.{Has}
+use Rattle.wh_rows.specs.declared.table.Table.{Table}
+use Rattle.wh_rows.specs.declared.table.Table.TheVariants.{Meta, Command, Member, Change, Product, Store, Customer, Profile, Calendar, Fact}
+use Rattle.wh_rows.specs.Schema.{warehouse}
+use Rattle.wh_rows.specs.Schema as schema
+use Rattle.wh_rows.specs.Holds.{Layout, values_of, IsRising}
+use Rattle.wh_rows.specs.Rows as row
+use Rattle.wh_rows.specs.Tables.{Tables}
+use Rattle.wh_rows.specs.Meaning.{ReadsSome}
+
+-- ---- the stored rows of one table
+
+-- no row of values of the types stands so in the columns
+abbrev pub IsDamaged : {K V : Type 0} → Layout K V → Row → Type 0
+IsDamaged layout row = (v : _) → IsTrue (layout.is_valid v) → row ≢ layout.encode v
+
+-- one of the stored rows is damaged
+abbrev pub HasDamage : {K V : Type 0} → Layout K V → List Row → Type 0
+HasDamage layout stored = (row : Row) × Has stored row × IsDamaged layout row
+
+-- none is: the stored rows are these, of values of their types, in the order of their keys
+pub record AreRows {K V : Type 0} (layout : Layout K V) (stored : List Row) (rows : List V) : Type 0 where
+  pub same : IsPermutation stored (map layout.encode rows)
+  pub valid : IsTrue (list_all layout.is_valid rows)
+  pub in_order : IsSorted (λ v w. layout.order (layout.key v) (layout.key w)) rows
+
+-- the row is the last of them, or there is none
+abbrev pub IsLastOf : {K V : Type 0} → Layout K V → List Row → Option V → Type 0
+IsLastOf layout stored None = AreRows layout stored []
+IsLastOf layout stored (Some row) = (before : List _) × AreRows layout stored (before ++ row ∷ [])
+
+-- ---- the stored rows of the ten tables
+
+-- of each table the rows as SELECT * shows them, in any order
+abbrev pub Stored : Type 0
+Stored = Table → List Row
+
+-- the table of the schema
+abbrev pub table_of : Table → stored.Table
+table_of Meta = schema.meta
+table_of Command = schema.command
+table_of Member = schema.member
+table_of Change = schema.change
+table_of Product = schema.product
+table_of Store = schema.store
+table_of Customer = schema.customer
+table_of Profile = schema.profile
+table_of Calendar = schema.calendar
+table_of Fact = schema.fact
+
+-- the rows of a table in the order of their rowids
+abbrev pub rows_in : stored.Table → Trees → List Row
+rows_in table trees = map (values_of table) (trees table.tree)
+
+-- the database is one of the making's schema, and this is stored in its tables
+pub record IsStored (stored : Stored) (db : Database) : Type 0 where
+  pub schema : db.schema ≡ warehouse
+  pub sound : IsDatabase db
+  pub rising : AllByRecursion (λ t. IsRising (db.trees t.tree)) warehouse.tables
+  pub rows : (table : Table) → IsPermutation (rows_in (table_of table) db.trees) (stored table)
+
+-- whatever a crash leaves stores this
+pub record LeavesStored (stored : Stored) (s : State) : Type 0 where
+  pub each : (trees : Trees) → s.may_leave trees → IsStored stored (record { schema = warehouse; trees = trees })
+
+-- It is open, outside a transaction, and this is stored; a crash leaves this and nothing else.
+pub record RestsOn (stored : Stored) (s : State) : Type 0 where
+  pub is_open : IsTrue s.is_open
+  pub autocommit : s.in_transaction ≡ false
+  pub unmarked : s.marks ≡ []
+  pub now : IsStored stored s.now
+  pub committed : s.committed ≡ s.now
+  pub left : LeavesStored stored s
+
+-- what is stored where the tables are these
+abbrev pub stored_of : Tables → Stored
+stored_of t Meta = map row.encode_meta (values t.meta)
+stored_of t Command = map row.encode_command (values t.command)
+stored_of t Member = map row.encode_member (values t.member)
+stored_of t Change = map row.encode_change (values t.change)
+stored_of t Product = map row.encode_dimension (values t.product)
+stored_of t Store = map row.encode_dimension (values t.store)
+stored_of t Customer = map row.encode_dimension (values t.customer)
+stored_of t Profile = map row.encode_profile (values t.profile)
+stored_of t Calendar = map row.encode_date (values t.calendar)
+stored_of t Fact = map row.encode_fact (values t.fact)
+
+-- a map of a table has its keys, and rows of values of their types
+pub record IsTyped {K V : Type 0} (layout : Layout K V) (rows : FinMap layout.order V) : Type 0 where
+  pub keyed : AllByRecursion (λ e. e.0 ≡ layout.key e.1) (entries rows)
+  pub valid : AllByRecursion (λ e. IsTrue (layout.is_valid e.1)) (entries rows)
+
+-- so it is of each of the ten
+pub record AreTyped (t : Tables) : Type 0 where
+  pub meta : IsTyped row.meta t.meta
+  pub command : IsTyped row.command t.command
+  pub member : IsTyped row.member t.member
+  pub change : IsTyped row.change t.change
+  pub product : IsTyped row.product t.product
+  pub store : IsTyped row.store t.store
+  pub customer : IsTyped row.customer t.customer
+  pub profile : IsTyped row.profile t.profile
+  pub calendar : IsTyped row.calendar t.calendar
+  pub fact : IsTyped row.fact t.fact
+
+-- ---- what a text means there
+
+-- what a text has to mean, to show the stored rows that pass a test of their columns: on rows of their types it is the test of the row
+pub record ReadsStored {K V : Type 0} (layout : Layout K V) (params : Row) (stands : Row → Bool) (keep : V → Bool) (text : List ℕ) : Type 0 where
+  pub reads : ReadsSome layout params keep text
+  pub tested : (row : Row) → reads.test row ≡ stands row

@@ -1,0 +1,123 @@
+//! What holds the ten tables: a connection, or the tables over it.
+
+use sqlite::{Alter, Connection};
+use std::alloc::Global;
+use wh_history::FactKeys;
+use wh_policy::Dim;
+use wh_rows::{Cause, LineKey};
+use wh_sql::{Keeps, Question, Refusal};
+use wh_store::{Tables, Writing};
+
+/// Where rows are read.
+pub trait Reads {
+    fn read_all<T: Keeps>(&mut self, alloc: Global) -> Result<Vec<T::Row>, Refusal>;
+
+    fn read_at<T: Keeps>(&mut self, alloc: Global, key: &T::Key) -> Result<Option<T::Row>, Refusal>;
+
+    fn count_rows<T: Keeps>(&mut self, alloc: Global) -> Result<u64, Refusal>;
+
+    fn answer<T: Keeps, Q: Question<T>>(
+        &mut self,
+        alloc: Global,
+        question: &Q,
+    ) -> Result<Vec<T::Row>, Refusal>;
+
+    fn anchor(&mut self, alloc: Global, dim: Dim) -> Result<u64, Refusal>;
+}
+
+impl<S: Alter> Reads for Connection<S> {
+    fn read_all<T: Keeps>(&mut self, alloc: Global) -> Result<Vec<T::Row>, Refusal> {
+        wh_sql::all::<T, S>(alloc, self)
+    }
+
+    fn read_at<T: Keeps>(
+        &mut self,
+        alloc: Global,
+        key: &T::Key,
+    ) -> Result<Option<T::Row>, Refusal> {
+        wh_sql::get::<T, S>(alloc, self, key)
+    }
+
+    fn count_rows<T: Keeps>(&mut self, alloc: Global) -> Result<u64, Refusal> {
+        wh_sql::count::<T, S>(alloc, self)
+    }
+
+    fn answer<T: Keeps, Q: Question<T>>(
+        &mut self,
+        alloc: Global,
+        question: &Q,
+    ) -> Result<Vec<T::Row>, Refusal> {
+        wh_sql::ask::<T, Q, S>(alloc, self, question)
+    }
+
+    fn anchor(&mut self, alloc: Global, dim: Dim) -> Result<u64, Refusal> {
+        wh_sql::greatest_anchor(alloc, self, dim)
+    }
+}
+
+impl<S: Alter> Reads for Tables<S> {
+    fn read_all<T: Keeps>(&mut self, alloc: Global) -> Result<Vec<T::Row>, Refusal> {
+        self.all::<T>(alloc)
+    }
+
+    fn read_at<T: Keeps>(
+        &mut self,
+        alloc: Global,
+        key: &T::Key,
+    ) -> Result<Option<T::Row>, Refusal> {
+        self.get::<T>(alloc, key)
+    }
+
+    fn count_rows<T: Keeps>(&mut self, alloc: Global) -> Result<u64, Refusal> {
+        self.count::<T>(alloc)
+    }
+
+    fn answer<T: Keeps, Q: Question<T>>(
+        &mut self,
+        alloc: Global,
+        question: &Q,
+    ) -> Result<Vec<T::Row>, Refusal> {
+        self.ask::<T, Q>(alloc, question)
+    }
+
+    fn anchor(&mut self, alloc: Global, dim: Dim) -> Result<u64, Refusal> {
+        self.greatest_anchor(alloc, dim)
+    }
+}
+
+/// Where rows are written.
+pub trait Writes {
+    fn put_row<T: Keeps>(&mut self, alloc: Global, row: &T::Row) -> Result<(), Cause>;
+
+    fn remove_row<T: Keeps>(&mut self, alloc: Global, key: &T::Key) -> Result<(), Cause>;
+
+    fn rekey_fact(&mut self, alloc: Global, line: &LineKey, keys: &FactKeys) -> Result<(), Cause>;
+}
+
+impl<S: Alter> Writes for Connection<S> {
+    fn put_row<T: Keeps>(&mut self, alloc: Global, row: &T::Row) -> Result<(), Cause> {
+        wh_sql::put::<T, S>(alloc, self, row)
+    }
+
+    fn remove_row<T: Keeps>(&mut self, alloc: Global, key: &T::Key) -> Result<(), Cause> {
+        wh_sql::remove::<T, S>(alloc, self, key)
+    }
+
+    fn rekey_fact(&mut self, alloc: Global, line: &LineKey, keys: &FactKeys) -> Result<(), Cause> {
+        wh_sql::rekey(alloc, self, line, keys)
+    }
+}
+
+impl<S: Alter> Writes for Writing<'_, S> {
+    fn put_row<T: Keeps>(&mut self, alloc: Global, row: &T::Row) -> Result<(), Cause> {
+        self.put::<T>(alloc, row)
+    }
+
+    fn remove_row<T: Keeps>(&mut self, alloc: Global, key: &T::Key) -> Result<(), Cause> {
+        self.remove::<T>(alloc, key)
+    }
+
+    fn rekey_fact(&mut self, alloc: Global, line: &LineKey, keys: &FactKeys) -> Result<(), Cause> {
+        self.rekey(alloc, line, keys)
+    }
+}

@@ -1,0 +1,36 @@
+//! The tests of `wh_store`, `wh_sql` and `wh_rows`, as scenarios: what is done with a warehouse, and what it then answers.
+//! `scenario` says how one is written. The tests are in `cases`.
+#![tactic(auto)]
+
+#[cfg(test)]
+mod calendar;
+#[cfg(test)]
+mod cases;
+#[cfg(test)]
+mod columns;
+#[cfg(test)]
+mod database;
+#[cfg(test)]
+mod files;
+#[cfg(test)]
+mod held;
+#[cfg(test)]
+mod opening;
+#[cfg(test)]
+mod place;
+#[cfg(test)]
+mod questions;
+#[cfg(test)]
+mod rows;
+#[cfg(test)]
+mod scenario;
+#[cfg(test)]
+mod tables;
+#[cfg(test)]
+mod told;
+#[cfg(test)]
+mod trouble;
+#[cfg(test)]
+mod words;
+#[cfg(test)]
+mod writing;

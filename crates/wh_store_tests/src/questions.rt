@@ -1,0 +1,229 @@
+//! Questions about the rows of a warehouse.
+
+use crate::held::Reads;
+use crate::rows::{on_table, push_number_line, push_rows, table_of};
+use crate::told::Told;
+use crate::trouble::Trouble;
+use crate::words::{Step, day, dim, number, parted, push_answer};
+use std::alloc::{AllocError, Global};
+use wh_day::{Value, Values};
+use wh_policy::Dim;
+use wh_rows::Table;
+use wh_rows::tables::{Change, Command, Customer, Fact, Member, Product, Profile, Store};
+use wh_sql::{
+    CommandOf, Dimension, Greatest, GreatestOf, MemberOf, ProfileOf, Question, RecordsOf,
+    RecordsOn, RowsOf, SalesSince,
+};
+
+/// A step that only reads.
+pub fn answer<H: Reads>(
+    alloc: Global,
+    held: &mut H,
+    step: Step<'_>,
+    out: &mut String,
+) -> Result<(), Trouble> {
+    match step.verb {
+        "all" | "get" | "count" | "length" | "nth" | "read" | "table" => {
+            let (table, step) = table_of(step)?;
+            on_table(alloc, held, table, step, out)
+        }
+        "rows" => rows(alloc, held, step.rest, out),
+        "dim" => Ok(push_answer(out, dim_of(step.rest)?)?),
+        "greatest" => greatest(alloc, held, step.rest, out),
+        "anchor" => anchor(alloc, held, step.rest, out),
+        _ => answer_more(alloc, held, step, out),
+    }
+}
+
+fn answer_more<H: Reads>(
+    alloc: Global,
+    held: &mut H,
+    step: Step<'_>,
+    out: &mut String,
+) -> Result<(), Trouble> {
+    match step.verb {
+        "command" => command(alloc, held, step.rest, out),
+        "member" => member(alloc, held, step.rest, out),
+        "profile" => profile(alloc, held, step.rest, out),
+        "records" => records(alloc, held, step.rest, out),
+        "records_on" => records_on(alloc, held, step.rest, out),
+        "sales" => sales(alloc, held, step.rest, out),
+        _ => Err(Trouble::Unknown),
+    }
+}
+
+fn told<T: Told, Q: Question<T>, H: Reads>(
+    alloc: Global,
+    held: &mut H,
+    question: &Q,
+    out: &mut String,
+) -> Result<(), Trouble> {
+    let rows = held.answer::<T, Q>(alloc, question)?;
+    push_rows::<T>(out, &rows)
+}
+
+/// `DIMENSION DURABLE`: the rows of a member.
+fn rows<H: Reads>(
+    alloc: Global,
+    held: &mut H,
+    words: &str,
+    out: &mut String,
+) -> Result<(), Trouble> {
+    let (name, durable) = parted(words, ' ');
+    let question = RowsOf {
+        durable: number(durable)?,
+    };
+    match dim(name)? {
+        Dim::Product => told::<Product, RowsOf, H>(alloc, held, &question, out),
+        Dim::Store => told::<Store, RowsOf, H>(alloc, held, &question, out),
+        Dim::Customer => told::<Customer, RowsOf, H>(alloc, held, &question, out),
+    }
+}
+
+/// The dimension that a table says that it is of.
+fn dim_of(name: &str) -> Result<&'static str, Trouble> {
+    let found = match dim(name)? {
+        Dim::Product => Product::dim(),
+        Dim::Store => Store::dim(),
+        Dim::Customer => Customer::dim(),
+    };
+    match found {
+        Dim::Product => Ok("product"),
+        Dim::Store => Ok("store"),
+        Dim::Customer => Ok("customer"),
+    }
+}
+
+/// `TABLE`, or `member DIMENSION`: the row with the greatest key.
+fn greatest<H: Reads>(
+    alloc: Global,
+    held: &mut H,
+    words: &str,
+    out: &mut String,
+) -> Result<(), Trouble> {
+    let (name, rest) = parted(words, ' ');
+    match Table::from_name(name) {
+        Some(Table::Command) => told::<Command, Greatest, H>(alloc, held, &Greatest, out),
+        Some(Table::Product) => told::<Product, Greatest, H>(alloc, held, &Greatest, out),
+        Some(Table::Store) => told::<Store, Greatest, H>(alloc, held, &Greatest, out),
+        Some(Table::Customer) => told::<Customer, Greatest, H>(alloc, held, &Greatest, out),
+        Some(Table::Profile) => told::<Profile, Greatest, H>(alloc, held, &Greatest, out),
+        Some(Table::Member) => greatest_member(alloc, held, rest, out),
+        _ => Err(Trouble::Unknown),
+    }
+}
+
+fn greatest_member<H: Reads>(
+    alloc: Global,
+    held: &mut H,
+    word: &str,
+    out: &mut String,
+) -> Result<(), Trouble> {
+    let question = GreatestOf { dim: dim(word)? };
+    told::<Member, GreatestOf, H>(alloc, held, &question, out)
+}
+
+/// `DIMENSION`: the greatest surrogate key that a record of it stands at, or 0.
+fn anchor<H: Reads>(
+    alloc: Global,
+    held: &mut H,
+    word: &str,
+    out: &mut String,
+) -> Result<(), Trouble> {
+    let key = held.anchor(alloc, dim(word)?)?;
+    push_number_line(out, key)
+}
+
+/// `ID`: the command of that id.
+fn command<H: Reads>(
+    alloc: Global,
+    held: &mut H,
+    id: &str,
+    out: &mut String,
+) -> Result<(), Trouble> {
+    let id = Value::new(alloc, id)?;
+    told::<Command, CommandOf<'_>, H>(alloc, held, &CommandOf { id: &id }, out)
+}
+
+/// `DIMENSION NATURAL`: the member that is called so.
+fn member<H: Reads>(
+    alloc: Global,
+    held: &mut H,
+    words: &str,
+    out: &mut String,
+) -> Result<(), Trouble> {
+    let (name, natural) = parted(words, ' ');
+    let natural = Value::new(alloc, natural)?;
+    let question = MemberOf {
+        dim: dim(name)?,
+        natural: &natural,
+    };
+    told::<Member, MemberOf<'_>, H>(alloc, held, &question, out)
+}
+
+/// Texts that are parted by commas.
+fn values(alloc: Global, line: &str) -> Result<Values, AllocError> {
+    let mut found = Values::new(alloc);
+    for part in line.split(',') {
+        found.push(Value::new(alloc, part)?)?;
+    }
+    Ok(found)
+}
+
+/// `TEXT,TEXT,..`: the profile of these six texts.
+fn profile<H: Reads>(
+    alloc: Global,
+    held: &mut H,
+    line: &str,
+    out: &mut String,
+) -> Result<(), Trouble> {
+    let values = values(alloc, line)?;
+    told::<Profile, ProfileOf<'_>, H>(alloc, held, &ProfileOf { values: &values }, out)
+}
+
+/// `DIMENSION DURABLE`: the records of a member.
+fn records<H: Reads>(
+    alloc: Global,
+    held: &mut H,
+    words: &str,
+    out: &mut String,
+) -> Result<(), Trouble> {
+    let (name, durable) = parted(words, ' ');
+    let question = RecordsOf {
+        dim: dim(name)?,
+        durable: number(durable)?,
+    };
+    told::<Change, RecordsOf, H>(alloc, held, &question, out)
+}
+
+/// `DIMENSION ANCHOR`: the records that share a surrogate key.
+fn records_on<H: Reads>(
+    alloc: Global,
+    held: &mut H,
+    words: &str,
+    out: &mut String,
+) -> Result<(), Trouble> {
+    let (name, anchor) = parted(words, ' ');
+    let question = RecordsOn {
+        dim: dim(name)?,
+        anchor: number(anchor)?,
+    };
+    told::<Change, RecordsOn, H>(alloc, held, &question, out)
+}
+
+/// `DIMENSION DURABLE DAY`: the facts of a member since a day.
+fn sales<H: Reads>(
+    alloc: Global,
+    held: &mut H,
+    words: &str,
+    out: &mut String,
+) -> Result<(), Trouble> {
+    let (name, rest) = parted(words, ' ');
+    let (durable, from) = parted(rest, ' ');
+    let question = SalesSince {
+        dim: dim(name)?,
+        durable: number(durable)?,
+        from: day(from)?,
+    };
+    told::<Fact, SalesSince, H>(alloc, held, &question, out)
+}

@@ -1,0 +1,225 @@
+//! Rows as a scenario writes them, `product 1, 1, 'M1', ..` for the values of SQL, and as it is told of them.
+
+use crate::held::{Reads, Writes};
+use crate::told::Told;
+use crate::trouble::Trouble;
+use crate::words::{Step, line_number, number, parted, push_answer, push_count};
+use sqlite::{Connection, Row};
+use std::alloc::{AllocError, Global};
+use wh_day::{ReadError, Value};
+use wh_history::FactKeys;
+use wh_rows::tables::{
+    Calendar, Change, Command, Customer, Fact, Member, Meta, Product, Profile, Store,
+};
+use wh_rows::{Cause, LineKey, Table};
+
+/// The columns of these values.
+pub fn columns_of(alloc: Global, values: &str) -> Result<Row, Trouble> {
+    let text = format!(in alloc; "SELECT {values}")?;
+    let mut conn = Connection::open_in_memory(alloc)?;
+    Ok(conn.query_row(text.as_str(), &[])?)
+}
+
+/// The row of these values.
+pub fn row_of<T: Told>(alloc: Global, values: &str) -> Result<T::Row, Trouble> {
+    match T::read(alloc, &columns_of(alloc, values)?) {
+        Ok(row) => Ok(row),
+        Err(ReadError::Memory) => Err(Trouble::Refused(Cause::Memory)),
+        Err(ReadError::Fault(_)) => Err(Trouble::Damaged(T::table())),
+    }
+}
+
+/// The values of the only row of a member whose durable key is its surrogate key, from that key and the text of its first slot.
+pub fn member_values(alloc: Global, words: &str) -> Result<String, AllocError> {
+    let (key, text) = parted(words, ' ');
+    format!(in alloc;
+        "{key}, {key}, 'M{key}', 19000101, 99991231, 1, '{text}', '', '', '', '', '', '', '', '', '', '', '', 0"
+    )
+}
+
+fn push_row<T: Told>(out: &mut String, row: &T::Row) -> Result<(), Trouble> {
+    out.push_str("= ")?;
+    out.push_str(T::table().name())?;
+    out.push_str(" ")?;
+    T::push(out, row)?;
+    out.push_str("\n")?;
+    Ok(())
+}
+
+pub fn push_rows<T: Told>(out: &mut String, rows: &[T::Row]) -> Result<(), Trouble> {
+    for row in rows {
+        push_row::<T>(out, row)?;
+    }
+    Ok(())
+}
+
+pub fn push_number_line(out: &mut String, count: u64) -> Result<(), Trouble> {
+    out.push_str("= ")?;
+    push_count(out, count)?;
+    out.push_str("\n")?;
+    Ok(())
+}
+
+fn all<T: Told, H: Reads>(alloc: Global, held: &mut H, out: &mut String) -> Result<(), Trouble> {
+    let rows = held.read_all::<T>(alloc)?;
+    push_rows::<T>(out, &rows)
+}
+
+fn nth<T: Told, H: Reads>(
+    alloc: Global,
+    held: &mut H,
+    place: &str,
+    out: &mut String,
+) -> Result<(), Trouble> {
+    let at = number(place)?;
+    let rows = held.read_all::<T>(alloc)?;
+    match rows.get(at as usize) {
+        Some(row) => push_row::<T>(out, row),
+        None => Ok(()),
+    }
+}
+
+fn at<T: Told, H: Reads>(
+    alloc: Global,
+    held: &mut H,
+    words: &str,
+    out: &mut String,
+) -> Result<(), Trouble> {
+    let key = T::key_of(alloc, words)?;
+    match held.read_at::<T>(alloc, &key)? {
+        Some(row) => push_row::<T>(out, &row),
+        None => Ok(()),
+    }
+}
+
+fn length<T: Told, H: Reads>(alloc: Global, held: &mut H, out: &mut String) -> Result<(), Trouble> {
+    let rows = held.read_all::<T>(alloc)?;
+    push_number_line(out, rows.len() as u64)
+}
+
+fn read<T: Told>(alloc: Global, values: &str, out: &mut String) -> Result<(), Trouble> {
+    let row = row_of::<T>(alloc, values)?;
+    push_row::<T>(out, &row)
+}
+
+fn on_rows<T: Told, H: Reads>(
+    alloc: Global,
+    held: &mut H,
+    step: Step<'_>,
+    out: &mut String,
+) -> Result<(), Trouble> {
+    match step.verb {
+        "all" => all::<T, H>(alloc, held, out),
+        "get" => at::<T, H>(alloc, held, step.rest, out),
+        "count" => push_number_line(out, held.count_rows::<T>(alloc)?),
+        "length" => length::<T, H>(alloc, held, out),
+        "nth" => nth::<T, H>(alloc, held, step.rest, out),
+        "read" => read::<T>(alloc, step.rest, out),
+        "table" => Ok(push_answer(out, T::table().name())?),
+        _ => Err(Trouble::Unknown),
+    }
+}
+
+/// A step that reads rows of a table.
+pub fn on_table<H: Reads>(
+    alloc: Global,
+    held: &mut H,
+    table: Table,
+    step: Step<'_>,
+    out: &mut String,
+) -> Result<(), Trouble> {
+    match table {
+        Table::Meta => on_rows::<Meta, H>(alloc, held, step, out),
+        Table::Command => on_rows::<Command, H>(alloc, held, step, out),
+        Table::Member => on_rows::<Member, H>(alloc, held, step, out),
+        Table::Change => on_rows::<Change, H>(alloc, held, step, out),
+        Table::Product => on_rows::<Product, H>(alloc, held, step, out),
+        Table::Store => on_rows::<Store, H>(alloc, held, step, out),
+        Table::Customer => on_rows::<Customer, H>(alloc, held, step, out),
+        Table::Profile => on_rows::<Profile, H>(alloc, held, step, out),
+        Table::Calendar => on_rows::<Calendar, H>(alloc, held, step, out),
+        Table::Fact => on_rows::<Fact, H>(alloc, held, step, out),
+    }
+}
+
+/// The table that is named first, and what is behind it.
+pub fn table_of(step: Step<'_>) -> Result<(Table, Step<'_>), Trouble> {
+    let (name, rest) = parted(step.rest, ' ');
+    match Table::from_name(name) {
+        Some(table) => Ok((table, Step { rest, ..step })),
+        None => Err(Trouble::Unknown),
+    }
+}
+
+fn put<T: Told, W: Writes>(alloc: Global, writes: &mut W, values: &str) -> Result<(), Trouble> {
+    let row = row_of::<T>(alloc, values)?;
+    Ok(writes.put_row::<T>(alloc, &row)?)
+}
+
+fn put_member<T: Told, W: Writes>(
+    alloc: Global,
+    writes: &mut W,
+    words: &str,
+) -> Result<(), Trouble> {
+    let values = member_values(alloc, words)?;
+    put::<T, W>(alloc, writes, values.as_str())
+}
+
+fn remove<T: Told, W: Writes>(alloc: Global, writes: &mut W, words: &str) -> Result<(), Trouble> {
+    let key = T::key_of(alloc, words)?;
+    Ok(writes.remove_row::<T>(alloc, &key)?)
+}
+
+fn edit_rows<T: Told, W: Writes>(
+    alloc: Global,
+    writes: &mut W,
+    step: Step<'_>,
+) -> Result<(), Trouble> {
+    match step.verb {
+        "put" => put::<T, W>(alloc, writes, step.rest),
+        "row" => put_member::<T, W>(alloc, writes, step.rest),
+        "remove" => remove::<T, W>(alloc, writes, step.rest),
+        _ => Err(Trouble::Unknown),
+    }
+}
+
+/// A step that writes a row of a table.
+pub fn edit_table<W: Writes>(alloc: Global, writes: &mut W, step: Step<'_>) -> Result<(), Trouble> {
+    let (table, step) = table_of(step)?;
+    match table {
+        Table::Meta => edit_rows::<Meta, W>(alloc, writes, step),
+        Table::Command => edit_rows::<Command, W>(alloc, writes, step),
+        Table::Member => edit_rows::<Member, W>(alloc, writes, step),
+        Table::Change => edit_rows::<Change, W>(alloc, writes, step),
+        Table::Product => edit_rows::<Product, W>(alloc, writes, step),
+        Table::Store => edit_rows::<Store, W>(alloc, writes, step),
+        Table::Customer => edit_rows::<Customer, W>(alloc, writes, step),
+        Table::Profile => edit_rows::<Profile, W>(alloc, writes, step),
+        Table::Calendar => edit_rows::<Calendar, W>(alloc, writes, step),
+        Table::Fact => edit_rows::<Fact, W>(alloc, writes, step),
+    }
+}
+
+/// `TICKET LINE STORE PRODUCT CUSTOMER PROFILE`: gives a fact these keys.
+pub fn rekey<W: Writes>(alloc: Global, writes: &mut W, words: &str) -> Result<(), Trouble> {
+    let (ticket, words) = parted(words, ' ');
+    let (line, words) = parted(words, ' ');
+    let line = LineKey {
+        ticket: Value::new(alloc, ticket)?,
+        line: line_number(line)?,
+    };
+    let keys = fact_keys(words)?;
+    Ok(writes.rekey_fact(alloc, &line, &keys)?)
+}
+
+fn fact_keys(words: &str) -> Result<FactKeys, Trouble> {
+    let (store, words) = parted(words, ' ');
+    let (product, words) = parted(words, ' ');
+    let (customer, profile) = parted(words, ' ');
+    Ok(FactKeys {
+        store_key: number(store)?,
+        product_key: number(product)?,
+        customer_key: number(customer)?,
+        profile: number(profile)?,
+    })
+}

@@ -1,0 +1,74 @@
+//! Steps on the tables of a warehouse.
+
+use crate::questions::answer;
+use crate::rows::on_table;
+use crate::trouble::Trouble;
+use crate::words::{Step, push_counts};
+use crate::writing::write;
+use sqlite::Alter;
+use std::alloc::Global;
+use wh_store::{Limits, Table, Tables};
+
+/// A step on the tables of a warehouse.
+pub fn on_tables<S: Alter>(
+    alloc: Global,
+    tables: &mut Tables<S>,
+    step: Step<'_>,
+    out: &mut String,
+) -> Result<(), Trouble> {
+    match step.verb {
+        "write" => write(alloc, tables, step.body, out),
+        "limits" => limits(alloc, tables, out),
+        "show" => show(alloc, tables, out),
+        _ => answer(alloc, tables, step, out),
+    }
+}
+
+/// The most commands, changes and facts.
+fn limits<S: Alter>(
+    alloc: Global,
+    tables: &mut Tables<S>,
+    out: &mut String,
+) -> Result<(), Trouble> {
+    let limits = tables.limits(alloc)?;
+    push_limits(out, limits)
+}
+
+pub fn push_limits(out: &mut String, limits: Limits) -> Result<(), Trouble> {
+    let counts = [limits.commands(), limits.changes(), limits.facts()];
+    out.push_str("= limits ")?;
+    push_counts(out, &counts)?;
+    out.push_str("\n")?;
+    Ok(())
+}
+
+const ALL: [Table; 10] = [
+    Table::Meta,
+    Table::Command,
+    Table::Member,
+    Table::Change,
+    Table::Product,
+    Table::Store,
+    Table::Customer,
+    Table::Profile,
+    Table::Calendar,
+    Table::Fact,
+];
+
+/// The limits, and each row of each table.
+pub fn show<S: Alter>(
+    alloc: Global,
+    tables: &mut Tables<S>,
+    out: &mut String,
+) -> Result<(), Trouble> {
+    limits(alloc, tables, out)?;
+    let step = Step {
+        verb: "all",
+        rest: "",
+        body: "",
+    };
+    for table in ALL {
+        on_table(alloc, tables, table, step, out)?;
+    }
+    Ok(())
+}
