@@ -23,6 +23,3 @@ pub use reader::read;
 pub use records::{DimensionRecords, Records};
 pub use sale::sale_records;
 pub use sales::SaleRecords;
-
-#[cfg(test)]
-mod tests;

@@ -17,6 +17,3 @@ pub use holiday::{Holiday, Holidays};
 pub use natural_key::NaturalKey;
 pub use value::Value;
 pub use values::Values;
-
-#[cfg(test)]
-mod tests;

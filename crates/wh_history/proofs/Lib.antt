@@ -26,3 +26,4 @@ pub mod Owners
 pub mod Batches
 pub mod Mixtures
 pub mod Trials
+pub mod DatedLists

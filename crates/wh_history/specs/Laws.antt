@@ -1,8 +1,9 @@
 -- What holds of the rows of every member.
-use Rattle.std.specs.Prelude.{◌≡◌, ℕ, List, count_by, Bool, true, false, Some, bytes_eq}
+use Rattle.std.specs.Prelude.{◌≡◌, ◌<◌, ◌≤◌, ◌==◌, ⊤, ℕ, List, [], ◌∷◌, count_by, find, reverse, Bool, true, false, Some, None, bytes_eq}
 use Rattle.std.specs.List.{list_any, AllByRecursion}
 use Rattle.wh_day.specs.Day.{is_day}
 use Rattle.wh_policy.specs.declared.attribute.Dim.{Dim}
+use Rattle.wh_history.specs.Dated.{dated, at}
 use Rattle.wh_history.specs.Rows.{holds}
 use Rattle.wh_history.specs.Accepted.{Accepted, Content, Governs, Describes, Sells, anchors_by, described, mentions, same_anchor, opening_of}
 use Rattle.wh_history.specs.Tables.{dimension_row}
@@ -16,6 +17,35 @@ ChangesHaveDays changes = AllByRecursion (λ c. is_day c.day ≡ true) changes
 -- and so has each dimension record that was accepted
 abbrev pub RecordsHaveDays : List Accepted → Type 0
 RecordsHaveDays commands = (dim : Dim) → AllByRecursion (λ r. is_day r.day ≡ true) (described dim commands)
+
+-- the days rise from one change to the next, behind this day
+abbrev pub RisesFrom : ℕ → List Change → Type 0
+RisesFrom day [] = ⊤
+RisesFrom day (c ∷ cs) = (day < c.day) × RisesFrom c.day cs
+
+abbrev pub DaysRise : List Change → Type 0
+DaysRise [] = ⊤
+DaysRise (c ∷ cs) = RisesFrom c.day cs
+
+-- whether a change speaks of the day
+abbrev pub is_of : ℕ → Change → Bool
+is_of day c = c.day == day
+
+-- A dated list has of each day just the change that was accepted last, and its days rise.
+abbrev pub DatedListsAreExact : Type 0
+DatedListsAreExact = (changes : List Change) → ChangesHaveDays changes → DaysRise (dated changes) × ((day : ℕ) → find (is_of day) (dated changes) ≡ find (is_of day) (reverse changes))
+
+-- of these changes it is the one of the greatest day that is not after this one, or, where all are after it, that of the least
+pub record IsInForce (day : ℕ) (changes : List Change) (c : Change) : Type 0 where
+  pub there : find (is_of c.day) changes ≡ Some c
+  pub greatest : c.day ≤ day → AllByRecursion (λ e. e.day ≤ day → e.day ≤ c.day) changes
+  pub least : day < c.day → AllByRecursion (λ e. c.day ≤ e.day) changes
+
+-- What holds at a day is said by the change that is in force, and by none where nothing was accepted.
+abbrev pub ChangesInForce : Type 0
+ChangesInForce = (day : ℕ) (changes : List Change) → ChangesHaveDays changes
+    → ((c : Change) → at day (dated changes) ≡ Some c → IsInForce day (dated changes) c)
+    × (at day (dated changes) ≡ None → changes ≡ [])
 
 -- exactly one row holds each day from 1900-01-01 to 9999-12-31: no two overlap, and no day is left out
 abbrev pub EachDayHasOneRow : List DimRow → Type 0

@@ -1,6 +1,6 @@
 //! Laws that every member's rows keep. They speak of the definitions alone and do nothing.
 
-ghost use Rattle.std.specs.Prelude.{◌≡◌, ◌<◌, ◌≤◌, ◌++◌, ◌∷◌, [], ℕ, nat_lt, List, length, false, true, Some, find, slice_get};
+ghost use Rattle.std.specs.Prelude.{◌≡◌, ◌<◌, ◌≤◌, ◌++◌, ◌∷◌, [], ℕ, nat_lt, List, length, false, true, Option, Some, find, slice_get};
 ghost use Rattle.std.specs.List.{list_any, AllByRecursion};
 ghost use Rattle.wh_day.specs.Day.{is_day};
 ghost use Rattle.wh_policy.specs.Types.{is_outrigger, is_tracked};
@@ -10,12 +10,14 @@ ghost use Rattle.wh_policy.specs.declared.record.DimensionRecord.{DimensionRecor
 ghost use Rattle.wh_history.specs.Keys.{at_place};
 ghost use Rattle.wh_history.specs.Dated.{at, dated, value_at};
 ghost use Rattle.wh_history.specs.Facts.{key_in};
-ghost use Rattle.wh_history.specs.Rows.{rows, holds};
+ghost use Rattle.wh_history.specs.Rows.{rows, rows_by, holds};
+ghost use Rattle.wh_history.specs.Profiles.{profile_number};
+ghost use Rattle.wh_history.specs.Known.{number_in, all_numbered, KnowsMember};
 ghost use Rattle.wh_history.specs.Plan.{row_of};
 ghost use Rattle.wh_history.specs.Accepted.{Accepted, Anchor, durable_key, surrogate_key, anchors, members, member_of, types_in};
 ghost use Rattle.wh_history.specs.Tables.{key_at, member_rows, numbered_row};
 ghost use Rattle.wh_history.specs.Touched.{touched, untouched, touched_by, with_batch};
-ghost use Rattle.wh_history.specs.Laws.{ChangesHaveDays, RecordsHaveDays, EachDayHasOneRow, OneRowIsCurrent, mentions_member, IsMember, IsEffective, governs};
+ghost use Rattle.wh_history.specs.Laws.{ChangesHaveDays, DatedListsAreExact, ChangesInForce, RecordsHaveDays, EachDayHasOneRow, OneRowIsCurrent, mentions_member, IsMember, IsEffective, governs};
 ghost use Rattle.wh_history.specs.declared.member.Change.{Change};
 ghost use Rattle.wh_history.specs.declared.member.Member.{Member};
 ghost use Rattle.wh_history.specs.declared.rows.DimRow.{DimRow};
@@ -25,6 +27,19 @@ ghost use Rattle.wh_history.specs.declared.rows.DimRow.{DimRow};
 pub fn one_row_a_day()
     ensures days { (kinds : List AttributeType) (combinations : List (List (List ℕ))) (m : Member) → ChangesHaveDays m.changes → EachDayHasOneRow (rows kinds combinations m) }
     ensures current { (kinds : List AttributeType) (combinations : List (List (List ℕ))) (m : Member) → ChangesHaveDays m.changes → OneRowIsCurrent (rows kinds combinations m) }
+{}
+
+/// What is known of a member by days: of each day the record that was accepted last, and at a day the one that is in force.
+pub fn changes_by_day()
+    ensures dated { DatedListsAreExact }
+    ensures in_force { ChangesInForce }
+{}
+
+/// The number of a combination of profile values is its place among the distinct ones, the first being 2, and what is known of
+/// all of them says just this. A member's rows are those of the definition where the numbers of its own combinations are known.
+pub fn numbers_of_profiles()
+    ensures all { (combinations : List (List (List ℕ))) (texts : List (List ℕ)) → number_in (all_numbered combinations) texts ≡ profile_number combinations texts }
+    ensures rows { (kinds : List AttributeType) (number : List (List ℕ) → Option ℕ) (combinations : List (List (List ℕ))) (m : Member) → KnowsMember kinds number combinations m → rows_by kinds number m ≡ rows kinds combinations m }
 {}
 
 /// A number that was given to a member or an anchor stays, whatever is accepted after; numbers that are

@@ -22,6 +22,3 @@ pub use rendering::{render, render_types};
 pub use rows::{DimRow, row_at};
 pub use touched::{Stored, Touched, anchor_of_day, number_or_next, padded, touch_all};
 pub use trial::{no_card_row, trial_table};
-
-#[cfg(test)]
-mod tests;

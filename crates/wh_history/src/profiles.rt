@@ -1,6 +1,6 @@
 //! The profile mini-dimension: combinations of the values of types 4 and 5, and their numbers.
 
-ghost use Rattle.std.specs.Prelude.{◌≡◌, ◌++◌, ◌∷◌, [], ℕ, List, IfOk, OnOk, find, cond, unwrap_or};
+ghost use Rattle.std.specs.Prelude.{◌≡◌, ◌++◌, ◌∷◌, [], ℕ, List, IfOk, OnOk, OnErr, find, cond, unwrap_or};
 ghost use Rattle.std.specs.List.{list_any};
 ghost use Rattle.std.specs.Option.{option_copied};
 ghost use Rattle.wh_policy.specs.Types.{is_profile, is_outrigger};
@@ -90,7 +90,8 @@ impl Profiles {
 
     /// Adds a combination with its number.
     pub fn add(&mut self, texts: Values, number: u64) -> Result<(), AllocError>
-        ensures { OnOk result (self.new ≡ self.old ++ record { texts = texts; number = number } ∷ []) }
+        ensures ok { OnOk result (self.new ≡ self.old ++ record { texts = texts; number = number } ∷ []) }
+        ensures err { OnErr result (self.new ≡ self.old) }
     {
         self.known.push(Numbered { texts, number })?;
         Ok(())
@@ -98,8 +99,9 @@ impl Profiles {
 
     /// Where all combinations so far are known, adds one with the next number, unless it is there. The first has 2.
     pub fn add_next(&mut self, texts: Values) -> Result<(), AllocError>
-        ensures { OnOk result ((combinations : List (List (List ℕ))) → self.old ≡ all_numbered combinations
+        ensures ok { OnOk result ((combinations : List (List (List ℕ))) → self.old ≡ all_numbered combinations
             → self.new ≡ all_numbered (cond (list_any (λ c. texts_eq c texts) combinations) combinations (combinations ++ texts ∷ []))) }
+        ensures err { OnErr result (self.new ≡ self.old) }
     {
         match self.number(texts.as_slice()) {
             Some(_) => Ok(()),

@@ -17,6 +17,3 @@ pub use attribute::{Attribute, AttributeType, Attributes, Dim};
 pub use fault::PolicyFault;
 pub use policy::{Policy, Years};
 pub use record::{DimensionRecord, SaleRecord};
-
-#[cfg(test)]
-mod tests;

@@ -13,4 +13,4 @@ loop-told-preserved c =
     let done = take c.loop-told.told-index records in
     let r = c.told-item.result in
     let more : take (c.loop-told.told-index + 1) records ≡ done ++ r ∷ [] = take_more records c.loop-told.told-index r c.loop-told-test.true ∙ ap (λ (q : DimensionRecord). done ++ q ∷ []) (sym c.told-item.is) in
-    c.in_ok-add_next.ensures (combinations_of types done) c.loop-told.invariant ∙ rw (c.in_ok-profile_texts.ensures, c.as_slice.ensures) (sym (ap (λ rs. all_numbered (combinations_of types rs)) more ∙ ap all_numbered (combinations_more types done r)))
+    c.in_ok-add_next.ensures.ok (combinations_of types done) c.loop-told.invariant ∙ rw (c.in_ok-profile_texts.ensures, c.as_slice.ensures) (sym (ap (λ rs. all_numbered (combinations_of types rs)) more ∙ ap all_numbered (combinations_more types done r)))

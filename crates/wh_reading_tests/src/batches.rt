@@ -1,0 +1,271 @@
+//! Batches under the policy of a trial: the records that are read of them, or their fault.
+//!
+//! KIND is `product`, `store`, `customer` or `sales`. In BYTES `\n`, `\r` and `\x` with two hexadecimal digits are bytes that
+//! a line can't have. A batch's answer is its records, one a line, or the number and the fault. The verbs:
+//!
+//! - `batch KIND BYTES`: the answer to a batch of these bytes.
+//! - `rows KIND BYTES`: to one of the kind's header, the end of that line and these bytes.
+//! - `either KIND BYTES`: to the same, read as a batch of either kind; of its records the number alone.
+//! - `cuts BYTES`: to each beginning of a batch of customers. An answer is told once, behind the length from which it holds.
+//! - `many KIND NUMBER TEXT`: to a batch of so many records and this text; of its records the number alone.
+//! - `long KIND LENGTH BYTES`: the answer to these bytes with line ends behind them, in all so many bytes.
+//! - `made KIND`: a record that is made by hand.
+
+mod dimensions;
+mod sales;
+
+use crate::scene::{Scene, assert_plays};
+use crate::words::{bytes, dim, number, parted, push_next, push_number, push_values};
+use std::alloc::{AllocError, Global};
+use std::fmt::Write;
+use std::test::Fail;
+use wh_batch::{
+    BatchFault, DimensionRecords, Format, Kind, Records, SaleRecords, dimension_records, read,
+    sale_records,
+};
+use wh_day::{Day, NaturalKey, ReadError, Values};
+use wh_policy::{DimensionRecord, Policy, SaleRecord};
+
+#[derive(Drop)]
+struct BatchScene;
+
+#[test]
+fn batches_for_dimensions(rt: HostRuntime) -> Result<(), Fail> {
+    Ok(assert_plays(&rt, rt.alloc(), &mut BatchScene, dimensions::SCENARIO)?)
+}
+
+#[test]
+fn batches_of_sales(rt: HostRuntime) -> Result<(), Fail> {
+    Ok(assert_plays(&rt, rt.alloc(), &mut BatchScene, sales::SCENARIO)?)
+}
+
+impl Scene for BatchScene {
+    fn step(
+        &mut self,
+        alloc: Global,
+        verb: &str,
+        rest: &str,
+        answer: &mut String,
+    ) -> Result<(), AllocError> {
+        let (word, text) = parted(rest);
+        match verb {
+            "batch" => push_batch(alloc, answer, word, &bytes(alloc, text)?),
+            "rows" => push_batch(alloc, answer, word, &with_header(alloc, word, text)?),
+            "either" => push_either(alloc, answer, word, &with_header(alloc, word, text)?),
+            "cuts" => push_cuts(alloc, answer, &bytes(alloc, rest)?),
+            "many" => push_many(alloc, answer, word, text),
+            "long" => push_long(alloc, answer, word, text),
+            "made" => push_made(alloc, answer, word),
+            _ => answer.push_str("no such step"),
+        }
+    }
+}
+
+/// The kind that a word names.
+fn kind(word: &str) -> Kind {
+    match word {
+        "sales" => Kind::Sales,
+        _ => Kind::Dimension(dim(word)),
+    }
+}
+
+fn header(word: &str) -> &'static str {
+    match word {
+        "product" => "id,day,description,brand\n",
+        "store" => "id,day,city\n",
+        "customer" => "id,day,tier\n",
+        _ => "ticket,line,day,store,product,customer,quantity,amount,cost\n",
+    }
+}
+
+/// The header of a kind and the bytes that a text writes.
+fn with_header(alloc: Global, word: &str, text: &str) -> Result<Vec<u8>, AllocError> {
+    let mut found = Vec::from_slice(alloc, header(word).as_bytes())?;
+    found.extend_from_slice(&bytes(alloc, text)?)?;
+    Ok(found)
+}
+
+fn push_fault(answer: &mut String, e: ReadError<BatchFault>) -> Result<(), AllocError> {
+    match e {
+        ReadError::Memory => Err(AllocError),
+        ReadError::Fault(fault) => {
+            push_number(answer, fault.number as i128)?;
+            write!(answer, " {:?}", fault.kind)
+        }
+    }
+}
+
+fn push_batch(
+    alloc: Global,
+    answer: &mut String,
+    word: &str,
+    text: &[u8],
+) -> Result<(), AllocError> {
+    let policy = Policy::trial(alloc)?;
+    match kind(word) {
+        Kind::Dimension(dim) => {
+            match dimension_records(alloc, dim, &policy, Format::One, text) {
+                Ok(records) => push_members(answer, &records),
+                Err(e) => push_fault(answer, e),
+            }
+        }
+        Kind::Sales => match sale_records(alloc, &policy, Format::One, text) {
+            Ok(records) => push_sales(answer, &records),
+            Err(e) => push_fault(answer, e),
+        },
+    }
+}
+
+fn push_either(
+    alloc: Global,
+    answer: &mut String,
+    word: &str,
+    text: &[u8],
+) -> Result<(), AllocError> {
+    let policy = Policy::trial(alloc)?;
+    match read(alloc, kind(word), &policy, Format::One, text) {
+        Ok(Records::Dimension(records)) => {
+            push_count(answer, "of a dimension", records.as_slice().len())
+        }
+        Ok(Records::Sales(records)) => push_count(answer, "of sales", records.as_slice().len()),
+        Err(e) => push_fault(answer, e),
+    }
+}
+
+fn push_count(answer: &mut String, what: &str, count: usize) -> Result<(), AllocError> {
+    answer.push_str(what)?;
+    push_next(answer, count as i128)
+}
+
+fn push_members(answer: &mut String, records: &DimensionRecords) -> Result<(), AllocError> {
+    if records.as_slice().is_empty() {
+        return answer.push_str("no record");
+    }
+    for told in records.as_slice() {
+        push_member(answer, told)?;
+    }
+    Ok(())
+}
+
+fn push_member(answer: &mut String, told: &DimensionRecord) -> Result<(), AllocError> {
+    answer.push_str(told.natural.as_str())?;
+    push_next(answer, told.day.key() as i128)?;
+    answer.push_str("|")?;
+    push_values(answer, &told.values)?;
+    answer.push_str("\n")
+}
+
+fn push_sales(answer: &mut String, records: &SaleRecords) -> Result<(), AllocError> {
+    if records.as_slice().is_empty() {
+        return answer.push_str("no record");
+    }
+    for sale in records.as_slice() {
+        push_sale(answer, sale)?;
+    }
+    Ok(())
+}
+
+fn push_sale(answer: &mut String, sale: &SaleRecord) -> Result<(), AllocError> {
+    answer.push_str(sale.ticket.as_str())?;
+    push_next(answer, sale.line as i128)?;
+    push_next(answer, sale.day.key() as i128)?;
+    push_key(answer, &sale.store)?;
+    push_key(answer, &sale.product)?;
+    match &sale.customer {
+        Some(customer) => push_key(answer, customer)?,
+        None => answer.push_str(" -")?,
+    }
+    push_next(answer, sale.quantity as i128)?;
+    push_next(answer, sale.amount as i128)?;
+    push_next(answer, sale.cost as i128)?;
+    answer.push_str("\n")
+}
+
+fn push_key(answer: &mut String, key: &NaturalKey) -> Result<(), AllocError> {
+    answer.push_str(" ")?;
+    answer.push_str(key.as_str())
+}
+
+fn push_cuts(alloc: Global, answer: &mut String, text: &[u8]) -> Result<(), AllocError> {
+    let mut before = String::new(alloc);
+    for end in 0..text.len() + 1 {
+        let mut found = String::new(alloc);
+        push_batch(alloc, &mut found, "customer", &text[..end])?;
+        if found.as_str() != before.as_str() {
+            push_number(answer, end as i128)?;
+            answer.push_str(": ")?;
+            answer.push_str(found.as_str().trim())?;
+            answer.push_str("\n")?;
+        }
+        before = found;
+    }
+    Ok(())
+}
+
+/// A row of its own for each number.
+fn push_row(text: &mut String, word: &str, number: u64) -> Result<(), AllocError> {
+    match word {
+        "sales" => write!(text, "T{number},1,2024-01-05,S1,P1,,1,1,1\n"),
+        _ => write!(text, "C{number},2024-07-01,Gold\n"),
+    }
+}
+
+fn push_many(alloc: Global, answer: &mut String, word: &str, rest: &str) -> Result<(), AllocError> {
+    let (count, behind) = parted(rest);
+    let mut text = String::from_str(alloc, header(word))?;
+    for at in 0..number(count) {
+        push_row(&mut text, word, at)?;
+    }
+    text.push_str(behind)?;
+    push_either(alloc, answer, word, text.as_str().as_bytes())
+}
+
+fn push_long(alloc: Global, answer: &mut String, word: &str, rest: &str) -> Result<(), AllocError> {
+    let (length, text) = parted(rest);
+    let mut text = bytes(alloc, text)?;
+    for _ in text.len() as u64..number(length) {
+        text.push(b'\n')?;
+    }
+    push_batch(alloc, answer, word, &text)
+}
+
+fn key(text: &str) -> Option<NaturalKey> {
+    NaturalKey::read(32, text.as_bytes())
+}
+
+fn push_made(alloc: Global, answer: &mut String, word: &str) -> Result<(), AllocError> {
+    match kind(word) {
+        Kind::Dimension(_) => {
+            let mut records = DimensionRecords::new(alloc);
+            if let Some(natural) = key("C9") {
+                let day = Day::first();
+                let values = Values::new(alloc);
+                records.push(DimensionRecord {
+                    natural,
+                    day,
+                    values,
+                })?;
+            }
+            push_members(answer, &records)
+        }
+        Kind::Sales => push_made_sale(alloc, answer),
+    }
+}
+
+fn push_made_sale(alloc: Global, answer: &mut String) -> Result<(), AllocError> {
+    let mut records = SaleRecords::new(alloc);
+    if let (Some(ticket), Some(store), Some(product)) = (key("T1"), key("S1"), key("P1")) {
+        records.push(SaleRecord {
+            ticket,
+            line: 1,
+            day: Day::last(),
+            store,
+            product,
+            customer: None,
+            quantity: -1,
+            amount: -250,
+            cost: -160,
+        })?;
+    }
+    push_sales(answer, &records)
+}
