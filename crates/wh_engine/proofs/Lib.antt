@@ -1,4 +1,3 @@
-pub mod Beside
 pub mod MadeCalendar
 pub mod MadeRows
 pub mod MadeTables

@@ -15,11 +15,11 @@ use Rattle.wh_engine.proofs.MadeRows.{first_may}
 use Rattle.wh_engine.proofs.MadeTables.{tables_are}
 
 pub record AreFirst (limits : Limits) (policy : Policy) (bytes : List ℕ) (of_command : CommandRow) (of_customer : DimRow) (of_profile : List ProfileRow) (of_calendar : List DateRow) : Type 0 where
-  pub may : IsGoodPolicy policy → MayBeFirst of_command of_customer of_profile of_calendar (made_with limits)
+  pub may : IsGoodPolicy policy → MayBeFirst of_command of_customer of_profile of_calendar
   pub are : AreOf limits (making_of policy bytes ∷ []) (with_first of_command of_customer of_profile of_calendar (made_with limits))
 
 pub are_first : (limits : Limits) (policy : Policy) (bytes : List ℕ) (command : CommandRow) (customer : DimRow) (profiles : List ProfileRow) (calendar : List DateRow)
     → command ≡ making_row bytes → customer ≡ no_card_row (types_of policy Customer) → profiles ≡ first_profiles (types_of policy Customer) → calendar ≡ calendar_rows policy
     → AreFirst limits policy bytes command customer profiles calendar
 are_first limits policy bytes command customer profiles calendar is_command is_customer is_profiles is_calendar =
-    rw (is_command, is_customer, is_profiles, is_calendar) (record { may = first_may limits policy bytes; are = tables_are limits policy bytes })
+    rw (is_command, is_customer, is_profiles, is_calendar) (record { may = first_may policy bytes; are = tables_are limits policy bytes })

@@ -1,7 +1,7 @@
 -- The rows of a making are valid.
 use Rattle.std.proofs.Common.{◌≡◌, inl, inr, ℕ, zero, suc, ◌+◌, ◌-◌, ◌<◌, ◌≤◌, Bool, true, false, leb, ltb, ◌&&◌, cond, List, [], ◌∷◌, length, replicate, Option, Some, None, refl, sym, ◌∙◌, ap, subst, arith, length-append, get_or, Ordering}
 use Rattle.std.specs.Prelude.{IsTrue, codes, filter_map, find, unwrap_or, option_map}
-use Rattle.std.specs.FinMap.{FinMap, empty, entries, len-entries, len-empty}
+use Rattle.std.specs.FinMap.{empty, entries, len-entries, len-empty}
 use Rattle.std.specs.List.{AllByRecursion, list_all, cons_option}
 use Rattle.std.specs.Str.{is_utf8, IsAscii}
 use Rattle.std.proofs.lemmas.Bool.{and_parts, ltb-true, cases_Bool}
@@ -22,25 +22,14 @@ use Rattle.wh_policy.specs.declared.attribute.AttributeType.TheVariants.{RetainO
 use Rattle.wh_policy.specs.declared.attribute.Dim.TheVariants.{Customer}
 use Rattle.wh_policy.specs.declared.policy.Policy.{Policy}
 use Rattle.wh_history.specs.Slots.{columns_from, six}
-use Rattle.wh_history.specs.Tables.{Limits, no_card_main, no_card_second, no_card_row}
+use Rattle.wh_history.specs.Tables.{no_card_main, no_card_second, no_card_row}
 use Rattle.wh_history.proofs.Basics.{some_is}
-use Rattle.wh_rows.specs.Holds.{Layout}
-use Rattle.wh_rows.specs.Meaning.{any}
 use Rattle.wh_rows.specs.Rows as row
-use Rattle.wh_rows.specs.declared.rows.CommandRow.{CommandRow}
 use Rattle.wh_rows.specs.Types.{is_special, is_slot, are_slots}
-use Rattle.wh_sql.specs.Fits.{MayBePut}
-use Rattle.wh_store.specs.Edits.{with_row, MayAll}
-use Rattle.wh_store.specs.Meta.{made_with}
 use Rattle.wh_plan.specs.Defined.{day_at}
 use Rattle.wh_plan.specs.Made.{IsGoodPolicy, making_row, first_profiles, calendar_rows, MayBeFirst}
 
 -- ---- any rows
-
--- valid rows may be put into a table where any rows may stand beside one another
-pub may_all : {K V : Type 0} (layout : Layout K V) (rows : List V) (m : FinMap layout.order V) → AllByRecursion (λ v. IsTrue (layout.is_valid v)) rows → MayAll (with_row layout) (MayBePut layout any) rows m
-may_all layout [] m valid = tt
-may_all layout (v ∷ vs) m valid = (record { valid = valid.0; stands = λ other has. tt }, may_all layout vs (with_row layout v m) valid.1)
 
 all_found : {A B : Type 0} (P : B → Type 0) (f : A → Option B) → ((a : A) (b : B) → f a ≡ Some b → P b) → (xs : List A) → AllByRecursion P (filter_map f xs)
 all_found P f each [] = tt
@@ -191,11 +180,11 @@ calendar_valid policy names = all_found (λ v. IsTrue (row.calendar.is_valid v))
 
 -- ---- all of them
 
-pub first_may : (limits : Limits) (policy : Policy) (bytes : List ℕ) → IsGoodPolicy policy
-    → MayBeFirst (making_row bytes) (no_card_row (types_of policy Customer)) (first_profiles (types_of policy Customer)) (calendar_rows policy) (made_with limits)
-first_may limits policy bytes good = record {
-  command = record { valid = refl; stands = λ other has. absurd (rw (no_entries ℕ CommandRow row.command.order) at has) };
-  customer = record { valid = no_card_valid (types_of policy Customer) (good.six Customer); stands = λ other has. tt };
-  profiles = may_all row.profile (first_profiles (types_of policy Customer)) empty (profiles_valid (types_of policy Customer) (good.six Customer));
-  calendar = may_all row.calendar (calendar_rows policy) empty (calendar_valid policy good.names);
+pub first_may : (policy : Policy) (bytes : List ℕ) → IsGoodPolicy policy
+    → MayBeFirst (making_row bytes) (no_card_row (types_of policy Customer)) (first_profiles (types_of policy Customer)) (calendar_rows policy)
+first_may policy bytes good = record {
+  command = refl;
+  customer = no_card_valid (types_of policy Customer) (good.six Customer);
+  profiles = profiles_valid (types_of policy Customer) (good.six Customer);
+  calendar = calendar_valid policy good.names;
 }

@@ -92,7 +92,7 @@ module _ (limits : Limits) (commands : List Accepted) (c : Command) (session : S
     is_batch : governs added.content ≡ false
     is_batch = (content_good limits commands c ready.accepted batch.content batch.read).batch
 
-    pub may_write : MayBeWritten edits tables
+    pub may_write : MayBeWritten edits
     may_write = a_batch_may_be_written limits commands added tables edits is_batch accepted ready.rests.are batch.edits_are
 
     written : AreOf limits (commands ++ added ∷ []) (with_all_edits edits tables)

@@ -12,6 +12,7 @@ use Rattle.wh_plan.specs.Defined.{AreOf}
 use Rattle.wh_plan.specs.Sound.{changes_kept, IsAccepted}
 use Rattle.wh_engine.specs.declared.command.Command.{Command}
 use Rattle.wh_engine.specs.declared.command.Reply.{Reply}
+use Rattle.wh_engine.specs.declared.command.Reply.TheVariants as replies
 use Rattle.wh_engine.specs.declared.counts.Counts.{Counts}
 use Rattle.wh_engine.specs.declared.session.Session.{Session}
 use Rattle.wh_engine.specs.declared.fault.Fault.{Fault}
@@ -60,6 +61,13 @@ IsPerformed limits commands c (Err (Refused why)) session s = (answer limits com
 IsPerformed limits commands c (Err Memory) session s = IsReady limits commands session s
 IsPerformed limits commands c (Err (Store cause)) session s = LeavesOneOf limits commands (accepted_after limits commands c) s
 IsPerformed limits commands c (Err fault) session s = ⊥
+
+-- an answer that leaves any tables as they were: nothing was accepted, and the store refused no call
+abbrev pub KeepsNothing : Result Reply Fault → Type 0
+KeepsNothing (Ok (replies.Accepted receipt)) = ⊥
+KeepsNothing (Ok (replies.Already receipt)) = Unit {0}
+KeepsNothing (Err (Store cause)) = ⊥
+KeepsNothing (Err fault) = Unit {0}
 
 -- how much the tables of these commands hold
 abbrev pub counts_of : List Accepted → Counts

@@ -4,3 +4,4 @@ pub mod Decided
 pub mod Answered
 pub mod Opened
 pub mod Redelivered
+pub mod Serving

@@ -1,6 +1,6 @@
 //! How much a warehouse holds.
 
-ghost use Rattle.std.specs.Prelude.{◌≡◌, List, length, Some, Ok, Err, IsTrue};
+ghost use Rattle.std.specs.Prelude.{◌≡◌, List, length, false, Some, Ok, Err, IsTrue};
 ghost use Rattle.sqlite.specs.Held.{state};
 ghost use Rattle.sqlite.specs.State.{HasCleanDisk};
 ghost use Rattle.wh_history.specs.Accepted.{Accepted, members};
@@ -9,7 +9,7 @@ ghost use Rattle.wh_rows.specs.AtRest.{IsAtRest, Leaves};
 ghost use Rattle.wh_rows.specs.Tables.{Tables as Rows};
 ghost use Rattle.wh_engine.specs.Answered.{IsReady, IsCounted, counts_of};
 ghost use Rattle.wh_plan.specs.Defined.{AreOf};
-ghost use Rattle.wh_engine.specs.Faults.{IsServed, IsWorkedOut, Judges};
+ghost use Rattle.wh_engine.specs.Faults.{IsServed, IsWorkedOut, Judges, stops};
 ghost use Rattle.wh_plan.specs.Sound.{IsAccepted};
 
 use crate::engine::Engine;
@@ -84,8 +84,10 @@ impl<S: Alter> Engine<S> {
         ensures clean { HasCleanDisk (state S.Store self.new.tables.conn) → HasCleanDisk (state S.Store self.old.tables.conn) }
         ensures counted { HasCleanDisk (state S.Store self.new.tables.conn) → (limits : Limits) (commands : List Accepted) → IsReady limits commands self.old.session (state S.Store self.old.tables.conn)
             → IsCounted limits commands result self.new.session (state S.Store self.new.tables.conn) }
+        ensures untouched { HasCleanDisk (state S.Store self.new.tables.conn) → (t : Rows) → IsAtRest (Some t) (state S.Store self.old.tables.conn) → IsServed result → IsAtRest (Some t) (state S.Store self.new.tables.conn) }
         ensures reopen { IsTrue self.old.session.must_reopen → (result ≡ Err Fault.Reopen) × (self.new ≡ self.old) }
         ensures only { result ≡ Err Fault.Reopen → IsTrue self.old.session.must_reopen }
+        ensures noted { self.old.session.must_reopen ≡ false → self.new.session ≡ record (self.old.session) { must_reopen = stops result } }
     {
         if self.session.must_reopen {
             return Err(Fault::Reopen);

@@ -1,21 +1,17 @@
 //! What is to be done about a command: the reads, and nothing written.
 
 ghost use Rattle.std.specs.Prelude.{◌≡◌, ◌++◌, ◌∷◌, [], suc, true, List, length, None, Some, Ok, IfOk};
-ghost use Rattle.sqlite.specs.Held.{state};
-ghost use Rattle.sqlite.specs.State.{HasCleanDisk};
 ghost use Rattle.wh_batch.specs.declared.kind.Kind.TheVariants.{Dimension, Sales};
 ghost use Rattle.wh_policy.specs.Written.{IsSound};
 ghost use Rattle.wh_history.specs.Accepted.{Accepted, Sells, placeholders_by, policy_after, sold};
-ghost use Rattle.wh_history.specs.Tables.{Limits};
-ghost use Rattle.wh_rows.specs.AtRest.{IsAtRest, Leaves};
-ghost use Rattle.wh_rows.specs.Tables.{Tables as Rows};
 ghost use Rattle.wh_rows.specs.Types.{is_key};
 ghost use Rattle.wh_engine.specs.Admission.{answer, content_of, first_line_there, in_force};
-ghost use Rattle.wh_engine.specs.Decided.{records_told, sales_told, row_of_batch, IsHeld, IsNew, reply_to_known, Decides};
-ghost use Rattle.wh_plan.specs.Defined.{AreOf, command_at};
+ghost use Rattle.wh_engine.specs.Decided.{records_told, sales_told, row_of_batch, IsNew, reply_to_known, Decides};
+ghost use Rattle.wh_plan.specs.Defined.{command_at};
 ghost use Rattle.wh_engine.specs.Faults.{IsServed, IsWorkedOut, Judges};
+ghost use Rattle.wh_engine.specs.Serving.{Spares, Works};
 ghost use Rattle.wh_plan.specs.Planned.{AreEdits};
-ghost use Rattle.wh_plan.specs.Reads.{IsCalm, FindsNoDamage};
+ghost use Rattle.wh_plan.specs.Reads.{ReadsOnly, Finds};
 ghost use Rattle.wh_plan.specs.Sound.{IsAccepted};
 
 use crate::admission::{kind_word, number_for_records, number_for_sales, receipt_of_known};
@@ -98,12 +94,10 @@ fn decide_records<S: Alter>(
     dim: Dim,
     command: &Command,
 ) -> Result<Decision, Fault>
-    ensures clean { HasCleanDisk (state S.Store tables.new.conn) → HasCleanDisk (state S.Store tables.old.conn) }
-    ensures decided { HasCleanDisk (state S.Store tables.new.conn) → (commands : List Accepted) (t : Rows) → IsHeld session.now commands t → command.now.kind ≡ Dimension dim → is_key 40 command.now.id ≡ true → IsNew commands command.now
-        → IsAtRest (Some t) (state S.Store tables.old.conn) → Judges (Decides commands command.now) result (answer session.now.limits commands command.now) }
+    ensures reads { Spares S.Store tables.old tables.new (IsServed result) }
+    ensures decided { Works S.Store tables.old tables.new session.now (λ commands. command.now.kind ≡ Dimension dim → is_key 40 command.now.id ≡ true
+        → IsNew commands command.now → Judges (Decides commands command.now) result (answer session.now.limits commands command.now)) }
     ensures work { IsWorkedOut result }
-    ensures same { HasCleanDisk (state S.Store tables.new.conn) → (t : Rows) → IsAtRest (Some t) (state S.Store tables.old.conn) → IsServed result → IsAtRest (Some t) (state S.Store tables.new.conn) }
-    ensures left { HasCleanDisk (state S.Store tables.new.conn) → (t : Rows) → IsAtRest (Some t) (state S.Store tables.old.conn) → Leaves (Some t) (state S.Store tables.new.conn) }
 {
     let records = records_of(alloc, &session.policy, dim, command.bytes.as_slice())?;
     let count = records.as_slice().len() as u64;
@@ -129,15 +123,11 @@ fn accept_sales<S: Alter>(
     row: CommandRow,
     sales: &[SaleRecord],
 ) -> Result<Edits, ReadError<Refusal>>
-    ensures clean { HasCleanDisk (state S.Store tables.new.conn) → HasCleanDisk (state S.Store tables.old.conn) }
-    ensures edits { HasCleanDisk (state S.Store tables.new.conn) → (limits : Limits) (commands : List Accepted) (c : Accepted) (t : Rows) → AreOf limits commands t → IsAccepted limits (commands ++ c ∷ [])
-        → c.content ≡ Sells sales.now → policy_after None commands ≡ Some policy.now → IsSound policy.now
-        → first_line_there (sold commands) 1 sales.now ≡ None
+    ensures reads { ReadsOnly S.Store tables.old tables.new result }
+    ensures edits { Finds S.Store tables.old tables.new (λ limits commands. (c : Accepted) → IsAccepted limits (commands ++ c ∷ []) → c.content ≡ Sells sales.now
+        → policy_after None commands ≡ Some policy.now → IsSound policy.now → first_line_there (sold commands) 1 sales.now ≡ None
         → command_at (commands ++ c ∷ []) (suc (length commands)) ≡ Some (record row { placeholders = placeholders_by (commands ++ c ∷ []) (suc (length commands)) c.content })
-        → IsAtRest (Some t) (state S.Store tables.old.conn) → IfOk result (AreEdits commands c) }
-    ensures sound { HasCleanDisk (state S.Store tables.new.conn) → (t : Rows) → IsAtRest (Some t) (state S.Store tables.old.conn) → FindsNoDamage result }
-    ensures same { HasCleanDisk (state S.Store tables.new.conn) → (t : Rows) → IsAtRest (Some t) (state S.Store tables.old.conn) → IsCalm result → IsAtRest (Some t) (state S.Store tables.new.conn) }
-    ensures left { HasCleanDisk (state S.Store tables.new.conn) → (t : Rows) → IsAtRest (Some t) (state S.Store tables.old.conn) → Leaves (Some t) (state S.Store tables.new.conn) }
+        → IfOk result (AreEdits commands c)) }
 {
     let edits = plan_sales(tables, alloc, policy, row, sales)?;
     Ok(edits)
@@ -151,12 +141,11 @@ fn decide_sold<S: Alter>(
     command: &Command,
     sales: &[SaleRecord],
 ) -> Result<Decision, Fault>
-    ensures clean { HasCleanDisk (state S.Store tables.new.conn) → HasCleanDisk (state S.Store tables.old.conn) }
-    ensures decided { HasCleanDisk (state S.Store tables.new.conn) → (commands : List Accepted) (t : Rows) → IsHeld session.now commands t → is_key 40 command.now.id ≡ true → IsNew commands command.now
-        → content_of command.now.kind (in_force commands) command.now.bytes ≡ Ok (Sells sales.now) → IsAtRest (Some t) (state S.Store tables.old.conn) → Judges (Decides commands command.now) result (answer session.now.limits commands command.now) }
+    ensures reads { Spares S.Store tables.old tables.new (IsServed result) }
+    ensures decided { Works S.Store tables.old tables.new session.now (λ commands. is_key 40 command.now.id ≡ true → IsNew commands command.now
+        → content_of command.now.kind (in_force commands) command.now.bytes ≡ Ok (Sells sales.now)
+        → Judges (Decides commands command.now) result (answer session.now.limits commands command.now)) }
     ensures work { IsWorkedOut result }
-    ensures same { HasCleanDisk (state S.Store tables.new.conn) → (t : Rows) → IsAtRest (Some t) (state S.Store tables.old.conn) → IsServed result → IsAtRest (Some t) (state S.Store tables.new.conn) }
-    ensures left { HasCleanDisk (state S.Store tables.new.conn) → (t : Rows) → IsAtRest (Some t) (state S.Store tables.old.conn) → Leaves (Some t) (state S.Store tables.new.conn) }
 {
     let number = match number_for_sales(tables, alloc, session.limits, sales) {
         Ok(number) => number,
@@ -179,12 +168,10 @@ fn decide_sales<S: Alter>(
     session: &Session,
     command: &Command,
 ) -> Result<Decision, Fault>
-    ensures clean { HasCleanDisk (state S.Store tables.new.conn) → HasCleanDisk (state S.Store tables.old.conn) }
-    ensures decided { HasCleanDisk (state S.Store tables.new.conn) → (commands : List Accepted) (t : Rows) → IsHeld session.now commands t → command.now.kind ≡ Sales → is_key 40 command.now.id ≡ true → IsNew commands command.now
-        → IsAtRest (Some t) (state S.Store tables.old.conn) → Judges (Decides commands command.now) result (answer session.now.limits commands command.now) }
+    ensures reads { Spares S.Store tables.old tables.new (IsServed result) }
+    ensures decided { Works S.Store tables.old tables.new session.now (λ commands. command.now.kind ≡ Sales → is_key 40 command.now.id ≡ true → IsNew commands command.now
+        → Judges (Decides commands command.now) result (answer session.now.limits commands command.now)) }
     ensures work { IsWorkedOut result }
-    ensures same { HasCleanDisk (state S.Store tables.new.conn) → (t : Rows) → IsAtRest (Some t) (state S.Store tables.old.conn) → IsServed result → IsAtRest (Some t) (state S.Store tables.new.conn) }
-    ensures left { HasCleanDisk (state S.Store tables.new.conn) → (t : Rows) → IsAtRest (Some t) (state S.Store tables.old.conn) → Leaves (Some t) (state S.Store tables.new.conn) }
 {
     let sales = sales_of(alloc, &session.policy, command.bytes.as_slice())?;
     decide_sold(tables, alloc, session, command, sales.as_slice())
@@ -197,12 +184,10 @@ fn decide_new<S: Alter>(
     session: &Session,
     command: &Command,
 ) -> Result<Decision, Fault>
-    ensures clean { HasCleanDisk (state S.Store tables.new.conn) → HasCleanDisk (state S.Store tables.old.conn) }
-    ensures decided { HasCleanDisk (state S.Store tables.new.conn) → (commands : List Accepted) (t : Rows) → IsHeld session.now commands t → is_key 40 command.now.id ≡ true → IsNew commands command.now
-        → IsAtRest (Some t) (state S.Store tables.old.conn) → Judges (Decides commands command.now) result (answer session.now.limits commands command.now) }
+    ensures reads { Spares S.Store tables.old tables.new (IsServed result) }
+    ensures decided { Works S.Store tables.old tables.new session.now (λ commands. is_key 40 command.now.id ≡ true → IsNew commands command.now
+        → Judges (Decides commands command.now) result (answer session.now.limits commands command.now)) }
     ensures work { IsWorkedOut result }
-    ensures same { HasCleanDisk (state S.Store tables.new.conn) → (t : Rows) → IsAtRest (Some t) (state S.Store tables.old.conn) → IsServed result → IsAtRest (Some t) (state S.Store tables.new.conn) }
-    ensures left { HasCleanDisk (state S.Store tables.new.conn) → (t : Rows) → IsAtRest (Some t) (state S.Store tables.old.conn) → Leaves (Some t) (state S.Store tables.new.conn) }
 {
     match command.kind {
         Kind::Dimension(dim) => decide_records(tables, alloc, session, dim, command),
@@ -228,12 +213,9 @@ pub(crate) fn decide<S: Alter>(
     session: &Session,
     command: &Command,
 ) -> Result<Decision, Fault>
-    ensures clean { HasCleanDisk (state S.Store tables.new.conn) → HasCleanDisk (state S.Store tables.old.conn) }
-    ensures decided { HasCleanDisk (state S.Store tables.new.conn) → (commands : List Accepted) (t : Rows) → IsHeld session.now commands t → IsAtRest (Some t) (state S.Store tables.old.conn)
-        → Judges (Decides commands command.now) result (answer session.now.limits commands command.now) }
+    ensures reads { Spares S.Store tables.old tables.new (IsServed result) }
+    ensures decided { Works S.Store tables.old tables.new session.now (λ commands. Judges (Decides commands command.now) result (answer session.now.limits commands command.now)) }
     ensures work { IsWorkedOut result }
-    ensures same { HasCleanDisk (state S.Store tables.new.conn) → (t : Rows) → IsAtRest (Some t) (state S.Store tables.old.conn) → IsServed result → IsAtRest (Some t) (state S.Store tables.new.conn) }
-    ensures left { HasCleanDisk (state S.Store tables.new.conn) → (t : Rows) → IsAtRest (Some t) (state S.Store tables.old.conn) → Leaves (Some t) (state S.Store tables.new.conn) }
 {
     if !is_key(40, command.id.as_str()) {
         return Err(Fault::Refused(Refused::BadId));

@@ -1,12 +1,14 @@
 //! A warehouse that is open for commands.
 
-ghost use Rattle.std.specs.Prelude.{◌≡◌, List, Err, IsTrue};
+ghost use Rattle.std.specs.Prelude.{◌≡◌, List, false, Some, Err, IsTrue};
 ghost use Rattle.sqlite.specs.Held.{state};
 ghost use Rattle.sqlite.specs.State.{HasCleanDisk};
 ghost use Rattle.wh_history.specs.Accepted.{Accepted};
 ghost use Rattle.wh_history.specs.Tables.{Limits as Counts};
-ghost use Rattle.wh_engine.specs.Answered.{IsReady, IsAnswered, IsPerformed};
-ghost use Rattle.wh_engine.specs.Faults.{IsWorkedOut};
+ghost use Rattle.wh_rows.specs.AtRest.{IsAtRest};
+ghost use Rattle.wh_rows.specs.Tables.{Tables as Rows};
+ghost use Rattle.wh_engine.specs.Answered.{IsReady, IsAnswered, IsPerformed, KeepsNothing};
+ghost use Rattle.wh_engine.specs.Faults.{IsWorkedOut, stops};
 
 use crate::command::{Command, Reply};
 use crate::decision::{Decision, decide};
@@ -35,6 +37,7 @@ fn perform<S: Alter>(
     ensures clean { HasCleanDisk (state S.Store tables.new.conn) → HasCleanDisk (state S.Store tables.old.conn) }
     ensures performed { HasCleanDisk (state S.Store tables.new.conn) → (limits : Counts) (commands : List Accepted) → IsReady limits commands session.now (state S.Store tables.old.conn)
         → IsPerformed limits commands command.now result session.now (state S.Store tables.new.conn) }
+    ensures untouched { HasCleanDisk (state S.Store tables.new.conn) → (t : Rows) → IsAtRest (Some t) (state S.Store tables.old.conn) → KeepsNothing result → IsAtRest (Some t) (state S.Store tables.new.conn) }
     ensures work { IsWorkedOut result }
 {
     match decide(tables, alloc, session, command) {
@@ -68,8 +71,11 @@ impl<S: Alter> Engine<S> {
         ensures clean { HasCleanDisk (state S.Store self.new.tables.conn) → HasCleanDisk (state S.Store self.old.tables.conn) }
         ensures answered { HasCleanDisk (state S.Store self.new.tables.conn) → (limits : Counts) (commands : List Accepted) → IsReady limits commands self.old.session (state S.Store self.old.tables.conn)
             → IsAnswered limits commands command.now result self.new.session (state S.Store self.new.tables.conn) }
+        // Any tables stay as they were, where nothing was accepted.
+        ensures untouched { HasCleanDisk (state S.Store self.new.tables.conn) → (t : Rows) → IsAtRest (Some t) (state S.Store self.old.tables.conn) → KeepsNothing result → IsAtRest (Some t) (state S.Store self.new.tables.conn) }
         ensures reopen { IsTrue self.old.session.must_reopen → (result ≡ Err Fault.Reopen) × (self.new ≡ self.old) }
         ensures only { result ≡ Err Fault.Reopen → IsTrue self.old.session.must_reopen }
+        ensures noted { self.old.session.must_reopen ≡ false → self.new.session ≡ record (self.old.session) { must_reopen = stops result } }
     {
         if self.session.must_reopen {
             return Err(Fault::Reopen);

@@ -22,6 +22,3 @@ pub use making::{policies_are_good, write_making};
 pub use opening::{InitFault, OpeningFault};
 pub use reopen::{redeliver, restart};
 pub use write::write_edits;
-
-#[cfg(test)]
-mod tests;

@@ -111,9 +111,9 @@ fn put_first<S: Alter>(
     ensures same_reference { writing.new.tables.ghost_name ≡ writing.old.tables.ghost_name }
     ensures clean { HasCleanDisk (state S.Store writing.new.tables.now.conn) → HasCleanDisk (state S.Store writing.old.tables.now.conn) }
     ensures put { HasCleanDisk (state S.Store writing.new.tables.now.conn) → (before : Option Rows) (made : Rows) → IsWriting before (Some made) (state S.Store writing.old.tables.now.conn)
-        → MayBeFirst command.now customer.now profiles.now calendar.now made → OnOk result (IsWriting before (Some (with_first command.now customer.now profiles.now calendar.now made)) (state S.Store writing.new.tables.now.conn)) }
+        → MayBeFirst command.now customer.now profiles.now calendar.now → OnOk result (IsWriting before (Some (with_first command.now customer.now profiles.now calendar.now made)) (state S.Store writing.new.tables.now.conn)) }
     ensures left { HasCleanDisk (state S.Store writing.new.tables.now.conn) → (before : Option Rows) (made : Rows) → IsWriting before (Some made) (state S.Store writing.old.tables.now.conn)
-        → MayBeFirst command.now customer.now profiles.now calendar.now made → Leaves before (state S.Store writing.new.tables.now.conn) }
+        → MayBeFirst command.now customer.now profiles.now calendar.now → Leaves before (state S.Store writing.new.tables.now.conn) }
 {
     writing.put::<tables::Command>(alloc, command)?;
     writing.put::<tables::Customer>(alloc, customer)?;

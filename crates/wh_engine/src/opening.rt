@@ -1,6 +1,6 @@
 //! Making a warehouse, and opening one.
 
-ghost use Rattle.std.specs.Prelude.{◌≡◌, ◌≢◌, false, [], ◌∷◌, List, slice_get, None, Some, Ok, Err, IfOk, IfErr, OnOk};
+ghost use Rattle.std.specs.Prelude.{◌≡◌, ◌≢◌, true, false, [], ◌∷◌, List, slice_get, None, Some, Ok, Err, IfOk, IfErr, OnOk};
 ghost use Rattle.sqlite.specs.Held.{state};
 ghost use Rattle.sqlite.specs.State.{HasCleanDisk};
 ghost use Rattle.wh_policy.specs.Policy.{policy_at};
@@ -135,6 +135,7 @@ fn policy_in<S: Alter>(tables: &mut Tables<S>, alloc: Global) -> Result<Policy, 
 fn session_of<S: Alter>(tables: &mut Tables<S>, alloc: Global) -> Result<Session, OpeningFault>
     ensures clean { HasCleanDisk (state S.Store tables.new.conn) → HasCleanDisk (state S.Store tables.old.conn) }
     ensures read { HasCleanDisk (state S.Store tables.new.conn) → (t : Rows) → IsAtRest (Some t) (state S.Store tables.old.conn) → IsRead result (session_in t) t (state S.Store tables.new.conn) }
+    ensures fresh { IfOk result (λ session. session.must_reopen ≡ false) }
 {
     let limits = match limits_of(tables, alloc) {
         Ok(limits) => limits,
@@ -152,7 +153,7 @@ fn session_of<S: Alter>(tables: &mut Tables<S>, alloc: Global) -> Result<Session
 
 impl<S: Alter> Engine<S> {
     /// Makes a warehouse of these limits under the policy of a policy file, in a database in which the names of the ten tables are
-    /// free. The making is its first command. A refusal hands the connection back.
+    /// free. The making is its first command. A refusal hands the connection back, as it was where a name is taken.
     pub fn init(
         alloc: Global,
         conn: Connection<S>,
@@ -163,6 +164,8 @@ impl<S: Alter> Engine<S> {
         ensures written { IfOk result (λ engine. (policy_at policy.now ≡ Ok engine.session.policy) × (is_any_taken (state S.Store conn).now.schema ≡ false)) }
         ensures refused { IfErr result (λ e. IsNotMade policy.now (is_any_taken (state S.Store conn).now.schema) e.0) }
         ensures same { IfErr result (λ e. NothingIsWritten e.0 → e.1 ≡ conn) }
+        ensures fresh { IfOk result (λ engine. engine.session.must_reopen ≡ false) }
+        ensures kept { is_any_taken (state S.Store conn).now.schema ≡ true → IfErr result (λ e. e.1 ≡ conn) }
         ensures left { IfErr result (λ e. HasCleanDisk (state S.Store e.1) → IsAtRest None (state S.Store conn) → LeavesMade limits policy.now (state S.Store e.1)) }
     {
         let read = match Policy::read(alloc, policy) {
@@ -201,6 +204,7 @@ impl<S: Alter> Engine<S> {
         // The same of any ten tables, whoever wrote their rows.
         ensures found { IfOk result (λ engine. HasCleanDisk (state S.Store engine.tables.conn) → (t : Rows) → IsAtRest (Some t) (state S.Store conn) → (opened t ≡ Ok engine.session) × IsAtRest (Some t) (state S.Store engine.tables.conn)) }
         ensures fault { IfErr result (λ e. HasCleanDisk (state S.Store e.1) → (t : Rows) → IsAtRest (Some t) (state S.Store conn) → IsRead (Err e.0) (opened t) t (state S.Store e.1)) }
+        ensures fresh { IfOk result (λ engine. engine.session.must_reopen ≡ false) }
         ensures missing { conn.in_transaction ≡ false → are_all_there (state S.Store conn).now.schema ≡ false → result ≡ Err (OpeningFault.NotAWarehouse, conn) }
     {
         let mut tables = match Tables::open(alloc, conn) {

@@ -6,7 +6,7 @@ ghost use Rattle.sqlite.specs.State.{HasCleanDisk};
 ghost use Rattle.wh_rows.specs.AtRest.{AreTrees, IsAtRest, IsWriting, Leaves};
 ghost use Rattle.wh_rows.specs.Tables.{Tables as Rows};
 ghost use Rattle.wh_plan.specs.Planned.{with_dimensions, with_lists, with_all_edits};
-ghost use Rattle.wh_plan.specs.Writable.{MayBeEdited, MayBePutIn, MayBeWritten};
+ghost use Rattle.wh_plan.specs.Writable.{AreValidRows, AreValidEdits, MayBeWritten};
 
 use sqlite::Alter;
 use std::alloc::Global;
@@ -28,9 +28,9 @@ fn put_lists<S: Alter>(
     ensures same_reference { writing.new.tables.ghost_name ≡ writing.old.tables.ghost_name }
     ensures clean { HasCleanDisk (state S.Store writing.new.tables.now.conn) → HasCleanDisk (state S.Store writing.old.tables.now.conn) }
     ensures put { HasCleanDisk (state S.Store writing.new.tables.now.conn) → (before : Option Rows) (made : Rows) → IsWriting before (Some made) (state S.Store writing.old.tables.now.conn)
-        → MayBePutIn command.now members.now changes.now profiles.now facts.now made → OnOk result (IsWriting before (Some (with_lists command.now members.now changes.now profiles.now facts.now made)) (state S.Store writing.new.tables.now.conn)) }
+        → AreValidRows command.now members.now changes.now profiles.now facts.now → OnOk result (IsWriting before (Some (with_lists command.now members.now changes.now profiles.now facts.now made)) (state S.Store writing.new.tables.now.conn)) }
     ensures left { HasCleanDisk (state S.Store writing.new.tables.now.conn) → (before : Option Rows) (made : Rows) → IsWriting before (Some made) (state S.Store writing.old.tables.now.conn)
-        → MayBePutIn command.now members.now changes.now profiles.now facts.now made → Leaves before (state S.Store writing.new.tables.now.conn) }
+        → AreValidRows command.now members.now changes.now profiles.now facts.now → Leaves before (state S.Store writing.new.tables.now.conn) }
 {
     writing.put_all::<tables::Command>(alloc, command)?;
     writing.put_all::<tables::Member>(alloc, members)?;
@@ -50,9 +50,9 @@ fn edit_rows<S: Alter>(
     ensures same_reference { writing.new.tables.ghost_name ≡ writing.old.tables.ghost_name }
     ensures clean { HasCleanDisk (state S.Store writing.new.tables.now.conn) → HasCleanDisk (state S.Store writing.old.tables.now.conn) }
     ensures edited { HasCleanDisk (state S.Store writing.new.tables.now.conn) → (before : Option Rows) (made : Rows) → IsWriting before (Some made) (state S.Store writing.old.tables.now.conn)
-        → MayBeEdited products.now stores.now customers.now made → OnOk result (IsWriting before (Some (with_dimensions products.now stores.now customers.now made)) (state S.Store writing.new.tables.now.conn)) }
+        → AreValidEdits products.now stores.now customers.now → OnOk result (IsWriting before (Some (with_dimensions products.now stores.now customers.now made)) (state S.Store writing.new.tables.now.conn)) }
     ensures left { HasCleanDisk (state S.Store writing.new.tables.now.conn) → (before : Option Rows) (made : Rows) → IsWriting before (Some made) (state S.Store writing.old.tables.now.conn)
-        → MayBeEdited products.now stores.now customers.now made → Leaves before (state S.Store writing.new.tables.now.conn) }
+        → AreValidEdits products.now stores.now customers.now → Leaves before (state S.Store writing.new.tables.now.conn) }
 {
     writing.edit_all::<tables::Product>(alloc, products)?;
     writing.edit_all::<tables::Store>(alloc, stores)?;
@@ -68,9 +68,9 @@ pub fn write_edits<S: Alter>(
     ensures same_reference { writing.new.tables.ghost_name ≡ writing.old.tables.ghost_name }
     ensures clean { HasCleanDisk (state S.Store writing.new.tables.now.conn) → HasCleanDisk (state S.Store writing.old.tables.now.conn) }
     ensures written { HasCleanDisk (state S.Store writing.new.tables.now.conn) → (before : Option Rows) (made : Rows) → IsWriting before (Some made) (state S.Store writing.old.tables.now.conn)
-        → MayBeWritten edits.now made → OnOk result (IsWriting before (Some (with_all_edits edits.now made)) (state S.Store writing.new.tables.now.conn)) }
+        → MayBeWritten edits.now → OnOk result (IsWriting before (Some (with_all_edits edits.now made)) (state S.Store writing.new.tables.now.conn)) }
     ensures left { HasCleanDisk (state S.Store writing.new.tables.now.conn) → (before : Option Rows) (made : Rows) → IsWriting before (Some made) (state S.Store writing.old.tables.now.conn)
-        → MayBeWritten edits.now made → Leaves before (state S.Store writing.new.tables.now.conn) }
+        → MayBeWritten edits.now → Leaves before (state S.Store writing.new.tables.now.conn) }
 {
     put_lists(
         writing,
@@ -97,9 +97,9 @@ pub(crate) fn commit_edits<S: Alter>(
     edits: &Edits,
 ) -> Result<(), Cause>
     ensures clean { HasCleanDisk (state S.Store tables.new.conn) → HasCleanDisk (state S.Store tables.old.conn) }
-    ensures written { HasCleanDisk (state S.Store tables.new.conn) → (t : Rows) → IsAtRest (Some t) (state S.Store tables.old.conn) → MayBeWritten edits.now t
+    ensures written { HasCleanDisk (state S.Store tables.new.conn) → (t : Rows) → IsAtRest (Some t) (state S.Store tables.old.conn) → MayBeWritten edits.now
         → OnOk result (IsAtRest (Some (with_all_edits edits.now t)) (state S.Store tables.new.conn)) }
-    ensures left { HasCleanDisk (state S.Store tables.new.conn) → (t : Rows) → IsAtRest (Some t) (state S.Store tables.old.conn) → MayBeWritten edits.now t
+    ensures left { HasCleanDisk (state S.Store tables.new.conn) → (t : Rows) → IsAtRest (Some t) (state S.Store tables.old.conn) → MayBeWritten edits.now
         → (trees : _) → (state S.Store tables.new.conn).may_leave trees → AreTrees (Some t) trees ⊎ AreTrees (Some (with_all_edits edits.now t)) trees }
 {
     let mut writing = tables.begin()?;

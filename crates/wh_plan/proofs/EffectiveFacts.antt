@@ -1,7 +1,6 @@
 -- Each fact names the row of its day.
-use Rattle.std.proofs.Common.{◌≡◌, ◌⊎◌, inl, inr, ℕ, ◌==◌, ◌&&◌, Option, Some, None, List, refl, ap, subst, sym}
+use Rattle.std.proofs.Common.{◌≡◌, inl, inr, ℕ, ◌==◌, ◌&&◌, Option, Some, None, List, refl, ap, subst, sym}
 use Rattle.std.specs.Prelude.{bytes_eq, find, option_map, unwrap_or}
-use Rattle.wh_day.specs.Day.{is_day}
 use Rattle.wh_policy.specs.declared.attribute.Dim.TheVariants.{Product, Store, Customer}
 use Rattle.wh_policy.specs.declared.record.SaleRecord.{SaleRecord}
 use Rattle.wh_history.specs.Accepted.{Accepted, durable_key, sold}

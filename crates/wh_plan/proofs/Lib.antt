@@ -11,11 +11,11 @@ pub mod OneDimension
 pub mod GrownFacts
 pub mod WrittenBatch
 pub mod SmallNumbers
-pub mod MayTables
+pub mod MadeAtNumbers
+pub mod OwnKeys
 pub mod ValidSlots
 pub mod ValidRows
 pub mod ValidTables
-pub mod MayStand
 pub mod GrownUntouched
 pub mod Listed
 pub mod FoundPlaces

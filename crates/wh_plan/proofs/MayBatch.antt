@@ -3,13 +3,11 @@ use Rattle.std.proofs.Common.{◌≡◌, inl, inr, ℕ, suc, ◌-◌, ◌≤◌,
 use Rattle.std.specs.Prelude.{filter_map, take, option_map}
 use Rattle.std.specs.List.{AllByRecursion, cons_option, range_with_len}
 use Rattle.std.specs.Option.{option_and_then}
-use Rattle.std.specs.FinMap.{entries}
-use Rattle.std.proofs.lemmas.Cmp.{nat_cmp_total}
 use Rattle.wh_policy.specs.declared.attribute.Dim.{Dim}
 use Rattle.wh_policy.specs.declared.attribute.Dim.TheVariants.{Product, Store, Customer}
 use Rattle.wh_policy.specs.declared.record.DimensionRecord.{DimensionRecord}
 use Rattle.wh_policy.specs.declared.record.SaleRecord.{SaleRecord}
-use Rattle.wh_history.specs.Accepted.{Accepted, Content, Governs, Describes, Sells, described, described_by, sold, members, members_after, profiles_of, records_by, placeholders_by}
+use Rattle.wh_history.specs.Accepted.{Accepted, Content, Governs, Describes, Sells, described, described_by, sold, members_after, profiles_of, records_by, placeholders_by}
 use Rattle.wh_history.specs.Tables.{Limits, change_row, change_row_in, change_row_of, dimension_row}
 use Rattle.wh_history.specs.Laws.{governs}
 use Rattle.wh_history.specs.Tables as history
@@ -24,24 +22,19 @@ use Rattle.wh_rows.specs.Types.{is_number, is_key, is_kind}
 use Rattle.wh_rows.specs.Rows.{is_command, is_change, is_dimension}
 use Rattle.wh_rows.specs.Rows as row
 use Rattle.wh_rows.specs.Tables.{Tables}
-use Rattle.wh_rows.proofs.Commands
-use Rattle.wh_rows.proofs.Members
-use Rattle.wh_rows.proofs.Orders.{member_cmp_total}
 use Rattle.wh_plan.specs.Defined.{command_at, member_at, change_at, profile_at, fact_at, AreOf}
 use Rattle.wh_plan.specs.Laws.{BatchesMayBeWritten}
 use Rattle.wh_plan.specs.Planned.{Edits, rows_of_dimension, AreEdits, behind, new_members}
 use Rattle.wh_plan.specs.Sound.{IsGoodRecord, IsAccepted}
-use Rattle.wh_plan.specs.Writable.{MayBePutIn, MayBeWritten}
+use Rattle.wh_store.specs.Edits.{IsValid, Puts}
+use Rattle.wh_plan.specs.Writable.{MayBeWritten}
 use Rattle.wh_plan.proofs.WrittenRows.{Grows}
 use Rattle.wh_plan.proofs.GrownFacts.{stand_after}
 use Rattle.wh_plan.proofs.GrownKeys.{at_last, all_at}
-use Rattle.wh_plan.proofs.GrownCommands.{command_grows}
-use Rattle.wh_plan.proofs.GrownMembers as member
 use Rattle.wh_plan.proofs.GrownChanges.{all_apart, new_row}
 use Rattle.wh_plan.proofs.GrownChanges as change
 use Rattle.wh_plan.proofs.SmallNumbers.{is_small, commands_few, described_few, members_few, sold_few}
-use Rattle.wh_plan.proofs.MayTables.{all_made, all_held, Fit, Valid, Puts, may_put_all, may_put_any, may_edit_all, plan_puts}
-use Rattle.wh_plan.proofs.MayStand.{IsCommandOf, IsMemberOf, commands_stand, members_stand}
+use Rattle.wh_plan.proofs.MadeAtNumbers.{all_made, plan_puts}
 use Rattle.wh_plan.proofs.ValidTables.{made_of, dimension_valid, member_valid, change_made, profile_valid}
 use Rattle.wh_plan.proofs.ValidFacts.{fact_valid}
 use Rattle.wh_plan.proofs.Selling.{sold_more}
@@ -140,26 +133,15 @@ module _ (limits : Limits) (commands : List Accepted) (c : Accepted) (t : Tables
       let longer : length after ≡ suc (length commands) = length-append commands (c ∷ []) ∙ omega arith in
       are.command ∙ ap (filter_map (command_at after)) (one_behind (length commands) (length after) longer)
 
-  fit_commands : AllByRecursion (Fit row.command (IsCommandOf after)) edits.command
-  fit_commands =
-      subst (AllByRecursion (Fit row.command (IsCommandOf after))) (sym one_command)
-      (all_one (Fit row.command (IsCommandOf after)) (command_at after (length after)) (λ v here.
-      ((length after, here), subst (λ (w : CommandRow). is_command w ≡ true) (some_is made_command v (sym own_command ∙ here)) valid_command)))
-
-  older_commands : AllByRecursion (λ e. IsCommandOf after e.1) (entries t.command)
-  older_commands = all_held row.command.order nat_cmp_total (IsCommandOf after) t.command
-      (λ k v got. (k, stays (λ n. n) (length commands) (length after) (command_at commands) (command_at after) k v (command_grows commands c k) (sym (of.command k) ∙ got)))
+  valid_commands : AllByRecursion (IsValid row.command) edits.command
+  valid_commands =
+      subst (AllByRecursion (IsValid row.command)) (sym one_command)
+      (all_one (IsValid row.command) (command_at after (length after)) (λ v here. subst (λ (w : CommandRow). is_command w ≡ true) (some_is made_command v (sym own_command ∙ here)) valid_command))
 
   -- ---- the members
 
-  fit_members : AllByRecursion (Fit row.member (IsMemberOf after)) edits.members
-  fit_members =
-      subst (AllByRecursion (Fit row.member (IsMemberOf after))) (sym are.members)
-      (all_made (Fit row.member (IsMemberOf after)) (member_at after) (λ k v here. ((k, here), member_valid limits after ok k v here)) (new_members commands after))
-
-  older_members : AllByRecursion (λ e. IsMemberOf after e.1) (entries t.member)
-  older_members = all_held row.member.order member_cmp_total (IsMemberOf after) t.member
-      (λ k v got. (k, stays (member.key_of k.dim) (length (members k.dim commands)) (length (members k.dim after)) (member_at commands) (member_at after) k v (member.of_dimension k.dim commands c k.durable) (sym (of.member k) ∙ got)))
+  valid_members : AllByRecursion (IsValid row.member) edits.members
+  valid_members = subst (AllByRecursion (IsValid row.member)) (sym are.members) (all_made (IsValid row.member) (member_at after) (λ k v here. member_valid limits after ok k v here) (new_members commands after))
 
   -- ---- the changes and the profiles
 
@@ -174,27 +156,18 @@ module _ (limits : Limits) (commands : List Accepted) (c : Accepted) (t : Tables
       let there : None ≡ Some made.0 = sym no_row ∙ made.1 in
       absurd cc
 
-  valid_changes : AllByRecursion (Valid row.change) edits.changes
-  valid_changes = subst (AllByRecursion (Valid row.change)) (sym are.changes) (all_made (Valid row.change) (λ n. change_at after (change.key_of commands c n)) (valid_change c.content refl batch) (behind 0 (records_by c.content)))
+  valid_changes : AllByRecursion (IsValid row.change) edits.changes
+  valid_changes = subst (AllByRecursion (IsValid row.change)) (sym are.changes) (all_made (IsValid row.change) (λ n. change_at after (change.key_of commands c n)) (valid_change c.content refl batch) (behind 0 (records_by c.content)))
 
-  valid_profiles : AllByRecursion (Valid row.profile) edits.profiles
+  valid_profiles : AllByRecursion (IsValid row.profile) edits.profiles
   valid_profiles =
-      subst (AllByRecursion (Valid row.profile)) (sym are.profiles)
-      (all_made (Valid row.profile) (profile_at after) (profile_valid limits after ok) (behind (suc (length (profiles_of commands))) (suc (length (profiles_of after)))))
+      subst (AllByRecursion (IsValid row.profile)) (sym are.profiles)
+      (all_made (IsValid row.profile) (profile_at after) (profile_valid limits after ok) (behind (suc (length (profiles_of commands))) (suc (length (profiles_of after)))))
 
   -- ---- the facts
 
-  valid_facts : AllByRecursion (Valid row.fact) edits.facts
-  valid_facts = all_weaker (λ f. fact_at after (row.fact.key f) ≡ Some f) (Valid row.fact) (λ f there. fact_valid limits after ok (row.fact.key f) f there) edits.facts (stand_after (fact_at commands) (fact_at after) edits.facts are.facts)
-
-  lists_may_be_put : MayBePutIn edits.command edits.members edits.changes edits.profiles edits.facts t
-  lists_may_be_put = record {
-    command = may_put_all row.command nat_cmp_total Commands.may_stand (IsCommandOf after) (commands_stand after ok.distinct) edits.command t.command fit_commands older_commands;
-    members = may_put_all row.member member_cmp_total Members.may_stand (IsMemberOf after) (members_stand after) edits.members t.member fit_members older_members;
-    changes = may_put_any row.change edits.changes t.change valid_changes;
-    profiles = may_put_any row.profile edits.profiles t.profile valid_profiles;
-    facts = may_put_any row.fact edits.facts t.fact valid_facts;
-  }
+  valid_facts : AllByRecursion (IsValid row.fact) edits.facts
+  valid_facts = all_weaker (λ f. fact_at after (row.fact.key f) ≡ Some f) (IsValid row.fact) (λ f there. fact_valid limits after ok (row.fact.key f) f there) edits.facts (stand_after (fact_at commands) (fact_at after) edits.facts are.facts)
 
   -- ---- the rows of the dimensions
 
@@ -202,14 +175,10 @@ module _ (limits : Limits) (commands : List Accepted) (c : Accepted) (t : Tables
   valid_edits other =
       plan_puts (λ (r : DimRow). r.surrogate) (λ (r : DimRow). is_dimension other r ≡ true) (dimension_row commands other) (dimension_row after other) (rows_of_dimension other edits) (are.rows other) (dimension_valid limits after ok other)
 
-  pub batch_may_be_written : MayBeWritten edits t
+  pub batch_may_be_written : MayBeWritten edits
   batch_may_be_written = record {
-    lists = lists_may_be_put;
-    rows = record {
-      products = may_edit_all row.product edits.products t.product (valid_edits Product);
-      stores = may_edit_all row.store edits.stores t.store (valid_edits Store);
-      customers = may_edit_all row.customer edits.customers t.customer (valid_edits Customer);
-    };
+    lists = record { command = valid_commands; members = valid_members; changes = valid_changes; profiles = valid_profiles; facts = valid_facts };
+    rows = record { products = valid_edits Product; stores = valid_edits Store; customers = valid_edits Customer };
   }
 
 pub a_batch_may_be_written : BatchesMayBeWritten

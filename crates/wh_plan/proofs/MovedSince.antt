@@ -25,7 +25,6 @@ use Rattle.wh_history.specs.Profiles.{current_profile, profile_now, profile_numb
 use Rattle.wh_history.specs.Rows.{rows}
 use Rattle.wh_history.specs.Tables.{Limits, fact_of, key_at, profile_at}
 use Rattle.wh_history.specs.declared.facts.Fact.{Fact}
-use Rattle.wh_history.specs.declared.facts.FactKeys.{FactKeys}
 use Rattle.wh_history.specs.declared.member.Change.{Change}
 use Rattle.wh_history.proofs.Basics.{both_true, some_is}
 use Rattle.wh_history.proofs.Batches.{same_dimension}
@@ -43,7 +42,7 @@ use Rattle.wh_rows.specs.Tables.{Tables}
 use Rattle.wh_rows.specs.declared.key.LineKey.{LineKey}
 use Rattle.wh_sql.specs.Asked.{durable_of}
 use Rattle.wh_plan.specs.Defined.{AreOf, fact_at}
-use Rattle.wh_plan.specs.Moved.{moved_for, moves_by, earliest, moves_since, since_first, facts_with, facts_since}
+use Rattle.wh_plan.specs.Moved.{moved_for, moves_by, earliest, moves_since, facts_with, facts_since}
 use Rattle.wh_plan.specs.Sound.{IsGoodSale, IsAccepted}
 use Rattle.wh_plan.proofs.FoundPlaces.{same_number_is}
 use Rattle.wh_plan.proofs.GrownMembers.{opening_given}

@@ -20,7 +20,11 @@ use Rattle.wh_history.specs.declared.facts.Fact.{Fact}
 use Rattle.wh_history.specs.declared.plan.Edit.{Edit}
 use Rattle.wh_history.specs.declared.plan.Edit.TheVariants.{Put}
 use Rattle.wh_history.specs.declared.rows.DimRow.{DimRow}
+use Rattle.std.specs.FinMap.{get}
 use Rattle.wh_rows.specs.declared.key.LineKey.{LineKey}
+use Rattle.wh_rows.specs.declared.key.MemberKey.{MemberKey}
+use Rattle.wh_rows.specs.declared.rows.CommandRow.{CommandRow}
+use Rattle.wh_rows.specs.declared.rows.MemberRow.{MemberRow}
 use Rattle.wh_rows.specs.Limits.{are_limits}
 use Rattle.wh_rows.specs.Tables.{Tables}
 use Rattle.wh_plan.specs.Defined.{fact_at, AreOf}
@@ -60,15 +64,21 @@ SoundPoliciesShowNone = (commands : List Accepted) → ((policy : Policy) → po
 abbrev pub AcceptedListsBegin : Type 0
 AcceptedListsBegin = (limits : Limits) (policy : Policy) (bytes : List ℕ) → are_limits limits ≡ true → policy_at bytes ≡ Ok policy → IsAccepted limits (making_of policy bytes ∷ [])
 
--- The edits of a batch that can be accepted after the commands so far may be written: each row is valid, and no other command has the
--- id, no other member of the dimension the natural key.
+-- The edits of a batch that can be accepted after the commands so far may be written: each row that they put is valid.
 abbrev pub BatchesMayBeWritten : Type 0
 BatchesMayBeWritten = (limits : Limits) (commands : List Accepted) (c : Accepted) (tables : Tables) (edits : Edits)
     → governs c.content ≡ false
     → IsAccepted limits (commands ++ c ∷ [])
     → AreOf limits commands tables
     → AreEdits commands c edits
-    → MayBeWritten edits tables
+    → MayBeWritten edits
+
+-- In the tables of accepted commands no two commands have one id, and no two members of a dimension one natural key: no row that is put
+-- meets a second key that is taken.
+abbrev pub SecondKeysAreApart : Type 0
+SecondKeysAreApart = (limits : Limits) (commands : List Accepted) (t : Tables) → IsAccepted limits commands → AreOf limits commands t
+    → ((a b : ℕ) (v w : CommandRow) → get t.command a ≡ Some v → get t.command b ≡ Some w → v.id ≡ w.id → a ≡ b)
+    × ((a b : MemberKey) (v w : MemberRow) → get t.member a ≡ Some v → get t.member b ≡ Some w → a.dim ≡ b.dim → v.natural ≡ w.natural → a.durable ≡ b.durable)
 
 -- Where some rows are those of the touched members in the table before a batch, and others those in the table with it, the edits
 -- between them are the edits between the tables.

@@ -12,14 +12,11 @@ use Rattle.wh_policy.specs.declared.policy.Policy.{Policy}
 use Rattle.wh_history.specs.Accepted.{Accepted, Governs}
 use Rattle.wh_history.specs.Slots.{columns_from, six}
 use Rattle.wh_history.specs.declared.rows.DimRow.{DimRow}
-use Rattle.wh_rows.proofs.Commands
-use Rattle.wh_rows.specs.Meaning.{any}
 use Rattle.wh_rows.specs.Rows as row
 use Rattle.wh_rows.specs.Tables.{Tables}
 use Rattle.wh_rows.specs.declared.rows.CommandRow.{CommandRow}
 use Rattle.wh_rows.specs.declared.rows.ProfileRow.{ProfileRow}
-use Rattle.wh_sql.specs.Fits.{MayBePut}
-use Rattle.wh_store.specs.Edits.{with_row, MayAll}
+use Rattle.wh_store.specs.Edits.{with_row, IsValid}
 use Rattle.wh_plan.specs.Defined.{day_at}
 use Rattle.wh_plan.specs.Planned.{with_rows, behind}
 
@@ -65,9 +62,9 @@ with_first command customer profiles calendar t = record t {
   calendar = with_rows row.calendar calendar t.calendar;
 }
 
--- each row is valid, and no other command has the id
-pub record MayBeFirst (of_command : CommandRow) (of_customer : DimRow) (of_profile : List ProfileRow) (of_calendar : List DateRow) (t : Tables) : Type 0 where
-  pub command : MayBePut row.command Commands.may_stand of_command t.command
-  pub customer : MayBePut row.customer any of_customer t.customer
-  pub profiles : MayAll (with_row row.profile) (MayBePut row.profile any) of_profile t.profile
-  pub calendar : MayAll (with_row row.calendar) (MayBePut row.calendar any) of_calendar t.calendar
+-- each row is valid
+pub record MayBeFirst (of_command : CommandRow) (of_customer : DimRow) (of_profile : List ProfileRow) (of_calendar : List DateRow) : Type 0 where
+  pub command : IsValid row.command of_command
+  pub customer : IsValid row.customer of_customer
+  pub profiles : AllByRecursion (IsValid row.profile) of_profile
+  pub calendar : AllByRecursion (IsValid row.calendar) of_calendar

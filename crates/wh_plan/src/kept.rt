@@ -1,20 +1,15 @@
 //! What is read of the accepted commands out of the tables.
 
-ghost use Rattle.std.specs.Prelude.{◌≡◌, ◌<◌, ℕ, List, map, filter, length, Some, IfOk};
+ghost use Rattle.std.specs.Prelude.{◌≡◌, ◌<◌, ℕ, List, map, filter, length, IfOk};
 ghost use Rattle.std.specs.FinMap.{values};
-ghost use Rattle.sqlite.specs.Held.{state};
-ghost use Rattle.sqlite.specs.State.{HasCleanDisk};
 ghost use Rattle.wh_history.specs.Accepted.{Accepted, members, durable_key, member_of, changes_of};
 ghost use Rattle.wh_history.specs.Laws.{RecordsHaveDays};
 ghost use Rattle.wh_history.specs.Plan.{row_of};
-ghost use Rattle.wh_history.specs.Tables.{Limits, member_rows};
+ghost use Rattle.wh_history.specs.Tables.{member_rows};
 ghost use Rattle.wh_history.specs.Touched.{nothing_stored};
-ghost use Rattle.wh_rows.specs.AtRest.{IsAtRest, Leaves};
 ghost use Rattle.wh_rows.specs.Firsts.{part};
-ghost use Rattle.wh_rows.specs.Tables.{Tables as Rows};
-ghost use Rattle.wh_plan.specs.Defined.{AreOf};
 ghost use Rattle.wh_plan.specs.Kept.{HaveDistinctIds, HaveNoEmptyValue, command_with, given_text, change_in, last_opening, rows_with};
-ghost use Rattle.wh_plan.specs.Reads.{IsCalm, FindsNoDamage};
+ghost use Rattle.wh_plan.specs.Reads.{ReadsOnly, Finds, Tells};
 
 use sqlite::Alter;
 use std::alloc::{AllocError, Global};
@@ -31,11 +26,8 @@ pub(crate) fn asked<T: Keeps, Q: Question<T>, S: Alter>(
     alloc: Global,
     question: &Q,
 ) -> Result<Vec<T::Row>, ReadError<Refusal>>
-    ensures clean { HasCleanDisk (state S.Store tables.new.conn) → HasCleanDisk (state S.Store tables.old.conn) }
-    ensures rows { HasCleanDisk (state S.Store tables.new.conn) → (t : Rows) → IsAtRest (Some t) (state S.Store tables.old.conn) → IfOk result (λ rows. rows.items ≡ part Q.front (filter (Q.keep question.now) (values (T.rows t)))) }
-    ensures sound { HasCleanDisk (state S.Store tables.new.conn) → (t : Rows) → IsAtRest (Some t) (state S.Store tables.old.conn) → FindsNoDamage result }
-    ensures same { HasCleanDisk (state S.Store tables.new.conn) → (t : Rows) → IsAtRest (Some t) (state S.Store tables.old.conn) → IsCalm result → IsAtRest (Some t) (state S.Store tables.new.conn) }
-    ensures left { HasCleanDisk (state S.Store tables.new.conn) → (t : Rows) → IsAtRest (Some t) (state S.Store tables.old.conn) → Leaves (Some t) (state S.Store tables.new.conn) }
+    ensures reads { ReadsOnly S.Store tables.old tables.new result }
+    ensures rows { Tells S.Store tables.old tables.new result (λ t rows. rows.items ≡ part Q.front (filter (Q.keep question.now) (values (T.rows t)))) }
 {
     match tables.ask::<T, Q>(alloc, question) {
         Ok(rows) => Ok(rows),
@@ -49,11 +41,8 @@ pub fn command_of<S: Alter>(
     alloc: Global,
     id: &Value,
 ) -> Result<Option<CommandRow>, ReadError<Refusal>>
-    ensures clean { HasCleanDisk (state S.Store tables.new.conn) → HasCleanDisk (state S.Store tables.old.conn) }
-    ensures command { HasCleanDisk (state S.Store tables.new.conn) → (limits : Limits) (commands : List Accepted) (t : Rows) → AreOf limits commands t → HaveDistinctIds commands → IsAtRest (Some t) (state S.Store tables.old.conn) → IfOk result (λ row. row ≡ command_with commands id.now) }
-    ensures sound { HasCleanDisk (state S.Store tables.new.conn) → (t : Rows) → IsAtRest (Some t) (state S.Store tables.old.conn) → FindsNoDamage result }
-    ensures same { HasCleanDisk (state S.Store tables.new.conn) → (t : Rows) → IsAtRest (Some t) (state S.Store tables.old.conn) → IsCalm result → IsAtRest (Some t) (state S.Store tables.new.conn) }
-    ensures left { HasCleanDisk (state S.Store tables.new.conn) → (t : Rows) → IsAtRest (Some t) (state S.Store tables.old.conn) → Leaves (Some t) (state S.Store tables.new.conn) }
+    ensures reads { ReadsOnly S.Store tables.old tables.new result }
+    ensures command { Finds S.Store tables.old tables.new (λ _ commands. HaveDistinctIds commands → IfOk result (λ row. row ≡ command_with commands id.now)) }
 {
     let mut found = asked::<tables::Command, CommandOf<'_>, S>(tables, alloc, &CommandOf { id })?;
     Ok(found.pop())
@@ -119,11 +108,8 @@ pub fn stored_changes<S: Alter>(
     dim: Dim,
     durable: u64,
 ) -> Result<Changes, ReadError<Refusal>>
-    ensures clean { HasCleanDisk (state S.Store tables.new.conn) → HasCleanDisk (state S.Store tables.old.conn) }
-    ensures changes { HasCleanDisk (state S.Store tables.new.conn) → (limits : Limits) (commands : List Accepted) (t : Rows) → AreOf limits commands t → HaveNoEmptyValue commands → IsAtRest (Some t) (state S.Store tables.old.conn) → (natural : List ℕ) → 0 < durable → durable ≡ durable_key dim commands natural → IfOk result (λ changes. changes ≡ changes_of dim commands natural) }
-    ensures sound { HasCleanDisk (state S.Store tables.new.conn) → (t : Rows) → IsAtRest (Some t) (state S.Store tables.old.conn) → FindsNoDamage result }
-    ensures same { HasCleanDisk (state S.Store tables.new.conn) → (t : Rows) → IsAtRest (Some t) (state S.Store tables.old.conn) → IsCalm result → IsAtRest (Some t) (state S.Store tables.new.conn) }
-    ensures left { HasCleanDisk (state S.Store tables.new.conn) → (t : Rows) → IsAtRest (Some t) (state S.Store tables.old.conn) → Leaves (Some t) (state S.Store tables.new.conn) }
+    ensures reads { ReadsOnly S.Store tables.old tables.new result }
+    ensures changes { Finds S.Store tables.old tables.new (λ _ commands. HaveNoEmptyValue commands → (natural : List ℕ) → 0 < durable → durable ≡ durable_key dim commands natural → IfOk result (λ changes. changes ≡ changes_of dim commands natural)) }
 {
     let rows = asked::<tables::Change, RecordsOf, S>(tables, alloc, &RecordsOf { dim, durable })?;
     Ok(changes_in(alloc, &rows)?)
@@ -136,11 +122,8 @@ pub fn stored_member<S: Alter>(
     dim: Dim,
     natural: &Value,
 ) -> Result<Member, ReadError<Refusal>>
-    ensures clean { HasCleanDisk (state S.Store tables.new.conn) → HasCleanDisk (state S.Store tables.old.conn) }
-    ensures member { HasCleanDisk (state S.Store tables.new.conn) → (limits : Limits) (commands : List Accepted) (t : Rows) → AreOf limits commands t → HaveNoEmptyValue commands → IsAtRest (Some t) (state S.Store tables.old.conn) → IfOk result (λ member. member ≡ member_of dim commands natural.now) }
-    ensures sound { HasCleanDisk (state S.Store tables.new.conn) → (t : Rows) → IsAtRest (Some t) (state S.Store tables.old.conn) → FindsNoDamage result }
-    ensures same { HasCleanDisk (state S.Store tables.new.conn) → (t : Rows) → IsAtRest (Some t) (state S.Store tables.old.conn) → IsCalm result → IsAtRest (Some t) (state S.Store tables.new.conn) }
-    ensures left { HasCleanDisk (state S.Store tables.new.conn) → (t : Rows) → IsAtRest (Some t) (state S.Store tables.old.conn) → Leaves (Some t) (state S.Store tables.new.conn) }
+    ensures reads { ReadsOnly S.Store tables.old tables.new result }
+    ensures member { Finds S.Store tables.old tables.new (λ _ commands. HaveNoEmptyValue commands → IfOk result (λ member. member ≡ member_of dim commands natural.now)) }
 {
     let mut found = asked::<tables::Member, MemberOf<'_>, S>(
         tables,
@@ -165,13 +148,10 @@ pub fn stored_rows<S: Alter>(
     dim: Dim,
     durable: u64,
 ) -> Result<Vec<DimRow>, ReadError<Refusal>>
-    ensures clean { HasCleanDisk (state S.Store tables.new.conn) → HasCleanDisk (state S.Store tables.old.conn) }
-    ensures rows { HasCleanDisk (state S.Store tables.new.conn) → (limits : Limits) (commands : List Accepted) (t : Rows) → AreOf limits commands t → IsAtRest (Some t) (state S.Store tables.old.conn) → IfOk result (λ rows. rows.items ≡ rows_with dim commands durable) }
+    ensures reads { ReadsOnly S.Store tables.old tables.new result }
+    ensures rows { Finds S.Store tables.old tables.new (λ _ commands. IfOk result (λ rows. rows.items ≡ rows_with dim commands durable)) }
     // Those with a member's durable key are the member's.
-    ensures member { HasCleanDisk (state S.Store tables.new.conn) → (limits : Limits) (commands : List Accepted) (t : Rows) → AreOf limits commands t → RecordsHaveDays commands → IsAtRest (Some t) (state S.Store tables.old.conn) → (natural : List ℕ) → 0 < durable → durable ≡ durable_key dim commands natural → IfOk result (λ rows. (key : ℕ) → row_of key rows.items ≡ row_of key (member_rows commands dim natural)) }
-    ensures sound { HasCleanDisk (state S.Store tables.new.conn) → (t : Rows) → IsAtRest (Some t) (state S.Store tables.old.conn) → FindsNoDamage result }
-    ensures same { HasCleanDisk (state S.Store tables.new.conn) → (t : Rows) → IsAtRest (Some t) (state S.Store tables.old.conn) → IsCalm result → IsAtRest (Some t) (state S.Store tables.new.conn) }
-    ensures left { HasCleanDisk (state S.Store tables.new.conn) → (t : Rows) → IsAtRest (Some t) (state S.Store tables.old.conn) → Leaves (Some t) (state S.Store tables.new.conn) }
+    ensures member { Finds S.Store tables.old tables.new (λ _ commands. RecordsHaveDays commands → (natural : List ℕ) → 0 < durable → durable ≡ durable_key dim commands natural → IfOk result (λ rows. (key : ℕ) → row_of key rows.items ≡ row_of key (member_rows commands dim natural))) }
 {
     let question = RowsOf { durable };
     match dim {
@@ -195,11 +175,8 @@ pub fn members_given<S: Alter>(
     alloc: Global,
     dim: Dim,
 ) -> Result<MembersGiven, ReadError<Refusal>>
-    ensures clean { HasCleanDisk (state S.Store tables.new.conn) → HasCleanDisk (state S.Store tables.old.conn) }
-    ensures given { HasCleanDisk (state S.Store tables.new.conn) → (limits : Limits) (commands : List Accepted) (t : Rows) → AreOf limits commands t → IsAtRest (Some t) (state S.Store tables.old.conn) → IfOk result (λ given. given ≡ record { members = length (members dim commands); opening = last_opening dim commands }) }
-    ensures sound { HasCleanDisk (state S.Store tables.new.conn) → (t : Rows) → IsAtRest (Some t) (state S.Store tables.old.conn) → FindsNoDamage result }
-    ensures same { HasCleanDisk (state S.Store tables.new.conn) → (t : Rows) → IsAtRest (Some t) (state S.Store tables.old.conn) → IsCalm result → IsAtRest (Some t) (state S.Store tables.new.conn) }
-    ensures left { HasCleanDisk (state S.Store tables.new.conn) → (t : Rows) → IsAtRest (Some t) (state S.Store tables.old.conn) → Leaves (Some t) (state S.Store tables.new.conn) }
+    ensures reads { ReadsOnly S.Store tables.old tables.new result }
+    ensures given { Finds S.Store tables.old tables.new (λ _ commands. IfOk result (λ given. given ≡ record { members = length (members dim commands); opening = last_opening dim commands })) }
 {
     let mut found = asked::<tables::Member, GreatestOf, S>(tables, alloc, &GreatestOf { dim })?;
     match found.pop() {

@@ -1,7 +1,7 @@
 //! Laws of the tables that accepted commands define. They speak of the definitions alone and do nothing.
 
 ghost use Rattle.wh_plan.specs.Moved.{LateRecordsMoveFacts};
-ghost use Rattle.wh_plan.specs.Laws.{AcceptedListsBegin, BatchesAreWritten, BatchesMayBeWritten, FactsAreEffective, FactsFollow, SalesAreFacts, SalesPutPlaceholders, SoundPoliciesShowNone, TouchedRowsAfter, TouchedRowsAreThePlan, TouchedRowsBefore, UntouchedMembersKeep};
+ghost use Rattle.wh_plan.specs.Laws.{AcceptedListsBegin, BatchesAreWritten, BatchesMayBeWritten, FactsAreEffective, FactsFollow, SalesAreFacts, SalesPutPlaceholders, SecondKeysAreApart, SoundPoliciesShowNone, TouchedRowsAfter, TouchedRowsAreThePlan, TouchedRowsBefore, UntouchedMembersKeep};
 
 /// From the tables of the commands so far the edits of a batch of records or of sales lead to those of the commands with
 /// it, in all ten tables.
@@ -24,10 +24,15 @@ pub fn accepted_lists_begin()
     ensures { AcceptedListsBegin }
 {}
 
-/// The edits of a batch that can be accepted may be written: each row is valid, no other command has its id, and no
-/// other member of the dimension has the natural key of a new one.
+/// The edits of a batch that can be accepted may be written: each row that they put is valid.
 pub fn a_batch_may_be_written()
     ensures { BatchesMayBeWritten }
+{}
+
+/// In the tables of accepted commands no two commands have one id, and no two members of a dimension one natural key. So
+/// no row that a batch puts is refused for a second key that another row has.
+pub fn second_keys_are_apart()
+    ensures { SecondKeysAreApart }
 {}
 
 /// The edits between the rows that the touched members have before and with a batch are those of their dimension's table.

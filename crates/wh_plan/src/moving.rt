@@ -2,22 +2,17 @@
 
 ghost use Rattle.std.specs.Prelude.{◌≡◌, ◌++◌, ◌∷◌, [], ℕ, List, drop, map, nat_lt, length, None, Some, IfOk};
 ghost use Rattle.std.specs.List.{list_any, AllByRecursion};
-ghost use Rattle.sqlite.specs.Held.{state};
-ghost use Rattle.sqlite.specs.State.{HasCleanDisk};
 ghost use Rattle.wh_policy.specs.Policy.{types_of};
 ghost use Rattle.wh_policy.specs.Written.{IsSound};
 ghost use Rattle.wh_policy.specs.declared.record.DimensionRecord.{DimensionRecord as Told};
 ghost use Rattle.wh_history.specs.Accepted.{Accepted, Describes, members, member_of, policy_after, profiles_of};
 ghost use Rattle.wh_history.specs.Known.{number_in, KnowsEnough};
-ghost use Rattle.wh_history.specs.Tables.{Limits};
 ghost use Rattle.wh_history.specs.Touched.{touched_by};
-ghost use Rattle.wh_rows.specs.AtRest.{IsAtRest, Leaves};
-ghost use Rattle.wh_rows.specs.Tables.{Tables as Rows};
-ghost use Rattle.wh_plan.specs.Defined.{AreOf, fact_at};
+ghost use Rattle.wh_plan.specs.Defined.{fact_at};
 ghost use Rattle.wh_plan.specs.Moved.{earliest, flat_pairs, moves_by, moves_since, moves_there};
 ghost use Rattle.wh_plan.specs.Planned.{AreFacts};
 ghost use Rattle.wh_plan.specs.Planning.{naturals_told};
-ghost use Rattle.wh_plan.specs.Reads.{IsCalm, FindsNoDamage};
+ghost use Rattle.wh_plan.specs.Reads.{ReadsOnly, Finds, Tells};
 ghost use Rattle.wh_plan.specs.Sound.{IsAccepted};
 
 use crate::kept::asked;
@@ -109,11 +104,8 @@ fn moved_of_member<S: Alter>(
     member: &Member,
     profiles: &Profiles,
 ) -> Result<Vec<Fact>, ReadError<Refusal>>
-    ensures clean { HasCleanDisk (state S.Store tables.new.conn) → HasCleanDisk (state S.Store tables.old.conn) }
-    ensures moved { HasCleanDisk (state S.Store tables.new.conn) → (t : Rows) → IsAtRest (Some t) (state S.Store tables.old.conn) → IfOk result (λ facts. facts.items ≡ moves_there types.now (number_in profiles.now) dim given t.fact stored.now member.now) }
-    ensures sound { HasCleanDisk (state S.Store tables.new.conn) → (t : Rows) → IsAtRest (Some t) (state S.Store tables.old.conn) → FindsNoDamage result }
-    ensures same { HasCleanDisk (state S.Store tables.new.conn) → (t : Rows) → IsAtRest (Some t) (state S.Store tables.old.conn) → IsCalm result → IsAtRest (Some t) (state S.Store tables.new.conn) }
-    ensures left { HasCleanDisk (state S.Store tables.new.conn) → (t : Rows) → IsAtRest (Some t) (state S.Store tables.old.conn) → Leaves (Some t) (state S.Store tables.new.conn) }
+    ensures reads { ReadsOnly S.Store tables.old tables.new result }
+    ensures moved { Tells S.Store tables.old tables.new result (λ t facts. facts.items ≡ moves_there types.now (number_in profiles.now) dim given t.fact stored.now member.now) }
 {
     if given < member.durable {
         return Ok(Vec::new(alloc));
@@ -138,11 +130,8 @@ fn moved_of_members<S: Alter>(
     members: &[Member],
     profiles: &Profiles,
 ) -> Result<Vec<Fact>, ReadError<Refusal>>
-    ensures clean { HasCleanDisk (state S.Store tables.new.conn) → HasCleanDisk (state S.Store tables.old.conn) }
-    ensures moved { HasCleanDisk (state S.Store tables.new.conn) → (t : Rows) → IsAtRest (Some t) (state S.Store tables.old.conn) → IfOk result (λ facts. facts.items ≡ flat_pairs (moves_there types.now (number_in profiles.now) dim given t.fact) stored.now members.now) }
-    ensures sound { HasCleanDisk (state S.Store tables.new.conn) → (t : Rows) → IsAtRest (Some t) (state S.Store tables.old.conn) → FindsNoDamage result }
-    ensures same { HasCleanDisk (state S.Store tables.new.conn) → (t : Rows) → IsAtRest (Some t) (state S.Store tables.old.conn) → IsCalm result → IsAtRest (Some t) (state S.Store tables.new.conn) }
-    ensures left { HasCleanDisk (state S.Store tables.new.conn) → (t : Rows) → IsAtRest (Some t) (state S.Store tables.old.conn) → Leaves (Some t) (state S.Store tables.new.conn) }
+    ensures reads { ReadsOnly S.Store tables.old tables.new result }
+    ensures moved { Tells S.Store tables.old tables.new result (λ t facts. facts.items ≡ flat_pairs (moves_there types.now (number_in profiles.now) dim given t.fact) stored.now members.now) }
 {
     let mut found = Vec::new(alloc);
     for (place, member) in members.iter().enumerate() {
@@ -169,17 +158,9 @@ pub(crate) fn moved_facts<S: Alter>(
     touched: &[Member],
     profiles: &Profiles,
 ) -> Result<Vec<Fact>, ReadError<Refusal>>
-    ensures clean { HasCleanDisk (state S.Store tables.new.conn) → HasCleanDisk (state S.Store tables.old.conn) }
+    ensures reads { ReadsOnly S.Store tables.old tables.new result }
     // They are what leads from the facts of the commands so far to those with the batch.
-    ensures moved { HasCleanDisk (state S.Store tables.new.conn) → (limits : Limits) (commands : List Accepted) (c : Accepted) (t : Rows) → AreOf limits commands t → IsAccepted limits (commands ++ c ∷ []) → (records : List Told) → c.content ≡ Describes dim records
-        → policy_after None commands ≡ Some policy.now → IsSound policy.now → stored.now ≡ map (member_of dim commands) (naturals_told records)
-        → AllByRecursion (KnowsEnough dim (types_of policy.now dim) (number_in profiles.now) (profiles_of (commands ++ c ∷ []))) touched.now
-        → touched.now ≡ (touched_by dim commands (commands ++ c ∷ []) records).list → given ≡ length (members dim commands)
-        → IsAtRest (Some t) (state S.Store tables.old.conn)
-        → IfOk result (λ facts. AreFacts (fact_at commands) (fact_at (commands ++ c ∷ [])) facts.items) }
-    ensures sound { HasCleanDisk (state S.Store tables.new.conn) → (t : Rows) → IsAtRest (Some t) (state S.Store tables.old.conn) → FindsNoDamage result }
-    ensures same { HasCleanDisk (state S.Store tables.new.conn) → (t : Rows) → IsAtRest (Some t) (state S.Store tables.old.conn) → IsCalm result → IsAtRest (Some t) (state S.Store tables.new.conn) }
-    ensures left { HasCleanDisk (state S.Store tables.new.conn) → (t : Rows) → IsAtRest (Some t) (state S.Store tables.old.conn) → Leaves (Some t) (state S.Store tables.new.conn) }
+    ensures moved { Finds S.Store tables.old tables.new (λ limits commands. (c : Accepted) → IsAccepted limits (commands ++ c ∷ []) → (records : List Told) → c.content ≡ Describes dim records → policy_after None commands ≡ Some policy.now → IsSound policy.now → stored.now ≡ map (member_of dim commands) (naturals_told records) → AllByRecursion (KnowsEnough dim (types_of policy.now dim) (number_in profiles.now) (profiles_of (commands ++ c ∷ []))) touched.now → touched.now ≡ (touched_by dim commands (commands ++ c ∷ []) records).list → given ≡ length (members dim commands) → IfOk result (λ facts. AreFacts (fact_at commands) (fact_at (commands ++ c ∷ [])) facts.items)) }
 {
     let types = policy.types(alloc, dim)?;
     moved_of_members(tables, alloc, &types, dim, given, stored, touched, profiles)

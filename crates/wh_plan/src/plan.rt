@@ -2,8 +2,6 @@
 
 ghost use Rattle.std.specs.Prelude.{◌≡◌, ◌≤◌, ◌++◌, ◌∷◌, [], suc, ℕ, List, map, length, filter_map, None, Some, IfOk};
 ghost use Rattle.std.specs.List.{AllByRecursion};
-ghost use Rattle.sqlite.specs.Held.{state};
-ghost use Rattle.sqlite.specs.State.{HasCleanDisk};
 ghost use Rattle.wh_policy.specs.Policy.{types_of};
 ghost use Rattle.wh_policy.specs.Written.{IsSound};
 ghost use Rattle.wh_policy.specs.declared.attribute.Dim.TheVariants.{Product, Store, Customer};
@@ -12,17 +10,15 @@ ghost use Rattle.wh_history.specs.Accepted.{Accepted, Describes, anchors, member
 ghost use Rattle.wh_history.specs.Laws.{RecordsHaveDays};
 ghost use Rattle.wh_history.specs.Plan.{IsPlan, row_of};
 ghost use Rattle.wh_history.specs.Known.{number_in, KnowsEnough};
-ghost use Rattle.wh_history.specs.Tables.{Limits, dimension_row};
+ghost use Rattle.wh_history.specs.Tables.{dimension_row};
 ghost use Rattle.wh_history.specs.Touched.{touched_by};
-ghost use Rattle.wh_rows.specs.AtRest.{IsAtRest, Leaves};
-ghost use Rattle.wh_rows.specs.Tables.{Tables as Rows};
-ghost use Rattle.wh_plan.specs.Defined.{AreOf, command_at, fact_at};
+ghost use Rattle.wh_plan.specs.Defined.{command_at, fact_at};
 ghost use Rattle.wh_plan.specs.Found.{IsFound};
 ghost use Rattle.wh_plan.specs.Learned.{IsLearned};
 ghost use Rattle.wh_plan.specs.Kept.{HaveNoEmptyValue};
 ghost use Rattle.wh_plan.specs.Planned.{AreEdits, AreFacts, in_dimension};
 ghost use Rattle.wh_plan.specs.Planning.{members_among, naturals_told, rows_of_members};
-ghost use Rattle.wh_plan.specs.Reads.{IsCalm, FindsNoDamage};
+ghost use Rattle.wh_plan.specs.Reads.{ReadsOnly, Finds};
 ghost use Rattle.wh_plan.specs.Sound.{IsAccepted};
 
 use crate::edits::Edits;
@@ -49,11 +45,8 @@ fn stored_members<S: Alter>(
     dim: Dim,
     naturals: &[Value],
 ) -> Result<Vec<Member>, ReadError<Refusal>>
-    ensures clean { HasCleanDisk (state S.Store tables.new.conn) → HasCleanDisk (state S.Store tables.old.conn) }
-    ensures members { HasCleanDisk (state S.Store tables.new.conn) → (limits : Limits) (commands : List Accepted) (t : Rows) → AreOf limits commands t → HaveNoEmptyValue commands → IsAtRest (Some t) (state S.Store tables.old.conn) → IfOk result (λ members. members.items ≡ map (member_of dim commands) naturals.now) }
-    ensures sound { HasCleanDisk (state S.Store tables.new.conn) → (t : Rows) → IsAtRest (Some t) (state S.Store tables.old.conn) → FindsNoDamage result }
-    ensures same { HasCleanDisk (state S.Store tables.new.conn) → (t : Rows) → IsAtRest (Some t) (state S.Store tables.old.conn) → IsCalm result → IsAtRest (Some t) (state S.Store tables.new.conn) }
-    ensures left { HasCleanDisk (state S.Store tables.new.conn) → (t : Rows) → IsAtRest (Some t) (state S.Store tables.old.conn) → Leaves (Some t) (state S.Store tables.new.conn) }
+    ensures reads { ReadsOnly S.Store tables.old tables.new result }
+    ensures members { Finds S.Store tables.old tables.new (λ _ commands. HaveNoEmptyValue commands → IfOk result (λ members. members.items ≡ map (member_of dim commands) naturals.now)) }
 {
     let mut found = Vec::new(alloc);
     for natural in naturals {
@@ -69,13 +62,8 @@ fn rows_of_member<S: Alter>(
     dim: Dim,
     member: &Member,
 ) -> Result<Vec<DimRow>, ReadError<Refusal>>
-    ensures clean { HasCleanDisk (state S.Store tables.new.conn) → HasCleanDisk (state S.Store tables.old.conn) }
-    ensures rows { HasCleanDisk (state S.Store tables.new.conn) → (limits : Limits) (commands : List Accepted) (t : Rows) → AreOf limits commands t → RecordsHaveDays commands → IsAtRest (Some t) (state S.Store tables.old.conn)
-        → (natural : List ℕ) → member.now ≡ member_of dim commands natural
-        → IfOk result (λ rows. (key : ℕ) → row_of key rows.items ≡ row_of key (rows_of_members commands dim (members_among commands dim (natural ∷ [])))) }
-    ensures sound { HasCleanDisk (state S.Store tables.new.conn) → (t : Rows) → IsAtRest (Some t) (state S.Store tables.old.conn) → FindsNoDamage result }
-    ensures same { HasCleanDisk (state S.Store tables.new.conn) → (t : Rows) → IsAtRest (Some t) (state S.Store tables.old.conn) → IsCalm result → IsAtRest (Some t) (state S.Store tables.new.conn) }
-    ensures left { HasCleanDisk (state S.Store tables.new.conn) → (t : Rows) → IsAtRest (Some t) (state S.Store tables.old.conn) → Leaves (Some t) (state S.Store tables.new.conn) }
+    ensures reads { ReadsOnly S.Store tables.old tables.new result }
+    ensures rows { Finds S.Store tables.old tables.new (λ _ commands. RecordsHaveDays commands → (natural : List ℕ) → member.now ≡ member_of dim commands natural → IfOk result (λ rows. (key : ℕ) → row_of key rows.items ≡ row_of key (rows_of_members commands dim (members_among commands dim (natural ∷ []))))) }
 {
     if member.durable == 0 {
         return Ok(Vec::new(alloc));
@@ -90,13 +78,8 @@ fn rows_of_stored<S: Alter>(
     dim: Dim,
     members: &[Member],
 ) -> Result<Vec<DimRow>, ReadError<Refusal>>
-    ensures clean { HasCleanDisk (state S.Store tables.new.conn) → HasCleanDisk (state S.Store tables.old.conn) }
-    ensures rows { HasCleanDisk (state S.Store tables.new.conn) → (limits : Limits) (commands : List Accepted) (t : Rows) → AreOf limits commands t → RecordsHaveDays commands → IsAtRest (Some t) (state S.Store tables.old.conn)
-        → (naturals : List (List ℕ)) → members.now ≡ map (member_of dim commands) naturals
-        → IfOk result (λ rows. (key : ℕ) → row_of key rows.items ≡ row_of key (rows_of_members commands dim (members_among commands dim naturals))) }
-    ensures sound { HasCleanDisk (state S.Store tables.new.conn) → (t : Rows) → IsAtRest (Some t) (state S.Store tables.old.conn) → FindsNoDamage result }
-    ensures same { HasCleanDisk (state S.Store tables.new.conn) → (t : Rows) → IsAtRest (Some t) (state S.Store tables.old.conn) → IsCalm result → IsAtRest (Some t) (state S.Store tables.new.conn) }
-    ensures left { HasCleanDisk (state S.Store tables.new.conn) → (t : Rows) → IsAtRest (Some t) (state S.Store tables.old.conn) → Leaves (Some t) (state S.Store tables.new.conn) }
+    ensures reads { ReadsOnly S.Store tables.old tables.new result }
+    ensures rows { Finds S.Store tables.old tables.new (λ _ commands. RecordsHaveDays commands → (naturals : List (List ℕ)) → members.now ≡ map (member_of dim commands) naturals → IfOk result (λ rows. (key : ℕ) → row_of key rows.items ≡ row_of key (rows_of_members commands dim (members_among commands dim naturals)))) }
 {
     let mut found = Vec::new(alloc);
     for member in members {
@@ -112,14 +95,9 @@ pub(crate) fn numbers_given<S: Alter>(
     alloc: Global,
     dim: Dim,
 ) -> Result<Given, ReadError<Refusal>>
-    ensures clean { HasCleanDisk (state S.Store tables.new.conn) → HasCleanDisk (state S.Store tables.old.conn) }
-    ensures given { HasCleanDisk (state S.Store tables.new.conn) → (limits : Limits) (commands : List Accepted) (t : Rows) → AreOf limits commands t → IsAtRest (Some t) (state S.Store tables.old.conn)
-        → length (members dim commands) ≤ 9999999 → length (anchors dim commands) ≤ 9999999
-        → IfOk result (λ given. given ≡ record { members = length (members dim commands); anchors = length (anchors dim commands) }) }
+    ensures reads { ReadsOnly S.Store tables.old tables.new result }
+    ensures given { Finds S.Store tables.old tables.new (λ _ commands. length (members dim commands) ≤ 9999999 → length (anchors dim commands) ≤ 9999999 → IfOk result (λ given. given ≡ record { members = length (members dim commands); anchors = length (anchors dim commands) })) }
     ensures few { IfOk result (λ given. (given.members ≤ 9999999) × (given.anchors ≤ 9999999)) }
-    ensures sound { HasCleanDisk (state S.Store tables.new.conn) → (t : Rows) → IsAtRest (Some t) (state S.Store tables.old.conn) → FindsNoDamage result }
-    ensures same { HasCleanDisk (state S.Store tables.new.conn) → (t : Rows) → IsAtRest (Some t) (state S.Store tables.old.conn) → IsCalm result → IsAtRest (Some t) (state S.Store tables.new.conn) }
-    ensures left { HasCleanDisk (state S.Store tables.new.conn) → (t : Rows) → IsAtRest (Some t) (state S.Store tables.old.conn) → Leaves (Some t) (state S.Store tables.new.conn) }
 {
     let given = members_given(tables, alloc, dim)?;
     match tables.greatest_anchor(alloc, dim) {
@@ -148,14 +126,9 @@ fn read_touched<S: Alter>(
     dim: Dim,
     records: &[DimensionRecord],
 ) -> Result<Found, ReadError<Refusal>>
-    ensures clean { HasCleanDisk (state S.Store tables.new.conn) → HasCleanDisk (state S.Store tables.old.conn) }
-    ensures found { HasCleanDisk (state S.Store tables.new.conn) → (limits : Limits) (commands : List Accepted) (c : Accepted) (t : Rows) → AreOf limits commands t → IsAccepted limits (commands ++ c ∷ [])
-        → c.content ≡ Describes dim records.now
-        → IsAtRest (Some t) (state S.Store tables.old.conn) → IfOk result (IsFound dim commands records.now) }
+    ensures reads { ReadsOnly S.Store tables.old tables.new result }
+    ensures found { Finds S.Store tables.old tables.new (λ limits commands. (c : Accepted) → IsAccepted limits (commands ++ c ∷ []) → c.content ≡ Describes dim records.now → IfOk result (IsFound dim commands records.now)) }
     ensures few { IfOk result (λ found. (found.given.members ≤ 9999999) × (found.given.anchors ≤ 9999999)) }
-    ensures sound { HasCleanDisk (state S.Store tables.new.conn) → (t : Rows) → IsAtRest (Some t) (state S.Store tables.old.conn) → FindsNoDamage result }
-    ensures same { HasCleanDisk (state S.Store tables.new.conn) → (t : Rows) → IsAtRest (Some t) (state S.Store tables.old.conn) → IsCalm result → IsAtRest (Some t) (state S.Store tables.new.conn) }
-    ensures left { HasCleanDisk (state S.Store tables.new.conn) → (t : Rows) → IsAtRest (Some t) (state S.Store tables.old.conn) → Leaves (Some t) (state S.Store tables.new.conn) }
 {
     let naturals = naturals_told(alloc, records)?;
     let members = stored_members(tables, alloc, dim, &naturals)?;
@@ -271,13 +244,8 @@ pub fn plan_batch<S: Alter>(
     command: CommandRow,
     records: &[DimensionRecord],
 ) -> Result<Edits, ReadError<Refusal>>
-    ensures clean { HasCleanDisk (state S.Store tables.new.conn) → HasCleanDisk (state S.Store tables.old.conn) }
-    ensures edits { HasCleanDisk (state S.Store tables.new.conn) → (limits : Limits) (commands : List Accepted) (c : Accepted) (t : Rows) → AreOf limits commands t → IsAccepted limits (commands ++ c ∷ [])
-        → c.content ≡ Describes dim records.now → policy_after None commands ≡ Some policy.now → IsSound policy.now → command_at (commands ++ c ∷ []) (suc (length commands)) ≡ Some command
-        → IsAtRest (Some t) (state S.Store tables.old.conn) → IfOk result (AreEdits commands c) }
-    ensures sound { HasCleanDisk (state S.Store tables.new.conn) → (t : Rows) → IsAtRest (Some t) (state S.Store tables.old.conn) → FindsNoDamage result }
-    ensures same { HasCleanDisk (state S.Store tables.new.conn) → (t : Rows) → IsAtRest (Some t) (state S.Store tables.old.conn) → IsCalm result → IsAtRest (Some t) (state S.Store tables.new.conn) }
-    ensures left { HasCleanDisk (state S.Store tables.new.conn) → (t : Rows) → IsAtRest (Some t) (state S.Store tables.old.conn) → Leaves (Some t) (state S.Store tables.new.conn) }
+    ensures reads { ReadsOnly S.Store tables.old tables.new result }
+    ensures edits { Finds S.Store tables.old tables.new (λ limits commands. (c : Accepted) → IsAccepted limits (commands ++ c ∷ []) → c.content ≡ Describes dim records.now → policy_after None commands ≡ Some policy.now → IsSound policy.now → command_at (commands ++ c ∷ []) (suc (length commands)) ≡ Some command → IfOk result (AreEdits commands c)) }
 {
     let found = read_touched(tables, alloc, dim, records)?;
     let given = found.given;

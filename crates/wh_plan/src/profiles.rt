@@ -4,21 +4,15 @@
 ghost use Rattle.std.specs.Prelude.{◌≡◌, ◌≤◌, ◌++◌, ◌∷◌, [], ℕ, suc, List, nat_le, length, map, find, option_map, None, Some, IfOk, OnOk};
 ghost use Rattle.std.specs.List.{list_any, AllByRecursion};
 ghost use Rattle.std.specs.Option.{option_copied, option_to_list};
-ghost use Rattle.sqlite.specs.Held.{state};
-ghost use Rattle.sqlite.specs.State.{HasCleanDisk};
 ghost use Rattle.wh_policy.specs.Policy.{types_of};
 ghost use Rattle.wh_policy.specs.Written.{IsSound};
 ghost use Rattle.wh_policy.specs.declared.attribute.Dim.TheVariants.{Customer};
 ghost use Rattle.wh_history.specs.Accepted.{Accepted, Describes, policy_after, profiles_of};
 ghost use Rattle.wh_history.specs.Known.{number_in, numbered_from, KnowsEnough};
 ghost use Rattle.wh_history.specs.Slots.{texts_eq};
-ghost use Rattle.wh_history.specs.Tables.{Limits};
 ghost use Rattle.wh_history.specs.Touched.{touched_by};
-ghost use Rattle.wh_rows.specs.AtRest.{IsAtRest, Leaves};
-ghost use Rattle.wh_rows.specs.Tables.{Tables as Rows};
-ghost use Rattle.wh_plan.specs.Defined.{AreOf};
 ghost use Rattle.wh_plan.specs.Learned.{with_combination, with_combinations, told_of, said_of, said_by, number_kept, numbered_as, learned, is_none, unknown, row_of_profile, IsLearned};
-ghost use Rattle.wh_plan.specs.Reads.{IsCalm, FindsNoDamage};
+ghost use Rattle.wh_plan.specs.Reads.{ReadsOnly, Finds, Tells};
 ghost use Rattle.wh_plan.specs.Sound.{IsAccepted};
 
 use crate::kept::asked;
@@ -133,11 +127,8 @@ fn number_kept<S: Alter>(
     alloc: Global,
     texts: &Values,
 ) -> Result<Option<u64>, ReadError<Refusal>>
-    ensures clean { HasCleanDisk (state S.Store tables.new.conn) → HasCleanDisk (state S.Store tables.old.conn) }
-    ensures number { HasCleanDisk (state S.Store tables.new.conn) → (t : Rows) → IsAtRest (Some t) (state S.Store tables.old.conn) → IfOk result (λ number. number ≡ number_kept t.profile texts.now) }
-    ensures sound { HasCleanDisk (state S.Store tables.new.conn) → (t : Rows) → IsAtRest (Some t) (state S.Store tables.old.conn) → FindsNoDamage result }
-    ensures same { HasCleanDisk (state S.Store tables.new.conn) → (t : Rows) → IsAtRest (Some t) (state S.Store tables.old.conn) → IsCalm result → IsAtRest (Some t) (state S.Store tables.new.conn) }
-    ensures left { HasCleanDisk (state S.Store tables.new.conn) → (t : Rows) → IsAtRest (Some t) (state S.Store tables.old.conn) → Leaves (Some t) (state S.Store tables.new.conn) }
+    ensures reads { ReadsOnly S.Store tables.old tables.new result }
+    ensures number { Tells S.Store tables.old tables.new result (λ t number. number ≡ number_kept t.profile texts.now) }
 {
     let question = ProfileOf { values: texts };
     let rows = asked::<tables::Profile, ProfileOf<'_>, S>(tables, alloc, &question)?;
@@ -165,11 +156,8 @@ fn looked_up<S: Alter>(
     alloc: Global,
     combinations: &[Values],
 ) -> Result<Profiles, ReadError<Refusal>>
-    ensures clean { HasCleanDisk (state S.Store tables.new.conn) → HasCleanDisk (state S.Store tables.old.conn) }
-    ensures known { HasCleanDisk (state S.Store tables.new.conn) → (t : Rows) → IsAtRest (Some t) (state S.Store tables.old.conn) → IfOk result (λ known. known ≡ learned (number_kept t.profile) combinations.now) }
-    ensures sound { HasCleanDisk (state S.Store tables.new.conn) → (t : Rows) → IsAtRest (Some t) (state S.Store tables.old.conn) → FindsNoDamage result }
-    ensures same { HasCleanDisk (state S.Store tables.new.conn) → (t : Rows) → IsAtRest (Some t) (state S.Store tables.old.conn) → IsCalm result → IsAtRest (Some t) (state S.Store tables.new.conn) }
-    ensures left { HasCleanDisk (state S.Store tables.new.conn) → (t : Rows) → IsAtRest (Some t) (state S.Store tables.old.conn) → Leaves (Some t) (state S.Store tables.new.conn) }
+    ensures reads { ReadsOnly S.Store tables.old tables.new result }
+    ensures known { Tells S.Store tables.old tables.new result (λ t known. known ≡ learned (number_kept t.profile) combinations.now) }
 {
     let mut known = Profiles::new(alloc);
     for texts in combinations {
@@ -232,13 +220,9 @@ fn profiles_given<S: Alter>(
     tables: &mut Tables<S>,
     alloc: Global,
 ) -> Result<u64, ReadError<Refusal>>
-    ensures clean { HasCleanDisk (state S.Store tables.new.conn) → HasCleanDisk (state S.Store tables.old.conn) }
-    ensures given { HasCleanDisk (state S.Store tables.new.conn) → (limits : Limits) (commands : List Accepted) (t : Rows) → AreOf limits commands t → IsAtRest (Some t) (state S.Store tables.old.conn)
-        → suc (length (profiles_of commands)) ≤ 9999999 → IfOk result (λ given. given ≡ suc (length (profiles_of commands))) }
+    ensures reads { ReadsOnly S.Store tables.old tables.new result }
+    ensures given { Finds S.Store tables.old tables.new (λ _ commands. suc (length (profiles_of commands)) ≤ 9999999 → IfOk result (λ given. given ≡ suc (length (profiles_of commands)))) }
     ensures few { IfOk result (λ given. given ≤ 9999999) }
-    ensures sound { HasCleanDisk (state S.Store tables.new.conn) → (t : Rows) → IsAtRest (Some t) (state S.Store tables.old.conn) → FindsNoDamage result }
-    ensures same { HasCleanDisk (state S.Store tables.new.conn) → (t : Rows) → IsAtRest (Some t) (state S.Store tables.old.conn) → IsCalm result → IsAtRest (Some t) (state S.Store tables.new.conn) }
-    ensures left { HasCleanDisk (state S.Store tables.new.conn) → (t : Rows) → IsAtRest (Some t) (state S.Store tables.old.conn) → Leaves (Some t) (state S.Store tables.new.conn) }
 {
     let mut found = asked::<tables::Profile, Greatest, S>(tables, alloc, &Greatest)?;
     match found.pop() {
@@ -254,12 +238,8 @@ fn known_of_customers<S: Alter>(
     policy: &Policy,
     members: &[Member],
 ) -> Result<Profiles, ReadError<Refusal>>
-    ensures clean { HasCleanDisk (state S.Store tables.new.conn) → HasCleanDisk (state S.Store tables.old.conn) }
-    ensures known { HasCleanDisk (state S.Store tables.new.conn) → (t : Rows) → IsAtRest (Some t) (state S.Store tables.old.conn)
-        → IfOk result (λ known. known ≡ learned (number_kept t.profile) (with_combinations [] (said_by (types_of policy.now Customer) members.now))) }
-    ensures sound { HasCleanDisk (state S.Store tables.new.conn) → (t : Rows) → IsAtRest (Some t) (state S.Store tables.old.conn) → FindsNoDamage result }
-    ensures same { HasCleanDisk (state S.Store tables.new.conn) → (t : Rows) → IsAtRest (Some t) (state S.Store tables.old.conn) → IsCalm result → IsAtRest (Some t) (state S.Store tables.new.conn) }
-    ensures left { HasCleanDisk (state S.Store tables.new.conn) → (t : Rows) → IsAtRest (Some t) (state S.Store tables.old.conn) → Leaves (Some t) (state S.Store tables.new.conn) }
+    ensures reads { ReadsOnly S.Store tables.old tables.new result }
+    ensures known { Tells S.Store tables.old tables.new result (λ t known. known ≡ learned (number_kept t.profile) (with_combinations [] (said_by (types_of policy.now Customer) members.now))) }
 {
     let types = policy.types(alloc, Dim::Customer)?;
     let mut combinations = Vec::new(alloc);
@@ -275,12 +255,8 @@ pub(crate) fn known_of<S: Alter>(
     dim: Dim,
     members: &[Member],
 ) -> Result<Profiles, ReadError<Refusal>>
-    ensures clean { HasCleanDisk (state S.Store tables.new.conn) → HasCleanDisk (state S.Store tables.old.conn) }
-    ensures enough { HasCleanDisk (state S.Store tables.new.conn) → (limits : Limits) (commands : List Accepted) (t : Rows) → AreOf limits commands t → policy_after None commands ≡ Some policy.now → IsSound policy.now
-        → IsAtRest (Some t) (state S.Store tables.old.conn) → IfOk result (λ known. AllByRecursion (KnowsEnough dim (types_of policy.now dim) (number_in known) (profiles_of commands)) members.now) }
-    ensures sound { HasCleanDisk (state S.Store tables.new.conn) → (t : Rows) → IsAtRest (Some t) (state S.Store tables.old.conn) → FindsNoDamage result }
-    ensures same { HasCleanDisk (state S.Store tables.new.conn) → (t : Rows) → IsAtRest (Some t) (state S.Store tables.old.conn) → IsCalm result → IsAtRest (Some t) (state S.Store tables.new.conn) }
-    ensures left { HasCleanDisk (state S.Store tables.new.conn) → (t : Rows) → IsAtRest (Some t) (state S.Store tables.old.conn) → Leaves (Some t) (state S.Store tables.new.conn) }
+    ensures reads { ReadsOnly S.Store tables.old tables.new result }
+    ensures enough { Finds S.Store tables.old tables.new (λ _ commands. policy_after None commands ≡ Some policy.now → IsSound policy.now → IfOk result (λ known. AllByRecursion (KnowsEnough dim (types_of policy.now dim) (number_in known) (profiles_of commands)) members.now)) }
 {
     match dim {
         Dim::Customer => known_of_customers(tables, alloc, policy, members),
@@ -310,13 +286,8 @@ fn learned_of_customers<S: Alter>(
     records: &[DimensionRecord],
     touched: &[Member],
 ) -> Result<Learned, ReadError<Refusal>>
-    ensures clean { HasCleanDisk (state S.Store tables.new.conn) → HasCleanDisk (state S.Store tables.old.conn) }
-    ensures learned { HasCleanDisk (state S.Store tables.new.conn) → (limits : Limits) (commands : List Accepted) (c : Accepted) (t : Rows) → AreOf limits commands t → IsAccepted limits (commands ++ c ∷ [])
-        → c.content ≡ Describes Customer records.now → policy_after None commands ≡ Some policy.now → IsSound policy.now
-        → IsAtRest (Some t) (state S.Store tables.old.conn) → IfOk result (IsLearned Customer policy.now commands (commands ++ c ∷ []) touched.now) }
-    ensures sound { HasCleanDisk (state S.Store tables.new.conn) → (t : Rows) → IsAtRest (Some t) (state S.Store tables.old.conn) → FindsNoDamage result }
-    ensures same { HasCleanDisk (state S.Store tables.new.conn) → (t : Rows) → IsAtRest (Some t) (state S.Store tables.old.conn) → IsCalm result → IsAtRest (Some t) (state S.Store tables.new.conn) }
-    ensures left { HasCleanDisk (state S.Store tables.new.conn) → (t : Rows) → IsAtRest (Some t) (state S.Store tables.old.conn) → Leaves (Some t) (state S.Store tables.new.conn) }
+    ensures reads { ReadsOnly S.Store tables.old tables.new result }
+    ensures learned { Finds S.Store tables.old tables.new (λ limits commands. (c : Accepted) → IsAccepted limits (commands ++ c ∷ []) → c.content ≡ Describes Customer records.now → policy_after None commands ≡ Some policy.now → IsSound policy.now → IfOk result (IsLearned Customer policy.now commands (commands ++ c ∷ []) touched.now)) }
 {
     let types = policy.types(alloc, Dim::Customer)?;
     let told = combinations_told(alloc, &types, records)?;
@@ -337,13 +308,8 @@ pub(crate) fn learned_of<S: Alter>(
     records: &[DimensionRecord],
     touched: &[Member],
 ) -> Result<Learned, ReadError<Refusal>>
-    ensures clean { HasCleanDisk (state S.Store tables.new.conn) → HasCleanDisk (state S.Store tables.old.conn) }
-    ensures learned { HasCleanDisk (state S.Store tables.new.conn) → (limits : Limits) (commands : List Accepted) (c : Accepted) (t : Rows) → AreOf limits commands t → IsAccepted limits (commands ++ c ∷ [])
-        → c.content ≡ Describes dim records.now → policy_after None commands ≡ Some policy.now → IsSound policy.now
-        → IsAtRest (Some t) (state S.Store tables.old.conn) → IfOk result (IsLearned dim policy.now commands (commands ++ c ∷ []) touched.now) }
-    ensures sound { HasCleanDisk (state S.Store tables.new.conn) → (t : Rows) → IsAtRest (Some t) (state S.Store tables.old.conn) → FindsNoDamage result }
-    ensures same { HasCleanDisk (state S.Store tables.new.conn) → (t : Rows) → IsAtRest (Some t) (state S.Store tables.old.conn) → IsCalm result → IsAtRest (Some t) (state S.Store tables.new.conn) }
-    ensures left { HasCleanDisk (state S.Store tables.new.conn) → (t : Rows) → IsAtRest (Some t) (state S.Store tables.old.conn) → Leaves (Some t) (state S.Store tables.new.conn) }
+    ensures reads { ReadsOnly S.Store tables.old tables.new result }
+    ensures learned { Finds S.Store tables.old tables.new (λ limits commands. (c : Accepted) → IsAccepted limits (commands ++ c ∷ []) → c.content ≡ Describes dim records.now → policy_after None commands ≡ Some policy.now → IsSound policy.now → IfOk result (IsLearned dim policy.now commands (commands ++ c ∷ []) touched.now)) }
 {
     match dim {
         Dim::Customer => learned_of_customers(tables, alloc, policy, records, touched),

@@ -2,21 +2,16 @@
 
 ghost use Rattle.std.specs.Prelude.{◌≡◌, ◌≤◌, ◌++◌, ◌∷◌, [], suc, ℕ, List, length, None, Some, IfOk};
 ghost use Rattle.std.specs.List.{AllByRecursion, IsDistinct};
-ghost use Rattle.sqlite.specs.Held.{state};
-ghost use Rattle.sqlite.specs.State.{HasCleanDisk};
 ghost use Rattle.wh_policy.specs.Written.{IsSound};
 ghost use Rattle.wh_policy.specs.declared.attribute.Dim.{Dim as Dimension};
 ghost use Rattle.wh_policy.specs.declared.attribute.Dim.TheVariants.{Product, Store, Customer};
 ghost use Rattle.wh_history.specs.Accepted.{Accepted, Sells, anchors, members, placeholders_by, policy_after};
-ghost use Rattle.wh_history.specs.Tables.{Limits};
-ghost use Rattle.wh_rows.specs.AtRest.{IsAtRest, Leaves};
-ghost use Rattle.wh_rows.specs.Tables.{Tables as Rows};
-ghost use Rattle.wh_plan.specs.Defined.{AreOf, command_at, fact_at};
+ghost use Rattle.wh_plan.specs.Defined.{command_at, fact_at};
 ghost use Rattle.wh_plan.specs.Kept.{HaveNoEmptyValue};
 ghost use Rattle.wh_plan.specs.Sound.{same_line};
 ghost use Rattle.wh_plan.specs.Mentioned.{IsSide};
 ghost use Rattle.wh_plan.specs.Planned.{AreEdits};
-ghost use Rattle.wh_plan.specs.Reads.{IsCalm, FindsNoDamage};
+ghost use Rattle.wh_plan.specs.Reads.{ReadsOnly, Finds};
 
 use crate::edits::Edits;
 use crate::keyed::facts_of;
@@ -77,16 +72,8 @@ pub fn plan_sales<S: Alter>(
     command: CommandRow,
     sales: &[SaleRecord],
 ) -> Result<Edits, ReadError<Refusal>>
-    ensures clean { HasCleanDisk (state S.Store tables.new.conn) → HasCleanDisk (state S.Store tables.old.conn) }
-    ensures edits { HasCleanDisk (state S.Store tables.new.conn) → (limits : Limits) (commands : List Accepted) (c : Accepted) (t : Rows) → AreOf limits commands t → HaveNoEmptyValue commands
-        → ((dim : Dimension) → (length (members dim (commands ++ c ∷ [])) ≤ 9999999) × (length (anchors dim (commands ++ c ∷ [])) ≤ 9999999))
-        → c.content ≡ Sells sales.now → policy_after None commands ≡ Some policy.now → IsSound policy.now
-        → AllByRecursion (λ s. fact_at commands (record { ticket = s.ticket; line = s.line }) ≡ None) sales.now → IsDistinct same_line sales.now
-        → command_at (commands ++ c ∷ []) (suc (length commands)) ≡ Some (record command { placeholders = placeholders_by (commands ++ c ∷ []) (suc (length commands)) c.content })
-        → IsAtRest (Some t) (state S.Store tables.old.conn) → IfOk result (AreEdits commands c) }
-    ensures sound { HasCleanDisk (state S.Store tables.new.conn) → (t : Rows) → IsAtRest (Some t) (state S.Store tables.old.conn) → FindsNoDamage result }
-    ensures same { HasCleanDisk (state S.Store tables.new.conn) → (t : Rows) → IsAtRest (Some t) (state S.Store tables.old.conn) → IsCalm result → IsAtRest (Some t) (state S.Store tables.new.conn) }
-    ensures left { HasCleanDisk (state S.Store tables.new.conn) → (t : Rows) → IsAtRest (Some t) (state S.Store tables.old.conn) → Leaves (Some t) (state S.Store tables.new.conn) }
+    ensures reads { ReadsOnly S.Store tables.old tables.new result }
+    ensures edits { Finds S.Store tables.old tables.new (λ _ commands. (c : Accepted) → HaveNoEmptyValue commands → ((dim : Dimension) → (length (members dim (commands ++ c ∷ [])) ≤ 9999999) × (length (anchors dim (commands ++ c ∷ [])) ≤ 9999999)) → c.content ≡ Sells sales.now → policy_after None commands ≡ Some policy.now → IsSound policy.now → AllByRecursion (λ s. fact_at commands (record { ticket = s.ticket; line = s.line }) ≡ None) sales.now → IsDistinct same_line sales.now → command_at (commands ++ c ∷ []) (suc (length commands)) ≡ Some (record command { placeholders = placeholders_by (commands ++ c ∷ []) (suc (length commands)) c.content }) → IfOk result (AreEdits commands c)) }
 {
     let products = side_read(tables, alloc, policy, Dim::Product, sales)?;
     let stores = side_read(tables, alloc, policy, Dim::Store, sales)?;

@@ -2,23 +2,19 @@
 
 ghost use Rattle.std.specs.Prelude.{◌≡◌, ◌≤◌, ◌+◌, ◌<◌, ◌^◌, ◌++◌, ◌∷◌, [], ℕ, List, map, length, filter_map, option_map, None, Some, IfOk, OnOk};
 ghost use Rattle.std.specs.List.{AllByRecursion};
-ghost use Rattle.sqlite.specs.Held.{state};
-ghost use Rattle.sqlite.specs.State.{HasCleanDisk};
 ghost use Rattle.wh_history.specs.Accepted.{Accepted, Sells, anchors, members, member_of, policy_after, profiles_of};
 ghost use Rattle.wh_history.specs.Known.{number_in, KnowsEnough};
 ghost use Rattle.wh_history.specs.Rows.{rows_by};
-ghost use Rattle.wh_history.specs.Tables.{Limits, dimension_row};
+ghost use Rattle.wh_history.specs.Tables.{dimension_row};
 ghost use Rattle.wh_history.specs.Touched.{grown};
 ghost use Rattle.wh_history.specs.declared.plan.Edit.TheVariants.{Put};
 ghost use Rattle.wh_policy.specs.Policy.{types_of};
 ghost use Rattle.wh_policy.specs.Written.{IsSound};
-ghost use Rattle.wh_rows.specs.AtRest.{IsAtRest, Leaves};
-ghost use Rattle.wh_rows.specs.Tables.{Tables as Rows};
-ghost use Rattle.wh_plan.specs.Defined.{AreOf, member_at};
+ghost use Rattle.wh_plan.specs.Defined.{member_at};
 ghost use Rattle.wh_plan.specs.Kept.{HaveNoEmptyValue};
 ghost use Rattle.wh_plan.specs.Mentioned.{naturals_sold, with_natural, with_numbers, numbered, last_row, placeholder, IsSide};
 ghost use Rattle.wh_plan.specs.Planned.{behind};
-ghost use Rattle.wh_plan.specs.Reads.{IsCalm, FindsNoDamage};
+ghost use Rattle.wh_plan.specs.Reads.{ReadsOnly, Finds};
 
 use crate::kept::stored_member;
 use crate::keyed::{SaleKeys, keys_of_sales, member_of_sale};
@@ -89,12 +85,8 @@ fn members_with_numbers<S: Alter>(
 ) -> Result<Vec<Member>, ReadError<Refusal>>
     requires members { given.members ≤ 9999999 }
     requires anchors { given.anchors ≤ 9999999 }
-    ensures clean { HasCleanDisk (state S.Store tables.new.conn) → HasCleanDisk (state S.Store tables.old.conn) }
-    ensures members { HasCleanDisk (state S.Store tables.new.conn) → (limits : Limits) (commands : List Accepted) (t : Rows) → AreOf limits commands t → HaveNoEmptyValue commands → IsAtRest (Some t) (state S.Store tables.old.conn)
-        → IfOk result (λ members. members.items ≡ numbered given.members given.anchors (map (member_of dim commands) naturals.now)) }
-    ensures sound { HasCleanDisk (state S.Store tables.new.conn) → (t : Rows) → IsAtRest (Some t) (state S.Store tables.old.conn) → FindsNoDamage result }
-    ensures same { HasCleanDisk (state S.Store tables.new.conn) → (t : Rows) → IsAtRest (Some t) (state S.Store tables.old.conn) → IsCalm result → IsAtRest (Some t) (state S.Store tables.new.conn) }
-    ensures left { HasCleanDisk (state S.Store tables.new.conn) → (t : Rows) → IsAtRest (Some t) (state S.Store tables.old.conn) → Leaves (Some t) (state S.Store tables.new.conn) }
+    ensures reads { ReadsOnly S.Store tables.old tables.new result }
+    ensures members { Finds S.Store tables.old tables.new (λ _ commands. HaveNoEmptyValue commands → IfOk result (λ members. members.items ≡ numbered given.members given.anchors (map (member_of dim commands) naturals.now))) }
 {
     let mut members = given.members;
     let mut anchors = given.anchors;
@@ -187,15 +179,9 @@ pub(crate) fn side_read<S: Alter>(
     dim: Dim,
     sales: &[SaleRecord],
 ) -> Result<Side, ReadError<Refusal>>
-    ensures clean { HasCleanDisk (state S.Store tables.new.conn) → HasCleanDisk (state S.Store tables.old.conn) }
-    ensures side { HasCleanDisk (state S.Store tables.new.conn) → (limits : Limits) (commands : List Accepted) (c : Accepted) (t : Rows) → AreOf limits commands t → HaveNoEmptyValue commands
-        → length (members dim (commands ++ c ∷ [])) ≤ 9999999 → length (anchors dim (commands ++ c ∷ [])) ≤ 9999999
-        → c.content ≡ Sells sales.now → policy_after None commands ≡ Some policy.now → IsSound policy.now
-        → IsAtRest (Some t) (state S.Store tables.old.conn) → IfOk result (IsSide dim commands (commands ++ c ∷ []) sales.now) }
+    ensures reads { ReadsOnly S.Store tables.old tables.new result }
+    ensures side { Finds S.Store tables.old tables.new (λ _ commands. (c : Accepted) → HaveNoEmptyValue commands → length (members dim (commands ++ c ∷ [])) ≤ 9999999 → length (anchors dim (commands ++ c ∷ [])) ≤ 9999999 → c.content ≡ Sells sales.now → policy_after None commands ≡ Some policy.now → IsSound policy.now → IfOk result (IsSide dim commands (commands ++ c ∷ []) sales.now)) }
     ensures many { IfOk result (λ side. length side.keys.items ≡ length sales.now) }
-    ensures sound { HasCleanDisk (state S.Store tables.new.conn) → (t : Rows) → IsAtRest (Some t) (state S.Store tables.old.conn) → FindsNoDamage result }
-    ensures same { HasCleanDisk (state S.Store tables.new.conn) → (t : Rows) → IsAtRest (Some t) (state S.Store tables.old.conn) → IsCalm result → IsAtRest (Some t) (state S.Store tables.new.conn) }
-    ensures left { HasCleanDisk (state S.Store tables.new.conn) → (t : Rows) → IsAtRest (Some t) (state S.Store tables.old.conn) → Leaves (Some t) (state S.Store tables.new.conn) }
 {
     let naturals = naturals_sold(alloc, dim, sales)?;
     let given = numbers_given(tables, alloc, dim)?;

@@ -7,14 +7,14 @@ use Rattle.wh_engine.proofs.Decisions.{judged_ok, judged_err, number_refused, re
 use Rattle.wh_engine.proofs.decision.decide_records.Goals as goal
 
 pub returns-clause-decided : goal.returns-clause-decided
-returns-clause-decided g c clean commands t held kind good new rests =
+returns-clause-decided g c clean commands t held rests kind good new =
     let limits = c.args.session.now.limits in
     let command = c.args.command.now in
     let dim = c.args.dim in
     let records = c.in_ok-records.records in
     let number = c.in-Ok.number in
     let content = Describes dim records in
-    let before = c.plan_batch.ensures.clean clean in
+    let before = c.plan_batch.ensures.reads.clean clean in
     let found = judged_ok (λ records told. records ≡ told) records (records_told dim (in_force commands) command.bytes) (rw (held.policy, c.as_slice.ensures) at c.in_ok-records.ensures.read) in
     let told : records_told dim (in_force commands) command.bytes ≡ Ok records = found.1 ∙ ap Ok (sym found.2) in
     let read = records_content limits commands command good new dim kind records told in
@@ -23,12 +23,12 @@ returns-clause-decided g c clean commands t held kind good new rests =
     let room : number_for limits commands content ≡ Ok number = numbered.1 ∙ ap Ok (sym numbered.2) in
     let still = c.in-Ok.ensures.same before t rests tt in
     let stored = own_row limits commands command good new content read number room ∙ ap Some (sym (c.in_ok-row.ensures ∙ ap (row_of_batch command number) count)) in
-    let edits = c.in_ok-edits.ensures.edits clean limits commands (accepted_as command content) t held.are (list_accepted limits commands command good new content read number room held.accepted)
-    (ap (Describes dim) (sym c.as_slice-3.ensures)) (policy_in_force commands held.accepted.governed ∙ ap Some (sym held.policy)) (subst IsSound (sym held.policy) (sound_in_force limits commands held.accepted)) stored still in
+    let edits = c.in_ok-edits.ensures.edits clean limits commands t held.are still (accepted_as command content) (list_accepted limits commands command good new content read number room held.accepted)
+    (ap (Describes dim) (sym c.as_slice-3.ensures)) (policy_in_force commands held.accepted.governed ∙ ap Some (sym held.policy)) (subst IsSound (sym held.policy) (sound_in_force limits commands held.accepted)) stored in
     rw (batch_accepted limits commands command good new content read number room, count) (refl, record { content = content; read = read; edits_are = edits })
 
 pub returns-in-Err-clause-decided : goal.returns-in-Err-clause-decided
-returns-in-Err-clause-decided g c clean commands t held kind good new rests =
+returns-in-Err-clause-decided g c clean commands t held rests kind good new =
     let limits = c.args.session.now.limits in
     let command = c.args.command.now in
     let dim = c.args.dim in

@@ -11,12 +11,12 @@ use Rattle.wh_engine.proofs.SalesPremises.{members_counted}
 use Rattle.wh_engine.proofs.decision.decide_sold.Goals as goal
 
 pub returns-clause-decided : goal.returns-clause-decided
-returns-clause-decided g c clean commands t held good new read rests =
+returns-clause-decided g c clean commands t held rests good new read =
     let limits = c.args.session.now.limits in
     let command = c.args.command.now in
     let number = c.in-Ok.number in
     let content = Sells c.args.sales.now in
-    let before = c.in_ok-edits.ensures.clean clean in
+    let before = c.in_ok-edits.ensures.reads.clean clean in
     let numbered = judged_ok (λ number next. number ≡ next) number (number_for limits commands content) (c.in-Ok.ensures.number before commands t held.are held.accepted rests) in
     let room : number_for limits commands content ≡ Ok number = numbered.1 ∙ ap Ok (sym numbered.2) in
     let still = c.in-Ok.ensures.same before t rests tt in
@@ -27,8 +27,8 @@ returns-clause-decided g c clean commands t held good new read rests =
     let stored = own_row limits commands command good new content read number room
     ∙ ap (λ (n : ℕ). Some (record (row_of_batch command number (length c.args.sales.now)) { placeholders = placeholders_by after n content })) next
     ∙ ap (λ (r : CommandRow). Some (record r { placeholders = placeholders_by after (suc (length commands)) content })) (sym row) in
-    let edits = c.in_ok-edits.ensures.edits clean limits commands (accepted_as command content) t held.are accepted refl (policy_in_force commands held.accepted.governed ∙ ap Some (sym held.policy))
-    (subst IsSound (sym held.policy) (sound_in_force limits commands held.accepted)) (lines_new limits commands command good new content read number room) stored still in
+    let edits = c.in_ok-edits.ensures.edits clean limits commands t held.are still (accepted_as command content) accepted refl (policy_in_force commands held.accepted.governed ∙ ap Some (sym held.policy))
+    (subst IsSound (sym held.policy) (sound_in_force limits commands held.accepted)) (lines_new limits commands command good new content read number room) stored in
     let shown = ap (λ (e : Edits). length e.members) c.edits.view_is in
     let as_many = members_counted commands (accepted_as command content) c.args.sales.now c.in_ok-edits.edits refl edits in
     let same : placeholders_by after (suc (length commands)) content ≡ c.len.result = let len = c.len.ensures in omega arith in
@@ -37,7 +37,7 @@ returns-clause-decided g c clean commands t held good new read rests =
     (ap (λ n. Accepts (record { number = number; records = length c.args.sales.now; placeholders = n })) counted, record { content = content; read = read; edits_are = edits })
 
 pub returns-in-Err-clause-decided : goal.returns-in-Err-clause-decided
-returns-in-Err-clause-decided g c clean commands t held good new read rests =
+returns-in-Err-clause-decided g c clean commands t held rests good new read =
     let limits = c.args.session.now.limits in
     let command = c.args.command.now in
     let content = Sells c.args.sales.now in

@@ -12,7 +12,7 @@ pub returns-in_err-write_edits-clause-left : goal.returns-in_err-write_edits-cla
 returns-in_err-write_edits-clause-left g c =
     let end = c.drop-writing.new.self.0 in
     let same : end ≡ c.tables-in_err-write_edits-1.given.0 = search rules in
-    let left = λ (clean : HasCleanDisk (state g.S.Store end.conn)) (t : Tables) (rests : IsAtRest (Some t) (state g.S.Store c.args.tables.now.conn)) (may : MayBeWritten c.args.edits.now t) (trees : Trees)
+    let left = λ (clean : HasCleanDisk (state g.S.Store end.conn)) (t : Tables) (rests : IsAtRest (Some t) (state g.S.Store c.args.tables.now.conn)) (may : MayBeWritten c.args.edits.now) (trees : Trees)
     (left : g.S.Store.recovers end.conn.store trees).
     let before = c.drop-writing.ensures.clean clean in
     let begun = c.in_ok-writing.ensures.begun (c.write_edits.ensures.clean before) (Some t) rests in
@@ -26,7 +26,7 @@ pub returns-clause-written : goal.returns-clause-written
 returns-clause-written g c =
     let end = c.commit.new.self.0 in
     let same : end ≡ c.tables-2-1.given.0 = search rules in
-    let written = λ (clean : HasCleanDisk (state g.S.Store end.conn)) (t : Tables) (rests : IsAtRest (Some t) (state g.S.Store c.args.tables.now.conn)) (may : MayBeWritten c.args.edits.now t).
+    let written = λ (clean : HasCleanDisk (state g.S.Store end.conn)) (t : Tables) (rests : IsAtRest (Some t) (state g.S.Store c.args.tables.now.conn)) (may : MayBeWritten c.args.edits.now).
     let before = c.commit.ensures.clean clean in
     let begun = c.in_ok-writing.ensures.begun (c.write_edits.ensures.clean before) (Some t) rests in
     c.commit.ensures.written clean (Some t) _ (c.in_ok-write_edits.ensures.written before (Some t) t begun may) in
@@ -36,7 +36,7 @@ pub returns-clause-left : goal.returns-clause-left
 returns-clause-left g c =
     let end = c.commit.new.self.0 in
     let same : end ≡ c.tables-2-1.given.0 = search rules in
-    let left = λ (clean : HasCleanDisk (state g.S.Store end.conn)) (t : Tables) (rests : IsAtRest (Some t) (state g.S.Store c.args.tables.now.conn)) (may : MayBeWritten c.args.edits.now t).
+    let left = λ (clean : HasCleanDisk (state g.S.Store end.conn)) (t : Tables) (rests : IsAtRest (Some t) (state g.S.Store c.args.tables.now.conn)) (may : MayBeWritten c.args.edits.now).
     let before = c.commit.ensures.clean clean in
     let begun = c.in_ok-writing.ensures.begun (c.write_edits.ensures.clean before) (Some t) rests in
     c.commit.ensures.left clean (Some t) _ (c.in_ok-write_edits.ensures.written before (Some t) t begun may) in

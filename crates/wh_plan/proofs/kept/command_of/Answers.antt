@@ -7,7 +7,7 @@ use Rattle.wh_plan.proofs.kept.command_of.Goals as goal
 
 -- src/kept.rt:22:1
 pub returns-clause-command : goal.returns-clause-command
-returns-clause-command g c clean limits commands t are distinct at =
+returns-clause-command g c clean limits commands t are at distinct =
     let found = c.in_ok-found.found in
     let len : vec_len found ≡ length found.items = omega arith in
     last_is (command_with commands c.args.id.now) c.pop.result found.items c.pop.new.self.items (vec_len found) len

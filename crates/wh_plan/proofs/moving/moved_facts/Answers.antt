@@ -9,7 +9,7 @@ use Rattle.wh_plan.proofs.MovedTouched.{facts_moved}
 use Rattle.wh_plan.proofs.moving.moved_facts.Goals as goal
 
 pub returns-clause-moved : goal.returns-clause-moved
-returns-clause-moved g c clean limits commands batch t are accepted records is governed sound read enough list count at =
+returns-clause-moved g c clean limits commands t are at batch accepted records is governed sound read enough list count =
     let touched = c.args.touched.now in
     let number = number_in c.args.profiles.now in
     let types = c.deref.ensures.value ∙ c.in_ok-types.ensures in

@@ -1,4 +1,4 @@
-use Rattle.std.proofs.Common.{◌<◌, ◌++◌, length, sym, ◌∙◌, ap, arith, append-nil}
+use Rattle.std.proofs.Common.{◌<◌, ◌++◌, length, sym, ◌∙◌, ap, arith, rules, append-nil}
 use Rattle.wh_history.specs.Known.{number_in}
 use Rattle.wh_plan.specs.Moved.{flat_pairs, moves_there}
 use Rattle.wh_plan.proofs.MovedLists.{pairs_further, pairs_none_right}
@@ -13,13 +13,12 @@ loop-place-preserved g c =
     let place = c.loop-place.place in
     let within : place < length stored = omega (arith, c.if-stored-place.false) in
     record {
-      clean = λ clean. kept.clean (read.clean clean);
-      same = λ clean t at. read.same clean t (kept.same (read.clean clean) t at) tt;
+      reads = search rules;
       moved = λ clean t at.
-          let before = read.clean clean in
+          let before = read.reads.clean clean in
           let moves = moves_there c.args.types.now (number_in c.args.profiles.now) c.args.dim c.args.given t.fact in
           pairs_further moves c.loop-place.found.items c.in_ok-facts.facts.items c.append.new.self.items (flat_pairs moves stored members) stored members place c.index-stored-place.result c.index-members-place.result
-          c.in_ok-append.ensures.items within c.index-stored-place.is c.loop-place-test.true c.index-members-place.is (read.moved clean t (kept.same before t at)) (kept.moved before t at);
+          c.in_ok-append.ensures.items within c.index-stored-place.is c.loop-place-test.true c.index-members-place.is (read.moved clean t (kept.reads.same before t at tt)) (kept.moved before t at);
     }
 
 pub returns-clause-moved : goal.returns-clause-moved

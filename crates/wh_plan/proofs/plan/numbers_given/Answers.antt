@@ -9,7 +9,7 @@ pub returns-in-Ok-clause-given : goal.returns-in-Ok-clause-given
 returns-in-Ok-clause-given g c clean limits commands t are at members_few anchors_few =
     let dim = c.args.dim in
     let before = c.in-Ok.ensures.clean clean in
-    let at_now = c.in_ok-given.ensures.same before t at tt in
+    let at_now = c.in_ok-given.ensures.reads.same before t at tt in
     let given = c.in_ok-given.ensures.given before limits commands t are at in
     let anchor = c.in-Ok.ensures.anchor clean t at_now in
     let counted = anchors_counted greatest refl (λ n ns. refl) limits commands t are dim in

@@ -1,4 +1,4 @@
-use Rattle.std.proofs.Common.{◌<◌, ◌≤◌, ◌++◌, ◌∷◌, [], ◌+◌, List, length, drop, get_or, sym, ◌∙◌, ap, subst, arith, append-nil}
+use Rattle.std.proofs.Common.{◌<◌, ◌≤◌, ◌++◌, ◌∷◌, [], ◌+◌, List, length, drop, get_or, sym, rules, ◌∙◌, ap, subst, arith, append-nil}
 use Rattle.std.proofs.lemmas.List.{at_drop_all, length-map}
 use Rattle.wh_history.specs.Accepted.{member_of}
 use Rattle.wh_history.specs.Plan.{row_of}
@@ -16,23 +16,22 @@ loop-member-preserved g c =
     let found = c.loop-member.found.items in
     let rows = c.in_ok-rows.rows.items in
     record {
-      clean = λ clean. kept.clean (read.clean clean);
-      same = λ clean t at. read.same clean t (kept.same (read.clean clean) t at) tt;
-      rows = λ clean limits commands t are days at naturals members_are key.
-          let before = read.clean clean in
+      reads = search rules;
+      rows = λ clean limits commands t are at days naturals members_are key.
+          let before = read.reads.clean clean in
           let within = subst (λ (ms : List Member). i < length ms) members_are c.loop-member-test.true in
           let stands = c.member-item.is ∙ ap (λ (ms : List Member). get_or ms i member) members_are in
           let next = next_made (member_of dim commands) naturals i member within stands in
           let left = Left dim commands (drop (i + 1) naturals) in
           ap (λ items. row_of key (items ++ left)) c.in_ok-append.ensures.items
-          ∙ row_behind key found rows (Left dim commands (next.0 ∷ [])) left (read.rows clean limits commands t are days (kept.same before t at) next.0 next.2 key)
+          ∙ row_behind key found rows (Left dim commands (next.0 ∷ [])) left (read.rows clean limits commands t are (kept.reads.same before t at tt) days next.0 next.2 key)
           ∙ ap (λ others. row_of key (found ++ others)) (sym (left_split dim commands next.0 (drop (i + 1) naturals)))
           ∙ ap (λ ns. row_of key (found ++ Left dim commands ns)) (sym next.1)
-          ∙ kept.rows before limits commands t are days at naturals members_are key;
+          ∙ kept.rows before limits commands t are at days naturals members_are key;
     }
 
 pub returns-clause-rows : goal.returns-clause-rows
-returns-clause-rows g c clean limits commands t are days at naturals members_are key =
+returns-clause-rows g c clean limits commands t are at days naturals members_are key =
     let found = c.loop-member.found.items in
     let i = c.loop-member.member-index in
     let over : length naturals ≤ i =
@@ -42,4 +41,4 @@ returns-clause-rows g c clean limits commands t are days at naturals members_are
     omega arith in
     sym (ap (row_of key) (append-nil found))
     ∙ sym (at_drop_all (λ ns. row_of key (found ++ Left c.args.dim commands ns)) naturals i over)
-    ∙ c.loop-member.invariant.rows clean limits commands t are days at naturals members_are key
+    ∙ c.loop-member.invariant.rows clean limits commands t are at days naturals members_are key

@@ -9,7 +9,7 @@ use Rattle.wh_plan.proofs.PlanProfiles.{customers_known, others_known}
 use Rattle.wh_plan.proofs.profiles.known_of.Goals as goal
 
 pub returns-in-Customer-clause-enough : goal.returns-in-Customer-clause-enough
-returns-in-Customer-clause-enough g c clean limits commands t are governed sound at =
+returns-in-Customer-clause-enough g c clean limits commands t are at governed sound =
     let policy = c.args.policy.now in
     let members = c.args.members.now in
     IfOk-weaker c.known_of_customers.result _ _
@@ -18,9 +18,6 @@ returns-in-Customer-clause-enough g c clean limits commands t are governed sound
 
 pub returns-in_default : goal.returns-in_default
 returns-in_default g c = record {
-  clean = λ clean. clean;
-  enough = λ clean limits commands t are governed sound at. others_known c.args.dim c.args.policy.now sound c.in_default.not-Customer (number_in c.new.result) (profiles_of commands) c.args.members.now;
-  sound = λ clean t at. tt;
-  same = λ clean t at calm. at;
-  left = λ clean t at. at.left;
+  reads = record { clean = λ clean. clean; sound = λ clean t at. tt; same = λ clean t at calm. at; left = λ clean t at. at.left };
+  enough = λ clean limits commands t are at governed sound. others_known c.args.dim c.args.policy.now sound c.in_default.not-Customer (number_in c.new.result) (profiles_of commands) c.args.members.now;
 }

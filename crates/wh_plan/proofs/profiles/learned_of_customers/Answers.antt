@@ -10,17 +10,17 @@ use Rattle.wh_plan.proofs.SmallNumbers.{profiles_few}
 use Rattle.wh_plan.proofs.profiles.learned_of_customers.Goals as goal
 
 pub returns-clause-learned : goal.returns-clause-learned
-returns-clause-learned g c clean limits commands batch t are accepted is governed sound at =
+returns-clause-learned g c clean limits commands t are at batch accepted is governed sound =
     let policy = c.args.policy.now in
     let records = c.args.records.now in
     let members = c.args.touched.now in
     let kinds = types_of policy Customer in
     let kept = number_kept t.profile in
-    let before = c.in_ok-given.ensures.clean clean in
+    let before = c.in_ok-given.ensures.reads.clean clean in
     let told = c.in_ok-told.ensures ∙ ap (λ ks. with_combinations [] (told_of ks records)) (c.deref.ensures.value ∙ c.in_ok-types.ensures) in
     let all = c.deref-3.ensures.value ∙ c.in_ok-all.ensures ∙ ap (λ ks. with_combinations (with_combinations [] (told_of ks records)) (said_by ks members)) (c.deref-2.ensures.value ∙ c.in_ok-types.ensures) in
     let looked = c.in_ok-known.ensures.known before t at ∙ ap (learned kept) all in
-    let still = c.in_ok-known.ensures.same before t at tt in
+    let still = c.in_ok-known.ensures.reads.same before t at tt in
     let given = c.in_ok-given.ensures.given clean limits commands t are still (base_few commands batch (ap governs is) (profiles_few limits (commands ++ batch ∷ []) accepted)) in
     let next : c.in_ok-given.given + 1 ≡ suc (suc (length (profiles_of commands))) = omega arith in
     let combinations = c.deref-5.ensures.value ∙ c.in_ok-combinations.ensures ∙ ap (λ ks. unknown ks c.deref-4.result.now) looked ∙ ap (unknown (learned kept (with_combinations (with_combinations [] (told_of kinds records)) (said_by kinds members)))) (c.deref-4.ensures.value ∙ told) in

@@ -1,4 +1,4 @@
-use Rattle.std.proofs.Common.{map, arith}
+use Rattle.std.proofs.Common.{map, arith, rules}
 use Rattle.wh_history.specs.Accepted.{member_of}
 use Rattle.wh_plan.specs.Mentioned.{numbered}
 use Rattle.wh_plan.proofs.SalesNaturals.{grown_few, numbered_more}
@@ -20,11 +20,10 @@ loop-natural-preserved g c =
     record {
       members_few = omega arith;
       anchors_few = omega arith;
-      clean = λ clean. kept.clean (read.clean clean);
-      same = λ clean t at. read.same clean t (kept.same (read.clean clean) t at) tt;
-      members = λ clean limits commands t are full at.
-          let before = read.clean clean in
+      reads = search rules;
+      members = λ clean limits commands t are at full.
+          let before = read.reads.clean clean in
           numbered_more (member_of c.args.dim commands) c.args.naturals.now i c.natural-item.result c.loop-natural.found.items c.push.new.self.items (numbered c.args.given.members c.args.given.anchors (map (member_of c.args.dim commands) c.args.naturals.now)) stored
           c.give_numbers.new.member c.loop-natural.members c.loop-natural.anchors c.give_numbers.new.members c.give_numbers.new.anchors
-          c.loop-natural-test.true c.natural-item.is (read.member clean limits commands t are full (kept.same before t at)) c.in_ok-push.ensures.items given.member given.members given.anchors (kept.members before limits commands t are full at);
+          c.loop-natural-test.true c.natural-item.is (read.member clean limits commands t are (kept.reads.same before t at tt) full) c.in_ok-push.ensures.items given.member given.members given.anchors (kept.members before limits commands t are at full);
     }

@@ -1,4 +1,4 @@
--- Rows that may stand beside each other: no two commands have one id, and no two members of a dimension one natural key.
+-- No two commands have one id, and no two members of a dimension one natural key.
 use Rattle.std.proofs.Common.{◌≡◌, ℕ, zero, suc, Bool, true, false, List, [], ◌∷◌, map, Some, refl, sym, ap, ◌∙◌}
 use Rattle.std.specs.Prelude.{slice_get, bytes_eq}
 use Rattle.std.specs.Bool.{Decides}
@@ -12,12 +12,8 @@ use Rattle.wh_history.proofs.Once.{IsOnce, apart, once_distinct}
 use Rattle.wh_rows.specs.declared.rows.CommandRow.{CommandRow}
 use Rattle.wh_rows.specs.declared.rows.MemberRow.{MemberRow}
 use Rattle.wh_rows.specs.declared.key.MemberKey.{MemberKey}
-use Rattle.wh_rows.proofs.Commands
-use Rattle.wh_rows.proofs.Members
-use Rattle.wh_rows.proofs.Orders.{dim_once}
 use Rattle.wh_plan.specs.Defined.{command_at, member_at}
-use Rattle.wh_plan.proofs.GrownCommands.{command_keyed}
-use Rattle.wh_plan.proofs.GrownMembers.{member_keyed}
+use Rattle.wh_plan.specs.Laws.{SecondKeysAreApart}
 use Rattle.wh_plan.proofs.ValidTables.{made_of}
 
 -- ---- what stands once has one place
@@ -70,10 +66,6 @@ at_mapped f (suc n) xs x is = get_mapped f n xs x is
 -- ---- commands
 
 module _ (commands : List Accepted) where
-  -- a row of the table that the commands define
-  abbrev pub IsCommandOf : CommandRow → Type 0
-  IsCommandOf v = (number : ℕ) × (command_at commands number ≡ Some v)
-
   abbrev ids : List (List ℕ)
   ids = map (λ (c : Accepted). c.id) commands
 
@@ -84,31 +76,28 @@ module _ (commands : List Accepted) where
       let own : v.id ≡ inner.0.id = ap (λ (q : CommandRow). q.id) outer.2 ∙ ap (λ (q : history.CommandRow). q.id) inner.2 in
       at_mapped (λ (c : Accepted). c.id) number commands inner.0 inner.1 ∙ ap Some (sym own)
 
-  pub commands_stand : IsDistinct bytes_eq ids → (v w : CommandRow) → IsCommandOf v → IsCommandOf w → Commands.may_stand v w
-  commands_stand distinct v w of_v of_w same =
-      let left = id_at of_v.0 v of_v.1 in
-      let right = id_at of_w.0 w of_w.1 ∙ ap Some (sym same) in
-      let one = one_at bytes_eq bytes_eq-Decides of_v.0 of_w.0 ids v.id (distinct_once bytes_eq bytes_eq-Decides ids distinct) left right in
-      command_keyed commands of_v.0 v of_v.1 ∙ one ∙ sym (command_keyed commands of_w.0 w of_w.1)
+  own_id : IsDistinct bytes_eq ids → (a b : ℕ) (v w : CommandRow) → command_at commands a ≡ Some v → command_at commands b ≡ Some w → v.id ≡ w.id → a ≡ b
+  own_id distinct a b v w at_a at_b same =
+      one_at bytes_eq bytes_eq-Decides a b ids v.id (distinct_once bytes_eq bytes_eq-Decides ids distinct) (id_at a v at_a) (id_at b w at_b ∙ ap Some (sym same))
 
 -- ---- members
 
 module _ (commands : List Accepted) where
-  abbrev pub IsMemberOf : MemberRow → Type 0
-  IsMemberOf v = (key : MemberKey) × (member_at commands key ≡ Some v)
-
-  natural_at : (v : MemberRow) → IsMemberOf v → at_place v.durable (members v.dim commands) ≡ Some v.natural
-  natural_at v of =
-      let key : MemberKey = record { dim = v.dim; durable = v.durable } in
-      let is : member_at commands key ≡ Some v = ap (member_at commands) (member_keyed commands of.0 v of.1) ∙ of.1 in
+  natural_at : (key : MemberKey) (v : MemberRow) → member_at commands key ≡ Some v → at_place key.durable (members key.dim commands) ≡ Some v.natural
+  natural_at key v is =
       let outer = made_of (λ (m : history.MemberRow). record { dim = key.dim; durable = key.durable; natural = m.natural; opening = m.opening }) (history.member_row commands key.dim key.durable) v is in
       let inner = made_of (λ (natural : List ℕ). record { natural = natural; opening = surrogate_key key.dim commands (opening_of natural) }) (at_place key.durable (members key.dim commands)) outer.0 outer.1 in
       let own : v.natural ≡ inner.0 = ap (λ (q : MemberRow). q.natural) outer.2 ∙ ap (λ (q : history.MemberRow). q.natural) inner.2 in
       inner.1 ∙ ap Some (sym own)
 
-  pub members_stand : (v w : MemberRow) → IsMemberOf v → IsMemberOf w → Members.may_stand v w
-  members_stand v w of_v of_w same_dim same_natural =
-      let left = natural_at v of_v in
-      let right : at_place w.durable (members v.dim commands) ≡ Some v.natural = ap (λ d. at_place w.durable (members d commands)) (dim_once v.dim w.dim same_dim) ∙ natural_at w of_w ∙ ap Some (sym same_natural) in
-      one_at bytes_eq bytes_eq-Decides v.durable w.durable (members v.dim commands) v.natural
-      (once_distinct bytes_eq bytes_eq-Decides (map (λ (a : Anchor). a.natural) (mentions v.dim commands))) left right
+  own_natural : (a b : MemberKey) (v w : MemberRow) → member_at commands a ≡ Some v → member_at commands b ≡ Some w → a.dim ≡ b.dim → v.natural ≡ w.natural → a.durable ≡ b.durable
+  own_natural a b v w at_a at_b same_dim same_natural =
+      let right : at_place b.durable (members a.dim commands) ≡ Some v.natural = ap (λ d. at_place b.durable (members d commands)) same_dim ∙ natural_at b w at_b ∙ ap Some (sym same_natural) in
+      one_at bytes_eq bytes_eq-Decides a.durable b.durable (members a.dim commands) v.natural
+      (once_distinct bytes_eq bytes_eq-Decides (map (λ (a : Anchor). a.natural) (mentions a.dim commands))) (natural_at a v at_a) right
+
+pub second_keys_are_apart : SecondKeysAreApart
+second_keys_are_apart limits commands t ok are = (
+  λ a b v w at_a at_b same. own_id commands ok.distinct a b v w (sym (are.command a) ∙ at_a) (sym (are.command b) ∙ at_b) same,
+  λ a b v w at_a at_b same_dim same_natural. own_natural commands a b v w (sym (are.member a) ∙ at_a) (sym (are.member b) ∙ at_b) same_dim same_natural,
+)
