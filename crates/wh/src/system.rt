@@ -1,0 +1,120 @@
+//! The files of the system, and the connections to those that are warehouses.
+
+use sqlite::{Connection, Error, ErrorCode, FileStore, Options, Unknown};
+use sqlite_std_file::{File as DatabaseFile, OpenError};
+use std::alloc::Global;
+use std::fs::{self, File};
+use std::hash::{BuildHasher, RandomState};
+use std::io;
+use std::io::Read;
+use wh_program::{Host, HostError, Visitor};
+
+/// How many bytes a page of a new file has.
+const PAGE: u64 = 4096;
+
+/// The most pages of a file that stay in memory, and the most written ones before they go to the log: 32 MB each.
+const MOST_PAGES: u64 = 8192;
+
+/// How many pages a file has room for to grow.
+const SPARE_PAGES: u64 = 500;
+
+/// The files of the system.
+#[derive(Drop)]
+pub struct SystemHost<'a> {
+    runtime: &'a HostRuntime,
+}
+
+impl<'a> SystemHost<'a> {
+    pub fn new(runtime: &'a HostRuntime) -> SystemHost<'a> {
+        SystemHost { runtime }
+    }
+}
+
+/// Why a file was not read.
+fn of_io(error: io::Error) -> HostError {
+    match error.kind() {
+        io::ErrorKind::OutOfMemory => HostError::OutOfMemory,
+        _ => HostError::NoFile,
+    }
+}
+
+/// Why a database's files were not opened.
+fn of_opening(error: OpenError) -> HostError {
+    match error {
+        OpenError::OutOfMemory => HostError::OutOfMemory,
+        OpenError::Io(error) => of_io(error),
+        OpenError::Busy | OpenError::HotJournal => HostError::NoFile,
+    }
+}
+
+/// Why a database was not connected.
+fn of_connecting(error: Error) -> HostError {
+    match error {
+        Error::SqliteFailure(ErrorCode::OutOfMemory) => HostError::OutOfMemory,
+        _ => HostError::NoFile,
+    }
+}
+
+/// How many pages of a file stay in memory: all of them, as far as memory is granted.
+fn pages_kept(runtime: &HostRuntime, name: &str) -> usize {
+    let bytes = match fs::metadata(runtime, name) {
+        Ok(found) => found.len(),
+        Err(_) => 0,
+    };
+    (bytes / PAGE + SPARE_PAGES).min(MOST_PAGES) as usize
+}
+
+/// How a connection uses memory.
+fn options_for(runtime: &HostRuntime, name: &str) -> Result<Options, HostError> {
+    let state = RandomState::new(runtime).map_err(of_io)?;
+    Ok(Options {
+        cache_pages: pages_kept(runtime, name),
+        spill_pages: MOST_PAGES as usize,
+        ..Options::new(state.hash_one(&0u8))
+    })
+}
+
+/// Connects the database in a file, or in a new one of that name, whose pages get no check sums: the `sqlite3` program can write it too.
+fn connect(
+    runtime: &HostRuntime,
+    name: &str,
+) -> Result<Connection<FileStore<DatabaseFile>>, HostError> {
+    // `Unknown` says nothing of what the file holds, and supposes that a torn write leaves each byte old or new.
+    let files = match sqlite_std_file::open(runtime, name, Unknown) {
+        Ok(files) => files,
+        Err(error) => return Err(of_opening(error)),
+    };
+    match Connection::open_files(runtime.alloc(), files, options_for(runtime, name)?) {
+        Ok(connection) => Ok(connection),
+        Err((error, _)) => Err(of_connecting(error)),
+    }
+}
+
+/// All bytes of a file.
+fn bytes_of(runtime: &HostRuntime, alloc: Global, path: &str) -> io::Result<Vec<u8>> {
+    let mut file = File::open(runtime, path)?;
+    let mut bytes = Vec::new(alloc);
+    file.read_to_end(&mut bytes)?;
+    Ok(bytes)
+}
+
+impl Host for SystemHost<'_> {
+    fn read(&self, alloc: Global, path: &str) -> Result<Vec<u8>, HostError> {
+        match bytes_of(self.runtime, alloc, path) {
+            Ok(bytes) => Ok(bytes),
+            Err(error) => Err(of_io(error)),
+        }
+    }
+
+    fn with_connection<V: Visitor>(
+        &mut self,
+        alloc: Global,
+        name: &str,
+        visitor: V,
+    ) -> Result<V::Output, HostError> {
+        let (output, connection) = visitor.visit(alloc, connect(self.runtime, name)?);
+        // What was committed is in the files already, so a failure here loses nothing.
+        let _ = connection.close();
+        Ok(output)
+    }
+}

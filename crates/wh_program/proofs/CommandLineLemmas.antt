@@ -1,0 +1,101 @@
+-- What clap makes of the words of a command.
+use Rattle.std.proofs.Common.{◌≡◌, [], ◌∷◌, refl, sym, true, false, Bool, ◌==◌, ◌&&◌, Some, None, not, bytes_eq, true≢false}
+use Rattle.clap.specs.Words.{takes, subcommand_of, Text}
+use Rattle.clap.specs.Lexer.{long_of, short_of}
+use Rattle.clap.proofs.OnLiterals.{clap_on_literals}
+use Rattle.wh_program.specs.CommandLine.{CommandLine, Trial, Init, Load, Status, program_app, words_of, is_operand, has_operands, named}
+
+not-true : (b : Bool) → not b ≡ true → b ≡ false
+not-true true h = cc
+not-true false h = refl
+
+both : (a b : Bool) → (a && b) ≡ true → (a ≡ true) × (b ≡ true)
+both true b h = (refl, h)
+both false b h = absurd (true≢false (sym h))
+
+-- what clap asks of a word: whether it is an option, and whether it ends the options
+pub record IsPlain (word : Text) : Type 0 where
+  pub no_end : bytes_eq word (45 ∷ 45 ∷ []) ≡ false
+  pub no_long : long_of word ≡ None
+  pub no_short : short_of word ≡ None
+
+-- an operand is neither
+plain : (word : Text) → is_operand word ≡ true → IsPlain word
+plain [] is = record { no_end = refl; no_long = refl; no_short = refl }
+plain (b ∷ rest) is = let e = not-true (b == 45) is in record { no_end = rw e refl; no_long = rw e refl; no_short = rw e refl }
+
+trial_taken : (d p : Text) → IsPlain d → IsPlain p → takes program_app (words_of (Trial d p None)) ≡ true
+unfolding clap_on_literals
+trial_taken d p d-is p-is = rw (d-is.no_end, d-is.no_long, d-is.no_short, p-is.no_end, p-is.no_long, p-is.no_short) refl
+
+trial_named : (d p : Text) → IsPlain d → IsPlain p → named (subcommand_of program_app (words_of (Trial d p None))) ≡ Some (Trial d p None)
+unfolding clap_on_literals
+trial_named d p d-is p-is = rw (d-is.no_end, d-is.no_long, d-is.no_short, p-is.no_end, p-is.no_long, p-is.no_short) refl
+
+trial_under_taken : (d p q : Text) → IsPlain d → IsPlain p → IsPlain q → takes program_app (words_of (Trial d p (Some q))) ≡ true
+unfolding clap_on_literals
+trial_under_taken d p q d-is p-is q-is = rw (d-is.no_end, d-is.no_long, d-is.no_short, p-is.no_end, p-is.no_long, p-is.no_short, q-is.no_end, q-is.no_long, q-is.no_short) refl
+
+trial_under_named : (d p q : Text) → IsPlain d → IsPlain p → IsPlain q → named (subcommand_of program_app (words_of (Trial d p (Some q)))) ≡ Some (Trial d p (Some q))
+unfolding clap_on_literals
+trial_under_named d p q d-is p-is q-is = rw (d-is.no_end, d-is.no_long, d-is.no_short, p-is.no_end, p-is.no_long, p-is.no_short, q-is.no_end, q-is.no_long, q-is.no_short) refl
+
+init_taken : (f p : Text) → IsPlain f → IsPlain p → takes program_app (words_of (Init f p)) ≡ true
+unfolding clap_on_literals
+init_taken f p f-is p-is = rw (f-is.no_end, f-is.no_long, f-is.no_short, p-is.no_end, p-is.no_long, p-is.no_short) refl
+
+init_named : (f p : Text) → IsPlain f → IsPlain p → named (subcommand_of program_app (words_of (Init f p))) ≡ Some (Init f p)
+unfolding clap_on_literals
+init_named f p f-is p-is = rw (f-is.no_end, f-is.no_long, f-is.no_short, p-is.no_end, p-is.no_long, p-is.no_short) refl
+
+load_taken : (f k i p : Text) → IsPlain f → IsPlain k → IsPlain i → IsPlain p → takes program_app (words_of (Load f k i p)) ≡ true
+unfolding clap_on_literals
+load_taken f k i p f-is k-is i-is p-is = rw (f-is.no_end, f-is.no_long, f-is.no_short, k-is.no_end, k-is.no_long, k-is.no_short, i-is.no_end, i-is.no_long, i-is.no_short, p-is.no_end, p-is.no_long, p-is.no_short) refl
+
+load_named : (f k i p : Text) → IsPlain f → IsPlain k → IsPlain i → IsPlain p → named (subcommand_of program_app (words_of (Load f k i p))) ≡ Some (Load f k i p)
+unfolding clap_on_literals
+load_named f k i p f-is k-is i-is p-is = rw (f-is.no_end, f-is.no_long, f-is.no_short, k-is.no_end, k-is.no_long, k-is.no_short, i-is.no_end, i-is.no_long, i-is.no_short, p-is.no_end, p-is.no_long, p-is.no_short) (refl {a = Some (Load f k i p)})
+
+status_taken : (f : Text) → IsPlain f → takes program_app (words_of (Status f)) ≡ true
+unfolding clap_on_literals
+status_taken f f-is = rw (f-is.no_end, f-is.no_long, f-is.no_short) refl
+
+status_named : (f : Text) → IsPlain f → named (subcommand_of program_app (words_of (Status f))) ≡ Some (Status f)
+unfolding clap_on_literals
+status_named f f-is = rw (f-is.no_end, f-is.no_long, f-is.no_short) refl
+
+-- clap takes the words of a command, whatever the operands
+pub taken : (line : CommandLine) → has_operands line ≡ true → takes program_app (words_of line) ≡ true
+taken (Trial d p None) is =
+    let d-is = both (is_operand d) _ is in
+    let p-is = both (is_operand p) _ d-is.1 in
+    trial_taken d p (plain d d-is.0) (plain p p-is.0)
+taken (Trial d p (Some q)) is =
+    let d-is = both (is_operand d) _ is in
+    let p-is = both (is_operand p) _ d-is.1 in
+    trial_under_taken d p q (plain d d-is.0) (plain p p-is.0) (plain q p-is.1)
+taken (Init f p) is = let f-is = both (is_operand f) _ is in init_taken f p (plain f f-is.0) (plain p f-is.1)
+taken (Load f k i p) is =
+    let f-is = both (is_operand f) _ is in
+    let k-is = both (is_operand k) _ f-is.1 in
+    let i-is = both (is_operand i) _ k-is.1 in
+    load_taken f k i p (plain f f-is.0) (plain k k-is.0) (plain i i-is.0) (plain p i-is.1)
+taken (Status f) is = status_taken f (plain f is)
+
+-- and finds the command with its operands
+pub found : (line : CommandLine) → has_operands line ≡ true → named (subcommand_of program_app (words_of line)) ≡ Some line
+found (Trial d p None) is =
+    let d-is = both (is_operand d) _ is in
+    let p-is = both (is_operand p) _ d-is.1 in
+    trial_named d p (plain d d-is.0) (plain p p-is.0)
+found (Trial d p (Some q)) is =
+    let d-is = both (is_operand d) _ is in
+    let p-is = both (is_operand p) _ d-is.1 in
+    trial_under_named d p q (plain d d-is.0) (plain p p-is.0) (plain q p-is.1)
+found (Init f p) is = let f-is = both (is_operand f) _ is in init_named f p (plain f f-is.0) (plain p f-is.1)
+found (Load f k i p) is =
+    let f-is = both (is_operand f) _ is in
+    let k-is = both (is_operand k) _ f-is.1 in
+    let i-is = both (is_operand i) _ k-is.1 in
+    load_named f k i p (plain f f-is.0) (plain k k-is.0) (plain i i-is.0) (plain p i-is.1)
+found (Status f) is = status_named f (plain f is)

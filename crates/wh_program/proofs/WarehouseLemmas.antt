@@ -1,0 +1,191 @@
+-- What the words over a warehouse leave of what stood.
+use Rattle.std.proofs.Common.{◌≡◌, inl, inr, refl, sym, subst, ap, ◌∙◌, ℕ, List, [], ◌∷◌, Option, Some, None, Ok, Err, true, false}
+use Rattle.std.specs.Prelude.{Result, IfOk, IsOk, OnErr}
+use Rattle.std.proofs.lemmas.Result.{IfOk-weaker}
+use Rattle.std.specs.declared.alloc.AllocError.{AllocError}
+use Rattle.sqlite.specs.State.{State}
+use Rattle.wh_policy.specs.Policy.{policy_at}
+use Rattle.wh_policy.specs.declared.fault.PolicyFault.{PolicyFault}
+use Rattle.wh_policy.specs.declared.policy.Policy.{Policy}
+use Rattle.wh_history.specs.Accepted.{Accepted}
+use Rattle.wh_history.specs.Tables.{Limits}
+use Rattle.wh_rows.specs.AtRest.{IsAtRest}
+use Rattle.wh_rows.specs.Limits.{greatest_limits}
+use Rattle.wh_rows.specs.Schema.{no_schema}
+use Rattle.wh_sql.specs.Present.{are_all_there, is_any_taken}
+use Rattle.wh_sql.proofs.Worked.{taken_in_a_warehouse, taken_in_none}
+use Rattle.wh_plan.specs.Made.{making_of}
+use Rattle.wh_plan.specs.Sound.{IsAccepted}
+use Rattle.wh_engine.specs.Admission.{accepted_after}
+use Rattle.wh_engine.specs.Answered as engine
+use Rattle.wh_engine.specs.Answered.{IsReady, IsAnswered, IsCounted as EngineCounted}
+use Rattle.wh_engine.specs.Opened.{IsNotOpened, IsNotMade, NothingIsWritten, LeavesMade}
+use Rattle.wh_engine.specs.declared.command.Command.{Command}
+use Rattle.wh_engine.specs.declared.command.Reply.{Reply}
+use Rattle.wh_engine.specs.declared.counts.Counts.{Counts}
+use Rattle.wh_engine.specs.declared.fault.Fault.{Fault}
+use Rattle.wh_engine.specs.declared.fault.Fault.TheVariants as fault
+use Rattle.wh_engine.specs.declared.opening.InitFault.{InitFault}
+use Rattle.wh_engine.specs.declared.opening.InitFault.TheVariants as making
+use Rattle.wh_engine.specs.declared.opening.OpeningFault.{OpeningFault}
+use Rattle.wh_engine.specs.declared.opening.OpeningFault.TheVariants as opening
+use Rattle.wh_engine.specs.declared.session.Session.{Session}
+use Rattle.wh_program.specs.Answer.{done, failed, no_file_line}
+use Rattle.wh_program.specs.Reply.{load_answer, opening_answer, status_answer, making_answer, made_line}
+use Rattle.wh_program.specs.Standing.{Content, Nothing, Holds, Standing, Rests, LeftAt, IsAt, Stands}
+use Rattle.wh_program.specs.Warehouse.{Told, Opens, IsReplied, IsCounted, Makes, AnswersWith, AnswersStatus}
+
+-- where no object is, the ten tables are not all there
+pub none_there : are_all_there no_schema ≡ false
+unfolding are_all_there
+none_there = refl
+
+-- ---- a warehouse that is opened
+
+module _ (does : Limits → List Accepted → Told → Standing → Type 0) (content : Content) (told : Told) where
+  -- and what is done then
+  pub opened : (first : Session) (s0 s1 s2 : State)
+      → ((limits : Limits) (commands : List Accepted) → IsAccepted limits commands → engine.Rests limits commands s0 → IsReady limits commands first s1)
+      → ((limits : Limits) (commands : List Accepted) → IsReady limits commands first s1 → (after : Standing) × does limits commands told after × Stands after s2)
+      → (IsAtRest None s0 → ⊥)
+      → IsAt content s0 → (after : Standing) × Opens does content told after × Stands after s2
+  opened first s0 s1 s2 opens works missing at = elim content as (λ what. IsAt what s0 → (after : Standing) × Opens does what told after × Stands after s2) [
+    | Nothing ↦ λ at. absurd (missing at)
+    | Holds limits commands ↦ λ at. let worked = works limits commands (opens limits commands at.0 at.1) in (worked.0, inl worked.1, worked.2)
+  ] at
+
+  not_opened : (limits : Limits) (commands : List Accepted) (why : OpeningFault) (s : State) → IfOk told (λ a. a ≡ opening_answer why) → IsAccepted limits commands → IsNotOpened limits commands why s
+      → (after : Standing) × Opens does (Holds limits commands) told after × Stands after s
+  not_opened limits commands opening.NotAWarehouse s tells accepted none = absurd none
+  not_opened limits commands opening.OldFormat s tells accepted none = absurd none
+  not_opened limits commands opening.NewFormat s tells accepted none = absurd none
+  not_opened limits commands (opening.Damaged table) s tells accepted none = absurd none
+  not_opened limits commands opening.Memory s tells accepted rests =
+      (Rests (Holds limits commands), inr (record { why = opening.Memory; leaves = refl; tells = tells }), (accepted, rests))
+  not_opened limits commands (opening.Store cause) s tells accepted left =
+      (LeftAt (Holds limits commands) (Holds limits commands), inr (record { why = opening.Store cause; leaves = refl; tells = tells }), record { each = left.each })
+
+  -- or one that was not
+  pub unopened : (why : OpeningFault) (s0 s1 : State)
+      → ((limits : Limits) (commands : List Accepted) → IsAccepted limits commands → engine.Rests limits commands s0 → IsNotOpened limits commands why s1)
+      → (IsAtRest None s0 → (why ≡ opening.NotAWarehouse) × IsAt Nothing s1)
+      → IfOk told (λ a. a ≡ opening_answer why)
+      → IsAt content s0 → (after : Standing) × Opens does content told after × Stands after s1
+  unopened why s0 s1 refused missing tells at = elim content as (λ what. IsAt what s0 → (after : Standing) × Opens does what told after × Stands after s1) [
+    | Nothing ↦ λ at. let m = missing at in (Rests Nothing, (refl, subst (λ w. IfOk told (λ a. a ≡ opening_answer w)) m.0 tells), m.1)
+    | Holds limits commands ↦ λ at. not_opened limits commands why s1 tells at.0 (refused limits commands at.0 at.1)
+  ] at
+
+-- ---- load
+
+-- what the engine's reply says of the store, as what stands
+pub replied : (c : Command) (limits : Limits) (commands : List Accepted) (told : Told) (reply : Result Reply Fault) (session : Session) (s : State)
+    → IfOk told (λ a. a ≡ load_answer c.id reply) → IsAnswered limits commands c reply session s
+    → (after : Standing) × IsReplied c limits commands told after × Stands after s
+replied c limits commands told (Ok reply) session s tells (is, ready) =
+    (Rests (Holds limits (accepted_after limits commands c)), record { reply = Ok reply; leaves = (is, refl); tells = tells }, (ready.accepted, ready.rests))
+replied c limits commands told (Err (fault.Refused why)) session s tells (is, ready) =
+    (Rests (Holds limits commands), record { reply = Err (fault.Refused why); leaves = (is, refl); tells = tells }, (ready.accepted, ready.rests))
+replied c limits commands told (Err (fault.Damaged table)) session s tells none = absurd none
+replied c limits commands told (Err fault.Memory) session s tells ready =
+    (Rests (Holds limits commands), record { reply = Err fault.Memory; leaves = refl; tells = tells }, (ready.accepted, ready.rests))
+replied c limits commands told (Err (fault.Store cause)) session s tells stopped =
+    (LeftAt (Holds limits commands) (Holds limits (accepted_after limits commands c)), record { reply = Err (fault.Store cause); leaves = refl; tells = tells }, record { each = stopped.left.each })
+replied c limits commands told (Err fault.Reopen) session s tells none = absurd none
+
+-- ---- status
+
+pub counted : (limits : Limits) (commands : List Accepted) (told : Told) (counts : Result Counts Fault) (session : Session) (s : State)
+    → IfOk told (λ a. a ≡ status_answer counts) → EngineCounted limits commands counts session s
+    → (after : Standing) × IsCounted limits commands told after × Stands after s
+counted limits commands told (Ok counts) session s tells (is, ready) =
+    (Rests (Holds limits commands), record { counts = Ok counts; leaves = (is, refl); tells = tells }, (ready.accepted, ready.rests))
+counted limits commands told (Err (fault.Refused why)) session s tells none = absurd none
+counted limits commands told (Err (fault.Damaged table)) session s tells none = absurd none
+counted limits commands told (Err fault.Memory) session s tells ready =
+    (Rests (Holds limits commands), record { counts = Err fault.Memory; leaves = refl; tells = tells }, (ready.accepted, ready.rests))
+counted limits commands told (Err (fault.Store cause)) session s tells stopped =
+    (LeftAt (Holds limits commands) (Holds limits commands), record { counts = Err (fault.Store cause); leaves = refl; tells = tells }, record { each = stopped.left.each })
+counted limits commands told (Err fault.Reopen) session s tells none = absurd none
+
+-- ---- init
+
+pub made_ok : (content : Content) (bytes : List ℕ) (told : Told) (policy : Policy) (limits : Limits) (session : Session) (s0 s1 : State)
+    → limits ≡ greatest_limits → policy_at bytes ≡ Ok policy → (IsAtRest None s0 → IsReady limits (making_of policy bytes ∷ []) session s1) → is_any_taken s0.now.schema ≡ false
+    → told ≡ Ok (done made_line) → IsAt content s0 → (after : Standing) × Makes bytes content told after × Stands after s1
+made_ok Nothing bytes told policy limits session s0 s1 most reads makes free tells at =
+    let ready = subst (λ l. IsReady l (making_of policy bytes ∷ []) session s1) most (makes at) in
+    (Rests (Holds greatest_limits (making_of policy bytes ∷ [])), inl (record { policy = policy; reads = reads; then_is = refl; tells = tells }), (ready.accepted, ready.rests))
+made_ok (Holds l cs) bytes told policy limits session s0 s1 most reads makes free tells at =
+    let taken : is_any_taken s0.now.schema ≡ true = ap is_any_taken at.1.rests.now.schema ∙ taken_in_a_warehouse in
+    absurd (cc (free, taken))
+
+unmade_store : (bytes : List ℕ) (told : Told) (why : InitFault) (s1 : State) (read : Result Policy PolicyFault) → policy_at bytes ≡ read → IsOk read
+    → ((policy : Policy) (after : Standing) → policy_at bytes ≡ Ok policy → after ≡ LeftAt Nothing (Holds greatest_limits (making_of policy bytes ∷ [])) → Makes bytes Nothing told after)
+    → LeavesMade greatest_limits bytes s1 → (after : Standing) × Makes bytes Nothing told after × Stands after s1
+unmade_store bytes told why s1 (Ok policy) e ok says left = (
+  LeftAt Nothing (Holds greatest_limits (making_of policy bytes ∷ [])),
+  says policy _ e refl,
+  record {
+    each = λ trees may. elim (left.each trees may) [
+      | inl x ↦ inl x
+      | inr x ↦ (let same : x.0 ≡ policy = cc (x.1, e) in inr (subst (λ q. engine.AreTreesOf greatest_limits (making_of q bytes ∷ []) trees) same x.2))
+    ];
+  },
+)
+unmade_store bytes told why s1 (Err fault) e ok says left = absurd (cc ok)
+
+unmade_nothing : (bytes : List ℕ) (told : Told) (why : InitFault) (s1 : State)
+    → IsNotMade bytes false why → (NothingIsWritten why → IsAtRest None s1) → LeavesMade greatest_limits bytes s1
+    → IfOk told (λ a. a ≡ making_answer why) → (after : Standing) × Makes bytes Nothing told after × Stands after s1
+unmade_nothing bytes told (making.Policy fault) s1 refused same left tells = (Rests Nothing, inr (record { why = making.Policy fault; leaves = (refused, refl); tells = tells }), same tt)
+unmade_nothing bytes told making.NotEmpty s1 refused same left tells = absurd (cc refused.1)
+unmade_nothing bytes told making.Memory s1 refused same left tells = (Rests Nothing, inr (record { why = making.Memory; leaves = (tt, refl); tells = tells }), same tt)
+unmade_nothing bytes told (making.Store cause) s1 refused same left tells =
+    unmade_store bytes told (making.Store cause) s1 (policy_at bytes) refl refused (λ policy after e is. inr (record { why = making.Store cause; leaves = (policy, e, is); tells = tells })) left
+
+pub unmade : (content : Content) (bytes : List ℕ) (told : Told) (why : InitFault) (limits : Limits) (s0 s1 : State)
+    → limits ≡ greatest_limits → IsNotMade bytes (is_any_taken s0.now.schema) why → (NothingIsWritten why → IsAtRest None s0 → IsAtRest None s1) → (IsAtRest None s0 → LeavesMade limits bytes s1)
+    → (is_any_taken s0.now.schema ≡ true → (c : Content) → IsAt c s0 → IsAt c s1)
+    → IfOk told (λ a. a ≡ making_answer why) → IsAt content s0 → (after : Standing) × Makes bytes content told after × Stands after s1
+unmade Nothing bytes told why limits s0 s1 most refused same left kept tells at =
+    let free : is_any_taken s0.now.schema ≡ false = ap is_any_taken at.now.schema ∙ taken_in_none in
+    unmade_nothing bytes told why s1 (subst (λ taken. IsNotMade bytes taken why) free refused) (λ w. same w at) (subst (λ l. LeavesMade l bytes s1) most (left at)) tells
+unmade (Holds l cs) bytes told why limits s0 s1 most refused same left kept tells at =
+    let taken : is_any_taken s0.now.schema ≡ true = ap is_any_taken at.1.rests.now.schema ∙ taken_in_a_warehouse in
+    (Rests (Holds l cs), record { why = why; refused = subst (λ b. IsNotMade bytes b why) taken refused; same = refl; tells = tells }, kept taken (Holds l cs) at)
+
+-- no memory for the line
+pub not_begun : (content : Content) (bytes : List ℕ) (e : AllocError) (s : State) → IsAt content s → (after : Standing) × Makes bytes content (Err e) after × Stands after s
+not_begun Nothing bytes e s at = (Rests Nothing, inr (record { why = making.Memory; leaves = (tt, refl); tells = tt }), at)
+not_begun (Holds l cs) bytes e s at = (Rests (Holds l cs), record { why = making.Memory; refused = tt; same = refl; tells = tt }, at)
+
+-- ---- a visit
+
+module _ {E : Type 0} (stands : Standing → Type 0) (content : Content) (file : List ℕ) (visit : Result Told E) (told : Told)
+    (same : OnErr visit (stands (Rests content))) (is : IfOk visit (λ output. told ≡ output)) (other : OnErr visit (IfOk told (λ a. a ≡ failed (no_file_line file)))) where
+  -- with the bytes of an input
+  pub answered_with : (holds : List ℕ → Option (List ℕ) → Type 0) (does : List ℕ → Content → Told → Standing → Type 0) (path bytes : List ℕ) → holds path (Some bytes)
+      → IfOk visit (λ output. (after : Standing) × does bytes content output after × stands after)
+      → AnswersWith holds stands does content file path told
+  answered_with holds does path bytes held did = elim visit as
+      (λ v. IfOk v (λ output. (after : Standing) × does bytes content output after × stands after) → OnErr v (stands (Rests content)) → IfOk v (λ output. told ≡ output) → OnErr v (IfOk told (λ a. a ≡ failed (no_file_line file)))
+      → AnswersWith holds stands does content file path told) [
+        | Ok output ↦ λ did same is other. inl (record { bytes = bytes; held = held; tried = record { after = did.0; then_stands = did.2; did = subst (λ t. does bytes content t did.0) (sym is) did.1 } })
+        | Err e ↦ λ did same is other. inr (record { same = same; tells = IfOk-weaker told _ _ (λ a e. inr e) other })
+      ] did same is other
+
+  -- with none
+  pub status_answered : IfOk visit (λ output. (after : Standing) × Opens IsCounted content output after × stands after) → AnswersStatus stands content file told
+  status_answered did = elim visit as
+      (λ v. IfOk v (λ output. (after : Standing) × Opens IsCounted content output after × stands after) → OnErr v (stands (Rests content)) → IfOk v (λ output. told ≡ output) → OnErr v (IfOk told (λ a. a ≡ failed (no_file_line file)))
+      → AnswersStatus stands content file told) [
+        | Ok output ↦ λ did same is other. inl (record { after = did.0; then_stands = did.2; did = subst (λ t. Opens IsCounted content t did.0) (sym is) did.1 })
+        | Err e ↦ λ did same is other. inr (record { same = same; tells = other })
+      ] did same is other
+
+-- what a failed visit leaves
+pub same_left : {T E : Type 0} (visit : Result T E) (before after : List ℕ → Standing → Type 0) (name : List ℕ) (standing : Standing)
+    → OnErr visit ((any : List ℕ) (s : Standing) → before any s → after any s) → before name standing → OnErr visit (after name standing)
+same_left (Ok output) before after name standing kept stood = tt
+same_left (Err e) before after name standing kept stood = kept name standing stood

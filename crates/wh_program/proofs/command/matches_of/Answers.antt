@@ -1,0 +1,11 @@
+use Rattle.std.proofs.Common.{ap, ◌≡◌, ◌∙◌, map}
+use Rattle.std.proofs.lemmas.Result.{IfErr-weaker}
+use Rattle.clap.specs.Words.{App, app_of, takes}
+use Rattle.wh_program.specs.CommandLine.{program_app}
+use Rattle.wh_program.proofs.command.matches_of.Goals as goal
+
+pub returns-clause-err : goal.returns-clause-err
+returns-clause-err g c = λ taken.
+    let parse = c.try_get_matches_from in
+    let program-is : app_of c.in_ok-program_command.field-0 ≡ program_app = c.in_ok-program_command.ensures in
+    IfErr-weaker parse.result _ _ (λ e h. h (ap (λ (a : App). takes a (map g.S.AsStr.text c.args.words.now)) program-is ∙ taken)) parse.ensures.passes

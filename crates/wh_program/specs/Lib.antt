@@ -1,0 +1,9 @@
+pub mod CommandLine
+pub mod Request
+pub mod Table
+pub mod Answer
+pub mod Reply
+pub mod Run
+pub mod Standing
+pub mod Warehouse
+pub mod Files

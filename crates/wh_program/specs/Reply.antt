@@ -1,0 +1,107 @@
+-- What the commands on a warehouse answer.
+use Rattle.std.specs.Prelude.{ℕ, List, ◌++◌, codes, Result, Ok, Err}
+use Rattle.std.specs.Fmt.{decimal}
+use Rattle.wh_engine.specs.declared.command.Receipt.{Receipt}
+use Rattle.wh_engine.specs.declared.command.Reply.{Reply}
+use Rattle.wh_engine.specs.declared.command.Reply.TheVariants.{Accepted, Already}
+use Rattle.wh_engine.specs.declared.command.Limit.{Limit}
+use Rattle.wh_engine.specs.declared.command.Limit.TheVariants.{Commands, Changes, Facts}
+use Rattle.wh_engine.specs.declared.command.Refused.{Refused}
+use Rattle.wh_engine.specs.declared.command.Refused.TheVariants as refusal
+use Rattle.wh_engine.specs.declared.counts.Counts.{Counts}
+use Rattle.wh_engine.specs.declared.fault.Fault.{Fault}
+use Rattle.wh_engine.specs.declared.fault.Fault.TheVariants as fault
+use Rattle.wh_engine.specs.declared.opening.InitFault.{InitFault}
+use Rattle.wh_engine.specs.declared.opening.InitFault.TheVariants as making
+use Rattle.wh_engine.specs.declared.opening.OpeningFault.{OpeningFault}
+use Rattle.wh_engine.specs.declared.opening.OpeningFault.TheVariants as opening
+use Rattle.wh_rows.specs.Names.{table_name}
+use Rattle.wh_rows.specs.declared.table.Table.{Table}
+use Rattle.wh_rows.specs.declared.cause.Cause.{Cause}
+use Rattle.wh_rows.specs.declared.cause.Cause.TheVariants as cause
+use Rattle.wh_program.specs.Answer.{Printed, done, refused, failed, line, batch_line, policy_line, memory_line}
+
+-- what an accepted command is told, behind the word for how it was taken
+abbrev pub receipt_line : List ℕ → List ℕ → Receipt → List ℕ
+receipt_line word id receipt = line (word ++ codes " " ++ decimal receipt.number ++ codes " " ++ id ++ codes ": " ++ decimal receipt.records ++ codes " records, "
+    ++ decimal receipt.placeholders ++ codes " placeholders")
+
+abbrev pub reply_answer : List ℕ → Reply → Printed
+reply_answer id (Accepted receipt) = done (receipt_line (codes "accepted") id receipt)
+reply_answer id (Already receipt) = done (receipt_line (codes "already") id receipt)
+
+abbrev pub limit_name : Limit → List ℕ
+limit_name Commands = codes "commands"
+limit_name Changes = codes "changes"
+limit_name Facts = codes "facts"
+
+abbrev pub full_line : Limit → List ℕ
+full_line limit = line (codes "refused: E6 full, " ++ limit_name limit)
+
+abbrev pub line_there_line : ℕ → List ℕ
+line_there_line number = line (codes "refused: E6 line there, record " ++ decimal number)
+
+abbrev pub refused_line : Refused → List ℕ
+refused_line refusal.BadId = line (codes "refused: E1 bad id")
+refused_line refusal.Reused = line (codes "refused: E2 id reused")
+refused_line (refusal.Batch fault) = batch_line fault
+refused_line (refusal.LineThere number) = line_there_line number
+refused_line (refusal.Full limit) = full_line limit
+
+abbrev pub damaged_line : Table → List ℕ
+damaged_line table = line (codes "failed: E7 damaged, " ++ table_name table)
+
+abbrev pub cause_name : Cause → List ℕ
+cause_name cause.Memory = codes "memory"
+cause_name cause.Disk = codes "disk"
+cause_name cause.Size = codes "size"
+cause_name cause.Interrupted = codes "interrupted"
+
+abbrev pub store_line : Cause → List ℕ
+store_line cause = line (codes "failed: E9 store, " ++ cause_name cause)
+
+-- the answer where a call on the tables of a warehouse isn't answered
+abbrev pub fault_answer : Fault → Printed
+fault_answer (fault.Refused why) = refused (refused_line why)
+fault_answer (fault.Damaged table) = failed (damaged_line table)
+fault_answer fault.Memory = failed memory_line
+fault_answer (fault.Store cause) = failed (store_line cause)
+fault_answer fault.Reopen = failed (line (codes "failed: E10 reopen"))
+
+abbrev pub load_answer : List ℕ → Result Reply Fault → Printed
+load_answer id (Ok reply) = reply_answer id reply
+load_answer id (Err fault) = fault_answer fault
+
+abbrev pub made_line : List ℕ
+made_line = line (codes "accepted 1 init: 0 records, 0 placeholders")
+
+-- the answer where no warehouse was made
+abbrev pub making_answer : InitFault → Printed
+making_answer (making.Policy fault) = refused (policy_line fault)
+making_answer making.NotEmpty = refused (line (codes "refused: E11 not empty"))
+making_answer making.Memory = failed memory_line
+making_answer (making.Store cause) = failed (store_line cause)
+
+-- the answer where a file isn't opened as a warehouse
+abbrev pub opening_answer : OpeningFault → Printed
+opening_answer opening.NotAWarehouse = failed (line (codes "failed: N1 not a warehouse"))
+opening_answer opening.OldFormat = failed (line (codes "failed: N2 old format"))
+opening_answer opening.NewFormat = failed (line (codes "failed: N3 new format"))
+opening_answer (opening.Damaged table) = failed (damaged_line table)
+opening_answer opening.Memory = failed memory_line
+opening_answer (opening.Store cause) = failed (store_line cause)
+
+abbrev pub members_line : Counts → List ℕ
+members_line counts = line (codes "members product " ++ decimal counts.products ++ codes " store " ++ decimal counts.stores ++ codes " customer " ++ decimal counts.customers)
+
+abbrev pub totals_text : Counts → List ℕ
+totals_text counts = line (codes "format " ++ decimal counts.format ++ codes "\ncommands " ++ decimal counts.commands ++ codes "\nchanges " ++ decimal counts.changes
+    ++ codes "\nfacts " ++ decimal counts.facts)
+
+-- the five lines that tell how much a warehouse holds
+abbrev pub counts_text : Counts → List ℕ
+counts_text counts = totals_text counts ++ members_line counts
+
+abbrev pub status_answer : Result Counts Fault → Printed
+status_answer (Ok counts) = done (counts_text counts)
+status_answer (Err fault) = fault_answer fault

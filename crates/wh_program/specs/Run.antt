@@ -1,0 +1,25 @@
+-- What goes out of a run.
+use Rattle.std.specs.Prelude.{◌≡◌, ◌<◌, ◌⊎◌, ℕ, List, ◌++◌, Option, length, take}
+use Rattle.std.specs.Io.KnownBytes.{Appends}
+use Rattle.wh_program.specs.Answer.{Printed, failed, memory_line, write_line}
+
+-- the answer when memory ran out
+abbrev pub out_of_memory : Printed
+out_of_memory = failed memory_line
+
+-- the whole answer went out
+pub record PrintsWhole (old new : Option (List ℕ)) (code : ℕ) (answer : Printed) : Type 0 where
+  pub status : code ≡ answer.status
+  pub text : Appends old new answer.text
+
+-- the writer failed within the answer: a beginning of it went out, and then a beginning of the line that says so
+pub record IsCutOff (old new : Option (List ℕ)) (code : ℕ) (answer : Printed) : Type 0 where
+  pub kept : ℕ
+  pub told : ℕ
+  pub cut : kept < length answer.text
+  pub status : code ≡ 3
+  pub text : Appends old new (take kept answer.text ++ take told write_line)
+
+-- what went out, and the status, are those of the answer
+abbrev pub Prints : Option (List ℕ) → Option (List ℕ) → ℕ → Printed → Type 0
+Prints old new status answer = PrintsWhole old new status answer ⊎ IsCutOff old new status answer

@@ -1,0 +1,48 @@
+-- What stands under the name of a warehouse.
+use Rattle.std.specs.Prelude.{◌≡◌, ◌⊎◌, List, Option, Some, None}
+use Rattle.sqlite.specs.Tree.{Trees}
+use Rattle.sqlite.specs.State.{State}
+use Rattle.sqlite.specs.Held.{Held, state}
+use Rattle.sqlite.specs.Steps.{over_memory}
+use Rattle.sqlite_trees.specs.declared.memory.MemStore.{MemStore}
+use Rattle.wh_history.specs.Accepted.{Accepted}
+use Rattle.wh_history.specs.Tables.{Limits}
+use Rattle.wh_rows.specs.AtRest.{AreTrees, IsAtRest}
+use Rattle.wh_plan.specs.Sound.{IsAccepted}
+use Rattle.wh_engine.specs.Answered as engine
+
+-- What a database holds: no object at all, or the tables of a warehouse that was made with these limits and has accepted these commands.
+pub data Content : Type 0 where
+  Nothing : Content
+  Holds : Limits → List Accepted → Content
+
+-- It is at rest with a content; or the store refused a call, and a crash leaves the one or the other; or nothing is said.
+pub data Standing : Type 0 where
+  Unknown : Standing
+  Rests : Content → Standing
+  LeftAt : Content → Content → Standing
+
+-- the connection is at rest with the content
+abbrev pub IsAt : Content → State → Type 0
+IsAt Nothing s = IsAtRest None s
+IsAt (Holds limits commands) s = IsAccepted limits commands × engine.Rests limits commands s
+
+-- the trees are those of a database with the content
+abbrev pub HasTrees : Content → Trees → Type 0
+HasTrees Nothing trees = AreTrees None trees
+HasTrees (Holds limits commands) trees = engine.AreTreesOf limits commands trees
+
+-- whatever a crash leaves has the one content or the other
+pub record LeavesEither (first second : Content) (s : State) : Type 0 where
+  pub each : (trees : Trees) → s.may_leave trees → HasTrees first trees ⊎ HasTrees second trees
+
+-- what stands, of a connection
+abbrev pub Stands : Standing → State → Type 0
+Stands Unknown s = Unit {0}
+Stands (Rests content) s = IsAt content s
+Stands (LeftAt first second) s = LeavesEither first second s
+
+-- what stands of a connection in memory, which may not be made yet
+abbrev pub IsKept : Standing → Option (Held MemStore) → Type 0
+IsKept standing None = standing ≡ Rests Nothing
+IsKept standing (Some c) = Stands standing (state over_memory c)

@@ -1,0 +1,155 @@
+-- What the words over a warehouse answer, and what they leave of what stood.
+use Rattle.std.specs.Prelude.{◌≡◌, ◌⊎◌, ℕ, List, [], ◌∷◌, Option, Some, None, true, false, Result, Ok, Err, IfOk}
+use Rattle.std.specs.declared.alloc.AllocError.{AllocError}
+use Rattle.wh_policy.specs.Policy.{policy_at}
+use Rattle.wh_policy.specs.declared.policy.Policy.{Policy}
+use Rattle.wh_history.specs.Accepted.{Accepted}
+use Rattle.wh_history.specs.Tables.{Limits}
+use Rattle.wh_batch.specs.declared.kind.Kind.{Kind}
+use Rattle.wh_rows.specs.Limits.{greatest_limits}
+use Rattle.wh_plan.specs.Made.{making_of}
+use Rattle.wh_engine.specs.Admission.{answer, accepted_after}
+use Rattle.wh_engine.specs.Answered.{counts_of}
+use Rattle.wh_engine.specs.Opened.{IsNotMade}
+use Rattle.wh_engine.specs.declared.command.Command.{Command}
+use Rattle.wh_engine.specs.declared.command.Reply.{Reply}
+use Rattle.wh_engine.specs.declared.counts.Counts.{Counts}
+use Rattle.wh_engine.specs.declared.fault.Fault.{Fault}
+use Rattle.wh_engine.specs.declared.fault.Fault.TheVariants as fault
+use Rattle.wh_engine.specs.declared.opening.InitFault.{InitFault}
+use Rattle.wh_engine.specs.declared.opening.InitFault.TheVariants as making
+use Rattle.wh_engine.specs.declared.opening.OpeningFault.{OpeningFault}
+use Rattle.wh_engine.specs.declared.opening.OpeningFault.TheVariants as opening
+use Rattle.wh_program.specs.Answer.{Printed, done, failed, no_file_line}
+use Rattle.wh_program.specs.CommandLine.{CommandLine, words_of, has_operands}
+use Rattle.wh_program.specs.Reply.{load_answer, opening_answer, status_answer, making_answer, made_line}
+use Rattle.wh_program.specs.Run.{out_of_memory}
+use Rattle.wh_program.specs.Standing.{Content, Nothing, Holds, Standing, Rests, LeftAt}
+
+-- an answer, where there is memory for one
+abbrev pub Told : Type 0
+Told = Result Printed AllocError
+
+-- what is printed of it
+abbrev pub printed : Told → Printed
+printed (Ok a) = a
+printed (Err e) = out_of_memory
+
+-- ---- a warehouse that is opened
+
+-- What is left of a warehouse with these commands that wasn't opened.
+abbrev pub LeavesUnopened : Limits → List Accepted → OpeningFault → Standing → Type 0
+LeavesUnopened limits commands opening.Memory after = after ≡ Rests (Holds limits commands)
+LeavesUnopened limits commands (opening.Store cause) after = after ≡ LeftAt (Holds limits commands) (Holds limits commands)
+LeavesUnopened limits commands _ after = ⊥
+
+pub record IsUnopened (limits : Limits) (commands : List Accepted) (told : Told) (after : Standing) : Type 0 where
+  pub why : OpeningFault
+  pub leaves : LeavesUnopened limits commands why after
+  pub tells : IfOk told (λ a. a ≡ opening_answer why)
+
+-- What opens what stands and does this to a warehouse: where there is none, that is the answer, and nothing changed.
+abbrev pub Opens : (Limits → List Accepted → Told → Standing → Type 0) → Content → Told → Standing → Type 0
+Opens does Nothing told after = (after ≡ Rests Nothing) × IfOk told (λ a. a ≡ opening_answer opening.NotAWarehouse)
+Opens does (Holds limits commands) told after = does limits commands told after ⊎ IsUnopened limits commands told after
+
+-- ---- load
+
+-- What a command leaves of a warehouse with these commands, by what the engine replied.
+abbrev pub LeavesReplied : Limits → List Accepted → Command → Result Reply Fault → Standing → Type 0
+LeavesReplied limits commands c (Ok reply) after = (answer limits commands c ≡ Ok reply) × (after ≡ Rests (Holds limits (accepted_after limits commands c)))
+LeavesReplied limits commands c (Err (fault.Refused why)) after = (answer limits commands c ≡ Err why) × (after ≡ Rests (Holds limits commands))
+LeavesReplied limits commands c (Err fault.Memory) after = after ≡ Rests (Holds limits commands)
+LeavesReplied limits commands c (Err (fault.Store cause)) after = after ≡ LeftAt (Holds limits commands) (Holds limits (accepted_after limits commands c))
+LeavesReplied limits commands c (Err _) after = ⊥
+
+-- the engine replied to the command
+pub record IsReplied (c : Command) (limits : Limits) (commands : List Accepted) (told : Told) (after : Standing) : Type 0 where
+  pub reply : Result Reply Fault
+  pub leaves : LeavesReplied limits commands c reply after
+  pub tells : IfOk told (λ a. a ≡ load_answer c.id reply)
+
+-- ---- status
+
+-- What a count leaves of a warehouse with these commands.
+abbrev pub LeavesCounted : Limits → List Accepted → Result Counts Fault → Standing → Type 0
+LeavesCounted limits commands (Ok counts) after = (counts ≡ counts_of commands) × (after ≡ Rests (Holds limits commands))
+LeavesCounted limits commands (Err fault.Memory) after = after ≡ Rests (Holds limits commands)
+LeavesCounted limits commands (Err (fault.Store cause)) after = after ≡ LeftAt (Holds limits commands) (Holds limits commands)
+LeavesCounted limits commands (Err _) after = ⊥
+
+pub record IsCounted (limits : Limits) (commands : List Accepted) (told : Told) (after : Standing) : Type 0 where
+  pub counts : Result Counts Fault
+  pub leaves : LeavesCounted limits commands counts after
+  pub tells : IfOk told (λ a. a ≡ status_answer counts)
+
+-- ---- init
+
+-- the warehouse was made
+pub record IsMade (bytes : List ℕ) (told : Told) (after : Standing) : Type 0 where
+  pub policy : Policy
+  pub reads : policy_at bytes ≡ Ok policy
+  pub then_is : after ≡ Rests (Holds greatest_limits (making_of policy bytes ∷ []))
+  pub tells : told ≡ Ok (done made_line)
+
+-- What is left where no warehouse was made in a database with no object in it.
+abbrev pub LeavesUnmade : List ℕ → InitFault → Standing → Type 0
+LeavesUnmade bytes (making.Store cause) after = (policy : Policy) × (policy_at bytes ≡ Ok policy) × (after ≡ LeftAt Nothing (Holds greatest_limits (making_of policy bytes ∷ [])))
+LeavesUnmade bytes why after = IsNotMade bytes false why × (after ≡ Rests Nothing)
+
+pub record IsUnmade (bytes : List ℕ) (told : Told) (after : Standing) : Type 0 where
+  pub why : InitFault
+  pub leaves : LeavesUnmade bytes why after
+  pub tells : IfOk told (λ a. a ≡ making_answer why)
+
+-- a warehouse is there, so none is made, and nothing changed
+pub record IsNotEmpty (bytes : List ℕ) (content : Content) (told : Told) (after : Standing) : Type 0 where
+  pub why : InitFault
+  pub refused : IsNotMade bytes true why
+  pub same : after ≡ Rests content
+  pub tells : IfOk told (λ a. a ≡ making_answer why)
+
+-- a making in what stands
+abbrev pub Makes : List ℕ → Content → Told → Standing → Type 0
+Makes bytes Nothing told after = IsMade bytes told after ⊎ IsUnmade bytes told after
+Makes bytes (Holds limits commands) told after = IsNotEmpty bytes (Holds limits commands) told after
+
+-- ---- a word
+
+-- it was tried: it did this, and that stands now
+pub record IsTried (stands : Standing → Type 0) (does : Told → Standing → Type 0) (told : Told) : Type 0 where
+  pub after : Standing
+  pub then_stands : stands after
+  pub did : does told after
+
+-- with the bytes of its input
+pub record IsTriedWith (holds : List ℕ → Option (List ℕ) → Type 0) (stands : Standing → Type 0) (does : List ℕ → Told → Standing → Type 0) (path : List ℕ) (told : Told) : Type 0 where
+  pub bytes : List ℕ
+  pub held : holds path (Some bytes)
+  pub tried : IsTried stands (does bytes) told
+
+-- its input isn't there, or the warehouse's file can't be connected, or memory ran out before; nothing changed
+pub record IsNotTried (holds : List ℕ → Option (List ℕ) → Type 0) (stands : Standing → Type 0) (content : Content) (file path : List ℕ) (told : Told) : Type 0 where
+  pub same : stands (Rests content)
+  pub tells : IfOk told (λ a. (holds path None × (a ≡ failed (no_file_line path))) ⊎ (a ≡ failed (no_file_line file)))
+
+-- a word with no input: the warehouse's file can't be connected, or memory ran out before; nothing changed
+pub record IsNotConnected (stands : Standing → Type 0) (content : Content) (file : List ℕ) (told : Told) : Type 0 where
+  pub same : stands (Rests content)
+  pub tells : IfOk told (λ a. a ≡ failed (no_file_line file))
+
+-- what a word with an input answers and leaves
+abbrev pub AnswersWith : (List ℕ → Option (List ℕ) → Type 0) → (Standing → Type 0) → (List ℕ → Content → Told → Standing → Type 0) → Content → (file path : List ℕ) → Told → Type 0
+AnswersWith holds stands does content file path told = IsTriedWith holds stands (λ bytes. does bytes content) path told ⊎ IsNotTried holds stands content file path told
+
+-- a load of the batch of a file
+abbrev pub Loads : Kind → (id bytes : List ℕ) → Content → Told → Standing → Type 0
+Loads kind id bytes = Opens (IsReplied (record { id = id; kind = kind; bytes = bytes }))
+
+abbrev pub AnswersStatus : (Standing → Type 0) → Content → (file : List ℕ) → Told → Type 0
+AnswersStatus stands content file told = IsTried stands (Opens IsCounted content) told ⊎ IsNotConnected stands content file told
+
+-- the words are those of a command, and none of its operands is an option
+pub record Says (words : List (List ℕ)) (line : CommandLine) : Type 0 where
+  pub words_are : words ≡ words_of line
+  pub operands : has_operands line ≡ true

@@ -1,0 +1,63 @@
+//! What a run answers.
+
+ghost use Rattle.std.specs.Prelude.{◌≡◌};
+ghost use Rattle.wh_program.specs.Answer.{status_code};
+
+use std::marker::Model;
+
+/// How a run ends.
+#[derive(Clone, Copy, Debug, PartialEq, Eq)]
+pub enum Status {
+    Done,
+    Refused,
+    Failed,
+    Usage,
+}
+
+impl Status {
+    pub fn code(self) -> u8
+        ensures { result ≡ status_code self }
+    {
+        match self {
+            Status::Done => 0,
+            Status::Refused => 2,
+            Status::Failed => 3,
+            Status::Usage => 4,
+        }
+    }
+}
+
+/// What a run prints, and how it ends.
+#[derive(Debug, Drop)]
+pub struct Answer {
+    status: Status,
+    text: Vec<u8>,
+}
+
+impl Model for Answer {
+    ghost use Rattle.wh_program.specs.Answer.{Printed, status_code};
+
+    ghost Value = { Printed };
+
+    ghost view = { λ a. record { status = status_code a.status; text = a.text.items } };
+}
+
+impl Answer {
+    pub fn new(status: Status, text: Vec<u8>) -> Answer
+        ensures { result ≡ record { status = status_code status; text = text.items } }
+    {
+        Answer { status, text }
+    }
+
+    pub fn code(&self) -> u8
+        ensures { result ≡ self.now.status }
+    {
+        self.status.code()
+    }
+
+    pub fn text(&self) -> &[u8]
+        ensures { result.now ≡ self.now.text }
+    {
+        self.text.as_slice()
+    }
+}

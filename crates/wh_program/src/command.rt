@@ -1,0 +1,333 @@
+//! The words of the command line.
+
+ghost use Rattle.std.specs.Prelude.{◌≡◌, ℕ, List, Option, IfOk, IfErr, IsErr, Some, map, option_map, codes, true, false};
+ghost use Rattle.clap.specs.Words.{app_of, first_of, found_of, rows_of, subcommand_rows_of, kind_of, takes, subcommand_of};
+ghost use Rattle.clap.specs.declared.builder.command.Command.TheViews.{out-Command};
+ghost use Rattle.clap.specs.declared.error.ErrorKind.TheVariants.{OutOfMemory};
+ghost use Rattle.wh_program.specs.Request.{dim_of, batch_kind_of, line_of, IsUsage, Asks};
+ghost use Rattle.wh_program.specs.CommandLine.{CommandLine, first_app, program_app, operands_app, trial_app, init_app, batch_app, load_app, status_app, words_of, has_operands, named, named_trial, named_init, named_load, named_status};
+
+use clap::error::ErrorKind;
+use clap::{Arg, ArgMatches, Command};
+use std::alloc::{AllocError, Global};
+use std::convert::AsStr;
+use wh_batch::Kind;
+use wh_policy::Dim;
+
+/// The dimension of that name.
+fn dim_of(word: &str) -> Option<Dim>
+    ensures { result ≡ dim_of word.now }
+{
+    match word {
+        "product" => Some(Dim::Product),
+        "store" => Some(Dim::Store),
+        "customer" => Some(Dim::Customer),
+        _ => None,
+    }
+}
+
+/// The kind of batch of that name.
+fn batch_kind_of(word: &str) -> Option<Kind>
+    ensures { result ≡ batch_kind_of word.now }
+{
+    if word == "sales" {
+        return Some(Kind::Sales);
+    }
+    match dim_of(word) {
+        Some(dim) => Some(Kind::Dimension(dim)),
+        None => None,
+    }
+}
+
+/// What the words ask for.
+#[derive(Debug, Drop)]
+pub enum Request<'a> {
+    /// A dimension's table as the batch in the file `path` makes it, under the policy in a file or the trial's own.
+    Trial {
+        dim: Dim,
+        path: &'a str,
+        policy: Option<&'a str>,
+    },
+    /// The making of the warehouse in `file`, under the policy in a file.
+    Init {
+        file: &'a str,
+        policy: &'a str,
+    },
+    /// The load of the batch in the file `path` into the warehouse in `file`, under an id.
+    Load {
+        file: &'a str,
+        kind: Kind,
+        id: &'a str,
+        path: &'a str,
+    },
+    /// How much the warehouse in `file` holds.
+    Status {
+        file: &'a str,
+    },
+    /// Help that was asked for.
+    Help(String),
+    /// What is wrong with the words.
+    Usage(String),
+}
+
+fn operands_command<'a>(alloc: Global) -> Result<Command<'a>, AllocError>
+    ensures app { IfOk result (λ c. app_of c ≡ operands_app) }
+    ensures local { IfOk result (λ c. (out-Command c).has_globals ≡ false) }
+{
+    let dimension = Arg::new(alloc, "DIMENSION")
+        .required(true)
+        .help("product, store or customer");
+    let batch = Arg::new(alloc, "CSV")
+        .required(true)
+        .help("the batch's file");
+    Command::new(alloc, "trial")
+        .about("Prints a dimension's table as one batch makes it")
+        .arg(dimension)?
+        .arg(batch)
+}
+
+fn trial_command<'a>(alloc: Global) -> Result<Command<'a>, AllocError>
+    ensures app { IfOk result (λ c. app_of c ≡ trial_app) }
+    ensures local { IfOk result (λ c. (out-Command c).has_globals ≡ false) }
+{
+    let policy = Arg::new(alloc, "POLICY").long("policy").help(
+        "the policy's file; without it a policy of a few attributes",
+    );
+    operands_command(alloc)?.arg(policy)
+}
+
+fn init_command<'a>(alloc: Global) -> Result<Command<'a>, AllocError>
+    ensures app { IfOk result (λ c. app_of c ≡ init_app) }
+    ensures local { IfOk result (λ c. (out-Command c).has_globals ≡ false) }
+{
+    let file = Arg::new(alloc, "FILE")
+        .required(true)
+        .help("the warehouse's file");
+    let policy = Arg::new(alloc, "POLICY")
+        .required(true)
+        .help("the policy's file");
+    Command::new(alloc, "init")
+        .about("Makes a warehouse")
+        .arg(file)?
+        .arg(policy)
+}
+
+fn batch_command<'a>(alloc: Global) -> Result<Command<'a>, AllocError>
+    ensures app { IfOk result (λ c. app_of c ≡ batch_app) }
+    ensures local { IfOk result (λ c. (out-Command c).has_globals ≡ false) }
+{
+    let file = Arg::new(alloc, "FILE")
+        .required(true)
+        .help("the warehouse's file");
+    let kind = Arg::new(alloc, "KIND")
+        .required(true)
+        .help("product, store, customer or sales");
+    Command::new(alloc, "load")
+        .about("Loads a batch into a warehouse")
+        .arg(file)?
+        .arg(kind)
+}
+
+fn load_command<'a>(alloc: Global) -> Result<Command<'a>, AllocError>
+    ensures app { IfOk result (λ c. app_of c ≡ load_app) }
+    ensures local { IfOk result (λ c. (out-Command c).has_globals ≡ false) }
+{
+    let id = Arg::new(alloc, "ID")
+        .required(true)
+        .help("what the batch is called, once");
+    let batch = Arg::new(alloc, "CSV")
+        .required(true)
+        .help("the batch's file");
+    batch_command(alloc)?.arg(id)?.arg(batch)
+}
+
+fn status_command<'a>(alloc: Global) -> Result<Command<'a>, AllocError>
+    ensures app { IfOk result (λ c. app_of c ≡ status_app) }
+    ensures local { IfOk result (λ c. (out-Command c).has_globals ≡ false) }
+{
+    let file = Arg::new(alloc, "FILE")
+        .required(true)
+        .help("the warehouse's file");
+    Command::new(alloc, "status")
+        .about("Prints how much a warehouse holds")
+        .arg(file)
+}
+
+fn first_command<'a>(alloc: Global) -> Result<Command<'a>, AllocError>
+    ensures app { IfOk result (λ c. app_of c ≡ first_app) }
+    ensures local { IfOk result (λ c. (out-Command c).has_globals ≡ false) }
+{
+    let trial = trial_command(alloc)?;
+    let init = init_command(alloc)?;
+    Command::new(alloc, "wh")
+        .no_binary_name(true)
+        .subcommand_required(true)
+        .subcommand(trial)?
+        .subcommand(init)
+}
+
+fn program_command<'a>(alloc: Global) -> Result<Command<'a>, AllocError>
+    ensures { IfOk result (λ c. app_of c ≡ program_app) }
+{
+    let load = load_command(alloc)?;
+    let status = status_command(alloc)?;
+    first_command(alloc)?.subcommand(load)?.subcommand(status)
+}
+
+/// What `clap` finds in the words. Where it takes them, it is refused memory alone.
+fn matches_of<'a, S: AsStr>(alloc: Global, words: &'a [S]) -> Result<ArgMatches<'a>, clap::Error>
+    ensures ok { IfOk result (λ matches. subcommand_rows_of matches ≡ subcommand_of program_app (map S.text words.now)) }
+    ensures err { takes program_app (map S.text words.now) ≡ true → IfErr result (λ e. kind_of e ≡ OutOfMemory) }
+{
+    program_command(alloc)?.try_get_matches_from(words)
+}
+
+/// A subcommand with its operands.
+#[derive(Clone, Copy, Debug, Drop)]
+enum Operands<'a> {
+    Trial {
+        dimension: &'a str,
+        path: &'a str,
+        policy: Option<&'a str>,
+    },
+    Init {
+        file: &'a str,
+        policy: &'a str,
+    },
+    Load {
+        file: &'a str,
+        kind: &'a str,
+        id: &'a str,
+        path: &'a str,
+    },
+    Status {
+        file: &'a str,
+    },
+}
+
+/// The value of an operand or an option.
+fn value_of<'a>(inner: &ArgMatches<'a>, name: &str) -> Option<&'a str>
+    ensures { option_map (λ text. text.now) result ≡ first_of name.now (rows_of (found_of inner.now)) }
+{
+    inner.get_str(name)
+}
+
+fn trial_operands<'a>(inner: &ArgMatches<'a>) -> Option<Operands<'a>>
+    ensures { option_map line_of result ≡ named_trial (rows_of (found_of inner.now)) }
+{
+    Some(Operands::Trial {
+        dimension: value_of(inner, "DIMENSION")?,
+        path: value_of(inner, "CSV")?,
+        policy: value_of(inner, "POLICY"),
+    })
+}
+
+fn init_operands<'a>(inner: &ArgMatches<'a>) -> Option<Operands<'a>>
+    ensures { option_map line_of result ≡ named_init (rows_of (found_of inner.now)) }
+{
+    Some(Operands::Init {
+        file: value_of(inner, "FILE")?,
+        policy: value_of(inner, "POLICY")?,
+    })
+}
+
+fn load_operands<'a>(inner: &ArgMatches<'a>) -> Option<Operands<'a>>
+    ensures { option_map line_of result ≡ named_load (rows_of (found_of inner.now)) }
+{
+    Some(Operands::Load {
+        file: value_of(inner, "FILE")?,
+        kind: value_of(inner, "KIND")?,
+        id: value_of(inner, "ID")?,
+        path: value_of(inner, "CSV")?,
+    })
+}
+
+fn status_operands<'a>(inner: &ArgMatches<'a>) -> Option<Operands<'a>>
+    ensures { option_map line_of result ≡ named_status (rows_of (found_of inner.now)) }
+{
+    Some(Operands::Status {
+        file: value_of(inner, "FILE")?,
+    })
+}
+
+/// The subcommand that was met, with its operands.
+fn operands_of<'a>(matches: &ArgMatches<'a>) -> Option<Operands<'a>>
+    ensures { option_map line_of result ≡ named (subcommand_rows_of matches.now) }
+{
+    let (name, inner) = matches.subcommand()?;
+    match name {
+        "trial" => trial_operands(inner),
+        "init" => init_operands(inner),
+        "load" => load_operands(inner),
+        "status" => status_operands(inner),
+        _ => None,
+    }
+}
+
+/// The request that an error of `clap` stands for: help, or a mistake in the words.
+fn declined<'a>(alloc: Global, error: &clap::Error) -> Result<Request<'a>, AllocError>
+    ensures { kind_of error.now ≡ OutOfMemory → IsErr result }
+{
+    match error.kind() {
+        ErrorKind::OutOfMemory => Err(AllocError),
+        ErrorKind::DisplayHelp => Ok(Request::Help(error.to_string(alloc)?)),
+        _ => Ok(Request::Usage(error.to_string(alloc)?)),
+    }
+}
+
+fn mistake<'a>(alloc: Global, text: &str) -> Result<Request<'a>, AllocError>
+    ensures { IfOk result IsUsage }
+{
+    Ok(Request::Usage(String::from_str(alloc, text)?))
+}
+
+/// What a subcommand asks for, by its operands.
+fn requested<'a>(alloc: Global, operands: Operands<'a>) -> Result<Request<'a>, AllocError>
+    ensures { IfOk result (Asks (line_of operands.entry)) }
+{
+    match operands {
+        Operands::Trial {
+            dimension,
+            path,
+            policy,
+        } => match dim_of(dimension) {
+            Some(dim) => Ok(Request::Trial { dim, path, policy }),
+            None => mistake(
+                alloc,
+                "error: DIMENSION is none of product, store and customer\n",
+            ),
+        },
+        Operands::Init { file, policy } => Ok(Request::Init { file, policy }),
+        Operands::Load {
+            file,
+            kind,
+            id,
+            path,
+        } => match batch_kind_of(kind) {
+            Some(kind) => Ok(Request::Load {
+                file,
+                kind,
+                id,
+                path,
+            }),
+            None => mistake(
+                alloc,
+                "error: KIND is none of product, store, customer and sales\n",
+            ),
+        },
+        Operands::Status { file } => Ok(Request::Status { file }),
+    }
+}
+
+/// What the words after the program's name ask for.
+pub fn parse<'a, S: AsStr>(alloc: Global, words: &'a [S]) -> Result<Request<'a>, AllocError>
+    ensures { IfOk result (λ request. (line : CommandLine) → map S.text words.now ≡ words_of line → has_operands line ≡ true → Asks line request) }
+{
+    match matches_of(alloc, words) {
+        Ok(matches) => match operands_of(&matches) {
+            Some(operands) => requested(alloc, operands),
+            None => mistake(alloc, "error: no command was given\n"),
+        },
+        Err(error) => declined(alloc, &error),
+    }
+}

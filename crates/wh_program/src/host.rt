@@ -1,0 +1,73 @@
+//! The files that a run can name, and the connections to those that are warehouses.
+
+ghost use Rattle.std.specs.Prelude.{◌≡◌, ◌≢◌, ℕ, List, Option, Some, None, ⊤, IfOk, IfErr, OnErr, option_map};
+ghost use Rattle.sqlite.specs.Held.{state};
+ghost use Rattle.sqlite.specs.State.{HasCleanDisk};
+ghost use Rattle.wh_program.specs.Standing.{Content, Standing, Rests, Stands};
+ghost use Rattle.wh_program.specs.declared.host.HostError.TheVariants.{NoFile};
+
+use sqlite::{Alter, Connection};
+use std::alloc::{AllocError, Global};
+
+/// Why a host gives no file, or lends no connection.
+#[derive(Clone, Copy, Debug, PartialEq, Eq)]
+pub enum HostError {
+    /// There is none of that name, or it could not be read or connected.
+    NoFile,
+    OutOfMemory,
+}
+
+/// What is done with the connection of a warehouse, over any store.
+pub trait Visitor: Drop {
+    type Output;
+
+    /// Over what the connection holds at rest, what is answered and what then stands.
+    ghost promises: { Self → Content → Self.Output → Standing → Type 0 };
+
+    /// Works on the connection, and hands it back.
+    fn visit<T: Alter + Drop>(
+        self,
+        alloc: Global,
+        connection: Connection<T>,
+    ) -> (Self::Output, Connection<T>)
+        ensures { HasCleanDisk (state T.Store result.1) → (content : Content) → Stands (Rests content) (state T.Store connection)
+            → (after : Standing) × promises self content result.0 after × Stands after (state T.Store result.1) };
+}
+
+/// The files that a run can name.
+pub trait Host {
+    /// What stands under a name, `None` where no file does. A host that does not tell lets it be anything.
+    ghost holds: { Self → List ℕ → Option (List ℕ) → Type 0 } = { λ _ _ _. ⊤ };
+
+    /// What stands under a name as a warehouse. A host that does not tell knows of nothing that stands.
+    ghost stores: { Self → List ℕ → Standing → Type 0 } = { λ _ _ _. ⊥ };
+
+    /// Reads a file whole.
+    fn read(&self, alloc: Global, path: &str) -> Result<Vec<u8>, HostError>
+        ensures ok { IfOk result (λ bytes. holds self.now path.now (Some bytes.items)) }
+        ensures err { IfErr result (λ e. e ≡ NoFile → holds self.now path.now None) };
+
+    /// Lends a visitor the connection of the warehouse under a name, and takes it back. Where no file has the name, the
+    /// connection is that of an empty one.
+    fn with_connection<V: Visitor>(
+        &mut self,
+        alloc: Global,
+        name: &str,
+        visitor: V,
+    ) -> Result<V::Output, HostError>
+        ensures visited { (content : Content) → stores self.old name.now (Rests content)
+            → IfOk result (λ output. (after : Standing) × V.promises visitor content output after × stores self.new name.now after) }
+        ensures not_visited { OnErr result ((any : List ℕ) (standing : Standing) → stores self.old any standing → stores self.new any standing) }
+        ensures others { (other : List ℕ) (standing : Standing) → other ≢ name.now → stores self.old other standing → stores self.new other standing };
+}
+
+/// The bytes of a file, if it is there.
+pub fn file_of<H: Host>(alloc: Global, path: &str, host: &H) -> Result<Option<Vec<u8>>, AllocError>
+    ensures { IfOk result (λ file. H.holds host.now path.now (option_map (λ bytes. bytes.items) file)) }
+{
+    match host.read(alloc, path) {
+        Ok(bytes) => Ok(Some(bytes)),
+        Err(HostError::NoFile) => Ok(None),
+        Err(HostError::OutOfMemory) => Err(AllocError),
+    }
+}

@@ -1,0 +1,21 @@
+//! The words of the program, over any files: what each asks for, and what a run prints and leaves.
+#![tactic(auto)]
+
+mod answer;
+mod command;
+mod host;
+mod lines;
+mod one;
+mod output;
+mod program;
+mod table;
+mod trial;
+mod warehouse;
+
+pub use answer::Answer;
+pub use host::{Host, HostError, Visitor};
+pub use lines::{
+    load_answer, made, making_answer, opening_answer, room_for_receipt, status_answer,
+};
+pub use one::OneHost;
+pub use program::{run, run_without_words};

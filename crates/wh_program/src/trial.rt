@@ -1,0 +1,85 @@
+//! Trials: a dimension's table as one batch makes it, without a warehouse.
+
+ghost use Rattle.std.specs.Prelude.{◌≡◌, Some, None, IfOk};
+ghost use Rattle.wh_policy.specs.Policy.{policy_at};
+ghost use Rattle.wh_program.specs.Answer.{table_answer, trial_rows, answer_under, AnswersTrial};
+
+use crate::answer::{Answer, Status};
+use crate::host::{Host, file_of};
+use crate::lines::{batch_line, no_file, policy_line};
+use crate::table::table_text;
+use std::alloc::{AllocError, Global};
+use wh_batch::{Format, dimension_records};
+use wh_day::ReadError;
+use wh_history::trial_table;
+use wh_policy::{Dim, Policy};
+
+/// The table of a dimension after a making under the policy and this one batch, or the batch's first fault.
+fn table_answer(
+    alloc: Global,
+    dim: Dim,
+    policy: &Policy,
+    batch: &[u8],
+) -> Result<Answer, AllocError>
+    ensures { IfOk result (λ answer. answer ≡ table_answer (trial_rows dim policy.now batch.now)) }
+{
+    match dimension_records(alloc, dim, policy, Format::One, batch) {
+        Ok(records) => {
+            let rows = trial_table(alloc, policy, dim, records.as_slice())?;
+            let table = table_text(alloc, &rows)?;
+            Ok(Answer::new(Status::Done, table))
+        }
+        Err(ReadError::Fault(fault)) => {
+            Ok(Answer::new(Status::Refused, batch_line(alloc, fault)?))
+        }
+        Err(ReadError::Memory) => Err(AllocError),
+    }
+}
+
+/// The table under the policy that a text writes, or the policy's first fault.
+fn answer_under(alloc: Global, dim: Dim, policy: &[u8], batch: &[u8]) -> Result<Answer, AllocError>
+    ensures { IfOk result (λ answer. answer ≡ answer_under dim batch.now (policy_at policy.now)) }
+{
+    match Policy::read(alloc, policy) {
+        Ok(policy) => table_answer(alloc, dim, &policy, batch),
+        Err(ReadError::Fault(fault)) => {
+            Ok(Answer::new(Status::Refused, policy_line(alloc, fault)?))
+        }
+        Err(ReadError::Memory) => Err(AllocError),
+    }
+}
+
+/// A trial of the batch in a file, under the trial's own policy.
+pub fn plain_trial<H: Host>(
+    alloc: Global,
+    dim: Dim,
+    path: &str,
+    host: &H,
+) -> Result<Answer, AllocError>
+    ensures { IfOk result (AnswersTrial (H.holds host.now) dim path.now None) }
+{
+    let Some(batch) = file_of(alloc, path, host)? else {
+        return no_file(alloc, path);
+    };
+    let policy = Policy::trial(alloc)?;
+    table_answer(alloc, dim, &policy, &batch)
+}
+
+/// A trial of the batch in a file, under the policy in another, which is read first.
+pub fn trial_under<H: Host>(
+    alloc: Global,
+    dim: Dim,
+    path: &str,
+    policy: &str,
+    host: &H,
+) -> Result<Answer, AllocError>
+    ensures { IfOk result (AnswersTrial (H.holds host.now) dim path.now (Some policy.now)) }
+{
+    let Some(text) = file_of(alloc, policy, host)? else {
+        return no_file(alloc, policy);
+    };
+    let Some(batch) = file_of(alloc, path, host)? else {
+        return no_file(alloc, path);
+    };
+    answer_under(alloc, dim, &text, &batch)
+}

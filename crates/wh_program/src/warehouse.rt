@@ -1,0 +1,165 @@
+//! The commands on a warehouse in a file.
+
+ghost use Rattle.std.specs.Prelude.{◌≡◌, ⊤, IfOk, OnErr};
+ghost use Rattle.wh_program.specs.Answer.{failed, no_file_line};
+ghost use Rattle.wh_program.specs.Standing.{Content, Standing, Rests};
+ghost use Rattle.wh_program.specs.Warehouse.{Opens, IsReplied, IsCounted, Makes, Loads, AnswersWith, AnswersStatus};
+
+use crate::answer::Answer;
+use crate::host::{Host, HostError, Visitor, file_of};
+use crate::lines::{
+    load_answer, made, making_answer, no_file, opening_answer, room_for_receipt, status_answer,
+};
+use sqlite::{Alter, Connection};
+use sqlite_value::value::Bytes;
+use std::alloc::{AllocError, Global};
+use wh_batch::Kind;
+use wh_day::Value;
+use wh_engine::{Command, Engine};
+use wh_rows::Limits;
+
+/// Makes a warehouse under the policy that these bytes write.
+#[derive(Drop)]
+struct Making {
+    policy: Vec<u8>,
+}
+
+impl Visitor for Making {
+    type Output = Result<Answer, AllocError>;
+
+    ghost promises = { λ making content told after. Makes making.policy.items content told after };
+
+    fn visit<T: Alter + Drop>(
+        self,
+        alloc: Global,
+        connection: Connection<T>,
+    ) -> (Result<Answer, AllocError>, Connection<T>) {
+        // The line is there before anything is written, so that no memory is wanted once the warehouse is made.
+        let Ok(answer) = made(alloc) else {
+            return (Err(AllocError), connection);
+        };
+        match Engine::init(alloc, connection, &self.policy, Limits::greatest()) {
+            Ok(engine) => (Ok(answer), engine.close()),
+            Err((fault, connection)) => (making_answer(alloc, fault), connection),
+        }
+    }
+}
+
+/// Loads a batch into a warehouse.
+#[derive(Drop)]
+struct Loading {
+    command: Command,
+    /// Room for the line of its receipt.
+    room: Vec<u8>,
+}
+
+impl Visitor for Loading {
+    type Output = Result<Answer, AllocError>;
+
+    ghost promises = { λ loading content told after. Opens (IsReplied loading.command) content told after };
+
+    fn visit<T: Alter + Drop>(
+        self,
+        alloc: Global,
+        connection: Connection<T>,
+    ) -> (Result<Answer, AllocError>, Connection<T>) {
+        match Engine::open(alloc, connection) {
+            Ok(mut engine) => {
+                let reply = engine.apply(alloc, &self.command);
+                let answer = load_answer(alloc, self.room, self.command.id.as_str(), reply);
+                (answer, engine.close())
+            }
+            Err((fault, connection)) => (opening_answer(alloc, fault), connection),
+        }
+    }
+}
+
+/// Counts what a warehouse holds.
+#[derive(Clone, Copy)]
+struct Counting;
+
+impl Visitor for Counting {
+    type Output = Result<Answer, AllocError>;
+
+    ghost promises = { λ _ content told after. Opens IsCounted content told after };
+
+    fn visit<T: Alter + Drop>(
+        self,
+        alloc: Global,
+        connection: Connection<T>,
+    ) -> (Result<Answer, AllocError>, Connection<T>) {
+        match Engine::open(alloc, connection) {
+            Ok(mut engine) => {
+                let counts = engine.counts(alloc);
+                (status_answer(alloc, counts), engine.close())
+            }
+            Err((fault, connection)) => (opening_answer(alloc, fault), connection),
+        }
+    }
+}
+
+/// The answer of a visit, or that the file couldn't be connected.
+fn answered(
+    alloc: Global,
+    file: &str,
+    visit: Result<Result<Answer, AllocError>, HostError>,
+) -> Result<Answer, AllocError>
+    ensures visited { IfOk visit (λ told. result ≡ told) }
+    ensures not_visited { OnErr visit (IfOk result (λ answer. answer ≡ failed (no_file_line file.now))) }
+{
+    match visit {
+        Ok(answer) => answer,
+        Err(HostError::NoFile) => no_file(alloc, file),
+        Err(HostError::OutOfMemory) => Err(AllocError),
+    }
+}
+
+/// Makes the warehouse in a file, under the policy in another, which is read first.
+pub fn init<H: Host>(
+    alloc: Global,
+    file: &str,
+    policy: &str,
+    host: &mut H,
+) -> Result<Answer, AllocError>
+    ensures { (content : Content) → H.stores host.old file.now (Rests content)
+        → AnswersWith (H.holds host.old) (H.stores host.new file.now) Makes content file.now policy.now result }
+{
+    let Some(text) = file_of(alloc, policy, host)? else {
+        return no_file(alloc, policy);
+    };
+    let visit = host.with_connection(alloc, file, Making { policy: text });
+    answered(alloc, file, visit)
+}
+
+/// Loads the batch in a file into the warehouse in another. The batch's file is read first.
+pub fn load<H: Host>(
+    alloc: Global,
+    file: &str,
+    kind: Kind,
+    id: &str,
+    path: &str,
+    host: &mut H,
+) -> Result<Answer, AllocError>
+    ensures { (content : Content) → H.stores host.old file.now (Rests content)
+        → AnswersWith (H.holds host.old) (H.stores host.new file.now) (Loads kind id.now) content file.now path.now result }
+{
+    let Some(batch) = file_of(alloc, path, host)? else {
+        return no_file(alloc, path);
+    };
+    let command = Command {
+        id: Value::new(alloc, id)?,
+        kind,
+        bytes: Bytes::from_slice(alloc, &batch)?,
+    };
+    let room = room_for_receipt(alloc, id)?;
+    let visit = host.with_connection(alloc, file, Loading { command, room });
+    answered(alloc, file, visit)
+}
+
+/// Tells how much the warehouse in a file holds.
+pub fn status<H: Host>(alloc: Global, file: &str, host: &mut H) -> Result<Answer, AllocError>
+    ensures { (content : Content) → H.stores host.old file.now (Rests content) → AnswersStatus (H.stores host.new file.now) content file.now result }
+{
+    let visit = host.with_connection(alloc, file, Counting);
+    answered(alloc, file, visit)
+}
