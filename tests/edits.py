@@ -1,0 +1,199 @@
+#!/usr/bin/env python3
+"""Tries wrong bodies: the prover has to refuse each edit of a crate's edits/, with --must-fail those of must-fail/ too.
+
+Usage: tests/edits.py [--must-fail] CRATE..     (as tests/edits.py wh_day wh_policy)
+
+A function is proved from its own body and from the contracts of what it calls, so edits of different functions don't
+disturb one another. They are tried together, in rounds, each of them one check over what is proved already. An edit
+counts as refused where the prover refuses its own function, and not where that function only waits for another one's
+proof. An edit whose answer isn't clear is tried again without those that are refused, and in the end alone, as is one that
+stands outside of functions. All is done on a copy of the repository; a crate with no kept work in out/ is proved there
+first. The last line counts the edits, and the status is 1 where one is not refused.
+"""
+
+import argparse
+import re
+import shutil
+import subprocess
+import sys
+import tempfile
+import time
+from pathlib import Path
+from typing import NamedTuple
+
+ROOT = Path(__file__).resolve().parent.parent
+FUNCTION = re.compile(r"( *)(?:pub(?:\([^)]*\))? )?(?:const |final )*fn (\w+)")
+IMPL = re.compile(r"impl(?:<.*?>)? (.+?)(?: for (.+?))?(?: \{| where|$)")
+TRAIT = re.compile(r"(?:pub(?:\([^)]*\))? )?trait (\w+)")
+ANSWER = re.compile(r"^fn (\S+): (.*)$", re.M)
+WAITS = re.compile(r"it calls `|it passes the block `|a call of `|waits for the proof of `")
+
+
+class Function(NamedTuple):
+    """A function of a file: its name behind that of its module, its first line, and the line past its last."""
+
+    name: str
+    first: int
+    past: int
+
+
+class Edit(NamedTuple):
+    """The lines of a file that an edit replaces, those in their place, and the function around them, if one is."""
+
+    label: str
+    file: str
+    first: int
+    past: int
+    lines: list
+    function: Function
+
+
+def last_word(path):
+    return re.match(r"\W*(?:\w+::)*(\w*)", path)[1]
+
+
+def owner_at(lines, row):
+    """What the prover writes before the name of a method: its type, and a trait behind it, or the trait alone."""
+    for line in reversed(lines[:row]):
+        if impl := IMPL.match(line):
+            subject, trait = (impl[2], impl[1]) if impl[2] else (impl[1], "")
+            return last_word(subject) + last_word(trait) + "::"
+        if trait := TRAIT.match(line):
+            return trait[1] + "::"
+    return ""
+
+
+def functions_of(lines):
+    """The functions that have a body."""
+    heads = [(row, head) for row, line in enumerate(lines) if (head := FUNCTION.match(line))]
+    found = []
+    for (row, head), (bound, _) in zip(heads, heads[1:] + [(len(lines), None)]):
+        end = next((at for at in range(row, bound) if lines[at] == head[1] + "}"), None)
+        if end is not None:
+            owner = owner_at(lines, row) if head[1] else ""
+            found.append(Function(owner + head[2], row, end + 1))
+    return found
+
+
+def same_in_front(some, other):
+    return next((at for at, (a, b) in enumerate(zip(some, other)) if a != b), min(len(some), len(other)))
+
+
+def read(crate, path):
+    """The edit of a file, None where a text of it doesn't stand once."""
+    text = path.read_text()
+    file = re.search(r"^file: (.*?) *$", text, re.M)[1]
+    before = after = (crate / file).read_text()
+    for old, new in zip(re.findall(r"^old: (.*)$", text, re.M), re.findall(r"^new: ?(.*)$", text, re.M)):
+        if after.count(old) != 1:
+            return None
+        after = after.replace(old, new)
+    before, after = before.split("\n"), after.split("\n")
+    first = same_in_front(before, after)
+    behind = same_in_front(before[first:][::-1], after[first:][::-1])
+    past, lines = len(before) - behind, after[first : len(after) - behind]
+    around = [it for it in functions_of(before) if it.first <= first and past <= it.past]
+    return Edit("/".join(path.parts[-3:]), file, first, past, lines, around[0] if around else None)
+
+
+def check(crate):
+    """What the check says of a crate, over its kept work."""
+    how = {"stdin": subprocess.DEVNULL, "stdout": subprocess.PIPE, "stderr": subprocess.STDOUT}
+    return subprocess.run(["rt", "check", "--jobs", "1"], cwd=crate, text=True, errors="replace", **how).stdout
+
+
+def check_with(crate, edits):
+    """What the check says of a crate with edits whose lines don't meet. The files are put back."""
+    files = {edit.file: (crate / edit.file).read_text() for edit in edits}
+    for file, text in files.items():
+        lines = text.split("\n")
+        for edit in sorted((it for it in edits if it.file == file), key=lambda it: -it.first):
+            lines[edit.first : edit.past] = edit.lines
+        (crate / file).write_text("\n".join(lines))
+    said = check(crate)
+    for file, text in files.items():
+        (crate / file).write_text(text)
+    return said
+
+
+def is_refusal(reason):
+    """Whether a function's answer is the prover's refusal of the function itself: a goal of its own isn't proved, or
+    nothing is and it waits for no other. Goals rest on contracts, so they fail alike where another isn't proved."""
+    return reason.startswith(("not proved", "no proof")) and ("did not prove" in reason or not WAITS.search(reason))
+
+
+def is_of(answer, name):
+    """Whether an answer is for the function or a closure in it, as `m::fn::f::any+FnMut::call_mut`."""
+    words, name = answer.split("::"), name.split("::")
+    without = [it for it in words if it != "fn"]
+    return words == name or (without != words and without[: len(name)] == name)
+
+
+def is_refused_among(crate, edit, said):
+    module = "::".join([crate.name, *Path(edit.file).with_suffix("").parts[1:]])
+    answers = ANSWER.findall(said)
+    return any(is_of(name, f"{module}::{edit.function.name}") and is_refusal(it) for name, it in answers)
+
+
+def try_together(crate, edits):
+    """Tries edits in rounds, of each function one, while a round refuses some. Gives those that are left."""
+    left = edits
+    while len(left) > 1:
+        chosen = list({(it.file, it.function): it for it in left}.values())
+        said = check_with(crate, chosen)
+        refused = [it for it in chosen if is_refused_among(crate, it, said)]
+        print(f"{crate.name}: {len(refused)} of {len(chosen)} refused together", flush=True)
+        left = [it for it in left if it not in refused]
+        if not refused:
+            break
+    return left
+
+
+def is_refused_alone(crate, edit):
+    return any(is_refusal(reason) for _, reason in ANSWER.findall(check_with(crate, [edit])))
+
+
+def try_crate(crate, folders):
+    """How many edits there are, and the names of those that are not refused."""
+    start, paths = time.time(), sorted(it for folder in folders for it in (crate / folder).glob("*.edit"))
+    if "\nlogic=proved " not in check(crate):
+        sys.exit(f"{crate.name} is not proved, so its edits say nothing")
+    edits = [read(crate, path) for path in paths]
+    missed = [f"{path}: a text of it isn't once in its file" for path, it in zip(paths, edits) if not it]
+    good = [it for it in edits if it]
+    left = try_together(crate, [it for it in good if it.function]) + [it for it in good if not it.function]
+    missed += [it.label for it in left if not is_refused_alone(crate, it)]
+    print(f"{crate.name}: {len(edits)} edits, {len(left)} of them alone, {time.time() - start:.0f} s", flush=True)
+    for name in missed:
+        print(f"NOT REFUSED: {name}", flush=True)
+    return len(edits), len(missed)
+
+
+def copy_to(room, names):
+    """Copies the repository, with the libraries of all crates and the kept work of those that are named."""
+
+    def left_out(folder, found):
+        if Path(folder).name != "out":
+            return [it for it in found if it == ".git"]
+        keeps = ["rlib", "incremental"] if Path(folder).parent.name in names else ["rlib"]
+        return [it for it in found if it not in keeps]
+
+    shutil.copytree(ROOT, room, symlinks=True, ignore=left_out)
+
+
+def main():
+    words = argparse.ArgumentParser(description="Tries wrong bodies, each of which the prover has to refuse.")
+    words.add_argument("--must-fail", action="store_true", help="those of must-fail/ too")
+    words.add_argument("crate", nargs="+")
+    given = words.parse_args()
+    folders = ["edits", "must-fail"] if given.must_fail else ["edits"]
+    with tempfile.TemporaryDirectory(prefix="wh-edits-") as room:
+        copy_to(Path(room, "wh"), given.crate)
+        counts = [try_crate(Path(room, "wh", "crates", name), folders) for name in given.crate]
+    edits, missed = (sum(it) for it in zip(*counts))
+    print(f"{edits - missed} refused, {missed} not refused")
+    return 1 if missed else 0
+
+
+if __name__ == "__main__":
+    sys.exit(main())
