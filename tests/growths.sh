@@ -81,6 +81,7 @@ refuse_all() {
         refused=$((refused + 1))
         number=$((number + step))
     done
+    [ $refused -gt 0 ] || fail "$name: no growth was refused"
     echo "$name: $refused growths refused, $short answered with E8, $stopped with E9, the others as with ample memory"
 }
 
