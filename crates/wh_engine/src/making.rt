@@ -7,7 +7,7 @@ ghost use Rattle.wh_history.specs.Slots.{six};
 ghost use Rattle.wh_rows.specs.AtRest.{IsWriting, Leaves};
 ghost use Rattle.wh_rows.specs.Tables.{Tables as Rows};
 ghost use Rattle.wh_plan.specs.Defined.{AreOf};
-ghost use Rattle.wh_plan.specs.Made.{making_of, IsGoodPolicy, PoliciesAreGood, making_row, in_profile, profile_of, first_profiles, calendar_rows, with_first, MayBeFirst};
+ghost use Rattle.wh_plan.specs.FirstRows.{making_of, IsGoodPolicy, PoliciesAreGood, making_row, in_profile, profile_of, first_profiles, calendar_rows, with_first, MayBeFirst};
 
 use sqlite::Alter;
 use sqlite::types::Bytes;

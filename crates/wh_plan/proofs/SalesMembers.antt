@@ -19,7 +19,7 @@ use Rattle.wh_history.proofs.Numbers.{fresh, distinct-append, place-append_front
 use Rattle.wh_history.proofs.Once.{IsOnce, once_distinct}
 use Rattle.wh_history.proofs.Places.{anchors_decide, place-distinct_given}
 use Rattle.wh_history.proofs.Untouched.{mentions-last}
-use Rattle.wh_plan.specs.Mentioned.{naturals_sold, with_numbers, numbered}
+use Rattle.wh_plan.specs.SoldMembers.{naturals_sold, with_numbers, numbered}
 use Rattle.wh_plan.proofs.FoundStored.{member_absent}
 use Rattle.wh_plan.proofs.GrownChanges.{natural_among}
 use Rattle.wh_plan.proofs.GrownMembers.{Opened, opened_in_all}

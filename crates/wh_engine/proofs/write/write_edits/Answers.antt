@@ -1,7 +1,7 @@
 use Rattle.std.proofs.Common.{Some, OnOk, subst}
 use Rattle.sqlite.specs.Held.{state}
 use Rattle.wh_rows.specs.AtRest.{IsWriting, Leaves}
-use Rattle.wh_plan.specs.Planned.{with_all_edits}
+use Rattle.wh_plan.specs.Edits.{with_all_edits}
 use Rattle.wh_plan.specs.Writable.{MayBeWritten}
 use Rattle.wh_engine.proofs.write.write_edits.Goals as goal
 
