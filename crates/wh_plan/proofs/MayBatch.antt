@@ -1,6 +1,6 @@
 -- A batch's edits may be written.
 use Rattle.std.proofs.Common.{◌≡◌, inl, inr, ℕ, suc, ◌-◌, ◌≤◌, true, false, List, [], ◌∷◌, ◌++◌, length, Option, Some, None, refl, sym, ap, subst, ◌∙◌, arith, length-append}
-use Rattle.std.specs.Prelude.{filter_map, take, option_map}
+use Rattle.std.specs.Prelude.{take, option_map}
 use Rattle.std.specs.List.{AllByRecursion, cons_option, range_with_len}
 use Rattle.std.specs.Option.{option_and_then}
 use Rattle.wh_policy.specs.declared.attribute.Dim.{Dim}

@@ -10,7 +10,7 @@ use Rattle.wh_policy.specs.declared.attribute.Dim.{Dim}
 use Rattle.wh_policy.specs.declared.attribute.Dim.TheVariants.{Product, Store, Customer}
 use Rattle.wh_policy.specs.declared.record.DimensionRecord.{DimensionRecord}
 use Rattle.wh_policy.specs.declared.record.SaleRecord.{SaleRecord}
-use Rattle.wh_history.specs.Accepted.{Accepted, Describes, same_dim, sold_by, sold, member_of_sale, members, durable_key, member_of, types_in, profiles_of, changes_of, anchors_by}
+use Rattle.wh_history.specs.Accepted.{Accepted, Describes, same_dim, sold_by, sold, member_of_sale, members, durable_key, member_of, types_in, profiles_of, anchors_by}
 use Rattle.wh_history.specs.Dated.{at, dated}
 use Rattle.wh_history.specs.Facts.{key_in, same_keys, new_keys, rekeyed_to}
 use Rattle.wh_history.specs.Shapes.{shape_after, rendered_in}

@@ -22,7 +22,7 @@ use Rattle.wh_history.specs.Dated.{at, dated}
 use Rattle.wh_history.specs.Facts.{key_in, rekeyed_to}
 use Rattle.wh_history.specs.Shapes.{shape_after}
 use Rattle.wh_history.specs.Laws.{ChangesHaveDays, governs}
-use Rattle.wh_history.specs.Profiles.{current_profile, profile_now, profile_number}
+use Rattle.wh_history.specs.Profiles.{current_profile, profile_now}
 use Rattle.wh_history.specs.Rows.{rows}
 use Rattle.wh_history.specs.Tables.{Limits, fact_of, key_at, profile_at}
 use Rattle.wh_history.specs.declared.facts.Fact.{Fact}

@@ -1,5 +1,5 @@
 -- The facts that move by the members that a batch touches.
-use Rattle.std.proofs.Common.{◌≡◌, ℕ, true, false, cond, nat_lt, List, [], ◌∷◌, ◌++◌, map, Option, Some, None, refl, sym, ◌∙◌, ap, subst}
+use Rattle.std.proofs.Common.{◌≡◌, ℕ, true, false, cond, nat_lt, List, [], ◌∷◌, ◌++◌, map, Option, None, refl, sym, ◌∙◌, ap, subst}
 use Rattle.std.specs.Prelude.{filter_map, flat_map, option_map, unwrap_or, zip}
 use Rattle.std.specs.FinMap.{FinMap}
 use Rattle.std.specs.List.{cons_option, AllByRecursion}

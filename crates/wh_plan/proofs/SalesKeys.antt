@@ -152,16 +152,16 @@ module _ (dim : Dim) (kinds : List AttributeType) (number : List (List ℕ) → 
       ∙ ap (λ ks. keys_among all (map (rendered_in all) ms) s ∷ ks) (sales_known ms enough ss)
 
 -- for the keys that a call gives
-pub keys_planned : (dim : Dim) (kinds : List AttributeType) (number : List (List ℕ) → Option ℕ) (members : List Member) (sales : List SaleRecord) (list : List RenderedMember) (keys : List MemberKeys)
-    → keys ≡ map (keys_among (record { dim = dim; kinds = kinds; number = number }) list) sales → list ≡ map (rendered_in (record { dim = dim; kinds = kinds; number = number })) members
+pub keys_planned : (dim : Dim) (kinds : List AttributeType) (number : List (List ℕ) → Option ℕ) (members : List Member) (sales : List SaleRecord) (rendered : List RenderedMember) (keys : List MemberKeys)
+    → keys ≡ map (keys_among (record { dim = dim; kinds = kinds; number = number }) rendered) sales → rendered ≡ map (rendered_in (record { dim = dim; kinds = kinds; number = number })) members
     → (commands : List Accepted) → members ≡ map (member_of dim commands) (naturals_sold dim sales) → kinds ≡ types_in dim commands
     → AllByRecursion (KnowsEnough dim kinds number (profiles_of commands)) members
     → keys ≡ map (keys_sold dim commands) sales
-keys_planned dim kinds number members sales list keys made list_is commands members_are types enough =
+keys_planned dim kinds number members sales rendered keys made rendered_is commands members_are types enough =
     let numbers = profile_number (profiles_of commands) in
     let by : List AttributeType → (List (List ℕ) → Option ℕ) → Shape = λ ks numbers. record { dim = dim; kinds = ks; number = numbers } in
     made
-    ∙ ap (λ ms. map (keys_among (by kinds number) ms) sales) list_is
+    ∙ ap (λ ms. map (keys_among (by kinds number) ms) sales) rendered_is
     ∙ sales_known dim kinds number (profiles_of commands) members enough sales
     ∙ ap (λ ms. map (keys_among (by kinds numbers) (map (rendered_in (by kinds numbers)) ms)) sales) members_are
     ∙ ap (λ ks. map (keys_among (by ks numbers) (map (rendered_in (by ks numbers)) (map (member_of dim commands) (naturals_sold dim sales)))) sales) types

@@ -1,4 +1,4 @@
-use Rattle.std.proofs.Common.{◌≡◌, ◌++◌, ◌∷◌, [], List, map, sym, ◌∙◌, ap, rules, append-nil}
+use Rattle.std.proofs.Common.{◌++◌, List, sym, ◌∙◌, rules, append-nil}
 use Rattle.std.specs.Prelude.{flat_map}
 use Rattle.std.proofs.lemmas.List.{at_drop_all}
 use Rattle.wh_history.specs.Shapes.{shape_of}

@@ -1,4 +1,4 @@
-use Rattle.std.proofs.Common.{◌≡◌, ◌++◌, map, drop}
+use Rattle.std.proofs.Common.{◌≡◌, ◌++◌, drop}
 use Rattle.std.specs.Prelude.{Ok, flat_map}
 use Rattle.wh_history.specs.Shapes.{shape_of}
 use Rattle.wh_plan.specs.MovedFacts.{moved_of_touched, pair_of}

@@ -1,5 +1,4 @@
-use Rattle.std.proofs.Common.{ap, ◌∙◌}
-use Rattle.wh_plan.specs.SoldMembers.{with_natural}
+use Rattle.std.proofs.Common.{◌∙◌}
 use Rattle.wh_plan.proofs.PlanNaturals.{told_more}
 use Rattle.wh_plan.proofs.naturals.naturals_told.Goals as goal
 

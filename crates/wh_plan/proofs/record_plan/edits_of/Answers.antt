@@ -1,9 +1,9 @@
-use Rattle.std.proofs.Common.{◌++◌, ◌∷◌, [], length, sym, ◌∙◌, ap, Some}
+use Rattle.std.proofs.Common.{◌++◌, ◌∷◌, [], length, sym, ◌∙◌, ap}
 use Rattle.std.specs.Prelude.{filter_map}
 use Rattle.wh_history.specs.Accepted.{records_by}
 use Rattle.wh_history.specs.Plan.{row_of}
 use Rattle.wh_plan.specs.Defined.{change_at}
-use Rattle.wh_plan.specs.Edits.{Edits, behind}
+use Rattle.wh_plan.specs.Edits.{behind}
 use Rattle.wh_plan.proofs.OneDimension.{members_told, all_planned}
 use Rattle.wh_plan.proofs.PlanEdits.{own_number}
 use Rattle.wh_plan.proofs.record_plan.edits_of.Goals as goal
@@ -15,7 +15,7 @@ returns c commands sent is typed days days_after at planned =
     let after = commands ++ sent ∷ [] in
     let command = c.args.command in
     let number = own_number commands sent command at in
-    let made = c.of_dimension.ensures in
+    let made = c.of_dimension-rows.ensures in
     let plan = c.in_ok-rows.ensures commands sent records is typed days days_after planned.touched planned.enough (λ key. ap (row_of key) c.deref.ensures.value ∙ planned.found.rows_read key) in
     record {
       command = at;
