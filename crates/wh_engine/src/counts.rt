@@ -17,7 +17,7 @@ use crate::fault::{Fault, stops};
 use sqlite::Alter;
 use std::alloc::Global;
 use wh_day::ReadError;
-use wh_plan::reading::last_member;
+use wh_plan::kept::members_given;
 use wh_policy::Dim;
 use wh_rows::tables;
 use wh_store::Tables;
@@ -45,8 +45,8 @@ fn members_of<S: Alter>(tables: &mut Tables<S>, alloc: Global, dim: Dim) -> Resu
     ensures same { HasCleanDisk (state S.Store tables.new.conn) → (t : Rows) → IsAtRest (Some t) (state S.Store tables.old.conn) → IsServed result → IsAtRest (Some t) (state S.Store tables.new.conn) }
     ensures left { HasCleanDisk (state S.Store tables.new.conn) → (t : Rows) → IsAtRest (Some t) (state S.Store tables.old.conn) → Leaves (Some t) (state S.Store tables.new.conn) }
 {
-    match last_member(tables, alloc, dim) {
-        Ok(last) => Ok(last.durable),
+    match members_given(tables, alloc, dim) {
+        Ok(given) => Ok(given.members),
         Err(ReadError::Memory) => Err(Fault::Memory),
         Err(ReadError::Fault(refusal)) => Err(Fault::from(refusal)),
     }

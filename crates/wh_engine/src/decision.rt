@@ -10,7 +10,7 @@ ghost use Rattle.wh_engine.specs.Decided.{records_told, sales_told, row_of_batch
 ghost use Rattle.wh_plan.specs.Defined.{command_at};
 ghost use Rattle.wh_engine.specs.Faults.{IsServed, IsWorkedOut, Judges};
 ghost use Rattle.wh_engine.specs.Serving.{Spares, Works};
-ghost use Rattle.wh_plan.specs.Edits.{AreEdits};
+ghost use Rattle.wh_plan.specs.Planned.{AreEdits};
 ghost use Rattle.wh_plan.specs.Reads.{ReadsOnly, Finds};
 ghost use Rattle.wh_plan.specs.Sound.{IsAccepted};
 
@@ -23,7 +23,7 @@ use sqlite_value::value::Bytes;
 use std::alloc::{AllocError, Global};
 use wh_batch::{DimensionRecords, Format, Kind, SaleRecords, dimension_records, sale_records};
 use wh_day::{ReadError, Value};
-use wh_plan::reading::command_of;
+use wh_plan::kept::command_of;
 use wh_plan::{Edits, plan_batch, plan_sales};
 use wh_policy::{Dim, Policy, SaleRecord};
 use wh_rows::{CommandRow, is_key};

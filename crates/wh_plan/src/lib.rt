@@ -1,22 +1,18 @@
 //! What a batch writes, planned from reads of the members that it mentions.
 #![tactic(auto)]
 
-mod batch;
-mod by_natural;
 mod edits;
+pub mod kept;
+mod keyed;
 pub mod laws;
-mod moved_facts;
-mod naturals;
-pub mod new_rows;
-mod numbers;
+mod moving;
+mod plan;
+pub mod planning;
 mod profiles;
-pub mod reading;
-mod record_plan;
-mod sale_keys;
-mod sale_plan;
-mod sold_dimension;
-mod touched;
+mod sales;
+mod side;
+mod stored;
 
 pub use edits::Edits;
-pub use record_plan::plan_batch;
-pub use sale_plan::plan_sales;
+pub use plan::plan_batch;
+pub use sales::plan_sales;

@@ -27,8 +27,8 @@ use std::alloc::{AllocError, Global};
 use std::test::Fail;
 use wh_day::{Day, NaturalKey, Value, Values};
 use wh_history::{
-    Change, Changes, DimRow, Dimension, Edit, Fact, FactKeys, Member, Profiles, latest, original,
-    plan_rows, prior, profile_texts, row_at, trial_table, value_at,
+    Change, Changes, DimRow, Edit, Fact, FactKeys, Member, Plan, Profiles, latest, original,
+    plan_member, prior, profile_texts, render, render_types, row_at, trial_table, value_at,
 };
 use wh_policy::{AttributeType, Dim, DimensionRecord, Policy};
 
@@ -145,21 +145,12 @@ impl HistoryScene {
         Ok(())
     }
 
-    fn dimension<'a>(&'a self, dim: Dim, types: &'a [AttributeType]) -> Dimension<'a> {
-        Dimension {
-            dim,
-            types,
-            profiles: &self.profiles,
-        }
-    }
-
     fn rows(&self, alloc: Global) -> Result<Vec<DimRow>, AllocError> {
-        self.dimension(Dim::Product, &self.types).rows_of(alloc, &self.member)
+        render_types(alloc, &self.types, &self.member, &self.profiles)
     }
 
     fn rendered(&self, alloc: Global, dim: Dim) -> Result<Vec<DimRow>, AllocError> {
-        let types = policy(alloc)?.types(alloc, dim)?;
-        self.dimension(dim, &types).rows_of(alloc, &self.member)
+        render(alloc, &policy(alloc)?, dim, &self.member, &self.profiles)
     }
 
     fn store(&mut self, alloc: Global) -> Result<(), AllocError> {
@@ -228,12 +219,16 @@ impl HistoryScene {
     }
 
     fn push_plan(&self, alloc: Global, answer: &mut String) -> Result<(), AllocError> {
-        let types = policy(alloc)?.types(alloc, Dim::Product)?;
-        let dimension = self.dimension(Dim::Product, &types);
-        let after = dimension.rendered(alloc, &self.member)?;
-        let rows = plan_rows(alloc, &self.stored, &after.rows)?;
-        let facts = dimension.rekeyed_facts(alloc, &after, &self.facts)?;
-        push_edits(answer, &rows, &facts)
+        let plan = plan_member(
+            alloc,
+            &policy(alloc)?,
+            Dim::Product,
+            &self.stored,
+            &self.facts,
+            &self.member,
+            &self.profiles,
+        )?;
+        push_edits(answer, &plan)
     }
 }
 
@@ -354,15 +349,11 @@ fn push_value_of(
     answer.push_str(value.as_str())
 }
 
-fn push_edits(
-    answer: &mut String,
-    rows: &[Edit<DimRow, u64>],
-    facts: &[Fact],
-) -> Result<(), AllocError> {
-    for edit in rows {
+fn push_edits(answer: &mut String, plan: &Plan) -> Result<(), AllocError> {
+    for edit in &plan.rows {
         push_edit(answer, edit)?;
     }
-    for moved in facts {
+    for moved in &plan.facts {
         answer.push_str("moved ")?;
         answer.push_str(moved.ticket.as_str())?;
         answer.push_str(" ")?;

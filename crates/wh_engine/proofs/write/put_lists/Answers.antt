@@ -1,63 +1,43 @@
-use Rattle.std.proofs.Common.{Some, OnOk, sym, subst}
-use Rattle.sqlite.specs.Held.{state}
-use Rattle.wh_rows.specs.AtRest.{IsWriting}
-use Rattle.wh_plan.specs.Edits.{with_lists}
-use Rattle.wh_plan.specs.Writable.{AreValidRows}
 use Rattle.wh_engine.proofs.write.put_lists.Goals as goal
-
-pub returns-in_err-put-clause-left : goal.returns-in_err-put-clause-left
-returns-in_err-put-clause-left g c clean before made at may = c.put.ensures.left clean before made at
 
 pub returns-in_err-put_all-clause-left : goal.returns-in_err-put_all-clause-left
 returns-in_err-put_all-clause-left g c clean before made at may =
-    let valid = subst AreValidRows (sym c.edits.view_is) may in
-    let left = rw c.deref.ensures.value at c.put_all.ensures.left in
-    let one = c.put_all.ensures.clean clean in
-    left clean before _ (c.in_ok-put.ensures.put one before made at valid.command) valid.members
+    c.put_all.ensures.left clean before made (at) may.command
 
 pub returns-in_err-put_all-2-clause-left : goal.returns-in_err-put_all-2-clause-left
 returns-in_err-put_all-2-clause-left g c clean before made at may =
-    let valid = subst AreValidRows (sym c.edits.view_is) may in
-    let put_1 = rw c.deref.ensures.value at c.in_ok-put_all.ensures.put in
-    let left = rw c.deref-2.ensures.value at c.put_all-2.ensures.left in
-    let two = c.put_all-2.ensures.clean clean in
-    let one = c.put_all.ensures.clean two in
-    left clean before _ (put_1 two before _ (c.in_ok-put.ensures.put one before made at valid.command) valid.members) valid.changes
+    let one = c.put_all-2.ensures.clean clean in
+    c.put_all-2.ensures.left clean before _ (c.in_ok-put_all.ensures.put one before made at may.command) may.members
 
 pub returns-in_err-put_all-3-clause-left : goal.returns-in_err-put_all-3-clause-left
 returns-in_err-put_all-3-clause-left g c clean before made at may =
-    let valid = subst AreValidRows (sym c.edits.view_is) may in
-    let put_1 = rw c.deref.ensures.value at c.in_ok-put_all.ensures.put in
-    let put_2 = rw c.deref-2.ensures.value at c.in_ok-put_all-2.ensures.put in
-    let left = rw c.deref-3.ensures.value at c.put_all-3.ensures.left in
-    let three = c.put_all-3.ensures.clean clean in
-    let two = c.put_all-2.ensures.clean three in
-    let one = c.put_all.ensures.clean two in
-    left clean before _ (put_2 three before _ (put_1 two before _ (c.in_ok-put.ensures.put one before made at valid.command) valid.members) valid.changes) valid.profiles
+    let two = c.put_all-3.ensures.clean clean in
+    let one = c.put_all-2.ensures.clean two in
+    c.put_all-3.ensures.left clean before _ (c.in_ok-put_all-2.ensures.put two before _ (c.in_ok-put_all.ensures.put one before made at may.command) may.members) may.changes
+
+pub returns-in_err-put_all-4-clause-left : goal.returns-in_err-put_all-4-clause-left
+returns-in_err-put_all-4-clause-left g c clean before made at may =
+    let three = c.put_all-4.ensures.clean clean in
+    let two = c.put_all-3.ensures.clean three in
+    let one = c.put_all-2.ensures.clean two in
+    c.put_all-4.ensures.left clean before _ (c.in_ok-put_all-3.ensures.put three before _ (c.in_ok-put_all-2.ensures.put two before _ (c.in_ok-put_all.ensures.put one before made at may.command) may.members) may.changes) may.profiles
 
 pub returns-clause-put : goal.returns-clause-put
 returns-clause-put g c clean before made at may =
-    let valid = subst AreValidRows (sym c.edits.view_is) may in
-    let put_1 = rw c.deref.ensures.value at c.in_ok-put_all.ensures.put in
-    let put_2 = rw c.deref-2.ensures.value at c.in_ok-put_all-2.ensures.put in
-    let put_3 = rw c.deref-3.ensures.value at c.in_ok-put_all-3.ensures.put in
-    let put_4 = rw c.deref-4.ensures.value at c.put_all-4.ensures.put in
-    let four = c.put_all-4.ensures.clean clean in
-    let three = c.put_all-3.ensures.clean four in
-    let two = c.put_all-2.ensures.clean three in
-    let one = c.put_all.ensures.clean two in
-    subst (λ e. OnOk c.put_all-4.result (IsWriting before (Some (with_lists e made)) (state g.S.Store c.put_all-4.new.self.tables.now.conn))) c.edits.view_is
-    (put_4 clean before _ (put_3 four before _ (put_2 three before _ (put_1 two before _ (c.in_ok-put.ensures.put one before made at valid.command) valid.members) valid.changes) valid.profiles) valid.facts)
+    let four = c.put_all-5.ensures.clean clean in
+    let three = c.put_all-4.ensures.clean four in
+    let two = c.put_all-3.ensures.clean three in
+    let one = c.put_all-2.ensures.clean two in
+    c.put_all-5.ensures.put clean before _
+    (c.in_ok-put_all-4.ensures.put four before _ (c.in_ok-put_all-3.ensures.put three before _ (c.in_ok-put_all-2.ensures.put two before _ (c.in_ok-put_all.ensures.put one before made at may.command) may.members) may.changes) may.profiles)
+    may.facts
 
 pub returns-clause-left : goal.returns-clause-left
 returns-clause-left g c clean before made at may =
-    let valid = subst AreValidRows (sym c.edits.view_is) may in
-    let put_1 = rw c.deref.ensures.value at c.in_ok-put_all.ensures.put in
-    let put_2 = rw c.deref-2.ensures.value at c.in_ok-put_all-2.ensures.put in
-    let put_3 = rw c.deref-3.ensures.value at c.in_ok-put_all-3.ensures.put in
-    let left = rw c.deref-4.ensures.value at c.put_all-4.ensures.left in
-    let four = c.put_all-4.ensures.clean clean in
-    let three = c.put_all-3.ensures.clean four in
-    let two = c.put_all-2.ensures.clean three in
-    let one = c.put_all.ensures.clean two in
-    left clean before _ (put_3 four before _ (put_2 three before _ (put_1 two before _ (c.in_ok-put.ensures.put one before made at valid.command) valid.members) valid.changes) valid.profiles) valid.facts
+    let four = c.put_all-5.ensures.clean clean in
+    let three = c.put_all-4.ensures.clean four in
+    let two = c.put_all-3.ensures.clean three in
+    let one = c.put_all-2.ensures.clean two in
+    c.put_all-5.ensures.left clean before _
+    (c.in_ok-put_all-4.ensures.put four before _ (c.in_ok-put_all-3.ensures.put three before _ (c.in_ok-put_all-2.ensures.put two before _ (c.in_ok-put_all.ensures.put one before made at may.command) may.members) may.changes) may.profiles)
+    may.facts

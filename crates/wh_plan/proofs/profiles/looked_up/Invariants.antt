@@ -1,6 +1,6 @@
 use Rattle.std.proofs.Common.{◌≡◌, ◌++◌, drop}
 use Rattle.std.specs.Prelude.{Ok}
-use Rattle.wh_plan.specs.Profiles.{number_kept, learned}
+use Rattle.wh_plan.specs.Learned.{number_kept, learned}
 use Rattle.wh_plan.specs.Reads.{ReadsOnly, Tells}
 use Rattle.wh_plan.proofs.profiles.looked_up.Given as goal
 

@@ -1,0 +1,26 @@
+use Rattle.std.proofs.Common.{◌≡◌, ◌+◌, ◌-◌, ◌<◌, length, drop, arith, ◌∙◌, ap}
+use Rattle.std.specs.BTreeMap.{get_by}
+use Rattle.std.specs.Cmp.Lexicographic.{slice_cmp}
+use Rattle.std.specs.Option.{option_copied}
+use Rattle.std.specs.Ordering.{nat_cmp}
+use Rattle.std.proofs.lemmas.List.{get_or_default}
+use Rattle.std.proofs.lemmas.Map.Text.{btree_map_updates_str}
+use Rattle.wh_plan.specs.Planning.{named}
+use Rattle.wh_plan.proofs.PlanningChanges.{named_more}
+use Rattle.wh_plan.proofs.planning.by_natural.Goals as goal
+
+pub loop-left-preserved : goal.loop-left-preserved
+loop-left-preserved c =
+    let members = c.args.members.now in
+    let i = c.loop-left.left - 1 in
+    let within : i < length members = omega arith in
+    let next : c.loop-left.left ≡ i + 1 = omega arith in
+    let first = c.index-members-left.result in
+    let second = c.index-members-left-in-loop-left in
+    let member_is = second.is ∙ get_or_default members i second.result first within in
+    record {
+      within = omega arith;
+      found = λ natural.
+          ap option_copied (btree_map_updates_str c.as_str.result.now c.loop-left.found c.insert.new.self _ c.in_ok-insert.ensures.updates natural)
+          ∙ named_more members i first c.as_str.result.now natural _ (get_by (λ k. slice_cmp nat_cmp natural k.now) c.loop-left.found) within c.as_str.ensures member_is (c.loop-left.invariant.found natural ∙ ap (λ n. named (drop n members) natural) next);
+    }

@@ -1,0 +1,192 @@
+//! What is read of the accepted commands out of the tables.
+
+ghost use Rattle.std.specs.Prelude.{◌≡◌, ◌<◌, ℕ, List, map, filter, length, IfOk};
+ghost use Rattle.std.specs.FinMap.{values};
+ghost use Rattle.wh_history.specs.Accepted.{Accepted, members, durable_key, member_of, changes_of};
+ghost use Rattle.wh_history.specs.Laws.{RecordsHaveDays};
+ghost use Rattle.wh_history.specs.Plan.{row_of};
+ghost use Rattle.wh_history.specs.Tables.{member_rows};
+ghost use Rattle.wh_history.specs.Touched.{nothing_stored};
+ghost use Rattle.wh_rows.specs.Firsts.{part};
+ghost use Rattle.wh_plan.specs.Kept.{HaveDistinctIds, HaveNoEmptyValue, command_with, given_text, change_in, last_opening, rows_with};
+ghost use Rattle.wh_plan.specs.Reads.{ReadsOnly, Finds, Tells};
+
+use sqlite::Alter;
+use std::alloc::{AllocError, Global};
+use wh_day::{ReadError, Value, Values};
+use wh_history::{Change, Changes, DimRow, Member};
+use wh_policy::Dim;
+use wh_rows::{ChangeRow, CommandRow, tables};
+use wh_sql::{CommandOf, GreatestOf, MemberOf, RecordsOf, RowsOf};
+use wh_store::{Keeps, Question, Refusal, Tables};
+
+/// The rows that answer a question about one table. A refusal is told apart from want of memory for what is made of them.
+pub(crate) fn asked<T: Keeps, Q: Question<T>, S: Alter>(
+    tables: &mut Tables<S>,
+    alloc: Global,
+    question: &Q,
+) -> Result<Vec<T::Row>, ReadError<Refusal>>
+    ensures reads { ReadsOnly S.Store tables.old tables.new result }
+    ensures rows { Tells S.Store tables.old tables.new result (λ t rows. rows.items ≡ part Q.front (filter (Q.keep question.now) (values (T.rows t)))) }
+{
+    match tables.ask::<T, Q>(alloc, question) {
+        Ok(rows) => Ok(rows),
+        Err(refusal) => Err(ReadError::Fault(refusal)),
+    }
+}
+
+/// The row of the command of an id, if one was accepted.
+pub fn command_of<S: Alter>(
+    tables: &mut Tables<S>,
+    alloc: Global,
+    id: &Value,
+) -> Result<Option<CommandRow>, ReadError<Refusal>>
+    ensures reads { ReadsOnly S.Store tables.old tables.new result }
+    ensures command { Finds S.Store tables.old tables.new (λ _ commands. HaveDistinctIds commands → IfOk result (λ row. row ≡ command_with commands id.now)) }
+{
+    let mut found = asked::<tables::Command, CommandOf<'_>, S>(tables, alloc, &CommandOf { id })?;
+    Ok(found.pop())
+}
+
+/// The text of a slot that a record gave. It is stored empty where the record gave none.
+fn given_text(alloc: Global, text: &Value) -> Result<Value, AllocError>
+    ensures { IfOk result (λ given. given ≡ given_text text.now) }
+{
+    if text.as_str().is_empty() {
+        return Ok(Value::none(alloc)?);
+    }
+    Ok(text.copy()?)
+}
+
+fn given_texts(alloc: Global, texts: &[Value]) -> Result<Values, AllocError>
+    ensures { IfOk result (λ given. given ≡ map given_text texts.now) }
+{
+    let mut given = Values::new(alloc);
+    for text in texts {
+        given.push(given_text(alloc, text)?)?;
+    }
+    Ok(given)
+}
+
+/// The change that a row tells.
+fn change_in(alloc: Global, row: &ChangeRow) -> Result<Change, AllocError>
+    ensures { IfOk result (λ change. change ≡ change_in row.now) }
+{
+    Ok(Change {
+        day: row.day,
+        anchor: row.anchor,
+        values: given_texts(alloc, row.values.as_slice())?,
+    })
+}
+
+fn changes_in(alloc: Global, rows: &[ChangeRow]) -> Result<Changes, AllocError>
+    ensures { IfOk result (λ changes. changes ≡ map change_in rows.now) }
+{
+    let mut changes = Changes::new(alloc);
+    for row in rows {
+        changes.push(change_in(alloc, row)?)?;
+    }
+    Ok(changes)
+}
+
+/// A member that isn't stored.
+pub(crate) fn absent(alloc: Global, natural: &Value) -> Result<Member, AllocError>
+    ensures { IfOk result (λ member. member ≡ nothing_stored natural.now) }
+{
+    Ok(Member {
+        durable: 0,
+        natural: natural.copy()?,
+        opening: 0,
+        changes: Changes::new(alloc),
+    })
+}
+
+/// All that was accepted of the member with a durable key, in order of acceptance.
+pub fn stored_changes<S: Alter>(
+    tables: &mut Tables<S>,
+    alloc: Global,
+    dim: Dim,
+    durable: u64,
+) -> Result<Changes, ReadError<Refusal>>
+    ensures reads { ReadsOnly S.Store tables.old tables.new result }
+    ensures changes { Finds S.Store tables.old tables.new (λ _ commands. HaveNoEmptyValue commands → (natural : List ℕ) → 0 < durable → durable ≡ durable_key dim commands natural → IfOk result (λ changes. changes ≡ changes_of dim commands natural)) }
+{
+    let rows = asked::<tables::Change, RecordsOf, S>(tables, alloc, &RecordsOf { dim, durable })?;
+    Ok(changes_in(alloc, &rows)?)
+}
+
+/// A member as it is stored. Of one that isn't all numbers are 0, and no change is there.
+pub fn stored_member<S: Alter>(
+    tables: &mut Tables<S>,
+    alloc: Global,
+    dim: Dim,
+    natural: &Value,
+) -> Result<Member, ReadError<Refusal>>
+    ensures reads { ReadsOnly S.Store tables.old tables.new result }
+    ensures member { Finds S.Store tables.old tables.new (λ _ commands. HaveNoEmptyValue commands → IfOk result (λ member. member ≡ member_of dim commands natural.now)) }
+{
+    let mut found = asked::<tables::Member, MemberOf<'_>, S>(
+        tables,
+        alloc,
+        &MemberOf { dim, natural },
+    )?;
+    match found.pop() {
+        Some(row) => Ok(Member {
+            durable: row.durable,
+            natural: row.natural,
+            opening: row.opening,
+            changes: stored_changes(tables, alloc, dim, row.durable)?,
+        }),
+        None => Ok(absent(alloc, natural)?),
+    }
+}
+
+/// The rows of a dimension's table that have a durable key.
+pub fn stored_rows<S: Alter>(
+    tables: &mut Tables<S>,
+    alloc: Global,
+    dim: Dim,
+    durable: u64,
+) -> Result<Vec<DimRow>, ReadError<Refusal>>
+    ensures reads { ReadsOnly S.Store tables.old tables.new result }
+    ensures rows { Finds S.Store tables.old tables.new (λ _ commands. IfOk result (λ rows. rows.items ≡ rows_with dim commands durable)) }
+    // Those with a member's durable key are the member's.
+    ensures member { Finds S.Store tables.old tables.new (λ _ commands. RecordsHaveDays commands → (natural : List ℕ) → 0 < durable → durable ≡ durable_key dim commands natural → IfOk result (λ rows. (key : ℕ) → row_of key rows.items ≡ row_of key (member_rows commands dim natural))) }
+{
+    let question = RowsOf { durable };
+    match dim {
+        Dim::Product => asked::<tables::Product, RowsOf, S>(tables, alloc, &question),
+        Dim::Store => asked::<tables::Store, RowsOf, S>(tables, alloc, &question),
+        Dim::Customer => asked::<tables::Customer, RowsOf, S>(tables, alloc, &question),
+    }
+}
+
+/// How many members of a dimension have durable keys, and the opening of the last of them.
+#[derive(Clone, Copy, Debug, PartialEq, Eq)]
+pub struct MembersGiven {
+    pub members: u64,
+    /// 0 where there is no member.
+    pub opening: u64,
+}
+
+/// The numbers that members of a dimension were given.
+pub fn members_given<S: Alter>(
+    tables: &mut Tables<S>,
+    alloc: Global,
+    dim: Dim,
+) -> Result<MembersGiven, ReadError<Refusal>>
+    ensures reads { ReadsOnly S.Store tables.old tables.new result }
+    ensures given { Finds S.Store tables.old tables.new (λ _ commands. IfOk result (λ given. given ≡ record { members = length (members dim commands); opening = last_opening dim commands })) }
+{
+    let mut found = asked::<tables::Member, GreatestOf, S>(tables, alloc, &GreatestOf { dim })?;
+    match found.pop() {
+        Some(row) => Ok(MembersGiven {
+            members: row.durable,
+            opening: row.opening,
+        }),
+        None => Ok(MembersGiven {
+            members: 0,
+            opening: 0,
+        }),
+    }
+}

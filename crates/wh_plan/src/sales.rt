@@ -1,0 +1,82 @@
+//! What a batch of sales writes, by reads of what it mentions.
+
+ghost use Rattle.std.specs.Prelude.{◌≡◌, ◌≤◌, ◌++◌, ◌∷◌, [], suc, ℕ, List, length, None, Some, IfOk};
+ghost use Rattle.std.specs.List.{AllByRecursion, IsDistinct};
+ghost use Rattle.wh_policy.specs.Written.{IsSound};
+ghost use Rattle.wh_policy.specs.declared.attribute.Dim.{Dim as Dimension};
+ghost use Rattle.wh_policy.specs.declared.attribute.Dim.TheVariants.{Product, Store, Customer};
+ghost use Rattle.wh_history.specs.Accepted.{Accepted, Sells, anchors, members, placeholders_by, policy_after};
+ghost use Rattle.wh_plan.specs.Defined.{command_at, fact_at};
+ghost use Rattle.wh_plan.specs.Kept.{HaveNoEmptyValue};
+ghost use Rattle.wh_plan.specs.Sound.{same_line};
+ghost use Rattle.wh_plan.specs.Mentioned.{IsSide};
+ghost use Rattle.wh_plan.specs.Planned.{AreEdits};
+ghost use Rattle.wh_plan.specs.Reads.{ReadsOnly, Finds};
+
+use crate::edits::Edits;
+use crate::keyed::facts_of;
+use crate::side::{Side, side_read};
+use sqlite::Alter;
+use std::alloc::{AllocError, Global};
+use wh_day::ReadError;
+use wh_policy::{Dim, Policy, SaleRecord};
+use wh_rows::CommandRow;
+use wh_store::{Refusal, Tables};
+
+/// The edits of a batch of sales, by the sides of the three dimensions.
+fn edits_of_sales(
+    alloc: Global,
+    command: CommandRow,
+    sales: &[SaleRecord],
+    products: Side,
+    stores: Side,
+    customers: Side,
+) -> Result<Edits, AllocError>
+    requires products { length products.keys.items ≡ length sales.now }
+    requires stores { length stores.keys.items ≡ length sales.now }
+    requires customers { length customers.keys.items ≡ length sales.now }
+    ensures { (commands : List Accepted) (c : Accepted) → c.content ≡ Sells sales.now
+        → IsSide Product commands (commands ++ c ∷ []) sales.now products → IsSide Store commands (commands ++ c ∷ []) sales.now stores → IsSide Customer commands (commands ++ c ∷ []) sales.now customers
+        → AllByRecursion (λ s. fact_at commands (record { ticket = s.ticket; line = s.line }) ≡ None) sales.now → IsDistinct same_line sales.now
+        → command_at (commands ++ c ∷ []) (suc (length commands)) ≡ Some (record command { placeholders = placeholders_by (commands ++ c ∷ []) (suc (length commands)) c.content })
+        → IfOk result (AreEdits commands c) }
+{
+    let facts = facts_of(alloc, sales, &products.keys, &stores.keys, &customers.keys)?;
+    let mut members = products.members;
+    let mut of_stores = stores.members;
+    let mut of_customers = customers.members;
+    members.append(&mut of_stores)?;
+    members.append(&mut of_customers)?;
+    let mut row = command;
+    row.placeholders = members.len() as u64;
+    let mut commands = Vec::new(alloc);
+    commands.push(row)?;
+    Ok(Edits {
+        command: commands,
+        members,
+        changes: Vec::new(alloc),
+        profiles: Vec::new(alloc),
+        facts,
+        products: products.rows,
+        stores: stores.rows,
+        customers: customers.rows,
+    })
+}
+
+/// What a batch of sales writes, from reads of the members that it mentions alone. The command's row counts the members
+/// that it is the first to mention.
+pub fn plan_sales<S: Alter>(
+    tables: &mut Tables<S>,
+    alloc: Global,
+    policy: &Policy,
+    command: CommandRow,
+    sales: &[SaleRecord],
+) -> Result<Edits, ReadError<Refusal>>
+    ensures reads { ReadsOnly S.Store tables.old tables.new result }
+    ensures edits { Finds S.Store tables.old tables.new (λ _ commands. (c : Accepted) → HaveNoEmptyValue commands → ((dim : Dimension) → (length (members dim (commands ++ c ∷ [])) ≤ 9999999) × (length (anchors dim (commands ++ c ∷ [])) ≤ 9999999)) → c.content ≡ Sells sales.now → policy_after None commands ≡ Some policy.now → IsSound policy.now → AllByRecursion (λ s. fact_at commands (record { ticket = s.ticket; line = s.line }) ≡ None) sales.now → IsDistinct same_line sales.now → command_at (commands ++ c ∷ []) (suc (length commands)) ≡ Some (record command { placeholders = placeholders_by (commands ++ c ∷ []) (suc (length commands)) c.content }) → IfOk result (AreEdits commands c)) }
+{
+    let products = side_read(tables, alloc, policy, Dim::Product, sales)?;
+    let stores = side_read(tables, alloc, policy, Dim::Store, sales)?;
+    let customers = side_read(tables, alloc, policy, Dim::Customer, sales)?;
+    Ok(edits_of_sales(alloc, command, sales, products, stores, customers)?)
+}
