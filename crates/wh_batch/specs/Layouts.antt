@@ -1,8 +1,8 @@
 -- The kinds of records, as they are laid out in format 1.
-use Rattle.std.specs.Prelude.{ℕ, Bool, ◌==◌, ◌&&◌, not, true, nat_le, if◌then◌else◌, codes, List, [], ◌∷◌, length, map, Result, Ok, Err}
-use Rattle.wh_day.specs.Day.{year_of}
+use Rattle.std.specs.Prelude.{ℕ, ◌==◌, not, true, if◌then◌else◌, codes, List, [], ◌∷◌, length, map, Result, Ok, Err}
 use Rattle.wh_day.specs.Reading.{◌>>=◌}
 use Rattle.wh_policy.specs.Policy.{attributes_of}
+use Rattle.wh_policy.specs.Years.{is_within}
 use Rattle.wh_policy.specs.declared.attribute.Attribute.{Attribute}
 use Rattle.wh_policy.specs.declared.attribute.Dim.{Dim}
 use Rattle.wh_policy.specs.declared.policy.Policy.{Policy}
@@ -75,10 +75,6 @@ sale_key r = record { text = r.ticket; number = r.line }
 -- the names of the fields of a sale
 abbrev pub sales_header : List (List ℕ)
 sales_header = codes "ticket" ∷ codes "line" ∷ codes "day" ∷ codes "store" ∷ codes "product" ∷ codes "customer" ∷ codes "quantity" ∷ codes "amount" ∷ codes "cost" ∷ []
-
--- the calendar has the day
-abbrev pub is_within : Years → ℕ → Bool
-is_within years day = nat_le years.first (year_of day) && nat_le (year_of day) years.last
 
 -- sales in these years
 abbrev pub sales_layout : Years → Layout SaleRecord

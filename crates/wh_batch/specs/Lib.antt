@@ -2,6 +2,7 @@ pub mod Batch
 pub mod Fields
 pub mod Grammar
 pub mod Keys
+pub mod Kind
 pub mod Laws
 pub mod Layouts
 pub mod Numbers

@@ -1,5 +1,8 @@
 //! What a batch is of.
 
+ghost use Rattle.std.specs.Prelude.{◌≡◌};
+ghost use Rattle.wh_batch.specs.Kind.{kind_word, kind_of_word};
+
 use wh_policy::Dim;
 
 /// What the records of a batch are of.
@@ -7,6 +10,31 @@ use wh_policy::Dim;
 pub enum Kind {
     Dimension(Dim),
     Sales,
+}
+
+impl Kind {
+    /// The word for it, in commands: that of the dimension, or `sales`.
+    pub fn word(self) -> &'static str
+        ensures { result.now ≡ kind_word self }
+    {
+        match self {
+            Kind::Dimension(dim) => dim.word(),
+            Kind::Sales => "sales",
+        }
+    }
+
+    /// The kind of a word, if it is the word for one.
+    pub fn from_word(word: &str) -> Option<Kind>
+        ensures { result ≡ kind_of_word word.now }
+    {
+        if word == "sales" {
+            return Some(Kind::Sales);
+        }
+        match Dim::from_word(word) {
+            Some(dim) => Some(Kind::Dimension(dim)),
+            None => None,
+        }
+    }
 }
 
 /// How batches are written. A warehouse keeps its format.

@@ -3,7 +3,7 @@
 ghost use Rattle.std.specs.Prelude.{◌≡◌, map, length};
 ghost use Rattle.csv.specs.Records.{fields_of};
 ghost use Rattle.wh_day.specs.Reading.{Gives};
-ghost use Rattle.wh_batch.specs.Layouts.{is_within, sale_record, sale_records};
+ghost use Rattle.wh_batch.specs.Layouts.{sale_record, sale_records};
 
 use crate::batch::batch_of;
 use crate::fault::{BatchFault, FaultKind};
@@ -15,7 +15,7 @@ use crate::numbers::{amount_of, line_of, quantity_of};
 use crate::sales::SaleRecords;
 use csv::ByteRecord;
 use std::alloc::Global;
-use wh_day::{Day, ReadError};
+use wh_day::ReadError;
 use wh_policy::{Policy, SaleRecord, Years};
 
 /// The records of a batch of sales, in order. `Memory` comes where a growth was refused, or where the CSV reader gave up.
@@ -75,15 +75,8 @@ impl RecordLayout for SalesLayout {
     }
 
     fn is_within(&self, record: &SaleRecord) -> bool {
-        is_within(self.years, record.day)
+        self.years.contains(record.day)
     }
-}
-
-fn is_within(years: Years, day: Day) -> bool
-    ensures { result ≡ is_within years day }
-{
-    let year = day.key() / 10_000;
-    years.first as u32 <= year && year <= years.last as u32
 }
 
 #[tactic(auto, using(crate::proofs::FieldLemmas::other_than_nine))]

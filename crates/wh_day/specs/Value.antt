@@ -1,5 +1,6 @@
 -- The text of an attribute.
-use Rattle.std.specs.Prelude.{ℕ, Bool, ◌&&◌, not, ◌==◌, nat_le, if◌then◌else◌, codes, List, [], ◌∷◌, length, Option, Some, None}
+use Rattle.std.specs.Prelude.{ℕ, Bool, false, ◌&&◌, not, ◌==◌, nat_le, if◌then◌else◌, codes, List, [], ◌∷◌, length, Option, Some, None, bytes_eq}
+use Rattle.std.specs.Cmp.Lexicographic.{pointwise}
 use Rattle.std.specs.List.{list_all}
 use Rattle.std.specs.Str.{is_utf8}
 
@@ -23,7 +24,16 @@ unknown_text = codes "(unknown)"
 unfoldable pub no_card_text : List ℕ
 no_card_text = codes "(no card)"
 
--- the value that a field writes: an empty field is none, and a parenthesis begins the special values
+-- a value that a source can give: not empty, and not with a parenthesis first, with which the special values begin
+abbrev pub is_given : List ℕ → Bool
+is_given [] = false
+is_given (first ∷ rest) = not (first == 40) && is_plain (first ∷ rest)
+
+-- the value that a field writes: itself, and none where it is empty
 unfoldable pub read_value : List ℕ → Option (List ℕ)
 read_value [] = Some none_text
-read_value (first ∷ rest) = if not (first == 40) && is_plain (first ∷ rest) then Some (first ∷ rest) else None
+read_value (first ∷ rest) = if is_given (first ∷ rest) then Some (first ∷ rest) else None
+
+-- the texts are the same, one by one
+abbrev pub are_same : List (List ℕ) → List (List ℕ) → Bool
+are_same = pointwise bytes_eq

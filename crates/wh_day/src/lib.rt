@@ -14,6 +14,6 @@ pub use calendar::{DateRow, date_row};
 pub use day::Day;
 pub use error::ReadError;
 pub use holiday::{Holiday, Holidays};
-pub use natural_key::NaturalKey;
+pub use natural_key::{NaturalKey, is_key};
 pub use value::Value;
 pub use values::Values;

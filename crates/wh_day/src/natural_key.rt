@@ -111,14 +111,15 @@ fn is_key_byte(byte: u8) -> bool
     matches!(byte, b'0'..=b'9' | b'A'..=b'Z' | b'a'..=b'z' | b'-' | b'_' | b'.')
 }
 
-fn has_key_bytes(field: &[u8]) -> bool
-    ensures { result ≡ list_all is_key_byte field.now }
+fn has_key_bytes(text: &[u8]) -> bool
+    ensures { result ≡ list_all is_key_byte text.now }
 {
-    field.iter().all(|byte| is_key_byte(*byte))
+    text.iter().all(|byte| is_key_byte(*byte))
 }
 
-fn is_key(most: usize, field: &[u8]) -> bool
-    ensures { result ≡ is_key most field.now }
+/// Whether a text is a key: 1 to `most` letters, digits, `-`, `_` and `.`.
+pub fn is_key(most: usize, text: &[u8]) -> bool
+    ensures { result ≡ is_key most text.now }
 {
-    1 <= field.len() && field.len() <= most && has_key_bytes(field)
+    1 <= text.len() && text.len() <= most && has_key_bytes(text)
 }

@@ -1,6 +1,7 @@
 //! The texts of a row's attributes.
 
 ghost use Rattle.std.specs.Prelude.{◌≡◌, ◌++◌, ◌∷◌, [], IfOk, OnOk, OnErr};
+ghost use Rattle.wh_day.specs.Value.{are_same};
 
 use crate::value::Value;
 use std::alloc::{AllocError, Global};
@@ -56,4 +57,25 @@ impl Values {
         }
         Ok(copied)
     }
+
+    /// Whether both have the same texts.
+    pub fn is_same(&self, other: &Values) -> bool
+        ensures { result ≡ are_same self.now other.now }
+    {
+        are_same(self.as_slice(), other.as_slice())
+    }
+}
+
+fn are_same(texts: &[Value], others: &[Value]) -> bool
+    ensures { result ≡ are_same texts.now others.now }
+{
+    if texts.len() != others.len() {
+        return false;
+    }
+    for slot in 0..texts.len() {
+        if !texts[slot].is_same(&others[slot]) {
+            return false;
+        }
+    }
+    true
 }

@@ -12,7 +12,6 @@ use Rattle.wh_policy.specs.declared.fault.PolicyFault.TheVariants.{Missing, Unkn
 use Rattle.wh_policy.specs.declared.attribute.Attribute.{Attribute}
 use Rattle.wh_policy.specs.declared.attribute.AttributeType.{AttributeType}
 use Rattle.wh_policy.specs.declared.attribute.Dim.{Dim}
-use Rattle.wh_policy.specs.declared.attribute.Dim.TheVariants.{Product, Store, Customer}
 use Rattle.wh_policy.specs.Attributes.{is_name, found_name, name_at, kind_at, takes_profile, attribute_keys, is_named, attribute_at, attributes_at}
 use Rattle.wh_policy.specs.Document.{has_only}
 use Rattle.wh_policy.specs.Types.{type_number, type_of_number, is_profile}

@@ -15,7 +15,8 @@ use Rattle.wh_policy.specs.declared.fault.PolicyFault.{PolicyFault}
 use Rattle.wh_policy.specs.declared.fault.PolicyFault.TheVariants.{Missing, UnknownKey, BadHoliday}
 use Rattle.wh_policy.specs.declared.policy.Years.{Years}
 use Rattle.wh_policy.specs.Document.{has_only}
-use Rattle.wh_policy.specs.Holidays.{is_within, found_day, day_at, read_named, title_at, holiday_keys, holiday_at, holidays_at}
+use Rattle.wh_policy.specs.Years.{is_within}
+use Rattle.wh_policy.specs.Holidays.{found_day, day_at, read_named, title_at, holiday_keys, holiday_at, holidays_at}
 use Rattle.wh_policy.specs.Written.{HasOnly, HasAll, IsArrayOf, At, IsWithin, IsDayData, IsTitleData, DifferAt, WritesHoliday}
 use Rattle.wh_policy.proofs.Judged.{Judged, judged-ok, judged-bind, judged-more, judged-unless, judged-or}
 use Rattle.wh_policy.proofs.WrittenLemmas.{as_str-is, has_only-true, has_only-from, required-judged, tables_at-judged, each_after-judged, found_before, none_found, All-middle, AllPairs-middle, absent}

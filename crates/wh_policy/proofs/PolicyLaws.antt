@@ -14,9 +14,10 @@ use Rattle.wh_policy.specs.Attributes.{takes_profile, is_mixed, attributes_at}
 use Rattle.wh_policy.specs.Document.{has_only}
 use Rattle.wh_policy.specs.Holidays.{holidays_at}
 use Rattle.wh_policy.specs.Types.{is_mini, is_outrigger}
+use Rattle.wh_policy.specs.Words.{word_of}
 use Rattle.wh_policy.specs.Years.{years_at}
 use Rattle.wh_policy.specs.Policy.{attributes_of, top_keys, policy_in}
-use Rattle.wh_policy.specs.Written.{HasOnly, key_of, AreYears, WritesYears, IsFreeOf}
+use Rattle.wh_policy.specs.Written.{HasOnly, AreYears, WritesYears, IsFreeOf}
 use Rattle.wh_policy.proofs.Judged.{Judged, judged-ok, judged-bind, judged-more, judged-unless}
 use Rattle.wh_policy.proofs.AttributeLaws.{IsAttribute, AreWritten, attributes_at-judged}
 use Rattle.wh_policy.proofs.HolidayLaws.{HolidaysAre, holidays_at-judged}
@@ -27,7 +28,7 @@ use Rattle.wh_policy.proofs.YearLaws.{years_at-judged}
 -- the table writes the policy, and keeps what is asked of one
 pub record IsRead (ms : Members) (policy : Policy) : Type 0 where
   pub only : HasOnly top_keys ms
-  pub attributes : (dim : Dim) → (content : Data) × (get_member (key_of dim) ms ≡ Some content) × AreWritten dim content (attributes_of policy dim)
+  pub attributes : (dim : Dim) → (content : Data) × (get_member (word_of dim) ms ≡ Some content) × AreWritten dim content (attributes_of policy dim)
   pub unmixed : is_mixed policy.customer ≡ false
   pub writes : WritesYears ms policy.years
   pub years : AreYears policy.years
@@ -48,7 +49,7 @@ not_customer Product takes is = cc
 not_customer Store takes is = cc
 not_customer Customer takes is = cc
 
-dimension-judged : (ms : Members) (dim : Dim) (content : Data) → get_member (key_of dim) ms ≡ Some content → Judged (AreWritten dim content) (IsIn ms) (attributes_at dim content)
+dimension-judged : (ms : Members) (dim : Dim) (content : Data) → get_member (word_of dim) ms ≡ Some content → Judged (AreWritten dim content) (IsIn ms) (attributes_at dim content)
 dimension-judged ms dim content there = attributes_at-judged dim content
     (λ none whole. let (tables, has, some) = whole.dimensions dim in none tables (same_Some _ _ (sym there ∙ has)) some)
     (λ tables is more each. more (each dim tables (there ∙ ap Some is)))
@@ -62,7 +63,7 @@ dimension-judged ms dim content there = attributes_at-judged dim content
     })
 
 -- types 4 and 5 in one dimension are so in the table
-mixed-judged : (ms : Members) (content : Data) (customer : List Attribute) → get_member (key_of Customer) ms ≡ Some content → AreWritten Customer content customer → is_mixed customer ≡ true → IsIn ms ProfileMixed
+mixed-judged : (ms : Members) (content : Data) (customer : List Attribute) → get_member (word_of Customer) ms ≡ Some content → AreWritten Customer content customer → is_mixed customer ≡ true → IsIn ms ProfileMixed
 mixed-judged ms content customer there written mixed free =
     let both = and_cases mixed in
     elim (free written.tables (there ∙ ap Some written.array)) [

@@ -22,7 +22,8 @@ use Rattle.wh_policy.specs.Attributes.{attribute_keys, is_name, takes_profile}
 use Rattle.wh_policy.specs.Holidays.{holiday_keys}
 use Rattle.wh_policy.specs.Policy.{attributes_of}
 use Rattle.wh_policy.specs.Types.{is_profile, is_mini, is_outrigger, type_number}
-use Rattle.wh_policy.specs.Written.{HasKey, HasOnly, HasAll, HasTables, IsArrayOf, EachAttribute, EachHoliday, KeysAreKnown, needed_keys, IsWhole, At, IsNameData, IsTypeData, IsWithin, IsDayData, IsTitleData, DifferAt, IsOutsideProfile, IsNotOfType, HolidaysAreGood, IsFreeOf, WritesAttribute, WritesHoliday, WritesHolidays, Writes, AreAttributes, IsSound, key_of}
+use Rattle.wh_policy.specs.Words.{word_of}
+use Rattle.wh_policy.specs.Written.{HasKey, HasOnly, HasAll, HasTables, IsArrayOf, EachAttribute, EachHoliday, KeysAreKnown, needed_keys, IsWhole, At, IsNameData, IsTypeData, IsWithin, IsDayData, IsTitleData, DifferAt, IsOutsideProfile, IsNotOfType, HolidaysAreGood, IsFreeOf, WritesAttribute, WritesHoliday, WritesHolidays, Writes, AreAttributes, IsSound}
 use Rattle.wh_policy.proofs.AttributeLaws.{IsAttribute, AreWritten}
 use Rattle.wh_policy.proofs.HolidayLaws.{IsHoliday, HolidaysAre}
 use Rattle.wh_policy.proofs.PolicyLaws.{IsRead}
@@ -34,7 +35,7 @@ there : {content : Data} {found : Option Data} → found ≡ Some content → Is
 there e = rw e refl
 
 -- the tables of a dimension are those that were read
-dimension_tables : (ms : Members) (policy : Policy) → IsRead ms policy → (dim : Dim) (tables : List Members) → HasTables (key_of dim) ms tables
+dimension_tables : (ms : Members) (policy : Policy) → IsRead ms policy → (dim : Dim) (tables : List Members) → HasTables (word_of dim) ms tables
     → AllZip (IsAttribute dim) tables (attributes_of policy dim)
 dimension_tables ms policy read dim tables has =
     let (content, found, written) = read.attributes dim in
@@ -126,7 +127,7 @@ not_of_type n test others tables attributes zip none =
     (λ t a is fails typed. others a fails (ap unsigned_abs (integer_same _ _ (same_Some _ _ (sym is.writes.kind ∙ typed)))))
     tables attributes zip (none_found test attributes none)
 
-is_unmixed : (ms : Members) (policy : Policy) → IsRead ms policy → (tables : List Members) → HasTables (key_of Customer) ms tables → All (IsNotOfType 4) tables ⊎ All (IsNotOfType 5) tables
+is_unmixed : (ms : Members) (policy : Policy) → IsRead ms policy → (tables : List Members) → HasTables (word_of Customer) ms tables → All (IsNotOfType 4) tables ⊎ All (IsNotOfType 5) tables
 is_unmixed ms policy read tables has =
     let zip = dimension_tables ms policy read Customer tables has in
     by_first (list_any (λ a. is_mini a.kind) policy.customer) refl zip

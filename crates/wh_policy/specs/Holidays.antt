@@ -1,9 +1,9 @@
 -- The holidays of a calendar, as a policy file writes them.
-use Rattle.std.specs.Prelude.{ℕ, Bool, ◌&&◌, not, nat_le, codes, List, [], ◌∷◌, Option, Some, None, Result, Ok, Err, option_and_then}
+use Rattle.std.specs.Prelude.{ℕ, not, codes, List, [], ◌∷◌, Option, Some, None, Result, Ok, Err, option_and_then}
 use Rattle.std.specs.List.{list_any}
 use Rattle.toml.specs.Data.{Data, Members, as_str}
 use Rattle.wh_day.specs.Reading.{◌>>=◌}
-use Rattle.wh_day.specs.Day.{read_day, year_of}
+use Rattle.wh_day.specs.Day.{read_day}
 use Rattle.wh_day.specs.Holidays.{is_on}
 use Rattle.wh_day.specs.Value.{read_value}
 use Rattle.wh_day.specs.declared.holiday.Holiday.{Holiday}
@@ -11,10 +11,7 @@ use Rattle.wh_policy.specs.declared.fault.PolicyFault.{PolicyFault}
 use Rattle.wh_policy.specs.declared.fault.PolicyFault.TheVariants.{UnknownKey, BadHoliday}
 use Rattle.wh_policy.specs.declared.policy.Years.{Years}
 use Rattle.wh_policy.specs.Document.{or_fault, unless_fault, has_only, required, tables_at, each_after}
-
--- the day lies in these years
-abbrev pub is_within : Years → ℕ → Bool
-is_within years day = nat_le years.first (year_of day) && nat_le (year_of day) years.last
+use Rattle.wh_policy.specs.Years.{is_within}
 
 -- a day that lies in the years
 abbrev pub found_day : Years → Option ℕ → Result ℕ PolicyFault

@@ -5,5 +5,6 @@ pub mod Laws
 pub mod Names
 pub mod Policy
 pub mod Types
+pub mod Words
 pub mod Written
 pub mod Years

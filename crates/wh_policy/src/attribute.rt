@@ -2,6 +2,7 @@
 
 ghost use Rattle.std.specs.Prelude.{◌≡◌, ◌++◌, ◌∷◌, [], map, IfOk, OnOk, OnErr};
 ghost use Rattle.wh_policy.specs.Types.{is_tracked, is_profile, is_mini, is_outrigger, type_number, type_of_number, kinds_of};
+ghost use Rattle.wh_policy.specs.Words.{word_of, dim_of_word};
 
 use std::alloc::{AllocError, Global};
 use std::marker::Model;
@@ -13,6 +14,31 @@ pub enum Dim {
     Product,
     Store,
     Customer,
+}
+
+impl Dim {
+    /// The word for it, in policies, in commands and in print.
+    pub fn word(self) -> &'static str
+        ensures { result.now ≡ word_of self }
+    {
+        match self {
+            Dim::Product => "product",
+            Dim::Store => "store",
+            Dim::Customer => "customer",
+        }
+    }
+
+    /// The dimension of a word, if it is the word for one.
+    pub fn from_word(word: &str) -> Option<Dim>
+        ensures { result ≡ dim_of_word word.now }
+    {
+        match word {
+            "product" => Some(Dim::Product),
+            "store" => Some(Dim::Store),
+            "customer" => Some(Dim::Customer),
+            _ => None,
+        }
+    }
 }
 
 /// How an attribute follows its changes: the types 0 to 7 of Kimball's chapter 5, in their order.

@@ -6,7 +6,7 @@ ghost use Rattle.wh_day.specs.Holidays.{is_on};
 ghost use Rattle.wh_day.specs.Reading.{Gives};
 ghost use Rattle.toml.specs.View.{view, table_view};
 ghost use Rattle.wh_policy.specs.Document.{each_after};
-ghost use Rattle.wh_policy.specs.Holidays.{is_within, day_at, title_at, holiday_at, holidays_at};
+ghost use Rattle.wh_policy.specs.Holidays.{day_at, title_at, holiday_at, holidays_at};
 
 use crate::document::{has_only, required, tables};
 use crate::fault::PolicyFault;
@@ -14,13 +14,6 @@ use crate::policy::Years;
 use std::alloc::Global;
 use toml::{Table, Value as TomlValue};
 use wh_day::{Day, Holiday, Holidays, ReadError, Value};
-
-fn is_within(years: Years, day: Day) -> bool
-    ensures { result ≡ is_within years day }
-{
-    let year = day.key() / 10_000;
-    years.first as u32 <= year && year <= years.last as u32
-}
 
 #[tactic(auto, unfolding(crate::specs::Holidays::day_at))]
 fn day_of(years: Years, value: &TomlValue) -> Result<Day, ReadError<PolicyFault>>
@@ -30,7 +23,7 @@ fn day_of(years: Years, value: &TomlValue) -> Result<Day, ReadError<PolicyFault>
         return Err(ReadError::Fault(PolicyFault::BadHoliday));
     };
     match Day::read(text.as_bytes()) {
-        Some(day) if is_within(years, day) => Ok(day),
+        Some(day) if years.contains(day) => Ok(day),
         _ => Err(ReadError::Fault(PolicyFault::BadHoliday)),
     }
 }

@@ -5,6 +5,7 @@ ghost use Rattle.toml.specs.View.{table_view};
 ghost use Rattle.wh_day.specs.Reading.{Gives};
 ghost use Rattle.wh_policy.specs.Names.{slot_from, fits};
 ghost use Rattle.wh_policy.specs.Policy.{attributes_of, types_of, trial_policy, described, policy_in, policy_at};
+ghost use Rattle.wh_policy.specs.Years.{is_within};
 
 use crate::attribute::{Attribute, AttributeType, Attributes, Dim};
 use crate::dimension;
@@ -15,7 +16,7 @@ use crate::names::{are_kept, slot_of};
 use crate::years::years_of;
 use std::alloc::{AllocError, Global};
 use toml::Table;
-use wh_day::{Holidays, ReadError, Value};
+use wh_day::{Day, Holidays, ReadError, Value};
 
 const TOP_KEYS: [&str; 6] = [
     "first_year",
@@ -31,6 +32,16 @@ const TOP_KEYS: [&str; 6] = [
 pub struct Years {
     pub first: u16,
     pub last: u16,
+}
+
+impl Years {
+    /// Whether the day lies in them.
+    pub fn contains(self, day: Day) -> bool
+        ensures { result ≡ is_within self day }
+    {
+        let year = day.key() / 10_000;
+        self.first as u32 <= year && year <= self.last as u32
+    }
 }
 
 /// Which attributes the dimensions have, by slot and with their types, and the calendar's years and holidays.

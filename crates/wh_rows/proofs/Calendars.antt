@@ -1,12 +1,12 @@
 -- The statements on calendar.
-use Rattle.std.proofs.Common.{Bool, ℕ, List, [], ◌∷◌, codes, map, drop, pos, true, false, ◌&&◌, refl, ◌∙◌, sym, ap}
-use Rattle.std.specs.Ordering.{is_gt, eq_by_cmp, nat_cmp}
+use Rattle.std.proofs.Common.{Bool, ℕ, List, [], ◌∷◌, codes, map, drop, pos, true, ◌&&◌, refl, ◌∙◌, sym, ap}
+use Rattle.std.specs.Ordering.{eq_by_cmp}
 use Rattle.sqlite_value.specs.declared.value.Value.TheVariants.{Null, Int}
 use Rattle.sqlite_value.specs.declared.keys.Key.{Key}
 use Rattle.sqlite_value.specs.Keys.{first_key, ascending}
 use Rattle.sqlite_value.proofs.OrderLemmas.{then-Equal}
 use Rattle.sqlite_sql.specs.declared.ops.BinaryOp.TheVariants.{Compare}
-use Rattle.sqlite_sql.specs.declared.ops.CompareOp.TheVariants.{Eq, Gt}
+use Rattle.sqlite_sql.specs.declared.ops.CompareOp.TheVariants.{Eq}
 use Rattle.sqlite_schema.specs.Rules.{equal}
 use Rattle.sqlite_tied.specs.Compute.{everything}
 use Rattle.sqlite.specs.Collation.TheVariants.{Binary}
@@ -14,18 +14,16 @@ use Rattle.sqlite.specs.Order.{Row, column}
 use Rattle.sqlite.specs.Term.{Term, lit, col, op2}
 use Rattle.sqlite.specs.Listing.{understood}
 use Rattle.wh_rows.specs.Rows as row
+use Rattle.wh_rows.specs.Texts as texts
+use Rattle.wh_rows.specs.Keys.{bind_number, stands_at_number}
 use Rattle.wh_rows.specs.Meaning.{PutsOne, RemovesOne, ReadsSome, CountsAll}
 use Rattle.wh_rows.specs.Raw.{ReadsStored}
-use Rattle.wh_rows.specs.Firsts.{ReadsFirst}
 use Rattle.wh_rows.proofs.Cast.{cast_row_own}
-use Rattle.wh_rows.proofs.Keys.{and-true, trimmed, equal-Nat, sorted-Nat, greater, greater-Nat}
+use Rattle.wh_rows.proofs.Keys.{and-true, trimmed, equal-Nat, sorted-Nat}
 
 -- ---- put
 
-abbrev pub put_text : List ℕ
-put_text = codes "INSERT INTO calendar VALUES (?1, ?2, ?3, ?4, ?5, ?6, ?7, ?8, ?9, ?10, ?11) ON CONFLICT (date_key) DO UPDATE SET iso = excluded.iso, year = excluded.year, quarter = excluded.quarter, month = excluded.month, day = excluded.day, day_of_year = excluded.day_of_year, weekday = excluded.weekday, weekday_name = excluded.weekday_name, weekend = excluded.weekend, holiday = excluded.holiday"
-
-pub put : PutsOne row.calendar put_text
+pub put : PutsOne row.calendar texts.calendar.put
 unfolding understood everything first_key
 put = record {
   at = 8;
@@ -56,14 +54,7 @@ put = record {
 
 -- ---- remove
 
--- a key as parameters
-abbrev pub bind : ℕ → Row
-bind k = Int (pos k) ∷ []
-
-abbrev pub remove_text : List ℕ
-remove_text = codes "DELETE FROM calendar WHERE date_key = ?1"
-
-pub remove : RemovesOne row.calendar bind remove_text
+pub remove : RemovesOne row.calendar bind_number texts.calendar.remove
 unfolding understood everything
 remove = record {
   at = 8;
@@ -84,10 +75,7 @@ shown = col 1 0 ∷ col 1 2 ∷ col 1 3 ∷ col 1 4 ∷ col 1 5 ∷ col 1 6 ∷ 
 abbrev by_key : List (Term × Key)
 by_key = (col 1 0, ascending Binary) ∷ []
 
-abbrev pub all_text : List ℕ
-all_text = codes "SELECT * FROM calendar ORDER BY date_key"
-
-pub all : ReadsSome row.calendar [] (λ r. true) all_text
+pub all : ReadsSome row.calendar [] (λ r. true) texts.calendar.all
 unfolding understood everything
 all = record {
   tests = [];
@@ -105,10 +93,7 @@ all = record {
   in_order = λ v w. then-Equal _ ∙ sorted-Nat v.date_key w.date_key;
 }
 
-abbrev pub get_text : List ℕ
-get_text = codes "SELECT * FROM calendar WHERE date_key = ?1 ORDER BY date_key"
-
-pub get : (k : ℕ) → ReadsSome row.calendar (bind k) (λ r. eq_by_cmp row.calendar.order k (row.calendar.key r)) get_text
+pub get : (k : ℕ) → ReadsSome row.calendar (bind_number k) (λ r. eq_by_cmp row.calendar.order k (row.calendar.key r)) texts.calendar.get
 unfolding understood everything
 get k = record {
   tests = op2 (Compare Eq Binary) (col 1 0) (col 0 0) ∷ [];
@@ -126,68 +111,41 @@ get k = record {
   in_order = λ v w. then-Equal _ ∙ sorted-Nat v.date_key w.date_key;
 }
 
--- the row of the greatest key
-abbrev pub greatest_text : List ℕ
-greatest_text = codes "SELECT * FROM calendar ORDER BY date_key DESC LIMIT 1"
-
-pub greatest : ReadsFirst row.calendar ([]) (λ r. true) 1 true greatest_text
-unfolding understood everything
-greatest = record {
-  tests = [];
-  project = shown;
-  order = (col 1 0, record { collation = Binary; descending = true }) ∷ [];
-  names = map (λ c. c.name) row.calendar.table.columns;
-  command = refl;
-  plain = (refl, refl);
-  unlisted = refl;
-  test = λ r. true;
-  hits = λ r. refl;
-  agree = λ w. refl;
-  sorted_by = λ r. column r 0 ∷ [];
-  shows = λ r. refl;
-  in_order = λ v w. then-Equal _ ∙ sorted-Nat w.date_key v.date_key;
-}
-
--- the next rows after a key
-abbrev pub after_text : List ℕ
-after_text = codes "SELECT * FROM calendar WHERE date_key > ?1 ORDER BY date_key LIMIT 256"
-
-pub after : (k : ℕ) → ReadsFirst row.calendar (Int (pos k) ∷ []) (λ r. is_gt (nat_cmp r.date_key k)) 256 false after_text
-unfolding understood everything
-after k = record {
-  tests = op2 (Compare Gt Binary) (col 1 0) (col 0 0) ∷ [];
-  project = shown;
-  order = by_key;
-  names = map (λ c. c.name) row.calendar.table.columns;
-  command = refl;
-  plain = (refl, refl);
-  unlisted = refl;
-  test = λ r. greater (column r 0) (Int (pos k)) && true;
-  hits = λ r. refl;
-  agree = λ w. and-true _ ∙ greater-Nat w.date_key k;
-  sorted_by = λ r. column r 0 ∷ [];
-  shows = λ r. refl;
-  in_order = λ v w. then-Equal _ ∙ sorted-Nat v.date_key w.date_key;
-}
-
 -- ---- read, whoever wrote the rows
 
-abbrev pub stands_at : ℕ → Row → Bool
-stands_at k r = equal Binary (column r 0) (Int (pos k)) && true
-
-pub all_stored : ReadsStored row.calendar [] (λ r. true) (λ r. true) all_text
+pub all_stored : ReadsStored row.calendar [] (λ r. true) (λ r. true) texts.calendar.all
 unfolding all
 all_stored = record { reads = all; tested = λ r. refl }
 
-pub get_stored : (k : ℕ) → ReadsStored row.calendar (bind k) (stands_at k) (λ r. eq_by_cmp row.calendar.order k (row.calendar.key r)) get_text
+pub get_stored : (k : ℕ) → ReadsStored row.calendar (bind_number k) (stands_at_number k) (λ r. eq_by_cmp row.calendar.order k (row.calendar.key r)) texts.calendar.get
 unfolding get
 get_stored k = record { reads = get k; tested = λ r. refl }
 
 -- ---- count
 
-abbrev pub count_text : List ℕ
-count_text = codes "SELECT count(*) FROM calendar"
-
-pub count : CountsAll row.calendar count_text
+pub count : CountsAll row.calendar texts.calendar.count
 unfolding understood everything
 count = record { names = codes "count(*)" ∷ []; command = refl; plain = (refl, refl); unlisted = refl }
+
+-- ---- by the names that the crate above cites
+
+abbrev pub bind : ℕ → Row
+bind = bind_number
+
+abbrev pub stands_at : ℕ → Row → Bool
+stands_at = stands_at_number
+
+abbrev pub put_text : List ℕ
+put_text = texts.calendar.put
+
+abbrev pub remove_text : List ℕ
+remove_text = texts.calendar.remove
+
+abbrev pub all_text : List ℕ
+all_text = texts.calendar.all
+
+abbrev pub get_text : List ℕ
+get_text = texts.calendar.get
+
+abbrev pub count_text : List ℕ
+count_text = texts.calendar.count

@@ -1,12 +1,12 @@
 -- The statements on change.
-use Rattle.std.proofs.Common.{Bool, ℕ, List, [], ◌∷◌, codes, map, pos, true, false, ◌&&◌, refl, sym, ap₂, ◌∙◌, drop, ap}
-use Rattle.std.specs.Ordering.{is_gt, eq_by_cmp, nat_cmp, ordering_then}
+use Rattle.std.proofs.Common.{Bool, ℕ, List, [], ◌∷◌, codes, map, pos, true, ◌&&◌, refl, sym, ap₂, ◌∙◌, drop, ap}
+use Rattle.std.specs.Ordering.{eq_by_cmp, nat_cmp, ordering_then}
 use Rattle.sqlite_value.specs.declared.value.Value.TheVariants.{Null, Int}
 use Rattle.sqlite_value.specs.declared.keys.Key.{Key}
 use Rattle.sqlite_value.specs.Keys.{first_key, ascending}
 use Rattle.sqlite_value.proofs.OrderLemmas.{then-Equal}
 use Rattle.sqlite_sql.specs.declared.ops.BinaryOp.TheVariants.{Compare}
-use Rattle.sqlite_sql.specs.declared.ops.CompareOp.TheVariants.{Eq, Gt}
+use Rattle.sqlite_sql.specs.declared.ops.CompareOp.TheVariants.{Eq}
 use Rattle.sqlite_sql.specs.declared.ops.UnaryOp.TheVariants.{ToNumeric}
 use Rattle.sqlite_sql.specs.Ops.{unary}
 use Rattle.sqlite_schema.specs.Rules.{equal}
@@ -20,18 +20,17 @@ use Rattle.wh_policy.specs.declared.attribute.Dim.{Dim}
 use Rattle.wh_rows.specs.Types.{dim_number}
 use Rattle.wh_rows.specs.Rows.{ChangeKey}
 use Rattle.wh_rows.specs.Rows as row
+use Rattle.wh_rows.specs.Texts as texts
+use Rattle.wh_rows.specs.Keys.{bind_change, stands_at_change}
 use Rattle.wh_rows.specs.Meaning.{PutsOne, RemovesOne, ReadsSome, CountsAll}
 use Rattle.wh_rows.specs.Raw.{ReadsStored}
-use Rattle.wh_rows.specs.Firsts.{ReadsFirst, ReadsGreatest}
+use Rattle.wh_rows.specs.Firsts.{ReadsGreatest}
 use Rattle.wh_rows.proofs.Cast.{cast_row_own}
-use Rattle.wh_rows.proofs.Keys.{and-true, equal-Nat, sorted-Nat, greater, greater-Nat, then_eq, trimmed_and}
+use Rattle.wh_rows.proofs.Keys.{and-true, equal-Nat, sorted-Nat, then_eq, trimmed_and}
 
 -- ---- put
 
-abbrev pub put_text : List ℕ
-put_text = codes "INSERT INTO change VALUES (?1, ?2, ?3, ?4, ?5, ?6, ?7, ?8, ?9, ?10, ?11, ?12) ON CONFLICT (command, record) DO UPDATE SET dim = excluded.dim, durable = excluded.durable, day = excluded.day, anchor = excluded.anchor, v1 = excluded.v1, v2 = excluded.v2, v3 = excluded.v3, v4 = excluded.v4, v5 = excluded.v5, v6 = excluded.v6"
-
-pub put : PutsOne row.change put_text
+pub put : PutsOne row.change texts.change.put
 unfolding understood everything first_key
 put = record {
   at = 3;
@@ -59,14 +58,7 @@ put = record {
 
 -- ---- remove
 
--- a key as parameters
-abbrev pub bind : ChangeKey → Row
-bind k = Int (pos k.command) ∷ Int (pos k.place) ∷ []
-
-abbrev pub remove_text : List ℕ
-remove_text = codes "DELETE FROM change WHERE command = ?1 AND record = ?2"
-
-pub remove : RemovesOne row.change bind remove_text
+pub remove : RemovesOne row.change bind_change texts.change.remove
 unfolding understood everything unary
 remove = record {
   at = 3;
@@ -87,10 +79,7 @@ shown = col 1 1 ∷ col 1 2 ∷ col 1 3 ∷ col 1 4 ∷ col 1 5 ∷ col 1 6 ∷ 
 abbrev by_key : List (Term × Key)
 by_key = (col 1 1, ascending Binary) ∷ (col 1 2, ascending Binary) ∷ []
 
-abbrev pub all_text : List ℕ
-all_text = codes "SELECT * FROM change ORDER BY command, record"
-
-pub all : ReadsSome row.change [] (λ r. true) all_text
+pub all : ReadsSome row.change [] (λ r. true) texts.change.all
 unfolding understood everything
 all = record {
   tests = [];
@@ -108,10 +97,7 @@ all = record {
   in_order = λ v w. ap₂ ordering_then (sorted-Nat v.command w.command) (then-Equal _ ∙ sorted-Nat v.place w.place);
 }
 
-abbrev pub get_text : List ℕ
-get_text = codes "SELECT * FROM change WHERE command = ?1 AND record = ?2 ORDER BY command, record"
-
-pub get : (k : ChangeKey) → ReadsSome row.change (bind k) (λ r. eq_by_cmp row.change.order k (row.change.key r)) get_text
+pub get : (k : ChangeKey) → ReadsSome row.change (bind_change k) (λ r. eq_by_cmp row.change.order k (row.change.key r)) texts.change.get
 unfolding understood everything unary
 get k = record {
   tests = op2 (Compare Eq Binary) (col 1 1) (op1 ToNumeric (col 0 0)) ∷ op2 (Compare Eq Binary) (col 1 2) (op1 ToNumeric (col 0 1)) ∷ [];
@@ -130,10 +116,7 @@ get k = record {
 }
 
 -- the records of a member
-abbrev pub of_member_text : List ℕ
-of_member_text = codes "SELECT * FROM change WHERE dim = ?1 AND durable = ?2 ORDER BY command, record"
-
-pub of_member : (dim : Dim) (durable : ℕ) → ReadsSome row.change (Int (pos (dim_number dim)) ∷ Int (pos durable) ∷ []) (λ r. eq_by_cmp nat_cmp (dim_number dim) (dim_number r.dim) && eq_by_cmp nat_cmp durable r.durable) of_member_text
+pub of_member : (dim : Dim) (durable : ℕ) → ReadsSome row.change (Int (pos (dim_number dim)) ∷ Int (pos durable) ∷ []) (λ r. eq_by_cmp nat_cmp (dim_number dim) (dim_number r.dim) && eq_by_cmp nat_cmp durable r.durable) texts.changes_of_member
 unfolding understood everything unary
 of_member dim durable = record {
   tests = op2 (Compare Eq Binary) (col 1 3) (op1 ToNumeric (col 0 0)) ∷ op2 (Compare Eq Binary) (col 1 4) (op1 ToNumeric (col 0 1)) ∷ [];
@@ -152,10 +135,7 @@ of_member dim durable = record {
 }
 
 -- the records of a member on a day
-abbrev pub of_anchor_text : List ℕ
-of_anchor_text = codes "SELECT * FROM change WHERE dim = ?1 AND anchor = ?2 ORDER BY command, record"
-
-pub of_anchor : (dim : Dim) (anchor : ℕ) → ReadsSome row.change (Int (pos (dim_number dim)) ∷ Int (pos anchor) ∷ []) (λ r. eq_by_cmp nat_cmp (dim_number dim) (dim_number r.dim) && eq_by_cmp nat_cmp anchor r.anchor) of_anchor_text
+pub of_anchor : (dim : Dim) (anchor : ℕ) → ReadsSome row.change (Int (pos (dim_number dim)) ∷ Int (pos anchor) ∷ []) (λ r. eq_by_cmp nat_cmp (dim_number dim) (dim_number r.dim) && eq_by_cmp nat_cmp anchor r.anchor) texts.changes_of_anchor
 unfolding understood everything unary
 of_anchor dim anchor = record {
   tests = op2 (Compare Eq Binary) (col 1 3) (op1 ToNumeric (col 0 0)) ∷ op2 (Compare Eq Binary) (col 1 6) (op1 ToNumeric (col 0 1)) ∷ [];
@@ -173,55 +153,8 @@ of_anchor dim anchor = record {
   in_order = λ v w. ap₂ ordering_then (sorted-Nat v.command w.command) (then-Equal _ ∙ sorted-Nat v.place w.place);
 }
 
--- the next rows after all of a command
-abbrev pub after_text : List ℕ
-after_text = codes "SELECT * FROM change WHERE command > ?1 ORDER BY command, record LIMIT 256"
-
-pub after : (command : ℕ) → ReadsFirst row.change (Int (pos command) ∷ []) (λ r. is_gt (nat_cmp r.command command)) 256 false after_text
-unfolding understood everything unary
-after command = record {
-  tests = op2 (Compare Gt Binary) (col 1 1) (op1 ToNumeric (col 0 0)) ∷ [];
-  project = shown;
-  order = by_key;
-  names = map (λ c. c.name) row.change.table.columns;
-  command = refl;
-  plain = (refl, refl);
-  unlisted = refl;
-  test = λ r. greater (column r 0) (Int (pos command)) && true;
-  hits = λ r. refl;
-  agree = λ w. and-true _ ∙ greater-Nat w.command command;
-  sorted_by = λ r. column r 0 ∷ column r 1 ∷ [];
-  shows = λ r. refl;
-  in_order = λ v w. ap₂ ordering_then (sorted-Nat v.command w.command) (then-Equal _ ∙ sorted-Nat v.place w.place);
-}
-
--- the next rows of that command after a key
-abbrev pub rest_text : List ℕ
-rest_text = codes "SELECT * FROM change WHERE command = ?1 AND record > ?2 ORDER BY command, record LIMIT 256"
-
-pub rest : (k : ChangeKey) → ReadsFirst row.change (bind k) (λ r. eq_by_cmp nat_cmp k.command r.command && is_gt (nat_cmp r.place k.place)) 256 false rest_text
-unfolding understood everything unary
-rest k = record {
-  tests = op2 (Compare Eq Binary) (col 1 1) (op1 ToNumeric (col 0 0)) ∷ op2 (Compare Gt Binary) (col 1 2) (op1 ToNumeric (col 0 1)) ∷ [];
-  project = shown;
-  order = by_key;
-  names = map (λ c. c.name) row.change.table.columns;
-  command = refl;
-  plain = (refl, refl);
-  unlisted = refl;
-  test = λ r. equal Binary (column r 0) (Int (pos k.command)) && (greater (column r 1) (Int (pos k.place)) && true);
-  hits = λ r. refl;
-  agree = λ w. ap₂ ◌&&◌ (equal-Nat w.command k.command) (and-true _ ∙ greater-Nat w.place k.place);
-  sorted_by = λ r. column r 0 ∷ column r 1 ∷ [];
-  shows = λ r. refl;
-  in_order = λ v w. ap₂ ordering_then (sorted-Nat v.command w.command) (then-Equal _ ∙ sorted-Nat v.place w.place);
-}
-
 -- a record of a dimension with the greatest anchor
-abbrev pub greatest_anchor_text : List ℕ
-greatest_anchor_text = codes "SELECT * FROM change WHERE dim = ?1 ORDER BY anchor DESC LIMIT 1"
-
-pub greatest_anchor : (dim : Dim) → ReadsGreatest row.change (Int (pos (dim_number dim)) ∷ []) (λ r. eq_by_cmp nat_cmp (dim_number dim) (dim_number r.dim)) (λ r. r.anchor) greatest_anchor_text
+pub greatest_anchor : (dim : Dim) → ReadsGreatest row.change (Int (pos (dim_number dim)) ∷ []) (λ r. eq_by_cmp nat_cmp (dim_number dim) (dim_number r.dim)) (λ r. r.anchor) texts.greatest_anchor
 unfolding understood everything unary
 greatest_anchor dim = record {
   tests = op2 (Compare Eq Binary) (col 1 3) (op1 ToNumeric (col 0 0)) ∷ [];
@@ -241,22 +174,48 @@ greatest_anchor dim = record {
 
 -- ---- read, whoever wrote the rows
 
-abbrev pub stands_at : ChangeKey → Row → Bool
-stands_at k r = equal Binary (column r 0) (Int (pos k.command)) && (equal Binary (column r 1) (Int (pos k.place)) && true)
-
-pub all_stored : ReadsStored row.change [] (λ r. true) (λ r. true) all_text
+pub all_stored : ReadsStored row.change [] (λ r. true) (λ r. true) texts.change.all
 unfolding all
 all_stored = record { reads = all; tested = λ r. refl }
 
-pub get_stored : (k : ChangeKey) → ReadsStored row.change (bind k) (stands_at k) (λ r. eq_by_cmp row.change.order k (row.change.key r)) get_text
+pub get_stored : (k : ChangeKey) → ReadsStored row.change (bind_change k) (stands_at_change k) (λ r. eq_by_cmp row.change.order k (row.change.key r)) texts.change.get
 unfolding get
 get_stored k = record { reads = get k; tested = λ r. refl }
 
 -- ---- count
 
-abbrev pub count_text : List ℕ
-count_text = codes "SELECT count(*) FROM change"
-
-pub count : CountsAll row.change count_text
+pub count : CountsAll row.change texts.change.count
 unfolding understood everything
 count = record { names = codes "count(*)" ∷ []; command = refl; plain = (refl, refl); unlisted = refl }
+
+-- ---- by the names that the crate above cites
+
+abbrev pub bind : ChangeKey → Row
+bind = bind_change
+
+abbrev pub stands_at : ChangeKey → Row → Bool
+stands_at = stands_at_change
+
+abbrev pub put_text : List ℕ
+put_text = texts.change.put
+
+abbrev pub remove_text : List ℕ
+remove_text = texts.change.remove
+
+abbrev pub all_text : List ℕ
+all_text = texts.change.all
+
+abbrev pub get_text : List ℕ
+get_text = texts.change.get
+
+abbrev pub count_text : List ℕ
+count_text = texts.change.count
+
+abbrev pub of_member_text : List ℕ
+of_member_text = texts.changes_of_member
+
+abbrev pub of_anchor_text : List ℕ
+of_anchor_text = texts.changes_of_anchor
+
+abbrev pub greatest_anchor_text : List ℕ
+greatest_anchor_text = texts.greatest_anchor

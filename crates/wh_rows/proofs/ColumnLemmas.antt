@@ -20,7 +20,9 @@ use Rattle.wh_policy.proofs.WrittenLemmas.{same_bytes}
 use Rattle.std.specs.Str.{bytes_eq}
 use Rattle.wh_rows.specs.declared.columns.Damaged.{Damaged}
 use Rattle.wh_rows.proofs.Edits.{same_value}
-use Rattle.wh_rows.specs.Types.{is_number, is_line, is_measure, is_key_byte, is_key, is_kind, kinds, is_special, is_given, is_slot, are_slots, dim_number}
+use Rattle.wh_day.specs.NaturalKey.{is_key_byte}
+use Rattle.wh_day.proofs.KeyBytes.{key_is_text}
+use Rattle.wh_rows.specs.Types.{is_number, is_line, is_measure, is_key, is_kind, kinds, is_special, is_given, is_slot, are_slots, dim_number}
 use Rattle.wh_rows.specs.Rows.{flag, slot_column, is_natural}
 use Rattle.wh_rows.specs.Columns.{damaged, of_type, or_damaged, integer_of, number_of, line_of, measure_of, day_of, flag_of, dim_of, blob_of, text_of, tested_of, slot_of, slots_of}
 
@@ -198,9 +200,6 @@ tested_is test t utf8 h = bind_is (text_of (Text t)) t _ t (text_is t utf8) (ap 
 
 -- ---- which texts are UTF-8
 
-key_byte-ascii : (byte : ℕ) → is_key_byte byte ≡ true → byte < 128
-key_byte-ascii byte h = grind (arith, nat_tests)
-
 below-ascii : (byte : ℕ) → nat_lt byte 128 ≡ true → byte < 128
 below-ascii byte h = grind (arith, nat_tests)
 
@@ -214,7 +213,7 @@ ascii_text : (text : List ℕ) → list_all (λ byte. nat_lt byte 128) text ≡ 
 ascii_text text h = is_utf8-from_IsUtf8 text (IsUtf8-from_ascii text (all-ascii (λ byte. nat_lt byte 128) below-ascii text h))
 
 pub key_text : (most : ℕ) (text : List ℕ) → is_key most text ≡ true → is_utf8 text ≡ true
-key_text most text h = is_utf8-from_IsUtf8 text (IsUtf8-from_ascii text (all-ascii is_key_byte key_byte-ascii text (and_parts _ (list_all is_key_byte text) h).1))
+key_text most text h = is_utf8-from_IsUtf8 text (key_is_text text (and_parts _ (list_all is_key_byte text) h).1)
 
 any_text : (text : List ℕ) (texts : List (List ℕ)) → AllByRecursion (λ t. list_all (λ byte. nat_lt byte 128) t ≡ true) texts → list_any (bytes_eq text) texts ≡ true → is_utf8 text ≡ true
 any_text text [] all h = absurd (cc)

@@ -1,13 +1,13 @@
 -- The statements on command.
-use Rattle.std.proofs.Common.{Bool, ℕ, List, [], ◌∷◌, codes, map, drop, pos, true, false, ◌&&◌, refl, sym, ap, ◌∙◌, inl, inr}
-use Rattle.std.specs.Ordering.{is_eq, is_gt, eq_by_cmp, nat_cmp}
+use Rattle.std.proofs.Common.{Bool, ℕ, List, [], ◌∷◌, codes, map, drop, pos, true, ◌&&◌, refl, sym, ap, ◌∙◌, inl, inr}
+use Rattle.std.specs.Ordering.{is_eq, eq_by_cmp, nat_cmp}
 use Rattle.std.specs.Cmp.Lexicographic.{slice_cmp}
 use Rattle.sqlite_value.specs.declared.value.Value.TheVariants.{Null, Int, Text}
 use Rattle.sqlite_value.specs.declared.keys.Key.{Key}
 use Rattle.sqlite_value.specs.Keys.{first_key, ascending}
 use Rattle.sqlite_value.proofs.OrderLemmas.{then-Equal}
 use Rattle.sqlite_sql.specs.declared.ops.BinaryOp.TheVariants.{Compare}
-use Rattle.sqlite_sql.specs.declared.ops.CompareOp.TheVariants.{Eq, Gt}
+use Rattle.sqlite_sql.specs.declared.ops.CompareOp.TheVariants.{Eq}
 use Rattle.sqlite_schema.specs.Rules.{equal}
 use Rattle.sqlite_tied.specs.Compute.{everything}
 use Rattle.sqlite.specs.Collation.TheVariants.{Binary}
@@ -15,19 +15,18 @@ use Rattle.sqlite.specs.Order.{Row, column}
 use Rattle.sqlite.specs.Term.{Term, lit, col, op2}
 use Rattle.sqlite.specs.Listing.{understood}
 use Rattle.wh_rows.specs.Rows as row
+use Rattle.wh_rows.specs.Texts as texts
+use Rattle.wh_rows.specs.Keys.{bind_number, stands_at_number}
 use Rattle.wh_rows.specs.Meaning.{PutsOne, KeepsApart, RemovesOne, ReadsSome, CountsAll}
 use Rattle.wh_rows.specs.Raw.{ReadsStored}
 use Rattle.wh_rows.specs.Firsts.{ReadsFirst}
 use Rattle.wh_rows.proofs.Cast.{cast_row_own}
-use Rattle.wh_rows.proofs.Keys.{and-true, equal-Nat, equal-Text, sorted-Nat, greater, greater-Nat, trimmed}
+use Rattle.wh_rows.proofs.Keys.{and-true, equal-Nat, equal-Text, sorted-Nat, trimmed}
 use Rattle.wh_rows.specs.Schema.{index}
 
 -- ---- put
 
-abbrev pub put_text : List ℕ
-put_text = codes "INSERT INTO command VALUES (?1, ?2, ?3, ?4, ?5, ?6) ON CONFLICT (number) DO UPDATE SET id = excluded.id, kind = excluded.kind, bytes = excluded.bytes, records = excluded.records, placeholders = excluded.placeholders"
-
-pub put : PutsOne row.command put_text
+pub put : PutsOne row.command texts.command.put
 unfolding understood everything first_key
 put = record {
   at = 1;
@@ -70,14 +69,7 @@ own_ids = record {
 
 -- ---- remove
 
--- a key as parameters
-abbrev pub bind : ℕ → Row
-bind k = Int (pos k) ∷ []
-
-abbrev pub remove_text : List ℕ
-remove_text = codes "DELETE FROM command WHERE number = ?1"
-
-pub remove : RemovesOne row.command bind remove_text
+pub remove : RemovesOne row.command bind_number texts.command.remove
 unfolding understood everything
 remove = record {
   at = 1;
@@ -98,10 +90,7 @@ shown = col 1 0 ∷ col 1 2 ∷ col 1 3 ∷ col 1 4 ∷ col 1 5 ∷ col 1 6 ∷ 
 abbrev by_key : List (Term × Key)
 by_key = (col 1 0, ascending Binary) ∷ []
 
-abbrev pub all_text : List ℕ
-all_text = codes "SELECT * FROM command ORDER BY number"
-
-pub all : ReadsSome row.command [] (λ r. true) all_text
+pub all : ReadsSome row.command [] (λ r. true) texts.command.all
 unfolding understood everything
 all = record {
   tests = [];
@@ -119,10 +108,7 @@ all = record {
   in_order = λ v w. then-Equal _ ∙ sorted-Nat v.number w.number;
 }
 
-abbrev pub get_text : List ℕ
-get_text = codes "SELECT * FROM command WHERE number = ?1 ORDER BY number"
-
-pub get : (k : ℕ) → ReadsSome row.command (bind k) (λ r. eq_by_cmp row.command.order k (row.command.key r)) get_text
+pub get : (k : ℕ) → ReadsSome row.command (bind_number k) (λ r. eq_by_cmp row.command.order k (row.command.key r)) texts.command.get
 unfolding understood everything
 get k = record {
   tests = op2 (Compare Eq Binary) (col 1 0) (col 0 0) ∷ [];
@@ -141,10 +127,7 @@ get k = record {
 }
 
 -- the command that the sender calls so
-abbrev pub of_id_text : List ℕ
-of_id_text = codes "SELECT * FROM command WHERE id = ?1 ORDER BY number"
-
-pub of_id : (id : List ℕ) → ReadsSome row.command (Text id ∷ []) (λ r. eq_by_cmp (slice_cmp nat_cmp) id r.id) of_id_text
+pub of_id : (id : List ℕ) → ReadsSome row.command (Text id ∷ []) (λ r. eq_by_cmp (slice_cmp nat_cmp) id r.id) texts.command_of_id
 unfolding understood everything
 of_id id = record {
   tests = op2 (Compare Eq Binary) (col 1 2) (col 0 0) ∷ [];
@@ -163,10 +146,7 @@ of_id id = record {
 }
 
 -- the row of the greatest key
-abbrev pub greatest_text : List ℕ
-greatest_text = codes "SELECT * FROM command ORDER BY number DESC LIMIT 1"
-
-pub greatest : ReadsFirst row.command ([]) (λ r. true) 1 true greatest_text
+pub greatest : ReadsFirst row.command ([]) (λ r. true) 1 true texts.last_command
 unfolding understood everything
 greatest = record {
   tests = [];
@@ -184,46 +164,47 @@ greatest = record {
   in_order = λ v w. then-Equal _ ∙ sorted-Nat w.number v.number;
 }
 
--- the next rows after a key
-abbrev pub after_text : List ℕ
-after_text = codes "SELECT * FROM command WHERE number > ?1 ORDER BY number LIMIT 256"
-
-pub after : (k : ℕ) → ReadsFirst row.command (Int (pos k) ∷ []) (λ r. is_gt (nat_cmp r.number k)) 256 false after_text
-unfolding understood everything
-after k = record {
-  tests = op2 (Compare Gt Binary) (col 1 0) (col 0 0) ∷ [];
-  project = shown;
-  order = by_key;
-  names = map (λ c. c.name) row.command.table.columns;
-  command = refl;
-  plain = (refl, refl);
-  unlisted = refl;
-  test = λ r. greater (column r 0) (Int (pos k)) && true;
-  hits = λ r. refl;
-  agree = λ w. and-true _ ∙ greater-Nat w.number k;
-  sorted_by = λ r. column r 0 ∷ [];
-  shows = λ r. refl;
-  in_order = λ v w. then-Equal _ ∙ sorted-Nat v.number w.number;
-}
-
 -- ---- read, whoever wrote the rows
 
-abbrev pub stands_at : ℕ → Row → Bool
-stands_at k r = equal Binary (column r 0) (Int (pos k)) && true
-
-pub all_stored : ReadsStored row.command [] (λ r. true) (λ r. true) all_text
+pub all_stored : ReadsStored row.command [] (λ r. true) (λ r. true) texts.command.all
 unfolding all
 all_stored = record { reads = all; tested = λ r. refl }
 
-pub get_stored : (k : ℕ) → ReadsStored row.command (bind k) (stands_at k) (λ r. eq_by_cmp row.command.order k (row.command.key r)) get_text
+pub get_stored : (k : ℕ) → ReadsStored row.command (bind_number k) (stands_at_number k) (λ r. eq_by_cmp row.command.order k (row.command.key r)) texts.command.get
 unfolding get
 get_stored k = record { reads = get k; tested = λ r. refl }
 
 -- ---- count
 
-abbrev pub count_text : List ℕ
-count_text = codes "SELECT count(*) FROM command"
-
-pub count : CountsAll row.command count_text
+pub count : CountsAll row.command texts.command.count
 unfolding understood everything
 count = record { names = codes "count(*)" ∷ []; command = refl; plain = (refl, refl); unlisted = refl }
+
+-- ---- by the names that the crate above cites
+
+abbrev pub bind : ℕ → Row
+bind = bind_number
+
+abbrev pub stands_at : ℕ → Row → Bool
+stands_at = stands_at_number
+
+abbrev pub put_text : List ℕ
+put_text = texts.command.put
+
+abbrev pub remove_text : List ℕ
+remove_text = texts.command.remove
+
+abbrev pub all_text : List ℕ
+all_text = texts.command.all
+
+abbrev pub get_text : List ℕ
+get_text = texts.command.get
+
+abbrev pub count_text : List ℕ
+count_text = texts.command.count
+
+abbrev pub of_id_text : List ℕ
+of_id_text = texts.command_of_id
+
+abbrev pub greatest_text : List ℕ
+greatest_text = texts.last_command

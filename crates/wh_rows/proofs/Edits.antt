@@ -30,7 +30,6 @@ use Rattle.sqlite.specs.Rows.{Written, Task, Deletes}
 use Rattle.sqlite.specs.Does.{Tally, Does, AtPlace, OnRows, Concludes}
 use Rattle.sqlite.proofs.Callers.{one_step}
 use Rattle.wh_rows.specs.Statements.{reading}
-use Rattle.wh_rows.specs.Change.{ChangesOnly}
 use Rattle.wh_rows.specs.Holds.{IsRising}
 use Rattle.wh_rows.proofs.Answers.{map-map, is_read}
 use Rattle.wh_rows.proofs.Keys.{equal_is}
@@ -122,6 +121,11 @@ pub concluded : (task : Task) (mode : Mode) (w : Written) (tally : Tally) (after
 concluded task mode w tally after h = ap (λ (p : Tally × Database). p.1) (same_value (went (went h).2).2)
 
 -- ---- DELETE
+
+-- nothing but the rows of this table differs
+pub record ChangesOnly (table : Table) (old new : Database) : Type 0 where
+  pub schema : new.schema ≡ old.schema
+  pub others : AllByRecursion (λ t. t.tree ≢ table.tree → new.trees t.tree ≡ old.trees t.tree) old.schema.tables
 
 module _ (limit : Option ℕ) (mode : Mode) (params : Row) (db : Database) (text : List ℕ) (at : ℕ) (table : Table) (has : slice_get db.schema.tables at ≡ Some table)
     (idle : (olds news : List Row) → works db.schema mode.keys 0 table.tree olds news ≡ []) (tally : Tally) (after : Database) where

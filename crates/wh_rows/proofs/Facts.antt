@@ -1,15 +1,15 @@
 -- The statements on fact.
-use Rattle.std.proofs.Common.{Bool, ◌≡◌, ℕ, List, [], ◌∷◌, codes, map, pos, true, false, ◌&&◌, refl, sym, ap₂, ◌∙◌, drop, ap}
+use Rattle.std.proofs.Common.{Bool, ◌≡◌, ℕ, List, [], ◌∷◌, codes, map, pos, true, ◌&&◌, refl, sym, ap₂, ◌∙◌, drop, ap}
 use Rattle.std.specs.Prelude.{IsTrue}
 use Rattle.std.proofs.lemmas.Bool.{and_parts}
-use Rattle.std.specs.Ordering.{is_gt, is_ge, eq_by_cmp, nat_cmp, ordering_then}
+use Rattle.std.specs.Ordering.{is_ge, eq_by_cmp, nat_cmp, ordering_then}
 use Rattle.std.specs.Cmp.Lexicographic.{slice_cmp}
 use Rattle.sqlite_value.specs.declared.value.Value.TheVariants.{Null, Int, Text}
 use Rattle.sqlite_value.specs.declared.keys.Key.{Key}
 use Rattle.sqlite_value.specs.Keys.{first_key, ascending}
 use Rattle.sqlite_value.proofs.OrderLemmas.{then-Equal, value_cmp-Text}
 use Rattle.sqlite_sql.specs.declared.ops.BinaryOp.TheVariants.{Compare}
-use Rattle.sqlite_sql.specs.declared.ops.CompareOp.TheVariants.{Eq, Gt, Ge}
+use Rattle.sqlite_sql.specs.declared.ops.CompareOp.TheVariants.{Eq, Ge}
 use Rattle.sqlite_sql.specs.declared.ops.UnaryOp.TheVariants.{ToNumeric}
 use Rattle.sqlite_sql.specs.Ops.{unary}
 use Rattle.sqlite_schema.specs.Rules.{equal}
@@ -22,22 +22,21 @@ use Rattle.sqlite.specs.Listing.{understood}
 use Rattle.wh_rows.specs.Rows.{LineKey, is_fact}
 use Rattle.wh_rows.specs.Types.{is_key, is_line, is_number, is_measure}
 use Rattle.wh_rows.specs.Rows as row
+use Rattle.wh_rows.specs.Texts as texts
+use Rattle.wh_rows.specs.Keys.{bind_line, stands_at_line}
+use Rattle.wh_policy.specs.declared.attribute.Dim.TheVariants.{Product, Store, Customer}
 use Rattle.wh_rows.specs.Meaning.{PutsOne, MovesOne, RemovesOne, ReadsSome, CountsAll}
 use Rattle.wh_rows.specs.Raw.{ReadsStored}
 use Rattle.wh_rows.specs.Rekey.{Rekey, rekey_text, bind_rekey, are_keys, with_keys}
-use Rattle.wh_rows.specs.Firsts.{ReadsFirst}
 use Rattle.wh_rows.proofs.Cast.{cast_row_own}
 use Rattle.wh_rows.proofs.ColumnLemmas.{both}
-use Rattle.wh_rows.proofs.Keys.{and-true, equal-Nat, equal-Text, sorted-Nat, greater, greater-Nat, at_least, at_least-Nat, greater-Text, then_eq, trimmed_and}
+use Rattle.wh_rows.proofs.Keys.{and-true, equal-Nat, equal-Text, sorted-Nat, at_least, at_least-Nat, then_eq, trimmed_and}
 use Rattle.wh_history.specs.declared.facts.Fact.{Fact}
 use Rattle.wh_day.specs.Day.{is_day}
 
 -- ---- put
 
-abbrev pub put_text : List ℕ
-put_text = codes "INSERT INTO fact VALUES (?1, ?2, ?3, ?4, ?5, ?6, ?7, ?8, ?9, ?10, ?11, ?12, ?13) ON CONFLICT (ticket, line) DO UPDATE SET day = excluded.day, store_key = excluded.store_key, product_key = excluded.product_key, customer_key = excluded.customer_key, store_durable = excluded.store_durable, product_durable = excluded.product_durable, customer_durable = excluded.customer_durable, profile = excluded.profile, quantity = excluded.quantity, amount = excluded.amount, cost = excluded.cost"
-
-pub put : PutsOne row.fact put_text
+pub put : PutsOne row.fact texts.fact.put
 unfolding understood everything first_key
 put = record {
   at = 9;
@@ -112,14 +111,7 @@ valid_rekeyed r f keys valid =
 
 -- ---- remove
 
--- a key as parameters
-abbrev pub bind : LineKey → Row
-bind k = Text k.ticket ∷ Int (pos k.line) ∷ []
-
-abbrev pub remove_text : List ℕ
-remove_text = codes "DELETE FROM fact WHERE ticket = ?1 AND line = ?2"
-
-pub remove : RemovesOne row.fact bind remove_text
+pub remove : RemovesOne row.fact bind_line texts.fact.remove
 unfolding understood everything unary
 remove = record {
   at = 9;
@@ -140,10 +132,7 @@ shown = col 1 1 ∷ col 1 2 ∷ col 1 3 ∷ col 1 4 ∷ col 1 5 ∷ col 1 6 ∷ 
 abbrev by_key : List (Term × Key)
 by_key = (col 1 1, ascending Binary) ∷ (col 1 2, ascending Binary) ∷ []
 
-abbrev pub all_text : List ℕ
-all_text = codes "SELECT * FROM fact ORDER BY ticket, line"
-
-pub all : ReadsSome row.fact [] (λ r. true) all_text
+pub all : ReadsSome row.fact [] (λ r. true) texts.fact.all
 unfolding understood everything
 all = record {
   tests = [];
@@ -161,10 +150,7 @@ all = record {
   in_order = λ v w. ap₂ ordering_then (value_cmp-Text v.ticket w.ticket) (then-Equal _ ∙ sorted-Nat v.line w.line);
 }
 
-abbrev pub get_text : List ℕ
-get_text = codes "SELECT * FROM fact WHERE ticket = ?1 AND line = ?2 ORDER BY ticket, line"
-
-pub get : (k : LineKey) → ReadsSome row.fact (bind k) (λ r. eq_by_cmp row.fact.order k (row.fact.key r)) get_text
+pub get : (k : LineKey) → ReadsSome row.fact (bind_line k) (λ r. eq_by_cmp row.fact.order k (row.fact.key r)) texts.fact.get
 unfolding understood everything unary
 get k = record {
   tests = op2 (Compare Eq Binary) (col 1 1) (col 0 0) ∷ op2 (Compare Eq Binary) (col 1 2) (op1 ToNumeric (col 0 1)) ∷ [];
@@ -183,10 +169,7 @@ get k = record {
 }
 
 -- the facts of a store since a day
-abbrev pub of_store_since_text : List ℕ
-of_store_since_text = codes "SELECT * FROM fact WHERE store_durable = ?1 AND day >= ?2 ORDER BY ticket, line"
-
-pub of_store_since : (durable from : ℕ) → ReadsSome row.fact (Int (pos durable) ∷ Int (pos from) ∷ []) (λ r. eq_by_cmp nat_cmp durable r.store_durable && is_ge (nat_cmp r.day from)) of_store_since_text
+pub of_store_since : (durable from : ℕ) → ReadsSome row.fact (Int (pos durable) ∷ Int (pos from) ∷ []) (λ r. eq_by_cmp nat_cmp durable r.store_durable && is_ge (nat_cmp r.day from)) (texts.sales_since Store)
 unfolding understood everything unary
 of_store_since durable from = record {
   tests = op2 (Compare Eq Binary) (col 1 7) (op1 ToNumeric (col 0 0)) ∷ op2 (Compare Ge Binary) (col 1 3) (op1 ToNumeric (col 0 1)) ∷ [];
@@ -205,10 +188,7 @@ of_store_since durable from = record {
 }
 
 -- the facts of a product since a day
-abbrev pub of_product_since_text : List ℕ
-of_product_since_text = codes "SELECT * FROM fact WHERE product_durable = ?1 AND day >= ?2 ORDER BY ticket, line"
-
-pub of_product_since : (durable from : ℕ) → ReadsSome row.fact (Int (pos durable) ∷ Int (pos from) ∷ []) (λ r. eq_by_cmp nat_cmp durable r.product_durable && is_ge (nat_cmp r.day from)) of_product_since_text
+pub of_product_since : (durable from : ℕ) → ReadsSome row.fact (Int (pos durable) ∷ Int (pos from) ∷ []) (λ r. eq_by_cmp nat_cmp durable r.product_durable && is_ge (nat_cmp r.day from)) (texts.sales_since Product)
 unfolding understood everything unary
 of_product_since durable from = record {
   tests = op2 (Compare Eq Binary) (col 1 8) (op1 ToNumeric (col 0 0)) ∷ op2 (Compare Ge Binary) (col 1 3) (op1 ToNumeric (col 0 1)) ∷ [];
@@ -227,10 +207,7 @@ of_product_since durable from = record {
 }
 
 -- the facts of a customer since a day
-abbrev pub of_customer_since_text : List ℕ
-of_customer_since_text = codes "SELECT * FROM fact WHERE customer_durable = ?1 AND day >= ?2 ORDER BY ticket, line"
-
-pub of_customer_since : (durable from : ℕ) → ReadsSome row.fact (Int (pos durable) ∷ Int (pos from) ∷ []) (λ r. eq_by_cmp nat_cmp durable r.customer_durable && is_ge (nat_cmp r.day from)) of_customer_since_text
+pub of_customer_since : (durable from : ℕ) → ReadsSome row.fact (Int (pos durable) ∷ Int (pos from) ∷ []) (λ r. eq_by_cmp nat_cmp durable r.customer_durable && is_ge (nat_cmp r.day from)) (texts.sales_since Customer)
 unfolding understood everything unary
 of_customer_since durable from = record {
   tests = op2 (Compare Eq Binary) (col 1 9) (op1 ToNumeric (col 0 0)) ∷ op2 (Compare Ge Binary) (col 1 3) (op1 ToNumeric (col 0 1)) ∷ [];
@@ -248,68 +225,50 @@ of_customer_since durable from = record {
   in_order = λ v w. ap₂ ordering_then (value_cmp-Text v.ticket w.ticket) (then-Equal _ ∙ sorted-Nat v.line w.line);
 }
 
--- the next rows after all of a ticket
-abbrev pub after_text : List ℕ
-after_text = codes "SELECT * FROM fact WHERE ticket > ?1 ORDER BY ticket, line LIMIT 256"
-
-pub after : (ticket : List ℕ) → ReadsFirst row.fact (Text ticket ∷ []) (λ r. is_gt (slice_cmp nat_cmp r.ticket ticket)) 256 false after_text
-unfolding understood everything
-after ticket = record {
-  tests = op2 (Compare Gt Binary) (col 1 1) (col 0 0) ∷ [];
-  project = shown;
-  order = by_key;
-  names = map (λ c. c.name) row.fact.table.columns;
-  command = refl;
-  plain = (refl, refl);
-  unlisted = refl;
-  test = λ r. greater (column r 0) (Text ticket) && true;
-  hits = λ r. refl;
-  agree = λ w. and-true _ ∙ greater-Text w.ticket ticket;
-  sorted_by = λ r. column r 0 ∷ column r 1 ∷ [];
-  shows = λ r. refl;
-  in_order = λ v w. ap₂ ordering_then (value_cmp-Text v.ticket w.ticket) (then-Equal _ ∙ sorted-Nat v.line w.line);
-}
-
--- the next rows of that ticket after a key
-abbrev pub rest_text : List ℕ
-rest_text = codes "SELECT * FROM fact WHERE ticket = ?1 AND line > ?2 ORDER BY ticket, line LIMIT 256"
-
-pub rest : (k : LineKey) → ReadsFirst row.fact (bind k) (λ r. eq_by_cmp (slice_cmp nat_cmp) k.ticket r.ticket && is_gt (nat_cmp r.line k.line)) 256 false rest_text
-unfolding understood everything unary
-rest k = record {
-  tests = op2 (Compare Eq Binary) (col 1 1) (col 0 0) ∷ op2 (Compare Gt Binary) (col 1 2) (op1 ToNumeric (col 0 1)) ∷ [];
-  project = shown;
-  order = by_key;
-  names = map (λ c. c.name) row.fact.table.columns;
-  command = refl;
-  plain = (refl, refl);
-  unlisted = refl;
-  test = λ r. equal Binary (column r 0) (Text k.ticket) && (greater (column r 1) (Int (pos k.line)) && true);
-  hits = λ r. refl;
-  agree = λ w. ap₂ ◌&&◌ (equal-Text w.ticket k.ticket) (and-true _ ∙ greater-Nat w.line k.line);
-  sorted_by = λ r. column r 0 ∷ column r 1 ∷ [];
-  shows = λ r. refl;
-  in_order = λ v w. ap₂ ordering_then (value_cmp-Text v.ticket w.ticket) (then-Equal _ ∙ sorted-Nat v.line w.line);
-}
-
 -- ---- read, whoever wrote the rows
 
-abbrev pub stands_at : LineKey → Row → Bool
-stands_at k r = equal Binary (column r 0) (Text k.ticket) && (equal Binary (column r 1) (Int (pos k.line)) && true)
-
-pub all_stored : ReadsStored row.fact [] (λ r. true) (λ r. true) all_text
+pub all_stored : ReadsStored row.fact [] (λ r. true) (λ r. true) texts.fact.all
 unfolding all
 all_stored = record { reads = all; tested = λ r. refl }
 
-pub get_stored : (k : LineKey) → ReadsStored row.fact (bind k) (stands_at k) (λ r. eq_by_cmp row.fact.order k (row.fact.key r)) get_text
+pub get_stored : (k : LineKey) → ReadsStored row.fact (bind_line k) (stands_at_line k) (λ r. eq_by_cmp row.fact.order k (row.fact.key r)) texts.fact.get
 unfolding get
 get_stored k = record { reads = get k; tested = λ r. refl }
 
 -- ---- count
 
-abbrev pub count_text : List ℕ
-count_text = codes "SELECT count(*) FROM fact"
-
-pub count : CountsAll row.fact count_text
+pub count : CountsAll row.fact texts.fact.count
 unfolding understood everything
 count = record { names = codes "count(*)" ∷ []; command = refl; plain = (refl, refl); unlisted = refl }
+
+-- ---- by the names that the crate above cites
+
+abbrev pub bind : LineKey → Row
+bind = bind_line
+
+abbrev pub stands_at : LineKey → Row → Bool
+stands_at = stands_at_line
+
+abbrev pub put_text : List ℕ
+put_text = texts.fact.put
+
+abbrev pub remove_text : List ℕ
+remove_text = texts.fact.remove
+
+abbrev pub all_text : List ℕ
+all_text = texts.fact.all
+
+abbrev pub get_text : List ℕ
+get_text = texts.fact.get
+
+abbrev pub count_text : List ℕ
+count_text = texts.fact.count
+
+abbrev pub of_store_since_text : List ℕ
+of_store_since_text = texts.sales_since Store
+
+abbrev pub of_product_since_text : List ℕ
+of_product_since_text = texts.sales_since Product
+
+abbrev pub of_customer_since_text : List ℕ
+of_customer_since_text = texts.sales_since Customer

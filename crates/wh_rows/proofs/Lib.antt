@@ -31,7 +31,6 @@ pub mod ReadAll
 pub mod Orders
 pub mod Places
 pub mod Queries
-pub mod Calls
 pub mod OnTables
 pub mod Making
 pub mod OnLiterals

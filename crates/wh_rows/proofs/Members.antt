@@ -1,13 +1,13 @@
 -- The statements on member.
-use Rattle.std.proofs.Common.{Bool, ℕ, List, [], ◌∷◌, codes, map, pos, true, false, ◌&&◌, refl, sym, ap, ap₂, ◌∙◌, drop, inl, inr}
-use Rattle.std.specs.Ordering.{is_eq, is_gt, eq_by_cmp, nat_cmp, ordering_then}
+use Rattle.std.proofs.Common.{Bool, ℕ, List, [], ◌∷◌, codes, map, pos, true, ◌&&◌, refl, sym, ap, ap₂, ◌∙◌, drop, inl, inr}
+use Rattle.std.specs.Ordering.{is_eq, eq_by_cmp, nat_cmp, ordering_then}
 use Rattle.std.specs.Cmp.Lexicographic.{slice_cmp}
 use Rattle.sqlite_value.specs.declared.value.Value.TheVariants.{Null, Int, Text}
 use Rattle.sqlite_value.specs.declared.keys.Key.{Key}
 use Rattle.sqlite_value.specs.Keys.{first_key, ascending}
 use Rattle.sqlite_value.proofs.OrderLemmas.{then-Equal}
 use Rattle.sqlite_sql.specs.declared.ops.BinaryOp.TheVariants.{Compare}
-use Rattle.sqlite_sql.specs.declared.ops.CompareOp.TheVariants.{Eq, Gt}
+use Rattle.sqlite_sql.specs.declared.ops.CompareOp.TheVariants.{Eq}
 use Rattle.sqlite_sql.specs.declared.ops.UnaryOp.TheVariants.{ToNumeric}
 use Rattle.sqlite_sql.specs.Ops.{unary}
 use Rattle.sqlite_schema.specs.Rules.{equal}
@@ -21,19 +21,18 @@ use Rattle.wh_policy.specs.declared.attribute.Dim.{Dim}
 use Rattle.wh_rows.specs.Types.{dim_number}
 use Rattle.wh_rows.specs.Rows.{MemberKey}
 use Rattle.wh_rows.specs.Rows as row
+use Rattle.wh_rows.specs.Texts as texts
+use Rattle.wh_rows.specs.Keys.{bind_member, stands_at_member}
 use Rattle.wh_rows.specs.Meaning.{PutsOne, KeepsApart, RemovesOne, ReadsSome, CountsAll}
 use Rattle.wh_rows.specs.Raw.{ReadsStored}
 use Rattle.wh_rows.specs.Firsts.{ReadsFirst}
 use Rattle.wh_rows.proofs.Cast.{cast_row_own}
-use Rattle.wh_rows.proofs.Keys.{and-true, equal-Nat, equal-Text, sorted-Nat, greater, greater-Nat, then_eq, trimmed_and}
+use Rattle.wh_rows.proofs.Keys.{and-true, equal-Nat, equal-Text, sorted-Nat, then_eq, trimmed_and}
 use Rattle.wh_rows.specs.Schema.{index}
 
 -- ---- put
 
-abbrev pub put_text : List ℕ
-put_text = codes "INSERT INTO member VALUES (?1, ?2, ?3, ?4) ON CONFLICT (dim, durable) DO UPDATE SET natural = excluded.natural, opening = excluded.opening"
-
-pub put : PutsOne row.member put_text
+pub put : PutsOne row.member texts.member.put
 unfolding understood everything first_key
 put = record {
   at = 2;
@@ -73,14 +72,7 @@ own_naturals = record {
 
 -- ---- remove
 
--- a key as parameters
-abbrev pub bind : MemberKey → Row
-bind k = Int (pos (dim_number k.dim)) ∷ Int (pos k.durable) ∷ []
-
-abbrev pub remove_text : List ℕ
-remove_text = codes "DELETE FROM member WHERE dim = ?1 AND durable = ?2"
-
-pub remove : RemovesOne row.member bind remove_text
+pub remove : RemovesOne row.member bind_member texts.member.remove
 unfolding understood everything unary
 remove = record {
   at = 2;
@@ -101,10 +93,7 @@ shown = col 1 1 ∷ col 1 2 ∷ col 1 3 ∷ col 1 4 ∷ []
 abbrev by_key : List (Term × Key)
 by_key = (col 1 1, ascending Binary) ∷ (col 1 2, ascending Binary) ∷ []
 
-abbrev pub all_text : List ℕ
-all_text = codes "SELECT * FROM member ORDER BY dim, durable"
-
-pub all : ReadsSome row.member [] (λ r. true) all_text
+pub all : ReadsSome row.member [] (λ r. true) texts.member.all
 unfolding understood everything
 all = record {
   tests = [];
@@ -122,10 +111,7 @@ all = record {
   in_order = λ v w. ap₂ ordering_then (sorted-Nat (dim_number v.dim) (dim_number w.dim)) (then-Equal _ ∙ sorted-Nat v.durable w.durable);
 }
 
-abbrev pub get_text : List ℕ
-get_text = codes "SELECT * FROM member WHERE dim = ?1 AND durable = ?2 ORDER BY dim, durable"
-
-pub get : (k : MemberKey) → ReadsSome row.member (bind k) (λ r. eq_by_cmp row.member.order k (row.member.key r)) get_text
+pub get : (k : MemberKey) → ReadsSome row.member (bind_member k) (λ r. eq_by_cmp row.member.order k (row.member.key r)) texts.member.get
 unfolding understood everything unary
 get k = record {
   tests = op2 (Compare Eq Binary) (col 1 1) (op1 ToNumeric (col 0 0)) ∷ op2 (Compare Eq Binary) (col 1 2) (op1 ToNumeric (col 0 1)) ∷ [];
@@ -144,10 +130,7 @@ get k = record {
 }
 
 -- the member that the source calls so
-abbrev pub of_natural_text : List ℕ
-of_natural_text = codes "SELECT * FROM member WHERE dim = ?1 AND natural = ?2 ORDER BY dim, durable"
-
-pub of_natural : (dim : Dim) (natural : List ℕ) → ReadsSome row.member (Int (pos (dim_number dim)) ∷ Text natural ∷ []) (λ r. eq_by_cmp nat_cmp (dim_number dim) (dim_number r.dim) && eq_by_cmp (slice_cmp nat_cmp) natural r.natural) of_natural_text
+pub of_natural : (dim : Dim) (natural : List ℕ) → ReadsSome row.member (Int (pos (dim_number dim)) ∷ Text natural ∷ []) (λ r. eq_by_cmp nat_cmp (dim_number dim) (dim_number r.dim) && eq_by_cmp (slice_cmp nat_cmp) natural r.natural) texts.member_of_natural
 unfolding understood everything unary
 of_natural dim natural = record {
   tests = op2 (Compare Eq Binary) (col 1 1) (op1 ToNumeric (col 0 0)) ∷ op2 (Compare Eq Binary) (col 1 3) (col 0 1) ∷ [];
@@ -166,10 +149,7 @@ of_natural dim natural = record {
 }
 
 -- the member of a dimension with the greatest durable key
-abbrev pub greatest_text : List ℕ
-greatest_text = codes "SELECT * FROM member WHERE dim = ?1 ORDER BY dim DESC, durable DESC LIMIT 1"
-
-pub greatest : (dim : Dim) → ReadsFirst row.member (Int (pos (dim_number dim)) ∷ []) (λ r. eq_by_cmp nat_cmp (dim_number dim) (dim_number r.dim)) 1 true greatest_text
+pub greatest : (dim : Dim) → ReadsFirst row.member (Int (pos (dim_number dim)) ∷ []) (λ r. eq_by_cmp nat_cmp (dim_number dim) (dim_number r.dim)) 1 true texts.last_member
 unfolding understood everything unary
 greatest dim = record {
   tests = op2 (Compare Eq Binary) (col 1 1) (op1 ToNumeric (col 0 0)) ∷ [];
@@ -187,68 +167,47 @@ greatest dim = record {
   in_order = λ v w. ap₂ ordering_then (sorted-Nat (dim_number w.dim) (dim_number v.dim)) (then-Equal _ ∙ sorted-Nat w.durable v.durable);
 }
 
--- the next rows after all of a dimension
-abbrev pub after_text : List ℕ
-after_text = codes "SELECT * FROM member WHERE dim > ?1 ORDER BY dim, durable LIMIT 256"
-
-pub after : (dim : Dim) → ReadsFirst row.member (Int (pos (dim_number dim)) ∷ []) (λ r. is_gt (nat_cmp (dim_number r.dim) (dim_number dim))) 256 false after_text
-unfolding understood everything unary
-after dim = record {
-  tests = op2 (Compare Gt Binary) (col 1 1) (op1 ToNumeric (col 0 0)) ∷ [];
-  project = shown;
-  order = by_key;
-  names = map (λ c. c.name) row.member.table.columns;
-  command = refl;
-  plain = (refl, refl);
-  unlisted = refl;
-  test = λ r. greater (column r 0) (Int (pos (dim_number dim))) && true;
-  hits = λ r. refl;
-  agree = λ w. and-true _ ∙ greater-Nat (dim_number w.dim) (dim_number dim);
-  sorted_by = λ r. column r 0 ∷ column r 1 ∷ [];
-  shows = λ r. refl;
-  in_order = λ v w. ap₂ ordering_then (sorted-Nat (dim_number v.dim) (dim_number w.dim)) (then-Equal _ ∙ sorted-Nat v.durable w.durable);
-}
-
--- the next rows of that dimension after a key
-abbrev pub rest_text : List ℕ
-rest_text = codes "SELECT * FROM member WHERE dim = ?1 AND durable > ?2 ORDER BY dim, durable LIMIT 256"
-
-pub rest : (k : MemberKey) → ReadsFirst row.member (bind k) (λ r. eq_by_cmp nat_cmp (dim_number k.dim) (dim_number r.dim) && is_gt (nat_cmp r.durable k.durable)) 256 false rest_text
-unfolding understood everything unary
-rest k = record {
-  tests = op2 (Compare Eq Binary) (col 1 1) (op1 ToNumeric (col 0 0)) ∷ op2 (Compare Gt Binary) (col 1 2) (op1 ToNumeric (col 0 1)) ∷ [];
-  project = shown;
-  order = by_key;
-  names = map (λ c. c.name) row.member.table.columns;
-  command = refl;
-  plain = (refl, refl);
-  unlisted = refl;
-  test = λ r. equal Binary (column r 0) (Int (pos (dim_number k.dim))) && (greater (column r 1) (Int (pos k.durable)) && true);
-  hits = λ r. refl;
-  agree = λ w. ap₂ ◌&&◌ (equal-Nat (dim_number w.dim) (dim_number k.dim)) (and-true _ ∙ greater-Nat w.durable k.durable);
-  sorted_by = λ r. column r 0 ∷ column r 1 ∷ [];
-  shows = λ r. refl;
-  in_order = λ v w. ap₂ ordering_then (sorted-Nat (dim_number v.dim) (dim_number w.dim)) (then-Equal _ ∙ sorted-Nat v.durable w.durable);
-}
-
 -- ---- read, whoever wrote the rows
 
-abbrev pub stands_at : MemberKey → Row → Bool
-stands_at k r = equal Binary (column r 0) (Int (pos (dim_number k.dim))) && (equal Binary (column r 1) (Int (pos k.durable)) && true)
-
-pub all_stored : ReadsStored row.member [] (λ r. true) (λ r. true) all_text
+pub all_stored : ReadsStored row.member [] (λ r. true) (λ r. true) texts.member.all
 unfolding all
 all_stored = record { reads = all; tested = λ r. refl }
 
-pub get_stored : (k : MemberKey) → ReadsStored row.member (bind k) (stands_at k) (λ r. eq_by_cmp row.member.order k (row.member.key r)) get_text
+pub get_stored : (k : MemberKey) → ReadsStored row.member (bind_member k) (stands_at_member k) (λ r. eq_by_cmp row.member.order k (row.member.key r)) texts.member.get
 unfolding get
 get_stored k = record { reads = get k; tested = λ r. refl }
 
 -- ---- count
 
-abbrev pub count_text : List ℕ
-count_text = codes "SELECT count(*) FROM member"
-
-pub count : CountsAll row.member count_text
+pub count : CountsAll row.member texts.member.count
 unfolding understood everything
 count = record { names = codes "count(*)" ∷ []; command = refl; plain = (refl, refl); unlisted = refl }
+
+-- ---- by the names that the crate above cites
+
+abbrev pub bind : MemberKey → Row
+bind = bind_member
+
+abbrev pub stands_at : MemberKey → Row → Bool
+stands_at = stands_at_member
+
+abbrev pub put_text : List ℕ
+put_text = texts.member.put
+
+abbrev pub remove_text : List ℕ
+remove_text = texts.member.remove
+
+abbrev pub all_text : List ℕ
+all_text = texts.member.all
+
+abbrev pub get_text : List ℕ
+get_text = texts.member.get
+
+abbrev pub count_text : List ℕ
+count_text = texts.member.count
+
+abbrev pub of_natural_text : List ℕ
+of_natural_text = texts.member_of_natural
+
+abbrev pub greatest_text : List ℕ
+greatest_text = texts.last_member

@@ -15,6 +15,8 @@ use Rattle.sqlite.specs.Order.{Row, column}
 use Rattle.sqlite.specs.Term.{Term, lit, col, op2}
 use Rattle.sqlite.specs.Listing.{understood}
 use Rattle.wh_rows.specs.Rows as row
+use Rattle.wh_rows.specs.Texts as texts
+use Rattle.wh_rows.specs.Keys.{bind_text, stands_at_text}
 use Rattle.wh_rows.specs.Meaning.{PutsOne, RemovesOne, ReadsSome, CountsAll}
 use Rattle.wh_rows.specs.Raw.{ReadsStored}
 use Rattle.wh_rows.proofs.Cast.{cast_row_own}
@@ -22,10 +24,7 @@ use Rattle.wh_rows.proofs.Keys.{and-true, equal-Text, trimmed}
 
 -- ---- put
 
-abbrev pub put_text : List ℕ
-put_text = codes "INSERT INTO meta VALUES (?1, ?2) ON CONFLICT (name) DO UPDATE SET value = excluded.value"
-
-pub put : PutsOne row.meta put_text
+pub put : PutsOne row.meta texts.meta.put
 unfolding understood everything first_key
 put = record {
   at = 0;
@@ -53,14 +52,7 @@ put = record {
 
 -- ---- remove
 
--- a key as parameters
-abbrev pub bind : List ℕ → Row
-bind k = Text k ∷ []
-
-abbrev pub remove_text : List ℕ
-remove_text = codes "DELETE FROM meta WHERE name = ?1"
-
-pub remove : RemovesOne row.meta bind remove_text
+pub remove : RemovesOne row.meta bind_text texts.meta.remove
 unfolding understood everything
 remove = record {
   at = 0;
@@ -81,10 +73,7 @@ shown = col 1 1 ∷ col 1 2 ∷ []
 abbrev by_key : List (Term × Key)
 by_key = (col 1 1, ascending Binary) ∷ []
 
-abbrev pub all_text : List ℕ
-all_text = codes "SELECT * FROM meta ORDER BY name"
-
-pub all : ReadsSome row.meta [] (λ r. true) all_text
+pub all : ReadsSome row.meta [] (λ r. true) texts.meta.all
 unfolding understood everything
 all = record {
   tests = [];
@@ -102,10 +91,7 @@ all = record {
   in_order = λ v w. then-Equal _ ∙ value_cmp-Text v.name w.name;
 }
 
-abbrev pub get_text : List ℕ
-get_text = codes "SELECT * FROM meta WHERE name = ?1 ORDER BY name"
-
-pub get : (k : List ℕ) → ReadsSome row.meta (bind k) (λ r. eq_by_cmp row.meta.order k (row.meta.key r)) get_text
+pub get : (k : List ℕ) → ReadsSome row.meta (bind_text k) (λ r. eq_by_cmp row.meta.order k (row.meta.key r)) texts.meta.get
 unfolding understood everything
 get k = record {
   tests = op2 (Compare Eq Binary) (col 1 1) (col 0 0) ∷ [];
@@ -125,22 +111,39 @@ get k = record {
 
 -- ---- read, whoever wrote the rows
 
-abbrev pub stands_at : List ℕ → Row → Bool
-stands_at k r = equal Binary (column r 0) (Text k) && true
-
-pub all_stored : ReadsStored row.meta [] (λ r. true) (λ r. true) all_text
+pub all_stored : ReadsStored row.meta [] (λ r. true) (λ r. true) texts.meta.all
 unfolding all
 all_stored = record { reads = all; tested = λ r. refl }
 
-pub get_stored : (k : List ℕ) → ReadsStored row.meta (bind k) (stands_at k) (λ r. eq_by_cmp row.meta.order k (row.meta.key r)) get_text
+pub get_stored : (k : List ℕ) → ReadsStored row.meta (bind_text k) (stands_at_text k) (λ r. eq_by_cmp row.meta.order k (row.meta.key r)) texts.meta.get
 unfolding get
 get_stored k = record { reads = get k; tested = λ r. refl }
 
 -- ---- count
 
-abbrev pub count_text : List ℕ
-count_text = codes "SELECT count(*) FROM meta"
-
-pub count : CountsAll row.meta count_text
+pub count : CountsAll row.meta texts.meta.count
 unfolding understood everything
 count = record { names = codes "count(*)" ∷ []; command = refl; plain = (refl, refl); unlisted = refl }
+
+-- ---- by the names that the crate above cites
+
+abbrev pub bind : List ℕ → Row
+bind = bind_text
+
+abbrev pub stands_at : List ℕ → Row → Bool
+stands_at = stands_at_text
+
+abbrev pub put_text : List ℕ
+put_text = texts.meta.put
+
+abbrev pub remove_text : List ℕ
+remove_text = texts.meta.remove
+
+abbrev pub all_text : List ℕ
+all_text = texts.meta.all
+
+abbrev pub get_text : List ℕ
+get_text = texts.meta.get
+
+abbrev pub count_text : List ℕ
+count_text = texts.meta.count

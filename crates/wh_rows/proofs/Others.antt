@@ -9,7 +9,7 @@ use Rattle.sqlite.specs.Table.{Table}
 use Rattle.sqlite.specs.Effect.{Database}
 use Rattle.wh_rows.specs.Schema.{warehouse}
 use Rattle.wh_rows.specs.Holds.{Layout, Holds, values_of, IsRising}
-use Rattle.wh_rows.specs.Change.{Leaves}
+use Rattle.wh_rows.specs.OneTable.{LeavesOthers}
 use Rattle.wh_rows.specs.Tables.{Tables, Stores}
 use Rattle.wh_day.specs.declared.calendar.DateRow.{DateRow}
 use Rattle.wh_history.specs.declared.rows.DimRow.{DimRow}
@@ -34,14 +34,14 @@ at_place P [] at table is all = absurd (cc)
 at_place P (t ∷ ts) zero table is all = let same : t ≡ table = cc in subst P same all.0
 at_place P (t ∷ ts) (suc at) table is all = at_place P ts at table is all.1
 
-module _ (changed : Table) (old new : Database) (left : Leaves changed old new) where
+module _ (changed : Table) (old new : Database) (left : LeavesOthers changed old new) where
   pub kept : {K V : Type 0} (layout : Layout K V) (at : ℕ) (rows : FinMap layout.order V) → slice_get warehouse.tables at ≡ Some layout.table → (layout.table.tree == changed.tree) ≡ false
       → Holds layout old.trees rows → Holds layout new.trees rows
   kept layout at rows here apart held =
       let same = at_place (λ t. t.tree ≢ changed.tree → new.trees t.tree ≡ old.trees t.tree) warehouse.tables at layout.table here left.others (eqb-false _ _ apart) in
       record { rows_are = subst (λ l. IsPermutation (map (values_of layout.table) l) (map layout.encode (values rows))) (sym same) held.rows_are; keyed = held.keyed; valid = held.valid }
 
-pub meta_changed : (old new : Database) (tables : Tables) (rows : FinMap row.meta.order MetaRow) → Leaves row.meta.table old new → Holds row.meta new.trees rows → Stores old tables
+pub meta_changed : (old new : Database) (tables : Tables) (rows : FinMap row.meta.order MetaRow) → LeavesOthers row.meta.table old new → Holds row.meta new.trees rows → Stores old tables
     → Stores new (record tables { meta = rows })
 meta_changed old new tables rows left held stored = record {
   schema = left.schema;
@@ -59,7 +59,7 @@ meta_changed old new tables rows left held stored = record {
   fact = kept row.meta.table old new left row.fact 9 tables.fact refl refl stored.fact;
 }
 
-pub command_changed : (old new : Database) (tables : Tables) (rows : FinMap row.command.order CommandRow) → Leaves row.command.table old new → Holds row.command new.trees rows → Stores old tables
+pub command_changed : (old new : Database) (tables : Tables) (rows : FinMap row.command.order CommandRow) → LeavesOthers row.command.table old new → Holds row.command new.trees rows → Stores old tables
     → Stores new (record tables { command = rows })
 command_changed old new tables rows left held stored = record {
   schema = left.schema;
@@ -77,7 +77,7 @@ command_changed old new tables rows left held stored = record {
   fact = kept row.command.table old new left row.fact 9 tables.fact refl refl stored.fact;
 }
 
-pub member_changed : (old new : Database) (tables : Tables) (rows : FinMap row.member.order MemberRow) → Leaves row.member.table old new → Holds row.member new.trees rows → Stores old tables
+pub member_changed : (old new : Database) (tables : Tables) (rows : FinMap row.member.order MemberRow) → LeavesOthers row.member.table old new → Holds row.member new.trees rows → Stores old tables
     → Stores new (record tables { member = rows })
 member_changed old new tables rows left held stored = record {
   schema = left.schema;
@@ -95,7 +95,7 @@ member_changed old new tables rows left held stored = record {
   fact = kept row.member.table old new left row.fact 9 tables.fact refl refl stored.fact;
 }
 
-pub change_changed : (old new : Database) (tables : Tables) (rows : FinMap row.change.order ChangeRow) → Leaves row.change.table old new → Holds row.change new.trees rows → Stores old tables
+pub change_changed : (old new : Database) (tables : Tables) (rows : FinMap row.change.order ChangeRow) → LeavesOthers row.change.table old new → Holds row.change new.trees rows → Stores old tables
     → Stores new (record tables { change = rows })
 change_changed old new tables rows left held stored = record {
   schema = left.schema;
@@ -113,7 +113,7 @@ change_changed old new tables rows left held stored = record {
   fact = kept row.change.table old new left row.fact 9 tables.fact refl refl stored.fact;
 }
 
-pub product_changed : (old new : Database) (tables : Tables) (rows : FinMap row.product.order DimRow) → Leaves row.product.table old new → Holds row.product new.trees rows → Stores old tables
+pub product_changed : (old new : Database) (tables : Tables) (rows : FinMap row.product.order DimRow) → LeavesOthers row.product.table old new → Holds row.product new.trees rows → Stores old tables
     → Stores new (record tables { product = rows })
 product_changed old new tables rows left held stored = record {
   schema = left.schema;
@@ -131,7 +131,7 @@ product_changed old new tables rows left held stored = record {
   fact = kept row.product.table old new left row.fact 9 tables.fact refl refl stored.fact;
 }
 
-pub store_changed : (old new : Database) (tables : Tables) (rows : FinMap row.store.order DimRow) → Leaves row.store.table old new → Holds row.store new.trees rows → Stores old tables
+pub store_changed : (old new : Database) (tables : Tables) (rows : FinMap row.store.order DimRow) → LeavesOthers row.store.table old new → Holds row.store new.trees rows → Stores old tables
     → Stores new (record tables { store = rows })
 store_changed old new tables rows left held stored = record {
   schema = left.schema;
@@ -149,7 +149,7 @@ store_changed old new tables rows left held stored = record {
   fact = kept row.store.table old new left row.fact 9 tables.fact refl refl stored.fact;
 }
 
-pub customer_changed : (old new : Database) (tables : Tables) (rows : FinMap row.customer.order DimRow) → Leaves row.customer.table old new → Holds row.customer new.trees rows → Stores old tables
+pub customer_changed : (old new : Database) (tables : Tables) (rows : FinMap row.customer.order DimRow) → LeavesOthers row.customer.table old new → Holds row.customer new.trees rows → Stores old tables
     → Stores new (record tables { customer = rows })
 customer_changed old new tables rows left held stored = record {
   schema = left.schema;
@@ -167,7 +167,7 @@ customer_changed old new tables rows left held stored = record {
   fact = kept row.customer.table old new left row.fact 9 tables.fact refl refl stored.fact;
 }
 
-pub profile_changed : (old new : Database) (tables : Tables) (rows : FinMap row.profile.order ProfileRow) → Leaves row.profile.table old new → Holds row.profile new.trees rows → Stores old tables
+pub profile_changed : (old new : Database) (tables : Tables) (rows : FinMap row.profile.order ProfileRow) → LeavesOthers row.profile.table old new → Holds row.profile new.trees rows → Stores old tables
     → Stores new (record tables { profile = rows })
 profile_changed old new tables rows left held stored = record {
   schema = left.schema;
@@ -185,7 +185,7 @@ profile_changed old new tables rows left held stored = record {
   fact = kept row.profile.table old new left row.fact 9 tables.fact refl refl stored.fact;
 }
 
-pub calendar_changed : (old new : Database) (tables : Tables) (rows : FinMap row.calendar.order DateRow) → Leaves row.calendar.table old new → Holds row.calendar new.trees rows → Stores old tables
+pub calendar_changed : (old new : Database) (tables : Tables) (rows : FinMap row.calendar.order DateRow) → LeavesOthers row.calendar.table old new → Holds row.calendar new.trees rows → Stores old tables
     → Stores new (record tables { calendar = rows })
 calendar_changed old new tables rows left held stored = record {
   schema = left.schema;
@@ -203,7 +203,7 @@ calendar_changed old new tables rows left held stored = record {
   fact = kept row.calendar.table old new left row.fact 9 tables.fact refl refl stored.fact;
 }
 
-pub fact_changed : (old new : Database) (tables : Tables) (rows : FinMap row.fact.order Fact) → Leaves row.fact.table old new → Holds row.fact new.trees rows → Stores old tables
+pub fact_changed : (old new : Database) (tables : Tables) (rows : FinMap row.fact.order Fact) → LeavesOthers row.fact.table old new → Holds row.fact new.trees rows → Stores old tables
     → Stores new (record tables { fact = rows })
 fact_changed old new tables rows left held stored = record {
   schema = left.schema;

@@ -43,7 +43,7 @@ use Rattle.sqlite.specs.State.{State, Executes, mode_of}
 use Rattle.sqlite.proofs.Callers.{statement_of, runs_as, one_permutation}
 use Rattle.wh_rows.specs.Schema.{warehouse}
 use Rattle.wh_rows.specs.Holds.{Layout, values_of, HasRows, Holds, IsRising}
-use Rattle.wh_rows.specs.Change.{Leaves}
+use Rattle.wh_rows.specs.OneTable.{LeavesOthers}
 use Rattle.wh_rows.specs.Meaning.{passes, same_rowid, PutsOne, MovesOne, moved_at, KeepsApart}
 use Rattle.wh_rows.proofs.Edits.{task_for}
 use Rattle.wh_rows.proofs.Keys.{equal-tie, differ-tie, apart_is, and-true, equal_is, misses}
@@ -180,7 +180,7 @@ module _ {K V : Type 0} (layout : Layout K V) (total : IsTotalOrder layout.order
   holds_put valid =
       holds_over layout total same old.now.trees rising m held (layout.key v) pass (it.test v) (it.hits v there) (it.agree v) v refl warehouse new.now.trees is_upserted.0.row (row_shows is_upserted.0.row is_upserted.0.from) is_upserted.0.over valid
 
-  pub leaves : Leaves layout.table old.now new.now
+  pub leaves : LeavesOthers layout.table old.now new.now
   leaves = record {
     schema = is_upserted.1;
     sound = (runs_as text (layout.encode v) old new warehouse is _ it.command it.plain count ran).sound;
@@ -252,7 +252,7 @@ module _ {K V P : Type 0} (layout : Layout K V) (total : IsTotalOrder layout.ord
   -- the map is as it was, or has the changed row at the key; nothing else differs
   pub record IsMoved : Type 0 where
     pub holds : ((w : V) → get m (key p) ≡ Some w → IsTrue (layout.is_valid (moved p w))) → Holds layout new.now.trees (moved_at m (key p) (moved p) (get m (key p)))
-    pub leaves : Leaves layout.table old.now new.now
+    pub leaves : LeavesOthers layout.table old.now new.now
 
   pub is_moved : IsMoved
   is_moved = go (get m (key p)) refl

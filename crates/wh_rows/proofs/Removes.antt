@@ -15,10 +15,9 @@ use Rattle.sqlite.specs.State.{State, Executes, mode_of}
 use Rattle.sqlite.proofs.Callers.{statement_of, runs_as}
 use Rattle.wh_rows.specs.Schema.{warehouse}
 use Rattle.wh_rows.specs.Statements.{reading}
-use Rattle.wh_rows.specs.Change.{ChangesOnly}
 use Rattle.wh_rows.specs.Holds.{Layout, values_of, Holds, IsRising}
-use Rattle.wh_rows.proofs.Edits.{deleted}
-use Rattle.wh_rows.specs.Change.{Leaves}
+use Rattle.wh_rows.proofs.Edits.{ChangesOnly, deleted}
+use Rattle.wh_rows.specs.OneTable.{LeavesOthers}
 use Rattle.sqlite_trees.specs.declared.store.Shape.TheVariants.{Table}
 use Rattle.sqlite_trees.proofs.TreeLemmas.{IsShaped-filter}
 use Rattle.wh_rows.specs.Meaning.{passes, RemovesOne}
@@ -48,7 +47,7 @@ module _ {K V : Type 0} (layout : Layout K V) (total : IsTotalOrder layout.order
         valid = all-remove layout.order (λ w. IsTrue (layout.is_valid w)) total same m k held.valid;
       }
 
-  pub leaves : Leaves layout.table old.now new.now
+  pub leaves : LeavesOthers layout.table old.now new.now
   leaves = record {
     schema = is_removed.0.schema;
     sound = (runs_as text (bind k) old new warehouse is _ it.command it.plain count ran).sound;

@@ -1,12 +1,12 @@
 -- The statements on store.
-use Rattle.std.proofs.Common.{Bool, ℕ, List, [], ◌∷◌, codes, map, drop, pos, true, false, ◌&&◌, refl, ◌∙◌, sym, ap}
-use Rattle.std.specs.Ordering.{is_gt, eq_by_cmp, nat_cmp}
+use Rattle.std.proofs.Common.{Bool, ℕ, List, [], ◌∷◌, codes, map, drop, pos, true, ◌&&◌, refl, ◌∙◌, sym, ap}
+use Rattle.std.specs.Ordering.{eq_by_cmp, nat_cmp}
 use Rattle.sqlite_value.specs.declared.value.Value.TheVariants.{Null, Int}
 use Rattle.sqlite_value.specs.declared.keys.Key.{Key}
 use Rattle.sqlite_value.specs.Keys.{first_key, ascending}
 use Rattle.sqlite_value.proofs.OrderLemmas.{then-Equal}
 use Rattle.sqlite_sql.specs.declared.ops.BinaryOp.TheVariants.{Compare}
-use Rattle.sqlite_sql.specs.declared.ops.CompareOp.TheVariants.{Eq, Gt}
+use Rattle.sqlite_sql.specs.declared.ops.CompareOp.TheVariants.{Eq}
 use Rattle.sqlite_sql.specs.declared.ops.UnaryOp.TheVariants.{ToNumeric}
 use Rattle.sqlite_sql.specs.Ops.{unary}
 use Rattle.sqlite_schema.specs.Rules.{equal}
@@ -16,18 +16,18 @@ use Rattle.sqlite.specs.Order.{Row, column}
 use Rattle.sqlite.specs.Term.{Term, lit, col, op1, op2}
 use Rattle.sqlite.specs.Listing.{understood}
 use Rattle.wh_rows.specs.Rows as row
+use Rattle.wh_rows.specs.Texts as texts
+use Rattle.wh_rows.specs.Keys.{bind_number, stands_at_number}
+use Rattle.wh_policy.specs.declared.attribute.Dim.TheVariants.{Store}
 use Rattle.wh_rows.specs.Meaning.{PutsOne, RemovesOne, ReadsSome, CountsAll}
 use Rattle.wh_rows.specs.Raw.{ReadsStored}
 use Rattle.wh_rows.specs.Firsts.{ReadsFirst}
 use Rattle.wh_rows.proofs.Cast.{cast_row_own}
-use Rattle.wh_rows.proofs.Keys.{and-true, trimmed, equal-Nat, sorted-Nat, greater, greater-Nat}
+use Rattle.wh_rows.proofs.Keys.{and-true, trimmed, equal-Nat, sorted-Nat}
 
 -- ---- put
 
-abbrev pub put_text : List ℕ
-put_text = codes "INSERT INTO store VALUES (?1, ?2, ?3, ?4, ?5, ?6, ?7, ?8, ?9, ?10, ?11, ?12, ?13, ?14, ?15, ?16, ?17, ?18, ?19) ON CONFLICT (surrogate) DO UPDATE SET durable = excluded.durable, natural = excluded.natural, from_day = excluded.from_day, to_day = excluded.to_day, is_current = excluded.is_current, a1 = excluded.a1, a2 = excluded.a2, a3 = excluded.a3, a4 = excluded.a4, a5 = excluded.a5, a6 = excluded.a6, b1 = excluded.b1, b2 = excluded.b2, b3 = excluded.b3, b4 = excluded.b4, b5 = excluded.b5, b6 = excluded.b6, profile_now = excluded.profile_now"
-
-pub put : PutsOne row.store put_text
+pub put : PutsOne row.store texts.store.put
 unfolding understood everything first_key
 put = record {
   at = 5;
@@ -58,14 +58,7 @@ put = record {
 
 -- ---- remove
 
--- a key as parameters
-abbrev pub bind : ℕ → Row
-bind k = Int (pos k) ∷ []
-
-abbrev pub remove_text : List ℕ
-remove_text = codes "DELETE FROM store WHERE surrogate = ?1"
-
-pub remove : RemovesOne row.store bind remove_text
+pub remove : RemovesOne row.store bind_number texts.store.remove
 unfolding understood everything
 remove = record {
   at = 5;
@@ -86,10 +79,7 @@ shown = col 1 0 ∷ col 1 2 ∷ col 1 3 ∷ col 1 4 ∷ col 1 5 ∷ col 1 6 ∷ 
 abbrev by_key : List (Term × Key)
 by_key = (col 1 0, ascending Binary) ∷ []
 
-abbrev pub all_text : List ℕ
-all_text = codes "SELECT * FROM store ORDER BY surrogate"
-
-pub all : ReadsSome row.store [] (λ r. true) all_text
+pub all : ReadsSome row.store [] (λ r. true) texts.store.all
 unfolding understood everything
 all = record {
   tests = [];
@@ -107,10 +97,7 @@ all = record {
   in_order = λ v w. then-Equal _ ∙ sorted-Nat v.surrogate w.surrogate;
 }
 
-abbrev pub get_text : List ℕ
-get_text = codes "SELECT * FROM store WHERE surrogate = ?1 ORDER BY surrogate"
-
-pub get : (k : ℕ) → ReadsSome row.store (bind k) (λ r. eq_by_cmp row.store.order k (row.store.key r)) get_text
+pub get : (k : ℕ) → ReadsSome row.store (bind_number k) (λ r. eq_by_cmp row.store.order k (row.store.key r)) texts.store.get
 unfolding understood everything
 get k = record {
   tests = op2 (Compare Eq Binary) (col 1 0) (col 0 0) ∷ [];
@@ -129,10 +116,7 @@ get k = record {
 }
 
 -- the rows of a member
-abbrev pub of_durable_text : List ℕ
-of_durable_text = codes "SELECT * FROM store WHERE durable = ?1 ORDER BY surrogate"
-
-pub of_durable : (durable : ℕ) → ReadsSome row.store (Int (pos durable) ∷ []) (λ r. eq_by_cmp nat_cmp durable r.durable) of_durable_text
+pub of_durable : (durable : ℕ) → ReadsSome row.store (Int (pos durable) ∷ []) (λ r. eq_by_cmp nat_cmp durable r.durable) (texts.rows_of_member Store)
 unfolding understood everything unary
 of_durable durable = record {
   tests = op2 (Compare Eq Binary) (col 1 2) (op1 ToNumeric (col 0 0)) ∷ [];
@@ -151,10 +135,7 @@ of_durable durable = record {
 }
 
 -- the row of the greatest key
-abbrev pub greatest_text : List ℕ
-greatest_text = codes "SELECT * FROM store ORDER BY surrogate DESC LIMIT 1"
-
-pub greatest : ReadsFirst row.store ([]) (λ r. true) 1 true greatest_text
+pub greatest : ReadsFirst row.store ([]) (λ r. true) 1 true (texts.last_row Store)
 unfolding understood everything
 greatest = record {
   tests = [];
@@ -172,46 +153,47 @@ greatest = record {
   in_order = λ v w. then-Equal _ ∙ sorted-Nat w.surrogate v.surrogate;
 }
 
--- the next rows after a key
-abbrev pub after_text : List ℕ
-after_text = codes "SELECT * FROM store WHERE surrogate > ?1 ORDER BY surrogate LIMIT 256"
-
-pub after : (k : ℕ) → ReadsFirst row.store (Int (pos k) ∷ []) (λ r. is_gt (nat_cmp r.surrogate k)) 256 false after_text
-unfolding understood everything
-after k = record {
-  tests = op2 (Compare Gt Binary) (col 1 0) (col 0 0) ∷ [];
-  project = shown;
-  order = by_key;
-  names = map (λ c. c.name) row.store.table.columns;
-  command = refl;
-  plain = (refl, refl);
-  unlisted = refl;
-  test = λ r. greater (column r 0) (Int (pos k)) && true;
-  hits = λ r. refl;
-  agree = λ w. and-true _ ∙ greater-Nat w.surrogate k;
-  sorted_by = λ r. column r 0 ∷ [];
-  shows = λ r. refl;
-  in_order = λ v w. then-Equal _ ∙ sorted-Nat v.surrogate w.surrogate;
-}
-
 -- ---- read, whoever wrote the rows
 
-abbrev pub stands_at : ℕ → Row → Bool
-stands_at k r = equal Binary (column r 0) (Int (pos k)) && true
-
-pub all_stored : ReadsStored row.store [] (λ r. true) (λ r. true) all_text
+pub all_stored : ReadsStored row.store [] (λ r. true) (λ r. true) texts.store.all
 unfolding all
 all_stored = record { reads = all; tested = λ r. refl }
 
-pub get_stored : (k : ℕ) → ReadsStored row.store (bind k) (stands_at k) (λ r. eq_by_cmp row.store.order k (row.store.key r)) get_text
+pub get_stored : (k : ℕ) → ReadsStored row.store (bind_number k) (stands_at_number k) (λ r. eq_by_cmp row.store.order k (row.store.key r)) texts.store.get
 unfolding get
 get_stored k = record { reads = get k; tested = λ r. refl }
 
 -- ---- count
 
-abbrev pub count_text : List ℕ
-count_text = codes "SELECT count(*) FROM store"
-
-pub count : CountsAll row.store count_text
+pub count : CountsAll row.store texts.store.count
 unfolding understood everything
 count = record { names = codes "count(*)" ∷ []; command = refl; plain = (refl, refl); unlisted = refl }
+
+-- ---- by the names that the crate above cites
+
+abbrev pub bind : ℕ → Row
+bind = bind_number
+
+abbrev pub stands_at : ℕ → Row → Bool
+stands_at = stands_at_number
+
+abbrev pub put_text : List ℕ
+put_text = texts.store.put
+
+abbrev pub remove_text : List ℕ
+remove_text = texts.store.remove
+
+abbrev pub all_text : List ℕ
+all_text = texts.store.all
+
+abbrev pub get_text : List ℕ
+get_text = texts.store.get
+
+abbrev pub count_text : List ℕ
+count_text = texts.store.count
+
+abbrev pub greatest_text : List ℕ
+greatest_text = texts.last_row Store
+
+abbrev pub of_durable_text : List ℕ
+of_durable_text = texts.rows_of_member Store

@@ -3,12 +3,13 @@ pub mod Limits
 pub mod Types
 pub mod Schema
 pub mod Holds
+pub mod Keys
+pub mod Texts
 pub mod Rows
 pub mod Tables
 pub mod Statements
-pub mod Change
+pub mod OneTable
 pub mod Meaning
-pub mod Makes
 pub mod Columns
 pub mod Stored
 pub mod Place

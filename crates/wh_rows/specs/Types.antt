@@ -1,10 +1,12 @@
--- Which values are of the types of the columns.
-use Rattle.std.specs.Prelude.{ℕ, ℤ, Bool, false, ◌&&◌, ◌||◌, ◌==◌, not, nat_le, codes, List, [], ◌∷◌, length, bytes_eq, unsigned_abs}
+-- Which values are of the types of the columns. A key has up to 20 bytes as a ticket, 32 as a natural key and 40 as the id of a command.
+use Rattle.std.specs.Prelude.{ℕ, ℤ, Bool, ◌&&◌, ◌||◌, ◌==◌, nat_le, codes, List, [], ◌∷◌, length, map, bytes_eq, unsigned_abs}
 use Rattle.std.specs.List.{list_all, list_any}
-use Rattle.std.specs.Char.{is_ascii_alphanumeric}
-use Rattle.wh_day.specs.Value.{is_plain, none_text, unknown_text, no_card_text}
+pub use Rattle.wh_day.specs.NaturalKey.{is_key}
+pub use Rattle.wh_day.specs.Value.{is_given}
+use Rattle.wh_day.specs.Value.{none_text, unknown_text, no_card_text}
 use Rattle.wh_policy.specs.declared.attribute.Dim.{Dim}
 use Rattle.wh_policy.specs.declared.attribute.Dim.TheVariants.{Product, Store, Customer}
+use Rattle.wh_policy.specs.Words.{word_of, every_dim}
 
 -- a key, a number or a count
 abbrev pub is_number : ℕ → Bool
@@ -18,17 +20,9 @@ is_line n = nat_le 1 n && nat_le n 9999
 abbrev pub is_measure : ℕ → ℤ → Bool
 is_measure most n = nat_le (unsigned_abs n) most
 
--- a letter, a digit, '-', '_' or '.'
-abbrev pub is_key_byte : ℕ → Bool
-is_key_byte byte = is_ascii_alphanumeric byte || (byte == 45) || (byte == 95) || (byte == 46)
-
--- one up to `most` such bytes: 20 for a ticket, 32 for a natural key, 40 for the id of a command
-abbrev pub is_key : ℕ → List ℕ → Bool
-is_key most text = nat_le 1 (length text) && nat_le (length text) most && list_all is_key_byte text
-
--- what a command can be
+-- what a command can be: the making of the warehouse, a new policy, or a batch of sales or for a dimension
 abbrev pub kinds : List (List ℕ)
-kinds = codes "init" ∷ codes "migrate" ∷ codes "product" ∷ codes "store" ∷ codes "customer" ∷ codes "sales" ∷ []
+kinds = codes "init" ∷ codes "migrate" ∷ codes "sales" ∷ map word_of every_dim
 
 abbrev pub is_kind : List ℕ → Bool
 is_kind text = list_any (bytes_eq text) kinds
@@ -36,11 +30,6 @@ is_kind text = list_any (bytes_eq text) kinds
 -- no text, or one of those that stand where a source gave none
 unfoldable pub is_special : List ℕ → Bool
 is_special text = bytes_eq text [] || bytes_eq text none_text || bytes_eq text unknown_text || bytes_eq text no_card_text
-
--- a value that a source can give
-abbrev pub is_given : List ℕ → Bool
-is_given [] = false
-is_given (first ∷ rest) = not (first == 40) && is_plain (first ∷ rest)
 
 -- the text of a slot
 unfoldable pub is_slot : List ℕ → Bool

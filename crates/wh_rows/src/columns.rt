@@ -2,22 +2,23 @@
 
 ghost use Rattle.std.specs.Prelude.{◌≡◌, ◌<◌, if◌then◌else◌, Some, None, option_map};
 ghost use Rattle.std.specs.Str.{is_utf8};
-ghost use Rattle.std.specs.List.{list_all};
 ghost use Rattle.sqlite_value.specs.Value.{owned};
 ghost use Rattle.sqlite_value.specs.Order.{column};
 ghost use Rattle.wh_day.specs.Reading.{Gives};
-ghost use Rattle.wh_rows.specs.Types.{is_key_byte, is_key, is_kind, is_special};
+ghost use Rattle.wh_rows.specs.Types.{is_key, is_kind, is_special};
 ghost use Rattle.wh_rows.specs.Rows.{is_natural};
 ghost use Rattle.wh_rows.specs.Columns.{integer_of, number_of, line_of, measure_of, day_of, flag_of, dim_of, blob_of, text_of, tested_of, slot_of, slots_of};
 
 use sqlite::Row;
 use sqlite::types::{Bytes, ValueRef};
 use std::alloc::Global;
-use wh_day::{Day, ReadError, Value, Values};
+use thiserror::Error;
+use wh_day::{Day, ReadError, Value, Values, is_key};
 use wh_policy::Dim;
 
 /// A stored value is not of the type of its column.
-#[derive(Clone, Copy, Debug, PartialEq, Eq)]
+#[derive(Clone, Copy, Debug, PartialEq, Eq, Error)]
+#[error("a stored value is not of the type of its column")]
 pub struct Damaged;
 
 /// The value in a column; past the last there is none.
@@ -148,26 +149,6 @@ pub(crate) fn text(alloc: Global, row: &Row, at: usize) -> Result<Value, ReadErr
     Ok(Value::new(alloc, text)?)
 }
 
-fn is_key_byte(byte: u8) -> bool
-    ensures { result ≡ is_key_byte byte }
-{
-    byte.is_ascii_alphanumeric() || byte == b'-' || byte == b'_' || byte == b'.'
-}
-
-fn has_key_bytes(text: &[u8]) -> bool
-    ensures { result ≡ list_all is_key_byte text.now }
-{
-    text.iter().all(|byte| is_key_byte(*byte))
-}
-
-/// Whether a text is a key: 1 to `most` letters, digits, `-`, `_` and `.`.
-pub fn is_key(most: usize, text: &str) -> bool
-    ensures { result ≡ is_key most text.now }
-{
-    let bytes = text.as_bytes();
-    1 <= bytes.len() && bytes.len() <= most && has_key_bytes(bytes)
-}
-
 /// A key of up to `most` bytes.
 #[tactic(auto, unfolding(crate::specs::Columns::tested_of))]
 pub(crate) fn key(
@@ -179,7 +160,7 @@ pub(crate) fn key(
     ensures { Gives (λ text. text) result (tested_of (is_key most) (column row.now at)) }
 {
     let text = words(row, at)?;
-    if is_key(most, text) {
+    if is_key(most, text.as_bytes()) {
         Ok(Value::new(alloc, text)?)
     } else {
         Err(ReadError::Fault(Damaged))
@@ -189,10 +170,7 @@ pub(crate) fn key(
 fn is_kind(text: &str) -> bool
     ensures { result ≡ is_kind text.now }
 {
-    match text {
-        "init" | "migrate" | "product" | "store" | "customer" | "sales" => true,
-        _ => false,
-    }
+    matches!(text, "init" | "migrate" | "sales") || Dim::from_word(text).is_some()
 }
 
 /// What a command is.
@@ -213,8 +191,8 @@ fn is_natural(dim: Dim, surrogate: u64, text: &str) -> bool
     ensures { result ≡ is_natural dim surrogate text.now }
 {
     match dim {
-        Dim::Product | Dim::Store => is_key(32, text),
-        Dim::Customer => is_key(32, text) || surrogate == 0 && text == "(no card)",
+        Dim::Product | Dim::Store => is_key(32, text.as_bytes()),
+        Dim::Customer => { is_key(32, text.as_bytes()) || surrogate == 0 && text == "(no card)" }
     }
 }
 

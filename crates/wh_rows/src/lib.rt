@@ -12,7 +12,7 @@ mod table;
 pub mod tables;
 
 pub use cause::Cause;
-pub use columns::{Damaged, is_key};
+pub use columns::Damaged;
 pub use key::{ChangeKey, LineKey, MemberKey};
 pub use limits::Limits;
 pub use rows::{ChangeRow, CommandRow, MemberRow, MetaRow, ProfileRow, TableRow};

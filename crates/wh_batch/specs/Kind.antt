@@ -1,0 +1,14 @@
+-- The words for the kinds of batches, in commands.
+use Rattle.std.specs.Prelude.{ℕ, codes, List, Option, Some, option_map, if◌then◌else◌, bytes_eq}
+use Rattle.wh_policy.specs.Words.{word_of, dim_of_word}
+use Rattle.wh_batch.specs.declared.kind.Kind.{Kind}
+use Rattle.wh_batch.specs.declared.kind.Kind.TheVariants.{Dimension, Sales}
+
+-- the word for a kind
+abbrev pub kind_word : Kind → List ℕ
+kind_word (Dimension dim) = word_of dim
+kind_word Sales = codes "sales"
+
+-- the kind of a word, if it is the word for one
+abbrev pub kind_of_word : List ℕ → Option Kind
+kind_of_word word = if bytes_eq word (codes "sales") then Some Sales else option_map Dimension (dim_of_word word)

@@ -1,0 +1,18 @@
+-- The words for the dimensions, in policies, in commands and in print.
+use Rattle.std.specs.Prelude.{ℕ, codes, List, [], ◌∷◌, Option, find, bytes_eq}
+use Rattle.wh_policy.specs.declared.attribute.Dim.{Dim}
+use Rattle.wh_policy.specs.declared.attribute.Dim.TheVariants.{Product, Store, Customer}
+
+-- the word for a dimension
+abbrev pub word_of : Dim → List ℕ
+word_of Product = codes "product"
+word_of Store = codes "store"
+word_of Customer = codes "customer"
+
+-- all dimensions that have members
+abbrev pub every_dim : List Dim
+every_dim = Product ∷ Store ∷ Customer ∷ []
+
+-- the dimension of a word, if it is the word for one
+abbrev pub dim_of_word : List ℕ → Option Dim
+dim_of_word word = find (λ dim. bytes_eq word (word_of dim)) every_dim
