@@ -9,42 +9,29 @@ ghost use Rattle.wh_history.specs.Tables.{member_rows};
 ghost use Rattle.wh_history.specs.Touched.{nothing_stored};
 ghost use Rattle.wh_rows.specs.Firsts.{part};
 ghost use Rattle.wh_plan.specs.Kept.{HaveDistinctIds, HaveNoEmptyValue, command_with, given_text, change_in, last_opening, rows_with};
-ghost use Rattle.wh_plan.specs.Reads.{ReadsOnly, Finds, Tells};
+ghost use Rattle.wh_sql.specs.Reads.{ReadsOnly};
+ghost use Rattle.wh_store.specs.Reads.{state_of};
+ghost use Rattle.wh_store.specs.Reads.{state_of};
+ghost use Rattle.wh_plan.specs.Reads.{Finds, Tells};
 
 use sqlite::Alter;
 use std::alloc::{AllocError, Global};
-use wh_day::{ReadError, Value, Values};
+use wh_day::{Value, Values};
 use wh_history::{Change, Changes, DimRow, Member};
 use wh_policy::Dim;
 use wh_rows::{ChangeRow, CommandRow, tables};
-use wh_sql::{CommandOf, GreatestOf, MemberOf, RecordsOf, RowsOf};
-use wh_store::{Keeps, Question, Refusal, Tables};
-
-/// The rows that answer a question about one table. A refusal is told apart from want of memory for what is made of them.
-pub(crate) fn asked<T: Keeps, Q: Question<T>, S: Alter>(
-    tables: &mut Tables<S>,
-    alloc: Global,
-    question: &Q,
-) -> Result<Vec<T::Row>, ReadError<Refusal>>
-    ensures reads { ReadsOnly S.Store tables.old tables.new result }
-    ensures rows { Tells S.Store tables.old tables.new result (λ t rows. rows.items ≡ part Q.front (filter (Q.keep question.now) (values (T.rows t)))) }
-{
-    match tables.ask::<T, Q>(alloc, question) {
-        Ok(rows) => Ok(rows),
-        Err(refusal) => Err(ReadError::Fault(refusal)),
-    }
-}
+use wh_store::{CommandOf, GreatestOf, MemberOf, ReadFault, RecordsOf, RowsOf, Tables};
 
 /// The row of the command of an id, if one was accepted.
 pub fn command_of<S: Alter>(
     tables: &mut Tables<S>,
     alloc: Global,
     id: &Value,
-) -> Result<Option<CommandRow>, ReadError<Refusal>>
-    ensures reads { ReadsOnly S.Store tables.old tables.new result }
-    ensures command { Finds S.Store tables.old tables.new (λ _ commands. HaveDistinctIds commands → IfOk result (λ row. row ≡ command_with commands id.now)) }
+) -> Result<Option<CommandRow>, ReadFault>
+    ensures reads { ReadsOnly (state_of S.Store tables.old) (state_of S.Store tables.new) result }
+    ensures command { Finds (state_of S.Store tables.old) (state_of S.Store tables.new) (λ _ commands. HaveDistinctIds commands → IfOk result (λ row. row ≡ command_with commands id.now)) }
 {
-    let mut found = asked::<tables::Command, CommandOf<'_>, S>(tables, alloc, &CommandOf { id })?;
+    let mut found = tables.ask::<tables::Command, CommandOf<'_>>(alloc, &CommandOf { id })?;
     Ok(found.pop())
 }
 
@@ -107,11 +94,11 @@ pub fn stored_changes<S: Alter>(
     alloc: Global,
     dim: Dim,
     durable: u64,
-) -> Result<Changes, ReadError<Refusal>>
-    ensures reads { ReadsOnly S.Store tables.old tables.new result }
-    ensures changes { Finds S.Store tables.old tables.new (λ _ commands. HaveNoEmptyValue commands → (natural : List ℕ) → 0 < durable → durable ≡ durable_key dim commands natural → IfOk result (λ changes. changes ≡ changes_of dim commands natural)) }
+) -> Result<Changes, ReadFault>
+    ensures reads { ReadsOnly (state_of S.Store tables.old) (state_of S.Store tables.new) result }
+    ensures changes { Finds (state_of S.Store tables.old) (state_of S.Store tables.new) (λ _ commands. HaveNoEmptyValue commands → (natural : List ℕ) → 0 < durable → durable ≡ durable_key dim commands natural → IfOk result (λ changes. changes ≡ changes_of dim commands natural)) }
 {
-    let rows = asked::<tables::Change, RecordsOf, S>(tables, alloc, &RecordsOf { dim, durable })?;
+    let rows = tables.ask::<tables::Change, RecordsOf>(alloc, &RecordsOf { dim, durable })?;
     Ok(changes_in(alloc, &rows)?)
 }
 
@@ -121,15 +108,11 @@ pub fn stored_member<S: Alter>(
     alloc: Global,
     dim: Dim,
     natural: &Value,
-) -> Result<Member, ReadError<Refusal>>
-    ensures reads { ReadsOnly S.Store tables.old tables.new result }
-    ensures member { Finds S.Store tables.old tables.new (λ _ commands. HaveNoEmptyValue commands → IfOk result (λ member. member ≡ member_of dim commands natural.now)) }
+) -> Result<Member, ReadFault>
+    ensures reads { ReadsOnly (state_of S.Store tables.old) (state_of S.Store tables.new) result }
+    ensures member { Finds (state_of S.Store tables.old) (state_of S.Store tables.new) (λ _ commands. HaveNoEmptyValue commands → IfOk result (λ member. member ≡ member_of dim commands natural.now)) }
 {
-    let mut found = asked::<tables::Member, MemberOf<'_>, S>(
-        tables,
-        alloc,
-        &MemberOf { dim, natural },
-    )?;
+    let mut found = tables.ask::<tables::Member, MemberOf<'_>>(alloc, &MemberOf { dim, natural })?;
     match found.pop() {
         Some(row) => Ok(Member {
             durable: row.durable,
@@ -147,17 +130,17 @@ pub fn stored_rows<S: Alter>(
     alloc: Global,
     dim: Dim,
     durable: u64,
-) -> Result<Vec<DimRow>, ReadError<Refusal>>
-    ensures reads { ReadsOnly S.Store tables.old tables.new result }
-    ensures rows { Finds S.Store tables.old tables.new (λ _ commands. IfOk result (λ rows. rows.items ≡ rows_with dim commands durable)) }
+) -> Result<Vec<DimRow>, ReadFault>
+    ensures reads { ReadsOnly (state_of S.Store tables.old) (state_of S.Store tables.new) result }
+    ensures rows { Finds (state_of S.Store tables.old) (state_of S.Store tables.new) (λ _ commands. IfOk result (λ rows. rows.items ≡ rows_with dim commands durable)) }
     // Those with a member's durable key are the member's.
-    ensures member { Finds S.Store tables.old tables.new (λ _ commands. RecordsHaveDays commands → (natural : List ℕ) → 0 < durable → durable ≡ durable_key dim commands natural → IfOk result (λ rows. (key : ℕ) → row_of key rows.items ≡ row_of key (member_rows commands dim natural))) }
+    ensures member { Finds (state_of S.Store tables.old) (state_of S.Store tables.new) (λ _ commands. RecordsHaveDays commands → (natural : List ℕ) → 0 < durable → durable ≡ durable_key dim commands natural → IfOk result (λ rows. (key : ℕ) → row_of key rows.items ≡ row_of key (member_rows commands dim natural))) }
 {
     let question = RowsOf { durable };
     match dim {
-        Dim::Product => asked::<tables::Product, RowsOf, S>(tables, alloc, &question),
-        Dim::Store => asked::<tables::Store, RowsOf, S>(tables, alloc, &question),
-        Dim::Customer => asked::<tables::Customer, RowsOf, S>(tables, alloc, &question),
+        Dim::Product => tables.ask::<tables::Product, RowsOf>(alloc, &question),
+        Dim::Store => tables.ask::<tables::Store, RowsOf>(alloc, &question),
+        Dim::Customer => tables.ask::<tables::Customer, RowsOf>(alloc, &question),
     }
 }
 
@@ -174,11 +157,11 @@ pub fn members_given<S: Alter>(
     tables: &mut Tables<S>,
     alloc: Global,
     dim: Dim,
-) -> Result<MembersGiven, ReadError<Refusal>>
-    ensures reads { ReadsOnly S.Store tables.old tables.new result }
-    ensures given { Finds S.Store tables.old tables.new (λ _ commands. IfOk result (λ given. given ≡ record { members = length (members dim commands); opening = last_opening dim commands })) }
+) -> Result<MembersGiven, ReadFault>
+    ensures reads { ReadsOnly (state_of S.Store tables.old) (state_of S.Store tables.new) result }
+    ensures given { Finds (state_of S.Store tables.old) (state_of S.Store tables.new) (λ _ commands. IfOk result (λ given. given ≡ record { members = length (members dim commands); opening = last_opening dim commands })) }
 {
-    let mut found = asked::<tables::Member, GreatestOf, S>(tables, alloc, &GreatestOf { dim })?;
+    let mut found = tables.ask::<tables::Member, GreatestOf>(alloc, &GreatestOf { dim })?;
     match found.pop() {
         Some(row) => Ok(MembersGiven {
             members: row.durable,

@@ -12,19 +12,20 @@ ghost use Rattle.wh_plan.specs.Defined.{fact_at};
 ghost use Rattle.wh_plan.specs.Moved.{earliest, flat_pairs, moves_by, moves_since, moves_there};
 ghost use Rattle.wh_plan.specs.Planned.{AreFacts};
 ghost use Rattle.wh_plan.specs.Planning.{naturals_told};
-ghost use Rattle.wh_plan.specs.Reads.{ReadsOnly, Finds, Tells};
+ghost use Rattle.wh_sql.specs.Reads.{ReadsOnly};
+ghost use Rattle.wh_store.specs.Reads.{state_of};
+ghost use Rattle.wh_store.specs.Reads.{state_of};
+ghost use Rattle.wh_plan.specs.Reads.{Finds, Tells};
 ghost use Rattle.wh_plan.specs.Sound.{IsAccepted};
 
-use crate::kept::asked;
 use sqlite::Alter;
 use std::alloc::{AllocError, Global};
-use wh_day::{Day, ReadError};
+use wh_day::Day;
 use wh_history::dated::dated;
 use wh_history::{Change, Fact, Keys, Member, Profiles, render_types};
 use wh_policy::{AttributeType, Dim, Policy};
 use wh_rows::tables;
-use wh_sql::SalesSince;
-use wh_store::{Refusal, Tables};
+use wh_store::{ReadFault, SalesSince, Tables};
 
 /// Of some facts of a member those whose keys change by its rows, with their new keys.
 fn moved_by(
@@ -103,9 +104,9 @@ fn moved_of_member<S: Alter>(
     stored: &Member,
     member: &Member,
     profiles: &Profiles,
-) -> Result<Vec<Fact>, ReadError<Refusal>>
-    ensures reads { ReadsOnly S.Store tables.old tables.new result }
-    ensures moved { Tells S.Store tables.old tables.new result (λ t facts. facts.items ≡ moves_there types.now (number_in profiles.now) dim given t.fact stored.now member.now) }
+) -> Result<Vec<Fact>, ReadFault>
+    ensures reads { ReadsOnly (state_of S.Store tables.old) (state_of S.Store tables.new) result }
+    ensures moved { Tells (state_of S.Store tables.old) (state_of S.Store tables.new) result (λ t facts. facts.items ≡ moves_there types.now (number_in profiles.now) dim given t.fact stored.now member.now) }
 {
     if given < member.durable {
         return Ok(Vec::new(alloc));
@@ -115,7 +116,7 @@ fn moved_of_member<S: Alter>(
         durable: member.durable,
         from: moves_since(stored.changes.as_slice(), member.changes.as_slice()),
     };
-    let facts = asked::<tables::Fact, SalesSince, S>(tables, alloc, &question)?;
+    let facts = tables.ask::<tables::Fact, SalesSince>(alloc, &question)?;
     Ok(moved_by(alloc, types, dim, member, profiles, &facts)?)
 }
 
@@ -129,9 +130,9 @@ fn moved_of_members<S: Alter>(
     stored: &[Member],
     members: &[Member],
     profiles: &Profiles,
-) -> Result<Vec<Fact>, ReadError<Refusal>>
-    ensures reads { ReadsOnly S.Store tables.old tables.new result }
-    ensures moved { Tells S.Store tables.old tables.new result (λ t facts. facts.items ≡ flat_pairs (moves_there types.now (number_in profiles.now) dim given t.fact) stored.now members.now) }
+) -> Result<Vec<Fact>, ReadFault>
+    ensures reads { ReadsOnly (state_of S.Store tables.old) (state_of S.Store tables.new) result }
+    ensures moved { Tells (state_of S.Store tables.old) (state_of S.Store tables.new) result (λ t facts. facts.items ≡ flat_pairs (moves_there types.now (number_in profiles.now) dim given t.fact) stored.now members.now) }
 {
     let mut found = Vec::new(alloc);
     for (place, member) in members.iter().enumerate() {
@@ -157,10 +158,10 @@ pub(crate) fn moved_facts<S: Alter>(
     stored: &[Member],
     touched: &[Member],
     profiles: &Profiles,
-) -> Result<Vec<Fact>, ReadError<Refusal>>
-    ensures reads { ReadsOnly S.Store tables.old tables.new result }
+) -> Result<Vec<Fact>, ReadFault>
+    ensures reads { ReadsOnly (state_of S.Store tables.old) (state_of S.Store tables.new) result }
     // They are what leads from the facts of the commands so far to those with the batch.
-    ensures moved { Finds S.Store tables.old tables.new (λ limits commands. (c : Accepted) → IsAccepted limits (commands ++ c ∷ []) → (records : List Told) → c.content ≡ Describes dim records → policy_after None commands ≡ Some policy.now → IsSound policy.now → stored.now ≡ map (member_of dim commands) (naturals_told records) → AllByRecursion (KnowsEnough dim (types_of policy.now dim) (number_in profiles.now) (profiles_of (commands ++ c ∷ []))) touched.now → touched.now ≡ (touched_by dim commands (commands ++ c ∷ []) records).list → given ≡ length (members dim commands) → IfOk result (λ facts. AreFacts (fact_at commands) (fact_at (commands ++ c ∷ [])) facts.items)) }
+    ensures moved { Finds (state_of S.Store tables.old) (state_of S.Store tables.new) (λ limits commands. (c : Accepted) → IsAccepted limits (commands ++ c ∷ []) → (records : List Told) → c.content ≡ Describes dim records → policy_after None commands ≡ Some policy.now → IsSound policy.now → stored.now ≡ map (member_of dim commands) (naturals_told records) → AllByRecursion (KnowsEnough dim (types_of policy.now dim) (number_in profiles.now) (profiles_of (commands ++ c ∷ []))) touched.now → touched.now ≡ (touched_by dim commands (commands ++ c ∷ []) records).list → given ≡ length (members dim commands) → IfOk result (λ facts. AreFacts (fact_at commands) (fact_at (commands ++ c ∷ [])) facts.items)) }
 {
     let types = policy.types(alloc, dim)?;
     moved_of_members(tables, alloc, &types, dim, given, stored, touched, profiles)

@@ -18,7 +18,9 @@ ghost use Rattle.wh_plan.specs.Learned.{IsLearned};
 ghost use Rattle.wh_plan.specs.Kept.{HaveNoEmptyValue};
 ghost use Rattle.wh_plan.specs.Planned.{AreEdits, AreFacts, in_dimension};
 ghost use Rattle.wh_plan.specs.Planning.{members_among, naturals_told, rows_of_members};
-ghost use Rattle.wh_plan.specs.Reads.{ReadsOnly, Finds};
+ghost use Rattle.wh_sql.specs.Reads.{ReadsOnly};
+ghost use Rattle.wh_store.specs.Reads.{state_of};
+ghost use Rattle.wh_plan.specs.Reads.{Finds};
 ghost use Rattle.wh_plan.specs.Sound.{IsAccepted};
 
 use crate::edits::Edits;
@@ -29,11 +31,11 @@ use crate::profiles::{Learned, learned_of};
 use crate::stored::{Given, naturals_told, touched_members};
 use sqlite::Alter;
 use std::alloc::{AllocError, Global};
-use wh_day::{ReadError, Value};
+use wh_day::Value;
 use wh_history::{DimRow, Edit, Fact, Member, Profiles, plan_rows};
 use wh_policy::{Dim, DimensionRecord, Policy};
 use wh_rows::{ChangeRow, CommandRow, MemberRow, ProfileRow, tables};
-use wh_store::{Refusal, Tables};
+use wh_store::{ReadFault, Tables};
 
 /// The greatest number that a table holds.
 const GREATEST: u64 = 9_999_999;
@@ -44,9 +46,9 @@ fn stored_members<S: Alter>(
     alloc: Global,
     dim: Dim,
     naturals: &[Value],
-) -> Result<Vec<Member>, ReadError<Refusal>>
-    ensures reads { ReadsOnly S.Store tables.old tables.new result }
-    ensures members { Finds S.Store tables.old tables.new (λ _ commands. HaveNoEmptyValue commands → IfOk result (λ members. members.items ≡ map (member_of dim commands) naturals.now)) }
+) -> Result<Vec<Member>, ReadFault>
+    ensures reads { ReadsOnly (state_of S.Store tables.old) (state_of S.Store tables.new) result }
+    ensures members { Finds (state_of S.Store tables.old) (state_of S.Store tables.new) (λ _ commands. HaveNoEmptyValue commands → IfOk result (λ members. members.items ≡ map (member_of dim commands) naturals.now)) }
 {
     let mut found = Vec::new(alloc);
     for natural in naturals {
@@ -61,9 +63,9 @@ fn rows_of_member<S: Alter>(
     alloc: Global,
     dim: Dim,
     member: &Member,
-) -> Result<Vec<DimRow>, ReadError<Refusal>>
-    ensures reads { ReadsOnly S.Store tables.old tables.new result }
-    ensures rows { Finds S.Store tables.old tables.new (λ _ commands. RecordsHaveDays commands → (natural : List ℕ) → member.now ≡ member_of dim commands natural → IfOk result (λ rows. (key : ℕ) → row_of key rows.items ≡ row_of key (rows_of_members commands dim (members_among commands dim (natural ∷ []))))) }
+) -> Result<Vec<DimRow>, ReadFault>
+    ensures reads { ReadsOnly (state_of S.Store tables.old) (state_of S.Store tables.new) result }
+    ensures rows { Finds (state_of S.Store tables.old) (state_of S.Store tables.new) (λ _ commands. RecordsHaveDays commands → (natural : List ℕ) → member.now ≡ member_of dim commands natural → IfOk result (λ rows. (key : ℕ) → row_of key rows.items ≡ row_of key (rows_of_members commands dim (members_among commands dim (natural ∷ []))))) }
 {
     if member.durable == 0 {
         return Ok(Vec::new(alloc));
@@ -77,9 +79,9 @@ fn rows_of_stored<S: Alter>(
     alloc: Global,
     dim: Dim,
     members: &[Member],
-) -> Result<Vec<DimRow>, ReadError<Refusal>>
-    ensures reads { ReadsOnly S.Store tables.old tables.new result }
-    ensures rows { Finds S.Store tables.old tables.new (λ _ commands. RecordsHaveDays commands → (naturals : List (List ℕ)) → members.now ≡ map (member_of dim commands) naturals → IfOk result (λ rows. (key : ℕ) → row_of key rows.items ≡ row_of key (rows_of_members commands dim (members_among commands dim naturals)))) }
+) -> Result<Vec<DimRow>, ReadFault>
+    ensures reads { ReadsOnly (state_of S.Store tables.old) (state_of S.Store tables.new) result }
+    ensures rows { Finds (state_of S.Store tables.old) (state_of S.Store tables.new) (λ _ commands. RecordsHaveDays commands → (naturals : List (List ℕ)) → members.now ≡ map (member_of dim commands) naturals → IfOk result (λ rows. (key : ℕ) → row_of key rows.items ≡ row_of key (rows_of_members commands dim (members_among commands dim naturals)))) }
 {
     let mut found = Vec::new(alloc);
     for member in members {
@@ -94,19 +96,17 @@ pub(crate) fn numbers_given<S: Alter>(
     tables: &mut Tables<S>,
     alloc: Global,
     dim: Dim,
-) -> Result<Given, ReadError<Refusal>>
-    ensures reads { ReadsOnly S.Store tables.old tables.new result }
-    ensures given { Finds S.Store tables.old tables.new (λ _ commands. length (members dim commands) ≤ 9999999 → length (anchors dim commands) ≤ 9999999 → IfOk result (λ given. given ≡ record { members = length (members dim commands); anchors = length (anchors dim commands) })) }
+) -> Result<Given, ReadFault>
+    ensures reads { ReadsOnly (state_of S.Store tables.old) (state_of S.Store tables.new) result }
+    ensures given { Finds (state_of S.Store tables.old) (state_of S.Store tables.new) (λ _ commands. length (members dim commands) ≤ 9999999 → length (anchors dim commands) ≤ 9999999 → IfOk result (λ given. given ≡ record { members = length (members dim commands); anchors = length (anchors dim commands) })) }
     ensures few { IfOk result (λ given. (given.members ≤ 9999999) × (given.anchors ≤ 9999999)) }
 {
     let given = members_given(tables, alloc, dim)?;
-    match tables.greatest_anchor(alloc, dim) {
-        Ok(anchor) => Ok(Given {
-            members: given.members.min(GREATEST),
-            anchors: given.opening.max(anchor).min(GREATEST),
-        }),
-        Err(refusal) => Err(ReadError::Fault(refusal)),
-    }
+    let anchor = tables.greatest_anchor(alloc, dim)?;
+    Ok(Given {
+        members: given.members.min(GREATEST),
+        anchors: given.opening.max(anchor).min(GREATEST),
+    })
 }
 
 /// What is read for a batch.
@@ -125,9 +125,9 @@ fn read_touched<S: Alter>(
     alloc: Global,
     dim: Dim,
     records: &[DimensionRecord],
-) -> Result<Found, ReadError<Refusal>>
-    ensures reads { ReadsOnly S.Store tables.old tables.new result }
-    ensures found { Finds S.Store tables.old tables.new (λ limits commands. (c : Accepted) → IsAccepted limits (commands ++ c ∷ []) → c.content ≡ Describes dim records.now → IfOk result (IsFound dim commands records.now)) }
+) -> Result<Found, ReadFault>
+    ensures reads { ReadsOnly (state_of S.Store tables.old) (state_of S.Store tables.new) result }
+    ensures found { Finds (state_of S.Store tables.old) (state_of S.Store tables.new) (λ limits commands. (c : Accepted) → IsAccepted limits (commands ++ c ∷ []) → c.content ≡ Describes dim records.now → IfOk result (IsFound dim commands records.now)) }
     ensures few { IfOk result (λ found. (found.given.members ≤ 9999999) × (found.given.anchors ≤ 9999999)) }
 {
     let naturals = naturals_told(alloc, records)?;
@@ -243,9 +243,9 @@ pub fn plan_batch<S: Alter>(
     dim: Dim,
     command: CommandRow,
     records: &[DimensionRecord],
-) -> Result<Edits, ReadError<Refusal>>
-    ensures reads { ReadsOnly S.Store tables.old tables.new result }
-    ensures edits { Finds S.Store tables.old tables.new (λ limits commands. (c : Accepted) → IsAccepted limits (commands ++ c ∷ []) → c.content ≡ Describes dim records.now → policy_after None commands ≡ Some policy.now → IsSound policy.now → command_at (commands ++ c ∷ []) (suc (length commands)) ≡ Some command → IfOk result (AreEdits commands c)) }
+) -> Result<Edits, ReadFault>
+    ensures reads { ReadsOnly (state_of S.Store tables.old) (state_of S.Store tables.new) result }
+    ensures edits { Finds (state_of S.Store tables.old) (state_of S.Store tables.new) (λ limits commands. (c : Accepted) → IsAccepted limits (commands ++ c ∷ []) → c.content ≡ Describes dim records.now → policy_after None commands ≡ Some policy.now → IsSound policy.now → command_at (commands ++ c ∷ []) (suc (length commands)) ≡ Some command → IfOk result (AreEdits commands c)) }
 {
     let found = read_touched(tables, alloc, dim, records)?;
     let given = found.given;

@@ -12,19 +12,20 @@ ghost use Rattle.wh_history.specs.Known.{number_in, numbered_from, KnowsEnough};
 ghost use Rattle.wh_history.specs.Slots.{texts_eq};
 ghost use Rattle.wh_history.specs.Touched.{touched_by};
 ghost use Rattle.wh_plan.specs.Learned.{with_combination, with_combinations, told_of, said_of, said_by, number_kept, numbered_as, learned, is_none, unknown, row_of_profile, IsLearned};
-ghost use Rattle.wh_plan.specs.Reads.{ReadsOnly, Finds, Tells};
+ghost use Rattle.wh_sql.specs.Reads.{ReadsOnly};
+ghost use Rattle.wh_store.specs.Reads.{state_of};
+ghost use Rattle.wh_store.specs.Reads.{state_of};
+ghost use Rattle.wh_plan.specs.Reads.{Finds, Tells};
 ghost use Rattle.wh_plan.specs.Sound.{IsAccepted};
 
-use crate::kept::asked;
 use crate::planning::six_texts;
 use sqlite::Alter;
 use std::alloc::{AllocError, Global};
-use wh_day::{ReadError, Values};
+use wh_day::Values;
 use wh_history::{Change, Member, Profiles, is_same_texts, profile_texts};
 use wh_policy::{AttributeType, Dim, DimensionRecord, Policy};
 use wh_rows::{ProfileRow, tables};
-use wh_sql::{Greatest, ProfileOf};
-use wh_store::{Refusal, Tables};
+use wh_store::{Greatest, ProfileOf, ReadFault, Tables};
 
 /// The number of the first combination; before it stand no card and unknown.
 const FIRST: u64 = 2;
@@ -126,12 +127,12 @@ fn number_kept<S: Alter>(
     tables: &mut Tables<S>,
     alloc: Global,
     texts: &Values,
-) -> Result<Option<u64>, ReadError<Refusal>>
-    ensures reads { ReadsOnly S.Store tables.old tables.new result }
-    ensures number { Tells S.Store tables.old tables.new result (λ t number. number ≡ number_kept t.profile texts.now) }
+) -> Result<Option<u64>, ReadFault>
+    ensures reads { ReadsOnly (state_of S.Store tables.old) (state_of S.Store tables.new) result }
+    ensures number { Tells (state_of S.Store tables.old) (state_of S.Store tables.new) result (λ t number. number ≡ number_kept t.profile texts.now) }
 {
     let question = ProfileOf { values: texts };
-    let rows = asked::<tables::Profile, ProfileOf<'_>, S>(tables, alloc, &question)?;
+    let rows = tables.ask::<tables::Profile, ProfileOf<'_>>(alloc, &question)?;
     Ok(number_among(&rows))
 }
 
@@ -155,9 +156,9 @@ fn looked_up<S: Alter>(
     tables: &mut Tables<S>,
     alloc: Global,
     combinations: &[Values],
-) -> Result<Profiles, ReadError<Refusal>>
-    ensures reads { ReadsOnly S.Store tables.old tables.new result }
-    ensures known { Tells S.Store tables.old tables.new result (λ t known. known ≡ learned (number_kept t.profile) combinations.now) }
+) -> Result<Profiles, ReadFault>
+    ensures reads { ReadsOnly (state_of S.Store tables.old) (state_of S.Store tables.new) result }
+    ensures known { Tells (state_of S.Store tables.old) (state_of S.Store tables.new) result (λ t known. known ≡ learned (number_kept t.profile) combinations.now) }
 {
     let mut known = Profiles::new(alloc);
     for texts in combinations {
@@ -216,15 +217,12 @@ fn add_fresh(
 }
 
 /// The greatest number of a profile.
-fn profiles_given<S: Alter>(
-    tables: &mut Tables<S>,
-    alloc: Global,
-) -> Result<u64, ReadError<Refusal>>
-    ensures reads { ReadsOnly S.Store tables.old tables.new result }
-    ensures given { Finds S.Store tables.old tables.new (λ _ commands. suc (length (profiles_of commands)) ≤ 9999999 → IfOk result (λ given. given ≡ suc (length (profiles_of commands)))) }
+fn profiles_given<S: Alter>(tables: &mut Tables<S>, alloc: Global) -> Result<u64, ReadFault>
+    ensures reads { ReadsOnly (state_of S.Store tables.old) (state_of S.Store tables.new) result }
+    ensures given { Finds (state_of S.Store tables.old) (state_of S.Store tables.new) (λ _ commands. suc (length (profiles_of commands)) ≤ 9999999 → IfOk result (λ given. given ≡ suc (length (profiles_of commands)))) }
     ensures few { IfOk result (λ given. given ≤ 9999999) }
 {
-    let mut found = asked::<tables::Profile, Greatest, S>(tables, alloc, &Greatest)?;
+    let mut found = tables.ask::<tables::Profile, Greatest>(alloc, &Greatest)?;
     match found.pop() {
         Some(row) => Ok(row.number.min(GREATEST)),
         None => Ok(0),
@@ -237,9 +235,9 @@ fn known_of_customers<S: Alter>(
     alloc: Global,
     policy: &Policy,
     members: &[Member],
-) -> Result<Profiles, ReadError<Refusal>>
-    ensures reads { ReadsOnly S.Store tables.old tables.new result }
-    ensures known { Tells S.Store tables.old tables.new result (λ t known. known ≡ learned (number_kept t.profile) (with_combinations [] (said_by (types_of policy.now Customer) members.now))) }
+) -> Result<Profiles, ReadFault>
+    ensures reads { ReadsOnly (state_of S.Store tables.old) (state_of S.Store tables.new) result }
+    ensures known { Tells (state_of S.Store tables.old) (state_of S.Store tables.new) result (λ t known. known ≡ learned (number_kept t.profile) (with_combinations [] (said_by (types_of policy.now Customer) members.now))) }
 {
     let types = policy.types(alloc, Dim::Customer)?;
     let mut combinations = Vec::new(alloc);
@@ -254,9 +252,9 @@ pub(crate) fn known_of<S: Alter>(
     policy: &Policy,
     dim: Dim,
     members: &[Member],
-) -> Result<Profiles, ReadError<Refusal>>
-    ensures reads { ReadsOnly S.Store tables.old tables.new result }
-    ensures enough { Finds S.Store tables.old tables.new (λ _ commands. policy_after None commands ≡ Some policy.now → IsSound policy.now → IfOk result (λ known. AllByRecursion (KnowsEnough dim (types_of policy.now dim) (number_in known) (profiles_of commands)) members.now)) }
+) -> Result<Profiles, ReadFault>
+    ensures reads { ReadsOnly (state_of S.Store tables.old) (state_of S.Store tables.new) result }
+    ensures enough { Finds (state_of S.Store tables.old) (state_of S.Store tables.new) (λ _ commands. policy_after None commands ≡ Some policy.now → IsSound policy.now → IfOk result (λ known. AllByRecursion (KnowsEnough dim (types_of policy.now dim) (number_in known) (profiles_of commands)) members.now)) }
 {
     match dim {
         Dim::Customer => known_of_customers(tables, alloc, policy, members),
@@ -285,9 +283,9 @@ fn learned_of_customers<S: Alter>(
     policy: &Policy,
     records: &[DimensionRecord],
     touched: &[Member],
-) -> Result<Learned, ReadError<Refusal>>
-    ensures reads { ReadsOnly S.Store tables.old tables.new result }
-    ensures learned { Finds S.Store tables.old tables.new (λ limits commands. (c : Accepted) → IsAccepted limits (commands ++ c ∷ []) → c.content ≡ Describes Customer records.now → policy_after None commands ≡ Some policy.now → IsSound policy.now → IfOk result (IsLearned Customer policy.now commands (commands ++ c ∷ []) touched.now)) }
+) -> Result<Learned, ReadFault>
+    ensures reads { ReadsOnly (state_of S.Store tables.old) (state_of S.Store tables.new) result }
+    ensures learned { Finds (state_of S.Store tables.old) (state_of S.Store tables.new) (λ limits commands. (c : Accepted) → IsAccepted limits (commands ++ c ∷ []) → c.content ≡ Describes Customer records.now → policy_after None commands ≡ Some policy.now → IsSound policy.now → IfOk result (IsLearned Customer policy.now commands (commands ++ c ∷ []) touched.now)) }
 {
     let types = policy.types(alloc, Dim::Customer)?;
     let told = combinations_told(alloc, &types, records)?;
@@ -307,9 +305,9 @@ pub(crate) fn learned_of<S: Alter>(
     dim: Dim,
     records: &[DimensionRecord],
     touched: &[Member],
-) -> Result<Learned, ReadError<Refusal>>
-    ensures reads { ReadsOnly S.Store tables.old tables.new result }
-    ensures learned { Finds S.Store tables.old tables.new (λ limits commands. (c : Accepted) → IsAccepted limits (commands ++ c ∷ []) → c.content ≡ Describes dim records.now → policy_after None commands ≡ Some policy.now → IsSound policy.now → IfOk result (IsLearned dim policy.now commands (commands ++ c ∷ []) touched.now)) }
+) -> Result<Learned, ReadFault>
+    ensures reads { ReadsOnly (state_of S.Store tables.old) (state_of S.Store tables.new) result }
+    ensures learned { Finds (state_of S.Store tables.old) (state_of S.Store tables.new) (λ limits commands. (c : Accepted) → IsAccepted limits (commands ++ c ∷ []) → c.content ≡ Describes dim records.now → policy_after None commands ≡ Some policy.now → IsSound policy.now → IfOk result (IsLearned dim policy.now commands (commands ++ c ∷ []) touched.now)) }
 {
     match dim {
         Dim::Customer => learned_of_customers(tables, alloc, policy, records, touched),

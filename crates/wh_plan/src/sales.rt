@@ -11,17 +11,19 @@ ghost use Rattle.wh_plan.specs.Kept.{HaveNoEmptyValue};
 ghost use Rattle.wh_plan.specs.Sound.{same_line};
 ghost use Rattle.wh_plan.specs.Mentioned.{IsSide};
 ghost use Rattle.wh_plan.specs.Planned.{AreEdits};
-ghost use Rattle.wh_plan.specs.Reads.{ReadsOnly, Finds};
+ghost use Rattle.wh_sql.specs.Reads.{ReadsOnly};
+ghost use Rattle.wh_store.specs.Reads.{state_of};
+ghost use Rattle.wh_store.specs.Reads.{state_of};
+ghost use Rattle.wh_plan.specs.Reads.{Finds};
 
 use crate::edits::Edits;
 use crate::keyed::facts_of;
 use crate::side::{Side, side_read};
 use sqlite::Alter;
 use std::alloc::{AllocError, Global};
-use wh_day::ReadError;
 use wh_policy::{Dim, Policy, SaleRecord};
 use wh_rows::CommandRow;
-use wh_store::{Refusal, Tables};
+use wh_store::{ReadFault, Tables};
 
 /// The edits of a batch of sales, by the sides of the three dimensions.
 fn edits_of_sales(
@@ -71,9 +73,9 @@ pub fn plan_sales<S: Alter>(
     policy: &Policy,
     command: CommandRow,
     sales: &[SaleRecord],
-) -> Result<Edits, ReadError<Refusal>>
-    ensures reads { ReadsOnly S.Store tables.old tables.new result }
-    ensures edits { Finds S.Store tables.old tables.new (λ _ commands. (c : Accepted) → HaveNoEmptyValue commands → ((dim : Dimension) → (length (members dim (commands ++ c ∷ [])) ≤ 9999999) × (length (anchors dim (commands ++ c ∷ [])) ≤ 9999999)) → c.content ≡ Sells sales.now → policy_after None commands ≡ Some policy.now → IsSound policy.now → AllByRecursion (λ s. fact_at commands (record { ticket = s.ticket; line = s.line }) ≡ None) sales.now → IsDistinct same_line sales.now → command_at (commands ++ c ∷ []) (suc (length commands)) ≡ Some (record command { placeholders = placeholders_by (commands ++ c ∷ []) (suc (length commands)) c.content }) → IfOk result (AreEdits commands c)) }
+) -> Result<Edits, ReadFault>
+    ensures reads { ReadsOnly (state_of S.Store tables.old) (state_of S.Store tables.new) result }
+    ensures edits { Finds (state_of S.Store tables.old) (state_of S.Store tables.new) (λ _ commands. (c : Accepted) → HaveNoEmptyValue commands → ((dim : Dimension) → (length (members dim (commands ++ c ∷ [])) ≤ 9999999) × (length (anchors dim (commands ++ c ∷ [])) ≤ 9999999)) → c.content ≡ Sells sales.now → policy_after None commands ≡ Some policy.now → IsSound policy.now → AllByRecursion (λ s. fact_at commands (record { ticket = s.ticket; line = s.line }) ≡ None) sales.now → IsDistinct same_line sales.now → command_at (commands ++ c ∷ []) (suc (length commands)) ≡ Some (record command { placeholders = placeholders_by (commands ++ c ∷ []) (suc (length commands)) c.content }) → IfOk result (AreEdits commands c)) }
 {
     let products = side_read(tables, alloc, policy, Dim::Product, sales)?;
     let stores = side_read(tables, alloc, policy, Dim::Store, sales)?;

@@ -14,7 +14,10 @@ ghost use Rattle.wh_plan.specs.Defined.{member_at};
 ghost use Rattle.wh_plan.specs.Kept.{HaveNoEmptyValue};
 ghost use Rattle.wh_plan.specs.Mentioned.{naturals_sold, with_natural, with_numbers, numbered, last_row, placeholder, IsSide};
 ghost use Rattle.wh_plan.specs.Planned.{behind};
-ghost use Rattle.wh_plan.specs.Reads.{ReadsOnly, Finds};
+ghost use Rattle.wh_sql.specs.Reads.{ReadsOnly};
+ghost use Rattle.wh_store.specs.Reads.{state_of};
+ghost use Rattle.wh_store.specs.Reads.{state_of};
+ghost use Rattle.wh_plan.specs.Reads.{Finds};
 
 use crate::kept::stored_member;
 use crate::keyed::{SaleKeys, keys_of_sales, member_of_sale};
@@ -25,11 +28,11 @@ use crate::stored::Given;
 use indexmap::IndexSet;
 use sqlite::Alter;
 use std::alloc::{AllocError, Global};
-use wh_day::{NaturalKey, ReadError, Value};
+use wh_day::{NaturalKey, Value};
 use wh_history::{DimRow, Edit, Member, Profiles, number_or_next, render_types};
 use wh_policy::{AttributeType, Dim, Policy, SaleRecord};
 use wh_rows::MemberRow;
-use wh_store::{Refusal, Tables};
+use wh_store::{ReadFault, Tables};
 
 /// Adds a natural key behind others, unless it is there.
 fn add_natural(
@@ -82,11 +85,11 @@ fn members_with_numbers<S: Alter>(
     dim: Dim,
     given: Given,
     naturals: &[Value],
-) -> Result<Vec<Member>, ReadError<Refusal>>
+) -> Result<Vec<Member>, ReadFault>
     requires members { given.members ≤ 9999999 }
     requires anchors { given.anchors ≤ 9999999 }
-    ensures reads { ReadsOnly S.Store tables.old tables.new result }
-    ensures members { Finds S.Store tables.old tables.new (λ _ commands. HaveNoEmptyValue commands → IfOk result (λ members. members.items ≡ numbered given.members given.anchors (map (member_of dim commands) naturals.now))) }
+    ensures reads { ReadsOnly (state_of S.Store tables.old) (state_of S.Store tables.new) result }
+    ensures members { Finds (state_of S.Store tables.old) (state_of S.Store tables.new) (λ _ commands. HaveNoEmptyValue commands → IfOk result (λ members. members.items ≡ numbered given.members given.anchors (map (member_of dim commands) naturals.now))) }
 {
     let mut members = given.members;
     let mut anchors = given.anchors;
@@ -178,9 +181,9 @@ pub(crate) fn side_read<S: Alter>(
     policy: &Policy,
     dim: Dim,
     sales: &[SaleRecord],
-) -> Result<Side, ReadError<Refusal>>
-    ensures reads { ReadsOnly S.Store tables.old tables.new result }
-    ensures side { Finds S.Store tables.old tables.new (λ _ commands. (c : Accepted) → HaveNoEmptyValue commands → length (members dim (commands ++ c ∷ [])) ≤ 9999999 → length (anchors dim (commands ++ c ∷ [])) ≤ 9999999 → c.content ≡ Sells sales.now → policy_after None commands ≡ Some policy.now → IsSound policy.now → IfOk result (IsSide dim commands (commands ++ c ∷ []) sales.now)) }
+) -> Result<Side, ReadFault>
+    ensures reads { ReadsOnly (state_of S.Store tables.old) (state_of S.Store tables.new) result }
+    ensures side { Finds (state_of S.Store tables.old) (state_of S.Store tables.new) (λ _ commands. (c : Accepted) → HaveNoEmptyValue commands → length (members dim (commands ++ c ∷ [])) ≤ 9999999 → length (anchors dim (commands ++ c ∷ [])) ≤ 9999999 → c.content ≡ Sells sales.now → policy_after None commands ≡ Some policy.now → IsSound policy.now → IfOk result (IsSide dim commands (commands ++ c ∷ []) sales.now)) }
     ensures many { IfOk result (λ side. length side.keys.items ≡ length sales.now) }
 {
     let naturals = naturals_sold(alloc, dim, sales)?;

@@ -18,7 +18,7 @@ use Rattle.wh_rows.specs.Making.{Extends, Leads}
 use Rattle.wh_rows.specs.AtRest.{Has as Holding, Leaves, IsWriting}
 use Rattle.wh_rows.proofs.Making.{extended, stores_none}
 use Rattle.wh_sql.specs.Present.{IsMaking}
-use Rattle.wh_sql.specs.Refusal.{bare}
+use Rattle.wh_sql.specs.Refused.{bare}
 
 -- the text is a write
 writes : (from : Schema) (text : List ℕ) (to : Schema) → Extends from text to → IsWrite (command_of (understood from text))

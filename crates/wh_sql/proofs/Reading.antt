@@ -5,7 +5,9 @@ use Rattle.std.specs.Option.{option_to_list}
 use Rattle.std.specs.FinMap.{FinMap, values, get}
 use Rattle.std.specs.Ordering.{eq_by_cmp}
 use Rattle.std.specs.Prelude.{Vec, MatchResult}
+use Rattle.wh_rows.specs.declared.cause.Cause.{Cause}
 use Rattle.wh_rows.specs.declared.cause.Cause.TheVariants.{Size}
+use Rattle.wh_rows.specs.declared.cause.Cause.TheVariants as causes
 use Rattle.std.specs.declared.alloc.Global.{Global}
 use Rattle.sqlite.specs.Order.{Row}
 use Rattle.sqlite.specs.Listing.{understood}
@@ -28,9 +30,9 @@ use Rattle.wh_rows.proofs.Edits.{filter_all}
 use Rattle.wh_rows.proofs.Maps.{filter-get}
 use Rattle.wh_rows.proofs.Queries.{query_keeps, query_commits_nothing}
 use Rattle.wh_rows.proofs.OnTables.{answer_is, first_is, greatest_is, valid_answer, valid_first, valid_among, read_is}
-use Rattle.wh_sql.specs.Refusal.{IsWhole, IsUndamaged, Shows, FailsToShow, FailsToCount, IsOfDamage}
-use Rattle.wh_sql.specs.declared.refusal.Refusal.{Refusal}
-use Rattle.wh_sql.specs.declared.refusal.Refusal.TheVariants.{Damaged, Store}
+use Rattle.wh_sql.specs.Reads.{ReadsOnly, SparesRows, IsServed, IsUndamaged, Shows, FailsToShow, FailsToCount, IsOfDamage, unasked}
+use Rattle.wh_sql.specs.declared.fault.ReadFault.{ReadFault}
+use Rattle.wh_sql.specs.declared.fault.ReadFault.TheVariants.{Memory, Damaged, Store}
 
 -- ---- a text that shows what is there
 
@@ -79,7 +81,7 @@ module _ {K V : Type 0} {layout : Layout K V} (name : Table) (named : table_of n
       IsPermutation-trans _ _ _ (IsPermutation-sym _ _ (IsPermutation-filter stands _ _ rows)) (shows_stored layout params stands keep text it old new answer is.schema shown)
 
   -- what is read is all of them, none damaged
-  pub reads_stored : (result : Result (Vec V Global) Refusal) → IfOk result (λ rows. Shows layout text params old new rows.items) → IfOk result (λ rows. AreRows layout (filter stands (stored name)) rows.items)
+  pub reads_stored : (result : Result (Vec V Global) ReadFault) → IfOk result (λ rows. Shows layout text params old new rows.items) → IfOk result (λ rows. AreRows layout (filter stands (stored name)) rows.items)
   reads_stored (Err refusal) shows = tt
   reads_stored (Ok rows) shows = record {
     same = answer_stored (map layout.encode rows.items) shows.1;
@@ -88,18 +90,40 @@ module _ {K V : Type 0} {layout : Layout K V} (name : Table) (named : table_of n
   }
 
   -- or one of them is damaged
-  pub finds_damage : {A : Type 0} (result : Result A Refusal) → IfErr result (FailsToShow layout name text params old new) → IfErr result (IsOfDamage layout name (filter stands (stored name)))
+  pub finds_damage : {A : Type 0} (result : Result A ReadFault) → IfErr result (FailsToShow layout name text params old new) → IfErr result (IsOfDamage layout name (filter stands (stored name)))
   finds_damage (Ok x) fails = tt
   finds_damage (Err (Damaged met)) fails = (fails.0, damage_again layout (filter stands (stored name)) fails.1 (answer_stored fails.1 fails.2) fails.3)
   finds_damage (Err (Store cause)) fails = tt
+  finds_damage (Err Memory) fails = tt
 
--- and nothing changed
-pub stored_whole : {K V : Type 0} (layout : Layout K V) (text : List ℕ) (params : Row) (plain : IsPlain (understood warehouse text)) (table : Table) (stored : Stored) (old new : State) → RestsOn stored old
-    → Survives old new (CommitsShowing text params old) → HasCleanDisk new → (result : Result (Vec V Global) Refusal)
-    → IfOk result (λ rows. Shows layout text params old new rows.items) → IfErr result (FailsToShow layout table text params old new) → IsWhole result → RestsOn stored new
-stored_whole layout text params plain table stored old new at survives clean (Ok rows) shows fails whole = still_stored text params plain stored old new at survives clean (map layout.encode rows.items) shows.1
-stored_whole layout text params plain table stored old new at survives clean (Err (Damaged which)) shows fails whole = still_stored text params plain stored old new at survives clean fails.1 fails.2
-stored_whole layout text params plain table stored old new at survives clean (Err (Store cause)) shows fails whole = absurd whole
+-- a text that only reads, whatever was made of what it showed
+pub reads_only : {A : Type 0} (text : List ℕ) (params : Row) (plain : IsPlain (understood warehouse text)) (old new : State) → Survives old new (CommitsShowing text params old) → (result : Result A ReadFault)
+    → (HasCleanDisk new → IsServed result → (answer : List Row) × Shown text params old new answer) → (HasCleanDisk new → (t : Tables) → IsAtRest (Some t) old → IsUndamaged result) → ReadsOnly old new result
+reads_only text params plain old new survives result shown sound = record {
+  clean = λ clean. omega (arith, survives.clean, clean);
+  sound = sound;
+  same = λ clean t at served. let told = shown clean served in still_rests text params plain t old new at survives clean told.0 told.1;
+  left = λ clean t at. leaves_same text params plain t old new at survives clean;
+  rests = λ clean stored at served. let told = shown clean served in still_stored text params plain stored old new at survives clean told.0 told.1;
+  leaves = λ clean stored at. leaves_stored text params plain stored old new at survives clean;
+}
+
+-- what wasn't asked met no row, and changes nothing
+no_row : (cause : Cause) → SparesRows (unasked cause)
+no_row causes.Memory = tt
+no_row causes.Disk = tt
+no_row causes.Size = tt
+no_row causes.Interrupted = tt
+
+not_asked : {A : Type 0} (s : State) (cause : Cause) → ReadsOnly {A = A} s s (Err (unasked cause))
+not_asked s cause = record { clean = λ clean. clean; sound = λ clean t at. no_row cause; same = λ clean t at served. at; left = λ clean t at. at.left; rests = λ clean stored at served. at; leaves = λ clean stored at. at.left }
+
+pub nothing_asked : {A : Type 0} (s : State) (cause : Cause) (result : Result A ReadFault) → result ≡ Err (unasked cause) → ReadsOnly s s result
+nothing_asked s cause result is = subst (ReadsOnly s s) (sym is) (not_asked s cause)
+
+-- the same fault, of another answer
+pub said_again : {A B : Type 0} {old new : State} {fault : ReadFault} → ReadsOnly {A = A} old new (Err fault) → ReadsOnly {A = B} old new (Err fault)
+said_again here = record { clean = here.clean; sound = here.sound; same = here.same; left = here.left; rests = here.rests; leaves = here.leaves }
 
 -- ---- a text that shows rows of one table
 
@@ -169,37 +193,31 @@ module _ {K V : Type 0} {layout : Layout K V} {rows : Tables → FinMap layout.o
 
 module _ {K V : Type 0} {layout : Layout K V} {text : List ℕ} {params : Row} {old new : State} {answers : Tables → List V → Type 0} (asked : IsAnswered layout text params old new answers) where
   -- what is read answers
-  pub rows_are : (result : Result (Vec V Global) Refusal) → IfOk result (λ rows. Shows layout text params old new rows.items) → (t : Tables) → Stores old.now t → IfOk result (λ rows. answers t rows.items)
+  pub rows_are : (result : Result (Vec V Global) ReadFault) → IfOk result (λ rows. Shows layout text params old new rows.items) → (t : Tables) → Stores old.now t → IfOk result (λ rows. answers t rows.items)
   rows_are (Err refusal) shows t stored = tt
   rows_are (Ok rows) shows t stored =
       let told = asked.shows (map layout.encode rows.items) t stored shows.1 in subst (answers t) (sym (asked.once (map layout.encode rows.items) rows.items told.0 shows.0 refl told.2 told.3)) told.1
 
   -- and no row is out of its type
-  pub undamaged : {A : Type 0} (result : Result A Refusal) (table : Table) → IfErr result (FailsToShow layout table text params old new) → (t : Tables) → Stores old.now t → IsUndamaged result
+  pub undamaged : {A : Type 0} (result : Result A ReadFault) (table : Table) → IfErr result (FailsToShow layout table text params old new) → (t : Tables) → Stores old.now t → IsUndamaged result
   undamaged (Ok x) table fails t stored = tt
   undamaged (Err (Damaged met)) table fails t stored = let told = asked.shows fails.1 t stored fails.2 in no_damage layout fails.1 told.0 told.2 (subst (IsPermutation fails.1) told.3 (IsPermutation-refl fails.1)) fails.3
   undamaged (Err (Store cause)) table fails t stored = tt
-
-  module _ (t : Tables) (at : IsAtRest (Some t) old) (survives : Survives old new (CommitsShowing text params old)) (clean : HasCleanDisk new) where
-    pub leaves_held : Leaves (Some t) new
-    leaves_held = leaves_same text params asked.plain t old new at survives clean
-
-    pub rests_whole : (result : Result (Vec V Global) Refusal) (table : Table) → IfOk result (λ rows. Shows layout text params old new rows.items) → IfErr result (FailsToShow layout table text params old new) → IsWhole result → IsAtRest (Some t) new
-    rests_whole (Ok rows) table shows fails whole = still_rests text params asked.plain t old new at survives clean (map layout.encode rows.items) shows.1
-    rests_whole (Err (Damaged which)) table shows fails whole = still_rests text params asked.plain t old new at survives clean fails.1 fails.2
-    rests_whole (Err (Store cause)) table shows fails whole = absurd whole
+  undamaged (Err Memory) table fails t stored = tt
 
 -- rows that are too many are no damage
-pub too_many : {A : Type 0} (P : A → Type 0) (rows : ℕ) (result : Result A Refusal) → MatchResult result P (λ refusal. (refusal ≡ Store Size) × (9223372036854775807 ≤ rows)) → IsUndamaged result
+pub too_many : {A : Type 0} (P : A → Type 0) (rows : ℕ) (result : Result A ReadFault) → MatchResult result P (λ refusal. (refusal ≡ Store Size) × (9223372036854775807 ≤ rows)) → IsUndamaged result
 too_many P rows (Ok x) told = tt
 too_many P rows (Err (Damaged table)) told = let never = told.0 in cc
 too_many P rows (Err (Store cause)) told = tt
+too_many P rows (Err Memory) told = tt
 
 -- and are why they aren't counted
-pub uncounted : {A : Type 0} (P : A → Type 0) (rows : ℕ) (text : List ℕ) (old new : State) (result : Result A Refusal) → MatchResult result P (λ refusal. (refusal ≡ Store Size) × (9223372036854775807 ≤ rows)) → IfErr result (FailsToCount rows text old new)
+pub uncounted : {A : Type 0} (P : A → Type 0) (rows : ℕ) (text : List ℕ) (old new : State) (result : Result A ReadFault) → MatchResult result P (λ refusal. (refusal ≡ Store Size) × (9223372036854775807 ≤ rows)) → IfErr result (FailsToCount rows text old new)
 uncounted P rows text old new (Ok x) told = tt
 uncounted P rows text old new (Err (Damaged table)) told = let never = told.0 in cc
-uncounted P rows text old new (Err (Store cause)) told = λ other. inl (let same = told.0 in cc, told.1)
+uncounted P rows text old new (Err (Store cause)) told = inl (let same = told.0 in cc, told.1)
+uncounted P rows text old new (Err Memory) told = let never = told.0 in cc
 
 -- the last of no row or one row is that row
 pub last_is : {V : Type 0} (found last : Option V) (items before : List V) (n : ℕ) → n ≡ length items → items ≡ option_to_list found → items ≡ before ++ option_to_list last → (IsSome last ↔ (0 < n)) → last ≡ found

@@ -1,3 +1,4 @@
-pub mod Refusal
+pub mod Refused
+pub mod Reads
 pub mod Present
 pub mod Asked

@@ -11,14 +11,12 @@ ghost use Rattle.wh_rows.specs.Types.{dim_number};
 ghost use Rattle.wh_rows.specs.Rows.{change};
 ghost use Rattle.wh_rows.proofs.Changes.{greatest_anchor_text};
 ghost use Rattle.wh_rows.specs.Firsts.{greatest as greatest_of};
-ghost use Rattle.wh_rows.specs.Tables.{Tables, Stores};
-ghost use Rattle.wh_rows.specs.AtRest.{IsAtRest, Leaves};
-ghost use Rattle.wh_sql.specs.Refusal.{IsWhole, IsUndamaged, FailsToShow};
+ghost use Rattle.wh_sql.specs.Reads.{ReadsOnly, SaysOfTables, IsUndamaged, FailsToShow};
 
+use crate::fault::ReadFault;
 use crate::keys::dim_key;
 use crate::question::Question;
 use crate::read::rows_shown;
-use crate::refusal::Refusal;
 use sqlite::types::ValueRef;
 use sqlite::{Alter, Connection};
 use std::alloc::Global;
@@ -193,12 +191,10 @@ pub fn greatest_anchor<S: Alter>(
     alloc: Global,
     conn: &mut Connection<S>,
     dim: Dim,
-) -> Result<u64, Refusal>
-    ensures clean { HasCleanDisk (state S.Store conn.new) → HasCleanDisk (state S.Store conn.old) }
-    ensures anchor { HasCleanDisk (state S.Store conn.new) → (t : Tables) → Stores (state S.Store conn.old).now t → IfOk result (λ anchor. anchor ≡ greatest_of (map (λ r. r.anchor) (filter (λ r. eq_by_cmp nat_cmp (dim_number dim) (dim_number r.dim)) (values t.change)))) }
-    ensures sound { HasCleanDisk (state S.Store conn.new) → (t : Tables) → Stores (state S.Store conn.old).now t → IsUndamaged result }
-    ensures same { HasCleanDisk (state S.Store conn.new) → (t : Tables) → IsAtRest (Some t) (state S.Store conn.old) → IsWhole result → IsAtRest (Some t) (state S.Store conn.new) }
-    ensures left { HasCleanDisk (state S.Store conn.new) → (t : Tables) → IsAtRest (Some t) (state S.Store conn.old) → Leaves (Some t) (state S.Store conn.new) }
+) -> Result<u64, ReadFault>
+    ensures reads { ReadsOnly (state S.Store conn.old) (state S.Store conn.new) result }
+    ensures anchor { SaysOfTables (state S.Store conn.old) (state S.Store conn.new) (λ t. IfOk result (λ anchor. anchor ≡ greatest_of (map (λ r. r.anchor) (filter (λ r. eq_by_cmp nat_cmp (dim_number dim) (dim_number r.dim)) (values t.change))))) }
+    ensures sound { SaysOfTables (state S.Store conn.old) (state S.Store conn.new) (λ _. IsUndamaged result) }
     ensures refused { HasCleanDisk (state S.Store conn.new) → IfErr result (FailsToShow change OfChange greatest_anchor_text (Number (pos (dim_number dim)) ∷ []) (state S.Store conn.old) (state S.Store conn.new)) }
 {
     let text = "SELECT * FROM change WHERE dim = ?1 ORDER BY anchor DESC LIMIT 1";

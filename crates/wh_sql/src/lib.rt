@@ -2,6 +2,7 @@
 #![tactic(auto)]
 
 mod dimension;
+mod fault;
 mod greatest;
 mod keeps;
 mod keys;
@@ -9,16 +10,15 @@ mod making;
 mod question;
 mod questions;
 mod read;
-mod refusal;
 mod tables;
 mod write;
 
 pub use dimension::Dimension;
+pub use fault::ReadFault;
 pub use greatest::{Greatest, GreatestOf, greatest_anchor};
 pub use keeps::Keeps;
 pub use making::{create, has_tables, has_taken_name};
 pub use question::{Question, ask};
 pub use questions::{CommandOf, MemberOf, ProfileOf, RecordsOf, RecordsOn, RowsOf, SalesSince};
 pub use read::{all, count, get};
-pub use refusal::Refusal;
 pub use write::{put, rekey, remove};

@@ -10,7 +10,7 @@ ghost use Rattle.wh_rows.specs.declared.cause.Cause.TheVariants.{Disk};
 ghost use Rattle.wh_rows.specs.Making.{Extends, Leads, making_texts};
 ghost use Rattle.wh_rows.specs.Tables.{no_tables};
 ghost use Rattle.wh_rows.specs.AtRest.{IsWriting, Leaves, IsCauseOf};
-ghost use Rattle.wh_sql.specs.Refusal.{IsOneRefused, bare};
+ghost use Rattle.wh_sql.specs.Refused.{IsOneRefused, bare};
 ghost use Rattle.wh_sql.specs.Present.{IsMaking, is_any_taken, has_columns, has_table, are_all_there};
 
 use sqlite::{Alter, Connection};

@@ -6,15 +6,18 @@ ghost use Rattle.sqlite_sql.specs.Aggregate.{count as number_of};
 ghost use Rattle.sqlite.specs.Held.{state};
 ghost use Rattle.sqlite.specs.Values.{bound};
 ghost use Rattle.sqlite.specs.State.{HasCleanDisk, Survives, CommitsShowing};
-ghost use Rattle.wh_rows.specs.Tables.{Tables, Stores};
-ghost use Rattle.wh_rows.specs.AtRest.{IsAtRest, Leaves};
-ghost use Rattle.wh_rows.specs.Raw.{Stored, IsStored, RestsOn, LeavesStored, AreRows, IsLastOf};
-ghost use Rattle.wh_sql.specs.Refusal.{IsWhole, IsUndamaged, IsOfDamage, Shows, FailsToShow, FailsToCount};
-ghost use Rattle.wh_sql.specs.declared.refusal.Refusal.TheVariants.{Damaged, Store};
+ghost use Rattle.wh_rows.specs.Tables.{Tables};
+ghost use Rattle.wh_rows.specs.AtRest.{IsAtRest};
+ghost use Rattle.wh_rows.specs.Schema.{warehouse};
+ghost use Rattle.sqlite.specs.Listing.{understood};
+ghost use Rattle.sqlite.proofs.Callers.{IsPlain};
+ghost use Rattle.wh_rows.specs.Raw.{AreRows, IsLastOf};
+ghost use Rattle.wh_sql.specs.Reads.{ReadsOnly, SaysOfTables, SaysOfStored, IsUndamaged, IsOfDamage, Shows, FailsToShow, FailsToCount};
+ghost use Rattle.wh_sql.specs.declared.fault.ReadFault.TheVariants.{Damaged, Store};
 ghost use Rattle.wh_rows.specs.declared.cause.Cause.TheVariants.{Size};
 
+use crate::fault::ReadFault;
 use crate::keeps::Keeps;
-use crate::refusal::Refusal;
 use sqlite::types::ValueRef;
 use sqlite::{Alter, Connection, Row};
 use std::alloc::Global;
@@ -27,19 +30,21 @@ pub(crate) fn rows_shown<T: Keeps, S: Alter>(
     conn: &mut Connection<S>,
     text: &str,
     params: &[ValueRef<'_>],
-) -> Result<Vec<T::Row>, Refusal>
+) -> Result<Vec<T::Row>, ReadFault>
     ensures shows { HasCleanDisk (state S.Store conn.new) → IfOk result (λ rows. Shows T.layout text.now (bound params.now) (state S.Store conn.old) (state S.Store conn.new) rows.items) }
     ensures refused { HasCleanDisk (state S.Store conn.new) → IfErr result (FailsToShow T.layout T.name text.now (bound params.now) (state S.Store conn.old) (state S.Store conn.new)) }
+    // Nothing is out of its type where that is known of what is stored.
+    ensures reads { IsPlain (understood warehouse text.now) → (HasCleanDisk (state S.Store conn.new) → (t : Tables) → IsAtRest (Some t) (state S.Store conn.old) → IsUndamaged result) → ReadsOnly (state S.Store conn.old) (state S.Store conn.new) result }
     ensures survives { Survives (state S.Store conn.old) (state S.Store conn.new) (CommitsShowing text.now (bound params.now) (state S.Store conn.old)) }
 {
     let shown = match conn.query_all(text, params) {
         Ok(shown) => shown,
-        Err(error) => return Err(Refusal::Store(Cause::from(error))),
+        Err(error) => return Err(ReadFault::Store(Cause::from(error))),
     };
     match read_all::<T>(alloc, &shown) {
         Ok(rows) => Ok(rows),
-        Err(ReadError::Memory) => Err(Refusal::Store(Cause::Memory)),
-        Err(ReadError::Fault(_)) => Err(Refusal::Damaged(T::table())),
+        Err(ReadError::Memory) => Err(ReadFault::Memory),
+        Err(ReadError::Fault(_)) => Err(ReadFault::Damaged(T::table())),
     }
 }
 
@@ -47,17 +52,13 @@ pub(crate) fn rows_shown<T: Keeps, S: Alter>(
 pub fn all<T: Keeps, S: Alter>(
     alloc: Global,
     conn: &mut Connection<S>,
-) -> Result<Vec<T::Row>, Refusal>
-    ensures clean { HasCleanDisk (state S.Store conn.new) → HasCleanDisk (state S.Store conn.old) }
-    ensures rows { HasCleanDisk (state S.Store conn.new) → (t : Tables) → Stores (state S.Store conn.old).now t → IfOk result (λ rows. rows.items ≡ values (T.rows t)) }
-    ensures sound { HasCleanDisk (state S.Store conn.new) → (t : Tables) → Stores (state S.Store conn.old).now t → IsUndamaged result }
-    ensures same { HasCleanDisk (state S.Store conn.new) → (t : Tables) → IsAtRest (Some t) (state S.Store conn.old) → IsWhole result → IsAtRest (Some t) (state S.Store conn.new) }
-    ensures left { HasCleanDisk (state S.Store conn.new) → (t : Tables) → IsAtRest (Some t) (state S.Store conn.old) → Leaves (Some t) (state S.Store conn.new) }
+) -> Result<Vec<T::Row>, ReadFault>
+    ensures reads { ReadsOnly (state S.Store conn.old) (state S.Store conn.new) result }
+    ensures rows { SaysOfTables (state S.Store conn.old) (state S.Store conn.new) (λ t. IfOk result (λ rows. rows.items ≡ values (T.rows t))) }
+    ensures sound { SaysOfTables (state S.Store conn.old) (state S.Store conn.new) (λ _. IsUndamaged result) }
     // The same of any rows, whoever wrote them: all that is stored is read, or a row of it is out of its type.
-    ensures stored { HasCleanDisk (state S.Store conn.new) → (stored : Stored) → IsStored stored (state S.Store conn.old).now → IfOk result (λ rows. AreRows T.layout (stored T.name) rows.items) }
-    ensures damaged { HasCleanDisk (state S.Store conn.new) → (stored : Stored) → IsStored stored (state S.Store conn.old).now → IfErr result (IsOfDamage T.layout T.name (stored T.name)) }
-    ensures rests { HasCleanDisk (state S.Store conn.new) → (stored : Stored) → RestsOn stored (state S.Store conn.old) → IsWhole result → RestsOn stored (state S.Store conn.new) }
-    ensures leaves { HasCleanDisk (state S.Store conn.new) → (stored : Stored) → RestsOn stored (state S.Store conn.old) → LeavesStored stored (state S.Store conn.new) }
+    ensures stored { SaysOfStored (state S.Store conn.old) (state S.Store conn.new) (λ stored. IfOk result (λ rows. AreRows T.layout (stored T.name) rows.items)) }
+    ensures damaged { SaysOfStored (state S.Store conn.old) (state S.Store conn.new) (λ stored. IfErr result (IsOfDamage T.layout T.name (stored T.name))) }
     ensures shows { HasCleanDisk (state S.Store conn.new) → IfOk result (λ rows. Shows T.layout T.all_means [] (state S.Store conn.old) (state S.Store conn.new) rows.items) }
     ensures refused { HasCleanDisk (state S.Store conn.new) → IfErr result (FailsToShow T.layout T.name T.all_means [] (state S.Store conn.old) (state S.Store conn.new)) }
 {
@@ -69,18 +70,14 @@ pub fn get<T: Keeps, S: Alter>(
     alloc: Global,
     conn: &mut Connection<S>,
     key: &T::Key,
-) -> Result<Option<T::Row>, Refusal>
-    ensures clean { HasCleanDisk (state S.Store conn.new) → HasCleanDisk (state S.Store conn.old) }
+) -> Result<Option<T::Row>, ReadFault>
+    ensures reads { ReadsOnly (state S.Store conn.old) (state S.Store conn.new) result }
     ensures counts { (state S.Store conn.old).faults ≤ (state S.Store conn.new).faults }
-    ensures row { HasCleanDisk (state S.Store conn.new) → (t : Tables) → Stores (state S.Store conn.old).now t → IfOk result (λ row. row ≡ get (T.rows t) key.now) }
-    ensures sound { HasCleanDisk (state S.Store conn.new) → (t : Tables) → Stores (state S.Store conn.old).now t → IsUndamaged result }
-    ensures same { HasCleanDisk (state S.Store conn.new) → (t : Tables) → IsAtRest (Some t) (state S.Store conn.old) → IsWhole result → IsAtRest (Some t) (state S.Store conn.new) }
-    ensures left { HasCleanDisk (state S.Store conn.new) → (t : Tables) → IsAtRest (Some t) (state S.Store conn.old) → Leaves (Some t) (state S.Store conn.new) }
+    ensures row { SaysOfTables (state S.Store conn.old) (state S.Store conn.new) (λ t. IfOk result (λ row. row ≡ get (T.rows t) key.now)) }
+    ensures sound { SaysOfTables (state S.Store conn.old) (state S.Store conn.new) (λ _. IsUndamaged result) }
     // The same of any rows, whoever wrote them: of those that are stored at the key.
-    ensures stored { HasCleanDisk (state S.Store conn.new) → (stored : Stored) → IsStored stored (state S.Store conn.old).now → IfOk result (IsLastOf T.layout (filter (T.stands_at key.now) (stored T.name))) }
-    ensures damaged { HasCleanDisk (state S.Store conn.new) → (stored : Stored) → IsStored stored (state S.Store conn.old).now → IfErr result (IsOfDamage T.layout T.name (filter (T.stands_at key.now) (stored T.name))) }
-    ensures rests { HasCleanDisk (state S.Store conn.new) → (stored : Stored) → RestsOn stored (state S.Store conn.old) → IsWhole result → RestsOn stored (state S.Store conn.new) }
-    ensures leaves { HasCleanDisk (state S.Store conn.new) → (stored : Stored) → RestsOn stored (state S.Store conn.old) → LeavesStored stored (state S.Store conn.new) }
+    ensures stored { SaysOfStored (state S.Store conn.old) (state S.Store conn.new) (λ stored. IfOk result (IsLastOf T.layout (filter (T.stands_at key.now) (stored T.name)))) }
+    ensures damaged { SaysOfStored (state S.Store conn.old) (state S.Store conn.new) (λ stored. IfErr result (IsOfDamage T.layout T.name (filter (T.stands_at key.now) (stored T.name)))) }
     ensures refused { HasCleanDisk (state S.Store conn.new) → (row : T.Row) → IsTrue (T.layout.is_valid row) → T.layout.key row ≡ key.now → IfErr result (FailsToShow T.layout T.name T.get_means (T.bind key.now) (state S.Store conn.old) (state S.Store conn.new)) }
 {
     let values = T::key(alloc, key)?;
@@ -89,31 +86,29 @@ pub fn get<T: Keeps, S: Alter>(
 }
 
 /// How many rows the table has. `Size`: more than the store counts.
-pub fn count<T: Keeps, S: Alter>(alloc: Global, conn: &mut Connection<S>) -> Result<u64, Refusal>
-    ensures clean { HasCleanDisk (state S.Store conn.new) → HasCleanDisk (state S.Store conn.old) }
-    ensures count { HasCleanDisk (state S.Store conn.new) → (t : Tables) → Stores (state S.Store conn.old).now t → IfOk result (λ count. count ≡ len (T.rows t)) }
-    ensures sound { HasCleanDisk (state S.Store conn.new) → (t : Tables) → Stores (state S.Store conn.old).now t → IsUndamaged result }
-    ensures same { HasCleanDisk (state S.Store conn.new) → (t : Tables) → IsAtRest (Some t) (state S.Store conn.old) → IsWhole result → IsAtRest (Some t) (state S.Store conn.new) }
-    ensures left { HasCleanDisk (state S.Store conn.new) → (t : Tables) → IsAtRest (Some t) (state S.Store conn.old) → Leaves (Some t) (state S.Store conn.new) }
-    ensures refused { HasCleanDisk (state S.Store conn.new) → (t : Tables) → Stores (state S.Store conn.old).now t → IfErr result (FailsToCount (len (T.rows t)) T.count_means (state S.Store conn.old) (state S.Store conn.new)) }
+pub fn count<T: Keeps, S: Alter>(alloc: Global, conn: &mut Connection<S>) -> Result<u64, ReadFault>
+    ensures reads { ReadsOnly (state S.Store conn.old) (state S.Store conn.new) result }
+    ensures count { SaysOfTables (state S.Store conn.old) (state S.Store conn.new) (λ t. IfOk result (λ count. count ≡ len (T.rows t))) }
+    ensures sound { SaysOfTables (state S.Store conn.old) (state S.Store conn.new) (λ _. IsUndamaged result) }
+    ensures refused { SaysOfTables (state S.Store conn.old) (state S.Store conn.new) (λ t. IfErr result (FailsToCount (len (T.rows t)) T.count_means (state S.Store conn.old) (state S.Store conn.new))) }
 {
     let shown = match conn.query_all(T::count_text(), &[]) {
         Ok(shown) => shown,
-        Err(error) => return Err(Refusal::Store(Cause::from(error))),
+        Err(error) => return Err(ReadFault::Store(Cause::from(error))),
     };
     count_shown(T::table(), &shown)
 }
 
 /// The number that a query shows in its only row. `Size`: the store counts no further.
-fn count_shown(table: Table, shown: &[Row]) -> Result<u64, Refusal>
+fn count_shown(table: Table, shown: &[Row]) -> Result<u64, ReadFault>
     ensures { (rows : ℕ) → shown.now ≡ (number_of rows ∷ []) ∷ [] → MatchResult result (λ count. count ≡ rows) (λ refusal. (refusal ≡ Store Size) × (9223372036854775807 ≤ rows)) }
 {
     let Some(row) = shown.first() else {
-        return Err(Refusal::Damaged(table));
+        return Err(ReadFault::Damaged(table));
     };
     match row.get_ref(0) {
-        Ok(ValueRef::Int(i64::MAX)) => Err(Refusal::Store(Cause::Size)),
+        Ok(ValueRef::Int(i64::MAX)) => Err(ReadFault::Store(Cause::Size)),
         Ok(ValueRef::Int(count)) if 0 <= count => Ok(count as u64),
-        _ => Err(Refusal::Damaged(table)),
+        _ => Err(ReadFault::Damaged(table)),
     }
 }

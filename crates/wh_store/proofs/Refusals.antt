@@ -17,9 +17,10 @@ use Rattle.wh_rows.specs.Rows.{meta, encode_meta}
 use Rattle.wh_rows.specs.Making.{making_texts}
 use Rattle.wh_rows.specs.AtRest.{IsCauseOf}
 use Rattle.wh_rows.proofs.Metas.{put_text, get_text}
-use Rattle.wh_sql.specs.Refusal.{FailsToShow, IsCauseOfQuery, IsOneRefused, bare}
-use Rattle.wh_sql.specs.declared.refusal.Refusal.{Refusal}
-use Rattle.wh_sql.specs.declared.refusal.Refusal.TheVariants.{Store}
+use Rattle.wh_sql.specs.Reads.{FailsToShow}
+use Rattle.wh_sql.specs.Refused.{IsCauseOfQuery, IsOneRefused, bare}
+use Rattle.wh_sql.specs.declared.fault.ReadFault.{ReadFault}
+use Rattle.wh_sql.specs.declared.fault.ReadFault.TheVariants.{Store}
 use Rattle.wh_store.specs.Meta.{limits_asked, rows_made, making}
 
 -- the item of a loop is one of the list
@@ -35,11 +36,11 @@ module _ {S : Type 0} (store : Ghosts S) (old before new : Held S) (since : (sta
   one_refused refuses statement_of xs x cause among refused = record { statement = statement_of x; among = mapped_has statement_of xs x among; before = before; since = since; refused = refused }
 
   -- a limit wasn't read
-  pub limit_unread : (name : List ℕ) (refusal : Refusal) (cause : Cause) → Has limits_asked (get_text, Text name ∷ []) → FailsToShow meta Meta get_text (Text name ∷ []) (state store before) (state store new) refusal
-      → refusal ≡ Store cause → cause ≢ Memory → IsOneRefused store IsCauseOfQuery limits_asked old new cause
-  limit_unread name refusal cause among fails is other =
+  pub limit_unread : (name : List ℕ) (refusal : ReadFault) (cause : Cause) → Has limits_asked (get_text, Text name ∷ []) → FailsToShow meta Meta get_text (Text name ∷ []) (state store before) (state store new) refusal
+      → refusal ≡ Store cause → IsOneRefused store IsCauseOfQuery limits_asked old new cause
+  limit_unread name refusal cause among fails is =
       let refused : FailsToShow meta Meta get_text (Text name ∷ []) (state store before) (state store new) (Store cause) = subst (FailsToShow meta Meta get_text (Text name ∷ []) (state store before) (state store new)) is fails in
-      record { statement = (get_text, Text name ∷ []); among = among; before = before; since = since; refused = refused other }
+      record { statement = (get_text, Text name ∷ []); among = among; before = before; since = since; refused = refused }
 
   -- a row of meta wasn't put
   pub row_refused : (limits : Limits) (row : MetaRow) (cause : Cause) → Has (rows_made limits) row → IsCauseOf put_text (encode_meta row) (state store before) (state store new) cause → IsOneRefused store IsCauseOf (making limits) old new cause

@@ -1,4 +1,6 @@
 pub mod Meta
+pub mod Reads
+pub mod Writes
 pub mod Opening
 pub mod Edits
 pub mod Beginning

@@ -10,7 +10,7 @@ use Rattle.wh_rows.specs.Tables.{Tables, no_tables}
 use Rattle.wh_rows.specs.Rows.{encode_meta}
 use Rattle.wh_rows.specs.Making.{making_texts}
 use Rattle.wh_rows.proofs.Metas.{put_text, get_text}
-use Rattle.wh_sql.specs.Refusal.{bare}
+use Rattle.wh_sql.specs.Refused.{bare}
 use Rattle.wh_store.specs.declared.fault.OpenFault.{OpenFault}
 use Rattle.wh_store.specs.declared.fault.OpenFault.TheVariants.{NotAWarehouse, OldFormat, NewFormat}
 

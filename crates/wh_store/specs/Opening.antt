@@ -1,22 +1,45 @@
 -- What opening a warehouse answers.
-use Rattle.std.specs.Prelude.{◌≡◌, ◌≢◌, [], ◌∷◌, Some, Ok, Err, codes}
+use Rattle.std.specs.Prelude.{◌≡◌, [], ◌∷◌, Result, Ok, Err, IfErr, ⊤, codes}
 use Rattle.sqlite_value.specs.declared.value.Value.TheVariants.{Text}
 use Rattle.sqlite.specs.State.{State}
-use Rattle.wh_rows.specs.declared.cause.Cause.TheVariants.{Memory}
 use Rattle.wh_rows.specs.Tables.{Tables}
-use Rattle.wh_rows.specs.AtRest.{IsAtRest}
 use Rattle.wh_rows.proofs.Metas.{get_text}
-use Rattle.wh_sql.specs.Refusal.{IsCauseOfQuery}
+use Rattle.wh_sql.specs.Refused.{IsCauseOfQuery}
+use Rattle.sqlite.specs.Held.{Held}
+use Rattle.wh_sql.specs.declared.fault.ReadFault.{ReadFault}
+use Rattle.wh_sql.specs.declared.fault.ReadFault.TheVariants as reading
+use Rattle.wh_store.specs.declared.tables.Tables.{Tables as Opened}
 use Rattle.wh_store.specs.declared.fault.OpenFault.{OpenFault}
-use Rattle.wh_store.specs.declared.fault.OpenFault.TheVariants.{Damaged, Store}
+use Rattle.wh_store.specs.declared.fault.OpenFault.TheVariants.{Memory, Damaged, Store}
 use Rattle.wh_store.specs.Meta.{number_in, fault_of}
 
 -- it is taken for a warehouse: the format is 1
 abbrev pub IsTaken : Tables → Type 0
 IsTaken t = fault_of (number_in t (codes "format")) ≡ Ok tt
 
--- It is refused with this fault: the store refused to show the format, or it is the format's fault and nothing changed. No row of a warehouse is damaged.
+-- why rows weren't read, as why a warehouse isn't opened
+abbrev pub unread : ReadFault → OpenFault
+unread reading.Memory = Memory
+unread (reading.Damaged table) = Damaged table
+unread (reading.Store cause) = Store cause
+
+-- the store refused nothing
+abbrev pub SparesStore : OpenFault → Type 0
+SparesStore (Store cause) = ⊥
+SparesStore fault = ⊤
+
+-- so the connection is as it was
+abbrev pub IsServed : {A : Type 0} → Result A OpenFault → Type 0
+IsServed result = IfErr result SparesStore
+
+-- It is refused with this fault: memory ran out; or the store refused to show the format; or it is the format's fault. No row of a warehouse is damaged.
 abbrev pub IsRefusedWith : Tables → State → State → OpenFault → Type 0
-IsRefusedWith t old new (Store cause) = cause ≢ Memory → IsCauseOfQuery get_text (Text (codes "format") ∷ []) old new cause
+IsRefusedWith t old new Memory = ⊤
+IsRefusedWith t old new (Store cause) = IsCauseOfQuery get_text (Text (codes "format") ∷ []) old new cause
 IsRefusedWith t old new (Damaged table) = ⊥
-IsRefusedWith t old new fault = (fault_of (number_in t (codes "format")) ≡ Err fault) × IsAtRest (Some t) new
+IsRefusedWith t old new fault = fault_of (number_in t (codes "format")) ≡ Err fault
+
+-- the connection that opening leaves
+abbrev pub connection_after : {S : Type 0} → Result (Opened S) (OpenFault × Held S) → Held S
+connection_after (Ok tables) = tables.conn
+connection_after (Err e) = e.1

@@ -1,18 +1,17 @@
 -- What meta tells, whoever wrote its rows.
-use Rattle.std.specs.Prelude.{◌≡◌, ◌⊎◌, ℕ, ℤ, codes, List, [], ◌∷◌, filter, Option, None, Result, Err}
+use Rattle.std.specs.Prelude.{◌≡◌, ◌⊎◌, ℕ, ℤ, codes, List, [], ◌∷◌, filter, Option, None, Result, Err, ⊤}
 use Rattle.sqlite.specs.Order.{Row}
-use Rattle.sqlite.specs.State.{State}
 use Rattle.sqlite_rules.specs.Lists.{Has}
 use Rattle.wh_rows.specs.Rows.{meta}
-use Rattle.wh_rows.specs.Raw.{Stored, RestsOn, HasDamage, IsLastOf}
+use Rattle.wh_rows.specs.Raw.{Stored, HasDamage, IsLastOf}
 use Rattle.wh_history.specs.Tables.{Limits}
 use Rattle.wh_rows.specs.declared.rows.MetaRow.{MetaRow}
 use Rattle.wh_rows.specs.declared.table.Table.TheVariants.{Meta}
 use Rattle.wh_rows.proofs.Metas.{stands_at}
-use Rattle.wh_sql.specs.declared.refusal.Refusal.{Refusal}
-use Rattle.wh_sql.specs.declared.refusal.Refusal.TheVariants as sql
+use Rattle.wh_sql.specs.declared.fault.ReadFault.{ReadFault}
+use Rattle.wh_sql.specs.declared.fault.ReadFault.TheVariants as sql
 use Rattle.wh_store.specs.declared.fault.OpenFault.{OpenFault}
-use Rattle.wh_store.specs.declared.fault.OpenFault.TheVariants.{Damaged, Store}
+use Rattle.wh_store.specs.declared.fault.OpenFault.TheVariants.{Memory, Damaged, Store}
 use Rattle.wh_store.specs.Meta.{number_of, limits_of_numbers, fault_of}
 
 -- the rows that are stored under a name
@@ -24,14 +23,15 @@ abbrev pub IsNumberIn : Stored → List ℕ → Option ℤ → Type 0
 IsNumberIn stored name number = (found : Option MetaRow) × IsLastOf meta (rows_named stored name) found × (number ≡ number_of found)
 
 -- what the format that is stored tells
-abbrev pub FormatIs : Stored → Result (Unit {0}) OpenFault → Type 0
+abbrev pub FormatIs : Stored → Result ⊤ OpenFault → Type 0
 FormatIs stored told = (format : Option ℤ) × IsNumberIn stored (codes "format") format × (fault_of format ≡ told)
 
--- It is refused with this fault: the store refused the call; or the row of the format is damaged, or the format is why, and nothing changed.
-abbrev pub IsRefusedOn : Stored → State → OpenFault → Type 0
-IsRefusedOn stored new (Store cause) = Unit {0}
-IsRefusedOn stored new (Damaged table) = ((table ≡ Meta) × HasDamage meta (rows_named stored (codes "format"))) × RestsOn stored new
-IsRefusedOn stored new fault = FormatIs stored (Err fault) × RestsOn stored new
+-- It is refused with this fault: memory ran out, or the store refused the call; or the row of the format is damaged; or the format is why.
+abbrev pub IsRefusedOn : Stored → OpenFault → Type 0
+IsRefusedOn stored Memory = ⊤
+IsRefusedOn stored (Store cause) = ⊤
+IsRefusedOn stored (Damaged table) = (table ≡ Meta) × HasDamage meta (rows_named stored (codes "format"))
+IsRefusedOn stored fault = FormatIs stored (Err fault)
 
 -- the limits that are stored, where the three numbers are there and good
 abbrev pub LimitsAre : Stored → Option Limits → Type 0
@@ -40,7 +40,8 @@ LimitsAre stored told =
     × (limits_of_numbers commands changes facts ≡ told)
 
 -- they are refused: one of the rows is damaged, or one is not there or not good
-abbrev pub IsLimitless : Stored → Refusal → Type 0
+abbrev pub IsLimitless : Stored → ReadFault → Type 0
 IsLimitless stored (sql.Damaged table) =
     (table ≡ Meta) × (LimitsAre stored None ⊎ ((name : List ℕ) × Has (codes "commands_max" ∷ codes "changes_max" ∷ codes "facts_max" ∷ []) name × HasDamage meta (rows_named stored name)))
-IsLimitless stored (sql.Store cause) = Unit {0}
+IsLimitless stored (sql.Store cause) = ⊤
+IsLimitless stored sql.Memory = ⊤

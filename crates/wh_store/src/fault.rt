@@ -1,6 +1,12 @@
 //! Why no tables were made or found.
 
+ghost use Rattle.std.specs.Prelude.{◌≡◌};
+ghost use Rattle.wh_store.specs.Opening.{unread};
+ghost use Rattle.wh_store.specs.declared.fault.OpenFault.TheVariants.{Memory};
+
+use std::alloc::{AllocError, AllocFailed};
 use wh_rows::{Cause, Table};
+use wh_sql::ReadFault;
 
 /// Why no tables can be made.
 #[derive(Clone, Copy, Debug, PartialEq, Eq)]
@@ -20,8 +26,38 @@ pub enum OpenFault {
     OldFormat,
     /// The format is above 1, which is the newest that this program knows.
     NewFormat,
-    /// A row that was read has a value out of its type.
+    /// A row that is needed isn't there, or has a value out of its type.
     Damaged(Table),
+    /// A growth was refused outside the store, and the store refused nothing.
+    Memory,
     /// The store refused a statement.
     Store(Cause),
+}
+
+impl From<AllocError> for OpenFault {
+    ghost from_gives = { λ _ fault. fault ≡ Memory };
+
+    fn from(_e: AllocError) -> OpenFault {
+        OpenFault::Memory
+    }
+}
+
+impl<T: Drop> From<AllocFailed<T>> for OpenFault {
+    ghost from_gives = { λ _ fault. fault ≡ Memory };
+
+    fn from(_e: AllocFailed<T>) -> OpenFault {
+        OpenFault::Memory
+    }
+}
+
+impl From<ReadFault> for OpenFault {
+    ghost from_gives = { λ why fault. fault ≡ unread why };
+
+    fn from(why: ReadFault) -> OpenFault {
+        match why {
+            ReadFault::Memory => OpenFault::Memory,
+            ReadFault::Damaged(table) => OpenFault::Damaged(table),
+            ReadFault::Store(cause) => OpenFault::Store(cause),
+        }
+    }
 }

@@ -12,5 +12,8 @@ pub use fault::{MakeFault, OpenFault};
 pub use reopen::{into_files, open_path, restart};
 pub use tables::Tables;
 pub use wh_rows::{Cause, Limits, Table};
-pub use wh_sql::{Dimension, Keeps, Question, Refusal};
+pub use wh_sql::{
+    CommandOf, Dimension, Greatest, GreatestOf, Keeps, MemberOf, ProfileOf, Question, ReadFault,
+    RecordsOf, RowsOf, SalesSince,
+};
 pub use writing::Writing;

@@ -10,14 +10,11 @@ ghost use Rattle.wh_rows.specs.declared.cause.Cause.TheVariants.{Memory};
 ghost use Rattle.wh_rows.specs.Types.{is_number};
 ghost use Rattle.wh_rows.specs.Rows.{meta};
 ghost use Rattle.wh_rows.proofs.Metas.{get_text};
-ghost use Rattle.wh_rows.specs.AtRest.{IsAtRest, Leaves};
-ghost use Rattle.wh_rows.specs.Tables.{Tables};
-ghost use Rattle.wh_rows.specs.Raw.{Stored, RestsOn, LeavesStored};
 ghost use Rattle.wh_store.specs.Raw.{rows_named, IsNumberIn, FormatIs, IsRefusedOn};
-ghost use Rattle.wh_sql.specs.Refusal.{IsWhole, IsUndamaged, IsOfDamage, FailsToShow};
-ghost use Rattle.wh_sql.specs.declared.refusal.Refusal.TheVariants.{Damaged};
+ghost use Rattle.wh_sql.specs.Reads.{ReadsOnly, Spares, IsOfDamage, FailsToShow};
+ghost use Rattle.wh_store.specs.Reads.{SaysAtRest, SaysAsStored};
 ghost use Rattle.wh_store.specs.Meta.{number_in, limits_of_numbers};
-ghost use Rattle.wh_store.specs.Opening.{IsTaken, IsRefusedWith};
+ghost use Rattle.wh_store.specs.Opening.{IsServed, IsTaken, IsRefusedWith};
 
 use crate::fault::OpenFault;
 use sqlite::{Alter, Connection};
@@ -25,30 +22,25 @@ use std::alloc::Global;
 use wh_day::Value;
 use wh_rows::tables::Meta;
 use wh_rows::{Cause, Limits, MetaRow, Table};
-use wh_sql::{Refusal, get};
+use wh_sql::{ReadFault, get};
 
 /// The number under a name, if there is one.
 pub(crate) fn number<S: Alter>(
     alloc: Global,
     conn: &mut Connection<S>,
     name: &str,
-) -> Result<Option<i64>, Refusal>
-    ensures clean { HasCleanDisk (state S.Store conn.new) → HasCleanDisk (state S.Store conn.old) }
+) -> Result<Option<i64>, ReadFault>
+    ensures reads { ReadsOnly (state S.Store conn.old) (state S.Store conn.new) result }
     ensures counts { (state S.Store conn.old).faults ≤ (state S.Store conn.new).faults }
-    ensures number { HasCleanDisk (state S.Store conn.new) → (t : Tables) → IsAtRest (Some t) (state S.Store conn.old) → IfOk result (λ number. number ≡ number_in t name.now) }
-    ensures sound { HasCleanDisk (state S.Store conn.new) → (t : Tables) → IsAtRest (Some t) (state S.Store conn.old) → IsUndamaged result }
-    ensures same { HasCleanDisk (state S.Store conn.new) → (t : Tables) → IsAtRest (Some t) (state S.Store conn.old) → IsWhole result → IsAtRest (Some t) (state S.Store conn.new) }
-    ensures left { HasCleanDisk (state S.Store conn.new) → (t : Tables) → IsAtRest (Some t) (state S.Store conn.old) → Leaves (Some t) (state S.Store conn.new) }
+    ensures number { SaysAtRest (state S.Store conn.old) (state S.Store conn.new) (λ t. IfOk result (λ number. number ≡ number_in t name.now)) }
     // The same of any rows, whoever wrote them: of those under the name.
-    ensures stored { HasCleanDisk (state S.Store conn.new) → (stored : Stored) → RestsOn stored (state S.Store conn.old) → IfOk result (IsNumberIn stored name.now) }
-    ensures damaged { HasCleanDisk (state S.Store conn.new) → (stored : Stored) → RestsOn stored (state S.Store conn.old) → IfErr result (IsOfDamage meta OfMeta (rows_named stored name.now)) }
-    ensures rests { HasCleanDisk (state S.Store conn.new) → (stored : Stored) → RestsOn stored (state S.Store conn.old) → IsWhole result → RestsOn stored (state S.Store conn.new) }
-    ensures leaves { HasCleanDisk (state S.Store conn.new) → (stored : Stored) → RestsOn stored (state S.Store conn.old) → LeavesStored stored (state S.Store conn.new) }
+    ensures stored { SaysAsStored (state S.Store conn.old) (state S.Store conn.new) (λ stored. IfOk result (IsNumberIn stored name.now)) }
+    ensures damaged { SaysAsStored (state S.Store conn.old) (state S.Store conn.new) (λ stored. IfErr result (IsOfDamage meta OfMeta (rows_named stored name.now))) }
     ensures unread { HasCleanDisk (state S.Store conn.new) → IfErr result (FailsToShow meta OfMeta get_text (Text name.now ∷ []) (state S.Store conn.old) (state S.Store conn.new)) }
 {
     let name = match Value::new(alloc, name) {
         Ok(name) => name,
-        Err(_) => return Err(Refusal::Store(Cause::Memory)),
+        Err(_) => return Err(ReadFault::Memory),
     };
     match get::<Meta, S>(alloc, conn, &name) {
         Ok(Some(row)) => Ok(Some(row.value)),
@@ -62,22 +54,21 @@ pub(crate) fn check_format<S: Alter>(
     alloc: Global,
     conn: &mut Connection<S>,
 ) -> Result<(), OpenFault>
-    ensures clean { HasCleanDisk (state S.Store conn.new) → HasCleanDisk (state S.Store conn.old) }
-    ensures taken { HasCleanDisk (state S.Store conn.new) → (t : Tables) → IsAtRest (Some t) (state S.Store conn.old) → OnOk result (IsTaken t × IsAtRest (Some t) (state S.Store conn.new)) }
-    ensures refused { HasCleanDisk (state S.Store conn.new) → (t : Tables) → IsAtRest (Some t) (state S.Store conn.old) → IfErr result (IsRefusedWith t (state S.Store conn.old) (state S.Store conn.new)) }
-    ensures left { HasCleanDisk (state S.Store conn.new) → (t : Tables) → IsAtRest (Some t) (state S.Store conn.old) → Leaves (Some t) (state S.Store conn.new) }
+    ensures reads { Spares (state S.Store conn.old) (state S.Store conn.new) (IsServed result) }
+    ensures taken { SaysAtRest (state S.Store conn.old) (state S.Store conn.new) (λ t. OnOk result (IsTaken t)) }
+    ensures refused { SaysAtRest (state S.Store conn.old) (state S.Store conn.new) (λ t. IfErr result (IsRefusedWith t (state S.Store conn.old) (state S.Store conn.new))) }
     // The same of any rows, whoever wrote them: by those of the format.
-    ensures taken_stored { HasCleanDisk (state S.Store conn.new) → (stored : Stored) → RestsOn stored (state S.Store conn.old) → OnOk result (FormatIs stored (Ok tt) × RestsOn stored (state S.Store conn.new)) }
-    ensures refused_stored { HasCleanDisk (state S.Store conn.new) → (stored : Stored) → RestsOn stored (state S.Store conn.old) → IfErr result (IsRefusedOn stored (state S.Store conn.new)) }
-    ensures leaves { HasCleanDisk (state S.Store conn.new) → (stored : Stored) → RestsOn stored (state S.Store conn.old) → LeavesStored stored (state S.Store conn.new) }
+    ensures taken_stored { SaysAsStored (state S.Store conn.old) (state S.Store conn.new) (λ stored. OnOk result (FormatIs stored (Ok tt))) }
+    ensures refused_stored { SaysAsStored (state S.Store conn.old) (state S.Store conn.new) (λ stored. IfErr result (IsRefusedOn stored)) }
 {
     match number(alloc, conn, "format") {
         Ok(None) => Err(OpenFault::NotAWarehouse),
         Ok(Some(format)) if format < 1 => Err(OpenFault::OldFormat),
         Ok(Some(format)) if format > 1 => Err(OpenFault::NewFormat),
         Ok(Some(_)) => Ok(()),
-        Err(Refusal::Damaged(table)) => Err(OpenFault::Damaged(table)),
-        Err(Refusal::Store(cause)) => Err(OpenFault::Store(cause)),
+        Err(ReadFault::Memory) => Err(OpenFault::Memory),
+        Err(ReadFault::Damaged(table)) => Err(OpenFault::Damaged(table)),
+        Err(ReadFault::Store(cause)) => Err(OpenFault::Store(cause)),
     }
 }
 

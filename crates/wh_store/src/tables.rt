@@ -1,6 +1,6 @@
 //! The tables over one connection.
 
-ghost use Rattle.std.specs.Prelude.{◌≡◌, ◌≢◌, ◌⊎◌, [], ◌∷◌, pos, true, false, map, filter, Ok, Err, Some, None, Option, IsTrue, IfOk, IfErr};
+ghost use Rattle.std.specs.Prelude.{◌≡◌, ◌≢◌, ◌⊎◌, [], ◌∷◌, pos, true, false, map, filter, Ok, Err, Some, None, Option, IsTrue, IfOk, IfErr, OnOk};
 ghost use Rattle.std.specs.Borrow.{sem, RestsIfErr};
 ghost use Rattle.std.specs.FinMap.{values, get, len};
 ghost use Rattle.sqlite_value.specs.declared.value.Value.TheVariants.{Int as Number};
@@ -18,11 +18,13 @@ ghost use Rattle.std.specs.Ordering.{eq_by_cmp, nat_cmp};
 ghost use Rattle.wh_rows.specs.Types.{dim_number};
 ghost use Rattle.wh_rows.specs.Firsts.{part, greatest as greatest_of};
 ghost use Rattle.wh_rows.specs.Raw.{Stored, RestsOn, LeavesStored, AreRows, IsLastOf};
-ghost use Rattle.wh_sql.specs.Refusal.{IsWhole, IsUndamaged, IsOfDamage, FailsToShow, FailsToCount, IsCauseOfQuery, IsOneRefused};
+ghost use Rattle.wh_sql.specs.Reads.{ReadsOnly, Spares, IsServed, IsOfDamage, FailsToShow, FailsToCount};
+ghost use Rattle.wh_sql.specs.Refused.{IsCauseOfQuery, IsOneRefused};
+ghost use Rattle.wh_store.specs.Reads.{state_of, SaysAtRest, SaysAsStored};
 ghost use Rattle.wh_sql.specs.Present.{is_any_taken, are_all_there};
-ghost use Rattle.wh_sql.specs.declared.refusal.Refusal.TheVariants.{Damaged, Store as Refused};
+ghost use Rattle.wh_sql.specs.declared.fault.ReadFault.TheVariants.{Damaged, Store as Refused};
 ghost use Rattle.wh_store.specs.Meta.{limits_in, limits_asked};
-ghost use Rattle.wh_store.specs.Opening.{IsTaken, IsRefusedWith};
+ghost use Rattle.wh_store.specs.Opening.{SparesStore, IsTaken, IsRefusedWith, connection_after};
 ghost use Rattle.wh_store.specs.Raw.{FormatIs, IsRefusedOn, LimitsAre, IsLimitless};
 ghost use Rattle.wh_store.specs.Beginning.{FailsToBegin};
 
@@ -35,7 +37,7 @@ use std::alloc::Global;
 use wh_policy::Dim;
 use wh_rows::{Cause, Limits, Table};
 use wh_sql::{
-    Keeps, Question, Refusal, all, ask, count, get, greatest_anchor, has_tables, has_taken_name,
+    Keeps, Question, ReadFault, all, ask, count, get, greatest_anchor, has_tables, has_taken_name,
 };
 
 /// The ten tables over one connection.
@@ -52,6 +54,7 @@ impl<S: Alter> Tables<S> {
         ensures same { IfOk result (λ tables. tables.conn ≡ conn) }
         ensures back { IfErr result (λ e. e.1 ≡ conn) }
         ensures free { IfOk result (λ tables. is_any_taken (state S.Store conn).now.schema ≡ false) }
+        ensures outside { IfOk result (λ _. conn.in_transaction ≡ false) }
         ensures taken { IfErr result (λ e. ((e.0 ≡ MakeFault.NotEmpty) × (is_any_taken (state S.Store conn).now.schema ≡ true)) ⊎ ((e.0 ≡ MakeFault.Store Cause.Disk) × IsTrue conn.in_transaction)) }
     {
         if !conn.is_autocommit() {
@@ -68,14 +71,12 @@ impl<S: Alter> Tables<S> {
         alloc: Global,
         mut conn: Connection<S>,
     ) -> Result<Tables<S>, (OpenFault, Connection<S>)>
-        ensures clean { IfOk result (λ tables. HasCleanDisk (state S.Store tables.conn) → HasCleanDisk (state S.Store conn)) }
-        ensures taken { IfOk result (λ tables. HasCleanDisk (state S.Store tables.conn) → (t : Rows) → IsAtRest (Some t) (state S.Store conn) → IsTaken t × IsAtRest (Some t) (state S.Store tables.conn)) }
-        ensures refused { IfErr result (λ e. HasCleanDisk (state S.Store e.1) → (t : Rows) → IsAtRest (Some t) (state S.Store conn) → are_all_there (state S.Store conn).now.schema ≡ true → IsRefusedWith t (state S.Store conn) (state S.Store e.1) e.0) }
-        ensures left { IfErr result (λ e. HasCleanDisk (state S.Store e.1) → (t : Rows) → IsAtRest (Some t) (state S.Store conn) → Leaves (Some t) (state S.Store e.1)) }
+        ensures reads { Spares (state S.Store conn) (state S.Store (connection_after result)) (IfErr result (λ e. SparesStore e.0)) }
+        ensures taken { SaysAtRest (state S.Store conn) (state S.Store (connection_after result)) (λ t. OnOk result (IsTaken t)) }
+        ensures refused { SaysAtRest (state S.Store conn) (state S.Store (connection_after result)) (λ t. are_all_there (state S.Store conn).now.schema ≡ true → IfErr result (λ e. IsRefusedWith t (state S.Store conn) (state S.Store e.1) e.0)) }
         // The same of any rows, whoever wrote them: by those of the format.
-        ensures taken_stored { IfOk result (λ tables. HasCleanDisk (state S.Store tables.conn) → (stored : Stored) → RestsOn stored (state S.Store conn) → FormatIs stored (Ok tt) × RestsOn stored (state S.Store tables.conn)) }
-        ensures refused_stored { IfErr result (λ e. HasCleanDisk (state S.Store e.1) → (stored : Stored) → RestsOn stored (state S.Store conn) → are_all_there (state S.Store conn).now.schema ≡ true → IsRefusedOn stored (state S.Store e.1) e.0) }
-        ensures leaves { IfErr result (λ e. HasCleanDisk (state S.Store e.1) → (stored : Stored) → RestsOn stored (state S.Store conn) → LeavesStored stored (state S.Store e.1)) }
+        ensures taken_stored { SaysAsStored (state S.Store conn) (state S.Store (connection_after result)) (λ stored. OnOk result (FormatIs stored (Ok tt))) }
+        ensures refused_stored { SaysAsStored (state S.Store conn) (state S.Store (connection_after result)) (λ stored. are_all_there (state S.Store conn).now.schema ≡ true → IfErr result (λ e. IsRefusedOn stored e.0)) }
         ensures missing { conn.in_transaction ≡ false → are_all_there (state S.Store conn).now.schema ≡ false → result ≡ Err (OpenFault.NotAWarehouse, conn) }
     {
         if !conn.is_autocommit() {
@@ -91,70 +92,57 @@ impl<S: Alter> Tables<S> {
     }
 
     /// The limits that were chosen at the making. Damaged is meta where one of the three isn't there or isn't good.
-    pub fn limits(&mut self, alloc: Global) -> Result<Limits, Refusal>
-        ensures clean { HasCleanDisk (state S.Store self.new.conn) → HasCleanDisk (state S.Store self.old.conn) }
-        ensures limits { HasCleanDisk (state S.Store self.new.conn) → (t : Rows) → IsAtRest (Some t) (state S.Store self.old.conn) → IfOk result (λ limits. limits_in t ≡ Some limits) }
-        ensures damaged { HasCleanDisk (state S.Store self.new.conn) → (t : Rows) → IsAtRest (Some t) (state S.Store self.old.conn) → (table : Table) → result ≡ Err (Damaged table) → (table ≡ Table.Meta) × (limits_in t ≡ None) }
-        ensures same { HasCleanDisk (state S.Store self.new.conn) → (t : Rows) → IsAtRest (Some t) (state S.Store self.old.conn) → IsWhole result → IsAtRest (Some t) (state S.Store self.new.conn) }
-        ensures left { HasCleanDisk (state S.Store self.new.conn) → (t : Rows) → IsAtRest (Some t) (state S.Store self.old.conn) → Leaves (Some t) (state S.Store self.new.conn) }
+    pub fn limits(&mut self, alloc: Global) -> Result<Limits, ReadFault>
+        ensures reads { Spares (state_of S.Store self.old) (state_of S.Store self.new) (IsServed result) }
+        ensures limits { SaysAtRest (state_of S.Store self.old) (state_of S.Store self.new) (λ t. IfOk result (λ limits. limits_in t ≡ Some limits)) }
+        ensures damaged { SaysAtRest (state_of S.Store self.old) (state_of S.Store self.new) (λ t. (table : Table) → result ≡ Err (Damaged table) → (table ≡ Table.Meta) × (limits_in t ≡ None)) }
         // The same of any rows, whoever wrote them: by those of the three names.
-        ensures stored { HasCleanDisk (state S.Store self.new.conn) → (stored : Stored) → RestsOn stored (state S.Store self.old.conn) → IfOk result (λ limits. LimitsAre stored (Some limits)) }
-        ensures limitless { HasCleanDisk (state S.Store self.new.conn) → (stored : Stored) → RestsOn stored (state S.Store self.old.conn) → IfErr result (IsLimitless stored) }
-        ensures rests { HasCleanDisk (state S.Store self.new.conn) → (stored : Stored) → RestsOn stored (state S.Store self.old.conn) → IsWhole result → RestsOn stored (state S.Store self.new.conn) }
-        ensures leaves { HasCleanDisk (state S.Store self.new.conn) → (stored : Stored) → RestsOn stored (state S.Store self.old.conn) → LeavesStored stored (state S.Store self.new.conn) }
-        ensures refused { HasCleanDisk (state S.Store self.new.conn) → (cause : Cause) → result ≡ Err (Refused cause) → cause ≢ Memory → IsOneRefused S.Store IsCauseOfQuery limits_asked self.old.conn self.new.conn cause }
+        ensures stored { SaysAsStored (state_of S.Store self.old) (state_of S.Store self.new) (λ stored. IfOk result (λ limits. LimitsAre stored (Some limits))) }
+        ensures limitless { SaysAsStored (state_of S.Store self.old) (state_of S.Store self.new) (λ stored. IfErr result (IsLimitless stored)) }
+        ensures refused { HasCleanDisk (state_of S.Store self.new) → (cause : Cause) → result ≡ Err (Refused cause) → IsOneRefused S.Store IsCauseOfQuery limits_asked self.old.conn self.new.conn cause }
     {
         let commands = meta::number(alloc, &mut self.conn, "commands_max")?;
         let changes = meta::number(alloc, &mut self.conn, "changes_max")?;
         let facts = meta::number(alloc, &mut self.conn, "facts_max")?;
         match meta::limits(commands, changes, facts) {
             Some(limits) => Ok(limits),
-            None => Err(Refusal::Damaged(Table::Meta)),
+            None => Err(ReadFault::Damaged(Table::Meta)),
         }
     }
 
     /// All rows of a table, in the order of their keys.
-    pub fn all<T: Keeps>(&mut self, alloc: Global) -> Result<Vec<T::Row>, Refusal>
-        ensures clean { HasCleanDisk (state S.Store self.new.conn) → HasCleanDisk (state S.Store self.old.conn) }
-        ensures rows { HasCleanDisk (state S.Store self.new.conn) → (t : Rows) → IsAtRest (Some t) (state S.Store self.old.conn) → IfOk result (λ rows. rows.items ≡ values (T.rows t)) }
-        ensures sound { HasCleanDisk (state S.Store self.new.conn) → (t : Rows) → IsAtRest (Some t) (state S.Store self.old.conn) → IsUndamaged result }
-        ensures same { HasCleanDisk (state S.Store self.new.conn) → (t : Rows) → IsAtRest (Some t) (state S.Store self.old.conn) → IsWhole result → IsAtRest (Some t) (state S.Store self.new.conn) }
-        ensures left { HasCleanDisk (state S.Store self.new.conn) → (t : Rows) → IsAtRest (Some t) (state S.Store self.old.conn) → Leaves (Some t) (state S.Store self.new.conn) }
+    pub fn all<T: Keeps>(&mut self, alloc: Global) -> Result<Vec<T::Row>, ReadFault>
+        ensures reads { ReadsOnly (state_of S.Store self.old) (state_of S.Store self.new) result }
+        ensures rows { SaysAtRest (state_of S.Store self.old) (state_of S.Store self.new) (λ t. IfOk result (λ rows. rows.items ≡ values (T.rows t))) }
         // The same of any rows, whoever wrote them: all that is stored is read, or a row of it is out of its type.
-        ensures stored { HasCleanDisk (state S.Store self.new.conn) → (stored : Stored) → RestsOn stored (state S.Store self.old.conn) → IfOk result (λ rows. AreRows T.layout (stored T.name) rows.items) }
-        ensures damaged { HasCleanDisk (state S.Store self.new.conn) → (stored : Stored) → RestsOn stored (state S.Store self.old.conn) → IfErr result (IsOfDamage T.layout T.name (stored T.name)) }
-        ensures rests { HasCleanDisk (state S.Store self.new.conn) → (stored : Stored) → RestsOn stored (state S.Store self.old.conn) → IsWhole result → RestsOn stored (state S.Store self.new.conn) }
-        ensures leaves { HasCleanDisk (state S.Store self.new.conn) → (stored : Stored) → RestsOn stored (state S.Store self.old.conn) → LeavesStored stored (state S.Store self.new.conn) }
-        ensures refused { HasCleanDisk (state S.Store self.new.conn) → IfErr result (FailsToShow T.layout T.name T.all_means [] (state S.Store self.old.conn) (state S.Store self.new.conn)) }
+        ensures stored { SaysAsStored (state_of S.Store self.old) (state_of S.Store self.new) (λ stored. IfOk result (λ rows. AreRows T.layout (stored T.name) rows.items)) }
+        ensures damaged { SaysAsStored (state_of S.Store self.old) (state_of S.Store self.new) (λ stored. IfErr result (IsOfDamage T.layout T.name (stored T.name))) }
+        ensures refused { HasCleanDisk (state_of S.Store self.new) → IfErr result (FailsToShow T.layout T.name T.all_means [] (state_of S.Store self.old) (state_of S.Store self.new)) }
     {
         all::<T, S>(alloc, &mut self.conn)
     }
 
     /// The row at a key, if one is there.
-    pub fn get<T: Keeps>(&mut self, alloc: Global, key: &T::Key) -> Result<Option<T::Row>, Refusal>
-        ensures clean { HasCleanDisk (state S.Store self.new.conn) → HasCleanDisk (state S.Store self.old.conn) }
-        ensures row { HasCleanDisk (state S.Store self.new.conn) → (t : Rows) → IsAtRest (Some t) (state S.Store self.old.conn) → IfOk result (λ row. row ≡ get (T.rows t) key.now) }
-        ensures sound { HasCleanDisk (state S.Store self.new.conn) → (t : Rows) → IsAtRest (Some t) (state S.Store self.old.conn) → IsUndamaged result }
-        ensures same { HasCleanDisk (state S.Store self.new.conn) → (t : Rows) → IsAtRest (Some t) (state S.Store self.old.conn) → IsWhole result → IsAtRest (Some t) (state S.Store self.new.conn) }
-        ensures left { HasCleanDisk (state S.Store self.new.conn) → (t : Rows) → IsAtRest (Some t) (state S.Store self.old.conn) → Leaves (Some t) (state S.Store self.new.conn) }
+    pub fn get<T: Keeps>(
+        &mut self,
+        alloc: Global,
+        key: &T::Key,
+    ) -> Result<Option<T::Row>, ReadFault>
+        ensures reads { ReadsOnly (state_of S.Store self.old) (state_of S.Store self.new) result }
+        ensures row { SaysAtRest (state_of S.Store self.old) (state_of S.Store self.new) (λ t. IfOk result (λ row. row ≡ get (T.rows t) key.now)) }
         // The same of any rows, whoever wrote them: of those that are stored at the key.
-        ensures stored { HasCleanDisk (state S.Store self.new.conn) → (stored : Stored) → RestsOn stored (state S.Store self.old.conn) → IfOk result (IsLastOf T.layout (filter (T.stands_at key.now) (stored T.name))) }
-        ensures damaged { HasCleanDisk (state S.Store self.new.conn) → (stored : Stored) → RestsOn stored (state S.Store self.old.conn) → IfErr result (IsOfDamage T.layout T.name (filter (T.stands_at key.now) (stored T.name))) }
-        ensures rests { HasCleanDisk (state S.Store self.new.conn) → (stored : Stored) → RestsOn stored (state S.Store self.old.conn) → IsWhole result → RestsOn stored (state S.Store self.new.conn) }
-        ensures leaves { HasCleanDisk (state S.Store self.new.conn) → (stored : Stored) → RestsOn stored (state S.Store self.old.conn) → LeavesStored stored (state S.Store self.new.conn) }
-        ensures refused { HasCleanDisk (state S.Store self.new.conn) → (row : T.Row) → IsTrue (T.layout.is_valid row) → T.layout.key row ≡ key.now → IfErr result (FailsToShow T.layout T.name T.get_means (T.bind key.now) (state S.Store self.old.conn) (state S.Store self.new.conn)) }
+        ensures stored { SaysAsStored (state_of S.Store self.old) (state_of S.Store self.new) (λ stored. IfOk result (IsLastOf T.layout (filter (T.stands_at key.now) (stored T.name)))) }
+        ensures damaged { SaysAsStored (state_of S.Store self.old) (state_of S.Store self.new) (λ stored. IfErr result (IsOfDamage T.layout T.name (filter (T.stands_at key.now) (stored T.name)))) }
+        ensures refused { HasCleanDisk (state_of S.Store self.new) → (row : T.Row) → IsTrue (T.layout.is_valid row) → T.layout.key row ≡ key.now → IfErr result (FailsToShow T.layout T.name T.get_means (T.bind key.now) (state_of S.Store self.old) (state_of S.Store self.new)) }
     {
         get::<T, S>(alloc, &mut self.conn, key)
     }
 
     /// How many rows a table has.
-    pub fn count<T: Keeps>(&mut self, alloc: Global) -> Result<u64, Refusal>
-        ensures clean { HasCleanDisk (state S.Store self.new.conn) → HasCleanDisk (state S.Store self.old.conn) }
-        ensures count { HasCleanDisk (state S.Store self.new.conn) → (t : Rows) → IsAtRest (Some t) (state S.Store self.old.conn) → IfOk result (λ count. count ≡ len (T.rows t)) }
-        ensures sound { HasCleanDisk (state S.Store self.new.conn) → (t : Rows) → IsAtRest (Some t) (state S.Store self.old.conn) → IsUndamaged result }
-        ensures same { HasCleanDisk (state S.Store self.new.conn) → (t : Rows) → IsAtRest (Some t) (state S.Store self.old.conn) → IsWhole result → IsAtRest (Some t) (state S.Store self.new.conn) }
-        ensures left { HasCleanDisk (state S.Store self.new.conn) → (t : Rows) → IsAtRest (Some t) (state S.Store self.old.conn) → Leaves (Some t) (state S.Store self.new.conn) }
-        ensures refused { HasCleanDisk (state S.Store self.new.conn) → (t : Rows) → IsAtRest (Some t) (state S.Store self.old.conn) → IfErr result (FailsToCount (len (T.rows t)) T.count_means (state S.Store self.old.conn) (state S.Store self.new.conn)) }
+    pub fn count<T: Keeps>(&mut self, alloc: Global) -> Result<u64, ReadFault>
+        ensures reads { ReadsOnly (state_of S.Store self.old) (state_of S.Store self.new) result }
+        ensures count { SaysAtRest (state_of S.Store self.old) (state_of S.Store self.new) (λ t. IfOk result (λ count. count ≡ len (T.rows t))) }
+        ensures refused { SaysAtRest (state_of S.Store self.old) (state_of S.Store self.new) (λ t. IfErr result (FailsToCount (len (T.rows t)) T.count_means (state_of S.Store self.old) (state_of S.Store self.new))) }
     {
         count::<T, S>(alloc, &mut self.conn)
     }
@@ -164,25 +152,19 @@ impl<S: Alter> Tables<S> {
         &mut self,
         alloc: Global,
         question: &Q,
-    ) -> Result<Vec<T::Row>, Refusal>
-        ensures clean { HasCleanDisk (state S.Store self.new.conn) → HasCleanDisk (state S.Store self.old.conn) }
-        ensures rows { HasCleanDisk (state S.Store self.new.conn) → (t : Rows) → IsAtRest (Some t) (state S.Store self.old.conn) → IfOk result (λ rows. rows.items ≡ part Q.front (filter (Q.keep question.now) (values (T.rows t)))) }
-        ensures sound { HasCleanDisk (state S.Store self.new.conn) → (t : Rows) → IsAtRest (Some t) (state S.Store self.old.conn) → IsUndamaged result }
-        ensures same { HasCleanDisk (state S.Store self.new.conn) → (t : Rows) → IsAtRest (Some t) (state S.Store self.old.conn) → IsWhole result → IsAtRest (Some t) (state S.Store self.new.conn) }
-        ensures left { HasCleanDisk (state S.Store self.new.conn) → (t : Rows) → IsAtRest (Some t) (state S.Store self.old.conn) → Leaves (Some t) (state S.Store self.new.conn) }
-        ensures refused { HasCleanDisk (state S.Store self.new.conn) → Q.can_be_asked question.now → IfErr result (FailsToShow T.layout T.name (Q.means question.now) (Q.bind question.now) (state S.Store self.old.conn) (state S.Store self.new.conn)) }
+    ) -> Result<Vec<T::Row>, ReadFault>
+        ensures reads { ReadsOnly (state_of S.Store self.old) (state_of S.Store self.new) result }
+        ensures rows { SaysAtRest (state_of S.Store self.old) (state_of S.Store self.new) (λ t. IfOk result (λ rows. rows.items ≡ part Q.front (filter (Q.keep question.now) (values (T.rows t))))) }
+        ensures refused { HasCleanDisk (state_of S.Store self.new) → Q.can_be_asked question.now → IfErr result (FailsToShow T.layout T.name (Q.means question.now) (Q.bind question.now) (state_of S.Store self.old) (state_of S.Store self.new)) }
     {
         ask::<T, Q, S>(alloc, &mut self.conn, question)
     }
 
     /// The greatest anchor among the accepted records of a dimension, 0 where there is none.
-    pub fn greatest_anchor(&mut self, alloc: Global, dim: Dim) -> Result<u64, Refusal>
-        ensures clean { HasCleanDisk (state S.Store self.new.conn) → HasCleanDisk (state S.Store self.old.conn) }
-        ensures anchor { HasCleanDisk (state S.Store self.new.conn) → (t : Rows) → IsAtRest (Some t) (state S.Store self.old.conn) → IfOk result (λ anchor. anchor ≡ greatest_of (map (λ r. r.anchor) (filter (λ r. eq_by_cmp nat_cmp (dim_number dim) (dim_number r.dim)) (values t.change)))) }
-        ensures sound { HasCleanDisk (state S.Store self.new.conn) → (t : Rows) → IsAtRest (Some t) (state S.Store self.old.conn) → IsUndamaged result }
-        ensures same { HasCleanDisk (state S.Store self.new.conn) → (t : Rows) → IsAtRest (Some t) (state S.Store self.old.conn) → IsWhole result → IsAtRest (Some t) (state S.Store self.new.conn) }
-        ensures left { HasCleanDisk (state S.Store self.new.conn) → (t : Rows) → IsAtRest (Some t) (state S.Store self.old.conn) → Leaves (Some t) (state S.Store self.new.conn) }
-        ensures refused { HasCleanDisk (state S.Store self.new.conn) → IfErr result (FailsToShow change OfChange greatest_anchor_text (Number (pos (dim_number dim)) ∷ []) (state S.Store self.old.conn) (state S.Store self.new.conn)) }
+    pub fn greatest_anchor(&mut self, alloc: Global, dim: Dim) -> Result<u64, ReadFault>
+        ensures reads { ReadsOnly (state_of S.Store self.old) (state_of S.Store self.new) result }
+        ensures anchor { SaysAtRest (state_of S.Store self.old) (state_of S.Store self.new) (λ t. IfOk result (λ anchor. anchor ≡ greatest_of (map (λ r. r.anchor) (filter (λ r. eq_by_cmp nat_cmp (dim_number dim) (dim_number r.dim)) (values t.change))))) }
+        ensures refused { HasCleanDisk (state_of S.Store self.new) → IfErr result (FailsToShow change OfChange greatest_anchor_text (Number (pos (dim_number dim)) ∷ []) (state_of S.Store self.old) (state_of S.Store self.new)) }
     {
         greatest_anchor(alloc, &mut self.conn, dim)
     }

@@ -1,9 +1,8 @@
 //! Edits that are kept together, or not at all.
 
-ghost use Rattle.std.specs.Prelude.{◌≡◌, ◌≢◌, ◌⊎◌, ◌+◌, ◌<◌, ◌≤◌, [], pos, codes, map, Option, None, Some, IsTrue, IfOk, IfErr, OnOk, length};
+ghost use Rattle.std.specs.Prelude.{◌≡◌, ◌≢◌, ◌⊎◌, ◌+◌, ◌<◌, ◌≤◌, [], pos, codes, map, Option, None, Some, IsTrue, IfOk, IfErr, OnOk, length, ⊤};
 ghost use Rattle.std.specs.FinMap.{insert, remove};
 ghost use Rattle.std.specs.List.{AllByRecursion};
-ghost use Rattle.sqlite.specs.Held.{state};
 ghost use Rattle.sqlite.specs.State.{HasCleanDisk, Survives};
 ghost use Rattle.sqlite_rules.specs.Lists.{Has};
 ghost use Rattle.wh_rows.specs.declared.cause.Cause.TheVariants.{Memory};
@@ -13,7 +12,9 @@ ghost use Rattle.wh_rows.proofs.Metas.{put_text};
 ghost use Rattle.wh_rows.specs.AtRest.{AreTrees, IsAtRest, IsWriting, Leaves, IsCauseOf};
 ghost use Rattle.wh_rows.specs.Tables.{Tables as Rows};
 ghost use Rattle.wh_rows.specs.Rekey.{rekey_text, bind_rekey, are_keys, rekeyed};
-ghost use Rattle.wh_sql.specs.Refusal.{IsOneRefused};
+ghost use Rattle.wh_sql.specs.Refused.{IsOneRefused};
+ghost use Rattle.wh_store.specs.Reads.{state_of};
+ghost use Rattle.wh_store.specs.Writes.{WritesOnly, Makes};
 ghost use Rattle.wh_store.specs.Edits.{with_row, with_edit, IsValid, Puts, after_all, IsOfTypes, statement_of};
 ghost use Rattle.wh_store.specs.Meta.{made_with, with_number, making};
 
@@ -64,13 +65,10 @@ impl<'t, S: Alter> Writing<'t, S> {
     /// Puts the row at its key, in place of the one that was there.
     pub fn put<T: Keeps>(&mut self, alloc: Global, row: &T::Row) -> Result<(), Cause>
         ensures same_reference { self.new.tables.ghost_name ≡ self.old.tables.ghost_name }
-        ensures clean { HasCleanDisk (state S.Store self.new.tables.now.conn) → HasCleanDisk (state S.Store self.old.tables.now.conn) }
-        ensures counts { (state S.Store self.old.tables.now.conn).faults ≤ (state S.Store self.new.tables.now.conn).faults }
-        ensures put { HasCleanDisk (state S.Store self.new.tables.now.conn) → (before : Option Rows) (made : Rows) → IsWriting before (Some made) (state S.Store self.old.tables.now.conn)
-            → IsValid T.layout row.now → OnOk result (IsWriting before (Some (T.with_rows (insert (T.rows made) (T.layout.key row.now) row.now) made)) (state S.Store self.new.tables.now.conn)) }
-        ensures left { HasCleanDisk (state S.Store self.new.tables.now.conn) → (before : Option Rows) (made : Rows) → IsWriting before (Some made) (state S.Store self.old.tables.now.conn) → Leaves before (state S.Store self.new.tables.now.conn) }
-        ensures cause { HasCleanDisk (state S.Store self.new.tables.now.conn) → IsTrue (state S.Store self.old.tables.now.conn).in_transaction → self.old.writes < u64.MAX → IsValid T.layout row.now
-            → IfErr result (λ cause. cause ≢ Memory → IsCauseOf T.put_means (T.layout.encode row.now) (state S.Store self.old.tables.now.conn) (state S.Store self.new.tables.now.conn) cause) }
+        ensures writes { WritesOnly (state_of S.Store self.old.tables.now) (state_of S.Store self.new.tables.now) ⊤ }
+        ensures put { Makes (state_of S.Store self.old.tables.now) (state_of S.Store self.new.tables.now) result (IsValid T.layout row.now) (λ made. T.with_rows (insert (T.rows made) (T.layout.key row.now) row.now) made) }
+        ensures cause { HasCleanDisk (state_of S.Store self.new.tables.now) → IsTrue (state_of S.Store self.old.tables.now).in_transaction → self.old.writes < u64.MAX → IsValid T.layout row.now
+            → IfErr result (λ cause. cause ≢ Memory → IsCauseOf T.put_means (T.layout.encode row.now) (state_of S.Store self.old.tables.now) (state_of S.Store self.new.tables.now) cause) }
         ensures counted { OnOk result (self.new.writes ≡ self.old.writes + 1) }
     {
         let writes = self.one_more()?;
@@ -82,13 +80,10 @@ impl<'t, S: Alter> Writing<'t, S> {
     /// Takes out the row at the key, if one is there.
     pub fn remove<T: Keeps>(&mut self, alloc: Global, key: &T::Key) -> Result<(), Cause>
         ensures same_reference { self.new.tables.ghost_name ≡ self.old.tables.ghost_name }
-        ensures clean { HasCleanDisk (state S.Store self.new.tables.now.conn) → HasCleanDisk (state S.Store self.old.tables.now.conn) }
-        ensures counts { (state S.Store self.old.tables.now.conn).faults ≤ (state S.Store self.new.tables.now.conn).faults }
-        ensures removed { HasCleanDisk (state S.Store self.new.tables.now.conn) → (before : Option Rows) (made : Rows) → IsWriting before (Some made) (state S.Store self.old.tables.now.conn)
-            → OnOk result (IsWriting before (Some (T.with_rows (remove (T.rows made) key.now) made)) (state S.Store self.new.tables.now.conn)) }
-        ensures left { HasCleanDisk (state S.Store self.new.tables.now.conn) → (before : Option Rows) (made : Rows) → IsWriting before (Some made) (state S.Store self.old.tables.now.conn) → Leaves before (state S.Store self.new.tables.now.conn) }
-        ensures cause { HasCleanDisk (state S.Store self.new.tables.now.conn) → IsTrue (state S.Store self.old.tables.now.conn).in_transaction → self.old.writes < u64.MAX → (row : T.Row) → IsTrue (T.layout.is_valid row) → T.layout.key row ≡ key.now
-            → IfErr result (λ cause. cause ≢ Memory → IsCauseOf T.remove_means (T.bind key.now) (state S.Store self.old.tables.now.conn) (state S.Store self.new.tables.now.conn) cause) }
+        ensures writes { WritesOnly (state_of S.Store self.old.tables.now) (state_of S.Store self.new.tables.now) ⊤ }
+        ensures removed { Makes (state_of S.Store self.old.tables.now) (state_of S.Store self.new.tables.now) result ⊤ (λ made. T.with_rows (remove (T.rows made) key.now) made) }
+        ensures cause { HasCleanDisk (state_of S.Store self.new.tables.now) → IsTrue (state_of S.Store self.old.tables.now).in_transaction → self.old.writes < u64.MAX → (row : T.Row) → IsTrue (T.layout.is_valid row) → T.layout.key row ≡ key.now
+            → IfErr result (λ cause. cause ≢ Memory → IsCauseOf T.remove_means (T.bind key.now) (state_of S.Store self.old.tables.now) (state_of S.Store self.new.tables.now) cause) }
         ensures counted { OnOk result (self.new.writes ≡ self.old.writes + 1) }
     {
         let writes = self.one_more()?;
@@ -100,13 +95,10 @@ impl<'t, S: Alter> Writing<'t, S> {
     /// Gives the fact of a line other keys, if it is there; its other columns stay.
     pub fn rekey(&mut self, alloc: Global, line: &LineKey, keys: &FactKeys) -> Result<(), Cause>
         ensures same_reference { self.new.tables.ghost_name ≡ self.old.tables.ghost_name }
-        ensures clean { HasCleanDisk (state S.Store self.new.tables.now.conn) → HasCleanDisk (state S.Store self.old.tables.now.conn) }
-        ensures counts { (state S.Store self.old.tables.now.conn).faults ≤ (state S.Store self.new.tables.now.conn).faults }
-        ensures rekeyed { HasCleanDisk (state S.Store self.new.tables.now.conn) → (before : Option Rows) (made : Rows) → IsWriting before (Some made) (state S.Store self.old.tables.now.conn)
-            → IsTrue (are_keys keys.now) → OnOk result (IsWriting before (Some (record made { fact = rekeyed (line.now, keys.now) made.fact })) (state S.Store self.new.tables.now.conn)) }
-        ensures left { HasCleanDisk (state S.Store self.new.tables.now.conn) → (before : Option Rows) (made : Rows) → IsWriting before (Some made) (state S.Store self.old.tables.now.conn) → Leaves before (state S.Store self.new.tables.now.conn) }
-        ensures cause { HasCleanDisk (state S.Store self.new.tables.now.conn) → IsTrue (state S.Store self.old.tables.now.conn).in_transaction → self.old.writes < u64.MAX → IsTrue (are_keys keys.now)
-            → IfErr result (λ cause. cause ≢ Memory → IsCauseOf rekey_text (bind_rekey (line.now, keys.now)) (state S.Store self.old.tables.now.conn) (state S.Store self.new.tables.now.conn) cause) }
+        ensures writes { WritesOnly (state_of S.Store self.old.tables.now) (state_of S.Store self.new.tables.now) ⊤ }
+        ensures rekeyed { Makes (state_of S.Store self.old.tables.now) (state_of S.Store self.new.tables.now) result (IsTrue (are_keys keys.now)) (λ made. record made { fact = rekeyed (line.now, keys.now) made.fact }) }
+        ensures cause { HasCleanDisk (state_of S.Store self.new.tables.now) → IsTrue (state_of S.Store self.old.tables.now).in_transaction → self.old.writes < u64.MAX → IsTrue (are_keys keys.now)
+            → IfErr result (λ cause. cause ≢ Memory → IsCauseOf rekey_text (bind_rekey (line.now, keys.now)) (state_of S.Store self.old.tables.now) (state_of S.Store self.new.tables.now) cause) }
         ensures counted { OnOk result (self.new.writes ≡ self.old.writes + 1) }
     {
         let writes = self.one_more()?;
@@ -118,14 +110,9 @@ impl<'t, S: Alter> Writing<'t, S> {
     /// Puts rows at their keys, one after the other.
     pub fn put_all<T: Keeps>(&mut self, alloc: Global, rows: &[T::Row]) -> Result<(), Cause>
         ensures same_reference { self.new.tables.ghost_name ≡ self.old.tables.ghost_name }
-        ensures clean { HasCleanDisk (state S.Store self.new.tables.now.conn) → HasCleanDisk (state S.Store self.old.tables.now.conn) }
-        ensures counts { (state S.Store self.old.tables.now.conn).faults ≤ (state S.Store self.new.tables.now.conn).faults }
-        ensures put { HasCleanDisk (state S.Store self.new.tables.now.conn) → (before : Option Rows) (made : Rows) → IsWriting before (Some made) (state S.Store self.old.tables.now.conn)
-            → AllByRecursion (IsValid T.layout) rows.now → OnOk result (IsWriting before (Some (T.with_rows (after_all (with_row T.layout) rows.now (T.rows made)) made)) (state S.Store self.new.tables.now.conn)) }
-        ensures left { HasCleanDisk (state S.Store self.new.tables.now.conn) → (before : Option Rows) (made : Rows) → IsWriting before (Some made) (state S.Store self.old.tables.now.conn)
-            → AllByRecursion (IsValid T.layout) rows.now → Leaves before (state S.Store self.new.tables.now.conn) }
-        ensures cause { HasCleanDisk (state S.Store self.new.tables.now.conn) → (before : Option Rows) (made : Rows) → IsWriting before (Some made) (state S.Store self.old.tables.now.conn)
-            → AllByRecursion (IsValid T.layout) rows.now → self.old.writes + length rows.now ≤ u64.MAX
+        ensures writes { WritesOnly (state_of S.Store self.old.tables.now) (state_of S.Store self.new.tables.now) (AllByRecursion (IsValid T.layout) rows.now) }
+        ensures put { Makes (state_of S.Store self.old.tables.now) (state_of S.Store self.new.tables.now) result (AllByRecursion (IsValid T.layout) rows.now) (λ made. T.with_rows (after_all (with_row T.layout) rows.now (T.rows made)) made) }
+        ensures cause { HasCleanDisk (state_of S.Store self.new.tables.now) → (before : Option Rows) (made : Rows) → IsWriting before (Some made) (state_of S.Store self.old.tables.now) → AllByRecursion (IsValid T.layout) rows.now → self.old.writes + length rows.now ≤ u64.MAX
             → IfErr result (λ cause. cause ≢ Memory → IsOneRefused S.Store IsCauseOf (map (λ row. (T.put_means, T.layout.encode row)) rows.now) self.old.tables.now.conn self.new.tables.now.conn cause) }
         ensures counted { OnOk result (self.new.writes ≡ self.old.writes + length rows.now) }
     {
@@ -142,13 +129,10 @@ impl<'t, S: Alter> Writing<'t, S> {
         edit: &Edit<T::Row, T::Key>,
     ) -> Result<(), Cause>
         ensures same_reference { self.new.tables.ghost_name ≡ self.old.tables.ghost_name }
-        ensures clean { HasCleanDisk (state S.Store self.new.tables.now.conn) → HasCleanDisk (state S.Store self.old.tables.now.conn) }
-        ensures counts { (state S.Store self.old.tables.now.conn).faults ≤ (state S.Store self.new.tables.now.conn).faults }
-        ensures edited { HasCleanDisk (state S.Store self.new.tables.now.conn) → (before : Option Rows) (made : Rows) → IsWriting before (Some made) (state S.Store self.old.tables.now.conn)
-            → Puts (IsValid T.layout) edit.now → OnOk result (IsWriting before (Some (T.with_rows (with_edit T.layout edit.now (T.rows made)) made)) (state S.Store self.new.tables.now.conn)) }
-        ensures left { HasCleanDisk (state S.Store self.new.tables.now.conn) → (before : Option Rows) (made : Rows) → IsWriting before (Some made) (state S.Store self.old.tables.now.conn) → Leaves before (state S.Store self.new.tables.now.conn) }
-        ensures cause { HasCleanDisk (state S.Store self.new.tables.now.conn) → IsTrue (state S.Store self.old.tables.now.conn).in_transaction → self.old.writes < u64.MAX → IsOfTypes T.layout edit.now
-            → IfErr result (λ cause. cause ≢ Memory → IsCauseOf (statement_of T.layout T.put_means T.remove_means T.bind edit.now).0 (statement_of T.layout T.put_means T.remove_means T.bind edit.now).1 (state S.Store self.old.tables.now.conn) (state S.Store self.new.tables.now.conn) cause) }
+        ensures writes { WritesOnly (state_of S.Store self.old.tables.now) (state_of S.Store self.new.tables.now) ⊤ }
+        ensures edited { Makes (state_of S.Store self.old.tables.now) (state_of S.Store self.new.tables.now) result (Puts (IsValid T.layout) edit.now) (λ made. T.with_rows (with_edit T.layout edit.now (T.rows made)) made) }
+        ensures cause { HasCleanDisk (state_of S.Store self.new.tables.now) → IsTrue (state_of S.Store self.old.tables.now).in_transaction → self.old.writes < u64.MAX → IsOfTypes T.layout edit.now
+            → IfErr result (λ cause. cause ≢ Memory → IsCauseOf (statement_of T.layout T.put_means T.remove_means T.bind edit.now).0 (statement_of T.layout T.put_means T.remove_means T.bind edit.now).1 (state_of S.Store self.old.tables.now) (state_of S.Store self.new.tables.now) cause) }
         ensures counted { OnOk result (self.new.writes ≡ self.old.writes + 1) }
     {
         match edit {
@@ -164,14 +148,9 @@ impl<'t, S: Alter> Writing<'t, S> {
         edits: &[Edit<T::Row, T::Key>],
     ) -> Result<(), Cause>
         ensures same_reference { self.new.tables.ghost_name ≡ self.old.tables.ghost_name }
-        ensures clean { HasCleanDisk (state S.Store self.new.tables.now.conn) → HasCleanDisk (state S.Store self.old.tables.now.conn) }
-        ensures counts { (state S.Store self.old.tables.now.conn).faults ≤ (state S.Store self.new.tables.now.conn).faults }
-        ensures edited { HasCleanDisk (state S.Store self.new.tables.now.conn) → (before : Option Rows) (made : Rows) → IsWriting before (Some made) (state S.Store self.old.tables.now.conn)
-            → AllByRecursion (Puts (IsValid T.layout)) edits.now → OnOk result (IsWriting before (Some (T.with_rows (after_all (with_edit T.layout) edits.now (T.rows made)) made)) (state S.Store self.new.tables.now.conn)) }
-        ensures left { HasCleanDisk (state S.Store self.new.tables.now.conn) → (before : Option Rows) (made : Rows) → IsWriting before (Some made) (state S.Store self.old.tables.now.conn)
-            → AllByRecursion (Puts (IsValid T.layout)) edits.now → Leaves before (state S.Store self.new.tables.now.conn) }
-        ensures cause { HasCleanDisk (state S.Store self.new.tables.now.conn) → (before : Option Rows) (made : Rows) → IsWriting before (Some made) (state S.Store self.old.tables.now.conn)
-            → AllByRecursion (Puts (IsValid T.layout)) edits.now → ((edit : _) → Has edits.now edit → IsOfTypes T.layout edit) → self.old.writes + length edits.now ≤ u64.MAX
+        ensures writes { WritesOnly (state_of S.Store self.old.tables.now) (state_of S.Store self.new.tables.now) (AllByRecursion (Puts (IsValid T.layout)) edits.now) }
+        ensures edited { Makes (state_of S.Store self.old.tables.now) (state_of S.Store self.new.tables.now) result (AllByRecursion (Puts (IsValid T.layout)) edits.now) (λ made. T.with_rows (after_all (with_edit T.layout) edits.now (T.rows made)) made) }
+        ensures cause { HasCleanDisk (state_of S.Store self.new.tables.now) → (before : Option Rows) (made : Rows) → IsWriting before (Some made) (state_of S.Store self.old.tables.now) → AllByRecursion (Puts (IsValid T.layout)) edits.now → ((edit : _) → Has edits.now edit → IsOfTypes T.layout edit) → self.old.writes + length edits.now ≤ u64.MAX
             → IfErr result (λ cause. cause ≢ Memory → IsOneRefused S.Store IsCauseOf (map (statement_of T.layout T.put_means T.remove_means T.bind) edits.now) self.old.tables.now.conn self.new.tables.now.conn cause) }
         ensures counted { OnOk result (self.new.writes ≡ self.old.writes + length edits.now) }
     {
@@ -184,11 +163,11 @@ impl<'t, S: Alter> Writing<'t, S> {
     /// Makes the ten tables, and the rows of meta for these limits.
     pub fn make(&mut self, alloc: Global, limits: Limits) -> Result<(), Cause>
         ensures same_reference { self.new.tables.ghost_name ≡ self.old.tables.ghost_name }
-        ensures clean { HasCleanDisk (state S.Store self.new.tables.now.conn) → HasCleanDisk (state S.Store self.old.tables.now.conn) }
-        ensures counts { (state S.Store self.old.tables.now.conn).faults ≤ (state S.Store self.new.tables.now.conn).faults }
-        ensures made { HasCleanDisk (state S.Store self.new.tables.now.conn) → IsWriting None None (state S.Store self.old.tables.now.conn) → OnOk result (IsWriting None (Some (made_with limits)) (state S.Store self.new.tables.now.conn)) }
-        ensures left { HasCleanDisk (state S.Store self.new.tables.now.conn) → IsWriting None None (state S.Store self.old.tables.now.conn) → Leaves None (state S.Store self.new.tables.now.conn) }
-        ensures cause { HasCleanDisk (state S.Store self.new.tables.now.conn) → IsWriting None None (state S.Store self.old.tables.now.conn) → self.old.writes + 4 ≤ u64.MAX
+        ensures clean { HasCleanDisk (state_of S.Store self.new.tables.now) → HasCleanDisk (state_of S.Store self.old.tables.now) }
+        ensures counts { (state_of S.Store self.old.tables.now).faults ≤ (state_of S.Store self.new.tables.now).faults }
+        ensures made { HasCleanDisk (state_of S.Store self.new.tables.now) → IsWriting None None (state_of S.Store self.old.tables.now) → OnOk result (IsWriting None (Some (made_with limits)) (state_of S.Store self.new.tables.now)) }
+        ensures left { HasCleanDisk (state_of S.Store self.new.tables.now) → IsWriting None None (state_of S.Store self.old.tables.now) → Leaves None (state_of S.Store self.new.tables.now) }
+        ensures cause { HasCleanDisk (state_of S.Store self.new.tables.now) → IsWriting None None (state_of S.Store self.old.tables.now) → self.old.writes + 4 ≤ u64.MAX
             → IfErr result (λ cause. cause ≢ Memory → IsOneRefused S.Store IsCauseOf (making limits) self.old.tables.now.conn self.new.tables.now.conn cause) }
     {
         create(&mut self.tables.conn)?;
@@ -201,13 +180,10 @@ impl<'t, S: Alter> Writing<'t, S> {
     /// Puts a number into meta under its name.
     fn put_number(&mut self, alloc: Global, name: &str, count: u64) -> Result<(), Cause>
         ensures same_reference { self.new.tables.ghost_name ≡ self.old.tables.ghost_name }
-        ensures clean { HasCleanDisk (state S.Store self.new.tables.now.conn) → HasCleanDisk (state S.Store self.old.tables.now.conn) }
-        ensures counts { (state S.Store self.old.tables.now.conn).faults ≤ (state S.Store self.new.tables.now.conn).faults }
-        ensures put { HasCleanDisk (state S.Store self.new.tables.now.conn) → (before : Option Rows) (made : Rows) → IsWriting before (Some made) (state S.Store self.old.tables.now.conn)
-            → OnOk result (IsWriting before (Some (with_number name.now (pos count) made)) (state S.Store self.new.tables.now.conn)) }
-        ensures left { HasCleanDisk (state S.Store self.new.tables.now.conn) → (before : Option Rows) (made : Rows) → IsWriting before (Some made) (state S.Store self.old.tables.now.conn) → Leaves before (state S.Store self.new.tables.now.conn) }
-        ensures cause { HasCleanDisk (state S.Store self.new.tables.now.conn) → IsTrue (state S.Store self.old.tables.now.conn).in_transaction → self.old.writes < u64.MAX → IsTrue (is_number count)
-            → IfErr result (λ cause. cause ≢ Memory → IsCauseOf put_text (encode_meta (record { name = name.now; value = pos count })) (state S.Store self.old.tables.now.conn) (state S.Store self.new.tables.now.conn) cause) }
+        ensures writes { WritesOnly (state_of S.Store self.old.tables.now) (state_of S.Store self.new.tables.now) ⊤ }
+        ensures put { Makes (state_of S.Store self.old.tables.now) (state_of S.Store self.new.tables.now) result ⊤ (λ made. with_number name.now (pos count) made) }
+        ensures cause { HasCleanDisk (state_of S.Store self.new.tables.now) → IsTrue (state_of S.Store self.old.tables.now).in_transaction → self.old.writes < u64.MAX → IsTrue (is_number count)
+            → IfErr result (λ cause. cause ≢ Memory → IsCauseOf put_text (encode_meta (record { name = name.now; value = pos count })) (state_of S.Store self.old.tables.now) (state_of S.Store self.new.tables.now) cause) }
         ensures counted { OnOk result (self.new.writes ≡ self.old.writes + 1) }
     {
         let row = meta::row(alloc, name, count)?;
@@ -216,11 +192,11 @@ impl<'t, S: Alter> Writing<'t, S> {
 
     /// Keeps the edits.
     pub fn commit(self) -> Result<(), Cause>
-        ensures clean { HasCleanDisk (state S.Store self.exit.0.now.conn) → HasCleanDisk (state S.Store self.entry.tables.now.conn) }
-        ensures cause { HasCleanDisk (state S.Store self.exit.0.now.conn) → IfErr result (IsCauseOf (codes "COMMIT") [] (state S.Store self.entry.tables.now.conn) (state S.Store self.exit.0.now.conn)) }
-        ensures written { HasCleanDisk (state S.Store self.exit.0.now.conn) → (before made : Option Rows) → IsWriting before made (state S.Store self.entry.tables.now.conn) → OnOk result (IsAtRest made (state S.Store self.exit.0.now.conn)) }
-        ensures left { HasCleanDisk (state S.Store self.exit.0.now.conn) → (before made : Option Rows) → IsWriting before made (state S.Store self.entry.tables.now.conn)
-            → (trees : _) → (state S.Store self.exit.0.now.conn).may_leave trees → AreTrees before trees ⊎ AreTrees made trees }
+        ensures clean { HasCleanDisk (state_of S.Store self.exit.0.now) → HasCleanDisk (state_of S.Store self.entry.tables.now) }
+        ensures cause { HasCleanDisk (state_of S.Store self.exit.0.now) → IfErr result (IsCauseOf (codes "COMMIT") [] (state_of S.Store self.entry.tables.now) (state_of S.Store self.exit.0.now)) }
+        ensures written { HasCleanDisk (state_of S.Store self.exit.0.now) → (before made : Option Rows) → IsWriting before made (state_of S.Store self.entry.tables.now) → OnOk result (IsAtRest made (state_of S.Store self.exit.0.now)) }
+        ensures left { HasCleanDisk (state_of S.Store self.exit.0.now) → (before made : Option Rows) → IsWriting before made (state_of S.Store self.entry.tables.now)
+            → (trees : _) → (state_of S.Store self.exit.0.now).may_leave trees → AreTrees before trees ⊎ AreTrees made trees }
     {
         let Writing { tables, writes: _ } = self;
         commit(&mut tables.conn)
@@ -229,11 +205,11 @@ impl<'t, S: Alter> Writing<'t, S> {
 
 impl<S: Alter> Drop for Writing<'_, S> {
     fn drop(self)
-        ensures clean { HasCleanDisk (state S.Store self.exit.0.now.conn) → HasCleanDisk (state S.Store self.entry.tables.now.conn) }
-        ensures undone { HasCleanDisk (state S.Store self.exit.0.now.conn) → (before made : Option Rows) → IsWriting before made (state S.Store self.entry.tables.now.conn)
-            → IsTrue (state S.Store self.exit.0.now.conn).is_open → IsAtRest before (state S.Store self.exit.0.now.conn) }
-        ensures left { HasCleanDisk (state S.Store self.exit.0.now.conn) → (before made : Option Rows) → IsWriting before made (state S.Store self.entry.tables.now.conn) → Leaves before (state S.Store self.exit.0.now.conn) }
-        ensures survives { Survives (state S.Store self.entry.tables.now.conn) (state S.Store self.exit.0.now.conn) (λ _. ⊥) }
+        ensures clean { HasCleanDisk (state_of S.Store self.exit.0.now) → HasCleanDisk (state_of S.Store self.entry.tables.now) }
+        ensures undone { HasCleanDisk (state_of S.Store self.exit.0.now) → (before made : Option Rows) → IsWriting before made (state_of S.Store self.entry.tables.now)
+            → IsTrue (state_of S.Store self.exit.0.now).is_open → IsAtRest before (state_of S.Store self.exit.0.now) }
+        ensures left { HasCleanDisk (state_of S.Store self.exit.0.now) → (before made : Option Rows) → IsWriting before made (state_of S.Store self.entry.tables.now) → Leaves before (state_of S.Store self.exit.0.now) }
+        ensures survives { Survives (state_of S.Store self.entry.tables.now) (state_of S.Store self.exit.0.now) (λ _. ⊥) }
     {
         let Writing { tables, writes: _ } = self;
         roll_back(&mut tables.conn);

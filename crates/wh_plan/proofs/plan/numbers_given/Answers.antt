@@ -5,15 +5,15 @@ use Rattle.wh_rows.specs.Firsts.{greatest}
 use Rattle.wh_plan.proofs.FoundAnchors.{anchors_counted}
 use Rattle.wh_plan.proofs.plan.numbers_given.Goals as goal
 
-pub returns-in-Ok-clause-given : goal.returns-in-Ok-clause-given
-returns-in-Ok-clause-given g c clean limits commands t are at members_few anchors_few =
+pub returns-clause-given : goal.returns-clause-given
+returns-clause-given g c clean limits commands t are at members_few anchors_few =
     let dim = c.args.dim in
-    let before = c.in-Ok.ensures.clean clean in
+    let before = c.in_ok-anchor.ensures.reads.clean clean in
     let at_now = c.in_ok-given.ensures.reads.same before t at tt in
     let given = c.in_ok-given.ensures.given before limits commands t are at in
-    let anchor = c.in-Ok.ensures.anchor clean t at_now in
+    let anchor = c.in_ok-anchor.ensures.anchor clean t at_now in
     let counted = anchors_counted greatest refl (λ n ns. refl) limits commands t are dim in
-    let all : max c.in_ok-given.given.opening c.in-Ok.anchor ≡ length (anchors dim commands) = ap (λ n. max n c.in-Ok.anchor) (ap (λ m. m.opening) given) ∙ ap (max _) anchor ∙ counted in
+    let all : max c.in_ok-given.given.opening c.in_ok-anchor.anchor ≡ length (anchors dim commands) = ap (λ n. max n c.in_ok-anchor.anchor) (ap (λ m. m.opening) given) ∙ ap (max _) anchor ∙ counted in
     let members_are : c.min.result ≡ length (members dim commands) = let first = ap (λ m. m.members) given in let least = c.min.ensures in omega arith in
-    let anchors_are : c.min-in-Ok.result ≡ length (anchors dim commands) = let most = c.max.ensures in let least = c.min-in-Ok.ensures in omega arith in
+    let anchors_are : c.min-2.result ≡ length (anchors dim commands) = let most = c.max.ensures in let least = c.min-2.ensures in omega arith in
     λ i. record { members = members_are i; anchors = anchors_are i }

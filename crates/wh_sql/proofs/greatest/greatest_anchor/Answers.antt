@@ -13,7 +13,7 @@ use Rattle.wh_rows.specs.Rows as row
 use Rattle.wh_rows.specs.declared.table.Table.TheVariants.{Change}
 use Rattle.wh_rows.proofs.Changes.{greatest_anchor_text, greatest_anchor}
 use Rattle.wh_rows.proofs.Places.{change}
-use Rattle.wh_sql.proofs.Reading.{IsAnswered, IsLedByGreatest, greatest_answered, rows_are, undamaged, leaves_held, rests_whole}
+use Rattle.wh_sql.proofs.Reading.{IsAnswered, IsLedByGreatest, greatest_answered, rows_are, undamaged, said_again}
 use Rattle.wh_sql.proofs.greatest.greatest_anchor.Goals as goal
 
 asked : (dim : Dim) (old new : State)
@@ -26,15 +26,12 @@ returns-in_err-rows-clause-sound g c clean t stored =
     let refused = rw c.dim.ensures at (c.in_err-rows.ensures.refused clean) in
     rw (p.1, p.2) (undamaged (asked c.args.dim (state g.S.Store c.args.conn.now) (state g.S.Store c.rows_shown.new.conn)) {A = ℕ} (Err c.in_err-rows.field-0.0) Change refused t stored)
 
-pub returns-in_err-rows-clause-same : goal.returns-in_err-rows-clause-same
-returns-in_err-rows-clause-same g c clean t at =
+pub returns-in_err-rows-clause-reads : goal.returns-in_err-rows-clause-reads
+returns-in_err-rows-clause-reads g c =
+    let it = asked c.args.dim (state g.S.Store c.args.conn.now) (state g.S.Store c.rows_shown.new.conn) in
     let p = err_from_is_err_and c.from_residual.result c.from_residual.ensures.1 in
-    let refused = rw c.dim.ensures at (c.in_err-rows.ensures.refused clean) in
-    let survives = rw c.dim.ensures at c.rows_shown.ensures.survives in
-    rw (p.1, p.2) (rests_whole (asked c.args.dim (state g.S.Store c.args.conn.now) (state g.S.Store c.rows_shown.new.conn)) t at survives clean (Err c.in_err-rows.field-0.0) Change tt refused)
-
-pub returns-in_err-rows-clause-left : goal.returns-in_err-rows-clause-left
-returns-in_err-rows-clause-left g c clean t at = leaves_held (asked c.args.dim (state g.S.Store c.args.conn.now) (state g.S.Store c.rows_shown.new.conn)) t at (rw c.dim.ensures at c.rows_shown.ensures.survives) clean
+    let refused = rw c.dim.ensures at c.in_err-rows.ensures.refused in
+    rw (p.1, p.2) (said_again (c.in_err-rows.ensures.reads it.plain (λ clean t at. undamaged it {A = ℕ} (Err c.in_err-rows.field-0.0) Change (refused clean) t at.now.tables)))
 
 pub returns-in_err-rows-clause-refused : goal.returns-in_err-rows-clause-refused
 returns-in_err-rows-clause-refused g c clean =
@@ -48,11 +45,8 @@ returns-clause-anchor g c clean t stored =
     let led = rows_are (asked c.args.dim (state g.S.Store c.args.conn.now) (state g.S.Store c.rows_shown.new.conn)) (Ok c.in_ok-rows.rows) shows t stored in
     c.first_anchor.ensures ∙ ap (λ rows. unwrap_or (option_map (λ r. r.anchor) (slice_get rows 0)) 0) c.deref.ensures.value ∙ sym led
 
-pub returns-clause-same : goal.returns-clause-same
-returns-clause-same g c clean t at =
-    let shows = rw c.dim.ensures at (c.in_ok-rows.ensures.shows clean) in
-    let survives = rw c.dim.ensures at c.rows_shown.ensures.survives in
-    rests_whole (asked c.args.dim (state g.S.Store c.args.conn.now) (state g.S.Store c.rows_shown.new.conn)) t at survives clean (Ok c.in_ok-rows.rows) Change shows tt
-
-pub returns-clause-left : goal.returns-clause-left
-returns-clause-left g c clean t at = leaves_held (asked c.args.dim (state g.S.Store c.args.conn.now) (state g.S.Store c.rows_shown.new.conn)) t at (rw c.dim.ensures at c.rows_shown.ensures.survives) clean
+pub returns-clause-reads : goal.returns-clause-reads
+returns-clause-reads g c =
+    let it = asked c.args.dim (state g.S.Store c.args.conn.now) (state g.S.Store c.rows_shown.new.conn) in
+    let here = c.in_ok-rows.ensures.reads it.plain (λ clean t at. tt) in
+    record { clean = here.clean; sound = λ clean t at. tt; same = here.same; left = here.left; rests = here.rests; leaves = here.leaves }

@@ -1,6 +1,6 @@
 use Rattle.std.proofs.Common.{Bor, List, ℕ, map, rules, arith}
 use Rattle.wh_rows.specs.AtRest.{IsCauseOf}
-use Rattle.wh_sql.specs.Refusal.{IsOneRefused, bare}
+use Rattle.wh_sql.specs.Refused.{IsOneRefused, bare}
 use Rattle.wh_sql.proofs.Creating.{next_extends, is_among}
 use Rattle.wh_sql.proofs.making.create_all.Goals as goal
 

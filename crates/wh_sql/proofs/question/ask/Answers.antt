@@ -1,6 +1,8 @@
 -- The text means the rows that answer the question.
+use Rattle.std.proofs.Common.{Err, ap, ◌∙◌}
+use Rattle.std.proofs.lemmas.Result.{err_from_is_err_and}
 use Rattle.sqlite.specs.Held.{state}
-use Rattle.wh_sql.proofs.Reading.{part_answered, rows_are, undamaged, leaves_held, rests_whole}
+use Rattle.wh_sql.proofs.Reading.{part_answered, rows_are, undamaged, nothing_asked}
 use Rattle.wh_sql.proofs.question.ask.Goals as goal
 
 pub returns-clause-rows : goal.returns-clause-rows
@@ -17,17 +19,15 @@ returns-clause-sound g c clean t stored =
     let asked = part_answered g.met.T.Keeps.placed (state g.S.Store c.args.conn.now) (state g.S.Store c.rows_shown.new.conn) (q.means of) (q.bind of) q.front (q.keep of) (g.met.Q.Question.reads of) in
     undamaged asked c.rows_shown.result g.T.Keeps.name (rw (c.text.ensures, c.deref.ensures.value, c.in_ok-values.ensures.ok) at (c.rows_shown.ensures.refused clean)) t stored
 
-pub returns-clause-same : goal.returns-clause-same
-returns-clause-same g c clean t at =
-    let q = g.Q.Question in
-    let of = c.args.question.now in
-    let asked = part_answered g.met.T.Keeps.placed (state g.S.Store c.args.conn.now) (state g.S.Store c.rows_shown.new.conn) (q.means of) (q.bind of) q.front (q.keep of) (g.met.Q.Question.reads of) in
-    rests_whole asked t at (rw (c.text.ensures, c.deref.ensures.value, c.in_ok-values.ensures.ok) at c.rows_shown.ensures.survives) clean c.rows_shown.result g.T.Keeps.name
-    (rw (c.text.ensures, c.deref.ensures.value, c.in_ok-values.ensures.ok) at (c.rows_shown.ensures.shows clean)) (rw (c.text.ensures, c.deref.ensures.value, c.in_ok-values.ensures.ok) at (c.rows_shown.ensures.refused clean))
+pub returns-in_err-values-clause-reads : goal.returns-in_err-values-clause-reads
+returns-in_err-values-clause-reads g c =
+    let p = err_from_is_err_and c.from_residual.result c.from_residual.ensures.1 in
+    nothing_asked (state g.S.Store c.args.conn.now) c.in_err-values.field-0.0 c.from_residual.result (p.1 ∙ ap Err p.2)
 
-pub returns-clause-left : goal.returns-clause-left
-returns-clause-left g c clean t at =
+pub returns-clause-reads : goal.returns-clause-reads
+returns-clause-reads g c =
     let q = g.Q.Question in
     let of = c.args.question.now in
     let asked = part_answered g.met.T.Keeps.placed (state g.S.Store c.args.conn.now) (state g.S.Store c.rows_shown.new.conn) (q.means of) (q.bind of) q.front (q.keep of) (g.met.Q.Question.reads of) in
-    leaves_held asked t at (rw (c.text.ensures, c.deref.ensures.value, c.in_ok-values.ensures.ok) at c.rows_shown.ensures.survives) clean
+    let reads = rw c.text.ensures at c.rows_shown.ensures.reads in
+    reads asked.plain (λ clean t at. returns-clause-sound g c clean t at.now.tables)

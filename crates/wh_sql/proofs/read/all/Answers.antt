@@ -1,8 +1,7 @@
 -- The text means all rows.
 use Rattle.sqlite.specs.Held.{state}
-use Rattle.std.proofs.Common.{[]}
 use Rattle.wh_rows.proofs.Edits.{filter_all}
-use Rattle.wh_sql.proofs.Reading.{all_answered, rows_are, undamaged, leaves_held, rests_whole, reads_stored, finds_damage, stored_whole, leaves_stored}
+use Rattle.wh_sql.proofs.Reading.{all_answered, rows_are, undamaged, reads_stored, finds_damage}
 use Rattle.wh_sql.proofs.read.all.Goals as goal
 
 pub returns-clause-rows : goal.returns-clause-rows
@@ -15,16 +14,10 @@ returns-clause-sound g c clean t stored =
     let asked = all_answered g.met.T.Keeps.placed (state g.S.Store c.args.conn.now) (state g.S.Store c.rows_shown.new.conn) g.met.T.Keeps.lists in
     undamaged asked c.rows_shown.result g.T.Keeps.name (rw c.all_text.ensures at (c.rows_shown.ensures.refused clean)) t stored
 
-pub returns-clause-same : goal.returns-clause-same
-returns-clause-same g c clean t at =
-    let asked = all_answered g.met.T.Keeps.placed (state g.S.Store c.args.conn.now) (state g.S.Store c.rows_shown.new.conn) g.met.T.Keeps.lists in
-    rests_whole asked t at (rw c.all_text.ensures at c.rows_shown.ensures.survives) clean c.rows_shown.result g.T.Keeps.name (rw c.all_text.ensures at (c.rows_shown.ensures.shows clean))
-    (rw c.all_text.ensures at (c.rows_shown.ensures.refused clean))
-
-pub returns-clause-left : goal.returns-clause-left
-returns-clause-left g c clean t at =
-    let asked = all_answered g.met.T.Keeps.placed (state g.S.Store c.args.conn.now) (state g.S.Store c.rows_shown.new.conn) g.met.T.Keeps.lists in
-    leaves_held asked t at (rw c.all_text.ensures at c.rows_shown.ensures.survives) clean
+pub returns-clause-reads : goal.returns-clause-reads
+returns-clause-reads g c =
+    let reads = rw c.all_text.ensures at c.rows_shown.ensures.reads in
+    reads g.met.T.Keeps.lists.plain (λ clean t at. returns-clause-sound g c clean t at.now.tables)
 
 pub returns-clause-stored : goal.returns-clause-stored
 returns-clause-stored g c clean stored is =
@@ -35,12 +28,3 @@ pub returns-clause-damaged : goal.returns-clause-damaged
 returns-clause-damaged g c clean stored is =
     let all = finds_damage g.T.Keeps.name g.met.T.Keeps.named g.met.T.Keeps.lists_stored (state g.S.Store c.args.conn.now) (state g.S.Store c.rows_shown.new.conn) stored is c.rows_shown.result (rw c.all_text.ensures at (c.rows_shown.ensures.refused clean)) in
     rw (filter_all (stored g.T.Keeps.name)) at all
-
-pub returns-clause-rests : goal.returns-clause-rests
-returns-clause-rests g c clean stored at =
-    stored_whole g.T.StoredTable.layout g.T.Keeps.all_means [] g.met.T.Keeps.lists.plain g.T.Keeps.name stored (state g.S.Store c.args.conn.now) (state g.S.Store c.rows_shown.new.conn) at (rw c.all_text.ensures at c.rows_shown.ensures.survives) clean c.rows_shown.result
-    (rw c.all_text.ensures at (c.rows_shown.ensures.shows clean)) (rw c.all_text.ensures at (c.rows_shown.ensures.refused clean))
-
-pub returns-clause-leaves : goal.returns-clause-leaves
-returns-clause-leaves g c clean stored at =
-    leaves_stored g.T.Keeps.all_means [] g.met.T.Keeps.lists.plain stored (state g.S.Store c.args.conn.now) (state g.S.Store c.rows_shown.new.conn) at (rw c.all_text.ensures at c.rows_shown.ensures.survives) clean

@@ -4,12 +4,12 @@ use Rattle.std.proofs.lemmas.Result.{MatchResult-weaker}
 use Rattle.std.specs.FinMap.{len}
 use Rattle.sqlite.specs.Held.{state}
 use Rattle.wh_rows.proofs.OnTables.{count_is}
-use Rattle.wh_sql.proofs.Reading.{too_many, uncounted, leaves_same, still_rests}
+use Rattle.wh_sql.proofs.Reading.{too_many, uncounted, reads_only}
 use Rattle.wh_sql.proofs.read.count.Goals as goal
 
-pub returns-in-Err-clause-left : goal.returns-in-Err-clause-left
-returns-in-Err-clause-left g c clean t at =
-    leaves_same g.T.Keeps.count_means [] g.met.T.Keeps.counts.plain t (state g.S.Store c.args.conn.now) (state g.S.Store c.query_all.new.self) at (rw c.count_text.ensures at c.query_all.ensures.survives) clean
+pub returns-in-Err-clause-reads : goal.returns-in-Err-clause-reads
+returns-in-Err-clause-reads g c =
+    reads_only g.T.Keeps.count_means [] g.met.T.Keeps.counts.plain (state g.S.Store c.args.conn.now) (state g.S.Store c.query_all.new.self) (rw c.count_text.ensures at c.query_all.ensures.survives) _ (λ clean served. absurd served) (λ clean t at. tt)
 
 pub returns-clause-count : goal.returns-clause-count
 returns-clause-count g c clean t stored =
@@ -35,11 +35,7 @@ returns-clause-refused g c clean t stored =
     let told = c.count_shown.ensures (len (d.rows t)) (c.deref.ensures.value ∙ is) in
     uncounted _ (len (d.rows t)) g.T.Keeps.count_means (state g.S.Store c.args.conn.now) (state g.S.Store c.query_all.new.self) c.count_shown.result told
 
-pub returns-clause-same : goal.returns-clause-same
-returns-clause-same g c clean t at whole =
-    still_rests g.T.Keeps.count_means [] g.met.T.Keeps.counts.plain t (state g.S.Store c.args.conn.now) (state g.S.Store c.query_all.new.self) at (rw c.count_text.ensures at c.query_all.ensures.survives) clean
-    c.in-Ok.shown.items (rw c.count_text.ensures at (c.in-Ok.ensures.ok clean))
-
-pub returns-clause-left : goal.returns-clause-left
-returns-clause-left g c clean t at =
-    leaves_same g.T.Keeps.count_means [] g.met.T.Keeps.counts.plain t (state g.S.Store c.args.conn.now) (state g.S.Store c.query_all.new.self) at (rw c.count_text.ensures at c.query_all.ensures.survives) clean
+pub returns-clause-reads : goal.returns-clause-reads
+returns-clause-reads g c =
+    reads_only g.T.Keeps.count_means [] g.met.T.Keeps.counts.plain (state g.S.Store c.args.conn.now) (state g.S.Store c.query_all.new.self) (rw c.count_text.ensures at c.query_all.ensures.survives) c.count_shown.result
+    (λ clean served. (c.in-Ok.shown.items, rw c.count_text.ensures at (c.in-Ok.ensures.ok clean))) (λ clean t at. returns-clause-sound g c clean t at.now.tables)

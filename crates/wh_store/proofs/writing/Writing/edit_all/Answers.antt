@@ -7,14 +7,16 @@ use Rattle.wh_store.proofs.Refusals.{is_among, one_refused}
 use Rattle.wh_store.proofs.Looping.{next_is, next_may, next_way, way_ends}
 use Rattle.wh_store.proofs.writing.Writing.edit_all.Goals as goal
 
-pub returns-in_err-edit-clause-left : goal.returns-in_err-edit-clause-left
-returns-in_err-edit-clause-left g c clean before made at may =
-    let was = c.loop-edit.invariant.put (c.edit.ensures.clean clean) before made at may in
-    c.edit.ensures.left clean before was.0 was.1
+pub returns-in_err-edit-clause-writes : goal.returns-in_err-edit-clause-writes
+returns-in_err-edit-clause-writes g c = record {
+  clean = λ clean. c.loop-edit.invariant.clean (c.edit.ensures.writes.clean clean);
+  counts = omega (arith, c.loop-edit.invariant.counts, c.edit.ensures.writes.counts);
+  left = λ clean before made at may. let was = c.loop-edit.invariant.put (c.edit.ensures.writes.clean clean) before made at may in c.edit.ensures.writes.left clean before was.0 was.1 tt;
+}
 
 pub returns-in_err-edit-clause-cause : goal.returns-in_err-edit-clause-cause
 returns-in_err-edit-clause-cause g c clean before made at may typed room =
-    let was = c.loop-edit.invariant.put (c.edit.ensures.clean clean) before made at may in
+    let was = c.loop-edit.invariant.put (c.edit.ensures.writes.clean clean) before made at may in
     let among = is_among c.args.edits.now c.loop-edit.edit-index c.edit-item.result c.loop-edit-test.true c.edit-item.is in
     let refused = c.in_err-edit.ensures.cause clean was.1.inside (omega (arith, c.loop-edit.invariant.counted, c.loop-edit-test.true, room)) (typed c.edit-item.result among) in
     let p = err_from_is_err_and c.from_residual.result c.from_residual.ensures.1 in
@@ -25,10 +27,10 @@ loop-edit-preserved g c =
     let kept = c.loop-edit.invariant in
     record {
       same_reference = c.edit.ensures.same_reference ∙ kept.same_reference;
-      clean = λ clean. kept.clean (c.edit.ensures.clean clean);
-      counts = omega (arith, kept.counts, c.in_ok-edit.ensures.counts);
+      clean = λ clean. kept.clean (c.edit.ensures.writes.clean clean);
+      counts = omega (arith, kept.counts, c.in_ok-edit.ensures.writes.counts);
       put = λ clean before made at may.
-          let was = kept.put (c.edit.ensures.clean clean) before made at may in
+          let was = kept.put (c.edit.ensures.writes.clean clean) before made at may in
           let next = next_is c.args.edits.now c.loop-edit.edit-index c.edit-item.result c.loop-edit-test.true c.edit-item.is in
           let one = next_may g.T.StoredTable.layout (with_edit g.T.StoredTable.layout) (Puts (IsValid g.T.StoredTable.layout)) g.T.StoredTable.rows g.T.StoredTable.with_rows g.met.T.Keeps.placed c.args.edits.now c.loop-edit.edit-index c.edit-item.result was.0 _ next was.2 in
           (_, c.in_ok-edit.ensures.edited clean before was.0 was.1 one, next_way g.T.StoredTable.layout (with_edit g.T.StoredTable.layout) (Puts (IsValid g.T.StoredTable.layout)) g.T.StoredTable.rows g.T.StoredTable.with_rows g.met.T.Keeps.placed c.args.edits.now c.loop-edit.edit-index c.edit-item.result was.0 _ next was.2);
@@ -40,5 +42,9 @@ returns-clause-edited g c clean before made at may =
     let was = c.loop-edit.invariant.put clean before made at may in
     subst (λ all. IsWriting before (Some all) (state g.S.Store c.loop-edit.self.tables.now.conn)) (way_ends g.T.StoredTable.layout (with_edit g.T.StoredTable.layout) (Puts (IsValid g.T.StoredTable.layout)) g.T.StoredTable.rows g.T.StoredTable.with_rows g.met.T.Keeps.placed c.args.edits.now c.loop-edit.edit-index was.0 _ c.loop-edit-test.false was.2) was.1
 
-pub returns-clause-left : goal.returns-clause-left
-returns-clause-left g c clean before made at may = (c.loop-edit.invariant.put clean before made at may).1.left
+pub returns-clause-writes : goal.returns-clause-writes
+returns-clause-writes g c = record {
+  clean = c.loop-edit.invariant.clean;
+  counts = c.loop-edit.invariant.counts;
+  left = λ clean before made at may. (c.loop-edit.invariant.put clean before made at may).1.left;
+}

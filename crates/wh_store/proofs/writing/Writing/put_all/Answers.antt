@@ -7,14 +7,16 @@ use Rattle.wh_store.proofs.Refusals.{is_among, one_refused}
 use Rattle.wh_store.proofs.Looping.{next_is, next_may, next_way, way_ends}
 use Rattle.wh_store.proofs.writing.Writing.put_all.Goals as goal
 
-pub returns-in_err-put-clause-left : goal.returns-in_err-put-clause-left
-returns-in_err-put-clause-left g c clean before made at may =
-    let was = c.loop-row.invariant.put (c.put.ensures.clean clean) before made at may in
-    c.put.ensures.left clean before was.0 was.1
+pub returns-in_err-put-clause-writes : goal.returns-in_err-put-clause-writes
+returns-in_err-put-clause-writes g c = record {
+  clean = λ clean. c.loop-row.invariant.clean (c.put.ensures.writes.clean clean);
+  counts = omega (arith, c.loop-row.invariant.counts, c.put.ensures.writes.counts);
+  left = λ clean before made at may. let was = c.loop-row.invariant.put (c.put.ensures.writes.clean clean) before made at may in c.put.ensures.writes.left clean before was.0 was.1 tt;
+}
 
 pub returns-in_err-put-clause-cause : goal.returns-in_err-put-clause-cause
 returns-in_err-put-clause-cause g c clean before made at may room =
-    let was = c.loop-row.invariant.put (c.put.ensures.clean clean) before made at may in
+    let was = c.loop-row.invariant.put (c.put.ensures.writes.clean clean) before made at may in
     let among = is_among c.args.rows.now c.loop-row.row-index c.row-item.result c.loop-row-test.true c.row-item.is in
     let next = next_is c.args.rows.now c.loop-row.row-index c.row-item.result c.loop-row-test.true c.row-item.is in
     let one = next_may g.T.StoredTable.layout (with_row g.T.StoredTable.layout) (IsValid g.T.StoredTable.layout) g.T.StoredTable.rows g.T.StoredTable.with_rows g.met.T.Keeps.placed c.args.rows.now c.loop-row.row-index c.row-item.result was.0 _ next was.2 in
@@ -27,10 +29,10 @@ loop-row-preserved g c =
     let kept = c.loop-row.invariant in
     record {
       same_reference = c.put.ensures.same_reference ∙ kept.same_reference;
-      clean = λ clean. kept.clean (c.put.ensures.clean clean);
-      counts = omega (arith, kept.counts, c.in_ok-put.ensures.counts);
+      clean = λ clean. kept.clean (c.put.ensures.writes.clean clean);
+      counts = omega (arith, kept.counts, c.in_ok-put.ensures.writes.counts);
       put = λ clean before made at may.
-          let was = kept.put (c.put.ensures.clean clean) before made at may in
+          let was = kept.put (c.put.ensures.writes.clean clean) before made at may in
           let next = next_is c.args.rows.now c.loop-row.row-index c.row-item.result c.loop-row-test.true c.row-item.is in
           let one = next_may g.T.StoredTable.layout (with_row g.T.StoredTable.layout) (IsValid g.T.StoredTable.layout) g.T.StoredTable.rows g.T.StoredTable.with_rows g.met.T.Keeps.placed c.args.rows.now c.loop-row.row-index c.row-item.result was.0 _ next was.2 in
           (_, c.in_ok-put.ensures.put clean before was.0 was.1 one, next_way g.T.StoredTable.layout (with_row g.T.StoredTable.layout) (IsValid g.T.StoredTable.layout) g.T.StoredTable.rows g.T.StoredTable.with_rows g.met.T.Keeps.placed c.args.rows.now c.loop-row.row-index c.row-item.result was.0 _ next was.2);
@@ -42,5 +44,9 @@ returns-clause-put g c clean before made at may =
     let was = c.loop-row.invariant.put clean before made at may in
     subst (λ all. IsWriting before (Some all) (state g.S.Store c.loop-row.self.tables.now.conn)) (way_ends g.T.StoredTable.layout (with_row g.T.StoredTable.layout) (IsValid g.T.StoredTable.layout) g.T.StoredTable.rows g.T.StoredTable.with_rows g.met.T.Keeps.placed c.args.rows.now c.loop-row.row-index was.0 _ c.loop-row-test.false was.2) was.1
 
-pub returns-clause-left : goal.returns-clause-left
-returns-clause-left g c clean before made at may = (c.loop-row.invariant.put clean before made at may).1.left
+pub returns-clause-writes : goal.returns-clause-writes
+returns-clause-writes g c = record {
+  clean = c.loop-row.invariant.clean;
+  counts = c.loop-row.invariant.counts;
+  left = λ clean before made at may. (c.loop-row.invariant.put clean before made at may).1.left;
+}

@@ -12,7 +12,7 @@ use Rattle.wh_store.proofs.writing.Writing.put_number.Goals as goal
 
 -- src/writing.rt:99:5
 pub returns-clause-put : goal.returns-clause-put
-returns-clause-put g c clean before made at =
+returns-clause-put g c clean before made at may =
     let same : c.in_ok-row.row ≡ (record { name = c.args.name.now; value = pos c.args.count }) = c.in_ok-row.ensures.ok in
     let utf8 : is_utf8 c.args.name.now ≡ true = is_utf8-from_IsUtf8 c.args.name.now c.utf8.name in
     let put = c.put.ensures.put clean before made at (ap (λ (r : MetaRow). is_utf8 r.name) same ∙ utf8) in

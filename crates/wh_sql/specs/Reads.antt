@@ -1,0 +1,93 @@
+-- What a call that reads the tables leaves, and what it says of them.
+use Rattle.std.specs.Prelude.{◌≡◌, ◌⊎◌, ℕ, ◌≤◌, List, [], Some, Result, IsTrue, IfErr, map, ⊤}
+use Rattle.std.specs.List.{list_all}
+use Rattle.sqlite.specs.Order.{Row}
+use Rattle.sqlite.specs.State.{State, Shown, HasCleanDisk}
+use Rattle.wh_rows.specs.declared.cause.Cause.{Cause}
+use Rattle.wh_rows.specs.declared.cause.Cause.TheVariants as cause
+use Rattle.wh_rows.specs.declared.table.Table.{Table}
+use Rattle.wh_rows.specs.Holds.{Layout}
+use Rattle.wh_rows.specs.Tables.{Tables, Stores}
+use Rattle.wh_rows.specs.AtRest.{IsAtRest, Leaves}
+use Rattle.wh_rows.specs.Raw.{Stored, IsStored, HasDamage, RestsOn, LeavesStored}
+use Rattle.wh_sql.specs.declared.fault.ReadFault.{ReadFault}
+use Rattle.wh_sql.specs.declared.fault.ReadFault.TheVariants.{Memory, Damaged, Store}
+use Rattle.wh_sql.specs.Refused.{IsCauseOfQuery}
+
+-- ---- what it leaves
+
+-- the store refused nothing
+abbrev pub SparesStore : ReadFault → Type 0
+SparesStore Memory = ⊤
+SparesStore (Damaged table) = ⊤
+SparesStore (Store why) = ⊥
+
+-- no row is out of its type
+abbrev pub SparesRows : ReadFault → Type 0
+SparesRows Memory = ⊤
+SparesRows (Damaged table) = ⊥
+SparesRows (Store why) = ⊤
+
+-- the store refused nothing, so the connection is as it was
+abbrev pub IsServed : {A : Type 0} → Result A ReadFault → Type 0
+IsServed result = IfErr result SparesStore
+
+-- no row out of its type was met
+abbrev pub IsUndamaged : {A : Type 0} → Result A ReadFault → Type 0
+IsUndamaged result = IfErr result SparesRows
+
+-- Where the disk returned what was written until now, it did so before. Where tables were at rest, no row out of its type was met, they are as they
+-- were unless the store refused, and a crash leaves what they held. So it is of whatever was stored, but that a row of it may be damaged.
+pub record ReadsOnly {A : Type 0} (old new : State) (result : Result A ReadFault) : Type 0 where
+  pub clean : HasCleanDisk new → HasCleanDisk old
+  pub sound : HasCleanDisk new → (t : Tables) → IsAtRest (Some t) old → IsUndamaged result
+  pub same : HasCleanDisk new → (t : Tables) → IsAtRest (Some t) old → IsServed result → IsAtRest (Some t) new
+  pub left : HasCleanDisk new → (t : Tables) → IsAtRest (Some t) old → Leaves (Some t) new
+  pub rests : HasCleanDisk new → (stored : Stored) → RestsOn stored old → IsServed result → RestsOn stored new
+  pub leaves : HasCleanDisk new → (stored : Stored) → RestsOn stored old → LeavesStored stored new
+
+-- The same of a call that reads and answers otherwise: what was at rest is as it was where this holds.
+pub record Spares (old new : State) (calm : Type 0) : Type 0 where
+  pub clean : HasCleanDisk new → HasCleanDisk old
+  pub same : HasCleanDisk new → (t : Tables) → IsAtRest (Some t) old → calm → IsAtRest (Some t) new
+  pub left : HasCleanDisk new → (t : Tables) → IsAtRest (Some t) old → Leaves (Some t) new
+  pub rests : HasCleanDisk new → (stored : Stored) → RestsOn stored old → calm → RestsOn stored new
+  pub leaves : HasCleanDisk new → (stored : Stored) → RestsOn stored old → LeavesStored stored new
+
+-- ---- what it says
+
+-- what is so of the ten tables that the database stored, and of whatever was stored
+abbrev pub SaysOfTables : State → State → (Tables → Type 0) → Type 0
+SaysOfTables old new fact = HasCleanDisk new → (t : Tables) → Stores old.now t → fact t
+
+abbrev pub SaysOfStored : State → State → (Stored → Type 0) → Type 0
+SaysOfStored old new fact = HasCleanDisk new → (stored : Stored) → IsStored stored old.now → fact stored
+
+-- the query, asked with these parameters, shows these rows, all of values of their types
+abbrev pub Shows : {K V : Type 0} → Layout K V → List ℕ → Row → State → State → List V → Type 0
+Shows layout text params old new rows = IsTrue (list_all layout.is_valid rows) × Shown text params old new (map layout.encode rows)
+
+-- what no parameter was made for, before the query
+abbrev pub unasked : Cause → ReadFault
+unasked cause.Memory = Memory
+unasked cause.Disk = Store cause.Disk
+unasked cause.Size = Store cause.Size
+unasked cause.Interrupted = Store cause.Interrupted
+
+-- Memory ran out for what was shown; or it shows a row that is out of its type; or the store refused it.
+abbrev pub FailsToShow : {K V : Type 0} → Layout K V → Table → List ℕ → Row → State → State → ReadFault → Type 0
+FailsToShow layout table text params old new Memory = ⊤
+FailsToShow layout table text params old new (Damaged which) = (which ≡ table) × (answer : List Row) × Shown text params old new answer × HasDamage layout answer
+FailsToShow layout table text params old new (Store why) = IsCauseOfQuery text params old new why
+
+-- Damaged names the table, and a row stored in it is out of its type
+abbrev pub IsOfDamage : {K V : Type 0} → Layout K V → Table → List Row → ReadFault → Type 0
+IsOfDamage layout table stored Memory = ⊤
+IsOfDamage layout table stored (Damaged which) = (which ≡ table) × HasDamage layout stored
+IsOfDamage layout table stored (Store why) = ⊤
+
+-- the rows are more than the store counts; or it refused to count them
+abbrev pub FailsToCount : ℕ → List ℕ → State → State → ReadFault → Type 0
+FailsToCount rows text old new Memory = ⊥
+FailsToCount rows text old new (Damaged which) = ⊥
+FailsToCount rows text old new (Store why) = ((why ≡ cause.Size) × (9223372036854775807 ≤ rows)) ⊎ IsCauseOfQuery text [] old new why

@@ -1,0 +1,47 @@
+//! Why the rows of a table weren't read.
+
+ghost use Rattle.std.specs.Prelude.{◌≡◌};
+ghost use Rattle.wh_sql.specs.Reads.{unasked};
+ghost use Rattle.wh_sql.specs.declared.fault.ReadFault.TheVariants.{Memory};
+
+use std::alloc::{AllocError, AllocFailed};
+use wh_rows::{Cause, Table};
+
+/// Why the rows of a table weren't read.
+#[derive(Clone, Copy, Debug, PartialEq, Eq)]
+pub enum ReadFault {
+    /// A growth was refused outside the store, and the store refused nothing.
+    Memory,
+    /// A stored value is out of its type.
+    Damaged(Table),
+    /// The store refused the statement.
+    Store(Cause),
+}
+
+impl From<AllocError> for ReadFault {
+    ghost from_gives = { λ _ fault. fault ≡ Memory };
+
+    fn from(_e: AllocError) -> ReadFault {
+        ReadFault::Memory
+    }
+}
+
+impl<T: Drop> From<AllocFailed<T>> for ReadFault {
+    ghost from_gives = { λ _ fault. fault ≡ Memory };
+
+    fn from(_e: AllocFailed<T>) -> ReadFault {
+        ReadFault::Memory
+    }
+}
+
+/// Why the parameters of a statement weren't made, before it was run.
+impl From<Cause> for ReadFault {
+    ghost from_gives = { λ cause fault. fault ≡ unasked cause };
+
+    fn from(cause: Cause) -> ReadFault {
+        match cause {
+            Cause::Memory => ReadFault::Memory,
+            cause => ReadFault::Store(cause),
+        }
+    }
+}

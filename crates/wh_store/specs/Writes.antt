@@ -1,0 +1,17 @@
+-- What a call inside a transaction leaves, and what it makes.
+use Rattle.std.specs.Prelude.{◌≤◌, Option, Some, Result, OnOk}
+use Rattle.sqlite.specs.State.{State, HasCleanDisk}
+use Rattle.wh_rows.specs.declared.cause.Cause.{Cause}
+use Rattle.wh_rows.specs.AtRest.{IsWriting, Leaves}
+use Rattle.wh_rows.specs.Tables.{Tables}
+
+-- Where the disk returned what was written until now, it did so before, and no fault is forgotten; and where the rows may be put, a crash leaves what
+-- the transaction began with.
+pub record WritesOnly (old new : State) (may : Type 0) : Type 0 where
+  pub clean : HasCleanDisk new → HasCleanDisk old
+  pub counts : old.faults ≤ new.faults
+  pub left : HasCleanDisk new → (before : Option Tables) (made : Tables) → IsWriting before (Some made) old → may → Leaves before new
+
+-- where the rows may be put, the tables that the transaction has made are these after an answer
+abbrev pub Makes : {A : Type 0} → State → State → Result A Cause → Type 0 → (Tables → Tables) → Type 0
+Makes old new result may step = HasCleanDisk new → (before : Option Tables) (made : Tables) → IsWriting before (Some made) old → may → OnOk result (IsWriting before (Some (step made)) new)
