@@ -10,7 +10,6 @@ use Rattle.wh_policy.specs.declared.record.DimensionRecord.{DimensionRecord}
 use Rattle.wh_policy.specs.declared.record.SaleRecord.{SaleRecord}
 use Rattle.wh_policy.specs.Written.{IsSound}
 use Rattle.wh_policy.proofs.FileLaws.{policies_are_sound}
-use Rattle.wh_batch.proofs.GoodLemmas.{cond_ok}
 use Rattle.wh_batch.specs.Layouts.{dimension_records, sale_records}
 use Rattle.wh_batch.specs.declared.kind.Kind.TheVariants.{Dimension, Sales}
 use Rattle.wh_batch.specs.declared.kind.Format.TheVariants.{One}
@@ -21,8 +20,8 @@ use Rattle.wh_history.specs.Tables.{Limits}
 use Rattle.wh_history.proofs.Basics.{some_is}
 use Rattle.wh_rows.specs.declared.rows.CommandRow.{CommandRow}
 use Rattle.wh_rows.specs.Types.{is_key}
-use Rattle.wh_engine.specs.Admission.{kind_word, content_of, in_force, accepted_as, receipt_of, changes_in, first_line_there, with_lines, when_read, by_id, answer, with_content, after_answer, accepted_after}
-use Rattle.wh_engine.specs.Decided.{already, reply_to_known, as_refused, records_told, sales_told, number_past_lines, number_for, IsNew}
+use Rattle.wh_engine.specs.Admission.{kind_word, content_of, in_force, accepted_as, receipt_of, changes_in, first_line_there, number_past_lines, number_for, answer_with, when_read, by_id, already, answer, with_content, after_answer, accepted_after}
+use Rattle.wh_engine.specs.Decided.{reply_to_known, as_refused, records_told, sales_told, IsNew}
 use Rattle.wh_plan.specs.Defined.{command_at}
 use Rattle.wh_engine.specs.Faults.{Judges}
 use Rattle.wh_plan.specs.Kept.{number_of, command_with}
@@ -38,7 +37,7 @@ use Rattle.wh_engine.specs.declared.command.Refused.TheVariants.{BadId, Reused, 
 use Rattle.wh_engine.specs.declared.command.Limit.TheVariants.{Commands, Changes, Facts}
 use Rattle.wh_plan.proofs.FoundCommands.{stored, told, find_numbered}
 use Rattle.wh_plan.proofs.GrownKeys.{at_last}
-use Rattle.wh_engine.proofs.StaysAccepted.{stays_accepted}
+use Rattle.wh_engine.proofs.StaysAccepted.{stays_accepted, had_number}
 
 -- ---- the room that there is
 
@@ -98,10 +97,6 @@ room_left kept more limit left is within = below-limit (leb (kept + more) limit)
 
 -- ---- a command whose id is known
 
-already_if : (b : Bool) (receipt : Receipt) (why : Refused) → already (cond b (Ok receipt) (Err why)) ≡ cond b (Ok (Already receipt)) (Err why)
-already_if true receipt why = refl
-already_if false receipt why = refl
-
 module _ (limits : Limits) (commands : List Accepted) (c : Command) where
   abbrev found : Option Accepted
   found = find (λ (a : Accepted). bytes_eq a.id c.id) commands
@@ -121,7 +116,7 @@ module _ (limits : Limits) (commands : List Accepted) (c : Command) where
   by_row None r h = absurd cc
   by_row (Some a) r h =
       let is = some_is _ _ h in
-      sym (already_if (bytes_eq a.kind (kind_word c.kind) && bytes_eq a.bytes c.bytes) (receipt_of commands number a.content) Reused) ∙ ap (λ (q : CommandRow). reply_to_known q c) is
+      ap (λ (q : CommandRow). reply_to_known q c) is
 
   pub known_answer : (r : CommandRow) → is_key 40 c.id ≡ true → command_with commands c.id ≡ Some r → answer limits commands c ≡ reply_to_known r c
   known_answer r good here = rw good (by_row found r (sym row_found ∙ here))
@@ -146,32 +141,6 @@ module _ (limits : Limits) (commands : List Accepted) (c : Command) where
   abbrev after : Content → List Accepted
   after content = commands ++ accepted_as c content ∷ []
 
-  abbrev accepts : Content → Result ℕ Refused → Result Reply Refused
-  accepts content (Ok number) = Ok (Accepts (receipt_of (after content) number content))
-  accepts content (Err why) = Err why
-
-  -- a content that was read is answered by the number that there is for it
-  read_answer : (content : Content) → when_read limits commands c (Ok content) ≡ accepts content (number_for limits commands content)
-  read_answer content = by_commands (leb limits.commands (length commands))
-    where
-      by_facts : (own : Result Reply Refused) (full : Bool) → own ≡ accepts content (Ok (suc (length commands))) → cond full (Err (Full Facts)) own ≡ accepts content (cond full (Err (Full Facts)) (Ok (suc (length commands))))
-      by_facts own true is = refl
-      by_facts own false is = is
-
-      by_changes : (full : Bool) → cond full (Err (Full Changes)) (cond (ltb limits.facts (length (sold commands) + length (sold_by content))) (Err (Full Facts)) (accepts content (Ok (suc (length commands)))))
-          ≡ accepts content (cond full (Err (Full Changes)) (cond (ltb limits.facts (length (sold commands) + length (sold_by content))) (Err (Full Facts)) (Ok (suc (length commands)))))
-      by_changes true = refl
-      by_changes false = by_facts (accepts content (Ok (suc (length commands)))) (ltb limits.facts (length (sold commands) + length (sold_by content))) refl
-
-      by_lines : (o : Option ℕ) → with_lines limits commands c content o ≡ accepts content (number_past_lines limits commands content o)
-      by_lines (Some line) = refl
-      by_lines None = by_changes (ltb limits.changes (changes_kept commands + changes_in content))
-
-      by_commands : (full : Bool) → cond full (Err (Full Commands)) (with_lines limits commands c content (first_line_there (sold commands) 1 (sold_by content)))
-          ≡ accepts content (cond full (Err (Full Commands)) (number_past_lines limits commands content (first_line_there (sold commands) 1 (sold_by content))))
-      by_commands true = refl
-      by_commands false = by_lines (first_line_there (sold commands) 1 (sold_by content))
-
   module _ (good : is_key 40 c.id ≡ true) (new : IsNew commands c) where
     -- the batch has a fault
     pub fault_refused : (fault : BatchFault) → content_of c.kind (in_force commands) c.bytes ≡ Err fault → answer limits commands c ≡ Err (Batch fault)
@@ -179,34 +148,19 @@ module _ (limits : Limits) (commands : List Accepted) (c : Command) where
 
     -- there is no number for it
     pub number_refused : (content : Content) (why : Refused) → content_of c.kind (in_force commands) c.bytes ≡ Ok content → number_for limits commands content ≡ Err why → answer limits commands c ≡ Err why
-    number_refused content why read none = new_answer good new ∙ ap (when_read limits commands c) read ∙ read_answer content ∙ ap (accepts content) none
+    number_refused content why read none = new_answer good new ∙ ap (when_read limits commands c) read ∙ ap (answer_with commands c content) none
 
     module _ (content : Content) (read : content_of c.kind (in_force commands) c.bytes ≡ Ok content) (next : ℕ) (room : number_for limits commands content ≡ Ok next) where
       -- it is accepted
       pub batch_accepted : answer limits commands c ≡ Ok (Accepts (receipt_of (after content) next content))
-      batch_accepted = new_answer good new ∙ ap (when_read limits commands c) read ∙ read_answer content ∙ ap (accepts content) room
+      batch_accepted = new_answer good new ∙ ap (when_read limits commands c) read ∙ ap (answer_with commands c content) room
 
       pub next_number : next ≡ suc (length commands)
-      next_number =
-          let (few, rest) = cond_ok (leb limits.commands (length commands)) (Full Commands) _ next room in
-          by_lines (first_line_there (sold commands) 1 (sold_by content)) rest
-        where
-          by_lines : (o : Option ℕ) → number_past_lines limits commands content o ≡ Ok next → next ≡ suc (length commands)
-          by_lines (Some number) h = absurd cc
-          by_lines None h =
-              let (some, more) = cond_ok (ltb limits.changes (changes_kept commands + changes_in content)) (Full Changes) _ next h in
-              let (left, last) = cond_ok (ltb limits.facts (length (sold commands) + length (sold_by content))) (Full Facts) _ next more in
-              cc
+      next_number = (had_number limits commands content next room).1
 
       -- no line of it is there
       pub lines_new : first_line_there (sold commands) 1 (sold_by content) ≡ None
-      lines_new =
-          let (few, rest) = cond_ok (leb limits.commands (length commands)) (Full Commands) _ next room in
-          by_lines (first_line_there (sold commands) 1 (sold_by content)) rest
-        where
-          by_lines : (o : Option ℕ) → number_past_lines limits commands content o ≡ Ok next → o ≡ None
-          by_lines (Some line) h = absurd cc
-          by_lines None h = refl
+      lines_new = (had_number limits commands content next room).0.lines_new
 
       pub list_accepted : IsAccepted limits commands → IsAccepted limits (commands ++ accepted_as c content ∷ [])
       list_accepted accepted = subst (IsAccepted limits) (ap (after_answer commands c) batch_accepted ∙ ap (with_content commands c) read) (stays_accepted limits commands c accepted)

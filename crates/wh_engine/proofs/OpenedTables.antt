@@ -16,18 +16,20 @@ use Rattle.wh_rows.specs.declared.cause.Cause.{Cause}
 use Rattle.wh_rows.specs.declared.rows.CommandRow.{CommandRow}
 use Rattle.wh_rows.specs.declared.rows.MetaRow.{MetaRow}
 use Rattle.wh_store.specs.Meta.{number_of, number_in, fault_of, limits_in}
-use Rattle.wh_store.specs.Opening.{IsTaken, IsRefusedWith}
+use Rattle.wh_store.specs.Opening.{SparesStore, IsTaken, IsRefusedWith, unread}
+use Rattle.wh_rows.specs.declared.table.Table.{Table}
+use Rattle.wh_sql.specs.Reads.{SparesRows, SparesStore as RefusesNothing}
+use Rattle.wh_sql.specs.declared.fault.ReadFault.{ReadFault}
+use Rattle.wh_sql.specs.declared.fault.ReadFault.TheVariants as reading
 use Rattle.wh_store.specs.declared.fault.OpenFault.{OpenFault}
-use Rattle.wh_store.specs.declared.fault.OpenFault.TheVariants as store
 use Rattle.wh_engine.specs.Admission.{in_force}
 use Rattle.wh_engine.specs.Answered.{Rests, IsReady}
 use Rattle.wh_plan.specs.Defined.{AreOf, meta_at}
 use Rattle.wh_plan.specs.Kept.{command_with}
 use Rattle.wh_plan.specs.Made.{making_of}
-use Rattle.wh_engine.specs.Opened.{making_in, of_tables, of_limits, of_policy, of_making, session_in, opened, IsTold, IsRead, IsNotOpened, LeavesMaking, LeavesMade}
+use Rattle.wh_engine.specs.Opened.{making_in, of_limits, of_policy, of_making, session_in, opened, IsTold, IsRead, IsNotOpened, LeavesMaking, LeavesMade}
 use Rattle.wh_plan.specs.Sound.{IsAccepted}
-use Rattle.wh_engine.specs.declared.opening.OpeningFault.{OpeningFault}
-use Rattle.wh_engine.specs.declared.opening.OpeningFault.TheVariants as faults
+use Rattle.wh_store.specs.declared.fault.OpenFault.TheVariants as faults
 use Rattle.wh_engine.specs.declared.session.Session.{Session}
 use Rattle.wh_engine.proofs.Decisions.{policy_in_force}
 use Rattle.wh_plan.proofs.FoundCommands.{command_of}
@@ -36,7 +38,7 @@ use Rattle.wh_plan.proofs.StaysBegun.{accepted_lists_begin}
 -- ---- readings in turn
 
 -- what was told of rows that were read
-pub read_of_told : {A : Type 0} (result told : Result A OpeningFault) (t : Tables) (s : State) → IsTold result told → ((cause : Cause) → result ≢ Err (faults.Store cause)) → IsAtRest (Some t) s → IsRead result told t s
+pub read_of_told : {A : Type 0} (result told : Result A OpenFault) (t : Tables) (s : State) → IsTold result told → ((cause : Cause) → result ≢ Err (faults.Store cause)) → IsAtRest (Some t) s → IsRead result told t s
 read_of_told (Ok x) told t s is plain rests = (is, rests)
 read_of_told (Err faults.NotAWarehouse) told t s is plain rests = (is, rests)
 read_of_told (Err faults.OldFormat) told t s is plain rests = (is, rests)
@@ -46,7 +48,7 @@ read_of_told (Err faults.Memory) told t s is plain rests = (is, rests)
 read_of_told (Err (faults.Store cause)) told t s is plain rests = absurd (plain cause refl)
 
 -- a fault of a first reading is that of the whole
-pub fault_goes_on : {A B : Type 0} (fault : OpeningFault) (first : Result A OpeningFault) (whole : Result B OpeningFault) (t : Tables) (s : State) → ((e : OpeningFault) → first ≡ Err e → whole ≡ Err e) → IsRead (Err fault) first t s → IsRead (Err fault) whole t s
+pub fault_goes_on : {A B : Type 0} (fault : OpenFault) (first : Result A OpenFault) (whole : Result B OpenFault) (t : Tables) (s : State) → ((e : OpenFault) → first ≡ Err e → whole ≡ Err e) → IsRead (Err fault) first t s → IsRead (Err fault) whole t s
 fault_goes_on faults.NotAWarehouse first whole t s goes read = (goes faults.NotAWarehouse read.0, read.1)
 fault_goes_on faults.OldFormat first whole t s goes read = (goes faults.OldFormat read.0, read.1)
 fault_goes_on faults.NewFormat first whole t s goes read = (goes faults.NewFormat read.0, read.1)
@@ -55,11 +57,11 @@ fault_goes_on faults.Memory first whole t s goes read = read
 fault_goes_on (faults.Store cause) first whole t s goes read = read
 
 module _ (t : Tables) where
-  pub limits_fault : (e : OpeningFault) → of_limits (limits_in t) ≡ Err e → session_in t ≡ Err e
+  pub limits_fault : (e : OpenFault) → of_limits (limits_in t) ≡ Err e → session_in t ≡ Err e
   unfolding session_in
   limits_fault e is = rw is refl
 
-  pub policy_fault : (limits : Limits) (e : OpeningFault) → of_limits (limits_in t) ≡ Ok limits → of_making (making_in t) ≡ Err e → session_in t ≡ Err e
+  pub policy_fault : (limits : Limits) (e : OpenFault) → of_limits (limits_in t) ≡ Ok limits → of_making (making_in t) ≡ Err e → session_in t ≡ Err e
   unfolding session_in
   policy_fault limits e first is = rw (first, is) refl
 
@@ -69,7 +71,7 @@ module _ (t : Tables) where
 
   -- ---- the format comes first
 
-  pub format_fault : (fault : OpenFault) → fault_of (number_in t (codes "format")) ≡ Err fault → opened t ≡ Err (of_tables fault)
+  pub format_fault : (fault : OpenFault) → fault_of (number_in t (codes "format")) ≡ Err fault → opened t ≡ Err fault
   unfolding opened
   format_fault fault is = rw is refl
 
@@ -77,12 +79,26 @@ module _ (t : Tables) where
   unfolding opened
   format_known is = rw is refl
 
-  pub not_opened : (old s : State) (fault : OpenFault) → IsRefusedWith t old s fault → Leaves (Some t) s → IsRead {A = Session} (Err (of_tables fault)) (opened t) t s
-  not_opened old s store.NotAWarehouse refused left = (format_fault store.NotAWarehouse refused.0, refused.1)
-  not_opened old s store.OldFormat refused left = (format_fault store.OldFormat refused.0, refused.1)
-  not_opened old s store.NewFormat refused left = (format_fault store.NewFormat refused.0, refused.1)
-  not_opened old s (store.Damaged table) refused left = absurd refused
-  not_opened old s (store.Store cause) refused left = left
+  pub not_opened : (old s : State) (fault : OpenFault) → IsRefusedWith t old s fault → Leaves (Some t) s → (SparesStore fault → IsAtRest (Some t) s) → IsRead {A = Session} (Err fault) (opened t) t s
+  not_opened old s faults.NotAWarehouse refused left rests = (format_fault faults.NotAWarehouse refused, rests tt)
+  not_opened old s faults.OldFormat refused left rests = (format_fault faults.OldFormat refused, rests tt)
+  not_opened old s faults.NewFormat refused left rests = (format_fault faults.NewFormat refused, rests tt)
+  not_opened old s (faults.Damaged table) refused left rests = absurd refused
+  not_opened old s faults.Memory refused left rests = (tt, rests tt)
+  not_opened old s (faults.Store cause) refused left rests = left
+
+  -- a reading that wasn't answered, by its fault
+  pub rows_unread : {A : Type 0} (why : ReadFault) (told : Result A OpenFault) (s : State) → SparesRows why → (RefusesNothing why → IsAtRest (Some t) s) → Leaves (Some t) s → IsRead (Err (unread why)) told t s
+  rows_unread reading.Memory told s undamaged rests left = (tt, rests tt)
+  rows_unread (reading.Damaged table) told s undamaged rests left = absurd undamaged
+  rows_unread (reading.Store cause) told s undamaged rests left = left
+
+  -- so of the limits, which are damaged where one of them is not there
+  pub limits_unread : (why : ReadFault) (s : State) → ((table : Table) → ◌≡◌ {A = Result Limits ReadFault} (Err why) (Err (reading.Damaged table)) → (table ≡ Table.Meta) × (limits_in t ≡ None)) → (RefusesNothing why → IsAtRest (Some t) s) → Leaves (Some t) s
+      → IsRead {A = Session} (Err (unread why)) (session_in t) t s
+  limits_unread reading.Memory s said rests left = (tt, rests tt)
+  limits_unread (reading.Damaged table) s said rests left = (limits_fault (faults.Damaged table) (ap of_limits (said table refl).1 ∙ ap (λ which. Err (faults.Damaged which)) (sym (said table refl).0)), rests tt)
+  limits_unread (reading.Store cause) s said rests left = left
 
 same_ok : {A F : Type 0} (r : Result A F) (x y : A) → r ≡ Ok x → r ≡ Ok y → x ≡ y
 same_ok r x y first second = cc
@@ -135,7 +151,7 @@ module _ (limits : Limits) (commands : List Accepted) (t : Tables) (accepted : I
       record { accepted = accepted; rests = record { tables = t; are = are; rests = rests }; session_is = sym same }
 
   -- and refused by the store, or for want of memory, alone
-  pub opened_refused : (fault : OpeningFault) (s : State) → IsRead {A = Session} (Err fault) (opened t) t s → IsNotOpened limits commands fault s
+  pub opened_refused : (fault : OpenFault) (s : State) → IsRead {A = Session} (Err fault) (opened t) t s → IsNotOpened limits commands fault s
   opened_refused faults.Memory s read = record { tables = t; are = are; rests = read.1 }
   opened_refused (faults.Store cause) s read = record { each = λ trees may. inl (record { tables = t; are = are; trees_are = read.each trees may }) }
   opened_refused faults.NotAWarehouse s read = absurd (never (sym opened_there ∙ read.0))

@@ -2,13 +2,13 @@
 use Rattle.std.proofs.Common.{◌≡◌, ℕ, suc, true, false, cond, leb, ltb, ◌+◌, List, [], ◌∷◌, ◌++◌, length, map, Option, Some, None, Result, Ok, Err, refl, sym, ◌∙◌, ap}
 use Rattle.std.specs.Prelude.{find, bytes_eq}
 use Rattle.std.proofs.lemmas.Slice.Eq.{bytes_eq-Decides}
-use Rattle.wh_batch.proofs.GoodLemmas.{cond_ok}
+use Rattle.wh_engine.proofs.StaysAccepted.{receipt_is}
 use Rattle.wh_batch.specs.declared.fault.BatchFault.{BatchFault}
 use Rattle.wh_history.specs.Accepted.{Accepted, Content, sold, sold_by}
 use Rattle.wh_history.specs.Keys.{place, after_one}
 use Rattle.wh_history.specs.Tables.{Limits}
 use Rattle.wh_rows.specs.Types.{is_key}
-use Rattle.wh_engine.specs.Admission.{kind_word, content_of, in_force, accepted_as, receipt_of, changes_in, first_line_there, with_lines, when_read, answer, with_content, after_answer, accepted_after}
+use Rattle.wh_engine.specs.Admission.{kind_word, content_of, in_force, accepted_as, receipt_of, changes_in, first_line_there, when_read, answer, with_content, after_answer, accepted_after}
 use Rattle.wh_engine.specs.Redelivered.{receipt_told, HasReceipt}
 use Rattle.wh_plan.specs.Sound.{changes_kept}
 use Rattle.wh_engine.specs.declared.command.Command.{Command}
@@ -31,23 +31,6 @@ placed_last id (y ∷ ys) x none own =
     ] none
 
 module _ (limits : Limits) (commands : List Accepted) (c : Command) where
-  -- what an accepted content is told
-  module _ (content : Content) (receipt : Receipt) where
-    abbrev own_receipt : Receipt
-    own_receipt = receipt_of (commands ++ accepted_as c content ∷ []) (suc (length commands)) content
-
-    after_lines : (o : Option ℕ) → with_lines limits commands c content o ≡ Ok (Accepts receipt) → own_receipt ≡ receipt
-    after_lines (Some number) h = absurd cc
-    after_lines None h =
-        let (changes, rest) = cond_ok (ltb limits.changes (changes_kept commands + changes_in content)) (Full Changes) _ (Accepts receipt) h in
-        let (facts, last) = cond_ok (ltb limits.facts (length (sold commands) + length (sold_by content))) (Full Facts) _ (Accepts receipt) rest in
-        cc
-
-    receipt_is : when_read limits commands c (Ok content) ≡ Ok (Accepts receipt) → own_receipt ≡ receipt
-    receipt_is h =
-        let (few, rest) = cond_ok (leb limits.commands (length commands)) (Full Commands) _ (Accepts receipt) h in
-        after_lines (first_line_there (sold commands) 1 (sold_by content)) rest
-
   abbrev found : Option Accepted
   found = find (λ (a : Accepted). bytes_eq a.id c.id) commands
 
@@ -69,7 +52,7 @@ module _ (limits : Limits) (commands : List Accepted) (c : Command) where
       record {
         first = Accepts receipt;
         said = is;
-        same = ap receipt_told (sym reply_is) ∙ ap (λ n. receipt_of after n content) (placed_last c.id commands (accepted_as c content) new id) ∙ receipt_is content receipt read;
+        same = ap receipt_told (sym reply_is) ∙ ap (λ n. receipt_of after n content) (placed_last c.id commands (accepted_as c content) new id) ∙ receipt_is limits commands c content receipt read;
       }
 
   by_content : (read : Result Content BatchFault) (receipt : Receipt) (reply : Reply) → content_of c.kind (in_force commands) c.bytes ≡ read → is_key 40 c.id ≡ true → found ≡ None → answer limits commands c ≡ Ok (Accepts receipt)

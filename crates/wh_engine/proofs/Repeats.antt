@@ -6,7 +6,7 @@ use Rattle.wh_batch.specs.declared.fault.BatchFault.{BatchFault}
 use Rattle.wh_history.specs.Accepted.{Accepted, Content}
 use Rattle.wh_history.specs.Tables.{Limits}
 use Rattle.wh_rows.specs.Types.{is_key}
-use Rattle.wh_engine.specs.Admission.{kind_word, content_of, in_force, accepted_as, by_id, answer, with_content, after_answer, accepted_after}
+use Rattle.wh_engine.specs.Admission.{kind_word, content_of, in_force, accepted_as, already, by_id, answer, with_content, after_answer, accepted_after}
 use Rattle.wh_engine.specs.declared.command.Command.{Command}
 use Rattle.wh_engine.specs.declared.command.Receipt.{Receipt}
 use Rattle.wh_engine.specs.declared.command.Reply.{Reply}
@@ -33,7 +33,7 @@ module _ (limits : Limits) (commands : List Accepted) (c : Command) where
   by_case b o = cond b (by_id limits commands c o) (Err BadId)
 
   abbrev known_case : Bool → Receipt → Result Reply Refused
-  known_case b r = cond b (Ok (Already r)) (Err Reused)
+  known_case b r = already (cond b (Ok r) (Err Reused))
 
   known_refused : (b : Bool) (r s : Receipt) → known_case b r ≡ Ok (Accepts s) → ⊥
   known_refused true r s h = cc

@@ -1,5 +1,5 @@
 -- An accepted batch leaves the list of commands one that can have been accepted.
-use Rattle.std.proofs.Common.{◌≡◌, ℕ, suc, ◌+◌, ◌*◌, ◌≤◌, ◌<◌, Bool, true, false, cond, leb, ltb, ◌||◌, List, [], ◌∷◌, ◌++◌, length, map, Option, Some, None, Result, Ok, Err, refl, ap, ◌∙◌, arith, append-nil}
+use Rattle.std.proofs.Common.{◌≡◌, ℕ, suc, ◌+◌, ◌*◌, ◌≤◌, ◌<◌, Bool, true, false, cond, leb, ltb, ◌||◌, List, [], ◌∷◌, ◌++◌, length, map, Option, Some, None, Result, Ok, Err, refl, sym, ap, ◌∙◌, arith, append-nil}
 use Rattle.std.specs.Prelude.{find, bytes_eq, IsSome, unwrap_or, option_map}
 use Rattle.std.specs.List.{AllByRecursion, IsDistinct, list_any}
 use Rattle.std.proofs.lemmas.Bool.{leb-false, ltb-false}
@@ -25,7 +25,7 @@ use Rattle.wh_history.proofs.Joins.{all_append}
 use Rattle.wh_history.proofs.Stays.{policy_last, types-last}
 use Rattle.wh_history.proofs.Untouched.{described-last}
 use Rattle.wh_rows.specs.Types.{is_key, is_kind}
-use Rattle.wh_engine.specs.Admission.{kind_word, content_of, in_force, accepted_as, changes_in, first_line_there, with_lines, when_read, answer, with_content, after_answer, accepted_after, AcceptedListsStaySound}
+use Rattle.wh_engine.specs.Admission.{kind_word, content_of, in_force, accepted_as, receipt_of, changes_in, first_line_there, number_past_lines, number_for, answer_with, when_read, answer, with_content, after_answer, accepted_after, AcceptedListsStaySound}
 use Rattle.wh_plan.specs.Sound.{IsGoodRecord, IsGoodSale, same_line, changes_kept, IsAccepted}
 use Rattle.wh_engine.specs.declared.command.Command.{Command}
 use Rattle.wh_engine.specs.declared.command.Receipt.{Receipt}
@@ -189,18 +189,33 @@ pub record HasRoom (limits : Limits) (commands : List Accepted) (content : Conte
   pub facts_left : length (sold commands) + length (sold_by content) ≤ limits.facts
   pub lines_new : first_line_there (sold commands) 1 (sold_by content) ≡ None
 
-module _ (limits : Limits) (commands : List Accepted) (c : Command) (content : Content) (receipt : Receipt) where
-  room_after_lines : length commands < limits.commands → (o : Option ℕ) → first_line_there (sold commands) 1 (sold_by content) ≡ o → with_lines limits commands c content o ≡ Ok (Accepts receipt) → HasRoom limits commands content
+module _ (limits : Limits) (commands : List Accepted) (content : Content) (next : ℕ) where
+  room_after_lines : length commands < limits.commands → (o : Option ℕ) → first_line_there (sold commands) 1 (sold_by content) ≡ o → number_past_lines limits commands content o ≡ Ok next → HasRoom limits commands content × (next ≡ suc (length commands))
   room_after_lines left (Some number) is h = absurd cc
   room_after_lines left None is h =
-      let (few, rest) = cond_ok (ltb limits.changes (changes_kept commands + changes_in content)) (Full Changes) _ (Accepts receipt) h in
-      let (fewer, last) = cond_ok (ltb limits.facts (length (sold commands) + length (sold_by content))) (Full Facts) _ (Accepts receipt) rest in
-      record { commands_left = left; changes_left = ltb-false _ _ few; facts_left = ltb-false _ _ fewer; lines_new = is }
+      let (few, rest) = cond_ok (ltb limits.changes (changes_kept commands + changes_in content)) (Full Changes) _ next h in
+      let (fewer, last) = cond_ok (ltb limits.facts (length (sold commands) + length (sold_by content))) (Full Facts) _ next rest in
+      (record { commands_left = left; changes_left = ltb-false _ _ few; facts_left = ltb-false _ _ fewer; lines_new = is }, cc)
+
+  -- where there is a number, there was room, and the number is the next
+  pub had_number : number_for limits commands content ≡ Ok next → HasRoom limits commands content × (next ≡ suc (length commands))
+  had_number h =
+      let (few, rest) = cond_ok (leb limits.commands (length commands)) (Full Commands) _ next h in
+      room_after_lines (leb-false _ _ few) (first_line_there (sold commands) 1 (sold_by content)) refl rest
+
+module _ (limits : Limits) (commands : List Accepted) (c : Command) (content : Content) (receipt : Receipt) where
+  was_numbered : (o : Result ℕ Refused) → answer_with commands c content o ≡ Ok (Accepts receipt) → (next : ℕ) × (o ≡ Ok next) × (receipt_of (commands ++ accepted_as c content ∷ []) next content ≡ receipt)
+  was_numbered (Ok next) h = (next, refl, cc)
+  was_numbered (Err why) h = absurd cc
 
   pub had_room : when_read limits commands c (Ok content) ≡ Ok (Accepts receipt) → HasRoom limits commands content
-  had_room h =
-      let (few, rest) = cond_ok (leb limits.commands (length commands)) (Full Commands) _ (Accepts receipt) h in
-      room_after_lines (leb-false _ _ few) (first_line_there (sold commands) 1 (sold_by content)) refl rest
+  had_room h = let told = was_numbered (number_for limits commands content) h in (had_number limits commands content told.0 told.1).0
+
+  -- the receipt of what was accepted
+  pub receipt_is : when_read limits commands c (Ok content) ≡ Ok (Accepts receipt) → receipt_of (commands ++ accepted_as c content ∷ []) (suc (length commands)) content ≡ receipt
+  receipt_is h =
+      let told = was_numbered (number_for limits commands content) h in
+      ap (λ n. receipt_of (commands ++ accepted_as c content ∷ []) n content) (sym (had_number limits commands content told.0 told.1).1) ∙ told.2
 
 -- what was read is good
 good_content : (kind : Kind) (policy : Policy) (bytes : List ℕ) (content : Content) → ((dim : Dim) → length (attributes_of policy dim) ≤ 6) → content_of kind policy bytes ≡ Ok content → IsGoodContent content

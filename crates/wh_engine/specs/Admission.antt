@@ -2,10 +2,10 @@
 use Rattle.std.specs.Prelude.{ℕ, suc, ◌+◌, ◌&&◌, nat_le, nat_lt, cond, codes, List, [], ◌∷◌, ◌++◌, length, map, find, Option, Some, None, unwrap_or, bytes_eq, Result, Ok, Err}
 use Rattle.std.specs.List.{list_any}
 use Rattle.wh_day.specs.Reading.{◌>>=◌}
-use Rattle.wh_policy.specs.declared.attribute.Dim.TheVariants.{Product, Store, Customer}
 use Rattle.wh_policy.specs.Policy.{trial_policy}
 use Rattle.wh_policy.specs.declared.policy.Policy.{Policy}
 use Rattle.wh_policy.specs.declared.record.SaleRecord.{SaleRecord}
+pub use Rattle.wh_batch.specs.Kind.{kind_word}
 use Rattle.wh_batch.specs.Layouts.{dimension_records, sale_records}
 use Rattle.wh_batch.specs.declared.kind.Kind.{Kind}
 use Rattle.wh_batch.specs.declared.kind.Kind.TheVariants.{Dimension, Sales}
@@ -23,13 +23,6 @@ use Rattle.wh_engine.specs.declared.command.Reply.TheVariants.{Accepted as Accep
 use Rattle.wh_engine.specs.declared.command.Refused.{Refused}
 use Rattle.wh_engine.specs.declared.command.Refused.TheVariants.{BadId, Reused, Batch, LineThere, Full}
 use Rattle.wh_engine.specs.declared.command.Limit.TheVariants.{Commands, Changes, Facts}
-
--- the word for a kind of batch
-abbrev pub kind_word : Kind → List ℕ
-kind_word (Dimension Product) = codes "product"
-kind_word (Dimension Store) = codes "store"
-kind_word (Dimension Customer) = codes "customer"
-kind_word Sales = codes "sales"
 
 -- the policy in force; a list of accepted commands begins with a making, so it has one
 abbrev pub in_force : List Accepted → Policy
@@ -60,26 +53,38 @@ changes_in (Governs policy) = 0
 changes_in (Describes dim records) = length records
 changes_in (Sells sales) = 0
 
--- by what is there and by the limits, a content that was read
-abbrev pub with_room : Limits → List Accepted → Command → Content → Result Reply Refused
-with_room limits commands c content =
+-- the number of the next command where this content has no line that is there
+abbrev pub number_past_lines : Limits → List Accepted → Content → Option ℕ → Result ℕ Refused
+number_past_lines limits commands content (Some number) = Err (LineThere number)
+number_past_lines limits commands content None =
     cond (nat_lt limits.changes (changes_kept commands + changes_in content)) (Err (Full Changes))
-    (cond (nat_lt limits.facts (length (sold commands) + length (sold_by content))) (Err (Full Facts))
-    (Ok (Accepts (receipt_of (commands ++ accepted_as c content ∷ []) (suc (length commands)) content))))
+    (cond (nat_lt limits.facts (length (sold commands) + length (sold_by content))) (Err (Full Facts)) (Ok (suc (length commands))))
 
-abbrev pub with_lines : Limits → List Accepted → Command → Content → Option ℕ → Result Reply Refused
-with_lines limits commands c content (Some number) = Err (LineThere number)
-with_lines limits commands c content None = with_room limits commands c content
+-- the number of the next command where there is room for it and for this content, and no line of it is there
+abbrev pub number_for : Limits → List Accepted → Content → Result ℕ Refused
+number_for limits commands content =
+    cond (nat_le limits.commands (length commands)) (Err (Full Commands)) (number_past_lines limits commands content (first_line_there (sold commands) 1 (sold_by content)))
+
+-- the answer with its number, or why there is none
+abbrev pub answer_with : List Accepted → Command → Content → Result ℕ Refused → Result Reply Refused
+answer_with commands c content (Ok number) = Ok (Accepts (receipt_of (commands ++ accepted_as c content ∷ []) number content))
+answer_with commands c content (Err why) = Err why
 
 abbrev pub when_read : Limits → List Accepted → Command → Result Content BatchFault → Result Reply Refused
 when_read limits commands c (Err fault) = Err (Batch fault)
-when_read limits commands c (Ok content) =
-    cond (nat_le limits.commands (length commands)) (Err (Full Commands)) (with_lines limits commands c content (first_line_there (sold commands) 1 (sold_by content)))
+when_read limits commands c (Ok content) = answer_with commands c content (number_for limits commands content)
 
--- a command whose id is known comes again, or another one has its id
+-- a command whose id is known comes again where kind and bytes are the same too, and has the receipt that was kept
+abbrev pub receipt_again : (kind bytes : List ℕ) → Command → Receipt → Result Receipt Refused
+receipt_again kind bytes c kept = cond (bytes_eq kind (kind_word c.kind) && bytes_eq bytes c.bytes) (Ok kept) (Err Reused)
+
+-- and the answer with it
+abbrev pub already : Result Receipt Refused → Result Reply Refused
+already (Ok receipt) = Ok (Already receipt)
+already (Err why) = Err why
+
 abbrev pub when_known : List Accepted → Command → Accepted → Result Reply Refused
-when_known commands c a =
-    cond (bytes_eq a.kind (kind_word c.kind) && bytes_eq a.bytes c.bytes) (Ok (Already (receipt_of commands (place bytes_eq c.id (map (λ (b : Accepted). b.id) commands)) a.content))) (Err Reused)
+when_known commands c a = already (receipt_again a.kind a.bytes c (receipt_of commands (place bytes_eq c.id (map (λ (b : Accepted). b.id) commands)) a.content))
 
 abbrev pub by_id : Limits → List Accepted → Command → Option Accepted → Result Reply Refused
 by_id limits commands c (Some a) = when_known commands c a

@@ -1,5 +1,5 @@
 -- What a warehouse holds behind a call, by its answer.
-use Rattle.std.specs.Prelude.{◌≡◌, ◌⊎◌, false, List, length, Some, Result, Ok, Err, IsTrue}
+use Rattle.std.specs.Prelude.{◌≡◌, ◌⊎◌, false, List, length, Some, Result, Ok, Err, IsTrue, ⊤}
 use Rattle.sqlite.specs.Tree.{Trees}
 use Rattle.sqlite.specs.State.{State}
 use Rattle.wh_policy.specs.declared.attribute.Dim.TheVariants.{Product, Store as Stores, Customer}
@@ -45,16 +45,8 @@ pub record IsStopped (limits : Limits) (before after : List Accepted) (session :
   pub flagged : IsTrue session.must_reopen
   pub left : LeavesOneOf limits before after s
 
--- What a command's answer says: the answer is that of the definition, and the tables are those of the list after it; or memory ran out and
--- nothing changed; or the store refused a call.
-abbrev pub IsAnswered : Limits → List Accepted → Command → Result Reply Fault → Session → State → Type 0
-IsAnswered limits commands c (Ok reply) session s = (answer limits commands c ≡ Ok reply) × IsReady limits (accepted_after limits commands c) session s
-IsAnswered limits commands c (Err (Refused why)) session s = (answer limits commands c ≡ Err why) × IsReady limits commands session s
-IsAnswered limits commands c (Err Memory) session s = IsReady limits commands session s
-IsAnswered limits commands c (Err (Store cause)) session s = IsStopped limits commands (accepted_after limits commands c) session s
-IsAnswered limits commands c (Err fault) session s = ⊥
-
--- The same of the work on one command, before a refusal of the store is noted.
+-- What the work on a command says: the answer is that of the definition, and the tables are those of the list after it; or memory ran out and
+-- nothing changed; or the store refused a call, and a crash leaves the tables before the command, or those with it.
 abbrev pub IsPerformed : Limits → List Accepted → Command → Result Reply Fault → Session → State → Type 0
 IsPerformed limits commands c (Ok reply) session s = (answer limits commands c ≡ Ok reply) × IsReady limits (accepted_after limits commands c) session s
 IsPerformed limits commands c (Err (Refused why)) session s = (answer limits commands c ≡ Err why) × IsReady limits commands session s
@@ -62,12 +54,17 @@ IsPerformed limits commands c (Err Memory) session s = IsReady limits commands s
 IsPerformed limits commands c (Err (Store cause)) session s = LeavesOneOf limits commands (accepted_after limits commands c) s
 IsPerformed limits commands c (Err fault) session s = ⊥
 
+-- What a command's answer says: the same, and where the store refused a call the engine has to be opened again.
+abbrev pub IsAnswered : Limits → List Accepted → Command → Result Reply Fault → Session → State → Type 0
+IsAnswered limits commands c (Err (Store cause)) session s = IsStopped limits commands (accepted_after limits commands c) session s
+IsAnswered limits commands c result session s = IsPerformed limits commands c result session s
+
 -- an answer that leaves any tables as they were: nothing was accepted, and the store refused no call
 abbrev pub KeepsNothing : Result Reply Fault → Type 0
 KeepsNothing (Ok (replies.Accepted receipt)) = ⊥
-KeepsNothing (Ok (replies.Already receipt)) = Unit {0}
+KeepsNothing (Ok (replies.Already receipt)) = ⊤
 KeepsNothing (Err (Store cause)) = ⊥
-KeepsNothing (Err fault) = Unit {0}
+KeepsNothing (Err fault) = ⊤
 
 -- how much the tables of these commands hold
 abbrev pub counts_of : List Accepted → Counts

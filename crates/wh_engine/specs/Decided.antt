@@ -10,7 +10,7 @@ use Rattle.wh_batch.specs.declared.kind.Format.TheVariants.{One}
 use Rattle.wh_history.specs.Accepted.{Accepted, Content, sold, sold_by}
 use Rattle.wh_history.specs.Tables.{Limits}
 use Rattle.wh_rows.specs.declared.rows.CommandRow.{CommandRow}
-use Rattle.wh_engine.specs.Admission.{kind_word, content_of, accepted_as, in_force, changes_in, first_line_there}
+use Rattle.wh_engine.specs.Admission.{kind_word, content_of, accepted_as, in_force, receipt_again, already}
 use Rattle.wh_rows.specs.Tables.{Tables}
 use Rattle.wh_plan.specs.Defined.{AreOf}
 use Rattle.wh_plan.specs.Planned.{Edits, AreEdits}
@@ -26,15 +26,9 @@ use Rattle.wh_engine.specs.declared.session.Session.{Session}
 use Rattle.wh_engine.specs.declared.decision.Decision.{Decision}
 use Rattle.wh_engine.specs.declared.decision.Decision.TheVariants.{Repeat, Accept}
 
--- the receipt that was kept for a command whose id is that of this row
+-- the receipt that was kept for a command whose id is that of this row, and the answer with it
 abbrev pub receipt_of_known : CommandRow → Command → Result Receipt Refused
-receipt_of_known row c =
-    cond (bytes_eq row.kind (kind_word c.kind) && bytes_eq row.bytes c.bytes) (Ok (record { number = row.number; records = row.records; placeholders = row.placeholders })) (Err Reused)
-
--- and the answer with it
-abbrev pub already : Result Receipt Refused → Result Reply Refused
-already (Ok receipt) = Ok (Already receipt)
-already (Err why) = Err why
+receipt_of_known row c = receipt_again row.kind row.bytes c (record { number = row.number; records = row.records; placeholders = row.placeholders })
 
 abbrev pub reply_to_known : CommandRow → Command → Result Reply Refused
 reply_to_known row c = already (receipt_of_known row c)
@@ -53,18 +47,6 @@ sales_told policy bytes = as_refused (sale_records policy One bytes)
 -- the row of a batch that holds so many records and is the first to mention no member that it sells
 abbrev pub row_of_batch : Command → ℕ → ℕ → CommandRow
 row_of_batch c number records = record { number = number; id = c.id; kind = kind_word c.kind; bytes = c.bytes; records = records; placeholders = 0 }
-
--- the number of the next command where this content has no line that is there
-abbrev pub number_past_lines : Limits → List Accepted → Content → Option ℕ → Result ℕ Refused
-number_past_lines limits commands content (Some number) = Err (LineThere number)
-number_past_lines limits commands content None =
-    cond (nat_lt limits.changes (changes_kept commands + changes_in content)) (Err (Full Changes))
-    (cond (nat_lt limits.facts (length (sold commands) + length (sold_by content))) (Err (Full Facts)) (Ok (suc (length commands))))
-
--- the number of the next command where there is room for it and for this content, and no line of it is there
-abbrev pub number_for : Limits → List Accepted → Content → Result ℕ Refused
-number_for limits commands content =
-    cond (nat_le limits.commands (length commands)) (Err (Full Commands)) (number_past_lines limits commands content (first_line_there (sold commands) 1 (sold_by content)))
 
 -- no accepted command has its id
 abbrev pub IsNew : List Accepted → Command → Type 0

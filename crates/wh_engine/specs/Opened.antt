@@ -16,13 +16,11 @@ use Rattle.wh_rows.specs.declared.table.Table.TheVariants as tables
 use Rattle.wh_sql.specs.Asked.{same_text}
 use Rattle.wh_store.specs.Meta.{number_in, fault_of, limits_in}
 use Rattle.wh_store.specs.declared.fault.OpenFault.{OpenFault}
-use Rattle.wh_store.specs.declared.fault.OpenFault.TheVariants as store
 use Rattle.wh_engine.specs.Answered.{Rests, AreTreesOf, LeavesOneOf}
 use Rattle.wh_plan.specs.Made.{making_of}
 use Rattle.wh_engine.specs.declared.opening.InitFault.{InitFault}
 use Rattle.wh_engine.specs.declared.opening.InitFault.TheVariants as init
-use Rattle.wh_engine.specs.declared.opening.OpeningFault.{OpeningFault}
-use Rattle.wh_engine.specs.declared.opening.OpeningFault.TheVariants as faults
+use Rattle.wh_store.specs.declared.fault.OpenFault.TheVariants as faults
 use Rattle.wh_engine.specs.declared.session.Session.{Session}
 
 -- the rows with the making's id, and the first of them
@@ -32,54 +30,41 @@ makings_in t = filter (λ r. same_text (codes "init") r.id) (values t.command)
 abbrev pub making_in : Tables → Option CommandRow
 making_in t = slice_get (makings_in t) 0
 
--- a fault of the tables, as one of the warehouse
-abbrev pub of_tables : OpenFault → OpeningFault
-of_tables store.NotAWarehouse = faults.NotAWarehouse
-of_tables store.OldFormat = faults.OldFormat
-of_tables store.NewFormat = faults.NewFormat
-of_tables (store.Damaged table) = faults.Damaged table
-of_tables (store.Store cause) = faults.Store cause
-
--- the format is one that is known
-abbrev pub of_format : {A : Type 0} → Result A OpenFault → Result A OpeningFault
-of_format (Ok known) = Ok known
-of_format (Err fault) = Err (of_tables fault)
-
 -- the limits, or meta is damaged
-abbrev pub of_limits : Option Limits → Result Limits OpeningFault
+abbrev pub of_limits : Option Limits → Result Limits OpenFault
 of_limits (Some limits) = Ok limits
 of_limits None = Err (faults.Damaged tables.Meta)
 
 -- the policy that the making's bytes give, or command is damaged
-abbrev pub of_policy : Result Policy PolicyFault → Result Policy OpeningFault
+abbrev pub of_policy : Result Policy PolicyFault → Result Policy OpenFault
 of_policy (Ok policy) = Ok policy
 of_policy (Err fault) = Err (faults.Damaged tables.Command)
 
-abbrev pub of_making : Option CommandRow → Result Policy OpeningFault
+abbrev pub of_making : Option CommandRow → Result Policy OpenFault
 of_making (Some row) = of_policy (policy_at row.bytes)
 of_making None = Err (faults.Damaged tables.Command)
 
 -- What an engine has to know of tables that are opened, or the first fault that is met.
-unfoldable pub session_in : Tables → Result Session OpeningFault
+unfoldable pub session_in : Tables → Result Session OpenFault
 session_in t =
     of_limits (limits_in t) >>= λ limits. of_making (making_in t) >>= λ policy. Ok (record { limits = limits; policy = policy; must_reopen = false })
 
-unfoldable pub opened : Tables → Result Session OpeningFault
-opened t = of_format (fault_of (number_in t (codes "format"))) >>= λ _. session_in t
+unfoldable pub opened : Tables → Result Session OpenFault
+opened t = fault_of (number_in t (codes "format")) >>= λ _. session_in t
 
 -- what was read is what the bytes say, or memory ran out
-abbrev pub IsTold : {A : Type 0} → Result A OpeningFault → Result A OpeningFault → Type 0
+abbrev pub IsTold : {A : Type 0} → Result A OpenFault → Result A OpenFault → Type 0
 IsTold (Err faults.Memory) told = Unit {0}
 IsTold result told = told ≡ result
 
 -- What was read of tables at rest is what they say, or the first fault that is met, or memory ran out, and nothing changed; or the store
 -- refused a call, and a crash leaves what was held.
-abbrev pub IsRead : {A : Type 0} → Result A OpeningFault → Result A OpeningFault → Tables → State → Type 0
+abbrev pub IsRead : {A : Type 0} → Result A OpenFault → Result A OpenFault → Tables → State → Type 0
 IsRead (Err (faults.Store cause)) told t s = Leaves (Some t) s
 IsRead result told t s = IsTold result told × IsAtRest (Some t) s
 
 -- A warehouse that wasn't opened: memory ran out, and nothing changed; or the store refused a call, and a crash leaves its tables. No other fault comes.
-abbrev pub IsNotOpened : Limits → List Accepted → OpeningFault → State → Type 0
+abbrev pub IsNotOpened : Limits → List Accepted → OpenFault → State → Type 0
 IsNotOpened limits commands faults.Memory s = Rests limits commands s
 IsNotOpened limits commands (faults.Store cause) s = LeavesOneOf limits commands commands s
 IsNotOpened limits commands fault s = ⊥

@@ -3,47 +3,33 @@
 ghost use Rattle.std.specs.Prelude.{◌≡◌, ◌+◌, ◌*◌, ◌≤◌, nat_le, [], List, length, Some, IfOk};
 ghost use Rattle.std.specs.FinMap.{len};
 ghost use Rattle.std.specs.List.{list_any};
-ghost use Rattle.sqlite.specs.Held.{state};
 ghost use Rattle.sqlite.specs.State.{HasCleanDisk};
 ghost use Rattle.wh_history.specs.Accepted.{Accepted, Content, Sells, sold, sold_by};
-ghost use Rattle.wh_history.specs.Tables.{Limits as Counts};
-ghost use Rattle.wh_rows.specs.AtRest.{IsAtRest, Leaves};
+ghost use Rattle.wh_rows.specs.AtRest.{IsAtRest};
 ghost use Rattle.wh_rows.specs.Tables.{Tables as Rows};
-ghost use Rattle.wh_sql.specs.Refusal.{IsUndamaged, IsWhole};
-ghost use Rattle.wh_engine.specs.Admission.{kind_word, changes_in, first_line_there};
-ghost use Rattle.wh_engine.specs.Decided.{receipt_of_known, number_for};
+ghost use Rattle.wh_sql.specs.Reads.{ReadsOnly, Spares};
+ghost use Rattle.wh_store.specs.Reads.{state_of};
+ghost use Rattle.wh_engine.specs.Admission.{changes_in, first_line_there, number_for};
+ghost use Rattle.wh_engine.specs.Decided.{receipt_of_known};
 ghost use Rattle.wh_plan.specs.Defined.{AreOf};
 ghost use Rattle.wh_engine.specs.Faults.{IsServed, IsWorkedOut, Judges};
-ghost use Rattle.wh_plan.specs.Reads.{IsCalm, FindsNoDamage};
+ghost use Rattle.wh_plan.specs.Reads.{Finds, Tells};
 ghost use Rattle.wh_plan.specs.Sound.{IsAccepted, same_line};
 
 use crate::command::{Command, Limit, Receipt, Refused};
 use crate::fault::Fault;
 use sqlite::Alter;
 use std::alloc::Global;
-use wh_batch::Kind;
-use wh_day::{ReadError, Value};
-use wh_policy::{Dim, SaleRecord};
+use wh_day::Value;
+use wh_policy::SaleRecord;
 use wh_rows::{CommandRow, Limits, LineKey, tables};
-use wh_store::{Keeps, Refusal, Tables};
-
-/// The word for a kind of batch.
-pub fn kind_word(kind: Kind) -> &'static str
-    ensures { result.now ≡ kind_word kind }
-{
-    match kind {
-        Kind::Dimension(Dim::Product) => "product",
-        Kind::Dimension(Dim::Store) => "store",
-        Kind::Dimension(Dim::Customer) => "customer",
-        Kind::Sales => "sales",
-    }
-}
+use wh_store::{Keeps, ReadFault, Tables};
 
 /// The receipt that was kept for a command whose id is known. It came again where kind and bytes are the same too.
 pub(crate) fn receipt_of_known(row: &CommandRow, command: &Command) -> Result<Receipt, Refused>
     ensures { result ≡ receipt_of_known row.now command.now }
 {
-    if row.kind.as_str() == kind_word(command.kind)
+    if row.kind.as_str() == command.kind.word()
         && row.bytes.as_slice() == command.bytes.as_slice()
     {
         return Ok(Receipt {
@@ -66,13 +52,9 @@ fn has_room_for<T: Keeps, S: Alter>(
     limit: u64,
     commands: u64,
     records: u64,
-) -> Result<bool, Refusal>
-    ensures clean { HasCleanDisk (state S.Store tables.new.conn) → HasCleanDisk (state S.Store tables.old.conn) }
-    ensures room { HasCleanDisk (state S.Store tables.new.conn) → (t : Rows) → IsAtRest (Some t) (state S.Store tables.old.conn) → len (T.rows t) ≤ commands * 5000 → len (T.rows t) ≤ limit
-        → IfOk result (λ room. room ≡ nat_le (len (T.rows t) + records) limit) }
-    ensures sound { HasCleanDisk (state S.Store tables.new.conn) → (t : Rows) → IsAtRest (Some t) (state S.Store tables.old.conn) → IsUndamaged result }
-    ensures same { HasCleanDisk (state S.Store tables.new.conn) → (t : Rows) → IsAtRest (Some t) (state S.Store tables.old.conn) → IsWhole result → IsAtRest (Some t) (state S.Store tables.new.conn) }
-    ensures left { HasCleanDisk (state S.Store tables.new.conn) → (t : Rows) → IsAtRest (Some t) (state S.Store tables.old.conn) → Leaves (Some t) (state S.Store tables.new.conn) }
+) -> Result<bool, ReadFault>
+    ensures reads { ReadsOnly (state_of S.Store tables.old) (state_of S.Store tables.new) result }
+    ensures room { Tells (state_of S.Store tables.old) (state_of S.Store tables.new) result (λ t room. len (T.rows t) ≤ commands * 5000 → len (T.rows t) ≤ limit → room ≡ nat_le (len (T.rows t) + records) limit) }
 {
     let most = commands.saturating_mul(MOST_RECORDS);
     if records <= limit.saturating_sub(most) {
@@ -87,22 +69,16 @@ fn is_line_there<S: Alter>(
     tables: &mut Tables<S>,
     alloc: Global,
     sale: &SaleRecord,
-) -> Result<bool, ReadError<Refusal>>
-    ensures clean { HasCleanDisk (state S.Store tables.new.conn) → HasCleanDisk (state S.Store tables.old.conn) }
-    ensures there { HasCleanDisk (state S.Store tables.new.conn) → (limits : Counts) (commands : List Accepted) (t : Rows) → AreOf limits commands t → IsAtRest (Some t) (state S.Store tables.old.conn)
-        → IfOk result (λ there. there ≡ list_any (λ s. same_line s sale.now) (sold commands)) }
-    ensures sound { HasCleanDisk (state S.Store tables.new.conn) → (t : Rows) → IsAtRest (Some t) (state S.Store tables.old.conn) → FindsNoDamage result }
-    ensures same { HasCleanDisk (state S.Store tables.new.conn) → (t : Rows) → IsAtRest (Some t) (state S.Store tables.old.conn) → IsCalm result → IsAtRest (Some t) (state S.Store tables.new.conn) }
-    ensures left { HasCleanDisk (state S.Store tables.new.conn) → (t : Rows) → IsAtRest (Some t) (state S.Store tables.old.conn) → Leaves (Some t) (state S.Store tables.new.conn) }
+) -> Result<bool, ReadFault>
+    ensures reads { ReadsOnly (state_of S.Store tables.old) (state_of S.Store tables.new) result }
+    ensures there { Finds (state_of S.Store tables.old) (state_of S.Store tables.new) (λ _ commands. IfOk result (λ there. there ≡ list_any (λ s. same_line s sale.now) (sold commands))) }
 {
     let key = LineKey {
         ticket: Value::new(alloc, sale.ticket.as_str())?,
         line: sale.line,
     };
-    match tables.get::<tables::Fact>(alloc, &key) {
-        Ok(fact) => Ok(fact.is_some()),
-        Err(refusal) => Err(ReadError::Fault(refusal)),
-    }
+    let fact = tables.get::<tables::Fact>(alloc, &key)?;
+    Ok(fact.is_some())
 }
 
 /// The first sale, from 1, whose ticket and line are those of a stored fact.
@@ -110,13 +86,9 @@ fn first_line_there<S: Alter>(
     tables: &mut Tables<S>,
     alloc: Global,
     sales: &[SaleRecord],
-) -> Result<Option<u64>, ReadError<Refusal>>
-    ensures clean { HasCleanDisk (state S.Store tables.new.conn) → HasCleanDisk (state S.Store tables.old.conn) }
-    ensures there { HasCleanDisk (state S.Store tables.new.conn) → (limits : Counts) (commands : List Accepted) (t : Rows) → AreOf limits commands t → IsAtRest (Some t) (state S.Store tables.old.conn)
-        → IfOk result (λ there. there ≡ first_line_there (sold commands) 1 sales.now) }
-    ensures sound { HasCleanDisk (state S.Store tables.new.conn) → (t : Rows) → IsAtRest (Some t) (state S.Store tables.old.conn) → FindsNoDamage result }
-    ensures same { HasCleanDisk (state S.Store tables.new.conn) → (t : Rows) → IsAtRest (Some t) (state S.Store tables.old.conn) → IsCalm result → IsAtRest (Some t) (state S.Store tables.new.conn) }
-    ensures left { HasCleanDisk (state S.Store tables.new.conn) → (t : Rows) → IsAtRest (Some t) (state S.Store tables.old.conn) → Leaves (Some t) (state S.Store tables.new.conn) }
+) -> Result<Option<u64>, ReadFault>
+    ensures reads { ReadsOnly (state_of S.Store tables.old) (state_of S.Store tables.new) result }
+    ensures there { Finds (state_of S.Store tables.old) (state_of S.Store tables.new) (λ _ commands. IfOk result (λ there. there ≡ first_line_there (sold commands) 1 sales.now)) }
 {
     for (place, sale) in sales.iter().enumerate() {
         if is_line_there(tables, alloc, sale)? {
@@ -133,12 +105,10 @@ pub(crate) fn number_for_records<S: Alter>(
     limits: Limits,
     records: u64,
 ) -> Result<u64, Fault>
-    ensures clean { HasCleanDisk (state S.Store tables.new.conn) → HasCleanDisk (state S.Store tables.old.conn) }
-    ensures number { HasCleanDisk (state S.Store tables.new.conn) → (commands : List Accepted) (t : Rows) → AreOf limits commands t → IsAccepted limits commands → IsAtRest (Some t) (state S.Store tables.old.conn)
+    ensures reads { Spares (state_of S.Store tables.old) (state_of S.Store tables.new) (IsServed result) }
+    ensures number { HasCleanDisk (state_of S.Store tables.new) → (commands : List Accepted) (t : Rows) → AreOf limits commands t → IsAccepted limits commands → IsAtRest (Some t) (state_of S.Store tables.old)
         → (content : Content) → sold_by content ≡ [] → changes_in content ≡ records → Judges (λ number next. number ≡ next) result (number_for limits commands content) }
     ensures work { IsWorkedOut result }
-    ensures same { HasCleanDisk (state S.Store tables.new.conn) → (t : Rows) → IsAtRest (Some t) (state S.Store tables.old.conn) → IsServed result → IsAtRest (Some t) (state S.Store tables.new.conn) }
-    ensures left { HasCleanDisk (state S.Store tables.new.conn) → (t : Rows) → IsAtRest (Some t) (state S.Store tables.old.conn) → Leaves (Some t) (state S.Store tables.new.conn) }
 {
     let commands = tables.count::<tables::Command>(alloc)?;
     if limits.commands() <= commands {
@@ -157,12 +127,10 @@ pub(crate) fn number_for_sales<S: Alter>(
     limits: Limits,
     sales: &[SaleRecord],
 ) -> Result<u64, Fault>
-    ensures clean { HasCleanDisk (state S.Store tables.new.conn) → HasCleanDisk (state S.Store tables.old.conn) }
-    ensures number { HasCleanDisk (state S.Store tables.new.conn) → (commands : List Accepted) (t : Rows) → AreOf limits commands t → IsAccepted limits commands → IsAtRest (Some t) (state S.Store tables.old.conn)
+    ensures reads { Spares (state_of S.Store tables.old) (state_of S.Store tables.new) (IsServed result) }
+    ensures number { HasCleanDisk (state_of S.Store tables.new) → (commands : List Accepted) (t : Rows) → AreOf limits commands t → IsAccepted limits commands → IsAtRest (Some t) (state_of S.Store tables.old)
         → Judges (λ number next. number ≡ next) result (number_for limits commands (Sells sales.now)) }
     ensures work { IsWorkedOut result }
-    ensures same { HasCleanDisk (state S.Store tables.new.conn) → (t : Rows) → IsAtRest (Some t) (state S.Store tables.old.conn) → IsServed result → IsAtRest (Some t) (state S.Store tables.new.conn) }
-    ensures left { HasCleanDisk (state S.Store tables.new.conn) → (t : Rows) → IsAtRest (Some t) (state S.Store tables.old.conn) → Leaves (Some t) (state S.Store tables.new.conn) }
 {
     let commands = tables.count::<tables::Command>(alloc)?;
     if limits.commands() <= commands {

@@ -5,7 +5,9 @@ ghost use Rattle.sqlite.specs.Held.{state};
 ghost use Rattle.sqlite.specs.State.{HasCleanDisk};
 ghost use Rattle.wh_history.specs.Accepted.{Accepted, members};
 ghost use Rattle.wh_history.specs.Tables.{Limits};
-ghost use Rattle.wh_rows.specs.AtRest.{IsAtRest, Leaves};
+ghost use Rattle.wh_rows.specs.AtRest.{IsAtRest};
+ghost use Rattle.wh_sql.specs.Reads.{Spares};
+ghost use Rattle.wh_store.specs.Reads.{state_of};
 ghost use Rattle.wh_rows.specs.Tables.{Tables as Rows};
 ghost use Rattle.wh_engine.specs.Answered.{IsReady, IsCounted, counts_of};
 ghost use Rattle.wh_plan.specs.Defined.{AreOf};
@@ -16,7 +18,6 @@ use crate::engine::Engine;
 use crate::fault::{Fault, stops};
 use sqlite::Alter;
 use std::alloc::Global;
-use wh_day::ReadError;
 use wh_plan::kept::members_given;
 use wh_policy::Dim;
 use wh_rows::tables;
@@ -38,28 +39,21 @@ pub struct Counts {
 
 /// How many members a dimension has.
 fn members_of<S: Alter>(tables: &mut Tables<S>, alloc: Global, dim: Dim) -> Result<u64, Fault>
-    ensures clean { HasCleanDisk (state S.Store tables.new.conn) → HasCleanDisk (state S.Store tables.old.conn) }
-    ensures members { HasCleanDisk (state S.Store tables.new.conn) → (limits : Limits) (commands : List Accepted) (t : Rows) → AreOf limits commands t → IsAtRest (Some t) (state S.Store tables.old.conn)
+    ensures reads { Spares (state_of S.Store tables.old) (state_of S.Store tables.new) (IsServed result) }
+    ensures members { HasCleanDisk (state_of S.Store tables.new) → (limits : Limits) (commands : List Accepted) (t : Rows) → AreOf limits commands t → IsAtRest (Some t) (state_of S.Store tables.old)
         → Judges (λ count told. count ≡ told) result (Ok (length (members dim commands))) }
     ensures work { IsWorkedOut result }
-    ensures same { HasCleanDisk (state S.Store tables.new.conn) → (t : Rows) → IsAtRest (Some t) (state S.Store tables.old.conn) → IsServed result → IsAtRest (Some t) (state S.Store tables.new.conn) }
-    ensures left { HasCleanDisk (state S.Store tables.new.conn) → (t : Rows) → IsAtRest (Some t) (state S.Store tables.old.conn) → Leaves (Some t) (state S.Store tables.new.conn) }
 {
-    match members_given(tables, alloc, dim) {
-        Ok(given) => Ok(given.members),
-        Err(ReadError::Memory) => Err(Fault::Memory),
-        Err(ReadError::Fault(refusal)) => Err(Fault::from(refusal)),
-    }
+    let given = members_given(tables, alloc, dim)?;
+    Ok(given.members)
 }
 
 /// The rows that are there.
 fn counts_of<S: Alter>(tables: &mut Tables<S>, alloc: Global) -> Result<Counts, Fault>
-    ensures clean { HasCleanDisk (state S.Store tables.new.conn) → HasCleanDisk (state S.Store tables.old.conn) }
-    ensures counts { HasCleanDisk (state S.Store tables.new.conn) → (limits : Limits) (commands : List Accepted) (t : Rows) → AreOf limits commands t → IsAccepted limits commands → IsAtRest (Some t) (state S.Store tables.old.conn)
+    ensures reads { Spares (state_of S.Store tables.old) (state_of S.Store tables.new) (IsServed result) }
+    ensures counts { HasCleanDisk (state_of S.Store tables.new) → (limits : Limits) (commands : List Accepted) (t : Rows) → AreOf limits commands t → IsAccepted limits commands → IsAtRest (Some t) (state_of S.Store tables.old)
         → Judges (λ counts told. counts ≡ told) result (Ok (counts_of commands)) }
     ensures work { IsWorkedOut result }
-    ensures same { HasCleanDisk (state S.Store tables.new.conn) → (t : Rows) → IsAtRest (Some t) (state S.Store tables.old.conn) → IsServed result → IsAtRest (Some t) (state S.Store tables.new.conn) }
-    ensures left { HasCleanDisk (state S.Store tables.new.conn) → (t : Rows) → IsAtRest (Some t) (state S.Store tables.old.conn) → Leaves (Some t) (state S.Store tables.new.conn) }
 {
     let commands = tables.count::<tables::Command>(alloc)?;
     let changes = tables.count::<tables::Change>(alloc)?;
@@ -85,7 +79,7 @@ impl<S: Alter> Engine<S> {
         ensures counted { HasCleanDisk (state S.Store self.new.tables.conn) → (limits : Limits) (commands : List Accepted) → IsReady limits commands self.old.session (state S.Store self.old.tables.conn)
             → IsCounted limits commands result self.new.session (state S.Store self.new.tables.conn) }
         ensures untouched { HasCleanDisk (state S.Store self.new.tables.conn) → (t : Rows) → IsAtRest (Some t) (state S.Store self.old.tables.conn) → IsServed result → IsAtRest (Some t) (state S.Store self.new.tables.conn) }
-        ensures reopen { IsTrue self.old.session.must_reopen → (result ≡ Err Fault.Reopen) × (self.new ≡ self.old) }
+        ensures reopen { IsTrue self.old.session.must_reopen → (result ≡ Err Fault.Reopen) × (self.new.tables ≡ self.old.tables) × (self.new.session ≡ self.old.session) }
         ensures only { result ≡ Err Fault.Reopen → IsTrue self.old.session.must_reopen }
         ensures noted { self.old.session.must_reopen ≡ false → self.new.session ≡ record (self.old.session) { must_reopen = stops result } }
     {

@@ -9,12 +9,14 @@ ghost use Rattle.wh_engine.specs.Admission.{answer, content_of, first_line_there
 ghost use Rattle.wh_engine.specs.Decided.{records_told, sales_told, row_of_batch, IsNew, reply_to_known, Decides};
 ghost use Rattle.wh_plan.specs.Defined.{command_at};
 ghost use Rattle.wh_engine.specs.Faults.{IsServed, IsWorkedOut, Judges};
-ghost use Rattle.wh_engine.specs.Serving.{Spares, Works};
+ghost use Rattle.wh_sql.specs.Reads.{ReadsOnly, Spares};
+ghost use Rattle.wh_store.specs.Reads.{state_of};
+ghost use Rattle.wh_engine.specs.Serving.{Works};
 ghost use Rattle.wh_plan.specs.Planned.{AreEdits};
-ghost use Rattle.wh_plan.specs.Reads.{ReadsOnly, Finds};
+ghost use Rattle.wh_plan.specs.Reads.{Finds};
 ghost use Rattle.wh_plan.specs.Sound.{IsAccepted};
 
-use crate::admission::{kind_word, number_for_records, number_for_sales, receipt_of_known};
+use crate::admission::{number_for_records, number_for_sales, receipt_of_known};
 use crate::command::{Command, Receipt, Refused};
 use crate::fault::Fault;
 use crate::session::Session;
@@ -22,12 +24,12 @@ use sqlite::Alter;
 use sqlite_value::value::Bytes;
 use std::alloc::{AllocError, Global};
 use wh_batch::{DimensionRecords, Format, Kind, SaleRecords, dimension_records, sale_records};
-use wh_day::{ReadError, Value};
+use wh_day::{ReadError, Value, is_key};
 use wh_plan::kept::command_of;
 use wh_plan::{Edits, plan_batch, plan_sales};
 use wh_policy::{Dim, Policy, SaleRecord};
-use wh_rows::{CommandRow, is_key};
-use wh_store::{Refusal, Tables};
+use wh_rows::CommandRow;
+use wh_store::{ReadFault, Tables};
 
 /// What is to be done about a command.
 #[derive(Debug, Drop)]
@@ -79,7 +81,7 @@ fn command_row(
     Ok(CommandRow {
         number,
         id: command.id.copy()?,
-        kind: Value::new(alloc, kind_word(command.kind))?,
+        kind: Value::new(alloc, command.kind.word())?,
         bytes: Bytes::from_slice(alloc, command.bytes.as_slice())?,
         records,
         placeholders: 0,
@@ -94,8 +96,8 @@ fn decide_records<S: Alter>(
     dim: Dim,
     command: &Command,
 ) -> Result<Decision, Fault>
-    ensures reads { Spares S.Store tables.old tables.new (IsServed result) }
-    ensures decided { Works S.Store tables.old tables.new session.now (λ commands. command.now.kind ≡ Dimension dim → is_key 40 command.now.id ≡ true
+    ensures reads { Spares (state_of S.Store tables.old) (state_of S.Store tables.new) (IsServed result) }
+    ensures decided { Works (state_of S.Store tables.old) (state_of S.Store tables.new) session.now (λ commands. command.now.kind ≡ Dimension dim → is_key 40 command.now.id ≡ true
         → IsNew commands command.now → Judges (Decides commands command.now) result (answer session.now.limits commands command.now)) }
     ensures work { IsWorkedOut result }
 {
@@ -122,9 +124,9 @@ fn accept_sales<S: Alter>(
     policy: &Policy,
     row: CommandRow,
     sales: &[SaleRecord],
-) -> Result<Edits, ReadError<Refusal>>
-    ensures reads { ReadsOnly S.Store tables.old tables.new result }
-    ensures edits { Finds S.Store tables.old tables.new (λ limits commands. (c : Accepted) → IsAccepted limits (commands ++ c ∷ []) → c.content ≡ Sells sales.now
+) -> Result<Edits, ReadFault>
+    ensures reads { ReadsOnly (state_of S.Store tables.old) (state_of S.Store tables.new) result }
+    ensures edits { Finds (state_of S.Store tables.old) (state_of S.Store tables.new) (λ limits commands. (c : Accepted) → IsAccepted limits (commands ++ c ∷ []) → c.content ≡ Sells sales.now
         → policy_after None commands ≡ Some policy.now → IsSound policy.now → first_line_there (sold commands) 1 sales.now ≡ None
         → command_at (commands ++ c ∷ []) (suc (length commands)) ≡ Some (record row { placeholders = placeholders_by (commands ++ c ∷ []) (suc (length commands)) c.content })
         → IfOk result (AreEdits commands c)) }
@@ -141,8 +143,8 @@ fn decide_sold<S: Alter>(
     command: &Command,
     sales: &[SaleRecord],
 ) -> Result<Decision, Fault>
-    ensures reads { Spares S.Store tables.old tables.new (IsServed result) }
-    ensures decided { Works S.Store tables.old tables.new session.now (λ commands. is_key 40 command.now.id ≡ true → IsNew commands command.now
+    ensures reads { Spares (state_of S.Store tables.old) (state_of S.Store tables.new) (IsServed result) }
+    ensures decided { Works (state_of S.Store tables.old) (state_of S.Store tables.new) session.now (λ commands. is_key 40 command.now.id ≡ true → IsNew commands command.now
         → content_of command.now.kind (in_force commands) command.now.bytes ≡ Ok (Sells sales.now)
         → Judges (Decides commands command.now) result (answer session.now.limits commands command.now)) }
     ensures work { IsWorkedOut result }
@@ -168,8 +170,8 @@ fn decide_sales<S: Alter>(
     session: &Session,
     command: &Command,
 ) -> Result<Decision, Fault>
-    ensures reads { Spares S.Store tables.old tables.new (IsServed result) }
-    ensures decided { Works S.Store tables.old tables.new session.now (λ commands. command.now.kind ≡ Sales → is_key 40 command.now.id ≡ true → IsNew commands command.now
+    ensures reads { Spares (state_of S.Store tables.old) (state_of S.Store tables.new) (IsServed result) }
+    ensures decided { Works (state_of S.Store tables.old) (state_of S.Store tables.new) session.now (λ commands. command.now.kind ≡ Sales → is_key 40 command.now.id ≡ true → IsNew commands command.now
         → Judges (Decides commands command.now) result (answer session.now.limits commands command.now)) }
     ensures work { IsWorkedOut result }
 {
@@ -184,8 +186,8 @@ fn decide_new<S: Alter>(
     session: &Session,
     command: &Command,
 ) -> Result<Decision, Fault>
-    ensures reads { Spares S.Store tables.old tables.new (IsServed result) }
-    ensures decided { Works S.Store tables.old tables.new session.now (λ commands. is_key 40 command.now.id ≡ true → IsNew commands command.now
+    ensures reads { Spares (state_of S.Store tables.old) (state_of S.Store tables.new) (IsServed result) }
+    ensures decided { Works (state_of S.Store tables.old) (state_of S.Store tables.new) session.now (λ commands. is_key 40 command.now.id ≡ true → IsNew commands command.now
         → Judges (Decides commands command.now) result (answer session.now.limits commands command.now)) }
     ensures work { IsWorkedOut result }
 {
@@ -213,11 +215,11 @@ pub(crate) fn decide<S: Alter>(
     session: &Session,
     command: &Command,
 ) -> Result<Decision, Fault>
-    ensures reads { Spares S.Store tables.old tables.new (IsServed result) }
-    ensures decided { Works S.Store tables.old tables.new session.now (λ commands. Judges (Decides commands command.now) result (answer session.now.limits commands command.now)) }
+    ensures reads { Spares (state_of S.Store tables.old) (state_of S.Store tables.new) (IsServed result) }
+    ensures decided { Works (state_of S.Store tables.old) (state_of S.Store tables.new) session.now (λ commands. Judges (Decides commands command.now) result (answer session.now.limits commands command.now)) }
     ensures work { IsWorkedOut result }
 {
-    if !is_key(40, command.id.as_str()) {
+    if !is_key(40, command.id.as_str().as_bytes()) {
         return Err(Fault::Refused(Refused::BadId));
     }
     match command_of(tables, alloc, &command.id)? {

@@ -73,7 +73,7 @@ impl<S: Alter> Engine<S> {
             → IsAnswered limits commands command.now result self.new.session (state S.Store self.new.tables.conn) }
         // Any tables stay as they were, where nothing was accepted.
         ensures untouched { HasCleanDisk (state S.Store self.new.tables.conn) → (t : Rows) → IsAtRest (Some t) (state S.Store self.old.tables.conn) → KeepsNothing result → IsAtRest (Some t) (state S.Store self.new.tables.conn) }
-        ensures reopen { IsTrue self.old.session.must_reopen → (result ≡ Err Fault.Reopen) × (self.new ≡ self.old) }
+        ensures reopen { IsTrue self.old.session.must_reopen → (result ≡ Err Fault.Reopen) × (self.new.tables ≡ self.old.tables) × (self.new.session ≡ self.old.session) }
         ensures only { result ≡ Err Fault.Reopen → IsTrue self.old.session.must_reopen }
         ensures noted { self.old.session.must_reopen ≡ false → self.new.session ≡ record (self.old.session) { must_reopen = stops result } }
     {

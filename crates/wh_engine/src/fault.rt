@@ -1,14 +1,13 @@
 //! Why a call on a warehouse isn't answered.
 
 ghost use Rattle.std.specs.Prelude.{◌≡◌};
-ghost use Rattle.wh_engine.specs.Faults.{of_refusal, of_reading, stops};
+ghost use Rattle.wh_engine.specs.Faults.{of_reading, stops};
 ghost use Rattle.wh_engine.specs.declared.fault.Fault.TheVariants as faults;
 
 use crate::command::Refused;
 use std::alloc::AllocError;
-use wh_day::ReadError;
 use wh_rows::{Cause, Table};
-use wh_sql::Refusal;
+use wh_store::ReadFault;
 
 /// Why a call on the tables of a warehouse isn't answered.
 #[derive(Clone, Copy, Debug, PartialEq, Eq)]
@@ -48,24 +47,14 @@ impl From<Refused> for Fault {
     }
 }
 
-impl From<Refusal> for Fault {
-    ghost from_gives = { λ refusal fault. fault ≡ of_refusal refusal };
+impl From<ReadFault> for Fault {
+    ghost from_gives = { λ why fault. fault ≡ of_reading why };
 
-    fn from(refusal: Refusal) -> Fault {
-        match refusal {
-            Refusal::Damaged(table) => Fault::Damaged(table),
-            Refusal::Store(cause) => Fault::Store(cause),
-        }
-    }
-}
-
-impl From<ReadError<Refusal>> for Fault {
-    ghost from_gives = { λ error fault. fault ≡ of_reading error };
-
-    fn from(error: ReadError<Refusal>) -> Fault {
-        match error {
-            ReadError::Memory => Fault::Memory,
-            ReadError::Fault(refusal) => Fault::from(refusal),
+    fn from(why: ReadFault) -> Fault {
+        match why {
+            ReadFault::Memory => Fault::Memory,
+            ReadFault::Damaged(table) => Fault::Damaged(table),
+            ReadFault::Store(cause) => Fault::Store(cause),
         }
     }
 }

@@ -19,6 +19,7 @@ pub use counts::Counts;
 pub use engine::Engine;
 pub use fault::Fault;
 pub use making::{policies_are_good, write_making};
-pub use opening::{InitFault, OpeningFault};
+pub use opening::InitFault;
 pub use reopen::{redeliver, restart};
+pub use wh_store::OpenFault;
 pub use write::write_edits;

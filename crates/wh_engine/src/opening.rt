@@ -9,12 +9,11 @@ ghost use Rattle.wh_history.specs.Tables.{Limits as Counts};
 ghost use Rattle.wh_rows.specs.AtRest.{IsAtRest};
 ghost use Rattle.wh_rows.specs.Tables.{Tables as Rows};
 ghost use Rattle.wh_sql.specs.Present.{is_any_taken, are_all_there};
-ghost use Rattle.wh_store.specs.Meta.{limits_in};
 ghost use Rattle.wh_engine.specs.Answered.{Rests, IsReady};
 ghost use Rattle.wh_plan.specs.Made.{making_of, IsGoodPolicy};
-ghost use Rattle.wh_engine.specs.Opened.{of_tables, of_limits, of_making, making_in, session_in, opened, IsTold, IsRead, IsNotOpened, LeavesMaking, IsNotMade, NothingIsWritten, LeavesMade};
+ghost use Rattle.wh_engine.specs.Opened.{of_making, making_in, session_in, opened, IsTold, IsRead, IsNotOpened, LeavesMaking, IsNotMade, NothingIsWritten, LeavesMade};
 ghost use Rattle.wh_plan.specs.Sound.{IsAccepted};
-ghost use Rattle.wh_engine.specs.declared.opening.OpeningFault.TheVariants.{Store};
+ghost use Rattle.wh_store.specs.declared.fault.OpenFault.TheVariants.{Store};
 ghost use Rattle.wh_rows.specs.declared.cause.Cause.{Cause};
 
 use crate::engine::Engine;
@@ -25,8 +24,7 @@ use std::alloc::Global;
 use wh_day::{ReadError, Value};
 use wh_policy::{Policy, PolicyFault};
 use wh_rows::{Cause, CommandRow, Limits, Table, tables};
-use wh_sql::{CommandOf, Refusal};
-use wh_store::{MakeFault, OpenFault, Tables};
+use wh_store::{CommandOf, MakeFault, OpenFault, Tables};
 
 /// Why no warehouse was made.
 #[derive(Clone, Copy, Debug, PartialEq, Eq)]
@@ -39,36 +37,6 @@ pub enum InitFault {
     Memory,
     /// The store refused a call, or a growth was refused inside the transaction.
     Store(Cause),
-}
-
-/// Why a database isn't opened as a warehouse.
-#[derive(Clone, Copy, Debug, PartialEq, Eq)]
-pub enum OpeningFault {
-    /// One of the ten tables or of their columns is missing, or meta has no row `format`.
-    NotAWarehouse,
-    /// The format is below 1.
-    OldFormat,
-    /// The format is above 1, which is the newest that this program knows.
-    NewFormat,
-    /// A row that is needed isn't there, or has a value out of its type.
-    Damaged(Table),
-    /// A growth was refused.
-    Memory,
-    /// The store refused a call.
-    Store(Cause),
-}
-
-/// A fault of the tables, as one of the warehouse.
-fn of_tables(fault: OpenFault) -> OpeningFault
-    ensures { result ≡ of_tables fault }
-{
-    match fault {
-        OpenFault::NotAWarehouse => OpeningFault::NotAWarehouse,
-        OpenFault::OldFormat => OpeningFault::OldFormat,
-        OpenFault::NewFormat => OpeningFault::NewFormat,
-        OpenFault::Damaged(table) => OpeningFault::Damaged(table),
-        OpenFault::Store(cause) => OpeningFault::Store(cause),
-    }
 }
 
 /// Makes the tables in one transaction, and keeps them.
@@ -89,58 +57,38 @@ fn commit_making<S: Alter>(
     writing.commit()
 }
 
-/// The limits that were chosen at the making.
-fn limits_of<S: Alter>(tables: &mut Tables<S>, alloc: Global) -> Result<Limits, OpeningFault>
-    ensures clean { HasCleanDisk (state S.Store tables.new.conn) → HasCleanDisk (state S.Store tables.old.conn) }
-    ensures read { HasCleanDisk (state S.Store tables.new.conn) → (t : Rows) → IsAtRest (Some t) (state S.Store tables.old.conn) → IsRead result (of_limits (limits_in t)) t (state S.Store tables.new.conn) }
-{
-    match tables.limits(alloc) {
-        Ok(limits) => Ok(limits),
-        Err(Refusal::Damaged(table)) => Err(OpeningFault::Damaged(table)),
-        Err(Refusal::Store(cause)) => Err(OpeningFault::Store(cause)),
-    }
-}
-
 /// The policy that the row of the making gives.
-fn policy_of(alloc: Global, makings: &[CommandRow]) -> Result<Policy, OpeningFault>
+fn policy_of(alloc: Global, makings: &[CommandRow]) -> Result<Policy, OpenFault>
     ensures told { IsTold result (of_making (slice_get makings.now 0)) }
     ensures pure { (cause : Cause) → result ≢ Err (Store cause) }
 {
     let Some(making) = makings.first() else {
-        return Err(OpeningFault::Damaged(Table::Command));
+        return Err(OpenFault::Damaged(Table::Command));
     };
     match Policy::read(alloc, making.bytes.as_slice()) {
         Ok(policy) => Ok(policy),
-        Err(ReadError::Memory) => Err(OpeningFault::Memory),
-        Err(ReadError::Fault(_)) => Err(OpeningFault::Damaged(Table::Command)),
+        Err(ReadError::Memory) => Err(OpenFault::Memory),
+        Err(ReadError::Fault(_)) => Err(OpenFault::Damaged(Table::Command)),
     }
 }
 
 /// The policy in force, which is that of the making.
-fn policy_in<S: Alter>(tables: &mut Tables<S>, alloc: Global) -> Result<Policy, OpeningFault>
+fn policy_in<S: Alter>(tables: &mut Tables<S>, alloc: Global) -> Result<Policy, OpenFault>
     ensures clean { HasCleanDisk (state S.Store tables.new.conn) → HasCleanDisk (state S.Store tables.old.conn) }
     ensures read { HasCleanDisk (state S.Store tables.new.conn) → (t : Rows) → IsAtRest (Some t) (state S.Store tables.old.conn) → IsRead result (of_making (making_in t)) t (state S.Store tables.new.conn) }
 {
-    let Ok(id) = Value::new(alloc, "init") else {
-        return Err(OpeningFault::Memory);
-    };
-    match tables.ask::<tables::Command, CommandOf<'_>>(alloc, &CommandOf { id: &id }) {
-        Ok(found) => policy_of(alloc, &found),
-        Err(Refusal::Damaged(table)) => Err(OpeningFault::Damaged(table)),
-        Err(Refusal::Store(cause)) => Err(OpeningFault::Store(cause)),
-    }
+    let id = Value::new(alloc, "init")?;
+    let found = tables.ask::<tables::Command, CommandOf<'_>>(alloc, &CommandOf { id: &id })?;
+    policy_of(alloc, &found)
 }
 
 /// What an engine has to know of its warehouse.
-fn session_of<S: Alter>(tables: &mut Tables<S>, alloc: Global) -> Result<Session, OpeningFault>
+fn session_of<S: Alter>(tables: &mut Tables<S>, alloc: Global) -> Result<Session, OpenFault>
     ensures clean { HasCleanDisk (state S.Store tables.new.conn) → HasCleanDisk (state S.Store tables.old.conn) }
     ensures read { HasCleanDisk (state S.Store tables.new.conn) → (t : Rows) → IsAtRest (Some t) (state S.Store tables.old.conn) → IsRead result (session_in t) t (state S.Store tables.new.conn) }
     ensures fresh { IfOk result (λ session. session.must_reopen ≡ false) }
 {
-    let limits = match limits_of(tables, alloc) {
-        Ok(limits) => limits,
-        Err(fault) => return Err(fault),
-    };
+    let limits = tables.limits(alloc)?;
     match policy_in(tables, alloc) {
         Ok(policy) => Ok(Session {
             limits,
@@ -192,10 +140,7 @@ impl<S: Alter> Engine<S> {
     }
 
     /// Opens the warehouse of a connection. A refusal hands the connection back.
-    pub fn open(
-        alloc: Global,
-        conn: Connection<S>,
-    ) -> Result<Engine<S>, (OpeningFault, Connection<S>)>
+    pub fn open(alloc: Global, conn: Connection<S>) -> Result<Engine<S>, (OpenFault, Connection<S>)>
         ensures clean { IfOk result (λ engine. HasCleanDisk (state S.Store engine.tables.conn) → HasCleanDisk (state S.Store conn)) }
         ensures ready { IfOk result (λ engine. HasCleanDisk (state S.Store engine.tables.conn) → (limits : Counts) (commands : List Accepted) → IsAccepted limits commands → Rests limits commands (state S.Store conn)
             → IsReady limits commands engine.session (state S.Store engine.tables.conn)) }
@@ -205,11 +150,11 @@ impl<S: Alter> Engine<S> {
         ensures found { IfOk result (λ engine. HasCleanDisk (state S.Store engine.tables.conn) → (t : Rows) → IsAtRest (Some t) (state S.Store conn) → (opened t ≡ Ok engine.session) × IsAtRest (Some t) (state S.Store engine.tables.conn)) }
         ensures fault { IfErr result (λ e. HasCleanDisk (state S.Store e.1) → (t : Rows) → IsAtRest (Some t) (state S.Store conn) → IsRead (Err e.0) (opened t) t (state S.Store e.1)) }
         ensures fresh { IfOk result (λ engine. engine.session.must_reopen ≡ false) }
-        ensures missing { conn.in_transaction ≡ false → are_all_there (state S.Store conn).now.schema ≡ false → result ≡ Err (OpeningFault.NotAWarehouse, conn) }
+        ensures missing { conn.in_transaction ≡ false → are_all_there (state S.Store conn).now.schema ≡ false → result ≡ Err (OpenFault.NotAWarehouse, conn) }
     {
         let mut tables = match Tables::open(alloc, conn) {
             Ok(tables) => tables,
-            Err((fault, conn)) => return Err((of_tables(fault), conn)),
+            Err((fault, conn)) => return Err((fault, conn)),
         };
         match session_of(&mut tables, alloc) {
             Ok(session) => Ok(Engine { tables, session }),

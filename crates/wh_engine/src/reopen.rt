@@ -12,26 +12,25 @@ ghost use Rattle.wh_plan.specs.Sound.{IsAccepted};
 use crate::command::{Command, Reply};
 use crate::engine::Engine;
 use crate::fault::Fault;
-use crate::opening::OpeningFault;
 use sqlite::{FileStore, Options};
 use sqlite_disk::Crash;
 use std::alloc::Global;
 use wh_rows::Cause;
-use wh_store::restart as restart_connection;
+use wh_store::{OpenFault, restart as restart_connection};
 
 /// The machine stops and comes back, and the warehouse is opened again. What it has accepted then is one of what a crash could leave.
 pub fn restart<D: Crash + Drop>(
     alloc: Global,
     engine: Engine<FileStore<D>>,
     options: Options,
-) -> Result<Engine<FileStore<D>>, OpeningFault>
+) -> Result<Engine<FileStore<D>>, OpenFault>
     ensures clean { IfOk result (λ again. HasCleanDisk (file_state again.tables.conn) → HasCleanDisk (file_state engine.tables.conn)) }
     ensures ready { (limits : Counts) (before after : List Accepted) → IsAccepted limits before → IsAccepted limits after → LeavesOneOf limits before after (file_state engine.tables.conn)
         → IfOk result (λ again. HasCleanDisk (file_state again.tables.conn) → ∥ IsReady limits before again.session (file_state again.tables.conn) ⊎ IsReady limits after again.session (file_state again.tables.conn) ∥₁) }
 {
     let conn = match restart_connection(alloc, engine.close(), options) {
         Ok(conn) => conn,
-        Err(error) => return Err(OpeningFault::Store(Cause::from(error))),
+        Err(error) => return Err(OpenFault::Store(Cause::from(error))),
     };
     match Engine::open(alloc, conn) {
         Ok(again) => Ok(again),
@@ -46,7 +45,7 @@ pub fn redeliver<D: Crash + Drop>(
     mut engine: Engine<FileStore<D>>,
     command: &Command,
     options: Options,
-) -> Result<(Result<Reply, Fault>, Engine<FileStore<D>>), OpeningFault>
+) -> Result<(Result<Reply, Fault>, Engine<FileStore<D>>), OpenFault>
     ensures { (limits : Counts) (commands : List Accepted) → IsReady limits commands engine.session (file_state engine.tables.conn)
         → IfOk result (λ it. HasCleanDisk (file_state it.1.tables.conn) → ∥ IsRedelivered limits commands command.now it.0 it.1.session (file_state it.1.tables.conn) ∥₁) }
 {

@@ -7,11 +7,11 @@ use Rattle.wh_engine.proofs.admission.first_line_there.Goals as goal
 
 pub returns-then-branch-clause-there : goal.returns-then-branch-clause-there
 returns-then-branch-clause-there g c clean limits commands t are rests =
-    let before = c.in_ok-is_line_there.ensures.clean clean in
+    let before = c.in_ok-is_line_there.ensures.reads.clean clean in
     let i = c.loop-place.place in
     let s = c.index-sales-place.result in
     let left = drop (i + 1) c.args.sales.now in
-    let there = sym (c.in_ok-is_line_there.ensures.there clean limits commands t are (c.loop-place.invariant.same before t rests)) ∙ c.if-branch.true in
+    let there = sym (c.in_ok-is_line_there.ensures.there clean limits commands t are (c.loop-place.invariant.reads.same before t rests tt)) ∙ c.if-branch.true in
     sym (at_drop_more (first_line_there (sold commands) (i + 1)) c.args.sales.now i s c.loop-place-test.true ∙ ap (λ q. first_line_there (sold commands) (i + 1) (q ∷ left)) (sym c.index-sales-place.is) ∙ this_first (sold commands) (i + 1) s left there)
     ∙ c.loop-place.invariant.passed before limits commands t are rests
 
@@ -23,11 +23,17 @@ loop-place-preserved g c =
     let s = c.index-sales-place.result in
     let left = drop (i + 1) c.args.sales.now in
     record {
-      clean = λ clean. kept.clean (read.clean clean);
-      same = λ clean t rests. read.same clean t (kept.same (read.clean clean) t rests) tt;
+      reads = record {
+        clean = λ clean. kept.reads.clean (read.reads.clean clean);
+        sound = λ clean t rests. tt;
+        same = λ clean t rests served. read.reads.same clean t (kept.reads.same (read.reads.clean clean) t rests tt) tt;
+        left = λ clean t rests. read.reads.left clean t (kept.reads.same (read.reads.clean clean) t rests tt);
+        rests = λ clean stored rests served. read.reads.rests clean stored (kept.reads.rests (read.reads.clean clean) stored rests tt) tt;
+        leaves = λ clean stored rests. read.reads.leaves clean stored (kept.reads.rests (read.reads.clean clean) stored rests tt);
+      };
       passed = λ clean limits commands t are rests.
-          let before = read.clean clean in
-          let other = sym (read.there clean limits commands t are (kept.same before t rests)) ∙ c.if-branch.false in
+          let before = read.reads.clean clean in
+          let other = sym (read.there clean limits commands t are (kept.reads.same before t rests tt)) ∙ c.if-branch.false in
           sym (at_drop_more (first_line_there (sold commands) (i + 1)) c.args.sales.now i s c.loop-place-test.true ∙ ap (λ q. first_line_there (sold commands) (i + 1) (q ∷ left)) (sym c.index-sales-place.is) ∙ none_first (sold commands) (i + 1) s left other)
           ∙ kept.passed before limits commands t are rests;
     }

@@ -4,7 +4,7 @@ use Rattle.wh_plan.specs.Defined.{fact_at}
 use Rattle.wh_engine.proofs.SameLines.{line_stored}
 use Rattle.wh_engine.proofs.admission.is_line_there.Goals as goal
 
-pub returns-in-Ok-clause-there : goal.returns-in-Ok-clause-there
-returns-in-Ok-clause-there g c clean limits commands t are rests =
+pub returns-clause-there : goal.returns-clause-there
+returns-clause-there g c clean limits commands t are rests =
     let ticket = c.in_ok-new.ensures ∙ c.as_str.ensures in
-    c.is_some.ensures ∙ ap is_some (c.in-Ok.ensures.row clean t rests ∙ are.fact _) ∙ ap (λ text. is_some (fact_at commands (record { ticket = text; line = c.args.sale.now.line }))) ticket ∙ line_stored commands c.args.sale.now
+    c.is_some.ensures ∙ ap is_some (c.in_ok-fact.ensures.row clean t rests ∙ are.fact _) ∙ ap (λ text. is_some (fact_at commands (record { ticket = text; line = c.args.sale.now.line }))) ticket ∙ line_stored commands c.args.sale.now

@@ -16,8 +16,8 @@ returns-then-commands-clause-number g c clean commands t are accepted rests cont
 
 pub returns-then-not-branch-clause-number : goal.returns-then-not-branch-clause-number
 returns-then-not-branch-clause-number g c clean commands t are accepted rests content unsold changes =
-    let before = c.has_room_for.ensures.clean clean in
-    let still = c.in_ok-commands.ensures.same before t rests tt in
+    let before = c.has_room_for.ensures.reads.clean clean in
+    let still = c.in_ok-commands.ensures.reads.same before t rests tt in
     let number = c.in_ok-commands.ensures.count before t rests ∙ commands_counted c.args.limits commands t are in
     let room : length commands < c.args.limits.commands = omega (arith, number, c.commands.ensures, c.if-commands.false) in
     let counted = changes_counted c.args.limits commands t are in
@@ -28,8 +28,8 @@ returns-then-not-branch-clause-number g c clean commands t are accepted rests co
 
 pub returns-clause-number : goal.returns-clause-number
 returns-clause-number g c clean commands t are accepted rests content unsold changes =
-    let before = c.has_room_for.ensures.clean clean in
-    let still = c.in_ok-commands.ensures.same before t rests tt in
+    let before = c.has_room_for.ensures.reads.clean clean in
+    let still = c.in_ok-commands.ensures.reads.same before t rests tt in
     let number = c.in_ok-commands.ensures.count before t rests ∙ commands_counted c.args.limits commands t are in
     let room : length commands < c.args.limits.commands = omega (arith, number, c.commands.ensures, c.if-commands.false) in
     let counted = changes_counted c.args.limits commands t are in

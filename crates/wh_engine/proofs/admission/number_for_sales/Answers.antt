@@ -16,18 +16,18 @@ returns-then-commands-clause-number g c clean commands t are accepted rests =
 
 pub returns-in-Some-clause-number : goal.returns-in-Some-clause-number
 returns-in-Some-clause-number g c clean commands t are accepted rests =
-    let before = c.in_ok-number.ensures.clean clean in
-    let still = c.in_ok-commands.ensures.same before t rests tt in
+    let before = c.in_ok-number.ensures.reads.clean clean in
+    let still = c.in_ok-commands.ensures.reads.same before t rests tt in
     let number = c.in_ok-commands.ensures.count before t rests ∙ commands_counted c.args.limits commands t are in
     let room : length commands < c.args.limits.commands = omega (arith, number, c.commands.ensures, c.if-commands.false) in
     line_is_there c.args.limits commands (Sells c.args.sales.now) room c.in-Some.number (sym (c.in_ok-number.ensures.there clean c.args.limits commands t are still) ∙ c.in-Some.is)
 
 pub returns-then-not-branch-clause-number : goal.returns-then-not-branch-clause-number
 returns-then-not-branch-clause-number g c clean commands t are accepted rests =
-    let asked = c.in_ok-has_room_for.ensures.clean clean in
-    let before = c.in_ok-number.ensures.clean asked in
-    let still = c.in_ok-commands.ensures.same before t rests tt in
-    let passed = c.in_ok-number.ensures.same asked t still tt in
+    let asked = c.in_ok-has_room_for.ensures.reads.clean clean in
+    let before = c.in_ok-number.ensures.reads.clean asked in
+    let still = c.in_ok-commands.ensures.reads.same before t rests tt in
+    let passed = c.in_ok-number.ensures.reads.same asked t still tt in
     let number = c.in_ok-commands.ensures.count before t rests ∙ commands_counted c.args.limits commands t are in
     let room : length commands < c.args.limits.commands = omega (arith, number, c.commands.ensures, c.if-commands.false) in
     let none = is_none _ (λ n. c.in_default.not-Some n) in
@@ -42,10 +42,10 @@ returns-then-not-branch-clause-number g c clean commands t are accepted rests =
 
 pub returns-clause-number : goal.returns-clause-number
 returns-clause-number g c clean commands t are accepted rests =
-    let asked = c.in_ok-has_room_for.ensures.clean clean in
-    let before = c.in_ok-number.ensures.clean asked in
-    let still = c.in_ok-commands.ensures.same before t rests tt in
-    let passed = c.in_ok-number.ensures.same asked t still tt in
+    let asked = c.in_ok-has_room_for.ensures.reads.clean clean in
+    let before = c.in_ok-number.ensures.reads.clean asked in
+    let still = c.in_ok-commands.ensures.reads.same before t rests tt in
+    let passed = c.in_ok-number.ensures.reads.same asked t still tt in
     let number = c.in_ok-commands.ensures.count before t rests ∙ commands_counted c.args.limits commands t are in
     let room : length commands < c.args.limits.commands = omega (arith, number, c.commands.ensures, c.if-commands.false) in
     let none = is_none _ (λ n. c.in_default.not-Some n) in

@@ -8,7 +8,7 @@ pub returns-in-Some-clause-decided : goal.returns-in-Some-clause-decided
 returns-in-Some-clause-decided g c clean commands t held rests =
     let limits = c.args.session.now.limits in
     let command = c.args.command.now in
-    let good : is_key 40 command.id ≡ true = rw c.as_str.ensures at (sym c.is_key.ensures ∙ c.if-not-is_key.false) in
+    let good : is_key 40 command.id ≡ true = rw (c.as_bytes.ensures.value ∙ c.as_str.ensures) at (sym c.is_key.ensures ∙ c.if-not-is_key.false) in
     let row : command_with commands command.id ≡ Some c.in-Some.row = sym (c.in_ok-row.ensures.command clean limits commands t held.are rests held.accepted.distinct) ∙ c.in-Some.is in
     rw (known_answer limits commands command c.in-Some.row good row) (c.decide_known.ensures.known commands)
 
@@ -17,7 +17,7 @@ returns-in-None-clause-decided g c clean commands t held rests =
     let limits = c.args.session.now.limits in
     let command = c.args.command.now in
     let before = c.decide_new.ensures.reads.clean clean in
-    let good : is_key 40 command.id ≡ true = rw c.as_str.ensures at (sym c.is_key.ensures ∙ c.if-not-is_key.false) in
+    let good : is_key 40 command.id ≡ true = rw (c.as_bytes.ensures.value ∙ c.as_str.ensures) at (sym c.is_key.ensures ∙ c.if-not-is_key.false) in
     let none : command_with commands command.id ≡ None = sym (c.in_ok-row.ensures.command before limits commands t held.are rests held.accepted.distinct) ∙ c.in-None.is in
     let still = c.in_ok-row.ensures.reads.same before t rests tt in
     c.decide_new.ensures.decided clean commands t held still good (is_new limits commands command none)

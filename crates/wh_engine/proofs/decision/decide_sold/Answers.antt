@@ -1,8 +1,8 @@
 use Rattle.std.proofs.Common.{◌≡◌, ◌∙◌, ◌++◌, ◌∷◌, [], ℕ, suc, refl, sym, ap, subst, Ok, Some, length, arith}
 use Rattle.wh_policy.specs.Written.{IsSound}
 use Rattle.wh_history.specs.Accepted.{Sells, placeholders_by}
-use Rattle.wh_engine.specs.Admission.{accepted_as, answer}
-use Rattle.wh_engine.specs.Decided.{Decides, number_for, row_of_batch}
+use Rattle.wh_engine.specs.Admission.{accepted_as, answer, number_for}
+use Rattle.wh_engine.specs.Decided.{Decides, row_of_batch}
 use Rattle.wh_rows.specs.declared.rows.CommandRow.{CommandRow}
 use Rattle.wh_plan.specs.Planned.{Edits}
 use Rattle.wh_engine.specs.declared.command.Reply.TheVariants.{Accepted as Accepts}
@@ -19,7 +19,7 @@ returns-clause-decided g c clean commands t held rests good new read =
     let before = c.in_ok-edits.ensures.reads.clean clean in
     let numbered = judged_ok (λ number next. number ≡ next) number (number_for limits commands content) (c.in-Ok.ensures.number before commands t held.are held.accepted rests) in
     let room : number_for limits commands content ≡ Ok number = numbered.1 ∙ ap Ok (sym numbered.2) in
-    let still = c.in-Ok.ensures.same before t rests tt in
+    let still = c.in-Ok.ensures.reads.same before t rests tt in
     let accepted = list_accepted limits commands command good new content read number room held.accepted in
     let next = next_number limits commands command good new content read number room in
     let after = commands ++ accepted_as command content ∷ [] in

@@ -2,29 +2,29 @@ use Rattle.wh_engine.proofs.making.put_first.Goals as goal
 
 pub returns-in_err-put-clause-left : goal.returns-in_err-put-clause-left
 returns-in_err-put-clause-left g c clean before made at may =
-    c.put.ensures.left clean before made at
+    c.put.ensures.writes.left clean before made at tt
 
 pub returns-in_err-put-2-clause-left : goal.returns-in_err-put-2-clause-left
 returns-in_err-put-2-clause-left g c clean before made at may =
-    let one = c.put-2.ensures.clean clean in
-    c.put-2.ensures.left clean before _ (c.in_ok-put.ensures.put one before made at may.command)
+    let one = c.put-2.ensures.writes.clean clean in
+    c.put-2.ensures.writes.left clean before _ (c.in_ok-put.ensures.put one before made at may.command) tt
 
 pub returns-in_err-put_all-clause-left : goal.returns-in_err-put_all-clause-left
 returns-in_err-put_all-clause-left g c clean before made at may =
-    let two = c.put_all.ensures.clean clean in
-    let one = c.put-2.ensures.clean two in
-    c.put_all.ensures.left clean before _ (c.in_ok-put-2.ensures.put two before _ (c.in_ok-put.ensures.put one before made at may.command) may.customer) may.profiles
+    let two = c.put_all.ensures.writes.clean clean in
+    let one = c.put-2.ensures.writes.clean two in
+    c.put_all.ensures.writes.left clean before _ (c.in_ok-put-2.ensures.put two before _ (c.in_ok-put.ensures.put one before made at may.command) may.customer) may.profiles
 
 pub returns-clause-put : goal.returns-clause-put
 returns-clause-put g c clean before made at may =
-    let three = c.put_all-2.ensures.clean clean in
-    let two = c.put_all.ensures.clean three in
-    let one = c.put-2.ensures.clean two in
+    let three = c.put_all-2.ensures.writes.clean clean in
+    let two = c.put_all.ensures.writes.clean three in
+    let one = c.put-2.ensures.writes.clean two in
     c.put_all-2.ensures.put clean before _ (c.in_ok-put_all.ensures.put three before _ (c.in_ok-put-2.ensures.put two before _ (c.in_ok-put.ensures.put one before made at may.command) may.customer) may.profiles) may.calendar
 
 pub returns-clause-left : goal.returns-clause-left
 returns-clause-left g c clean before made at may =
-    let three = c.put_all-2.ensures.clean clean in
-    let two = c.put_all.ensures.clean three in
-    let one = c.put-2.ensures.clean two in
-    c.put_all-2.ensures.left clean before _ (c.in_ok-put_all.ensures.put three before _ (c.in_ok-put-2.ensures.put two before _ (c.in_ok-put.ensures.put one before made at may.command) may.customer) may.profiles) may.calendar
+    let three = c.put_all-2.ensures.writes.clean clean in
+    let two = c.put_all.ensures.writes.clean three in
+    let one = c.put-2.ensures.writes.clean two in
+    c.put_all-2.ensures.writes.left clean before _ (c.in_ok-put_all.ensures.put three before _ (c.in_ok-put-2.ensures.put two before _ (c.in_ok-put.ensures.put one before made at may.command) may.customer) may.profiles) may.calendar

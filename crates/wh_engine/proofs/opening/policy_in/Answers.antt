@@ -1,14 +1,21 @@
 use Rattle.std.proofs.Common.{◌≡◌, ◌∙◌, ap, subst, filter, slice_get}
+use Rattle.std.proofs.lemmas.Result.{err_from_is_err_and}
 use Rattle.std.specs.FinMap.{values}
-use Rattle.sqlite.specs.Held.{state}
 use Rattle.wh_sql.specs.Asked.{same_text}
+use Rattle.wh_store.specs.Reads.{state_of}
 use Rattle.wh_engine.specs.Opened.{of_making, makings_in, making_in, IsTold}
-use Rattle.wh_engine.proofs.OpenedTables.{read_of_told}
+use Rattle.wh_engine.proofs.OpenedTables.{read_of_told, rows_unread}
 use Rattle.wh_engine.proofs.opening.policy_in.Goals as goal
 
-pub returns-in-Ok-ask-clause-read : goal.returns-in-Ok-ask-clause-read
-returns-in-Ok-ask-clause-read g c clean t rests =
-    let new = state g.S.Store c.ask.new.self.conn in
-    let rows : c.deref.result.now ≡ makings_in t = c.deref.ensures.value ∙ c.in-Ok-ask.ensures.rows clean t rests ∙ ap (λ id. filter (λ r. same_text id r.id) (values t.command)) c.in-Ok.ensures in
+pub returns-in_err-found-clause-read : goal.returns-in_err-found-clause-read
+returns-in_err-found-clause-read g c clean t rests =
+    let p = err_from_is_err_and c.from_residual-in_err-found.result c.from_residual-in_err-found.ensures.1 in
+    let reads = c.in_err-found.ensures.reads in
+    rw (p.1, p.2) (rows_unread t c.in_err-found.field-0.0 (of_making (making_in t)) (state_of g.S.Store c.ask.new.self) (reads.sound clean t rests) (reads.same clean t rests) (reads.left clean t rests))
+
+pub returns-clause-read : goal.returns-clause-read
+returns-clause-read g c clean t rests =
+    let new = state_of g.S.Store c.ask.new.self in
+    let rows : c.deref.result.now ≡ makings_in t = c.deref.ensures.value ∙ c.in_ok-found.ensures.rows clean t rests ∙ ap (λ id. filter (λ r. same_text id r.id) (values t.command)) c.in_ok-id.ensures in
     read_of_told c.policy_of.result (of_making (making_in t)) t new
-    (subst (λ rows. IsTold c.policy_of.result (of_making (slice_get rows 0))) rows c.policy_of.ensures.told) c.policy_of.ensures.pure (c.in-Ok-ask.ensures.same clean t rests tt)
+    (subst (λ rows. IsTold c.policy_of.result (of_making (slice_get rows 0))) rows c.policy_of.ensures.told) c.policy_of.ensures.pure (c.in_ok-found.ensures.reads.same clean t rests tt)

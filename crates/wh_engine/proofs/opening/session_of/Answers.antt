@@ -1,20 +1,26 @@
-use Rattle.sqlite.specs.Held.{state}
-use Rattle.wh_store.specs.Meta.{limits_in}
+use Rattle.std.proofs.Common.{◌∙◌, ap}
+use Rattle.std.proofs.lemmas.Result.{err_from_is_err_and}
+use Rattle.wh_store.specs.Reads.{state_of}
 use Rattle.wh_engine.specs.Opened.{of_limits, of_making, making_in, session_in}
-use Rattle.wh_engine.proofs.OpenedTables.{fault_goes_on, limits_fault, policy_fault, session_is}
+use Rattle.wh_engine.proofs.OpenedTables.{fault_goes_on, limits_unread, policy_fault, session_is}
 use Rattle.wh_engine.proofs.opening.session_of.Goals as goal
+
+pub returns-in_err-limits-clause-read : goal.returns-in_err-limits-clause-read
+returns-in_err-limits-clause-read g c clean t rests =
+    let p = err_from_is_err_and c.from_residual.result c.from_residual.ensures.1 in
+    let reads = c.in_err-limits.ensures.reads in
+    rw (p.1, p.2) (limits_unread t c.in_err-limits.field-0.0 (state_of g.S.Store c.limits.new.self) (c.in_err-limits.ensures.damaged clean t rests) (reads.same clean t rests) (reads.left clean t rests))
+
+pub returns-in-Ok-clause-read : goal.returns-in-Ok-clause-read
+returns-in-Ok-clause-read g c clean t rests =
+    let before = c.policy_in.ensures.clean clean in
+    let first = ap of_limits (c.in_ok-limits.ensures.limits before t rests) in
+    let second = c.in-Ok.ensures.read clean t (c.in_ok-limits.ensures.reads.same before t rests tt) in
+    (session_is t c.in_ok-limits.limits c.in-Ok.policy first second.0, second.1)
 
 pub returns-in-Err-clause-read : goal.returns-in-Err-clause-read
 returns-in-Err-clause-read g c clean t rests =
-    fault_goes_on c.in-Err.fault (of_limits (limits_in t)) (session_in t) t (state g.S.Store c.limits_of.new.tables.conn) (limits_fault t) (c.in-Err.ensures.read clean t rests)
-
-pub returns-in-Ok-policy_in-clause-read : goal.returns-in-Ok-policy_in-clause-read
-returns-in-Ok-policy_in-clause-read g c clean t rests =
-    let first = c.in-Ok.ensures.read (c.policy_in.ensures.clean clean) t rests in
-    let second = c.in-Ok-policy_in.ensures.read clean t first.1 in
-    (session_is t c.in-Ok.limits c.in-Ok-policy_in.policy first.0 second.0, second.1)
-
-pub returns-in-Err-policy_in-clause-read : goal.returns-in-Err-policy_in-clause-read
-returns-in-Err-policy_in-clause-read g c clean t rests =
-    let first = c.in-Ok.ensures.read (c.policy_in.ensures.clean clean) t rests in
-    fault_goes_on c.in-Err-policy_in.fault (of_making (making_in t)) (session_in t) t (state g.S.Store c.policy_in.new.tables.conn) (λ e. policy_fault t c.in-Ok.limits e first.0) (c.in-Err-policy_in.ensures.read clean t first.1)
+    let before = c.policy_in.ensures.clean clean in
+    let first = ap of_limits (c.in_ok-limits.ensures.limits before t rests) in
+    let still = c.in_ok-limits.ensures.reads.same before t rests tt in
+    fault_goes_on c.in-Err.fault (of_making (making_in t)) (session_in t) t (state_of g.S.Store c.policy_in.new.tables) (λ e. policy_fault t c.in_ok-limits.limits e first) (c.in-Err.ensures.read clean t still)

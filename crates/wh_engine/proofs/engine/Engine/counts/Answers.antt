@@ -9,4 +9,4 @@ returns-clause-counted g c clean limits commands ready =
     let t = ready.rests.tables in
     let rests = ready.rests.rests in
     rw c.stops-self.ensures (counted limits commands c.args.self.now.session old new ready c.counts_of-counts.result
-    (c.counts_of-counts.ensures.counts clean limits commands t ready.rests.are ready.accepted rests) (c.counts_of-counts.ensures.same clean t rests) (c.counts_of-counts.ensures.left clean t rests))
+    (c.counts_of-counts.ensures.counts clean limits commands t ready.rests.are ready.accepted rests) (c.counts_of-counts.ensures.reads.same clean t rests) (c.counts_of-counts.ensures.reads.left clean t rests))

@@ -2,47 +2,52 @@ use Rattle.std.proofs.Common.{◌∙◌, ap}
 use Rattle.sqlite.specs.Held.{state}
 use Rattle.wh_sql.specs.Present.{are_all_there}
 use Rattle.wh_sql.proofs.Worked.{all_of_a_warehouse}
-use Rattle.wh_engine.specs.Opened.{of_tables}
 use Rattle.wh_engine.proofs.OpenedTables.{format_known, not_opened, opened_ready, opened_refused}
 use Rattle.wh_engine.proofs.engine.Engine.open.Goals as goal
 
 pub returns-in-Err-clause-fault : goal.returns-in-Err-clause-fault
 returns-in-Err-clause-fault g c clean t rests =
     let all_there = ap are_all_there rests.now.schema ∙ all_of_a_warehouse in
-    rw c.of_tables.ensures (not_opened t (state g.S.Store c.args.conn) (state g.S.Store c.in-Err.conn) c.in-Err.fault (c.in-Err.ensures.refused clean t rests all_there) (c.in-Err.ensures.left clean t rests))
+    let reads = c.in-Err.ensures.reads in
+    not_opened t (state g.S.Store c.args.conn) (state g.S.Store c.in-Err.conn) c.in-Err.fault (c.in-Err.ensures.refused clean t rests all_there) (reads.left clean t rests) (reads.same clean t rests)
 
 pub returns-in-Err-clause-refused : goal.returns-in-Err-clause-refused
 returns-in-Err-clause-refused g c clean limits commands accepted rests =
     let t = rests.tables in
     let new = state g.S.Store c.in-Err.conn in
     let all_there = ap are_all_there rests.rests.now.schema ∙ all_of_a_warehouse in
-    rw c.of_tables.ensures (opened_refused limits commands t accepted rests.are (of_tables c.in-Err.fault) new (not_opened t (state g.S.Store c.args.conn) new c.in-Err.fault (c.in-Err.ensures.refused clean t rests.rests all_there) (c.in-Err.ensures.left clean t rests.rests)))
+    let reads = c.in-Err.ensures.reads in
+    opened_refused limits commands t accepted rests.are c.in-Err.fault new (not_opened t (state g.S.Store c.args.conn) new c.in-Err.fault (c.in-Err.ensures.refused clean t rests.rests all_there) (reads.left clean t rests.rests) (reads.same clean t rests.rests))
 
 pub returns-in-Ok-session_of-clause-found : goal.returns-in-Ok-session_of-clause-found
 returns-in-Ok-session_of-clause-found g c clean t rests =
     let before = c.session_of.ensures.clean clean in
     let taken = c.in-Ok.ensures.taken before t rests in
-    let read = c.in-Ok-session_of.ensures.read clean t taken.1 in
-    (format_known t taken.0 ∙ read.0, read.1)
+    let still = c.in-Ok.ensures.reads.same before t rests tt in
+    let read = c.in-Ok-session_of.ensures.read clean t still in
+    (format_known t taken ∙ read.0, read.1)
 
 pub returns-in-Ok-session_of-clause-ready : goal.returns-in-Ok-session_of-clause-ready
 returns-in-Ok-session_of-clause-ready g c clean limits commands accepted rests =
     let before = c.session_of.ensures.clean clean in
     let taken = c.in-Ok.ensures.taken before rests.tables rests.rests in
-    let read = c.in-Ok-session_of.ensures.read clean rests.tables taken.1 in
-    opened_ready limits commands rests.tables accepted rests.are c.in-Ok-session_of.session (state g.S.Store c.session_of.new.tables.conn) (format_known rests.tables taken.0 ∙ read.0) read.1
+    let still = c.in-Ok.ensures.reads.same before rests.tables rests.rests tt in
+    let read = c.in-Ok-session_of.ensures.read clean rests.tables still in
+    opened_ready limits commands rests.tables accepted rests.are c.in-Ok-session_of.session (state g.S.Store c.session_of.new.tables.conn) (format_known rests.tables taken ∙ read.0) read.1
 
 pub returns-in-Err-session_of-clause-fault : goal.returns-in-Err-session_of-clause-fault
 returns-in-Err-session_of-clause-fault g c clean t rests =
     let here = rw c.close.ensures at clean in
     let taken = c.in-Ok.ensures.taken (c.session_of.ensures.clean here) t rests in
-    let read = c.in-Err-session_of.ensures.read here t taken.1 in
-    rw (c.close.ensures, format_known t taken.0) read
+    let still = c.in-Ok.ensures.reads.same (c.session_of.ensures.clean here) t rests tt in
+    let read = c.in-Err-session_of.ensures.read here t still in
+    rw (c.close.ensures, format_known t taken) read
 
 pub returns-in-Err-session_of-clause-refused : goal.returns-in-Err-session_of-clause-refused
 returns-in-Err-session_of-clause-refused g c clean limits commands accepted rests =
     let t = rests.tables in
     let here = rw c.close.ensures at clean in
     let taken = c.in-Ok.ensures.taken (c.session_of.ensures.clean here) t rests.rests in
-    let read = c.in-Err-session_of.ensures.read here t taken.1 in
-    rw c.close.ensures (opened_refused limits commands t accepted rests.are c.in-Err-session_of.fault (state g.S.Store c.session_of.new.tables.conn) (rw (format_known t taken.0) read))
+    let still = c.in-Ok.ensures.reads.same (c.session_of.ensures.clean here) t rests.rests tt in
+    let read = c.in-Err-session_of.ensures.read here t still in
+    rw c.close.ensures (opened_refused limits commands t accepted rests.are c.in-Err-session_of.fault (state g.S.Store c.session_of.new.tables.conn) (rw (format_known t taken) read))
