@@ -33,7 +33,7 @@ impl<'a> SystemHost<'a> {
 /// Why a file was not read.
 fn of_io(error: io::Error) -> HostError {
     match error.kind() {
-        io::ErrorKind::OutOfMemory => HostError::OutOfMemory,
+        io::ErrorKind::OutOfMemory => HostError::Memory,
         _ => HostError::NoFile,
     }
 }
@@ -41,7 +41,7 @@ fn of_io(error: io::Error) -> HostError {
 /// Why a database's files were not opened.
 fn of_opening(error: OpenError) -> HostError {
     match error {
-        OpenError::OutOfMemory => HostError::OutOfMemory,
+        OpenError::OutOfMemory => HostError::Memory,
         OpenError::Io(error) => of_io(error),
         OpenError::Busy | OpenError::HotJournal => HostError::NoFile,
     }
@@ -50,7 +50,7 @@ fn of_opening(error: OpenError) -> HostError {
 /// Why a database was not connected.
 fn of_connecting(error: Error) -> HostError {
     match error {
-        Error::SqliteFailure(ErrorCode::OutOfMemory) => HostError::OutOfMemory,
+        Error::SqliteFailure(ErrorCode::OutOfMemory) => HostError::Memory,
         _ => HostError::NoFile,
     }
 }

@@ -27,8 +27,8 @@ use Rattle.wh_engine.specs.declared.fault.Fault.{Fault}
 use Rattle.wh_engine.specs.declared.fault.Fault.TheVariants as fault
 use Rattle.wh_engine.specs.declared.opening.InitFault.{InitFault}
 use Rattle.wh_engine.specs.declared.opening.InitFault.TheVariants as making
-use Rattle.wh_engine.specs.declared.opening.OpeningFault.{OpeningFault}
-use Rattle.wh_engine.specs.declared.opening.OpeningFault.TheVariants as opening
+use Rattle.wh_store.specs.declared.fault.OpenFault.{OpenFault}
+use Rattle.wh_store.specs.declared.fault.OpenFault.TheVariants as opening
 use Rattle.wh_engine.specs.declared.session.Session.{Session}
 use Rattle.wh_program.specs.Answer.{done, failed, no_file_line}
 use Rattle.wh_program.specs.Reply.{load_answer, opening_answer, status_answer, making_answer, made_line}
@@ -54,7 +54,7 @@ module _ (does : Limits → List Accepted → Told → Standing → Type 0) (con
     | Holds limits commands ↦ λ at. let worked = works limits commands (opens limits commands at.0 at.1) in (worked.0, inl worked.1, worked.2)
   ] at
 
-  not_opened : (limits : Limits) (commands : List Accepted) (why : OpeningFault) (s : State) → IfOk told (λ a. a ≡ opening_answer why) → IsAccepted limits commands → IsNotOpened limits commands why s
+  not_opened : (limits : Limits) (commands : List Accepted) (why : OpenFault) (s : State) → IfOk told (λ a. a ≡ opening_answer why) → IsAccepted limits commands → IsNotOpened limits commands why s
       → (after : Standing) × Opens does (Holds limits commands) told after × Stands after s
   not_opened limits commands opening.NotAWarehouse s tells accepted none = absurd none
   not_opened limits commands opening.OldFormat s tells accepted none = absurd none
@@ -66,7 +66,7 @@ module _ (does : Limits → List Accepted → Told → Standing → Type 0) (con
       (LeftAt (Holds limits commands) (Holds limits commands), inr (record { why = opening.Store cause; leaves = refl; tells = tells }), record { each = left.each })
 
   -- or one that was not
-  pub unopened : (why : OpeningFault) (s0 s1 : State)
+  pub unopened : (why : OpenFault) (s0 s1 : State)
       → ((limits : Limits) (commands : List Accepted) → IsAccepted limits commands → engine.Rests limits commands s0 → IsNotOpened limits commands why s1)
       → (IsAtRest None s0 → (why ≡ opening.NotAWarehouse) × IsAt Nothing s1)
       → IfOk told (λ a. a ≡ opening_answer why)

@@ -37,6 +37,9 @@ refused text = record { status = 2; text = text }
 abbrev pub failed : List ℕ → Printed
 failed text = record { status = 3; text = text }
 
+abbrev pub wrong_words : List ℕ → Printed
+wrong_words text = record { status = 4; text = text }
+
 -- a text with the end of its line
 abbrev pub line : List ℕ → List ℕ
 line text = text ++ 10 ∷ []
@@ -79,6 +82,19 @@ memory_line = line (codes "failed: E8 memory")
 
 abbrev pub write_line : List ℕ
 write_line = line (codes "failed: G4 write")
+
+-- ---- words that are wrong
+
+abbrev pub no_dimension_line : List ℕ
+no_dimension_line = line (codes "error: DIMENSION is none of product, store and customer")
+
+abbrev pub no_kind_line : List ℕ
+no_kind_line = line (codes "error: KIND is none of product, store, customer and sales")
+
+abbrev pub no_text_line : List ℕ
+no_text_line = line (codes "error: an argument is no text")
+
+-- ---- trials
 
 -- the rows of a dimension's table in the warehouse that was made under the policy and given this one batch
 abbrev pub trial_rows : Dim → Policy → List ℕ → Result (List DimRow) BatchFault

@@ -13,8 +13,8 @@ use Rattle.wh_engine.specs.declared.fault.Fault.{Fault}
 use Rattle.wh_engine.specs.declared.fault.Fault.TheVariants as fault
 use Rattle.wh_engine.specs.declared.opening.InitFault.{InitFault}
 use Rattle.wh_engine.specs.declared.opening.InitFault.TheVariants as making
-use Rattle.wh_engine.specs.declared.opening.OpeningFault.{OpeningFault}
-use Rattle.wh_engine.specs.declared.opening.OpeningFault.TheVariants as opening
+use Rattle.wh_store.specs.declared.fault.OpenFault.{OpenFault}
+use Rattle.wh_store.specs.declared.fault.OpenFault.TheVariants as opening
 use Rattle.wh_rows.specs.Names.{table_name}
 use Rattle.wh_rows.specs.declared.table.Table.{Table}
 use Rattle.wh_rows.specs.declared.cause.Cause.{Cause}
@@ -38,14 +38,14 @@ limit_name Facts = codes "facts"
 abbrev pub full_line : Limit → List ℕ
 full_line limit = line (codes "refused: E6 full, " ++ limit_name limit)
 
-abbrev pub line_there_line : ℕ → List ℕ
-line_there_line number = line (codes "refused: E6 line there, record " ++ decimal number)
+abbrev pub sale_there_line : ℕ → List ℕ
+sale_there_line number = line (codes "refused: E6 line there, record " ++ decimal number)
 
 abbrev pub refused_line : Refused → List ℕ
 refused_line refusal.BadId = line (codes "refused: E1 bad id")
 refused_line refusal.Reused = line (codes "refused: E2 id reused")
 refused_line (refusal.Batch fault) = batch_line fault
-refused_line (refusal.LineThere number) = line_there_line number
+refused_line (refusal.LineThere number) = sale_there_line number
 refused_line (refusal.Full limit) = full_line limit
 
 abbrev pub damaged_line : Table → List ℕ
@@ -83,7 +83,7 @@ making_answer making.Memory = failed memory_line
 making_answer (making.Store cause) = failed (store_line cause)
 
 -- the answer where a file isn't opened as a warehouse
-abbrev pub opening_answer : OpeningFault → Printed
+abbrev pub opening_answer : OpenFault → Printed
 opening_answer opening.NotAWarehouse = failed (line (codes "failed: N1 not a warehouse"))
 opening_answer opening.OldFormat = failed (line (codes "failed: N2 old format"))
 opening_answer opening.NewFormat = failed (line (codes "failed: N3 new format"))

@@ -1,5 +1,5 @@
 -- What stands under the name of a warehouse.
-use Rattle.std.specs.Prelude.{◌≡◌, ◌⊎◌, List, Option, Some, None}
+use Rattle.std.specs.Prelude.{◌≡◌, ◌⊎◌, ⊤, List, Option, Some, None}
 use Rattle.sqlite.specs.Tree.{Trees}
 use Rattle.sqlite.specs.State.{State}
 use Rattle.sqlite.specs.Held.{Held, state}
@@ -38,7 +38,7 @@ pub record LeavesEither (first second : Content) (s : State) : Type 0 where
 
 -- what stands, of a connection
 abbrev pub Stands : Standing → State → Type 0
-Stands Unknown s = Unit {0}
+Stands Unknown s = ⊤
 Stands (Rests content) s = IsAt content s
 Stands (LeftAt first second) s = LeavesEither first second s
 

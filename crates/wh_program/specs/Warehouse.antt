@@ -18,8 +18,8 @@ use Rattle.wh_engine.specs.declared.fault.Fault.{Fault}
 use Rattle.wh_engine.specs.declared.fault.Fault.TheVariants as fault
 use Rattle.wh_engine.specs.declared.opening.InitFault.{InitFault}
 use Rattle.wh_engine.specs.declared.opening.InitFault.TheVariants as making
-use Rattle.wh_engine.specs.declared.opening.OpeningFault.{OpeningFault}
-use Rattle.wh_engine.specs.declared.opening.OpeningFault.TheVariants as opening
+use Rattle.wh_store.specs.declared.fault.OpenFault.{OpenFault}
+use Rattle.wh_store.specs.declared.fault.OpenFault.TheVariants as opening
 use Rattle.wh_program.specs.Answer.{Printed, done, failed, no_file_line}
 use Rattle.wh_program.specs.CommandLine.{CommandLine, words_of, has_operands}
 use Rattle.wh_program.specs.Reply.{load_answer, opening_answer, status_answer, making_answer, made_line}
@@ -38,13 +38,13 @@ printed (Err e) = out_of_memory
 -- ---- a warehouse that is opened
 
 -- What is left of a warehouse with these commands that wasn't opened.
-abbrev pub LeavesUnopened : Limits → List Accepted → OpeningFault → Standing → Type 0
+abbrev pub LeavesUnopened : Limits → List Accepted → OpenFault → Standing → Type 0
 LeavesUnopened limits commands opening.Memory after = after ≡ Rests (Holds limits commands)
 LeavesUnopened limits commands (opening.Store cause) after = after ≡ LeftAt (Holds limits commands) (Holds limits commands)
 LeavesUnopened limits commands _ after = ⊥
 
 pub record IsUnopened (limits : Limits) (commands : List Accepted) (told : Told) (after : Standing) : Type 0 where
-  pub why : OpeningFault
+  pub why : OpenFault
   pub leaves : LeavesUnopened limits commands why after
   pub tells : IfOk told (λ a. a ≡ opening_answer why)
 

@@ -4,40 +4,16 @@ ghost use Rattle.std.specs.Prelude.{◌≡◌, ℕ, List, Option, IfOk, IfErr, I
 ghost use Rattle.clap.specs.Words.{app_of, first_of, found_of, rows_of, subcommand_rows_of, kind_of, takes, subcommand_of};
 ghost use Rattle.clap.specs.declared.builder.command.Command.TheViews.{out-Command};
 ghost use Rattle.clap.specs.declared.error.ErrorKind.TheVariants.{OutOfMemory};
-ghost use Rattle.wh_program.specs.Request.{dim_of, batch_kind_of, line_of, IsUsage, Asks};
+ghost use Rattle.wh_program.specs.Request.{line_of, IsUsage, Asks};
 ghost use Rattle.wh_program.specs.CommandLine.{CommandLine, first_app, program_app, operands_app, trial_app, init_app, batch_app, load_app, status_app, words_of, has_operands, named, named_trial, named_init, named_load, named_status};
 
+use crate::lines::{NO_COMMAND_LINE, NO_DIMENSION_LINE, NO_KIND_LINE};
 use clap::error::ErrorKind;
 use clap::{Arg, ArgMatches, Command};
 use std::alloc::{AllocError, Global};
 use std::convert::AsStr;
 use wh_batch::Kind;
 use wh_policy::Dim;
-
-/// The dimension of that name.
-fn dim_of(word: &str) -> Option<Dim>
-    ensures { result ≡ dim_of word.now }
-{
-    match word {
-        "product" => Some(Dim::Product),
-        "store" => Some(Dim::Store),
-        "customer" => Some(Dim::Customer),
-        _ => None,
-    }
-}
-
-/// The kind of batch of that name.
-fn batch_kind_of(word: &str) -> Option<Kind>
-    ensures { result ≡ batch_kind_of word.now }
-{
-    if word == "sales" {
-        return Some(Kind::Sales);
-    }
-    match dim_of(word) {
-        Some(dim) => Some(Kind::Dimension(dim)),
-        None => None,
-    }
-}
 
 /// What the words ask for.
 #[derive(Debug, Drop)]
@@ -82,6 +58,7 @@ fn operands_command<'a>(alloc: Global) -> Result<Command<'a>, AllocError>
         .help("the batch's file");
     Command::new(alloc, "trial")
         .about("Prints a dimension's table as one batch makes it")
+        .after_help("Example: wh trial product examples/products.csv")
         .arg(dimension)?
         .arg(batch)
 }
@@ -108,6 +85,7 @@ fn init_command<'a>(alloc: Global) -> Result<Command<'a>, AllocError>
         .help("the policy's file");
     Command::new(alloc, "init")
         .about("Makes a warehouse")
+        .after_help("Example: wh init shop.wh examples/flat.toml")
         .arg(file)?
         .arg(policy)
 }
@@ -124,6 +102,7 @@ fn batch_command<'a>(alloc: Global) -> Result<Command<'a>, AllocError>
         .help("product, store, customer or sales");
     Command::new(alloc, "load")
         .about("Loads a batch into a warehouse")
+        .after_help("Example: wh load shop.wh product p1 examples/late.csv")
         .arg(file)?
         .arg(kind)
 }
@@ -150,6 +129,7 @@ fn status_command<'a>(alloc: Global) -> Result<Command<'a>, AllocError>
         .help("the warehouse's file");
     Command::new(alloc, "status")
         .about("Prints how much a warehouse holds")
+        .after_help("Example: wh status shop.wh")
         .arg(file)
 }
 
@@ -160,6 +140,7 @@ fn first_command<'a>(alloc: Global) -> Result<Command<'a>, AllocError>
     let trial = trial_command(alloc)?;
     let init = init_command(alloc)?;
     Command::new(alloc, "wh")
+        .bin_name("wh")?
         .no_binary_name(true)
         .subcommand_required(true)
         .subcommand(trial)?
@@ -275,10 +256,10 @@ fn declined<'a>(alloc: Global, error: &clap::Error) -> Result<Request<'a>, Alloc
     }
 }
 
-fn mistake<'a>(alloc: Global, text: &str) -> Result<Request<'a>, AllocError>
-    ensures { IfOk result IsUsage }
+fn mistake<'a>(alloc: Global, line: &str) -> Result<Request<'a>, AllocError>
+    ensures { IfOk result (IsUsage line.now) }
 {
-    Ok(Request::Usage(String::from_str(alloc, text)?))
+    Ok(Request::Usage(String::from_str(alloc, line)?))
 }
 
 /// What a subcommand asks for, by its operands.
@@ -290,12 +271,9 @@ fn requested<'a>(alloc: Global, operands: Operands<'a>) -> Result<Request<'a>, A
             dimension,
             path,
             policy,
-        } => match dim_of(dimension) {
+        } => match Dim::from_word(dimension) {
             Some(dim) => Ok(Request::Trial { dim, path, policy }),
-            None => mistake(
-                alloc,
-                "error: DIMENSION is none of product, store and customer\n",
-            ),
+            None => mistake(alloc, NO_DIMENSION_LINE),
         },
         Operands::Init { file, policy } => Ok(Request::Init { file, policy }),
         Operands::Load {
@@ -303,17 +281,14 @@ fn requested<'a>(alloc: Global, operands: Operands<'a>) -> Result<Request<'a>, A
             kind,
             id,
             path,
-        } => match batch_kind_of(kind) {
+        } => match Kind::from_word(kind) {
             Some(kind) => Ok(Request::Load {
                 file,
                 kind,
                 id,
                 path,
             }),
-            None => mistake(
-                alloc,
-                "error: KIND is none of product, store, customer and sales\n",
-            ),
+            None => mistake(alloc, NO_KIND_LINE),
         },
         Operands::Status { file } => Ok(Request::Status { file }),
     }
@@ -326,7 +301,7 @@ pub fn parse<'a, S: AsStr>(alloc: Global, words: &'a [S]) -> Result<Request<'a>,
     match matches_of(alloc, words) {
         Ok(matches) => match operands_of(&matches) {
             Some(operands) => requested(alloc, operands),
-            None => mistake(alloc, "error: no command was given\n"),
+            None => mistake(alloc, NO_COMMAND_LINE),
         },
         Err(error) => declined(alloc, &error),
     }

@@ -8,13 +8,17 @@ ghost use Rattle.wh_program.specs.declared.host.HostError.TheVariants.{NoFile};
 
 use sqlite::{Alter, Connection};
 use std::alloc::{AllocError, Global};
+use thiserror::Error;
 
 /// Why a host gives no file, or lends no connection.
-#[derive(Clone, Copy, Debug, PartialEq, Eq)]
+#[derive(Clone, Copy, Debug, PartialEq, Eq, Error)]
 pub enum HostError {
     /// There is none of that name, or it could not be read or connected.
+    #[error("there is no such file, or it could not be read or connected")]
     NoFile,
-    OutOfMemory,
+    /// Memory ran out.
+    #[error("memory ran out")]
+    Memory,
 }
 
 /// What is done with the connection of a warehouse, over any store.
@@ -68,6 +72,6 @@ pub fn file_of<H: Host>(alloc: Global, path: &str, host: &H) -> Result<Option<Ve
     match host.read(alloc, path) {
         Ok(bytes) => Ok(Some(bytes)),
         Err(HostError::NoFile) => Ok(None),
-        Err(HostError::OutOfMemory) => Err(AllocError),
+        Err(HostError::Memory) => Err(AllocError),
     }
 }

@@ -2,15 +2,33 @@
 
 ghost use Rattle.std.specs.Prelude.{◌≡◌, IfOk, string_bytes};
 ghost use Rattle.wh_program.specs.Answer.{status_code, done, refused, failed, no_file_line, batch_line, batch_fault_name, policy_line, policy_fault_name};
-ghost use Rattle.wh_program.specs.Reply.{receipt_line, reply_answer, limit_name, full_line, line_there_line, refused_line, damaged_line, cause_name, store_line, fault_answer, load_answer, made_line, making_answer, opening_answer, members_line, totals_text, counts_text, status_answer};
+ghost use Rattle.wh_program.specs.Reply.{receipt_line, reply_answer, limit_name, full_line, sale_there_line, refused_line, damaged_line, cause_name, store_line, fault_answer, load_answer, made_line, making_answer, opening_answer, members_line, totals_text, counts_text, status_answer};
 
 use crate::answer::{Answer, Status};
 use itoa::Buffer;
 use std::alloc::{AllocError, Global};
 use wh_batch::{BatchFault, FaultKind};
-use wh_engine::{Counts, Fault, InitFault, Limit, OpeningFault, Receipt, Refused, Reply};
+use wh_engine::{Counts, Fault, InitFault, Limit, OpenFault, Receipt, Refused, Reply};
 use wh_policy::PolicyFault;
 use wh_rows::{Cause, Table};
+
+/// The line where memory ran out.
+pub const MEMORY_LINE: &[u8] = b"failed: E8 memory\n";
+
+/// The line where the output could not be written.
+pub const WRITE_LINE: &[u8] = b"failed: G4 write\n";
+
+/// What is wrong with the words of a trial.
+pub const NO_DIMENSION_LINE: &str = "error: DIMENSION is none of product, store and customer\n";
+
+/// What is wrong with the words of a load.
+pub const NO_KIND_LINE: &str = "error: KIND is none of product, store, customer and sales\n";
+
+/// What is wrong with words of which none names a command.
+pub const NO_COMMAND_LINE: &str = "error: no command was given\n";
+
+/// What is wrong with words of which one is no text.
+pub const NO_TEXT_LINE: &[u8] = b"error: an argument is no text\n";
 
 fn batch_fault_name(kind: FaultKind) -> &'static str
     ensures { result.now ≡ batch_fault_name kind }
@@ -141,8 +159,8 @@ fn full_line(alloc: Global, limit: Limit) -> Result<Vec<u8>, AllocError>
     Ok(line.into_bytes())
 }
 
-fn line_there_line(alloc: Global, number: u64) -> Result<Vec<u8>, AllocError>
-    ensures { IfOk result (λ line. line.items ≡ line_there_line number) }
+fn sale_there_line(alloc: Global, number: u64) -> Result<Vec<u8>, AllocError>
+    ensures { IfOk result (λ line. line.items ≡ sale_there_line number) }
 {
     let line = format!(in alloc; "refused: E6 line there, record {number}\n")?;
     Ok(line.into_bytes())
@@ -157,7 +175,7 @@ fn refused_answer(alloc: Global, why: Refused) -> Result<Answer, AllocError>
         Refused::Reused => told(alloc, Status::Refused, "refused: E2 id reused\n"),
         Refused::Batch(fault) => Ok(Answer::new(Status::Refused, batch_line(alloc, fault)?)),
         Refused::LineThere(number) => {
-            Ok(Answer::new(Status::Refused, line_there_line(alloc, number)?))
+            Ok(Answer::new(Status::Refused, sale_there_line(alloc, number)?))
         }
         Refused::Full(limit) => Ok(Answer::new(Status::Refused, full_line(alloc, limit)?)),
     }
@@ -242,18 +260,16 @@ pub fn making_answer(alloc: Global, fault: InitFault) -> Result<Answer, AllocErr
 }
 
 /// The answer where a file isn't opened as a warehouse.
-pub fn opening_answer(alloc: Global, fault: OpeningFault) -> Result<Answer, AllocError>
+pub fn opening_answer(alloc: Global, fault: OpenFault) -> Result<Answer, AllocError>
     ensures { IfOk result (λ answer. answer ≡ opening_answer fault) }
 {
     match fault {
-        OpeningFault::NotAWarehouse => {
-            told(alloc, Status::Failed, "failed: N1 not a warehouse\n")
-        }
-        OpeningFault::OldFormat => told(alloc, Status::Failed, "failed: N2 old format\n"),
-        OpeningFault::NewFormat => told(alloc, Status::Failed, "failed: N3 new format\n"),
-        OpeningFault::Damaged(table) => damaged(alloc, table),
-        OpeningFault::Memory => Err(AllocError),
-        OpeningFault::Store(cause) => store_failed(alloc, cause),
+        OpenFault::NotAWarehouse => { told(alloc, Status::Failed, "failed: N1 not a warehouse\n") }
+        OpenFault::OldFormat => told(alloc, Status::Failed, "failed: N2 old format\n"),
+        OpenFault::NewFormat => told(alloc, Status::Failed, "failed: N3 new format\n"),
+        OpenFault::Damaged(table) => damaged(alloc, table),
+        OpenFault::Memory => Err(AllocError),
+        OpenFault::Store(cause) => store_failed(alloc, cause),
     }
 }
 

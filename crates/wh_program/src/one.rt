@@ -70,7 +70,7 @@ impl Host for OneHost<'_> {
         };
         match bytes.to_vec(alloc) {
             Ok(bytes) => Ok(bytes),
-            Err(_) => Err(HostError::OutOfMemory),
+            Err(_) => Err(HostError::Memory),
         }
     }
 
@@ -87,7 +87,7 @@ impl Host for OneHost<'_> {
             Some(connection) => connection,
             None => match Connection::open_in_memory(alloc) {
                 Ok(connection) => connection,
-                Err(_) => return Err(HostError::OutOfMemory),
+                Err(_) => return Err(HostError::Memory),
             },
         };
         let (output, connection) = visitor.visit(alloc, connection);

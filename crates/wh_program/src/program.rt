@@ -1,11 +1,13 @@
 //! One run of the program.
 
 ghost use Rattle.std.specs.Prelude.{◌≡◌, ◌≢◌, ◌⊎◌, ℕ, List, Option, Some, IfOk, map, true};
-ghost use Rattle.wh_program.specs.Answer.{Printed, AnswersTrial};
+ghost use Rattle.wh_program.specs.Answer.{Printed, AnswersTrial, wrong_words, no_text_line};
 ghost use Rattle.wh_program.specs.CommandLine.{trial_words, is_operand, is_operand_or_none};
 ghost use Rattle.wh_program.specs.CommandLine.{Init, Load, Status as StatusLine};
-ghost use Rattle.wh_program.specs.Request.{dim_word, batch_kind_of, AsksTrial, AsksInit, AsksLoad, AsksStatus};
+ghost use Rattle.wh_program.specs.Request.{AsksTrial, AsksInit, AsksLoad, AsksStatus};
 ghost use Rattle.wh_policy.specs.declared.attribute.Dim.{Dim};
+ghost use Rattle.wh_policy.specs.Words.{word_of};
+ghost use Rattle.wh_batch.specs.Kind.{kind_of_word};
 ghost use Rattle.wh_program.specs.Run.{Prints, out_of_memory};
 ghost use Rattle.wh_program.specs.Standing.{Content, Rests};
 ghost use Rattle.wh_program.specs.Warehouse.{Told, Makes, Loads, AnswersWith, AnswersStatus, Says, printed};
@@ -14,6 +16,7 @@ ghost use Rattle.wh_batch.specs.declared.kind.Kind.{Kind};
 use crate::answer::{Answer, Status};
 use crate::command::{Request, parse};
 use crate::host::Host;
+use crate::lines::{MEMORY_LINE, NO_TEXT_LINE, WRITE_LINE};
 use crate::output::write_whole;
 use crate::trial::{plain_trial, trial_under};
 use crate::warehouse::{init, load, status};
@@ -21,10 +24,6 @@ use std::alloc::{AllocError, Global};
 use std::convert::AsStr;
 use std::io;
 use std::io::Write;
-
-const MEMORY_LINE: &[u8] = b"failed: E8 memory\n";
-
-const WRITE_LINE: &[u8] = b"failed: G4 write\n";
 
 /// Prints a text, and answers the status. Where the writer fails the status is that of a failure, and a line says so
 /// if it can still be written.
@@ -83,11 +82,11 @@ fn answer_to<S: AsStr, H: Host>(
     host: &mut H,
 ) -> Result<Answer, AllocError>
     ensures trial { IfOk result (λ answer. (dim : Dim) (path : List ℕ) (policy : Option (List ℕ))
-        → map S.text words.now ≡ trial_words (dim_word dim) path policy → is_operand path ≡ true → is_operand_or_none policy ≡ true
+        → map S.text words.now ≡ trial_words (word_of dim) path policy → is_operand path ≡ true → is_operand_or_none policy ≡ true
         → AnswersTrial (H.holds host.old) dim path policy answer) }
     ensures init { (file policy : List ℕ) (content : Content) → Says (map S.text words.now) (Init file policy) → H.stores host.old file (Rests content)
         → AnswersWith (H.holds host.old) (H.stores host.new file) Makes content file policy result }
-    ensures load { (file word id path : List ℕ) (kind : Kind) (content : Content) → Says (map S.text words.now) (Load file word id path) → batch_kind_of word ≡ Some kind → H.stores host.old file (Rests content)
+    ensures load { (file word id path : List ℕ) (kind : Kind) (content : Content) → Says (map S.text words.now) (Load file word id path) → kind_of_word word ≡ Some kind → H.stores host.old file (Rests content)
         → AnswersWith (H.holds host.old) (H.stores host.new file) (Loads kind id) content file path result }
     ensures status { (file : List ℕ) (content : Content) → Says (map S.text words.now) (StatusLine file) → H.stores host.old file (Rests content) → AnswersStatus (H.stores host.new file) content file result }
 {
@@ -98,7 +97,7 @@ fn answer_to<S: AsStr, H: Host>(
 pub fn run<S: AsStr, H: Host, W: Write>(alloc: Global, words: &[S], host: &mut H, out: &mut W) -> u8
     // What a trial of a dimension prints, with its status, under its own policy or the one in a file.
     ensures trial { (dim : Dim) (path : List ℕ) (policy : Option (List ℕ))
-        → map S.text words.now ≡ trial_words (dim_word dim) path policy → is_operand path ≡ true → is_operand_or_none policy ≡ true
+        → map S.text words.now ≡ trial_words (word_of dim) path policy → is_operand path ≡ true → is_operand_or_none policy ≡ true
         → Prints (W.contents out.old) (W.contents out.new) result out_of_memory
         ⊎ ((answer : Printed) × AnswersTrial (H.holds host.old) dim path policy answer
         × Prints (W.contents out.old) (W.contents out.new) result answer) }
@@ -106,14 +105,14 @@ pub fn run<S: AsStr, H: Host, W: Write>(alloc: Global, words: &[S], host: &mut H
     // What a making, a load and a count print, and what they leave under the warehouse's name.
     ensures init { (file policy : List ℕ) (content : Content) → Says (map S.text words.now) (Init file policy) → H.stores host.old file (Rests content)
         → (told : Told) × AnswersWith (H.holds host.old) (H.stores host.new file) Makes content file policy told × Prints (W.contents out.old) (W.contents out.new) result (printed told) }
-    ensures load { (file word id path : List ℕ) (kind : Kind) (content : Content) → Says (map S.text words.now) (Load file word id path) → batch_kind_of word ≡ Some kind → H.stores host.old file (Rests content)
+    ensures load { (file word id path : List ℕ) (kind : Kind) (content : Content) → Says (map S.text words.now) (Load file word id path) → kind_of_word word ≡ Some kind → H.stores host.old file (Rests content)
         → (told : Told) × AnswersWith (H.holds host.old) (H.stores host.new file) (Loads kind id) content file path told × Prints (W.contents out.old) (W.contents out.new) result (printed told) }
     ensures status { (file : List ℕ) (content : Content) → Says (map S.text words.now) (StatusLine file) → H.stores host.old file (Rests content)
         → (told : Told) × AnswersStatus (H.stores host.new file) content file told × Prints (W.contents out.old) (W.contents out.new) result (printed told) }
 
     // Such words are right.
     ensures right_words { (dim : Dim) (path : List ℕ) (policy : Option (List ℕ))
-        → map S.text words.now ≡ trial_words (dim_word dim) path policy → is_operand path ≡ true → is_operand_or_none policy ≡ true
+        → map S.text words.now ≡ trial_words (word_of dim) path policy → is_operand path ≡ true → is_operand_or_none policy ≡ true
         → result ≢ 4 }
 {
     match answer_to(alloc, words, host) {
@@ -123,13 +122,11 @@ pub fn run<S: AsStr, H: Host, W: Write>(alloc: Global, words: &[S], host: &mut H
 }
 
 /// A run whose words could not be had: they are no text, or memory ran out.
-pub fn run_without_words<W: Write>(error: &io::Error, out: &mut W) -> u8 {
+pub fn run_without_words<W: Write>(error: &io::Error, out: &mut W) -> u8
+    ensures { Prints (W.contents out.old) (W.contents out.new) result out_of_memory ⊎ Prints (W.contents out.old) (W.contents out.new) result (wrong_words no_text_line) }
+{
     match error.kind() {
         io::ErrorKind::OutOfMemory => print(out, Status::Failed.code(), MEMORY_LINE),
-        _ => print(
-            out,
-            Status::Usage.code(),
-            b"error: an argument is no text\n",
-        ),
+        _ => print(out, Status::Usage.code(), NO_TEXT_LINE),
     }
 }

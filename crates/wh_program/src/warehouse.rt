@@ -110,7 +110,7 @@ fn answered(
     match visit {
         Ok(answer) => answer,
         Err(HostError::NoFile) => no_file(alloc, file),
-        Err(HostError::OutOfMemory) => Err(AllocError),
+        Err(HostError::Memory) => Err(AllocError),
     }
 }
 
