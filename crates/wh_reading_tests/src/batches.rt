@@ -6,16 +6,16 @@
 //! - `batch KIND BYTES`: the answer to a batch of these bytes.
 //! - `rows KIND BYTES`: to one of the kind's header, the end of that line and these bytes.
 //! - `either KIND BYTES`: to the same, read as a batch of either kind; of its records the number alone.
-//! - `cuts BYTES`: to each beginning of a batch of customers. An answer is told once, behind the length from which it holds.
+//! - `cuts BYTES`: to each beginning of a batch of customers. An answer is told once, after the length from which it holds.
 //! - `many KIND NUMBER TEXT`: to a batch of so many records and this text; of its records the number alone.
-//! - `long KIND LENGTH BYTES`: the answer to these bytes with line ends behind them, in all so many bytes.
+//! - `long KIND LENGTH BYTES`: the answer to these bytes with line ends after them, in all so many bytes.
 //! - `made KIND`: a record that is made by hand.
 
 mod dimensions;
 mod sales;
 
-use crate::scene::{Scene, assert_plays};
-use crate::words::{bytes, dim, number, parted, push_next, push_number, push_values};
+use crate::check::check;
+use crate::words::{dim, number, push_next, push_number, push_values};
 use std::alloc::{AllocError, Global};
 use std::fmt::Write;
 use std::test::Fail;
@@ -25,39 +25,45 @@ use wh_batch::{
 };
 use wh_day::{Day, NaturalKey, ReadError, Values};
 use wh_policy::{DimensionRecord, Policy, SaleRecord};
+use wh_scenarios::{Driver, NotMade, Step, bytes_of, parted};
 
 #[derive(Drop)]
-struct BatchScene;
+struct BatchDriver;
 
 #[test]
 fn batches_for_dimensions(rt: HostRuntime) -> Result<(), Fail> {
-    Ok(assert_plays(&rt, rt.alloc(), &mut BatchScene, dimensions::SCENARIO)?)
+    check(&rt, rt.alloc(), BatchDriver, dimensions::SCENARIO)
 }
 
 #[test]
 fn batches_of_sales(rt: HostRuntime) -> Result<(), Fail> {
-    Ok(assert_plays(&rt, rt.alloc(), &mut BatchScene, sales::SCENARIO)?)
+    check(&rt, rt.alloc(), BatchDriver, sales::SCENARIO)
 }
 
-impl Scene for BatchScene {
-    fn step(
-        &mut self,
+impl Driver for BatchDriver {
+    fn perform(
+        self,
         alloc: Global,
-        verb: &str,
-        rest: &str,
+        step: &Step<'_>,
         answer: &mut String,
-    ) -> Result<(), AllocError> {
-        let (word, text) = parted(rest);
-        match verb {
-            "batch" => push_batch(alloc, answer, word, &bytes(alloc, text)?),
-            "rows" => push_batch(alloc, answer, word, &with_header(alloc, word, text)?),
-            "either" => push_either(alloc, answer, word, &with_header(alloc, word, text)?),
-            "cuts" => push_cuts(alloc, answer, &bytes(alloc, rest)?),
-            "many" => push_many(alloc, answer, word, text),
-            "long" => push_long(alloc, answer, word, text),
-            "made" => push_made(alloc, answer, word),
-            _ => answer.push_str("no such step"),
-        }
+    ) -> Result<BatchDriver, NotMade> {
+        batch_step(alloc, step.words, answer)?;
+        Ok(self)
+    }
+}
+
+fn batch_step(alloc: Global, words: &str, answer: &mut String) -> Result<(), AllocError> {
+    let (verb, rest) = parted(words, ' ');
+    let (word, text) = parted(rest, ' ');
+    match verb {
+        "batch" => push_batch(alloc, answer, word, &bytes_of(alloc, text)?),
+        "rows" => push_batch(alloc, answer, word, &with_header(alloc, word, text)?),
+        "either" => push_either(alloc, answer, word, &with_header(alloc, word, text)?),
+        "cuts" => push_cuts(alloc, answer, &bytes_of(alloc, rest)?),
+        "many" => push_many(alloc, answer, word, text),
+        "long" => push_long(alloc, answer, word, text),
+        "made" => push_made(alloc, answer, word),
+        _ => answer.push_str("no such step"),
     }
 }
 
@@ -81,7 +87,7 @@ fn header(word: &str) -> &'static str {
 /// The header of a kind and the bytes that a text writes.
 fn with_header(alloc: Global, word: &str, text: &str) -> Result<Vec<u8>, AllocError> {
     let mut found = Vec::from_slice(alloc, header(word).as_bytes())?;
-    found.extend_from_slice(&bytes(alloc, text)?)?;
+    found.extend_from_slice(&bytes_of(alloc, text)?)?;
     Ok(found)
 }
 
@@ -211,18 +217,18 @@ fn push_row(text: &mut String, word: &str, number: u64) -> Result<(), AllocError
 }
 
 fn push_many(alloc: Global, answer: &mut String, word: &str, rest: &str) -> Result<(), AllocError> {
-    let (count, behind) = parted(rest);
+    let (count, after) = parted(rest, ' ');
     let mut text = String::from_str(alloc, header(word))?;
     for at in 0..number(count) {
         push_row(&mut text, word, at)?;
     }
-    text.push_str(behind)?;
+    text.push_str(after)?;
     push_either(alloc, answer, word, text.as_str().as_bytes())
 }
 
 fn push_long(alloc: Global, answer: &mut String, word: &str, rest: &str) -> Result<(), AllocError> {
-    let (length, text) = parted(rest);
-    let mut text = bytes(alloc, text)?;
+    let (length, text) = parted(rest, ' ');
+    let mut text = bytes_of(alloc, text)?;
     for _ in text.len() as u64..number(length) {
         text.push(b'\n')?;
     }

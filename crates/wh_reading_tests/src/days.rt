@@ -17,12 +17,13 @@
 
 ghost use Rattle.std.specs.Prelude.{◌≡◌, ◌∷◌, ◌<◌, ◌≤◌, ◌↔◌, [], IsTrue, IfSome, All};
 
-use crate::scene::{Scene, assert_plays};
-use crate::words::{day, number, parted, push_day, push_next, push_value, push_values};
+use crate::check::check;
+use crate::words::{day, number, push_day, push_next, push_value, push_values};
 use std::alloc::{AllocError, Global};
 use std::fmt::Write;
 use std::test::Fail;
 use wh_day::{DateRow, Day, Holiday, Holidays, NaturalKey, Value, Values, date_row};
+use wh_scenarios::{Driver, NotMade, Step, parted};
 
 const DAYS: &str = r#"
 day 2024-02-29
@@ -101,41 +102,46 @@ row 20241225
 "#;
 
 #[derive(Drop)]
-struct DayScene;
+struct DayDriver;
 
 #[test]
 fn days(rt: HostRuntime) -> Result<(), Fail> {
-    Ok(assert_plays(&rt, rt.alloc(), &mut DayScene, DAYS)?)
+    check(&rt, rt.alloc(), DayDriver, DAYS)
 }
 
 #[test]
 fn texts(rt: HostRuntime) -> Result<(), Fail> {
-    Ok(assert_plays(&rt, rt.alloc(), &mut DayScene, TEXTS)?)
+    check(&rt, rt.alloc(), DayDriver, TEXTS)
 }
 
 #[test]
 fn calendar(rt: HostRuntime) -> Result<(), Fail> {
-    Ok(assert_plays(&rt, rt.alloc(), &mut DayScene, CALENDAR)?)
+    check(&rt, rt.alloc(), DayDriver, CALENDAR)
 }
 
-impl Scene for DayScene {
-    fn step(
-        &mut self,
+impl Driver for DayDriver {
+    fn perform(
+        self,
         alloc: Global,
-        verb: &str,
-        rest: &str,
+        step: &Step<'_>,
         answer: &mut String,
-    ) -> Result<(), AllocError> {
-        match verb {
-            "day" => push_day(answer, day(rest)),
-            "before" => push_before(answer, day(rest)),
-            "written" => written(answer, day(rest)),
-            "compare" => compare(answer, rest),
-            "latest" => push_latest(alloc, answer, rest),
-            "holiday" => holiday(alloc, answer, day(rest)),
-            "row" => row(alloc, answer, day(rest)),
-            _ => text_step(alloc, verb, rest, answer),
-        }
+    ) -> Result<DayDriver, NotMade> {
+        day_step(alloc, step.words, answer)?;
+        Ok(self)
+    }
+}
+
+fn day_step(alloc: Global, words: &str, answer: &mut String) -> Result<(), AllocError> {
+    let (verb, rest) = parted(words, ' ');
+    match verb {
+        "day" => push_day(answer, day(rest)),
+        "before" => push_before(answer, day(rest)),
+        "written" => written(answer, day(rest)),
+        "compare" => compare(answer, rest),
+        "latest" => push_latest(alloc, answer, rest),
+        "holiday" => holiday(alloc, answer, day(rest)),
+        "row" => row(alloc, answer, day(rest)),
+        _ => text_step(alloc, verb, rest, answer),
     }
 }
 
@@ -181,7 +187,7 @@ fn compared(a: Day, b: Day) -> &'static str {
 }
 
 fn compare(answer: &mut String, rest: &str) -> Result<(), AllocError> {
-    let (one, other) = parted(rest);
+    let (one, other) = parted(rest, ' ');
     let (Some(a), Some(b)) = (day(one), day(other)) else {
         return answer.push_str("no day");
     };
@@ -231,7 +237,7 @@ fn slots(alloc: Global, answer: &mut String, rest: &str) -> Result<(), AllocErro
 
 /// The key that `MOST TEXT` asks for.
 fn key_of(rest: &str) -> Option<NaturalKey> {
-    let (most, text) = parted(rest);
+    let (most, text) = parted(rest, ' ');
     NaturalKey::read(number(most) as usize, text.as_bytes())
 }
 

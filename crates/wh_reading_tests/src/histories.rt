@@ -21,8 +21,8 @@
 
 mod scenarios;
 
-use crate::scene::{Scene, assert_plays};
-use crate::words::{attribute_type, day, dim, number, parted, push_number};
+use crate::check::check;
+use crate::words::{attribute_type, day, dim, number, push_number};
 use std::alloc::{AllocError, Global};
 use std::test::Fail;
 use wh_day::{Day, NaturalKey, Value, Values};
@@ -31,6 +31,7 @@ use wh_history::{
     plan_member, prior, profile_texts, render, render_types, row_at, trial_table, value_at,
 };
 use wh_policy::{AttributeType, Dim, DimensionRecord, Policy};
+use wh_scenarios::{Driver, NotMade, Step, parted};
 
 /// Products with attributes of six types, and customers with a profile.
 const POLICY: &str = r#"
@@ -50,7 +51,7 @@ customer = [{ name = "a", type = 2 }, { name = "b", type = 5 }, { name = "c", ty
 
 /// What is known so far.
 #[derive(Drop)]
-struct HistoryScene {
+struct HistoryDriver {
     types: Vec<AttributeType>,
     member: Member,
     profiles: Profiles,
@@ -61,24 +62,40 @@ struct HistoryScene {
 
 #[test]
 fn histories(rt: HostRuntime) -> Result<(), Fail> {
-    let mut scene = HistoryScene::new(rt.alloc())?;
-    Ok(assert_plays(&rt, rt.alloc(), &mut scene, scenarios::HISTORIES)?)
+    check(
+        &rt,
+        rt.alloc(),
+        HistoryDriver::new(rt.alloc())?,
+        scenarios::HISTORIES,
+    )
 }
 
 #[test]
 fn tables_and_plans(rt: HostRuntime) -> Result<(), Fail> {
-    let mut scene = HistoryScene::new(rt.alloc())?;
-    Ok(assert_plays(&rt, rt.alloc(), &mut scene, scenarios::TABLES_AND_PLANS)?)
+    check(
+        &rt,
+        rt.alloc(),
+        HistoryDriver::new(rt.alloc())?,
+        scenarios::TABLES_AND_PLANS,
+    )
 }
 
-impl Scene for HistoryScene {
-    fn step(
-        &mut self,
+impl Driver for HistoryDriver {
+    fn perform(
+        self,
         alloc: Global,
-        verb: &str,
-        rest: &str,
+        step: &Step<'_>,
         answer: &mut String,
-    ) -> Result<(), AllocError> {
+    ) -> Result<HistoryDriver, NotMade> {
+        let mut driver = self;
+        driver.step(alloc, step.words, answer)?;
+        Ok(driver)
+    }
+}
+
+impl HistoryDriver {
+    fn step(&mut self, alloc: Global, words: &str, answer: &mut String) -> Result<(), AllocError> {
+        let (verb, rest) = parted(words, ' ');
         match verb {
             "begin" => self.begin(alloc),
             "types" => self.set_types(alloc, rest),
@@ -91,11 +108,9 @@ impl Scene for HistoryScene {
             _ => self.ask(alloc, verb, rest, answer),
         }
     }
-}
 
-impl HistoryScene {
-    fn new(alloc: Global) -> Result<HistoryScene, AllocError> {
-        Ok(HistoryScene {
+    fn new(alloc: Global) -> Result<HistoryDriver, AllocError> {
+        Ok(HistoryDriver {
             types: Vec::new(alloc),
             member: member(alloc, "", 0, 0)?,
             profiles: Profiles::new(alloc),
@@ -106,7 +121,7 @@ impl HistoryScene {
     }
 
     fn begin(&mut self, alloc: Global) -> Result<(), AllocError> {
-        *self = HistoryScene::new(alloc)?;
+        *self = HistoryDriver::new(alloc)?;
         Ok(())
     }
 
@@ -121,15 +136,15 @@ impl HistoryScene {
     }
 
     fn set_member(&mut self, alloc: Global, rest: &str) -> Result<(), AllocError> {
-        let (natural, rest) = parted(rest);
-        let (durable, opening) = parted(rest);
+        let (natural, rest) = parted(rest, ' ');
+        let (durable, opening) = parted(rest, ' ');
         self.member = member(alloc, natural, number(durable), number(opening))?;
         Ok(())
     }
 
     fn add_change(&mut self, alloc: Global, rest: &str) -> Result<(), AllocError> {
-        let (word, rest) = parted(rest);
-        let (anchor, line) = parted(rest);
+        let (word, rest) = parted(rest, ' ');
+        let (anchor, line) = parted(rest, ' ');
         self.member.changes.push(Change {
             day: day_of(word),
             anchor: number(anchor),
@@ -159,16 +174,16 @@ impl HistoryScene {
     }
 
     fn add_fact(&mut self, alloc: Global, rest: &str) -> Result<(), AllocError> {
-        let (ticket, rest) = parted(rest);
-        let (word, key) = parted(rest);
+        let (ticket, rest) = parted(rest, ' ');
+        let (word, key) = parted(rest, ' ');
         self.facts
             .push(fact(alloc, ticket, day_of(word), number(key))?)?;
         Ok(())
     }
 
     fn add_record(&mut self, alloc: Global, rest: &str) -> Result<(), AllocError> {
-        let (natural, rest) = parted(rest);
-        let (word, line) = parted(rest);
+        let (natural, rest) = parted(rest, ' ');
+        let (word, line) = parted(rest, ' ');
         if let Some(natural) = NaturalKey::read(32, natural.as_bytes()) {
             self.records.push(DimensionRecord {
                 natural,
@@ -198,7 +213,7 @@ impl HistoryScene {
     }
 
     fn push_place(&self, alloc: Global, answer: &mut String, rest: &str) -> Result<(), AllocError> {
-        let (word, key) = parted(rest);
+        let (word, key) = parted(rest, ' ');
         match row_at(&self.rendered(alloc, dim(word))?, day_of(key)) {
             Some(place) => push_number(answer, place as i128),
             None => answer.push_str("none"),
@@ -337,7 +352,7 @@ fn push_value_of(
     rest: &str,
     changes: &[Change],
 ) -> Result<(), AllocError> {
-    let (slot, word) = parted(rest);
+    let (slot, word) = parted(rest, ' ');
     let slot = number(slot) as usize;
     let value = match verb {
         "value" => value_at(alloc, changes, slot, day_of(word))?,

@@ -6,12 +6,12 @@
 #[cfg(test)]
 mod batches;
 #[cfg(test)]
+mod check;
+#[cfg(test)]
 mod days;
 #[cfg(test)]
 mod histories;
 #[cfg(test)]
 mod policies;
-#[cfg(test)]
-mod scene;
 #[cfg(test)]
 mod words;

@@ -1,14 +1,14 @@
 //! Policies: what is wrong with a file, and what a good one says.
 //!
-//! Nearly each file is [`FLAT`] with CHANGES: a text, `->` and the text in its place, and further changes behind ` and `;
-//! `|` stands for the end of a line. The verbs:
+//! Nearly each file is [`FLAT`] with CHANGES, as [`changed_flat`] has them: a text, `->` and the text in its place, and further changes
+//! after ` and `; `|` stands for the end of a line. The verbs:
 //!
 //! - `with CHANGES`: the fault of FLAT with them, or `good`.
 //! - `at TEXT`: the faults of three files that have this text at the products, the stores or the customers, for which it
 //!   says `DIM`, and good tables at the other two.
 //! - `stores VALUE`, `holidays VALUE`: the fault of FLAT with such a value in the place of those tables.
-//! - `before BYTES`, `behind BYTES`, `text BYTES`: the fault of FLAT with bytes beside it, or of the bytes alone.
-//! - `blanks LENGTH`: the fault of FLAT with blanks behind it, in all so many bytes. `letters LENGTH`: that of so many
+//! - `before BYTES`, `after BYTES`, `text BYTES`: the fault of FLAT with bytes beside it, or of the bytes alone.
+//! - `blanks LENGTH`: the fault of FLAT with blanks after it, in all so many bytes. `letters LENGTH`: that of so many
 //!   letters.
 //! - `beginnings`: the lengths at which a beginning of FLAT is a policy.
 //! - `slot FILE DIM NAME`: the slot and the type of an attribute; FILE is `flat`, or `trial` for the policy of a trial.
@@ -22,89 +22,63 @@ mod contents;
 mod faults;
 mod order;
 
-use crate::scene::{Scene, assert_plays};
-use crate::words::{attribute_type, bytes, dim, number, parted, push_day, push_next, push_number};
+use crate::check::check;
+use crate::words::{attribute_type, dim, number, push_day, push_next, push_number};
 use std::alloc::{AllocError, Global};
 use std::fmt::Write;
 use std::test::Fail;
 use wh_day::{Holiday, ReadError};
 use wh_policy::{Policy, PolicyFault};
-
-/// The text of examples/flat.toml.
-const FLAT: &str = r#"first_year = 2023
-last_year = 2026
-[[product]]
-name = "description"
-type = 1
-[[product]]
-name = "brand"
-type = 2
-[[product]]
-name = "category"
-type = 6
-[[product]]
-name = "department"
-type = 7
-[[product]]
-name = "launched"
-type = 0
-[[product]]
-name = "supplier"
-type = 3
-[[store]]
-name = "city"
-type = 2
-[[customer]]
-name = "tier"
-type = 2
-[[holiday]]
-day = "2024-12-25"
-name = "Christmas Day"
-"#;
+use wh_scenarios::{Driver, FLAT, NotMade, Step, bytes_of, changed_flat, parted};
 
 #[derive(Drop)]
-struct PolicyScene;
+struct PolicyDriver;
 
 #[test]
 fn contents_of_policies(rt: HostRuntime) -> Result<(), Fail> {
-    Ok(assert_plays(&rt, rt.alloc(), &mut PolicyScene, contents::SCENARIO)?)
+    check(&rt, rt.alloc(), PolicyDriver, contents::SCENARIO)
 }
 
 #[test]
 fn faults_of_policies(rt: HostRuntime) -> Result<(), Fail> {
-    Ok(assert_plays(&rt, rt.alloc(), &mut PolicyScene, faults::SCENARIO)?)
+    check(&rt, rt.alloc(), PolicyDriver, faults::SCENARIO)
 }
 
 #[test]
 fn order_of_faults(rt: HostRuntime) -> Result<(), Fail> {
-    Ok(assert_plays(&rt, rt.alloc(), &mut PolicyScene, order::SCENARIO)?)
+    check(&rt, rt.alloc(), PolicyDriver, order::SCENARIO)
 }
 
 #[test]
 fn bytes_of_files(rt: HostRuntime) -> Result<(), Fail> {
-    Ok(assert_plays(&rt, rt.alloc(), &mut PolicyScene, bytes::SCENARIO)?)
+    check(&rt, rt.alloc(), PolicyDriver, bytes::SCENARIO)
 }
 
-impl Scene for PolicyScene {
-    fn step(
-        &mut self,
+impl Driver for PolicyDriver {
+    fn perform(
+        self,
         alloc: Global,
-        verb: &str,
-        rest: &str,
+        step: &Step<'_>,
         answer: &mut String,
-    ) -> Result<(), AllocError> {
-        match verb {
-            "with" => push_fault(alloc, answer, changed_flat(alloc, rest)?.as_bytes()),
-            "at" => push_faults_at(alloc, answer, rest),
-            "stores" => push_fault(alloc, answer, with_stores(alloc, rest)?.as_bytes()),
-            "holidays" => push_fault(alloc, answer, with_holidays(alloc, rest)?.as_bytes()),
-            "type" => push_type(answer, rest),
-            "slot" => push_slot(alloc, answer, rest),
-            "slots" => push_slots(alloc, answer, rest),
-            "calendar" => push_calendar(alloc, answer, rest),
-            "fits" => push_fits(alloc, answer, rest),
-            _ => bytes_step(alloc, verb, rest, answer),
-        }
+    ) -> Result<PolicyDriver, NotMade> {
+        policy_step(alloc, step.words, answer)?;
+        Ok(self)
+    }
+}
+
+fn policy_step(alloc: Global, words: &str, answer: &mut String) -> Result<(), AllocError> {
+    let (verb, rest) = parted(words, ' ');
+    match verb {
+        "with" => push_fault(alloc, answer, changed_flat(alloc, rest)?.as_bytes()),
+        "at" => push_faults_at(alloc, answer, rest),
+        "stores" => push_fault(alloc, answer, with_stores(alloc, rest)?.as_bytes()),
+        "holidays" => push_fault(alloc, answer, with_holidays(alloc, rest)?.as_bytes()),
+        "type" => push_type(answer, rest),
+        "slot" => push_slot(alloc, answer, rest),
+        "slots" => push_slots(alloc, answer, rest),
+        "calendar" => push_calendar(alloc, answer, rest),
+        "fits" => push_fits(alloc, answer, rest),
+        _ => bytes_step(alloc, verb, rest, answer),
     }
 }
 
@@ -118,10 +92,14 @@ fn bytes_step(
         "before" => push_fault(
             alloc,
             answer,
-            &joined(bytes(alloc, rest)?, FLAT.as_bytes())?,
+            &joined(bytes_of(alloc, rest)?, FLAT.as_bytes())?,
         ),
-        "behind" => push_fault(alloc, answer, &joined(flat(alloc)?, &bytes(alloc, rest)?)?),
-        "text" => push_fault(alloc, answer, &bytes(alloc, rest)?),
+        "after" => push_fault(
+            alloc,
+            answer,
+            &joined(flat(alloc)?, &bytes_of(alloc, rest)?)?,
+        ),
+        "text" => push_fault(alloc, answer, &bytes_of(alloc, rest)?),
         "blanks" => push_fault(alloc, answer, &filled(flat(alloc)?, b' ', number(rest))?),
         "letters" => push_fault(alloc, answer, &filled(Vec::new(alloc), b'x', number(rest))?),
         "beginnings" => push_beginnings(alloc, answer),
@@ -143,22 +121,6 @@ fn push_fault(alloc: Global, answer: &mut String, text: &[u8]) -> Result<(), All
         Some(fault) => write!(answer, "{fault:?}"),
         None => answer.push_str("good"),
     }
-}
-
-/// A text with one in another's place.
-fn changed(alloc: Global, text: &str, change: &str) -> Result<String, AllocError> {
-    let (from, to) = change.split_once("->").unwrap_or(("", ""));
-    let from = from.trim().replace(alloc, "|", "\n")?;
-    let to = to.trim().replace(alloc, "|", "\n")?;
-    text.replace(alloc, from.as_str(), to.as_str())
-}
-
-fn changed_flat(alloc: Global, changes: &str) -> Result<String, AllocError> {
-    let mut text = String::from_str(alloc, FLAT)?;
-    for change in changes.split(" and ") {
-        text = changed(alloc, text.as_str(), change)?;
-    }
-    Ok(text)
 }
 
 /// A file with this text at a dimension, and good tables at the other two.
@@ -265,8 +227,8 @@ fn policy_named(alloc: Global, name: &str) -> Result<Option<Policy>, AllocError>
 }
 
 fn push_slot(alloc: Global, answer: &mut String, rest: &str) -> Result<(), AllocError> {
-    let (file, rest) = parted(rest);
-    let (word, name) = parted(rest);
+    let (file, rest) = parted(rest, ' ');
+    let (word, name) = parted(rest, ' ');
     let Some(policy) = policy_named(alloc, file)? else {
         return answer.push_str("no policy");
     };
@@ -280,7 +242,7 @@ fn push_slot(alloc: Global, answer: &mut String, rest: &str) -> Result<(), Alloc
 }
 
 fn push_slots(alloc: Global, answer: &mut String, rest: &str) -> Result<(), AllocError> {
-    let (file, word) = parted(rest);
+    let (file, word) = parted(rest, ' ');
     let Some(policy) = policy_named(alloc, file)? else {
         return answer.push_str("no policy");
     };

@@ -5,11 +5,6 @@ use std::fmt::Write;
 use wh_day::{Day, Value, Values};
 use wh_policy::{AttributeType, Dim};
 
-/// The word in front, and what is behind the blank after it.
-pub fn parted(text: &str) -> (&str, &str) {
-    text.split_once(' ').unwrap_or((text, ""))
-}
-
 pub fn number(word: &str) -> u64 {
     word.parse::<u64>().unwrap_or(0)
 }
@@ -39,41 +34,6 @@ pub fn attribute_type(word: &str) -> Option<AttributeType> {
     AttributeType::from_number(word.parse::<i64>().unwrap_or(-1))
 }
 
-/// The bytes that a text writes: `\n` and `\r` end a line, and `\x` and two hexadecimal digits are a byte.
-pub fn bytes(alloc: Global, text: &str) -> Result<Vec<u8>, AllocError> {
-    let mut found = Vec::new(alloc);
-    let mut parts = text.split('\\');
-    if let Some(first) = parts.next() {
-        found.extend_from_slice(first.as_bytes())?;
-    }
-    for part in parts {
-        push_escaped(&mut found, part.as_bytes())?;
-    }
-    Ok(found)
-}
-
-/// Adds what stands behind a backslash: a byte, and the bytes after it.
-fn push_escaped(found: &mut Vec<u8>, part: &[u8]) -> Result<(), AllocError> {
-    let (byte, rest) = match part {
-        [b'r', rest @ ..] => (b'\r', rest),
-        [b'x', high, low, rest @ ..] => (digit(*high) << 4 | digit(*low), rest),
-        [_, rest @ ..] => (b'\n', rest),
-        [] => (b'\n', part),
-    };
-    found.push(byte)?;
-    found.extend_from_slice(rest)?;
-    Ok(())
-}
-
-/// The number of a hexadecimal digit, 0 to 15.
-fn digit(byte: u8) -> u8 {
-    match byte {
-        b'0'..=b'9' => byte - b'0',
-        b'A'..=b'F' => byte - b'A' + 10,
-        _ => 0,
-    }
-}
-
 pub fn push_number(out: &mut String, number: i128) -> Result<(), AllocError> {
     write!(out, "{number}")
 }
@@ -91,7 +51,7 @@ pub fn push_day(out: &mut String, day: Option<Day>) -> Result<(), AllocError> {
     }
 }
 
-/// Adds the texts, with a bar behind each.
+/// Adds the texts, with a bar after each.
 pub fn push_values(out: &mut String, values: &Values) -> Result<(), AllocError> {
     for value in values.as_slice() {
         push_value(out, value)?;

@@ -1,11 +1,12 @@
 //! The days of a calendar with one holiday.
 
 use crate::trouble::Trouble;
-use crate::words::{Step, number, parted};
+use crate::words::{Step, number};
 use sqlite::Alter;
 use std::alloc::{AllocError, Global};
 use wh_day::{Day, Holiday, Holidays, Value, date_row};
 use wh_rows::tables::Calendar;
+use wh_scenarios::parted;
 use wh_store::Writing;
 
 /// One holiday, 2024-12-25.

@@ -11,3 +11,20 @@ mod reading;
 mod rows;
 mod transactions;
 mod writing;
+
+use crate::driver::StoreDriver;
+use std::alloc::Global;
+use std::process::Abort;
+use std::test::Fail;
+use wh_scenarios::difference;
+
+/// Fails where a step of a scenario answers otherwise than it must, with the first line that differs.
+fn check_store(rt: &impl Abort, alloc: Global, scenario: &str) -> Result<(), Fail> {
+    let found = difference(alloc, StoreDriver::new(), scenario)?;
+    let line = match &found {
+        Some(line) => line.as_str(),
+        None => "",
+    };
+    assert_eq!(rt; line, "");
+    Ok(())
+}

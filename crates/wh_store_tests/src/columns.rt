@@ -1,9 +1,9 @@
 //! Warehouses that were changed by hand: values out of their types and at their edges, and columns that are missing.
 //!
-//! `columns TABLE (VALUES)` has a line for each column below it, with its kind. The values of a kind stand in `KINDS`: `good` ones
+//! `columns TABLE (VALUES)` has handed a line for each column, with its kind. The values of a kind stand in `KINDS`: `good` ones
 //! are read; `bad` ones are out of the type, though a column of the warehouse takes them; `other` ones are of another kind, which
 //! only a column without a type takes. Each value is written into its column of a table with that one row, and the table is read.
-//! The answer is how many values there were, below a line for each that came out otherwise.
+//! The answer is a line for each value that came out otherwise, and then how many there were.
 //!
 //! `missed TABLE COLUMN COLUMN ..` makes the table by hand without each column in turn, and with all of them, and opens the
 //! warehouse. The answers are how often there was no warehouse, and what it is with all of them.
@@ -12,10 +12,11 @@ use crate::held::Reads;
 use crate::opening::{changed, opened, run};
 use crate::rows::{on_table, push_number_line};
 use crate::trouble::Trouble;
-use crate::words::{Step, parted, push_answer};
+use crate::words::{Step, push_answer};
 use sqlite::{Alter, Connection};
 use std::alloc::{AllocError, Global};
 use wh_rows::Table;
+use wh_scenarios::parted;
 use wh_store::{OpenFault, Tables};
 
 /// The values of each kind.
@@ -102,7 +103,7 @@ struct Trial<S: Alter> {
     tried: u64,
 }
 
-/// `TABLE (VALUES)`, with the columns below.
+/// `TABLE (VALUES)`, with the columns that it is handed.
 pub fn columns(alloc: Global, step: Step<'_>, out: &mut String) -> Result<(), Trouble> {
     let (name, _) = parted(step.rest, ' ');
     let untyped = untyped(alloc, name, step.body)?;
@@ -189,7 +190,7 @@ fn text_of(alloc: Global, column: Column<'_>, value: &str) -> Result<String, All
     format!(in alloc; "{first}; UPDATE {table} SET {name} = {value}")
 }
 
-/// Whether the only row of a table is read behind this text.
+/// Whether the only row of a table is read after this text.
 fn is_read<S: Alter + Drop>(
     alloc: Global,
     conn: Connection<S>,
@@ -210,7 +211,7 @@ fn is_whole<H: Reads>(alloc: Global, held: &mut H, table: Table) -> Result<bool,
         body: "",
     };
     match on_table(alloc, held, table, step, &mut told) {
-        Ok(()) if told.as_str() == "= 1\n" => Ok(true),
+        Ok(()) if told.as_str() == "1\n" => Ok(true),
         Err(Trouble::Damaged(found)) if found == table => Ok(false),
         Ok(()) => Err(Trouble::Unknown),
         Err(trouble) => Err(trouble),
@@ -240,7 +241,7 @@ fn anew(alloc: Global, name: &str, columns: &str, left_out: usize) -> Result<Str
     format!(in alloc; "DROP TABLE {name}; CREATE TABLE {name} ({others}); {format}")
 }
 
-/// Whether a warehouse is found behind this text.
+/// Whether a warehouse is found after this text.
 fn is_found<S: Alter + Drop>(
     alloc: Global,
     conn: Connection<S>,

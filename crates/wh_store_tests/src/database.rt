@@ -34,13 +34,12 @@ pub fn on_database<S: Alter>(
 /// The number that a query answers.
 fn number<S: Alter>(conn: &mut Connection<S>, text: &str, out: &mut String) -> Result<(), Trouble> {
     let number: i64 = conn.query_row(text, &[])?.get(0)?;
-    out.push_str("= ")?;
     push_number(out, number)?;
     out.push_str("\n")?;
     Ok(())
 }
 
-/// Runs a text with the values below as its parameters, and tells how many rows it changed.
+/// Runs a text with the values that it is handed as its parameters, and tells how many rows it changed.
 fn run_bound<S: Alter>(
     alloc: Global,
     conn: &mut Connection<S>,

@@ -1,16 +1,17 @@
-//! Warehouses in files, which may stop and crash, and what is found behind that.
+//! Warehouses in files, which may stop and crash, and what is found after that.
 //!
 //! What is done with a connection is generic in its store, so that only `on_files` and `on_path` speak of a store over files.
 
 use crate::opening::make_tables;
 use crate::tables::{on_tables, show};
 use crate::trouble::Trouble;
-use crate::words::{Step, parted, push_answer};
+use crate::words::{Step, push_answer};
 use crate::writing::write;
 use sqlite::{Alter, Connection, Files, Options, Unknown};
 use sqlite_disk::{Crash, Disk, Fuse, Memory};
 use std::alloc::Global;
 use std::fs;
+use wh_scenarios::parted;
 use wh_store::{OpenFault, Tables, into_files, open_path, restart};
 
 /// A log and a database file in memory, which stop after so many calls.
@@ -168,7 +169,7 @@ fn ask_all<S: Alter>(
     Ok(())
 }
 
-/// A run over files: the files behind it, and what came of its task. It fails where no files are left.
+/// A run over files: the files after it, and what came of its task. It fails where no files are left.
 fn on_files<D: Crash + Drop>(
     alloc: Global,
     files: Files<D>,
@@ -252,7 +253,7 @@ fn fused(alloc: Global, files: &Disks, log: u64, db: u64) -> Result<Disks, Troub
     })
 }
 
-/// What is told of files behind a crash.
+/// What is told of files after a crash.
 fn shown<D: Crash + Drop>(alloc: Global, files: Files<D>) -> Result<String, Trouble> {
     let mut out = String::new(alloc);
     match on_files(alloc, crashed(files), Task::Show, End::Close, &mut out) {
@@ -277,7 +278,7 @@ fn has_stopped<D: Disk>(files: &mut Files<D>) -> bool {
     fails(&mut files.log) || fails(&mut files.db)
 }
 
-/// What a run that may have been stopped came to, and what is found behind a crash.
+/// What a run that may have been stopped came to, and what is found after a crash.
 #[derive(Drop)]
 struct Attempt {
     is_done: bool,
@@ -313,7 +314,7 @@ fn judged<D: Crash + Drop>(
     }
 }
 
-/// `log` or `database`: makes the edits below, or the tables where there are none, while that file stops at each call in turn.
+/// `log` or `database`: makes the edits that it is handed, or the tables where there are none, while that file stops at each call in turn.
 /// It tells what was found, and what all the edits leave.
 pub fn stops(alloc: Global, files: &Disks, step: Step<'_>, out: &mut String) -> Answer {
     let task = if step.body.is_empty() {
@@ -335,7 +336,7 @@ pub fn stops(alloc: Global, files: &Disks, step: Step<'_>, out: &mut String) -> 
     Ok(())
 }
 
-/// What may be found behind a crash.
+/// What may be found after a crash.
 #[derive(Clone, Copy)]
 struct Found<'a> {
     before: &'a str,

@@ -5,28 +5,32 @@ use std::alloc::Global;
 use wh_history::FactKeys;
 use wh_policy::Dim;
 use wh_rows::{Cause, LineKey};
-use wh_sql::{Keeps, Question, Refusal};
+use wh_sql::{Keeps, Question, ReadFault};
 use wh_store::{Tables, Writing};
 
 /// Where rows are read.
 pub trait Reads {
-    fn read_all<T: Keeps>(&mut self, alloc: Global) -> Result<Vec<T::Row>, Refusal>;
+    fn read_all<T: Keeps>(&mut self, alloc: Global) -> Result<Vec<T::Row>, ReadFault>;
 
-    fn read_at<T: Keeps>(&mut self, alloc: Global, key: &T::Key) -> Result<Option<T::Row>, Refusal>;
+    fn read_at<T: Keeps>(
+        &mut self,
+        alloc: Global,
+        key: &T::Key,
+    ) -> Result<Option<T::Row>, ReadFault>;
 
-    fn count_rows<T: Keeps>(&mut self, alloc: Global) -> Result<u64, Refusal>;
+    fn count_rows<T: Keeps>(&mut self, alloc: Global) -> Result<u64, ReadFault>;
 
     fn answer<T: Keeps, Q: Question<T>>(
         &mut self,
         alloc: Global,
         question: &Q,
-    ) -> Result<Vec<T::Row>, Refusal>;
+    ) -> Result<Vec<T::Row>, ReadFault>;
 
-    fn anchor(&mut self, alloc: Global, dim: Dim) -> Result<u64, Refusal>;
+    fn anchor(&mut self, alloc: Global, dim: Dim) -> Result<u64, ReadFault>;
 }
 
 impl<S: Alter> Reads for Connection<S> {
-    fn read_all<T: Keeps>(&mut self, alloc: Global) -> Result<Vec<T::Row>, Refusal> {
+    fn read_all<T: Keeps>(&mut self, alloc: Global) -> Result<Vec<T::Row>, ReadFault> {
         wh_sql::all::<T, S>(alloc, self)
     }
 
@@ -34,11 +38,11 @@ impl<S: Alter> Reads for Connection<S> {
         &mut self,
         alloc: Global,
         key: &T::Key,
-    ) -> Result<Option<T::Row>, Refusal> {
+    ) -> Result<Option<T::Row>, ReadFault> {
         wh_sql::get::<T, S>(alloc, self, key)
     }
 
-    fn count_rows<T: Keeps>(&mut self, alloc: Global) -> Result<u64, Refusal> {
+    fn count_rows<T: Keeps>(&mut self, alloc: Global) -> Result<u64, ReadFault> {
         wh_sql::count::<T, S>(alloc, self)
     }
 
@@ -46,17 +50,17 @@ impl<S: Alter> Reads for Connection<S> {
         &mut self,
         alloc: Global,
         question: &Q,
-    ) -> Result<Vec<T::Row>, Refusal> {
+    ) -> Result<Vec<T::Row>, ReadFault> {
         wh_sql::ask::<T, Q, S>(alloc, self, question)
     }
 
-    fn anchor(&mut self, alloc: Global, dim: Dim) -> Result<u64, Refusal> {
+    fn anchor(&mut self, alloc: Global, dim: Dim) -> Result<u64, ReadFault> {
         wh_sql::greatest_anchor(alloc, self, dim)
     }
 }
 
 impl<S: Alter> Reads for Tables<S> {
-    fn read_all<T: Keeps>(&mut self, alloc: Global) -> Result<Vec<T::Row>, Refusal> {
+    fn read_all<T: Keeps>(&mut self, alloc: Global) -> Result<Vec<T::Row>, ReadFault> {
         self.all::<T>(alloc)
     }
 
@@ -64,11 +68,11 @@ impl<S: Alter> Reads for Tables<S> {
         &mut self,
         alloc: Global,
         key: &T::Key,
-    ) -> Result<Option<T::Row>, Refusal> {
+    ) -> Result<Option<T::Row>, ReadFault> {
         self.get::<T>(alloc, key)
     }
 
-    fn count_rows<T: Keeps>(&mut self, alloc: Global) -> Result<u64, Refusal> {
+    fn count_rows<T: Keeps>(&mut self, alloc: Global) -> Result<u64, ReadFault> {
         self.count::<T>(alloc)
     }
 
@@ -76,11 +80,11 @@ impl<S: Alter> Reads for Tables<S> {
         &mut self,
         alloc: Global,
         question: &Q,
-    ) -> Result<Vec<T::Row>, Refusal> {
+    ) -> Result<Vec<T::Row>, ReadFault> {
         self.ask::<T, Q>(alloc, question)
     }
 
-    fn anchor(&mut self, alloc: Global, dim: Dim) -> Result<u64, Refusal> {
+    fn anchor(&mut self, alloc: Global, dim: Dim) -> Result<u64, ReadFault> {
         self.greatest_anchor(alloc, dim)
     }
 }

@@ -1,5 +1,5 @@
 //! The tests of `wh_store`, `wh_sql` and `wh_rows`, as scenarios: what is done with a warehouse, and what it then answers.
-//! `scenario` says how one is written. The tests are in `cases`.
+//! `driver` says what their words mean. The tests are in `cases`.
 #![tactic(auto)]
 
 #[cfg(test)]
@@ -10,6 +10,8 @@ mod cases;
 mod columns;
 #[cfg(test)]
 mod database;
+#[cfg(test)]
+mod driver;
 #[cfg(test)]
 mod files;
 #[cfg(test)]
@@ -22,8 +24,6 @@ mod place;
 mod questions;
 #[cfg(test)]
 mod rows;
-#[cfg(test)]
-mod scenario;
 #[cfg(test)]
 mod tables;
 #[cfg(test)]

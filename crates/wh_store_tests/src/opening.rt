@@ -1,10 +1,11 @@
 //! Databases and warehouses that scenarios begin with.
 
 use crate::trouble::Trouble;
-use crate::words::{number, parted};
+use crate::words::number;
 use sqlite::{Alter, Connection, MemStore};
 use std::alloc::Global;
 use wh_rows::Cause;
+use wh_scenarios::parted;
 use wh_store::{Limits, Tables};
 
 /// `COMMANDS CHANGES FACTS`: these limits.

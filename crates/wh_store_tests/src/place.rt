@@ -6,7 +6,7 @@ use crate::files::{Disks, blank, run_step, show_copy, stops};
 use crate::opening::{changed, database, limits_of, warehouse};
 use crate::tables::{on_tables, push_limits};
 use crate::trouble::Trouble;
-use crate::words::{Step, parted, push_answer, push_trouble};
+use crate::words::{Step, push_answer, push_trouble};
 use sqlite::{Connection, MemStore};
 use std::alloc::{AllocError, Global};
 use wh_store::{Limits, Tables};
@@ -22,23 +22,19 @@ pub enum Place {
     Disks(Disks),
 }
 
-/// What is there behind a step, and what came of it.
+/// What is there after a step, and what came of it.
 type Outcome = (Place, Result<(), Trouble>);
 
 /// Makes a step, and adds its answers, or why it was not made.
 pub fn make_step(
     alloc: Global,
     place: Place,
-    text: &str,
+    step: Step<'_>,
     out: &mut String,
 ) -> Result<Place, AllocError> {
-    let (line, body) = parted(text, '\n');
-    let (verb, rest) = parted(line, ' ');
-    let step = Step { verb, rest, body };
-    let (place, answer) = match verb {
-        "" | "#" => (place, Ok(())),
+    let (place, answer) = match step.verb {
         "empty" | "makes" | "warehouse" | "opens" | "files" => begun(alloc, step, out),
-        "limits_of" => (place, tell_limits(rest, out)),
+        "limits_of" => (place, tell_limits(step.rest, out)),
         "columns" => (place, columns(alloc, step, out)),
         "missed" => (place, missed(alloc, step, out)),
         _ => go_on(alloc, place, step, out),

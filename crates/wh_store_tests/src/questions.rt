@@ -4,12 +4,13 @@ use crate::held::Reads;
 use crate::rows::{on_table, push_number_line, push_rows, table_of};
 use crate::told::Told;
 use crate::trouble::Trouble;
-use crate::words::{Step, day, dim, number, parted, push_answer};
+use crate::words::{Step, day, dim, number, push_answer};
 use std::alloc::{AllocError, Global};
 use wh_day::{Value, Values};
 use wh_policy::Dim;
 use wh_rows::Table;
 use wh_rows::tables::{Change, Command, Customer, Fact, Member, Product, Profile, Store};
+use wh_scenarios::parted;
 use wh_sql::{
     CommandOf, Dimension, Greatest, GreatestOf, MemberOf, ProfileOf, Question, RecordsOf,
     RecordsOn, RowsOf, SalesSince,

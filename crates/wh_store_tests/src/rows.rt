@@ -3,7 +3,7 @@
 use crate::held::{Reads, Writes};
 use crate::told::Told;
 use crate::trouble::Trouble;
-use crate::words::{Step, line_number, number, parted, push_answer, push_count};
+use crate::words::{Step, line_number, number, push_answer, push_count};
 use sqlite::{Connection, Row};
 use std::alloc::{AllocError, Global};
 use wh_day::{ReadError, Value};
@@ -12,6 +12,7 @@ use wh_rows::tables::{
     Calendar, Change, Command, Customer, Fact, Member, Meta, Product, Profile, Store,
 };
 use wh_rows::{Cause, LineKey, Table};
+use wh_scenarios::parted;
 
 /// The columns of these values.
 pub fn columns_of(alloc: Global, values: &str) -> Result<Row, Trouble> {
@@ -38,7 +39,6 @@ pub fn member_values(alloc: Global, words: &str) -> Result<String, AllocError> {
 }
 
 fn push_row<T: Told>(out: &mut String, row: &T::Row) -> Result<(), Trouble> {
-    out.push_str("= ")?;
     out.push_str(T::table().name())?;
     out.push_str(" ")?;
     T::push(out, row)?;
@@ -54,7 +54,6 @@ pub fn push_rows<T: Told>(out: &mut String, rows: &[T::Row]) -> Result<(), Troub
 }
 
 pub fn push_number_line(out: &mut String, count: u64) -> Result<(), Trouble> {
-    out.push_str("= ")?;
     push_count(out, count)?;
     out.push_str("\n")?;
     Ok(())
@@ -142,7 +141,7 @@ pub fn on_table<H: Reads>(
     }
 }
 
-/// The table that is named first, and what is behind it.
+/// The table that is named first, and what is after it.
 pub fn table_of(step: Step<'_>) -> Result<(Table, Step<'_>), Trouble> {
     let (name, rest) = parted(step.rest, ' ');
     match Table::from_name(name) {

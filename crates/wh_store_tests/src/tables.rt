@@ -36,7 +36,7 @@ fn limits<S: Alter>(
 
 pub fn push_limits(out: &mut String, limits: Limits) -> Result<(), Trouble> {
     let counts = [limits.commands(), limits.changes(), limits.facts()];
-    out.push_str("= limits ")?;
+    out.push_str("limits ")?;
     push_counts(out, &counts)?;
     out.push_str("\n")?;
     Ok(())

@@ -2,7 +2,7 @@
 
 use crate::trouble::Trouble;
 use crate::words::{
-    day, dim, line_number, number, parted, push_bytes, push_count, push_counts, push_day, push_dim,
+    day, dim, line_number, number, push_bytes, push_count, push_counts, push_day, push_dim,
     push_number, push_text, push_texts,
 };
 use std::alloc::Global;
@@ -11,6 +11,7 @@ use wh_history::{DimRow, Fact};
 use wh_rows::{
     ChangeKey, ChangeRow, CommandRow, LineKey, MemberKey, MemberRow, MetaRow, ProfileRow, tables,
 };
+use wh_scenarios::parted;
 use wh_sql::Keeps;
 
 /// A table that a scenario tells of.

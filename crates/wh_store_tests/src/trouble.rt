@@ -4,7 +4,7 @@ use sqlite::Error;
 use std::alloc::{AllocError, AllocFailed};
 use std::io;
 use wh_rows::{Cause, Table};
-use wh_sql::Refusal;
+use wh_sql::ReadFault;
 use wh_store::{MakeFault, OpenFault};
 
 /// Why a step was not made.
@@ -48,11 +48,12 @@ impl From<Error> for Trouble {
     }
 }
 
-impl From<Refusal> for Trouble {
-    fn from(refusal: Refusal) -> Trouble {
-        match refusal {
-            Refusal::Damaged(table) => Trouble::Damaged(table),
-            Refusal::Store(cause) => Trouble::Refused(cause),
+impl From<ReadFault> for Trouble {
+    fn from(fault: ReadFault) -> Trouble {
+        match fault {
+            ReadFault::Memory => Trouble::Refused(Cause::Memory),
+            ReadFault::Damaged(table) => Trouble::Damaged(table),
+            ReadFault::Store(cause) => Trouble::Refused(cause),
         }
     }
 }
@@ -93,6 +94,7 @@ fn words_of_opening(fault: OpenFault) -> (&'static str, &'static str) {
         OpenFault::OldFormat => ("old format", ""),
         OpenFault::NewFormat => ("new format", ""),
         OpenFault::Damaged(table) => ("damaged ", table.name()),
+        OpenFault::Memory => ("refused ", word_of_cause(Cause::Memory)),
         OpenFault::Store(cause) => ("refused ", word_of_cause(cause)),
     }
 }

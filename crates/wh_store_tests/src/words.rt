@@ -6,18 +6,14 @@ use std::alloc::AllocError;
 use std::fmt::Write;
 use wh_day::{Day, Values};
 use wh_policy::Dim;
+use wh_scenarios::push_line;
 
-/// A step: its verb, what is behind it on the line, and the indented lines below.
+/// A step: its verb, what is after it on the line, and the lines that it is handed.
 #[derive(Clone, Copy)]
 pub struct Step<'a> {
     pub verb: &'a str,
     pub rest: &'a str,
     pub body: &'a str,
-}
-
-/// What is before the first such sign, and what is behind it, empty where there is none.
-pub fn parted(text: &str, sign: char) -> (&str, &str) {
-    text.split_once(sign).unwrap_or((text, ""))
 }
 
 pub fn number(word: &str) -> Result<u64, Trouble> {
@@ -53,26 +49,19 @@ pub fn dim(word: &str) -> Result<Dim, Trouble> {
 
 /// An answer of one text.
 pub fn push_answer(out: &mut String, text: &str) -> Result<(), AllocError> {
-    out.push_str("= ")?;
-    out.push_str(text)?;
-    out.push_str("\n")
+    push_line(out, text)
 }
 
 pub fn push_trouble(out: &mut String, trouble: Trouble) -> Result<(), AllocError> {
     let (first, last) = trouble.words();
-    out.push_str("= ")?;
     out.push_str(first)?;
-    push_rest(out, last)
+    push_line(out, last)
 }
 
-fn push_rest(out: &mut String, text: &str) -> Result<(), AllocError> {
-    out.push_str(text)?;
-    out.push_str("\n")
-}
-
-/// Parts what comes next in an answer from what is before it.
+/// Parts what comes next in a line from what is before it there.
 fn part(out: &mut String) -> Result<(), AllocError> {
-    if !out.as_str().ends_with(' ') {
+    let text = out.as_str();
+    if !text.is_empty() && !text.ends_with(' ') && !text.ends_with('\n') {
         out.push_str(", ")?;
     }
     Ok(())

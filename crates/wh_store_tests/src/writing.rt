@@ -5,11 +5,12 @@ use crate::held::Writes;
 use crate::opening::limits_of;
 use crate::rows::{edit_table, member_values, rekey, row_of};
 use crate::trouble::Trouble;
-use crate::words::{Step, number, parted, push_count, push_trouble};
+use crate::words::{Step, number, push_count, push_trouble};
 use sqlite::Alter;
 use std::alloc::Global;
 use wh_history::{DimRow, Edit};
 use wh_rows::tables::Product;
+use wh_scenarios::parted;
 use wh_store::{Tables, Writing};
 
 /// Makes the edits, keeps them where the last one is `commit`, and tells how many keys were written.
@@ -26,7 +27,6 @@ pub fn write<S: Alter>(
 }
 
 fn push_writes(out: &mut String, writes: u64) -> Result<(), Trouble> {
-    out.push_str("= ")?;
     push_count(out, writes)?;
     out.push_str(" written\n")?;
     Ok(())

@@ -18,7 +18,7 @@ rows sales T1,1,2024-01-05,S1,P1,,1,-0.05,0
 rows sales T1,1,2024-01-05,S1,P1,,1,9999999,0
 = T1 1 20240105 S1 P1 - 1 999999900 0
 
-# Lines are 1 to 9999, quantities up to 9999 either way, amounts below 10,000,000 with up to two digits behind a point.
+# Lines are 1 to 9999, quantities up to 9999 either way, amounts below 10,000,000 with up to two digits after a point.
 rows sales T1,0,2024-13-01,S1,P1,,1,1,1
 = 1 BadNumber
 rows sales T1,10000,2024-01-05,S1,P1,,1,1,1

@@ -97,7 +97,7 @@ table customer
 = 1,19000101,99991231,1,Gold,,,,,,,,,,,,2
 = 3,19000101,99991231,1,Silver,,,,,,,,,,,,3
 
-# A late record moves the sale that was made behind its day.
+# A late record moves the sale that was made after its day.
 begin
 types 1 2 6 7 0 3
 member P1 1 1

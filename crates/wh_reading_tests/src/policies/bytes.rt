@@ -15,9 +15,9 @@ letters 65537
 = NotToml
 
 # A text is UTF-8, and may have a byte order mark in front.
-behind # caf\xC3\xA9\n
+after # caf\xC3\xA9\n
 = good
-behind # caf\xC3\xA9\n# caf\xE9\n
+after # caf\xC3\xA9\n# caf\xE9\n
 = NotToml
 before \xEF\xBB\xBF
 = good

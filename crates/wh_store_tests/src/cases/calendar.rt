@@ -1,13 +1,13 @@
 //! The days of four years.
 
-use crate::scenario::expect;
+use crate::cases::check_store;
 use std::test::Fail;
 
 const DAYS: &str = "
 warehouse
 write
-  days 20230101 20270101
-  commit
+> days 20230101 20270101
+> commit
 = 1461 written
 count calendar
 = 1461
@@ -30,5 +30,5 @@ get calendar 20270101
 
 #[test]
 fn days_of_four_years(rt: HostRuntime) -> Result<(), Fail> {
-    expect(&rt, rt.alloc(), DAYS)
+    check_store(&rt, rt.alloc(), DAYS)
 }

@@ -1,175 +1,175 @@
 //! Values out of their types, values at their edges, and columns that are missing.
 
-use crate::scenario::expect;
+use crate::cases::check_store;
 use std::test::Fail;
 
 const SMALL_TABLES: &str = "
 columns command (7, 'c-7', 'sales', x'00ff', 3, 1)
-  number number_key
-  id id
-  kind kind
-  bytes bytes
-  records number
-  placeholders number
+> number number_key
+> id id
+> kind kind
+> bytes bytes
+> records number
+> placeholders number
 = 79
 
 columns member (2, 5, 'S5', 8)
-  dim dim
-  durable number
-  natural natural
-  opening number
+> dim dim
+> durable number
+> natural natural
+> opening number
 = 60
 
 columns change (7, 3, 2, 5, 20240229, 8, 'Bern', '(none)', '', '', '', '')
-  command number
-  record number
-  dim dim
-  durable number
-  day day
-  anchor number
-  v1 slot
-  v2 slot
-  v3 slot
-  v4 slot
-  v5 slot
-  v6 slot
+> command number
+> record number
+> dim dim
+> durable number
+> day day
+> anchor number
+> v1 slot
+> v2 slot
+> v3 slot
+> v4 slot
+> v5 slot
+> v6 slot
 = 257
 
 columns profile (2, '', '30-39', 'high', '', '', '')
-  number number_key
-  v1 slot
-  v2 slot
-  v3 slot
-  v4 slot
-  v5 slot
-  v6 slot
+> number number_key
+> v1 slot
+> v2 slot
+> v3 slot
+> v4 slot
+> v5 slot
+> v6 slot
 = 172
 ";
 
 #[test]
 fn columns_of_the_small_tables(rt: HostRuntime) -> Result<(), Fail> {
-    expect(&rt, rt.alloc(), SMALL_TABLES)
+    check_store(&rt, rt.alloc(), SMALL_TABLES)
 }
 
 const DIMENSIONS: &str = "
 columns product (3, 1, 'P1', 20240201, 99991231, 1, 'Cola', '(none)', '', '', '', '', '', '', '', '', '', '', 0)
-  surrogate number_key
-  durable number
-  natural natural
-  from_day day
-  to_day day
-  is_current flag
-  a1 slot
-  a2 slot
-  a3 slot
-  a4 slot
-  a5 slot
-  a6 slot
-  b1 slot
-  b2 slot
-  b3 slot
-  b4 slot
-  b5 slot
-  b6 slot
-  profile_now number
+> surrogate number_key
+> durable number
+> natural natural
+> from_day day
+> to_day day
+> is_current flag
+> a1 slot
+> a2 slot
+> a3 slot
+> a4 slot
+> a5 slot
+> a6 slot
+> b1 slot
+> b2 slot
+> b3 slot
+> b4 slot
+> b5 slot
+> b6 slot
+> profile_now number
 = 444
 
 columns store (3, 1, 'P1', 20240201, 99991231, 1, 'Cola', '(none)', '', '', '', '', '', '', '', '', '', '', 0)
-  surrogate number_key
-  durable number
-  natural natural
-  from_day day
-  to_day day
-  is_current flag
-  a1 slot
-  a2 slot
-  a3 slot
-  a4 slot
-  a5 slot
-  a6 slot
-  b1 slot
-  b2 slot
-  b3 slot
-  b4 slot
-  b5 slot
-  b6 slot
-  profile_now number
+> surrogate number_key
+> durable number
+> natural natural
+> from_day day
+> to_day day
+> is_current flag
+> a1 slot
+> a2 slot
+> a3 slot
+> a4 slot
+> a5 slot
+> a6 slot
+> b1 slot
+> b2 slot
+> b3 slot
+> b4 slot
+> b5 slot
+> b6 slot
+> profile_now number
 = 444
 
 columns customer (3, 1, 'P1', 20240201, 99991231, 1, 'Cola', '(none)', '', '', '', '', '', '', '', '', '', '', 0)
-  surrogate number_key
-  durable number
-  natural natural
-  from_day day
-  to_day day
-  is_current flag
-  a1 slot
-  a2 slot
-  a3 slot
-  a4 slot
-  a5 slot
-  a6 slot
-  b1 slot
-  b2 slot
-  b3 slot
-  b4 slot
-  b5 slot
-  b6 slot
-  profile_now number
+> surrogate number_key
+> durable number
+> natural natural
+> from_day day
+> to_day day
+> is_current flag
+> a1 slot
+> a2 slot
+> a3 slot
+> a4 slot
+> a5 slot
+> a6 slot
+> b1 slot
+> b2 slot
+> b3 slot
+> b4 slot
+> b5 slot
+> b6 slot
+> profile_now number
 = 444
 
 # Only the customer's row of no card, whose surrogate key is 0, is called `(no card)`.
 columns customer (0, 0, 'C1', 19000101, 99991231, 1, '(no card)', '', '', '', '', '', '', '', '', '', '', '', 0)
-  natural no_card
+> natural no_card
 = 1
 columns product (0, 0, 'C1', 19000101, 99991231, 1, '(no card)', '', '', '', '', '', '', '', '', '', '', '', 0)
-  natural not_no_card
+> natural not_no_card
 = 1
 columns store (0, 0, 'C1', 19000101, 99991231, 1, '(no card)', '', '', '', '', '', '', '', '', '', '', '', 0)
-  natural not_no_card
+> natural not_no_card
 = 1
 ";
 
 #[test]
 fn columns_of_the_dimensions(rt: HostRuntime) -> Result<(), Fail> {
-    expect(&rt, rt.alloc(), DIMENSIONS)
+    check_store(&rt, rt.alloc(), DIMENSIONS)
 }
 
 const DAYS_AND_FACTS: &str = "
 columns calendar (20240229, '2024-02-29', 2024, 1, 2, 29, 60, 4, 'Thursday', 0, '(none)')
-  date_key day_key
-  iso any_text
-  year any_number
-  quarter any_number
-  month any_number
-  day any_number
-  day_of_year any_number
-  weekday any_number
-  weekday_name any_text
-  weekend flag
-  holiday any_text
+> date_key day_key
+> iso any_text
+> year any_number
+> quarter any_number
+> month any_number
+> day any_number
+> day_of_year any_number
+> weekday any_number
+> weekday_name any_text
+> weekend flag
+> holiday any_text
 = 122
 
 columns fact ('T1', 1, 20240610, 1, 9, 1, 1, 2, 1, 1, -1, 1000, 700)
-  ticket ticket
-  line line
-  day day
-  store_key number
-  product_key number
-  customer_key number
-  store_durable number
-  product_durable number
-  customer_durable number
-  profile number
-  quantity quantity
-  amount amount
-  cost amount
+> ticket ticket
+> line line
+> day day
+> store_key number
+> product_key number
+> customer_key number
+> store_durable number
+> product_durable number
+> customer_durable number
+> profile number
+> quantity quantity
+> amount amount
+> cost amount
 = 190
 ";
 
 #[test]
 fn columns_of_calendar_and_fact(rt: HostRuntime) -> Result<(), Fail> {
-    expect(&rt, rt.alloc(), DAYS_AND_FACTS)
+    check_store(&rt, rt.alloc(), DAYS_AND_FACTS)
 }
 
 const MISSED: &str = "
@@ -207,7 +207,7 @@ missed fact ticket line day store_key product_key customer_key store_durable pro
 
 #[test]
 fn each_column_is_missed(rt: HostRuntime) -> Result<(), Fail> {
-    expect(&rt, rt.alloc(), MISSED)
+    check_store(&rt, rt.alloc(), MISSED)
 }
 
 const META: &str = "
@@ -264,7 +264,7 @@ length meta
 
 #[test]
 fn rows_of_meta(rt: HostRuntime) -> Result<(), Fail> {
-    expect(&rt, rt.alloc(), META)
+    check_store(&rt, rt.alloc(), META)
 }
 
 const LIMITS: &str = "
@@ -379,5 +379,5 @@ limits
 
 #[test]
 fn limits_in_meta(rt: HostRuntime) -> Result<(), Fail> {
-    expect(&rt, rt.alloc(), LIMITS)
+    check_store(&rt, rt.alloc(), LIMITS)
 }

@@ -1,6 +1,6 @@
 //! The three tables of dimensions, by the calls that run one statement.
 
-use crate::scenario::expect;
+use crate::cases::check_store;
 use std::test::Fail;
 
 const PRODUCTS: &str = "
@@ -52,7 +52,7 @@ dim product
 
 #[test]
 fn products(rt: HostRuntime) -> Result<(), Fail> {
-    expect(&rt, rt.alloc(), PRODUCTS)
+    check_store(&rt, rt.alloc(), PRODUCTS)
 }
 
 const STORES: &str = "
@@ -104,7 +104,7 @@ dim store
 
 #[test]
 fn stores(rt: HostRuntime) -> Result<(), Fail> {
-    expect(&rt, rt.alloc(), STORES)
+    check_store(&rt, rt.alloc(), STORES)
 }
 
 const CUSTOMERS: &str = "
@@ -156,5 +156,5 @@ dim customer
 
 #[test]
 fn customers(rt: HostRuntime) -> Result<(), Fail> {
-    expect(&rt, rt.alloc(), CUSTOMERS)
+    check_store(&rt, rt.alloc(), CUSTOMERS)
 }

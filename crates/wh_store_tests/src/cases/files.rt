@@ -1,7 +1,7 @@
 //! From one run to the next: over files that may stop and crash, and at a path.
 
+use crate::cases::check_store;
 use crate::files::at_path;
-use crate::scenario::expect;
 use std::test::Fail;
 
 const MAKING_LOG: &str = "
@@ -24,16 +24,16 @@ stops log
 
 #[test]
 fn making_over_a_log_that_stops(rt: HostRuntime) -> Result<(), Fail> {
-    expect(&rt, rt.alloc(), MAKING_LOG)
+    check_store(&rt, rt.alloc(), MAKING_LOG)
 }
 
 const EDITS_LOG: &str = "
 files
 make
 write
-  row product 1 Cola 1l
-  put fact 'T1', 1, 20240610, 1, 1, 0, 1, 1, 0, 0, 1, 150, 100
-  commit
+> row product 1 Cola 1l
+> put fact 'T1', 1, 20240610, 1, 1, 0, 1, 1, 0, 0, 1, 150, 100
+> commit
 = 2 written
 show
 = limits 10, 200, 3000
@@ -44,13 +44,13 @@ show
 = product 1, 1, 'M1', 19000101, 99991231, 1, 'Cola 1l', '', '', '', '', '', '', '', '', '', '', '', 0
 = fact 'T1', 1, 20240610, 1, 1, 0, 1, 1, 0, 0, 1, 150, 100
 stops log
-  row product 1 Cola 1.0l
-  row product 2 Tea
-  row product 3 Milk
-  row store 1 Bern
-  put fact 'T2', 1, 20240610, 1, 1, 0, 1, 1, 0, 0, 1, 150, 100
-  remove fact T1 1
-  commit
+> row product 1 Cola 1.0l
+> row product 2 Tea
+> row product 3 Milk
+> row store 1 Bern
+> put fact 'T2', 1, 20240610, 1, 1, 0, 1, 1, 0, 0, 1, 150, 100
+> remove fact T1 1
+> commit
 = at each call what was there, or all
 = limits 10, 200, 3000
 = meta 'changes_max', 200
@@ -66,7 +66,7 @@ stops log
 
 #[test]
 fn edits_over_a_log_that_stops(rt: HostRuntime) -> Result<(), Fail> {
-    expect(&rt, rt.alloc(), EDITS_LOG)
+    check_store(&rt, rt.alloc(), EDITS_LOG)
 }
 
 const MAKING_DATABASE: &str = "
@@ -89,16 +89,16 @@ stops database
 
 #[test]
 fn making_over_a_database_that_stops(rt: HostRuntime) -> Result<(), Fail> {
-    expect(&rt, rt.alloc(), MAKING_DATABASE)
+    check_store(&rt, rt.alloc(), MAKING_DATABASE)
 }
 
 const EDITS_DATABASE: &str = "
 files
 make
 write
-  row product 1 Cola 1l
-  put fact 'T1', 1, 20240610, 1, 1, 0, 1, 1, 0, 0, 1, 150, 100
-  commit
+> row product 1 Cola 1l
+> put fact 'T1', 1, 20240610, 1, 1, 0, 1, 1, 0, 0, 1, 150, 100
+> commit
 = 2 written
 show
 = limits 10, 200, 3000
@@ -109,13 +109,13 @@ show
 = product 1, 1, 'M1', 19000101, 99991231, 1, 'Cola 1l', '', '', '', '', '', '', '', '', '', '', '', 0
 = fact 'T1', 1, 20240610, 1, 1, 0, 1, 1, 0, 0, 1, 150, 100
 stops database
-  row product 1 Cola 1.0l
-  row product 2 Tea
-  row product 3 Milk
-  row store 1 Bern
-  put fact 'T2', 1, 20240610, 1, 1, 0, 1, 1, 0, 0, 1, 150, 100
-  remove fact T1 1
-  commit
+> row product 1 Cola 1.0l
+> row product 2 Tea
+> row product 3 Milk
+> row store 1 Bern
+> put fact 'T2', 1, 20240610, 1, 1, 0, 1, 1, 0, 0, 1, 150, 100
+> remove fact T1 1
+> commit
 = at each call what was there, or all
 = limits 10, 200, 3000
 = meta 'changes_max', 200
@@ -131,7 +131,7 @@ stops database
 
 #[test]
 fn edits_over_a_database_that_stops(rt: HostRuntime) -> Result<(), Fail> {
-    expect(&rt, rt.alloc(), EDITS_DATABASE)
+    check_store(&rt, rt.alloc(), EDITS_DATABASE)
 }
 
 const RUNS: &str = "
@@ -139,8 +139,8 @@ const RUNS: &str = "
 files
 make left
 write left
-  row store 1 Leeds
-  commit
+> row store 1 Leeds
+> commit
 = 1 written
 show
 = limits 10, 200, 3000
@@ -150,14 +150,14 @@ show
 = meta 'format', 1
 = store 1, 1, 'M1', 19000101, 99991231, 1, 'Leeds', '', '', '', '', '', '', '', '', '', '', '', 0
 ask left
-  get store 1
-  count store
+> get store 1
+> count store
 = store 1, 1, 'M1', 19000101, 99991231, 1, 'Leeds', '', '', '', '', '', '', '', '', '', '', '', 0
 = 1
 
-# A row that isn't committed is gone behind a restart, and the one that is stays.
+# A row that isn't committed is gone after a restart, and the one that is stays.
 restart
-  BEGIN; DELETE FROM store
+> BEGIN; DELETE FROM store
 show
 = limits 10, 200, 3000
 = meta 'changes_max', 200
@@ -166,26 +166,26 @@ show
 = meta 'format', 1
 = store 1, 1, 'M1', 19000101, 99991231, 1, 'Leeds', '', '', '', '', '', '', '', '', '', '', '', 0
 ask
-  get store 1
-  count store
+> get store 1
+> count store
 = store 1, 1, 'M1', 19000101, 99991231, 1, 'Leeds', '', '', '', '', '', '', '', '', '', '', '', 0
 = 1
 ";
 
 #[test]
 fn the_next_run_finds_what_was_committed(rt: HostRuntime) -> Result<(), Fail> {
-    expect(&rt, rt.alloc(), RUNS)
+    check_store(&rt, rt.alloc(), RUNS)
 }
 
-const AT_PATH: &str = "= 1 written
-= limits 10, 200, 3000
-= meta 'changes_max', 200
-= meta 'commands_max', 10
-= meta 'facts_max', 3000
-= meta 'format', 1
-= store 1, 1, 'M1', 19000101, 99991231, 1, 'Leeds', '', '', '', '', '', '', '', '', '', '', '', 0
-= store 1, 1, 'M1', 19000101, 99991231, 1, 'Leeds', '', '', '', '', '', '', '', '', '', '', '', 0
-= 1
+const AT_PATH: &str = "1 written
+limits 10, 200, 3000
+meta 'changes_max', 200
+meta 'commands_max', 10
+meta 'facts_max', 3000
+meta 'format', 1
+store 1, 1, 'M1', 19000101, 99991231, 1, 'Leeds', '', '', '', '', '', '', '', '', '', '', '', 0
+store 1, 1, 'M1', 19000101, 99991231, 1, 'Leeds', '', '', '', '', '', '', '', '', '', '', '', 0
+1
 ";
 
 #[test]

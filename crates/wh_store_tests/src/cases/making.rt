@@ -1,6 +1,6 @@
 //! Warehouses are made where the ten names are free.
 
-use crate::scenario::expect;
+use crate::cases::check_store;
 use std::test::Fail;
 
 const MAKING: &str = "
@@ -8,8 +8,8 @@ const MAKING: &str = "
 makes
 = free
 write
-  make 10 200 3000
-  commit
+> make 10 200 3000
+> commit
 = 4 written
 all meta
 = meta 'changes_max', 200
@@ -35,8 +35,8 @@ count fact
 makes
 = free
 write
-  make 100000 1000000 1000000
-  commit
+> make 100000 1000000 1000000
+> commit
 = 4 written
 limits
 = limits 100000, 1000000, 1000000
@@ -65,7 +65,7 @@ makes BEGIN
 
 #[test]
 fn warehouses_are_made(rt: HostRuntime) -> Result<(), Fail> {
-    expect(&rt, rt.alloc(), MAKING)
+    check_store(&rt, rt.alloc(), MAKING)
 }
 
 const TAKEN: &str = "
@@ -146,5 +146,5 @@ makes CREATE TABLE other (x); CREATE VIEW Product AS SELECT x FROM other
 
 #[test]
 fn names_that_are_taken(rt: HostRuntime) -> Result<(), Fail> {
-    expect(&rt, rt.alloc(), TAKEN)
+    check_store(&rt, rt.alloc(), TAKEN)
 }

@@ -1,6 +1,6 @@
 //! Which databases are taken for a warehouse.
 
-use crate::scenario::expect;
+use crate::cases::check_store;
 use std::test::Fail;
 
 const OPENING: &str = "
@@ -76,5 +76,5 @@ opens DROP TABLE profile; CREATE TABLE other (number, v1, v2, v3, v4, v5, v6); C
 
 #[test]
 fn which_databases_are_warehouses(rt: HostRuntime) -> Result<(), Fail> {
-    expect(&rt, rt.alloc(), OPENING)
+    check_store(&rt, rt.alloc(), OPENING)
 }

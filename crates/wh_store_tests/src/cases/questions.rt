@@ -1,6 +1,6 @@
 //! Questions about rows that were put by the calls that run one statement.
 
-use crate::scenario::expect;
+use crate::cases::check_store;
 use std::test::Fail;
 
 const RECORDS: &str = "
@@ -41,7 +41,7 @@ anchor product
 
 #[test]
 fn records_of_members_and_days(rt: HostRuntime) -> Result<(), Fail> {
-    expect(&rt, rt.alloc(), RECORDS)
+    check_store(&rt, rt.alloc(), RECORDS)
 }
 
 const COMMANDS: &str = "
@@ -60,7 +60,7 @@ greatest command
 
 #[test]
 fn commands(rt: HostRuntime) -> Result<(), Fail> {
-    expect(&rt, rt.alloc(), COMMANDS)
+    check_store(&rt, rt.alloc(), COMMANDS)
 }
 
 const MEMBERS: &str = "
@@ -84,7 +84,7 @@ greatest member customer
 
 #[test]
 fn members(rt: HostRuntime) -> Result<(), Fail> {
-    expect(&rt, rt.alloc(), MEMBERS)
+    check_store(&rt, rt.alloc(), MEMBERS)
 }
 
 const SALES: &str = "
@@ -143,7 +143,7 @@ sales customer 1 20240612
 
 #[test]
 fn sales_of_members(rt: HostRuntime) -> Result<(), Fail> {
-    expect(&rt, rt.alloc(), SALES)
+    check_store(&rt, rt.alloc(), SALES)
 }
 
 const PROFILES: &str = "
@@ -161,7 +161,7 @@ greatest profile
 
 #[test]
 fn profiles(rt: HostRuntime) -> Result<(), Fail> {
-    expect(&rt, rt.alloc(), PROFILES)
+    check_store(&rt, rt.alloc(), PROFILES)
 }
 
 const GREATEST: &str = "
@@ -189,5 +189,5 @@ greatest customer
 
 #[test]
 fn greatest_rows(rt: HostRuntime) -> Result<(), Fail> {
-    expect(&rt, rt.alloc(), GREATEST)
+    check_store(&rt, rt.alloc(), GREATEST)
 }

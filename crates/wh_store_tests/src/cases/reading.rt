@@ -1,6 +1,6 @@
 //! Rows as they are read from columns, and the names and limits that rows speak of.
 
-use crate::scenario::expect;
+use crate::cases::check_store;
 use std::test::Fail;
 
 const READING: &str = "
@@ -52,7 +52,7 @@ get fact T2 1
 
 #[test]
 fn rows_are_read(rt: HostRuntime) -> Result<(), Fail> {
-    expect(&rt, rt.alloc(), READING)
+    check_store(&rt, rt.alloc(), READING)
 }
 
 const NAMES_AND_LIMITS: &str = "
@@ -80,5 +80,5 @@ limits_of 1 1 1000001
 
 #[test]
 fn names_and_limits(rt: HostRuntime) -> Result<(), Fail> {
-    expect(&rt, rt.alloc(), NAMES_AND_LIMITS)
+    check_store(&rt, rt.alloc(), NAMES_AND_LIMITS)
 }

@@ -1,6 +1,6 @@
 //! A row of each table goes in, and out again, in the transaction that made the tables.
 
-use crate::scenario::expect;
+use crate::cases::check_store;
 use std::test::Fail;
 
 const ROWS: &str = "
@@ -143,5 +143,5 @@ count fact
 
 #[test]
 fn rows_go_in_and_out(rt: HostRuntime) -> Result<(), Fail> {
-    expect(&rt, rt.alloc(), ROWS)
+    check_store(&rt, rt.alloc(), ROWS)
 }

@@ -1,6 +1,6 @@
 //! What the calls that run one statement refuse, outside a transaction and inside one.
 
-use crate::scenario::expect;
+use crate::cases::check_store;
 use std::test::Fail;
 
 const OUTSIDE: &str = "
@@ -47,7 +47,7 @@ status
 
 #[test]
 fn outside_a_transaction(rt: HostRuntime) -> Result<(), Fail> {
-    expect(&rt, rt.alloc(), OUTSIDE)
+    check_store(&rt, rt.alloc(), OUTSIDE)
 }
 
 const INSIDE: &str = "
@@ -83,7 +83,7 @@ empty BEGIN
 create
 put fact 'T-1', 9999, 20240610, 1, 9, 0, 4, 5, 0, 3, -9999, -999999999, 999999999
 bound UPDATE fact SET store_key = ?3, product_key = ?4, customer_key = ?5, profile = ?6 WHERE ticket = ?1 AND line = ?2
-  'T-1', 9999, 11, 12, 13, 14
+> 'T-1', 9999, 11, 12, 13, 14
 = 1
 get fact T-1 9999
 = fact 'T-1', 9999, 20240610, 11, 12, 13, 4, 5, 0, 14, -9999, -999999999, 999999999
@@ -97,5 +97,5 @@ all fact
 
 #[test]
 fn inside_a_transaction(rt: HostRuntime) -> Result<(), Fail> {
-    expect(&rt, rt.alloc(), INSIDE)
+    check_store(&rt, rt.alloc(), INSIDE)
 }

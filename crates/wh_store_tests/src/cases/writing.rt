@@ -1,18 +1,18 @@
 //! Edits that are kept together, or not at all.
 
-use crate::scenario::expect;
+use crate::cases::check_store;
 use std::test::Fail;
 
 const KEPT: &str = "
 # Edits that are dropped leave nothing.
 warehouse
 write
-  row product 1 Cola
-  row product 2 Tea
-  row store 1 Bern
-  remove product 1
-  remove customer 1
-  drop
+> row product 1 Cola
+> row product 2 Tea
+> row store 1 Bern
+> remove product 1
+> remove customer 1
+> drop
 = 5 written
 count product
 = 0
@@ -38,12 +38,12 @@ count customer
 # Edits that are kept stay, and others that are dropped don't.
 warehouse
 write
-  row product 1 Cola
-  row product 2 Tea
-  row store 1 Bern
-  remove product 1
-  remove customer 1
-  commit
+> row product 1 Cola
+> row product 2 Tea
+> row store 1 Bern
+> remove product 1
+> remove customer 1
+> commit
 = 5 written
 count product
 = 1
@@ -52,12 +52,12 @@ count store
 count customer
 = 0
 write
-  row product 1 Cola
-  row product 2 Tea
-  row store 1 Bern
-  remove product 1
-  remove customer 1
-  drop
+> row product 1 Cola
+> row product 2 Tea
+> row store 1 Bern
+> remove product 1
+> remove customer 1
+> drop
 = 5 written
 count product
 = 1
@@ -87,15 +87,15 @@ get product 1
 makes
 = free
 write
-  make 10 200 3000
-  drop
+> make 10 200 3000
+> drop
 = 4 written
 close
 make
 = free
 write
-  make 10 200 3000
-  commit
+> make 10 200 3000
+> commit
 = 4 written
 all meta
 = meta 'changes_max', 200
@@ -106,16 +106,16 @@ all meta
 
 #[test]
 fn edits_are_kept_or_dropped(rt: HostRuntime) -> Result<(), Fail> {
-    expect(&rt, rt.alloc(), KEPT)
+    check_store(&rt, rt.alloc(), KEPT)
 }
 
 const IN_TURN: &str = "
 # A row that is refused isn't counted, and the others are kept.
 warehouse
 write
-  row product 1 Cola
-  past
-  commit
+> row product 1 Cola
+> past
+> commit
 = refused size
 = 1 written
 count product
@@ -128,8 +128,8 @@ count customer
 # Of rows at one key the last stays.
 warehouse
 write
-  rows 2 Tea, 1 Cola, 2 Green tea
-  commit
+> rows 2 Tea, 1 Cola, 2 Green tea
+> commit
 = 3 written
 count product
 = 2
@@ -144,8 +144,8 @@ rows product 2
 
 # A row comes, goes, and comes again with another text; another goes that was there.
 write
-  edits 3 Milk, 3, 3 Oat milk, 1
-  commit
+> edits 3 Milk, 3, 3 Oat milk, 1
+> commit
 = 4 written
 rows product 1
 rows product 2
@@ -156,14 +156,14 @@ rows product 3
 # Single edits.
 warehouse
 write
-  edit 1 Cola
-  commit
+> edit 1 Cola
+> commit
 = 1 written
 rows product 1
 = product 1, 1, 'M1', 19000101, 99991231, 1, 'Cola', '', '', '', '', '', '', '', '', '', '', '', 0
 write
-  edit 1
-  commit
+> edit 1
+> commit
 = 1 written
 count product
 = 0
@@ -175,9 +175,9 @@ count customer
 # A fact is given other keys.
 warehouse
 write
-  put fact 'T1', 1, 20240610, 1, 1, 0, 1, 1, 0, 0, 1, 150, 100
-  rekey T1 1 2 3 4 5
-  commit
+> put fact 'T1', 1, 20240610, 1, 1, 0, 1, 1, 0, 0, 1, 150, 100
+> rekey T1 1 2 3 4 5
+> commit
 = 2 written
 all fact
 = fact 'T1', 1, 20240610, 2, 3, 4, 1, 1, 0, 5, 1, 150, 100
@@ -185,10 +185,10 @@ all fact
 # The greatest keys that records stand at.
 warehouse
 write
-  put change 1, 1, 2, 1, 19000101, 7, 'Bern', '', '', '', '', ''
-  put change 1, 2, 2, 1, 19000101, 12, 'Bern', '', '', '', '', ''
-  put change 1, 3, 3, 1, 19000101, 9, 'Bern', '', '', '', '', ''
-  commit
+> put change 1, 1, 2, 1, 19000101, 7, 'Bern', '', '', '', '', ''
+> put change 1, 2, 2, 1, 19000101, 12, 'Bern', '', '', '', '', ''
+> put change 1, 3, 3, 1, 19000101, 9, 'Bern', '', '', '', '', ''
+> commit
 = 3 written
 anchor store
 = 12
@@ -200,5 +200,5 @@ anchor product
 
 #[test]
 fn edits_are_made_in_turn(rt: HostRuntime) -> Result<(), Fail> {
-    expect(&rt, rt.alloc(), IN_TURN)
+    check_store(&rt, rt.alloc(), IN_TURN)
 }

@@ -1,0 +1,22 @@
+//! Scenarios for tests: texts of steps, each with the answer that it must have.
+//!
+//! A step is a line of words. The lines that it is handed stand after it, each after `> `, and then those that it must answer, each
+//! after `= `. The sign alone is an empty line. Lines that are empty or begin with `#` mean nothing.
+//!
+//!     send store s1
+//!     > id,day,city
+//!     > S1,2024-01-01,Bern
+//!     = accepted 2: 1 records, 0 placeholders
+//!
+//! What the words mean is a [`Driver`]'s to say, and [`difference`] tells the first line that it answers otherwise. So a further case is
+//! a few lines more. Beside them stands what the words of several drivers are written in: bytes that a line can't have, and a policy
+//! with changes.
+#![tactic(auto)]
+
+mod bytes;
+mod policy;
+mod scenario;
+
+pub use bytes::bytes_of;
+pub use policy::{FLAT, changed_flat};
+pub use scenario::{Driver, NotMade, Step, difference, parted, push_line};

@@ -1,0 +1,76 @@
+//! What the words of a step mean over the store.
+//!
+//! A row is written as the name of its table and the values of its columns in SQL, `profile 2, '', '30-39', 'high', '', '', ''`, in
+//! steps and in answers. A key is written as its columns, as in `get fact T-1 9999` or `get member store 1`. A step that is not
+//! made answers why: `refused disk`, `damaged fact`.
+//!
+//! These begin anew:
+//! - `empty SQL`: a database in memory on which the SQL was run.
+//! - `makes SQL`: the same, which is taken for a new warehouse if it answers `free`.
+//! - `warehouse`: a warehouse in memory for 10 commands, 200 changes and 3,000 facts.
+//! - `opens SQL`: one on which the SQL was run, and which is then opened again.
+//! - `files`: an empty log and an empty database file, in memory.
+//!
+//! On a database:
+//! - `sql SQL` runs it, `bound SQL` runs it with the values that it is handed as its parameters, `number SQL` tells the number that it answers.
+//! - `create` makes the ten tables. `status` tells whether they are there, and whether a transaction is under way.
+//! - `put ROW`, `remove TABLE KEY`; `row TABLE KEY TEXT` puts the only row of a member, and `past` a row whose key is too big;
+//!   `rekey TICKET LINE STORE PRODUCT CUSTOMER PROFILE` gives a fact these keys.
+//! - `make` and `open` take it for a new warehouse, and for one that is there. A warehouse is handed back by `close`.
+//!
+//! On a warehouse:
+//! - `write` makes the edits that it is handed in one transaction, and keeps them if the last one is `commit`. Edits are `put`, `row`, `remove`,
+//!   `past` and `rekey`, as above; `make COMMANDS CHANGES FACTS`, which makes the tables for these limits; `rows 1 Cola, 2 Tea`,
+//!   `edit 1 Cola` and `edits 1 Cola, 2` for products, of which those with no text go; `days FIRST PAST` for the days of a calendar.
+//! - `limits` tells them. `show` tells them and all rows.
+//!
+//! On both, questions:
+//! - `all TABLE`, `get TABLE KEY`, `count TABLE`, `length TABLE`, the number of the rows that are read, and `nth TABLE PLACE`, from 0.
+//! - `rows DIMENSION DURABLE`, `records DIMENSION DURABLE`, `records_on DIMENSION ANCHOR`, `sales DIMENSION DURABLE DAY`,
+//!   `command ID`, `member DIMENSION NATURAL`, `profile TEXT,TEXT,..`, `greatest TABLE`, `greatest member DIMENSION`,
+//!   `anchor DIMENSION`: the types of `wh_sql` that are called so, and `greatest_anchor`.
+//! - `table TABLE` and `dim DIMENSION`, what a table says that it is; `read ROW`, the row as it is read from these columns.
+//!
+//! On files, where each step is a run of its own:
+//! - `make`, `write`, and `ask` for the questions that it is handed. `make left` and so on end without a close. `show` tells what they hold.
+//! - `restart` runs the SQL that it is handed, and the machine stops and comes back.
+//! - `stops log` and `stops database` make the edits that they are handed, or the tables if there are none, again and again, while that file stops
+//!   after no call, after one, and so on, and the machine crashes. They tell whether each time what was there is found, or all that
+//!   was written, and what that is.
+//!
+//! By themselves: `limits_of COMMANDS CHANGES FACTS` and `limits_of greatest`; `columns` and `missed`, which the module `columns`
+//! explains.
+
+use crate::place::{Place, make_step};
+use crate::words::Step;
+use std::alloc::Global;
+use wh_scenarios::{Driver, NotMade, parted};
+
+/// Makes the steps of scenarios of the store.
+#[derive(Drop)]
+pub struct StoreDriver {
+    place: Place,
+}
+
+impl StoreDriver {
+    pub fn new() -> StoreDriver {
+        StoreDriver {
+            place: Place::Nothing,
+        }
+    }
+}
+
+impl Driver for StoreDriver {
+    fn perform(
+        self,
+        alloc: Global,
+        step: &wh_scenarios::Step<'_>,
+        answer: &mut String,
+    ) -> Result<StoreDriver, NotMade> {
+        let (verb, rest) = parted(step.words, ' ');
+        let body = step.handed.as_str();
+        let step = Step { verb, rest, body };
+        let place = make_step(alloc, self.place, step, answer)?;
+        Ok(StoreDriver { place })
+    }
+}

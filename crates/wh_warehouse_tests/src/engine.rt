@@ -1,0 +1,253 @@
+//! What the words of a step mean over the engine.
+//!
+//! A scenario begins, and begins again, with one of these:
+//! - `make POLICY`, `make POLICY COMMANDS CHANGES FACTS`: a warehouse in memory under a policy of `policies`, with the greatest limits or
+//!   with these;
+//! - `empty`: an empty database in memory;
+//! - `files`: a database file and its log, both empty, over disks in memory;
+//! - `trial`: the tables of a warehouse under the policy of a trial, with no engine over them.
+//!
+//! A warehouse takes:
+//! - `send KIND ID`: the lines that it is handed are the batch, and what the engine answers is the answer;
+//! - `batch p1`: one of the batches of `batches`, by its id; `load p0 p8`: those from one to another, of which it answers those that aren't
+//!   accepted;
+//! - `counts`; `policy`: the last year, and how many attributes a product has;
+//! - `table NAME`: the rows of a table; `command NUMBER`: the row of a command;
+//! - `mark`: remembers all ten tables; `same`: whether they are as they were then;
+//! - `close`, which leaves the database.
+//!
+//! A database takes `open`; `init POLICY`; `sql TEXT`; and `number TEXT`, which answers a number that a query gives.
+//!
+//! Files take what a warehouse does but `mark`, `same` and `close`, each step over a connection of its own, `init POLICY`, and
+//! - `stops log STEP`, `stops database STEP`: the disk of the log or of the database file stops at each call of the step in turn, which is an
+//!   `init` or a `send`, and then the machine crashes. What is found is as before, or, where it was answered so, as after; the step sent again
+//!   leads to what it leads to with no stop; and an engine whose store refused a call answers nothing more.
+//!
+//! `redeliver POLICY KIND ID` stands alone: a warehouse is made in files, is sent a batch, the machine crashes, and the batch is sent again.
+//! `planning` has what the tables with no engine take.
+
+mod asking;
+mod batches;
+mod columns;
+mod files;
+mod planning;
+mod policies;
+mod scenarios;
+mod tables;
+
+use crate::engine::asking::{ask, push_fault, push_opening};
+use crate::engine::policies::{limits_of, policy};
+use crate::engine::tables::{all_over, look_over};
+use crate::trouble::Trouble;
+use sqlite::{Alter, Connection, Files, MemStore};
+use sqlite_disk::Memory;
+use std::alloc::Global;
+use wh_engine::{Engine, InitFault};
+use wh_rows::Limits;
+use wh_scenarios::{Driver, NotMade, Step, parted, push_line};
+use wh_store::Tables;
+
+/// What the next step works on.
+#[derive(Drop)]
+enum Place {
+    Nothing,
+    /// A database, which may be no warehouse.
+    Database(Connection<MemStore>),
+    /// A warehouse that is open for commands.
+    Warehouse(Engine<MemStore>),
+    /// The tables of a warehouse, with no engine.
+    Tables(Tables<MemStore>),
+    Files(Files<Memory>),
+}
+
+/// Performs scenarios on the engine.
+#[derive(Drop)]
+pub struct EngineDriver {
+    place: Place,
+    /// All ten tables, when they were marked.
+    marked: String,
+}
+
+impl EngineDriver {
+    pub fn new(alloc: Global) -> EngineDriver {
+        EngineDriver {
+            place: Place::Nothing,
+            marked: String::new(alloc),
+        }
+    }
+}
+
+impl Driver for EngineDriver {
+    fn perform(
+        self,
+        alloc: Global,
+        step: &Step<'_>,
+        answer: &mut String,
+    ) -> Result<EngineDriver, NotMade> {
+        let EngineDriver { place, mut marked } = self;
+        let place = performed(alloc, place, step, &mut marked, answer)?;
+        Ok(EngineDriver { place, marked })
+    }
+}
+
+fn performed(
+    alloc: Global,
+    place: Place,
+    step: &Step<'_>,
+    marked: &mut String,
+    out: &mut String,
+) -> Result<Place, Trouble> {
+    let (verb, rest) = parted(step.words, ' ');
+    let handed = step.handed.as_str();
+    match verb {
+        "make" => Ok(Place::Warehouse(made(alloc, rest)?)),
+        "empty" => Ok(Place::Database(Connection::open_in_memory(alloc)?)),
+        "files" => Ok(Place::Files(files::blank(alloc))),
+        "trial" => Ok(Place::Tables(planning::trial(alloc)?)),
+        "redeliver" => {
+            files::redelivered(alloc, rest, handed, out)?;
+            Ok(Place::Nothing)
+        }
+        _ => on_place(alloc, place, step, marked, out),
+    }
+}
+
+fn on_place(
+    alloc: Global,
+    place: Place,
+    step: &Step<'_>,
+    marked: &mut String,
+    out: &mut String,
+) -> Result<Place, Trouble> {
+    let handed = step.handed.as_str();
+    match place {
+        Place::Nothing => Err(Trouble),
+        Place::Database(conn) => on_database(alloc, conn, step.words, out),
+        Place::Warehouse(engine) => on_warehouse(alloc, engine, step, marked, out),
+        Place::Tables(mut tables) => {
+            planning::step(alloc, &mut tables, step.words, handed, out)?;
+            Ok(Place::Tables(tables))
+        }
+        Place::Files(files) => {
+            let files = files::step(alloc, files, step.words, handed, out)?;
+            Ok(Place::Files(files))
+        }
+    }
+}
+
+/// A warehouse in memory: `POLICY`, or `POLICY COMMANDS CHANGES FACTS`.
+fn made(alloc: Global, rest: &str) -> Result<Engine<MemStore>, Trouble> {
+    let (name, limits) = parted(rest, ' ');
+    let conn = Connection::open_in_memory(alloc)?;
+    match initiated(alloc, conn, name, limits_of(limits)?) {
+        Ok(engine) => Ok(engine),
+        Err(_) => Err(Trouble),
+    }
+}
+
+/// A warehouse that is made under a policy.
+fn initiated<S: Alter + Drop>(
+    alloc: Global,
+    conn: Connection<S>,
+    name: &str,
+    limits: Limits,
+) -> Result<Engine<S>, (InitFault, Connection<S>)> {
+    Engine::init(alloc, conn, policy(name).as_bytes(), limits)
+}
+
+fn on_database(
+    alloc: Global,
+    conn: Connection<MemStore>,
+    words: &str,
+    out: &mut String,
+) -> Result<Place, Trouble> {
+    let (verb, rest) = parted(words, ' ');
+    match verb {
+        "open" => opened(alloc, conn, out),
+        "init" => made_in(alloc, conn, rest, out),
+        _ => Ok(Place::Database(tables::run(conn, verb, rest, out)?)),
+    }
+}
+
+fn opened(alloc: Global, conn: Connection<MemStore>, out: &mut String) -> Result<Place, Trouble> {
+    match Engine::open(alloc, conn) {
+        Ok(engine) => {
+            push_line(out, "opened")?;
+            Ok(Place::Warehouse(engine))
+        }
+        Err((fault, conn)) => {
+            push_opening(out, fault)?;
+            Ok(Place::Database(conn))
+        }
+    }
+}
+
+fn made_in(
+    alloc: Global,
+    conn: Connection<MemStore>,
+    name: &str,
+    out: &mut String,
+) -> Result<Place, Trouble> {
+    match initiated(alloc, conn, name, Limits::greatest()) {
+        Ok(engine) => {
+            push_line(out, "made")?;
+            Ok(Place::Warehouse(engine))
+        }
+        Err((fault, conn)) => {
+            push_fault(out, fault)?;
+            Ok(Place::Database(conn))
+        }
+    }
+}
+
+fn on_warehouse(
+    alloc: Global,
+    mut engine: Engine<MemStore>,
+    step: &Step<'_>,
+    marked: &mut String,
+    out: &mut String,
+) -> Result<Place, Trouble> {
+    let (verb, _) = parted(step.words, ' ');
+    match verb {
+        "close" => Ok(Place::Database(engine.close())),
+        "table" | "command" | "mark" | "same" => {
+            looked_into(alloc, engine, step.words, marked, out)
+        }
+        _ => {
+            ask(alloc, &mut engine, step.words, step.handed.as_str(), out)?;
+            Ok(Place::Warehouse(engine))
+        }
+    }
+}
+
+/// What the tables under an engine hold, which is closed for it and opened again.
+fn looked_into(
+    alloc: Global,
+    engine: Engine<MemStore>,
+    words: &str,
+    marked: &mut String,
+    out: &mut String,
+) -> Result<Place, Trouble> {
+    let conn = match words {
+        "mark" => {
+            let (conn, text) = all_over(alloc, engine.close());
+            *marked = text?;
+            conn
+        }
+        "same" => {
+            let (conn, text) = all_over(alloc, engine.close());
+            let is_same = text?.as_str() == marked.as_str();
+            push_line(out, if is_same { "the same" } else { "others" })?;
+            conn
+        }
+        _ => {
+            let (conn, text) = look_over(alloc, engine.close(), words);
+            out.push_str(text?.as_str())?;
+            conn
+        }
+    };
+    match Engine::open(alloc, conn) {
+        Ok(engine) => Ok(Place::Warehouse(engine)),
+        Err(_) => Err(Trouble),
+    }
+}

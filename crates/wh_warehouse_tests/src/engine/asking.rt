@@ -1,0 +1,165 @@
+//! What is asked of an engine, and its answers as lines.
+
+use crate::engine::batches::{batch, load};
+use crate::trouble::Trouble;
+use crate::words::push_number;
+use sqlite::Alter;
+use sqlite_value::value::Bytes;
+use std::alloc::{AllocError, Global};
+use std::fmt::Write;
+use wh_batch::Kind;
+use wh_day::Value;
+use wh_engine::{Command, Counts, Engine, Fault, InitFault, OpenFault, Receipt, Refused, Reply};
+use wh_policy::{Dim, Policy};
+use wh_scenarios::{parted, push_line};
+
+fn kind_of(word: &str) -> Result<Kind, Trouble> {
+    match word {
+        "product" => Ok(Kind::Dimension(Dim::Product)),
+        "store" => Ok(Kind::Dimension(Dim::Store)),
+        "customer" => Ok(Kind::Dimension(Dim::Customer)),
+        "sales" => Ok(Kind::Sales),
+        _ => Err(Trouble),
+    }
+}
+
+/// A command of these bytes.
+pub fn make_command(
+    alloc: Global,
+    kind: Kind,
+    id: &str,
+    bytes: &str,
+) -> Result<Command, AllocError> {
+    Ok(Command {
+        id: Value::new(alloc, id)?,
+        kind,
+        bytes: Bytes::from_slice(alloc, bytes.as_bytes())?,
+    })
+}
+
+/// A command of these bytes: `KIND ID`.
+pub fn command_of(alloc: Global, words: &str, bytes: &str) -> Result<Command, Trouble> {
+    let (kind, id) = parted(words, ' ');
+    Ok(make_command(alloc, kind_of(kind)?, id, bytes)?)
+}
+
+/// Sends a command, and writes the answer.
+pub fn push_applied<S: Alter>(
+    alloc: Global,
+    engine: &mut Engine<S>,
+    command: &Command,
+    out: &mut String,
+) -> Result<(), Trouble> {
+    let answer = engine.apply(alloc, command);
+    Ok(push_answer(out, answer)?)
+}
+
+/// A step of an engine.
+pub fn ask<S: Alter>(
+    alloc: Global,
+    engine: &mut Engine<S>,
+    words: &str,
+    handed: &str,
+    out: &mut String,
+) -> Result<(), Trouble> {
+    let (verb, rest) = parted(words, ' ');
+    match verb {
+        "send" => send(alloc, engine, rest, handed, out),
+        "batch" => batch(alloc, engine, rest, out),
+        "load" => load(alloc, engine, rest, out),
+        "counts" => counts(alloc, engine, out),
+        "policy" => push_policy(out, engine.policy()),
+        _ => Err(Trouble),
+    }
+}
+
+/// A batch of these bytes: `KIND ID`.
+fn send<S: Alter>(
+    alloc: Global,
+    engine: &mut Engine<S>,
+    words: &str,
+    bytes: &str,
+    out: &mut String,
+) -> Result<(), Trouble> {
+    let command = command_of(alloc, words, bytes)?;
+    push_applied(alloc, engine, &command, out)
+}
+
+/// The answer to a command.
+pub fn push_answer(out: &mut String, answer: Result<Reply, Fault>) -> Result<(), AllocError> {
+    match answer {
+        Ok(Reply::Accepted(receipt)) => push_receipt(out, "accepted ", receipt),
+        Ok(Reply::Already(receipt)) => push_receipt(out, "already ", receipt),
+        Err(Fault::Refused(why)) => push_refusal(out, why),
+        Err(fault) => write!(out, "{fault:?}\n"),
+    }
+}
+
+fn push_receipt(out: &mut String, word: &str, receipt: Receipt) -> Result<(), AllocError> {
+    out.push_str(word)?;
+    push_number(out, receipt.number)?;
+    out.push_str(": ")?;
+    push_number(out, receipt.records)?;
+    out.push_str(" records, ")?;
+    push_number(out, receipt.placeholders)?;
+    out.push_str(" placeholders\n")
+}
+
+/// A fault of a batch stands with the number of its record.
+fn push_refusal(out: &mut String, why: Refused) -> Result<(), AllocError> {
+    match why {
+        Refused::Batch(fault) => {
+            let kind = fault.kind;
+            write!(out, "refused: {kind:?} at ")?;
+            push_number(out, fault.number as u64)?;
+            out.push_str("\n")
+        }
+        _ => write!(out, "refused: {why:?}\n"),
+    }
+}
+
+/// Why no warehouse was made.
+pub fn push_fault(out: &mut String, fault: InitFault) -> Result<(), AllocError> {
+    write!(out, "{fault:?}\n")
+}
+
+/// Why a database wasn't opened.
+pub fn push_opening(out: &mut String, fault: OpenFault) -> Result<(), AllocError> {
+    write!(out, "{fault:?}\n")
+}
+
+fn push_count(out: &mut String, word: &str, count: u64) -> Result<(), AllocError> {
+    out.push_str(word)?;
+    out.push_str(" ")?;
+    push_number(out, count)?;
+    out.push_str("\n")
+}
+
+fn push_counts(out: &mut String, counts: &Counts) -> Result<(), AllocError> {
+    push_count(out, "format", counts.format)?;
+    push_count(out, "commands", counts.commands)?;
+    push_count(out, "changes", counts.changes)?;
+    push_count(out, "facts", counts.facts)?;
+    push_count(out, "products", counts.products)?;
+    push_count(out, "stores", counts.stores)?;
+    push_count(out, "customers", counts.customers)
+}
+
+/// How much the warehouse holds.
+pub fn counts<S: Alter>(
+    alloc: Global,
+    engine: &mut Engine<S>,
+    out: &mut String,
+) -> Result<(), Trouble> {
+    match engine.counts(alloc) {
+        Ok(counts) => Ok(push_counts(out, &counts)?),
+        Err(_) => Ok(push_line(out, "no counts")?),
+    }
+}
+
+/// The last year, and how many attributes a product has.
+fn push_policy(out: &mut String, policy: &Policy) -> Result<(), Trouble> {
+    push_count(out, "last year", policy.years.last as u64)?;
+    let attributes = policy.attributes(Dim::Product).len();
+    Ok(push_count(out, "attributes of a product", attributes as u64)?)
+}

@@ -1,0 +1,132 @@
+//! The policies of scenarios, and their limits.
+
+use crate::trouble::Trouble;
+use crate::words::number;
+use wh_rows::Limits;
+use wh_scenarios::{FLAT, parted};
+
+/// The policy of this name; any other text is none.
+pub fn policy(name: &str) -> &'static str {
+    match name {
+        "flat" => FLAT,
+        "bands-of-rows" => BANDS_OF_ROWS,
+        "bands-of-facts" => BANDS_OF_FACTS,
+        "small" => SMALL,
+        "bad-type" => BAD_TYPE,
+        _ => "",
+    }
+}
+
+/// `COMMANDS CHANGES FACTS`, or nothing for the greatest limits.
+pub fn limits_of(words: &str) -> Result<Limits, Trouble> {
+    if words.is_empty() {
+        return Ok(Limits::greatest());
+    }
+    let (commands, rest) = parted(words, ' ');
+    let (changes, facts) = parted(rest, ' ');
+    Limits::new(number(commands)?, number(changes)?, number(facts)?).ok_or(Trouble)
+}
+
+/// [`FLAT`] with demographic bands of customers, where a customer's rows name the latest profile.
+const BANDS_OF_ROWS: &str = r#"first_year = 2023
+last_year = 2026
+[[product]]
+name = "description"
+type = 1
+[[product]]
+name = "brand"
+type = 2
+[[product]]
+name = "category"
+type = 6
+[[product]]
+name = "department"
+type = 7
+[[product]]
+name = "launched"
+type = 0
+[[product]]
+name = "supplier"
+type = 3
+[[store]]
+name = "city"
+type = 2
+[[customer]]
+name = "tier"
+type = 2
+[[holiday]]
+day = "2024-12-25"
+name = "Christmas Day"
+[[customer]]
+name = "age_band"
+type = 5
+[[customer]]
+name = "spend_band"
+type = 5
+"#;
+
+/// The same bands, where facts alone name a profile.
+const BANDS_OF_FACTS: &str = r#"first_year = 2023
+last_year = 2026
+[[product]]
+name = "description"
+type = 1
+[[product]]
+name = "brand"
+type = 2
+[[product]]
+name = "category"
+type = 6
+[[product]]
+name = "department"
+type = 7
+[[product]]
+name = "launched"
+type = 0
+[[product]]
+name = "supplier"
+type = 3
+[[store]]
+name = "city"
+type = 2
+[[customer]]
+name = "tier"
+type = 2
+[[holiday]]
+day = "2024-12-25"
+name = "Christmas Day"
+[[customer]]
+name = "age_band"
+type = 4
+[[customer]]
+name = "spend_band"
+type = 4
+"#;
+
+/// One attribute each, and one year.
+const SMALL: &str = r#"first_year = 2024
+last_year = 2024
+[[product]]
+name = "brand"
+type = 2
+[[store]]
+name = "city"
+type = 2
+[[customer]]
+name = "tier"
+type = 2
+"#;
+
+/// An attribute of a type that there isn't.
+const BAD_TYPE: &str = r#"first_year = 2023
+last_year = 2026
+[[product]]
+name = "description"
+type = 8
+[[store]]
+name = "city"
+type = 2
+[[customer]]
+name = "tier"
+type = 2
+"#;

@@ -1,0 +1,23 @@
+//! Scenarios of the engine, by what they are about.
+
+mod bands;
+mod batches;
+mod limits;
+mod opening;
+mod parts;
+mod repeats;
+mod restarts;
+mod sales;
+mod stops;
+mod worked;
+
+use crate::check::check;
+use crate::engine::EngineDriver;
+use std::alloc::Global;
+use std::process::Abort;
+use std::test::Fail;
+
+/// Fails where a step of a scenario answers something else.
+fn check_engine(rt: &impl Abort, alloc: Global, text: &str) -> Result<(), Fail> {
+    check(rt, alloc, EngineDriver::new(alloc), text)
+}

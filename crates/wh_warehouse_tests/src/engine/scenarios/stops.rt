@@ -1,0 +1,114 @@
+//! Files that stop at some call, and a crash after it: what is found is as before, or as after, and the same command again leads to what
+//! it leads to with no stop. A load is of a record of an earlier day of a product and of a new product, or of a sale of a product and to a
+//! customer that nothing mentioned.
+
+use crate::engine::scenarios::check_engine;
+use std::test::Fail;
+
+const MAKING_LOG: &str = "\
+files
+stops log init small
+= before, or after
+";
+
+#[test]
+fn making_log(rt: HostRuntime) -> Result<(), Fail> {
+    check_engine(&rt, rt.alloc(), MAKING_LOG)
+}
+
+const MAKING_DATABASE: &str = "\
+files
+stops database init small
+= before, or after
+";
+
+#[test]
+fn making_database(rt: HostRuntime) -> Result<(), Fail> {
+    check_engine(&rt, rt.alloc(), MAKING_DATABASE)
+}
+
+const PRODUCTS_LOG: &str = "\
+files
+init small
+= made
+send product p1
+> id,day,brand
+> P1,2024-02-01,Acme
+= accepted 2: 1 records, 0 placeholders
+stops log send product p2
+> id,day,brand
+> P1,2024-01-20,Bolt
+> P2,2024-01-10,Cask
+= before, or after
+";
+
+#[test]
+fn products_log(rt: HostRuntime) -> Result<(), Fail> {
+    check_engine(&rt, rt.alloc(), PRODUCTS_LOG)
+}
+
+const PRODUCTS_DATABASE: &str = "\
+files
+init small
+= made
+send product p1
+> id,day,brand
+> P1,2024-02-01,Acme
+= accepted 2: 1 records, 0 placeholders
+stops database send product p2
+> id,day,brand
+> P1,2024-01-20,Bolt
+> P2,2024-01-10,Cask
+= before, or after
+";
+
+#[test]
+fn products_database(rt: HostRuntime) -> Result<(), Fail> {
+    check_engine(&rt, rt.alloc(), PRODUCTS_DATABASE)
+}
+
+const SALES_LOG: &str = "\
+files
+init small
+= made
+send product p1
+> id,day,brand
+> P1,2024-02-01,Acme
+= accepted 2: 1 records, 0 placeholders
+send sales s1
+> ticket,line,day,store,product,customer,quantity,amount,cost
+> T1,1,2024-02-05,S1,P1,,2,5.00,3.20
+= accepted 3: 1 records, 1 placeholders
+stops log send sales s2
+> ticket,line,day,store,product,customer,quantity,amount,cost
+> T2,1,2024-06-10,S1,P9,C9,1,10.00,7.00
+= before, or after
+";
+
+#[test]
+fn sales_log(rt: HostRuntime) -> Result<(), Fail> {
+    check_engine(&rt, rt.alloc(), SALES_LOG)
+}
+
+const SALES_DATABASE: &str = "\
+files
+init small
+= made
+send product p1
+> id,day,brand
+> P1,2024-02-01,Acme
+= accepted 2: 1 records, 0 placeholders
+send sales s1
+> ticket,line,day,store,product,customer,quantity,amount,cost
+> T1,1,2024-02-05,S1,P1,,2,5.00,3.20
+= accepted 3: 1 records, 1 placeholders
+stops database send sales s2
+> ticket,line,day,store,product,customer,quantity,amount,cost
+> T2,1,2024-06-10,S1,P9,C9,1,10.00,7.00
+= before, or after
+";
+
+#[test]
+fn sales_database(rt: HostRuntime) -> Result<(), Fail> {
+    check_engine(&rt, rt.alloc(), SALES_DATABASE)
+}

@@ -1,0 +1,90 @@
+//! What the words of a step mean over the program.
+//!
+//! Files and warehouses stay from step to step, all in memory. Files are written by
+//! - `file NAME`: the lines that it is handed; `bytes NAME TEXT`: a text in which `\n`, `\r` and `\x` with two hexadecimal digits are
+//!   bytes; `policy NAME CHANGES`: the policy of `wh_scenarios` with changes;
+//! - `many NAME NUMBER`: a batch of so many products; `long NAME NUMBER`: so many letters.
+//!
+//! A run has the words of its step, parted by blanks, and then those that it is handed, each a line. A file's name is no warehouse's.
+//! - `run WORDS` answers the lines that were printed, and the status; `lines WORDS` how many lines they are, and the status; `ended WORDS`
+//!   the status, and whether anything was printed.
+//! - `breaks BYTES WORDS` makes the run again and again, on a page that takes so many bytes a call and fails from a call on, or at a call
+//!   alone. It answers how many calls there are, and what was written.
+//! - `alone NAME` runs the lines that it is handed over a host of this one warehouse, which is gone after it.
+//!
+//! `sql NAME TEXT` alters what stands under a name, and `anew` forgets all warehouses.
+
+mod answers;
+mod files;
+mod host;
+mod memory;
+mod page;
+mod runs;
+mod scenarios;
+
+use crate::program::files::{add_file, add_large_file};
+use crate::program::host::{MemoryHost, alter};
+use crate::program::runs::{breaks, ended, lines, run_alone, run_step};
+use crate::trouble::Trouble;
+use std::alloc::Global;
+use wh_scenarios::{Driver, NotMade, Step, parted};
+
+/// Makes the steps of scenarios of the program.
+#[derive(Drop)]
+pub struct ProgramDriver {
+    host: MemoryHost,
+}
+
+impl ProgramDriver {
+    pub fn new(alloc: Global) -> ProgramDriver {
+        ProgramDriver {
+            host: MemoryHost::new(alloc),
+        }
+    }
+}
+
+impl Driver for ProgramDriver {
+    fn perform(
+        self,
+        alloc: Global,
+        step: &Step<'_>,
+        answer: &mut String,
+    ) -> Result<ProgramDriver, NotMade> {
+        let ProgramDriver { mut host } = self;
+        perform(alloc, &mut host, step, answer)?;
+        Ok(ProgramDriver { host })
+    }
+}
+
+fn perform(
+    alloc: Global,
+    host: &mut MemoryHost,
+    step: &Step<'_>,
+    out: &mut String,
+) -> Result<(), Trouble> {
+    let (verb, rest) = parted(step.words, ' ');
+    let handed = step.handed.as_str();
+    match verb {
+        "run" => run_step(alloc, host, rest, handed, out),
+        "lines" => lines(alloc, host, rest, handed, out),
+        "ended" => ended(alloc, host, rest, handed, out),
+        "breaks" => breaks(alloc, host, rest, out),
+        "alone" => run_alone(alloc, host.files(), rest, handed, out),
+        _ => prepare(alloc, host, step),
+    }
+}
+
+/// A step that answers nothing.
+fn prepare(alloc: Global, host: &mut MemoryHost, step: &Step<'_>) -> Result<(), Trouble> {
+    let (verb, rest) = parted(step.words, ' ');
+    let (name, rest) = parted(rest, ' ');
+    match verb {
+        "anew" => {
+            host.forget_warehouses(alloc);
+            Ok(())
+        }
+        "sql" => alter(alloc, host, name, rest),
+        "many" | "long" => add_large_file(alloc, host, verb, name, rest),
+        _ => add_file(alloc, host, step),
+    }
+}

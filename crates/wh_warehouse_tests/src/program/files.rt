@@ -1,0 +1,56 @@
+//! The files of scenarios.
+
+use crate::program::host::MemoryHost;
+use crate::trouble::Trouble;
+use crate::words::{number, push_number};
+use std::alloc::{AllocError, Global};
+use wh_scenarios::{Step, bytes_of, changed_flat, parted};
+
+/// `file NAME`, `bytes NAME TEXT` or `policy NAME CHANGES`.
+pub fn add_file(alloc: Global, host: &mut MemoryHost, step: &Step<'_>) -> Result<(), Trouble> {
+    let (verb, rest) = parted(step.words, ' ');
+    let (name, text) = parted(rest, ' ');
+    let bytes = match verb {
+        "file" => Vec::from_slice(alloc, step.handed.as_bytes())?,
+        "bytes" => bytes_of(alloc, text)?,
+        "policy" => changed_flat(alloc, text)?.into_bytes(),
+        _ => return Err(Trouble),
+    };
+    Ok(host.write(alloc, name, bytes)?)
+}
+
+/// `many NAME NUMBER` or `long NAME NUMBER`.
+pub fn add_large_file(
+    alloc: Global,
+    host: &mut MemoryHost,
+    verb: &str,
+    name: &str,
+    word: &str,
+) -> Result<(), Trouble> {
+    let count = number(word)?;
+    let bytes = if verb == "many" {
+        products(alloc, count)?.into_bytes()
+    } else {
+        letters(alloc, count)?
+    };
+    Ok(host.write(alloc, name, bytes)?)
+}
+
+/// The header of a batch of products and records of as many members, one each.
+fn products(alloc: Global, count: u64) -> Result<String, AllocError> {
+    let mut text = String::from_str(alloc, "id,day,description,brand\n")?;
+    for number in 0..count {
+        text.push_str("P")?;
+        push_number(&mut text, number)?;
+        text.push_str(",2024-01-10,a,b\n")?;
+    }
+    Ok(text)
+}
+
+fn letters(alloc: Global, count: u64) -> Result<Vec<u8>, AllocError> {
+    let mut found = Vec::new(alloc);
+    for _ in 0..count {
+        found.push(b'x')?;
+    }
+    Ok(found)
+}

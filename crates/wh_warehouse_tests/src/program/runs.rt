@@ -1,0 +1,205 @@
+//! Runs of the program, and what they print.
+
+use crate::program::host::{File, MemoryHost};
+use crate::program::page::{Page, ROOM};
+use crate::trouble::Trouble;
+use crate::words::{number, push_number};
+use std::alloc::{AllocError, Global};
+use wh_program::{Host, OneHost, run};
+use wh_scenarios::{parted, push_line};
+
+/// Adds the words before and between such signs.
+fn push_words<'a>(found: &mut Vec<&'a str>, words: &'a str, sign: char) -> Result<(), AllocError> {
+    for word in words.split_terminator(sign) {
+        found.push(word)?;
+    }
+    Ok(())
+}
+
+/// The words of a run: those of a line, parted by blanks, and then those of the lines that are handed, each a word.
+fn words_of<'a>(alloc: Global, line: &'a str, handed: &'a str) -> Result<Vec<&'a str>, AllocError> {
+    let mut found = Vec::new(alloc);
+    push_words(&mut found, line, ' ')?;
+    push_words(&mut found, handed, '\n')?;
+    Ok(found)
+}
+
+/// What was printed. A last line that isn't ended is told so.
+pub fn push_printed(out: &mut String, text: &[u8]) -> Result<(), AllocError> {
+    let Ok(text) = std::str::from_utf8(text) else {
+        return push_line(out, "no UTF-8");
+    };
+    out.push_str(text)?;
+    if !text.is_empty() && !text.ends_with('\n') {
+        out.push_str("\nand no end of the line\n")?;
+    }
+    Ok(())
+}
+
+pub fn push_status(out: &mut String, status: u8) -> Result<(), AllocError> {
+    out.push_str("status ")?;
+    push_number(out, status as u64)?;
+    out.push_str("\n")
+}
+
+/// The status of a run over a host, and what it printed. This and `on_page` alone call `run`, so that no other proof carries its clauses.
+fn run_on<H: Host>(alloc: Global, host: &mut H, words: &[&str]) -> (u8, Vec<u8>) {
+    let mut printed = Vec::new(alloc);
+    let status = run(alloc, words, host, &mut printed);
+    (status, printed)
+}
+
+/// The status of a run that prints on a page.
+pub fn on_page(alloc: Global, host: &mut MemoryHost, words: &[&str], page: &mut Page) -> u8 {
+    run(alloc, words, host, page)
+}
+
+/// `run WORDS`.
+pub fn run_step<H: Host>(
+    alloc: Global,
+    host: &mut H,
+    line: &str,
+    handed: &str,
+    out: &mut String,
+) -> Result<(), Trouble> {
+    let words = words_of(alloc, line, handed)?;
+    let (status, printed) = run_on(alloc, host, &words);
+    push_printed(out, &printed)?;
+    Ok(push_status(out, status)?)
+}
+
+/// `alone NAME`: runs over a host of one warehouse.
+pub fn run_alone(
+    alloc: Global,
+    files: &[File],
+    name: &str,
+    runs: &str,
+    out: &mut String,
+) -> Result<(), Trouble> {
+    let mut named = Vec::new(alloc);
+    for file in files {
+        named.push((file.name.as_str(), file.bytes.as_slice()))?;
+    }
+    let mut host = OneHost::new(&named, name);
+    run_lines(alloc, &mut host, runs, out)
+}
+
+fn run_lines<H: Host>(
+    alloc: Global,
+    host: &mut H,
+    runs: &str,
+    out: &mut String,
+) -> Result<(), Trouble> {
+    for line in runs.lines() {
+        run_step(alloc, host, line, "", out)?;
+    }
+    Ok(())
+}
+
+/// `lines WORDS`.
+pub fn lines(
+    alloc: Global,
+    host: &mut MemoryHost,
+    line: &str,
+    handed: &str,
+    out: &mut String,
+) -> Result<(), Trouble> {
+    let words = words_of(alloc, line, handed)?;
+    let (status, printed) = run_on(alloc, host, &words);
+    let count = printed.iter().filter(|byte| **byte == b'\n').count();
+    push_number(out, count as u64)?;
+    out.push_str(" lines\n")?;
+    Ok(push_status(out, status)?)
+}
+
+/// `ended WORDS`.
+pub fn ended(
+    alloc: Global,
+    host: &mut MemoryHost,
+    line: &str,
+    handed: &str,
+    out: &mut String,
+) -> Result<(), Trouble> {
+    let words = words_of(alloc, line, handed)?;
+    let (status, printed) = run_on(alloc, host, &words);
+    push_line(
+        out,
+        if printed.is_empty() {
+            "nothing"
+        } else {
+            "a text"
+        },
+    )?;
+    Ok(push_status(out, status)?)
+}
+
+/// `breaks BYTES WORDS`.
+pub fn breaks(
+    alloc: Global,
+    host: &mut MemoryHost,
+    rest: &str,
+    out: &mut String,
+) -> Result<(), Trouble> {
+    let (bytes, line) = parted(rest, ' ');
+    let bytes = number(bytes)? as usize;
+    let words = words_of(alloc, line, "")?;
+    let mut whole = Page::new(bytes, ROOM, ROOM);
+    let status = on_page(alloc, host, &words, &mut whole);
+    push_status(out, status)?;
+    push_number(out, whole.calls() as u64)?;
+    out.push_str(" calls\n")?;
+    let broken = Broken {
+        words: &words,
+        bytes,
+        whole: whole.text(),
+    };
+    Ok(push_line(out, broken.each(alloc, host, whole.calls()))?)
+}
+
+/// A run on a page that fails at some call.
+#[derive(Clone, Copy)]
+struct Broken<'a> {
+    words: &'a [&'a str],
+    /// How many bytes a call takes.
+    bytes: usize,
+    /// What is written where no call fails.
+    whole: &'a [u8],
+}
+
+impl Broken<'_> {
+    /// What is written where a call fails, and all after it or none.
+    fn each(&self, alloc: Global, host: &mut MemoryHost, calls: usize) -> &'static str {
+        for call in 0..calls {
+            if !self.leaves(alloc, host, (call, ROOM), b"") {
+                return "no beginning is left";
+            }
+            let end = call.saturating_add(1);
+            if !self.leaves(alloc, host, (call, end), b"failed: G4 write\n") {
+                return "no line of the failure is written after a beginning";
+            }
+        }
+        "a beginning, and then failed: G4 write where it can be written, status 3"
+    }
+
+    /// Whether a run whose page fails at these calls ends with 3, and leaves what was written before them and this line.
+    fn leaves(
+        &self,
+        alloc: Global,
+        host: &mut MemoryHost,
+        (from, to): (usize, usize),
+        line: &[u8],
+    ) -> bool {
+        let mut page = Page::new(self.bytes, from, to);
+        let status = on_page(alloc, host, self.words, &mut page);
+        let kept = from.saturating_mul(self.bytes);
+        status == 3 && is_beginning_and(page.text(), kept, self.whole, line)
+    }
+}
+
+/// Whether a text is so many bytes of another, and then a line.
+fn is_beginning_and(text: &[u8], kept: usize, whole: &[u8], line: &[u8]) -> bool {
+    kept <= text.len()
+        && kept <= whole.len()
+        && text[..kept] == whole[..kept]
+        && &text[kept..] == line
+}

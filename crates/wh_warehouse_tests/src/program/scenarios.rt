@@ -1,0 +1,16 @@
+//! Scenarios of the program, by what they are about.
+
+mod answers;
+mod trials;
+mod warehouses;
+
+use crate::check::check;
+use crate::program::ProgramDriver;
+use std::alloc::Global;
+use std::process::Abort;
+use std::test::Fail;
+
+/// Fails where a step of a scenario answers otherwise than it must.
+fn check_program(rt: &impl Abort, alloc: Global, text: &str) -> Result<(), Fail> {
+    check(rt, alloc, ProgramDriver::new(alloc), text)
+}
