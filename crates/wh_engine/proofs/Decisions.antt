@@ -24,7 +24,7 @@ use Rattle.wh_engine.specs.Admission.{kind_word, content_of, in_force, accepted_
 use Rattle.wh_engine.specs.Decided.{reply_to_known, as_refused, records_told, sales_told, IsNew}
 use Rattle.wh_plan.specs.Defined.{command_at}
 use Rattle.wh_engine.specs.Faults.{Judges}
-use Rattle.wh_plan.specs.Kept.{number_of, command_with}
+use Rattle.wh_plan.specs.Reading.{number_of, command_with}
 use Rattle.wh_plan.specs.Sound.{changes_kept, IsAccepted}
 use Rattle.wh_engine.specs.declared.command.Command.{Command}
 use Rattle.wh_engine.specs.declared.fault.Fault.{Fault}

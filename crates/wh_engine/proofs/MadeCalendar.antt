@@ -14,8 +14,8 @@ use Rattle.wh_policy.specs.declared.policy.Policy.{Policy}
 use Rattle.wh_history.proofs.Basics.{some_is}
 use Rattle.wh_rows.specs.Rows as row
 use Rattle.wh_plan.specs.Defined.{day_at}
-use Rattle.wh_plan.specs.Made.{calendar_rows}
-use Rattle.wh_plan.specs.Planned.{with_rows}
+use Rattle.wh_plan.specs.FirstRows.{calendar_rows}
+use Rattle.wh_plan.specs.Edits.{with_rows}
 use Rattle.wh_plan.proofs.WrittenRows.{Grows, written}
 
 -- the rows of the days from a number on

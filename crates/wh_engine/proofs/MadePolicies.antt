@@ -11,7 +11,7 @@ use Rattle.wh_day.specs.declared.holiday.Holiday.{Holiday}
 use Rattle.wh_policy.specs.declared.policy.Years.{Years}
 use Rattle.wh_policy.proofs.FileLaws.{ok_is, policies_are_sound}
 use Rattle.wh_policy.proofs.HolidayLaws.{IsHoliday, HolidaysAre}
-use Rattle.wh_plan.specs.Made.{PoliciesAreGood}
+use Rattle.wh_plan.specs.FirstRows.{PoliciesAreGood}
 
 -- a value that is read, and isn't what stands for none, is text
 value_utf8 : (name : List ℕ) → name ≢ [] → read_value name ≡ Some name → is_utf8 name ≡ true

@@ -25,8 +25,8 @@ use Rattle.wh_store.specs.declared.fault.OpenFault.{OpenFault}
 use Rattle.wh_engine.specs.Admission.{in_force}
 use Rattle.wh_engine.specs.Answered.{Rests, IsReady}
 use Rattle.wh_plan.specs.Defined.{AreOf, meta_at}
-use Rattle.wh_plan.specs.Kept.{command_with}
-use Rattle.wh_plan.specs.Made.{making_of}
+use Rattle.wh_plan.specs.Reading.{command_with}
+use Rattle.wh_plan.specs.FirstRows.{making_of}
 use Rattle.wh_engine.specs.Opened.{making_in, of_limits, of_policy, of_making, session_in, opened, IsTold, IsRead, IsNotOpened, LeavesMaking, LeavesMade}
 use Rattle.wh_plan.specs.Sound.{IsAccepted}
 use Rattle.wh_store.specs.declared.fault.OpenFault.TheVariants as faults

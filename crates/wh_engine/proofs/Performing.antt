@@ -15,7 +15,7 @@ use Rattle.wh_engine.specs.Answered.{AreTreesOf, LeavesOneOf, IsReady, IsAnswere
 use Rattle.wh_engine.specs.Decided.{IsHeld, AreEditsOf, Decides}
 use Rattle.wh_plan.specs.Defined.{AreOf}
 use Rattle.wh_engine.specs.Faults.{IsServed, Judges, stops}
-use Rattle.wh_plan.specs.Planned.{Edits, with_all_edits}
+use Rattle.wh_plan.specs.Edits.{Edits, with_all_edits}
 use Rattle.wh_plan.specs.Sound.{IsAccepted}
 use Rattle.wh_plan.specs.Writable.{MayBeWritten}
 use Rattle.wh_engine.specs.declared.command.Command.{Command}

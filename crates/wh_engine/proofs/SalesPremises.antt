@@ -8,7 +8,7 @@ use Rattle.wh_history.specs.Accepted.{Accepted, Sells, anchors, members, placeho
 use Rattle.wh_history.specs.Tables.{Limits}
 use Rattle.wh_engine.specs.Admission.{first_line_there}
 use Rattle.wh_plan.specs.Defined.{fact_at}
-use Rattle.wh_plan.specs.Planned.{Edits, AreEdits}
+use Rattle.wh_plan.specs.Edits.{Edits, AreEdits}
 use Rattle.wh_plan.specs.Sound.{same_line, IsAccepted}
 use Rattle.wh_plan.proofs.SalesEdits.{members_joined, all_counted}
 use Rattle.wh_engine.proofs.SameLines.{line_stored}

@@ -13,7 +13,7 @@ use Rattle.wh_rows.specs.declared.rows.CommandRow.{CommandRow}
 use Rattle.wh_engine.specs.Admission.{kind_word, content_of, accepted_as, in_force, receipt_again, already}
 use Rattle.wh_rows.specs.Tables.{Tables}
 use Rattle.wh_plan.specs.Defined.{AreOf}
-use Rattle.wh_plan.specs.Planned.{Edits, AreEdits}
+use Rattle.wh_plan.specs.Edits.{Edits, AreEdits}
 use Rattle.wh_plan.specs.Sound.{changes_kept, IsAccepted}
 use Rattle.wh_engine.specs.declared.command.Command.{Command}
 use Rattle.wh_engine.specs.declared.command.Receipt.{Receipt}

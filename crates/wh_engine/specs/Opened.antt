@@ -17,7 +17,7 @@ use Rattle.wh_sql.specs.Asked.{same_text}
 use Rattle.wh_store.specs.Meta.{number_in, fault_of, limits_in}
 use Rattle.wh_store.specs.declared.fault.OpenFault.{OpenFault}
 use Rattle.wh_engine.specs.Answered.{Rests, AreTreesOf, LeavesOneOf}
-use Rattle.wh_plan.specs.Made.{making_of}
+use Rattle.wh_plan.specs.FirstRows.{making_of}
 use Rattle.wh_engine.specs.declared.opening.InitFault.{InitFault}
 use Rattle.wh_engine.specs.declared.opening.InitFault.TheVariants as init
 use Rattle.wh_store.specs.declared.fault.OpenFault.TheVariants as faults

@@ -18,7 +18,7 @@ use crate::engine::Engine;
 use crate::fault::{Fault, stops};
 use sqlite::Alter;
 use std::alloc::Global;
-use wh_plan::kept::members_given;
+use wh_plan::reading::last_member;
 use wh_policy::Dim;
 use wh_rows::tables;
 use wh_store::Tables;
@@ -44,8 +44,8 @@ fn members_of<S: Alter>(tables: &mut Tables<S>, alloc: Global, dim: Dim) -> Resu
         → Judges (λ count told. count ≡ told) result (Ok (length (members dim commands))) }
     ensures work { IsWorkedOut result }
 {
-    let given = members_given(tables, alloc, dim)?;
-    Ok(given.members)
+    let last = last_member(tables, alloc, dim)?;
+    Ok(last.durable)
 }
 
 /// The rows that are there.

@@ -12,7 +12,7 @@ ghost use Rattle.wh_engine.specs.Faults.{IsServed, IsWorkedOut, Judges};
 ghost use Rattle.wh_sql.specs.Reads.{ReadsOnly, Spares};
 ghost use Rattle.wh_store.specs.Reads.{state_of};
 ghost use Rattle.wh_engine.specs.Serving.{Works};
-ghost use Rattle.wh_plan.specs.Planned.{AreEdits};
+ghost use Rattle.wh_plan.specs.Edits.{AreEdits};
 ghost use Rattle.wh_plan.specs.Reads.{Finds};
 ghost use Rattle.wh_plan.specs.Sound.{IsAccepted};
 
@@ -25,7 +25,7 @@ use sqlite_value::value::Bytes;
 use std::alloc::{AllocError, Global};
 use wh_batch::{DimensionRecords, Format, Kind, SaleRecords, dimension_records, sale_records};
 use wh_day::{ReadError, Value, is_key};
-use wh_plan::kept::command_of;
+use wh_plan::reading::command_of;
 use wh_plan::{Edits, plan_batch, plan_sales};
 use wh_policy::{Dim, Policy, SaleRecord};
 use wh_rows::CommandRow;

@@ -3,17 +3,16 @@
 ghost use Rattle.std.specs.Prelude.{◌≡◌, Option, None, Some, [], ◌∷◌, IfOk, OnOk};
 ghost use Rattle.sqlite.specs.Held.{state};
 ghost use Rattle.sqlite.specs.State.{HasCleanDisk};
-ghost use Rattle.wh_history.specs.Slots.{six};
 ghost use Rattle.wh_rows.specs.AtRest.{IsWriting, Leaves};
 ghost use Rattle.wh_rows.specs.Tables.{Tables as Rows};
 ghost use Rattle.wh_plan.specs.Defined.{AreOf};
-ghost use Rattle.wh_plan.specs.Made.{making_of, IsGoodPolicy, PoliciesAreGood, making_row, in_profile, profile_of, first_profiles, calendar_rows, with_first, MayBeFirst};
+ghost use Rattle.wh_plan.specs.FirstRows.{making_of, IsGoodPolicy, PoliciesAreGood, making_row, in_profile, profile_of, first_profiles, calendar_rows, with_first, MayBeFirst};
 
 use sqlite::Alter;
 use sqlite::types::Bytes;
 use std::alloc::{AllocError, Global};
 use wh_day::{DateRow, Day, Value, Values, date_row};
-use wh_history::{DimRow, no_card_row};
+use wh_history::{DimRow, fill_columns, no_card_row};
 use wh_policy::{AttributeType, Dim, Policy};
 use wh_rows::{Cause, CommandRow, Limits, ProfileRow, tables};
 use wh_store::Writing;
@@ -47,17 +46,6 @@ fn in_profile(alloc: Global, types: &[AttributeType], text: &Value) -> Result<Va
     Ok(texts)
 }
 
-/// Fills texts up to the six columns of a table.
-#[tactic(auto, using(wh_history::proofs::Columns::six_more))]
-fn fill(alloc: Global, texts: &mut Values) -> Result<(), AllocError>
-    ensures { OnOk result (texts.new ≡ six texts.old) }
-{
-    'columns: while texts.as_slice().len() < 6 {
-        texts.push(Value::empty(alloc))?;
-    }
-    Ok(())
-}
-
 /// The profile with this number that shows one text.
 fn profile_of(
     alloc: Global,
@@ -68,7 +56,7 @@ fn profile_of(
     ensures { IfOk result (λ row. row ≡ profile_of number text.now types.now) }
 {
     let mut values = in_profile(alloc, types, text)?;
-    fill(alloc, &mut values)?;
+    fill_columns(alloc, &mut values)?;
     Ok(ProfileRow { number, values })
 }
 

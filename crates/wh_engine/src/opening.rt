@@ -10,7 +10,7 @@ ghost use Rattle.wh_rows.specs.AtRest.{IsAtRest};
 ghost use Rattle.wh_rows.specs.Tables.{Tables as Rows};
 ghost use Rattle.wh_sql.specs.Present.{is_any_taken, are_all_there};
 ghost use Rattle.wh_engine.specs.Answered.{Rests, IsReady};
-ghost use Rattle.wh_plan.specs.Made.{making_of, IsGoodPolicy};
+ghost use Rattle.wh_plan.specs.FirstRows.{making_of, IsGoodPolicy};
 ghost use Rattle.wh_engine.specs.Opened.{of_making, making_in, session_in, opened, IsTold, IsRead, IsNotOpened, LeavesMaking, IsNotMade, NothingIsWritten, LeavesMade};
 ghost use Rattle.wh_plan.specs.Sound.{IsAccepted};
 ghost use Rattle.wh_store.specs.declared.fault.OpenFault.TheVariants.{Store};

@@ -5,58 +5,51 @@ ghost use Rattle.sqlite.specs.Held.{state};
 ghost use Rattle.sqlite.specs.State.{HasCleanDisk};
 ghost use Rattle.wh_rows.specs.AtRest.{AreTrees, IsAtRest, IsWriting, Leaves};
 ghost use Rattle.wh_rows.specs.Tables.{Tables as Rows};
-ghost use Rattle.wh_plan.specs.Planned.{with_dimensions, with_lists, with_all_edits};
+ghost use Rattle.wh_plan.specs.Edits.{with_dimensions, with_lists, with_all_edits};
 ghost use Rattle.wh_plan.specs.Writable.{AreValidRows, AreValidEdits, MayBeWritten};
 
 use sqlite::Alter;
 use std::alloc::Global;
-use wh_history::{DimRow, Edit, Fact};
 use wh_plan::Edits;
-use wh_rows::{Cause, ChangeRow, CommandRow, MemberRow, ProfileRow, tables};
+use wh_rows::{Cause, tables};
 use wh_store::{Tables, Writing};
 
 /// Puts the rows of a command beside those of the dimensions.
 fn put_lists<S: Alter>(
     writing: &mut Writing<'_, S>,
     alloc: Global,
-    command: &[CommandRow],
-    members: &[MemberRow],
-    changes: &[ChangeRow],
-    profiles: &[ProfileRow],
-    facts: &[Fact],
+    edits: &Edits,
 ) -> Result<(), Cause>
     ensures same_reference { writing.new.tables.ghost_name ≡ writing.old.tables.ghost_name }
     ensures clean { HasCleanDisk (state S.Store writing.new.tables.now.conn) → HasCleanDisk (state S.Store writing.old.tables.now.conn) }
     ensures put { HasCleanDisk (state S.Store writing.new.tables.now.conn) → (before : Option Rows) (made : Rows) → IsWriting before (Some made) (state S.Store writing.old.tables.now.conn)
-        → AreValidRows command.now members.now changes.now profiles.now facts.now → OnOk result (IsWriting before (Some (with_lists command.now members.now changes.now profiles.now facts.now made)) (state S.Store writing.new.tables.now.conn)) }
+        → AreValidRows edits.now → OnOk result (IsWriting before (Some (with_lists edits.now made)) (state S.Store writing.new.tables.now.conn)) }
     ensures left { HasCleanDisk (state S.Store writing.new.tables.now.conn) → (before : Option Rows) (made : Rows) → IsWriting before (Some made) (state S.Store writing.old.tables.now.conn)
-        → AreValidRows command.now members.now changes.now profiles.now facts.now → Leaves before (state S.Store writing.new.tables.now.conn) }
+        → AreValidRows edits.now → Leaves before (state S.Store writing.new.tables.now.conn) }
 {
-    writing.put_all::<tables::Command>(alloc, command)?;
-    writing.put_all::<tables::Member>(alloc, members)?;
-    writing.put_all::<tables::Change>(alloc, changes)?;
-    writing.put_all::<tables::Profile>(alloc, profiles)?;
-    writing.put_all::<tables::Fact>(alloc, facts)
+    writing.put::<tables::Command>(alloc, &edits.command)?;
+    writing.put_all::<tables::Member>(alloc, &edits.members)?;
+    writing.put_all::<tables::Change>(alloc, &edits.changes)?;
+    writing.put_all::<tables::Profile>(alloc, &edits.profiles)?;
+    writing.put_all::<tables::Fact>(alloc, &edits.facts)
 }
 
 /// Makes the edits of the tables of the dimensions.
 fn edit_rows<S: Alter>(
     writing: &mut Writing<'_, S>,
     alloc: Global,
-    products: &[Edit<DimRow, u64>],
-    stores: &[Edit<DimRow, u64>],
-    customers: &[Edit<DimRow, u64>],
+    edits: &Edits,
 ) -> Result<(), Cause>
     ensures same_reference { writing.new.tables.ghost_name ≡ writing.old.tables.ghost_name }
     ensures clean { HasCleanDisk (state S.Store writing.new.tables.now.conn) → HasCleanDisk (state S.Store writing.old.tables.now.conn) }
     ensures edited { HasCleanDisk (state S.Store writing.new.tables.now.conn) → (before : Option Rows) (made : Rows) → IsWriting before (Some made) (state S.Store writing.old.tables.now.conn)
-        → AreValidEdits products.now stores.now customers.now → OnOk result (IsWriting before (Some (with_dimensions products.now stores.now customers.now made)) (state S.Store writing.new.tables.now.conn)) }
+        → AreValidEdits edits.now → OnOk result (IsWriting before (Some (with_dimensions edits.now made)) (state S.Store writing.new.tables.now.conn)) }
     ensures left { HasCleanDisk (state S.Store writing.new.tables.now.conn) → (before : Option Rows) (made : Rows) → IsWriting before (Some made) (state S.Store writing.old.tables.now.conn)
-        → AreValidEdits products.now stores.now customers.now → Leaves before (state S.Store writing.new.tables.now.conn) }
+        → AreValidEdits edits.now → Leaves before (state S.Store writing.new.tables.now.conn) }
 {
-    writing.edit_all::<tables::Product>(alloc, products)?;
-    writing.edit_all::<tables::Store>(alloc, stores)?;
-    writing.edit_all::<tables::Customer>(alloc, customers)
+    writing.edit_all::<tables::Product>(alloc, &edits.products)?;
+    writing.edit_all::<tables::Store>(alloc, &edits.stores)?;
+    writing.edit_all::<tables::Customer>(alloc, &edits.customers)
 }
 
 /// Writes the edits of a command.
@@ -72,22 +65,8 @@ pub fn write_edits<S: Alter>(
     ensures left { HasCleanDisk (state S.Store writing.new.tables.now.conn) → (before : Option Rows) (made : Rows) → IsWriting before (Some made) (state S.Store writing.old.tables.now.conn)
         → MayBeWritten edits.now → Leaves before (state S.Store writing.new.tables.now.conn) }
 {
-    put_lists(
-        writing,
-        alloc,
-        &edits.command,
-        &edits.members,
-        &edits.changes,
-        &edits.profiles,
-        &edits.facts,
-    )?;
-    edit_rows(
-        writing,
-        alloc,
-        &edits.products,
-        &edits.stores,
-        &edits.customers,
-    )
+    put_lists(writing, alloc, edits)?;
+    edit_rows(writing, alloc, edits)
 }
 
 /// Writes the edits of a command in one transaction, and keeps them.

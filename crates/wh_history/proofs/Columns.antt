@@ -9,17 +9,15 @@ use Rattle.wh_history.specs.Rows.{main_column}
 use Rattle.wh_history.specs.Rendering.{steady_column, shown_column}
 use Rattle.wh_history.specs.declared.member.Change.{Change}
 
+-- one text more leaves less to fill
+pub padded_more : (text : List ℕ) (values : List (List ℕ)) → length values < 6 → padded text (values ++ text ∷ []) ≡ padded text values
+padded_more text values few =
+    let left : 6 - length values ≡ suc (6 - length (values ++ text ∷ [])) = simp length-append (omega arith) in
+    append_assoc values (text ∷ []) (replicate (6 - length (values ++ text ∷ [])) text) ∙ ap (λ n. values ++ replicate n text) (sym left)
+
 -- an empty text more makes the same six columns
 pub six_more : (texts : List (List ℕ)) → length texts < 6 → six (texts ++ [] ∷ []) ≡ six texts
-six_more texts few =
-    let left : 6 - length texts ≡ suc (6 - length (texts ++ [] ∷ [])) = simp length-append (omega arith) in
-    append_assoc texts ([] ∷ []) (replicate (6 - length (texts ++ [] ∷ [])) []) ∙ ap (λ n. texts ++ replicate n []) (sym left)
-
--- one more text for none fills as well
-pub none_more : (values : List (List ℕ)) → length values < 6 → padded none_text (values ++ none_text ∷ []) ≡ padded none_text values
-none_more values few =
-    let left : 6 - length values ≡ suc (6 - length (values ++ none_text ∷ [])) = simp length-append (omega arith) in
-    append_assoc values (none_text ∷ []) (replicate (6 - length (values ++ none_text ∷ [])) none_text) ∙ ap (λ n. values ++ replicate n none_text) (sym left)
+six_more = padded_more []
 
 get_behind : (front back : List (List ℕ)) (text : List ℕ) → get_or (front ++ text ∷ back) (length front) [] ≡ text
 get_behind [] back text = refl

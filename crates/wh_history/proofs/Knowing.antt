@@ -11,8 +11,9 @@ use Rattle.wh_history.specs.Keys.{place, after_one}
 use Rattle.wh_history.specs.Slots.{picks, texts_eq}
 use Rattle.wh_history.specs.Dated.{dated, newest, at}
 use Rattle.wh_history.specs.Rows.{row, rows_by, rows, spans, starts}
-use Rattle.wh_history.specs.Profiles.{behind_unknown, profile_number, current_by, current_profile}
-use Rattle.wh_history.specs.Facts.{key_in, keys_with, moved_to, moved_by, moved}
+use Rattle.wh_history.specs.Profiles.{after_unknown, profile_number, current_by, current_profile}
+use Rattle.wh_history.specs.Facts.{key_in, rekeyed_to, rekeyed_fact}
+use Rattle.wh_history.specs.Shapes.{Shape, RenderedMember}
 use Rattle.wh_history.specs.Known.{number_in, numbered_from, all_numbered, KnowsChange, KnowsMember, KnowsEnough}
 use Rattle.wh_history.specs.declared.member.Change.{Change}
 use Rattle.wh_history.specs.declared.member.Member.{Member}
@@ -42,7 +43,7 @@ number_counted next (c ∷ cs) texts =
       | false ↦ rest
     ]
 
-counted_is : (place : ℕ) → counted 2 place ≡ behind_unknown place
+counted_is : (place : ℕ) → counted 2 place ≡ after_unknown place
 counted_is zero = refl
 counted_is (suc n) = ap Some (omega arith)
 
@@ -124,10 +125,17 @@ module _ (kinds : List AttributeType) (number : List (List ℕ) → Option ℕ) 
   rows_enough Customer m known = rows_known m known
 
   -- a fact with its new keys
-  pub moved_enough : (dim : Dim) (m : Member) → KnowsEnough dim kinds number combinations m → (rs : List DimRow) (f : Fact) → moved_by kinds number dim rs (dated m.changes) f ≡ moved kinds combinations dim rs (dated m.changes) f
-  moved_enough Product m none rs f = refl
-  moved_enough Store m none rs f = refl
-  moved_enough Customer m known rs f = ap (λ n. moved_to f (keys_with Customer (key_in rs f.day) n f.keys)) (day_known m known f.day)
+  abbrev pub known_shape : Dim → (List (List ℕ) → Option ℕ) → Shape
+  known_shape dim numbers = record { dim = dim; kinds = kinds; number = numbers }
+
+  abbrev pub with_those : Member → List DimRow → RenderedMember
+  with_those m rs = record { member = m; rows = rs; dated = dated m.changes }
+
+  pub rekeyed_enough : (dim : Dim) (m : Member) → KnowsEnough dim kinds number combinations m → (rs : List DimRow) (f : Fact)
+      → rekeyed_fact (known_shape dim number) (with_those m rs) f ≡ rekeyed_fact (known_shape dim (profile_number combinations)) (with_those m rs) f
+  rekeyed_enough Product m none rs f = refl
+  rekeyed_enough Store m none rs f = refl
+  rekeyed_enough Customer m known rs f = ap (λ n. rekeyed_to f (record f.keys { customer_key = key_in rs f.day; profile = n })) (day_known m known f.day)
 
   -- where all numbers are known, those of each member's changes are
   pub all_changes_known : ((texts : List (List ℕ)) → number texts ≡ profile_number combinations texts) → (cs : List Change) → AllByRecursion (KnowsChange kinds number combinations) cs

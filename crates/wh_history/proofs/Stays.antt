@@ -10,7 +10,7 @@ use Rattle.wh_policy.specs.Types.{is_profile, is_outrigger}
 use Rattle.wh_history.specs.Slots.{columns_from, picked, picks, padded, texts_eq}
 use Rattle.wh_history.specs.Dated.{at, dated, newest}
 use Rattle.wh_history.specs.Rows.{row, rows, spans, starts}
-use Rattle.wh_history.specs.Profiles.{behind_unknown, profile_number, current_profile, profile_now}
+use Rattle.wh_history.specs.Profiles.{after_unknown, profile_number, current_profile, profile_now}
 use Rattle.wh_history.specs.Accepted.{Accepted, Content, Governs, Describes, Sells, governed, policy_after, types_in, described, described_by, change_of, changes_of, member_of, profiles_of}
 use Rattle.wh_policy.specs.declared.record.DimensionRecord.{DimensionRecord}
 use Rattle.wh_history.specs.Tables.{member_rows}
@@ -89,7 +89,7 @@ module _ (commands : List Accepted) (c : Accepted) (batch : governs c.content �
   -- a number that was given stays
   pub profile_stays : (texts : List (List ℕ)) → 0 < place texts_eq texts (profiles_of commands) → profile_number (profiles_of (commands ++ c ∷ [])) texts ≡ profile_number (profiles_of commands) texts
   profile_stays texts given =
-      ap (λ (cs : List (List (List ℕ))). profile_number cs texts) profiles-last ∙ ap behind_unknown (place-append_front texts_eq texts (profiles_of commands) _ given)
+      ap (λ (cs : List (List (List ℕ))). profile_number cs texts) profiles-last ∙ ap after_unknown (place-append_front texts_eq texts (profiles_of commands) _ given)
 
   -- a change of a customer has a combination that was accepted
   abbrev Combined : Change → Type 0

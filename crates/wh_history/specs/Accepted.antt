@@ -1,5 +1,5 @@
 -- The accepted commands, and what they say of members.
-use Rattle.std.specs.Prelude.{ℕ, ◌+◌, ◌-◌, Bool, true, false, cond, ◌&&◌, List, [], ◌∷◌, ◌++◌, map, flat_map, filter, length, take, Option, Some, None, option_map, option_to_list, unwrap_or, bytes_eq, nat_eq}
+use Rattle.std.specs.Prelude.{ℕ, ◌+◌, ◌-◌, Bool, true, false, if◌then◌else◌, ◌&&◌, List, [], ◌∷◌, ◌++◌, map, flat_map, filter, length, take, Option, Some, None, option_map, option_to_list, unwrap_or, bytes_eq, nat_eq}
 use Rattle.wh_day.specs.Value.{none_text}
 use Rattle.wh_policy.specs.Policy.{types_of}
 use Rattle.wh_policy.specs.declared.policy.Policy.{Policy}
@@ -56,7 +56,7 @@ types_in dim commands = unwrap_or (option_map (λ policy. types_of policy dim) (
 -- the records of a dimension that a command holds
 abbrev pub described_by : Dim → Content → List DimensionRecord
 described_by dim (Governs policy) = []
-described_by dim (Describes other records) = cond (same_dim dim other) records []
+described_by dim (Describes other records) = if same_dim dim other then records else []
 described_by dim (Sells sales) = []
 
 -- all records of a dimension, in order of acceptance

@@ -1,5 +1,5 @@
 -- What was accepted of a member, by the days that it speaks of.
-use Rattle.std.specs.Prelude.{ℕ, ◌-◌, cond, not, nat_lt, nat_le, ◌==◌, List, [], ◌∷◌, map, reverse, length, Option, Some, None, unwrap_or, find, slice_get, bytes_eq}
+use Rattle.std.specs.Prelude.{ℕ, ◌-◌, if◌then◌else◌, not, nat_lt, nat_le, ◌==◌, List, [], ◌∷◌, map, reverse, length, Option, Some, None, unwrap_or, find, slice_get, bytes_eq}
 use Rattle.wh_day.specs.Value.{none_text, unknown_text}
 use Rattle.wh_history.specs.Slots.{slot}
 use Rattle.wh_history.specs.declared.member.Change.{Change}
@@ -7,7 +7,7 @@ use Rattle.wh_history.specs.declared.member.Change.{Change}
 -- the changes in order of their days, with one more unless its day is there
 abbrev pub keep : Change → List Change → List Change
 keep c [] = c ∷ []
-keep c (e ∷ es) = cond (nat_lt c.day e.day) (c ∷ e ∷ es) (cond (c.day == e.day) (e ∷ es) (e ∷ keep c es))
+keep c (e ∷ es) = if nat_lt c.day e.day then c ∷ e ∷ es else if c.day == e.day then e ∷ es else e ∷ keep c es
 
 -- the last accepted change of each day, in order of the days
 abbrev pub dated : List Change → List Change
@@ -17,7 +17,7 @@ dated (c ∷ cs) = keep c (dated cs)
 -- of changes in order of their days, the last that is not after the day, else the first
 abbrev pub in_force : ℕ → Change → List Change → Change
 in_force day first [] = first
-in_force day first (c ∷ cs) = cond (nat_le c.day day) (in_force day c cs) first
+in_force day first (c ∷ cs) = if nat_le c.day day then in_force day c cs else first
 
 -- the change that says what holds at the day
 abbrev pub at : ℕ → List Change → Option Change

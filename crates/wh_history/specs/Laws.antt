@@ -18,7 +18,7 @@ ChangesHaveDays changes = AllByRecursion (λ c. is_day c.day ≡ true) changes
 abbrev pub RecordsHaveDays : List Accepted → Type 0
 RecordsHaveDays commands = (dim : Dim) → AllByRecursion (λ r. is_day r.day ≡ true) (described dim commands)
 
--- the days rise from one change to the next, behind this day
+-- the days rise from one change to the next, after this day
 abbrev pub RisesFrom : ℕ → List Change → Type 0
 RisesFrom day [] = ⊤
 RisesFrom day (c ∷ cs) = (day < c.day) × RisesFrom c.day cs

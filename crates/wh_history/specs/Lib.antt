@@ -4,6 +4,7 @@ pub mod Dated
 pub mod Profiles
 pub mod Rows
 pub mod Rendering
+pub mod Shapes
 pub mod Facts
 pub mod Plan
 pub mod Accepted

@@ -1,5 +1,5 @@
 -- The combinations of profile values, and their numbers.
-use Rattle.std.specs.Prelude.{ℕ, zero, suc, cond, List, map, Option, Some, None, unwrap_or}
+use Rattle.std.specs.Prelude.{ℕ, zero, suc, if◌then◌else◌, List, map, Option, Some, None, unwrap_or}
 use Rattle.std.specs.List.{list_any}
 use Rattle.wh_policy.specs.Types.{is_profile, is_outrigger}
 use Rattle.wh_policy.specs.declared.attribute.AttributeType.{AttributeType}
@@ -14,14 +14,14 @@ use Rattle.wh_history.specs.declared.member.Member.{Member}
 abbrev pub combinations_of : List AttributeType → List DimensionRecord → List (List (List ℕ))
 combinations_of kinds records = distinct texts_eq (map (λ r. picks is_profile kinds r.values) records)
 
--- the number of a place behind those of no card and unknown: the first combination has 2
-abbrev pub behind_unknown : ℕ → Option ℕ
-behind_unknown zero = None
-behind_unknown (suc n) = Some (suc (suc n))
+-- the number of a place after those of no card and unknown: the first combination has 2
+abbrev pub after_unknown : ℕ → Option ℕ
+after_unknown zero = None
+after_unknown (suc n) = Some (suc (suc n))
 
 -- the number of a combination of profile values among those that were accepted, in order
 abbrev pub profile_number : List (List (List ℕ)) → List (List ℕ) → Option ℕ
-profile_number combinations texts = behind_unknown (place texts_eq texts combinations)
+profile_number combinations texts = after_unknown (place texts_eq texts combinations)
 
 -- the number of a change's combination, where a function gives those of combinations; it is 1 where no change says one
 abbrev pub current_by : List AttributeType → (List (List ℕ) → Option ℕ) → Option Change → ℕ
@@ -30,7 +30,7 @@ current_by kinds number (Some c) = unwrap_or (number (picks is_profile kinds c.v
 
 -- the number that a member's rows then show: that of the greatest day's combination, where an attribute is of type 5
 abbrev pub profile_now_by : List AttributeType → (List (List ℕ) → Option ℕ) → Member → ℕ
-profile_now_by kinds number m = cond (list_any is_outrigger kinds) (current_by kinds number (newest (dated m.changes))) 0
+profile_now_by kinds number m = if list_any is_outrigger kinds then current_by kinds number (newest (dated m.changes)) else 0
 
 -- both by the combinations that were accepted
 abbrev pub current_profile : List AttributeType → List (List (List ℕ)) → Option Change → ℕ

@@ -1,5 +1,5 @@
 -- How the rows of a member are made from what they share.
-use Rattle.std.specs.Prelude.{◌≡◌, ℕ, cond, List, [], Option, slice_index_or}
+use Rattle.std.specs.Prelude.{◌≡◌, ℕ, if◌then◌else◌, List, [], Option, slice_index_or}
 use Rattle.wh_policy.specs.Types.{is_tracked}
 use Rattle.wh_policy.specs.declared.attribute.AttributeType.{AttributeType}
 use Rattle.wh_policy.specs.declared.attribute.AttributeType.TheVariants.{RetainOriginal, Overwrite, NewRow, NewAttribute, MiniDimension, MiniDimensionOutrigger, NewRowAndOverwrite, DualKeys}
@@ -22,7 +22,7 @@ steady_column changes place DualKeys = []
 
 -- a slot of the column a: in a tracked slot what the change in force says, else the text that all rows share
 abbrev pub shown_column : List (List ℕ) → Option Change → ℕ → AttributeType → List ℕ
-shown_column steady change place kind = cond (is_tracked kind) (said place change) (slice_index_or steady place [])
+shown_column steady change place kind = if is_tracked kind then said place change else slice_index_or steady place []
 
 -- the surrogate key and the change in force of the start of a row
 pub record IsStart (m : Member) (day surrogate : ℕ) (change : Option Change) : Type 0 where

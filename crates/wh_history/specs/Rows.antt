@@ -1,5 +1,5 @@
 -- The rows of a member.
-use Rattle.std.specs.Prelude.{ℕ, Bool, cond, ◌==◌, ◌&&◌, nat_le, List, [], ◌∷◌, map, Option, option_map, unwrap_or}
+use Rattle.std.specs.Prelude.{ℕ, Bool, if◌then◌else◌, ◌==◌, ◌&&◌, nat_le, List, [], ◌∷◌, map, Option, option_map, unwrap_or}
 use Rattle.wh_day.specs.Day.{first_day, last_day, day_before}
 use Rattle.wh_policy.specs.Types.{is_tracked}
 use Rattle.wh_policy.specs.declared.attribute.AttributeType.{AttributeType}
@@ -18,9 +18,9 @@ same_tracked kinds c d = texts_eq (picks is_tracked kinds c.values) (picks is_tr
 -- the days at which a tracked value differs from that of the change before
 abbrev pub later_starts : List AttributeType → Change → List Change → List ℕ
 later_starts kinds c [] = []
-later_starts kinds c (d ∷ ds) = cond (same_tracked kinds c d) (later_starts kinds d ds) (d.day ∷ later_starts kinds d ds)
+later_starts kinds c (d ∷ ds) = if same_tracked kinds c d then later_starts kinds d ds else d.day ∷ later_starts kinds d ds
 
--- the days at which rows begin, behind the opening
+-- the days at which rows begin, after the opening
 abbrev pub starts : List AttributeType → List Change → List ℕ
 starts kinds [] = []
 starts kinds (c ∷ cs) = later_starts kinds c cs
@@ -54,7 +54,7 @@ second_column changes place DualKeys = []
 
 -- the number of a start: that of the opening, or of the change of its day
 abbrev pub start_key : Member → ℕ → ℕ
-start_key m day = cond (day == first_day) m.opening (unwrap_or (option_map (λ c. c.anchor) (at day (dated m.changes))) 0)
+start_key m day = if day == first_day then m.opening else unwrap_or (option_map (λ c. c.anchor) (at day (dated m.changes))) 0
 
 -- the row from a day to another
 abbrev pub row : List AttributeType → ℕ → Member → ℕ × ℕ → DimRow

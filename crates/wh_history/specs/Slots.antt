@@ -1,5 +1,5 @@
 -- The slots of a dimension's attributes, and the values that stand in them.
-use Rattle.std.specs.Prelude.{ℕ, ◌-◌, suc, Bool, cond, List, [], ◌∷◌, ◌++◌, length, replicate, slice_index_or, bytes_eq}
+use Rattle.std.specs.Prelude.{ℕ, ◌-◌, suc, Bool, if◌then◌else◌, List, [], ◌∷◌, ◌++◌, length, replicate, slice_index_or, bytes_eq}
 use Rattle.std.specs.Cmp.Lexicographic.{pointwise}
 use Rattle.wh_day.specs.Value.{none_text}
 use Rattle.wh_policy.specs.declared.attribute.AttributeType.{AttributeType}
@@ -15,7 +15,7 @@ columns_from column place (kind ∷ kinds) = column place kind ∷ columns_from 
 
 -- the value in a slot that counts, and no text in another
 abbrev pub picked : (AttributeType → Bool) → List (List ℕ) → ℕ → AttributeType → List ℕ
-picked counts values place kind = cond (counts kind) (slot values place) []
+picked counts values place kind = if counts kind then slot values place else []
 
 -- the values in the slots that count
 abbrev pub picks : (AttributeType → Bool) → List AttributeType → List (List ℕ) → List (List ℕ)

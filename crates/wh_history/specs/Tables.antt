@@ -1,6 +1,6 @@
 -- The tables that a list of accepted commands defines, each as a function from its keys. The calendar is not here: its rows
 -- are those of the days of the years of the policy in force.
-use Rattle.std.specs.Prelude.{ℕ, zero, suc, ◌==◌, ◌&&◌, true, cond, List, [], ◌∷◌, length, filter_map, Option, Some, None, option_map, unwrap_or, find, bytes_eq, codes}
+use Rattle.std.specs.Prelude.{ℕ, zero, suc, ◌==◌, ◌&&◌, true, if◌then◌else◌, List, [], ◌∷◌, length, filter_map, Option, Some, None, option_map, unwrap_or, find, bytes_eq, codes}
 use Rattle.std.specs.Option.{option_and_then}
 use Rattle.std.specs.List.{range_with_len}
 use Rattle.wh_day.specs.Value.{unknown_text, no_card_text}
@@ -73,7 +73,7 @@ member_rows commands dim natural = rows (types_in dim commands) (profiles_of com
 
 -- what the row of sales without a card shows
 abbrev pub no_card_main : ℕ → AttributeType → List ℕ
-no_card_main place kind = cond (is_profile kind) [] no_card_text
+no_card_main place kind = if is_profile kind then [] else no_card_text
 
 abbrev pub no_card_second : ℕ → AttributeType → List ℕ
 no_card_second place RetainOriginal = []
@@ -121,8 +121,8 @@ trial_commands policy dim records = unnamed (Governs policy) ∷ unnamed (Descri
 
 -- profile
 abbrev pub profile_row : List Accepted → ℕ → Option (List (List ℕ))
-profile_row commands zero = Some (six (columns_from (λ _ kind. cond (is_profile kind) no_card_text []) 0 (types_in Customer commands)))
-profile_row commands (suc zero) = Some (six (columns_from (λ _ kind. cond (is_profile kind) unknown_text []) 0 (types_in Customer commands)))
+profile_row commands zero = Some (six (columns_from (λ _ kind. if is_profile kind then no_card_text else []) 0 (types_in Customer commands)))
+profile_row commands (suc zero) = Some (six (columns_from (λ _ kind. if is_profile kind then unknown_text else []) 0 (types_in Customer commands)))
 profile_row commands (suc (suc n)) = option_map six (at_place (suc n) (profiles_of commands))
 
 -- the number of a member's one row that holds a day
@@ -164,6 +164,8 @@ pub record Limits : Type 0 where
 
 abbrev pub meta_value : Limits → List ℕ → Option ℕ
 meta_value limits name =
-    cond (bytes_eq name (codes "changes_max")) (Some limits.changes)
-    (cond (bytes_eq name (codes "commands_max")) (Some limits.commands)
-    (cond (bytes_eq name (codes "facts_max")) (Some limits.facts) (cond (bytes_eq name (codes "format")) (Some 1) None)))
+    if bytes_eq name (codes "changes_max") then Some limits.changes
+    else if bytes_eq name (codes "commands_max") then Some limits.commands
+    else if bytes_eq name (codes "facts_max") then Some limits.facts
+    else if bytes_eq name (codes "format") then Some 1
+    else None

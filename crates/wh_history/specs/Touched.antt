@@ -1,5 +1,5 @@
 -- What a batch of dimension records makes of the members that it touches, record by record.
-use Rattle.std.specs.Prelude.{ℕ, zero, suc, ◌-◌, ◌==◌, List, [], ◌∷◌, ◌++◌, cond, map, drop, length, replicate, option_map, unwrap_or, find, bytes_eq}
+use Rattle.std.specs.Prelude.{ℕ, zero, suc, ◌-◌, ◌==◌, List, [], ◌∷◌, ◌++◌, if◌then◌else◌, map, drop, length, replicate, option_map, unwrap_or, find, bytes_eq}
 use Rattle.std.specs.List.{list_any}
 use Rattle.wh_day.specs.Value.{none_text}
 use Rattle.wh_policy.specs.declared.attribute.Dim.{Dim}
@@ -32,6 +32,10 @@ change_with anchors changes r = record {
   values = padded none_text r.values;
 }
 
+-- a member with the numbers that it has, or else with the next ones, where so many members and anchors have some
+abbrev pub with_numbers : ℕ → ℕ → Member → Member
+with_numbers members anchors m = record m { durable = given_or m.durable (suc members); opening = given_or m.opening (suc anchors) }
+
 -- a member with one more record, where so many members and anchors have numbers
 abbrev pub with_record : ℕ → ℕ → Member → DimensionRecord → Member
 with_record members anchors m r = record {
@@ -59,12 +63,12 @@ current stored list natural = unwrap_or (find (λ (m : Member). bytes_eq m.natur
 
 -- the members that were touched, with that of a natural key at the end if it was not
 abbrev pub with_stored : (List ℕ → Member) → List Member → List ℕ → List Member
-with_stored stored list natural = cond (list_any (λ (m : Member). bytes_eq m.natural natural) list) list (list ++ stored natural ∷ [])
+with_stored stored list natural = if list_any (λ (m : Member). bytes_eq m.natural natural) list then list else list ++ stored natural ∷ []
 
 -- a member in its place, or at the end
 abbrev pub with_member : Member → List Member → List Member
 with_member m [] = m ∷ []
-with_member m (t ∷ ts) = cond (bytes_eq t.natural m.natural) (m ∷ ts) (t ∷ with_member m ts)
+with_member m (t ∷ ts) = if bytes_eq t.natural m.natural then m ∷ ts else t ∷ with_member m ts
 
 -- one record more
 abbrev pub touch_member : Touched → Member → DimensionRecord → Touched

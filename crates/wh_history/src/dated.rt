@@ -126,7 +126,8 @@ pub(crate) fn last_other_than(
     Value::none(alloc)
 }
 
-/// A member's value at a day.
+/// A member's value at a day, as its definition says it. Rows are made without it, from the dated list that all slots share;
+/// tests compare them with it.
 pub fn value_at(
     alloc: Global,
     changes: &[Change],
@@ -139,7 +140,7 @@ pub fn value_at(
     said(alloc, change_at(&dated, day), place)
 }
 
-/// A member's value of the greatest day.
+/// A member's value of the greatest day, as its definition says it. Rows are made without it, as without `value_at`.
 pub fn latest(alloc: Global, changes: &[Change], place: usize) -> Result<Value, AllocError>
     ensures { IfOk result (λ t. t ≡ latest place changes.now) }
 {
@@ -147,7 +148,8 @@ pub fn latest(alloc: Global, changes: &[Change], place: usize) -> Result<Value, 
     said(alloc, newest(&dated), place)
 }
 
-/// A member's value of the greatest day at which it was not the latest.
+/// A member's value of the greatest day at which it was not the latest, as its definition says it. Rows are made without
+/// it, as without `value_at`.
 pub fn prior(alloc: Global, changes: &[Change], place: usize) -> Result<Value, AllocError>
     ensures { IfOk result (λ t. t ≡ prior place changes.now) }
 {

@@ -1,19 +1,16 @@
 //! The keys of facts, and those that a member's new rows give them.
 
-ghost use Rattle.std.specs.Prelude.{◌≡◌, filter_map, map, IfOk};
-ghost use Rattle.std.specs.Option.{option_copied};
-ghost use Rattle.wh_history.specs.Dated.{at};
-ghost use Rattle.wh_history.specs.Profiles.{current_by};
-ghost use Rattle.wh_history.specs.Known.{number_in};
-ghost use Rattle.wh_history.specs.Facts.{key_in, keys_with, same_keys, moved_by};
+ghost use Rattle.std.specs.Prelude.{◌≡◌, filter_map, IfOk};
+ghost use Rattle.wh_history.specs.Facts.{key_in, keys_with, same_keys, profile_on, keys_on, new_keys, rekeyed_fact};
+ghost use Rattle.wh_history.specs.Shapes.{shape_of, shown};
 
 use crate::dated::change_at;
-use crate::member::Change;
-use crate::profiles::{Profiles, number_of};
+use crate::dimension::{Dimension, Rendered};
+use crate::profiles::current_profile;
 use crate::rows::DimRow;
 use std::alloc::{AllocError, Global};
 use wh_day::{Day, Value};
-use wh_policy::{AttributeType, Dim};
+use wh_policy::Dim;
 
 /// The keys of a fact that follow its members' rows: the surrogate keys of the rows that hold the sale day, and the number
 /// of the customer's profile on that day. Without a card the customer's are 0.
@@ -45,14 +42,14 @@ pub struct Fact {
     pub cost: i64,
 }
 
-/// What gives a member's facts their keys: its rows, and its changes in order of their days.
-#[derive(Drop)]
-pub struct Keys<'a> {
-    pub dim: Dim,
-    pub types: &'a [AttributeType],
-    pub profiles: &'a Profiles,
-    pub rows: &'a [DimRow],
-    pub dated: &'a [&'a Change],
+/// What a member gives a fact of a day.
+#[derive(Clone, Copy, Debug, PartialEq, Eq, Drop)]
+pub struct MemberKeys {
+    /// The surrogate key of its row that holds the day.
+    pub key: u64,
+    pub durable: u64,
+    /// The number of a customer's profile on the day, and 0 for other members.
+    pub profile: u64,
 }
 
 fn is_same_keys(a: FactKeys, b: FactKeys) -> bool
@@ -65,7 +62,7 @@ fn is_same_keys(a: FactKeys, b: FactKeys) -> bool
 }
 
 /// The surrogate key of the row that holds a day.
-pub fn key_in(rows: &[DimRow], day: Day) -> u64
+fn key_in(rows: &[DimRow], day: Day) -> u64
     ensures { result ≡ key_in rows.now day }
 {
     match rows.iter().find(|row| row.holds(day)) {
@@ -74,75 +71,112 @@ pub fn key_in(rows: &[DimRow], day: Day) -> u64
     }
 }
 
-/// The number of a customer's profile at a day, by the customer's changes in order of their days.
-pub fn profile_at(
-    alloc: Global,
-    types: &[AttributeType],
-    profiles: &Profiles,
-    dated: &[&Change],
-    day: Day,
-) -> Result<u64, AllocError>
-    ensures { IfOk result (λ n. n ≡ current_by types.now (number_in profiles.now) (at day (map (λ c. c.now) dated.now))) }
+/// A fact's keys with those of a member of a dimension.
+fn keys_with(dim: Dim, own: MemberKeys, keys: FactKeys) -> FactKeys
+    ensures { result ≡ keys_with dim own keys }
 {
-    match change_at(dated, day) {
-        None => Ok(1),
-        Some(change) => number_of(alloc, types, profiles, change.values.as_slice()),
+    match dim {
+        Dim::Product => FactKeys {
+            product_key: own.key,
+            ..keys
+        },
+        Dim::Store => FactKeys {
+            store_key: own.key,
+            ..keys
+        },
+        Dim::Customer => FactKeys {
+            customer_key: own.key,
+            profile: own.profile,
+            ..keys
+        },
     }
 }
 
-/// A fact's keys by the member's rows and changes.
-fn new_keys(alloc: Global, keys: &Keys, fact: &Fact) -> Result<FactKeys, AllocError>
-    ensures { IfOk result (λ k. k ≡ keys_with keys.now.dim (key_in keys.now.rows.now fact.now.day) (current_by keys.now.types.now (number_in keys.now.profiles.now) (at fact.now.day (map (λ c. c.now) keys.now.dated.now))) fact.now.keys) }
-{
-    let key = key_in(keys.rows, fact.day);
-    match keys.dim {
-        Dim::Product => Ok(FactKeys {
-            product_key: key,
-            ..fact.keys
-        }),
-        Dim::Store => Ok(FactKeys {
-            store_key: key,
-            ..fact.keys
-        }),
-        Dim::Customer => Ok(FactKeys {
-            customer_key: key,
-            profile: profile_at(alloc, keys.types, keys.profiles, keys.dated, fact.day)?,
-            ..fact.keys
-        }),
-    }
-}
-
-/// A fact with its new keys, if they change.
-fn moved(alloc: Global, keys: &Keys, fact: &Fact) -> Result<Option<Fact>, AllocError>
-    ensures { IfOk result (λ f. f ≡ moved_by keys.now.types.now (number_in keys.now.profiles.now) keys.now.dim keys.now.rows.now (map (λ c. c.now) keys.now.dated.now) fact.now) }
-{
-    let new = new_keys(alloc, keys, fact)?;
-    if is_same_keys(new, fact.keys) {
-        return Ok(None);
-    }
-    Ok(Some(Fact {
-        ticket: fact.ticket.copy()?,
-        line: fact.line,
-        day: fact.day,
-        keys: new,
-        store_durable: fact.store_durable,
-        product_durable: fact.product_durable,
-        customer_durable: fact.customer_durable,
-        quantity: fact.quantity,
-        amount: fact.amount,
-        cost: fact.cost,
-    }))
-}
-
-/// A member's facts whose keys change, with their new keys, in their order.
-pub fn moved_facts(alloc: Global, keys: &Keys, facts: &[Fact]) -> Result<Vec<Fact>, AllocError>
-    ensures { IfOk result (λ found. found.items ≡ filter_map (moved_by keys.now.types.now (number_in keys.now.profiles.now) keys.now.dim keys.now.rows.now (map (λ c. c.now) keys.now.dated.now)) facts.now) }
-{
-    let mut found = Vec::new(alloc);
-    for fact in facts {
-        if let Some(fact) = moved(alloc, keys, fact)? {
-            found.push(fact)?;
+impl Dimension<'_> {
+    /// The number of a customer's profile on a day. Other members have none.
+    fn profile_on(&self, alloc: Global, member: &Rendered, day: Day) -> Result<u64, AllocError>
+        ensures { IfOk result (λ n. n ≡ profile_on (shape_of self.now) (shown member.now) day) }
+    {
+        match self.dim {
+            Dim::Customer => {
+                let change = change_at(&member.dated, day);
+                current_profile(alloc, self.types, self.profiles, change)
+            }
+            _ => Ok(0),
         }
     }
-    Ok(found)
+
+    /// What a member gives a fact of a day.
+    pub fn keys_on(
+        &self,
+        alloc: Global,
+        member: &Rendered,
+        day: Day,
+    ) -> Result<MemberKeys, AllocError>
+        ensures { IfOk result (λ own. own ≡ keys_on (shape_of self.now) (shown member.now) day) }
+    {
+        Ok(MemberKeys {
+            key: key_in(&member.rows, day),
+            durable: member.member.durable,
+            profile: self.profile_on(alloc, member, day)?,
+        })
+    }
+
+    /// The keys that a member gives a fact of its own.
+    fn new_keys(
+        &self,
+        alloc: Global,
+        member: &Rendered,
+        fact: &Fact,
+    ) -> Result<FactKeys, AllocError>
+        ensures { IfOk result (λ keys. keys ≡ new_keys (shape_of self.now) (shown member.now) fact.now) }
+    {
+        let own = self.keys_on(alloc, member, fact.day)?;
+        Ok(keys_with(self.dim, own, fact.keys))
+    }
+
+    /// A fact of a member with its new keys, if they are others than it has.
+    fn rekeyed_fact(
+        &self,
+        alloc: Global,
+        member: &Rendered,
+        fact: &Fact,
+    ) -> Result<Option<Fact>, AllocError>
+        ensures { IfOk result (λ f. f ≡ rekeyed_fact (shape_of self.now) (shown member.now) fact.now) }
+    {
+        let new = self.new_keys(alloc, member, fact)?;
+        if is_same_keys(new, fact.keys) {
+            return Ok(None);
+        }
+        Ok(Some(Fact {
+            ticket: fact.ticket.copy()?,
+            line: fact.line,
+            day: fact.day,
+            keys: new,
+            store_durable: fact.store_durable,
+            product_durable: fact.product_durable,
+            customer_durable: fact.customer_durable,
+            quantity: fact.quantity,
+            amount: fact.amount,
+            cost: fact.cost,
+        }))
+    }
+
+    /// Of some facts of a member those whose keys change, with their new keys, in their order.
+    pub fn rekeyed_facts(
+        &self,
+        alloc: Global,
+        member: &Rendered,
+        facts: &[Fact],
+    ) -> Result<Vec<Fact>, AllocError>
+        ensures { IfOk result (λ found. found.items ≡ filter_map (rekeyed_fact (shape_of self.now) (shown member.now)) facts.now) }
+    {
+        let mut found = Vec::new(alloc);
+        for fact in facts {
+            if let Some(fact) = self.rekeyed_fact(alloc, member, fact)? {
+                found.push(fact)?;
+            }
+        }
+        Ok(found)
+    }
 }

@@ -3,6 +3,7 @@
 #![tactic(auto)]
 
 pub mod dated;
+mod dimension;
 mod facts;
 pub mod laws;
 mod member;
@@ -10,15 +11,17 @@ mod plan;
 mod profiles;
 mod rendering;
 mod rows;
+mod slots;
 mod touched;
 mod trial;
 
 pub use dated::{latest, original, prior, value_at};
-pub use facts::{Fact, FactKeys, Keys, key_in, moved_facts, profile_at};
+pub use dimension::{Dimension, Rendered};
+pub use facts::{Fact, FactKeys, MemberKeys};
 pub use member::{Change, Changes, Member};
-pub use plan::{Edit, Plan, plan_member, plan_rows};
-pub use profiles::{Numbered, Profiles, is_same_texts, number_of, profile_texts};
-pub use rendering::{render, render_types};
-pub use rows::{DimRow, row_at};
-pub use touched::{Stored, Touched, anchor_of_day, number_or_next, padded, touch_all};
+pub use plan::{Edit, plan_rows};
+pub use profiles::{Numbered, Profiles, is_same_texts, profile_texts};
+pub use rows::{DimRow, GREATEST_NUMBER, row_at};
+pub use slots::{fill_columns, six_texts};
+pub use touched::{Stored, Touched, anchor_of_day, give_numbers, touch_all};
 pub use trial::{no_card_row, trial_table};

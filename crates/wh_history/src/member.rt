@@ -1,6 +1,7 @@
 //! A member and all that was accepted of it.
 
-ghost use Rattle.std.specs.Prelude.{◌≡◌, ◌++◌, ◌∷◌, [], OnOk, OnErr};
+ghost use Rattle.std.specs.Prelude.{◌≡◌, ◌++◌, ◌∷◌, [], IfOk, OnOk, OnErr};
+ghost use Rattle.wh_history.specs.Touched.{nothing_stored};
 
 use std::alloc::{AllocError, Global};
 use std::marker::Model;
@@ -69,4 +70,18 @@ pub struct Member {
     pub opening: u64,
     /// All that was accepted of it.
     pub changes: Changes,
+}
+
+impl Member {
+    /// A member of which nothing is stored: all its numbers are 0, and no change is there.
+    pub fn absent(alloc: Global, natural: &Value) -> Result<Member, AllocError>
+        ensures { IfOk result (λ member. member ≡ nothing_stored natural.now) }
+    {
+        Ok(Member {
+            durable: 0,
+            natural: natural.copy()?,
+            opening: 0,
+            changes: Changes::new(alloc),
+        })
+    }
 }

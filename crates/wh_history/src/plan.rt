@@ -1,25 +1,14 @@
-//! Exact plans: the edits that lead from a member's stored rows and facts to what they are to be.
+//! Exact plans: the edits that lead from some rows to others.
 
 ghost use Rattle.std.specs.Prelude.{◌≡◌, ℕ, IfOk, OnOk, filter_map};
 ghost use Rattle.std.specs.BTreeMap.{get};
 ghost use Rattle.std.specs.Ordering.{nat_cmp};
 ghost use Rattle.std.specs.Option.{option_copied};
-ghost use Rattle.wh_policy.specs.Policy.{types_of};
-ghost use Rattle.wh_history.specs.Dated.{dated};
-ghost use Rattle.wh_history.specs.Rows.{rows_by};
-ghost use Rattle.wh_history.specs.Facts.{moved_by};
-ghost use Rattle.wh_history.specs.Known.{number_in};
 ghost use Rattle.wh_history.specs.Plan.{IsPlan, row_of, with_keys, edit_between, edit_in};
 
-use crate::dated::dated;
-use crate::facts::{Fact, Keys, moved_facts};
-use crate::member::Member;
-use crate::profiles::Profiles;
-use crate::rendering::render_types;
 use crate::rows::DimRow;
 use std::alloc::{AllocError, Global};
 use std::collections::{BTreeMap, BTreeSet};
-use wh_policy::{Dim, Policy};
 
 /// A change of one key of a table.
 #[derive(Debug, Drop)]
@@ -110,40 +99,4 @@ pub fn plan_rows(
     let old = by_key(alloc, stored)?;
     let new = by_key(alloc, after)?;
     edits_of(alloc, &keys, &old, &new)
-}
-
-/// The edits of one member: of its rows in order of their keys, and its facts that get other keys, with them, in their order.
-#[derive(Debug, Drop)]
-pub struct Plan {
-    pub rows: Vec<Edit<DimRow, u64>>,
-    pub facts: Vec<Fact>,
-}
-
-/// The edits that lead from a member's stored rows and facts to what they are to be.
-pub fn plan_member(
-    alloc: Global,
-    policy: &Policy,
-    dim: Dim,
-    stored: &[DimRow],
-    facts: &[Fact],
-    after: &Member,
-    profiles: &Profiles,
-) -> Result<Plan, AllocError>
-    ensures rows { IfOk result (λ plan. IsPlan (λ r. r.surrogate) (λ key. row_of key stored.now) (λ key. row_of key (rows_by (types_of policy.now dim) (number_in profiles.now) after.now)) plan.rows.items) }
-    ensures facts { IfOk result (λ plan. plan.facts.items ≡ filter_map (moved_by (types_of policy.now dim) (number_in profiles.now) dim (rows_by (types_of policy.now dim) (number_in profiles.now) after.now) (dated after.now.changes)) facts.now) }
-{
-    let types = policy.types(alloc, dim)?;
-    let rows = render_types(alloc, &types, after, profiles)?;
-    let dated = dated(alloc, after.changes.as_slice())?;
-    let keys = Keys {
-        dim,
-        types: &types,
-        profiles,
-        rows: &rows,
-        dated: &dated,
-    };
-    Ok(Plan {
-        rows: plan_rows(alloc, stored, &rows)?,
-        facts: moved_facts(alloc, &keys, facts)?,
-    })
 }

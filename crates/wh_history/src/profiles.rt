@@ -1,6 +1,6 @@
 //! The profile mini-dimension: combinations of the values of types 4 and 5, and their numbers.
 
-ghost use Rattle.std.specs.Prelude.{◌≡◌, ◌++◌, ◌∷◌, [], ℕ, List, IfOk, OnOk, OnErr, find, cond, unwrap_or};
+ghost use Rattle.std.specs.Prelude.{◌≡◌, ◌++◌, ◌∷◌, [], ℕ, List, IfOk, OnOk, OnErr, find, if◌then◌else◌, unwrap_or};
 ghost use Rattle.std.specs.List.{list_any};
 ghost use Rattle.std.specs.Option.{option_copied};
 ghost use Rattle.wh_policy.specs.Types.{is_profile, is_outrigger};
@@ -100,7 +100,7 @@ impl Profiles {
     /// Where all combinations so far are known, adds one with the next number, unless it is there. The first has 2.
     pub fn add_next(&mut self, texts: Values) -> Result<(), AllocError>
         ensures ok { OnOk result ((combinations : List (List (List ℕ))) → self.old ≡ all_numbered combinations
-            → self.new ≡ all_numbered (cond (list_any (λ c. texts_eq c texts) combinations) combinations (combinations ++ texts ∷ []))) }
+            → self.new ≡ all_numbered (if list_any (λ c. texts_eq c texts) combinations then combinations else combinations ++ texts ∷ [])) }
         ensures err { OnErr result (self.new ≡ self.old) }
     {
         match self.number(texts.as_slice()) {
@@ -133,7 +133,7 @@ pub fn profile_texts(
 }
 
 /// The number of the combination among a record's values, and 0 where it has none.
-pub fn number_of(
+fn number_of(
     alloc: Global,
     types: &[AttributeType],
     profiles: &Profiles,
@@ -152,20 +152,32 @@ fn has_outrigger(types: &[AttributeType]) -> bool
     types.iter().any(|kind| kind.is_outrigger())
 }
 
+/// The number of the combination that a change says, and 1 where none says one.
+pub(crate) fn current_profile(
+    alloc: Global,
+    types: &[AttributeType],
+    profiles: &Profiles,
+    change: Option<&Change>,
+) -> Result<u64, AllocError>
+    ensures { IfOk result (λ n. n ≡ current_by types.now (number_in profiles.now) (option_copied change.entry)) }
+{
+    match change {
+        None => Ok(1),
+        Some(change) => number_of(alloc, types, profiles, change.values.as_slice()),
+    }
+}
+
 /// The profile's number that a member's rows show.
-pub fn profile_now(
+pub(crate) fn profile_now(
     alloc: Global,
     types: &[AttributeType],
     profiles: &Profiles,
     newest: Option<&Change>,
 ) -> Result<u64, AllocError>
-    ensures { IfOk result (λ n. n ≡ cond (list_any is_outrigger types.now) (current_by types.now (number_in profiles.now) (option_copied newest.entry)) 0) }
+    ensures { IfOk result (λ n. n ≡ (if list_any is_outrigger types.now then current_by types.now (number_in profiles.now) (option_copied newest.entry) else 0)) }
 {
     if !has_outrigger(types) {
         return Ok(0);
     }
-    match newest {
-        None => Ok(1),
-        Some(change) => number_of(alloc, types, profiles, change.values.as_slice()),
-    }
+    current_profile(alloc, types, profiles, newest)
 }

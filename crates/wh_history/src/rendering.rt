@@ -3,7 +3,6 @@
 ghost use Rattle.std.specs.Prelude.{◌≡◌, ◌≢◌, ◌++◌, ◌∷◌, [], List, map, IfOk, OnOk, bytes_eq, slice_index_or};
 ghost use Rattle.std.specs.Option.{option_copied};
 ghost use Rattle.wh_day.specs.Day.{first_day, day_before};
-ghost use Rattle.wh_policy.specs.Policy.{types_of};
 ghost use Rattle.wh_history.specs.Slots.{slot, six, columns_from};
 ghost use Rattle.wh_history.specs.Dated.{dated, at};
 ghost use Rattle.wh_history.specs.Profiles.{profile_now_by};
@@ -16,9 +15,10 @@ use crate::dated::{dated, last_other_than, newest, original, said};
 use crate::member::{Change, Member};
 use crate::profiles::{Profiles, profile_now};
 use crate::rows::DimRow;
+use crate::slots::fill_columns;
 use std::alloc::{AllocError, Global};
 use wh_day::{Day, Value, Values};
-use wh_policy::{AttributeType, Dim, Policy};
+use wh_policy::AttributeType;
 
 /// What a member's columns are made from.
 #[derive(Drop)]
@@ -71,17 +71,6 @@ fn is_same_tracked(types: &[AttributeType], some: &Change, other: &Change) -> bo
         }
     }
     true
-}
-
-/// Fills texts up to the six columns of a table.
-#[tactic(auto, using(crate::proofs::Columns::six_more))]
-pub(crate) fn fill_columns(alloc: Global, texts: &mut Values) -> Result<(), AllocError>
-    ensures { OnOk result (texts.new ≡ six texts.old) }
-{
-    'columns: while texts.as_slice().len() < 6 {
-        texts.push(Value::empty(alloc))?;
-    }
-    Ok(())
 }
 
 /// What every row shows of a slot in its main column, if that doesn't depend on where the row begins.
@@ -249,7 +238,7 @@ fn render_dated(
 }
 
 /// A member's rows under the types of its dimension's attributes, in order of their starts.
-pub fn render_types(
+pub(crate) fn render(
     alloc: Global,
     types: &[AttributeType],
     member: &Member,
@@ -274,21 +263,4 @@ pub fn render_types(
         profile_now: profile_now(alloc, types, profiles, newest(&dated))?,
     };
     render_dated(alloc, &frame, &dated)
-}
-
-/// A member's rows under a policy, in order of their starts.
-pub fn render(
-    alloc: Global,
-    policy: &Policy,
-    dim: Dim,
-    member: &Member,
-    profiles: &Profiles,
-) -> Result<Vec<DimRow>, AllocError>
-    ensures rows { IfOk result (λ found. found.items ≡ rows_by (types_of policy.now dim) (number_in profiles.now) member.now) }
-    // No two rows overlap, and no day is left out.
-    ensures days { IfOk result (λ found. EachDayHasOneRow found.items) }
-    ensures current { IfOk result (λ found. OneRowIsCurrent found.items) }
-{
-    let types = policy.types(alloc, dim)?;
-    render_types(alloc, &types, member, profiles)
 }

@@ -10,6 +10,9 @@ use std::alloc::{AllocError, Global};
 use std::marker::Model;
 use wh_day::{Day, Value, Values};
 
+/// The greatest number that a member, an anchor or a profile has in the tables.
+pub const GREATEST_NUMBER: u64 = 9_999_999;
+
 /// A row of a dimension's table: a member from one day to another.
 #[derive(Debug, Drop)]
 pub struct DimRow {
@@ -111,7 +114,7 @@ pub(crate) fn row_of(rows: &[DimRow], key: u64) -> Option<&DimRow>
     rows.iter().find(|row| row.surrogate == key)
 }
 
-/// The first row that holds the day.
+/// The place of the first row that holds the day. The keys of facts are found without it; tests compare them with it.
 pub fn row_at(rows: &[DimRow], day: Day) -> Option<usize>
     ensures first { result ≡ position (holds day) rows.now }
     // Of a member's rows one does.

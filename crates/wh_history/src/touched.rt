@@ -2,18 +2,15 @@
 
 ghost use Rattle.std.specs.Prelude.{◌≡◌, ◌+◌, ◌-◌, ◌*◌, ◌^◌, ◌<◌, ◌++◌, ◌∷◌, [], suc, map, length, replicate, drop, IfOk, OnOk, string_bytes, bytes_eq};
 ghost use Rattle.std.specs.List.{position_or_len};
-ghost use Rattle.wh_day.specs.Value.{none_text};
-ghost use Rattle.wh_history.specs.Slots.{padded};
-ghost use Rattle.wh_history.specs.Touched.{given_or, grown, anchor_of_day, with_record, anchors_with, current, with_stored, touch, touched, untouched};
+ghost use Rattle.wh_history.specs.Touched.{given_or, grown, anchor_of_day, with_numbers, with_record, anchors_with, current, with_stored, touch, touched, untouched};
 
 use crate::member::{Change, Changes, Member};
+use crate::slots::padded;
 use indexmap::IndexSet;
 use std::alloc::{AllocError, Global};
 use std::marker::Model;
-use wh_day::{Day, NaturalKey, ReadError, Value, Values};
+use wh_day::{Day, NaturalKey, ReadError, Value};
 use wh_policy::DimensionRecord;
-
-const SLOTS: usize = 6;
 
 /// Where the members stand that a batch may touch.
 pub trait Stored {
@@ -89,7 +86,7 @@ struct Touching {
 }
 
 /// The number that was given, or else the next one.
-pub fn number_or_next(given: u64, count: &mut u64) -> u64
+fn number_or_next(given: u64, count: &mut u64) -> u64
     requires { count.old + 1 < 2 ^ 64 }
     ensures given { result ≡ given_or given (suc count.old) }
     ensures counted { count.new ≡ grown given count.old }
@@ -111,24 +108,16 @@ pub fn anchor_of_day(changes: &[Change], day: Day) -> u64
     }
 }
 
-/// Fills values up, with the text for none in the slots that are not there.
-#[tactic(auto, using(crate::proofs::Columns::none_more))]
-fn fill(alloc: Global, values: &mut Values) -> Result<(), AllocError>
-    ensures { OnOk result (values.new ≡ padded none_text values.old) }
+/// Gives a member the next numbers, unless it has some.
+pub fn give_numbers(member: &mut Member, members: &mut u64, anchors: &mut u64)
+    requires members { members.old + 1 < 2 ^ 64 }
+    requires anchors { anchors.old + 1 < 2 ^ 64 }
+    ensures member { member.new ≡ with_numbers members.old anchors.old member.old }
+    ensures members { members.new ≡ grown member.old.durable members.old }
+    ensures anchors { anchors.new ≡ grown member.old.opening anchors.old }
 {
-    'slots: while values.as_slice().len() < SLOTS {
-        values.push(Value::none(alloc)?)?;
-    }
-    Ok(())
-}
-
-/// A record's values, with the text for none in the slots that it has not.
-pub fn padded(alloc: Global, values: &Values) -> Result<Values, AllocError>
-    ensures { IfOk result (λ all. all ≡ padded none_text values.now) }
-{
-    let mut all = values.copy(alloc)?;
-    fill(alloc, &mut all)?;
-    Ok(all)
+    member.durable = number_or_next(member.durable, members);
+    member.opening = number_or_next(member.opening, anchors);
 }
 
 /// Adds a record to its member.
@@ -145,8 +134,7 @@ fn add_record(
     ensures members { OnOk result (members.new ≡ grown member.old.durable members.old) }
     ensures anchors { OnOk result (anchors.new ≡ anchors_with anchors.old member.old told.now) }
 {
-    member.durable = number_or_next(member.durable, members);
-    member.opening = number_or_next(member.opening, anchors);
+    give_numbers(member, members, anchors);
     let given = anchor_of_day(member.changes.as_slice(), told.day);
     let anchor = number_or_next(given, anchors);
     let values = padded(alloc, &told.values)?;
@@ -236,7 +224,7 @@ fn touch<S: Stored>(
     Ok(())
 }
 
-/// The members that a batch touches, as they are behind it, where so many members have durable keys and so many anchors
+/// The members that a batch touches, as they are after it, where so many members have durable keys and so many anchors
 /// surrogate keys before it.
 pub fn touch_all<S: Stored>(
     alloc: Global,

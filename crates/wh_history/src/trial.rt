@@ -5,16 +5,17 @@ ghost use Rattle.std.specs.Option.{option_copied};
 ghost use Rattle.wh_policy.specs.Policy.{types_of};
 ghost use Rattle.wh_history.specs.Slots.{six, columns_from};
 ghost use Rattle.wh_history.specs.Profiles.{combinations_of};
-ghost use Rattle.wh_history.specs.Rows.{rows_by};
-ghost use Rattle.wh_history.specs.Known.{number_in, all_numbered};
+ghost use Rattle.wh_history.specs.Known.{all_numbered};
+ghost use Rattle.wh_history.specs.Shapes.{shape_of, rows_in};
 ghost use Rattle.wh_history.specs.Tables.{no_card_main, no_card_second, no_card_row, dimension_table, trial_commands};
 ghost use Rattle.wh_history.specs.Touched.{touched, untouched, nothing_stored};
 ghost use Rattle.wh_history.specs.Picked.{owned_row, picked_from, first_rows, profiles_in};
 
-use crate::member::{Changes, Member};
+use crate::dimension::Dimension;
+use crate::member::Member;
 use crate::profiles::{Profiles, profile_texts};
-use crate::rendering::{fill_columns, render_types};
 use crate::rows::{DimRow, DimRows, row_of};
+use crate::slots::fill_columns;
 use crate::touched::{Stored, Touched, touch_all};
 use std::alloc::{AllocError, Global};
 use wh_day::{Day, ReadError, Value, Values};
@@ -31,12 +32,7 @@ impl Stored for NothingStored {
     ghost stored = { λ _. nothing_stored };
 
     fn member(&self, alloc: Global, natural: &Value) -> Result<Member, ReadError<AllocError>> {
-        Ok(Member {
-            durable: 0,
-            natural: natural.copy()?,
-            opening: 0,
-            changes: Changes::new(alloc),
-        })
+        Ok(Member::absent(alloc, natural)?)
     }
 }
 
@@ -155,15 +151,14 @@ fn first_rows(alloc: Global, dim: Dim, types: &[AttributeType]) -> Result<Vec<Di
 /// The rows of each member.
 fn member_rows(
     alloc: Global,
-    types: &[AttributeType],
-    profiles: &Profiles,
+    dimension: &Dimension,
     members: &[Member],
 ) -> Result<Vec<DimRows>, AllocError>
-    ensures { IfOk result (λ found. found.items ≡ map (rows_by types.now (number_in profiles.now)) members.now) }
+    ensures { IfOk result (λ found. found.items ≡ map (rows_in (shape_of dimension.now)) members.now) }
 {
     let mut found = Vec::new(alloc);
     for member in members {
-        found.push(DimRows::new(render_types(alloc, types, member, profiles)?))?;
+        found.push(DimRows::new(dimension.rows_of(alloc, member)?))?;
     }
     Ok(found)
 }
@@ -211,7 +206,12 @@ pub fn trial_table(
     let types = policy.types(alloc, dim)?;
     let members = first_members(alloc, records)?;
     let profiles = profiles_in(alloc, dim, &types, records)?;
-    let rows = member_rows(alloc, &types, &profiles, members.as_slice())?;
+    let dimension = Dimension {
+        dim,
+        types: &types,
+        profiles: &profiles,
+    };
+    let rows = member_rows(alloc, &dimension, members.as_slice())?;
     let mut table = first_rows(alloc, dim, &types)?;
     pick(alloc, &mut table, &rows, members.owners())?;
     Ok(table)

@@ -17,7 +17,7 @@ use Rattle.wh_history.proofs.Joins.{all_append, all_weaker, any_left, any_right}
 use Rattle.wh_history.proofs.Growth.{durable_stays}
 use Rattle.wh_history.proofs.Places.{place-distinct_given}
 use Rattle.wh_history.proofs.Stays.{types-last}
-use Rattle.wh_plan.specs.Laws.{ShowsNoProfile, FactsFollow, followed}
+use Rattle.wh_plan.specs.Laws.{ShowsNoProfile, LateRecordsMoveFacts, followed}
 use Rattle.wh_plan.proofs.GrownChanges.{natural_among}
 use Rattle.wh_plan.proofs.GrownKeys.{all_at, map_same}
 use Rattle.wh_plan.proofs.GrownMembers.{opens_itself}
@@ -108,8 +108,8 @@ shown_in Customer commands shown Product apart here = (shown refl).0
 shown_in Customer commands shown Store apart here = (shown refl).1
 shown_in Customer commands shown Customer apart here = absurd cc
 
-pub facts_follow : FactsFollow
-facts_follow commands c Product rs number s is shown there =
+pub late_records_move_facts : LateRecordsMoveFacts
+late_records_move_facts commands c Product rs number s is shown there =
     let plain = shown_in Product commands shown in
     let named = all_at (Named commands) number (sold commands) s (all_named commands) there in
     rw (
@@ -120,7 +120,7 @@ facts_follow commands c Product rs number s is shown there =
       durable_kept commands c s named Store s.store refl,
       customer_kept commands c s named,
     ) refl
-facts_follow commands c Store rs number s is shown there =
+late_records_move_facts commands c Store rs number s is shown there =
     let plain = shown_in Store commands shown in
     let named = all_at (Named commands) number (sold commands) s (all_named commands) there in
     rw (
@@ -131,7 +131,7 @@ facts_follow commands c Store rs number s is shown there =
       durable_kept commands c s named Store s.store refl,
       customer_kept commands c s named,
     ) refl
-facts_follow commands c Customer rs number s is shown there =
+late_records_move_facts commands c Customer rs number s is shown there =
     let plain = shown_in Customer commands shown in
     let named = all_at (Named commands) number (sold commands) s (all_named commands) there in
     let products = key_kept commands c s named Customer rs is plain Product refl s.product in

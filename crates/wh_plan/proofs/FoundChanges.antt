@@ -22,7 +22,7 @@ use Rattle.wh_plan.proofs.Listed.{filter_all}
 use Rattle.wh_rows.specs.declared.rows.ChangeRow.{ChangeRow}
 use Rattle.wh_rows.specs.Tables.{Tables}
 use Rattle.wh_plan.specs.Defined.{AreOf}
-use Rattle.wh_plan.specs.Kept.{HaveNoEmptyValue, given_text, change_in}
+use Rattle.wh_plan.specs.Reading.{HaveNoEmptyValue, given_text, change_in}
 use Rattle.wh_plan.proofs.FoundPlaces.{same_number_is, number_itself}
 use Rattle.wh_plan.proofs.FoundMembers.{same_dim, same_dim_is, dim_itself}
 use Rattle.wh_plan.proofs.ListedChanges.{made, record_rows, content_rows, change_rows, changes_listed}

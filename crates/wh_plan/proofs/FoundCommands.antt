@@ -16,7 +16,7 @@ use Rattle.wh_rows.specs.declared.rows.CommandRow.{CommandRow}
 use Rattle.wh_rows.specs.Tables.{Tables}
 use Rattle.wh_sql.specs.Asked.{same_text}
 use Rattle.wh_plan.specs.Defined.{AreOf, command_at}
-use Rattle.wh_plan.specs.Kept.{HaveDistinctIds, number_of, command_with}
+use Rattle.wh_plan.specs.Reading.{HaveDistinctIds, number_of, command_with}
 use Rattle.wh_plan.proofs.Listed.{passes_at, values-numbered, len-values, length_numbered}
 use Rattle.wh_plan.proofs.FoundPlaces.{same_text_is, text_itself, at_place-map, at_place_past, at_place_there, behind_one, place_given, place_at, once_is}
 

@@ -30,7 +30,7 @@ use Rattle.wh_history.proofs.Members.{row_of_member_now}
 use Rattle.wh_history.proofs.Once.{among_distinct}
 use Rattle.wh_history.proofs.Lasts.{not_among}
 use Rattle.wh_history.proofs.Owners.{owners_given}
-use Rattle.wh_plan.specs.Kept.{rows_with}
+use Rattle.wh_plan.specs.Reading.{rows_with}
 use Rattle.wh_plan.proofs.FoundRows.{owned, row_with}
 
 -- ---- a member that is mentioned is mentioned by its opening

@@ -13,7 +13,7 @@ use Rattle.wh_policy.specs.declared.attribute.Dim.TheVariants.{Customer}
 use Rattle.wh_policy.specs.declared.record.DimensionRecord.{DimensionRecord}
 use Rattle.wh_history.specs.Accepted.{Accepted, described, types_in, profiles_of}
 use Rattle.wh_history.specs.Keys.{place, at_place}
-use Rattle.wh_history.specs.Profiles.{behind_unknown, profile_number}
+use Rattle.wh_history.specs.Profiles.{after_unknown, profile_number}
 use Rattle.wh_history.specs.Slots.{columns_from, picked, picks, six, texts_eq}
 use Rattle.wh_history.specs.Tables.{Limits}
 use Rattle.wh_history.proofs.Basics.{some_is, both_true, texts_decide}
@@ -25,7 +25,7 @@ use Rattle.wh_rows.specs.Tables.{Tables}
 use Rattle.wh_rows.specs.declared.rows.ProfileRow.{ProfileRow}
 use Rattle.wh_sql.specs.Asked.{same_text, same_slots}
 use Rattle.wh_plan.specs.Defined.{AreOf, profile_at}
-use Rattle.wh_plan.specs.Learned.{number_kept}
+use Rattle.wh_plan.specs.Profiles.{number_kept}
 use Rattle.wh_plan.proofs.FoundPlaces.{same_text_is, text_itself, at_place_there, place_at}
 use Rattle.wh_plan.proofs.GrownProfiles.{profile_keyed, none_past}
 use Rattle.wh_plan.proofs.Listed.{passes_at, none_passes, values-numbered, filter_all, last_numbered}
@@ -176,7 +176,7 @@ module _ (limits : Limits) (commands : List Accepted) (t : Tables) (are : AreOf 
         let once = once_distinct texts_eq texts_decide (map (λ (r : DimensionRecord). picks is_profile (types_in Customer commands) r.values) (described Customer commands)) in
         (s.back, s.number, place_at texts_eq texts_decide (suc s.back) combinations texts once (s.at ∙ ap Some (sym is)))
 
-    kept_by : (n : ℕ) → place texts_eq texts combinations ≡ n → number_kept t.profile texts ≡ behind_unknown n
+    kept_by : (n : ℕ) → place texts_eq texts combinations ≡ n → number_kept t.profile texts ≡ after_unknown n
     kept_by zero none =
         let nothing = none_passes nat_cmp nat_cmp_total nat_cmp-IsAntisymmetric (λ (r : ProfileRow). r.number) keep t.profile (λ k w here passes. let p = placed k w here passes in let never : 0 ≡ suc p.0 = sym none ∙ p.2 in absurd cc) in
         ap (option_map (λ (r : ProfileRow). r.number)) (first_of_both (λ r. nat_le 2 r.number) (λ r. same_slots texts r.values) (values t.profile) ∙ ap first_one nothing)

@@ -17,7 +17,7 @@ use Rattle.wh_history.specs.Tables.{member_rows, numbered_row, dimension_row, di
 use Rattle.wh_history.specs.declared.rows.DimRow.{DimRow}
 use Rattle.wh_history.proofs.Basics.{some_is, find_passes}
 use Rattle.wh_history.proofs.Effective.{came_from}
-use Rattle.wh_plan.specs.Kept.{rows_with}
+use Rattle.wh_plan.specs.Reading.{rows_with}
 use Rattle.wh_plan.proofs.Listed.{kept, values-numbered}
 use Rattle.wh_plan.proofs.FoundPlaces.{at_place_past, same_number_is, number_ties}
 

@@ -16,7 +16,7 @@ use Rattle.wh_history.proofs.Joins.{all_weaker}
 use Rattle.wh_rows.proofs.Orders.{line_cmp_total, line_cmp-IsAntisymmetric}
 use Rattle.wh_rows.specs.Rows as row
 use Rattle.wh_rows.specs.declared.key.LineKey.{LineKey}
-use Rattle.wh_plan.specs.Planned.{with_rows, has_line, AreFacts}
+use Rattle.wh_plan.specs.Edits.{with_rows, has_line, AreFacts}
 use Rattle.wh_plan.specs.Sound.{same_line}
 
 -- ---- the key of a fact

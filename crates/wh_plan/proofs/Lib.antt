@@ -9,6 +9,7 @@ pub mod GrownChanges
 pub mod GrownPlain
 pub mod OneDimension
 pub mod GrownFacts
+pub mod PlanEdits
 pub mod WrittenBatch
 pub mod SmallNumbers
 pub mod MadeAtNumbers
@@ -42,7 +43,6 @@ pub mod PlanRows
 pub mod Learning
 pub mod FoundProfiles
 pub mod PlanProfiles
-pub mod PlanEdits
 pub mod Following
 pub mod ValidFacts
 pub mod EffectiveFacts

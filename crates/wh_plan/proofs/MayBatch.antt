@@ -1,6 +1,6 @@
 -- A batch's edits may be written.
 use Rattle.std.proofs.Common.{◌≡◌, inl, inr, ℕ, suc, ◌-◌, ◌≤◌, true, false, List, [], ◌∷◌, ◌++◌, length, Option, Some, None, refl, sym, ap, subst, ◌∙◌, arith, length-append}
-use Rattle.std.specs.Prelude.{filter_map, take, option_map}
+use Rattle.std.specs.Prelude.{take, option_map}
 use Rattle.std.specs.List.{AllByRecursion, cons_option, range_with_len}
 use Rattle.std.specs.Option.{option_and_then}
 use Rattle.wh_policy.specs.declared.attribute.Dim.{Dim}
@@ -24,7 +24,7 @@ use Rattle.wh_rows.specs.Rows as row
 use Rattle.wh_rows.specs.Tables.{Tables}
 use Rattle.wh_plan.specs.Defined.{command_at, member_at, change_at, profile_at, fact_at, AreOf}
 use Rattle.wh_plan.specs.Laws.{BatchesMayBeWritten}
-use Rattle.wh_plan.specs.Planned.{Edits, rows_of_dimension, AreEdits, behind, new_members}
+use Rattle.wh_plan.specs.Edits.{Edits, rows_of_dimension, AreEdits, behind, new_members}
 use Rattle.wh_plan.specs.Sound.{IsGoodRecord, IsAccepted}
 use Rattle.wh_store.specs.Edits.{IsValid, Puts}
 use Rattle.wh_plan.specs.Writable.{MayBeWritten}
@@ -128,15 +128,10 @@ module _ (limits : Limits) (commands : List Accepted) (c : Accepted) (t : Tables
       let placeholders = is_small (placeholders_by after (length after) c.content) (omega arith) in
       valid_parts made_command number id kind own placeholders
 
-  one_command : edits.command ≡ cons_option (command_at after (length after)) []
-  one_command =
+  valid_command_row : is_command edits.command ≡ true
+  valid_command_row =
       let longer : length after ≡ suc (length commands) = length-append commands (c ∷ []) ∙ omega arith in
-      are.command ∙ ap (filter_map (command_at after)) (one_behind (length commands) (length after) longer)
-
-  valid_commands : AllByRecursion (IsValid row.command) edits.command
-  valid_commands =
-      subst (AllByRecursion (IsValid row.command)) (sym one_command)
-      (all_one (IsValid row.command) (command_at after (length after)) (λ v here. subst (λ (w : CommandRow). is_command w ≡ true) (some_is made_command v (sym own_command ∙ here)) valid_command))
+      subst (λ (w : CommandRow). is_command w ≡ true) (some_is made_command edits.command (sym own_command ∙ ap (command_at after) longer ∙ are.command)) valid_command
 
   -- ---- the members
 
@@ -177,7 +172,7 @@ module _ (limits : Limits) (commands : List Accepted) (c : Accepted) (t : Tables
 
   pub batch_may_be_written : MayBeWritten edits
   batch_may_be_written = record {
-    lists = record { command = valid_commands; members = valid_members; changes = valid_changes; profiles = valid_profiles; facts = valid_facts };
+    lists = record { command = valid_command_row; members = valid_members; changes = valid_changes; profiles = valid_profiles; facts = valid_facts };
     rows = record { products = valid_edits Product; stores = valid_edits Store; customers = valid_edits Customer };
   }
 

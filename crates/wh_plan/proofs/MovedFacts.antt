@@ -25,10 +25,10 @@ use Rattle.wh_rows.specs.declared.key.LineKey.{LineKey}
 use Rattle.wh_sql.specs.Asked.{durable_of}
 use Rattle.wh_plan.specs.Defined.{AreOf, fact_at}
 use Rattle.wh_plan.specs.Laws.{ShowsNoProfile, followed}
-use Rattle.wh_plan.specs.Moved.{moved_for, moves_of_member, moves_of_members, LateRecordsMoveFacts}
-use Rattle.wh_plan.specs.Planned.{has_line}
-use Rattle.wh_plan.specs.Planning.{members_among, naturals_told}
-use Rattle.wh_plan.proofs.Following.{Named, all_named, facts_follow}
+use Rattle.wh_plan.specs.MovedFacts.{moved_for, moves_of_member, moves_of_members, MovedFactsAreExact}
+use Rattle.wh_plan.specs.Edits.{has_line}
+use Rattle.wh_plan.specs.NewRows.{members_among, naturals_told}
+use Rattle.wh_plan.proofs.Following.{Named, all_named, late_records_move_facts}
 use Rattle.wh_plan.proofs.FoundPlaces.{same_number_is, number_itself}
 use Rattle.wh_plan.proofs.GrownChanges.{natural_among}
 use Rattle.wh_plan.proofs.GrownFacts.{own_line, line_is, Once, found_each}
@@ -140,7 +140,7 @@ module _ (limits : Limits) (commands : List Accepted) (c : Accepted) (dim : Dim)
     stored = fact_of commands s
 
     follows : fact_of after s ≡ followed after dim s stored
-    follows = facts_follow commands c dim rs number s is shown there
+    follows = late_records_move_facts commands c dim rs number s is shown there
 
     -- the member that a sale names was given a durable key
     named_given : (natural : List ℕ) → member_of_sale dim s ≡ Some natural → Given natural
@@ -202,8 +202,8 @@ module _ (limits : Limits) (commands : List Accepted) (c : Accepted) (dim : Dim)
   moves_needed : AllByRecursion (λ f. fact_at commands (row.fact.key f) ≢ Some f) moves
   moves_needed = all_weaker (λ f. find (has_line (row.fact.key f)) moves ≡ Some f) (λ f. fact_at commands (row.fact.key f) ≢ Some f) moved_needed moves (found_each moves moves_once)
 
-pub late_records_move_facts : LateRecordsMoveFacts
-late_records_move_facts limits commands c dim rs t is shown are = record {
+pub moved_facts_are_exact : MovedFactsAreExact
+moved_facts_are_exact limits commands c dim rs t is shown are = record {
   lead = moves_lead limits commands c dim rs t is shown are;
   needed = moves_needed limits commands c dim rs t is shown are;
   once = moves_once limits commands c dim rs t is shown are;

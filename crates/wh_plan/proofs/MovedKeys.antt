@@ -10,9 +10,10 @@ use Rattle.wh_policy.specs.declared.attribute.Dim.{Dim}
 use Rattle.wh_policy.specs.declared.attribute.Dim.TheVariants.{Product, Store, Customer}
 use Rattle.wh_policy.specs.declared.record.DimensionRecord.{DimensionRecord}
 use Rattle.wh_policy.specs.declared.record.SaleRecord.{SaleRecord}
-use Rattle.wh_history.specs.Accepted.{Accepted, Describes, same_dim, sold_by, sold, member_of_sale, members, durable_key, member_of, types_in, profiles_of, changes_of, anchors_by}
+use Rattle.wh_history.specs.Accepted.{Accepted, Describes, same_dim, sold_by, sold, member_of_sale, members, durable_key, member_of, types_in, profiles_of, anchors_by}
 use Rattle.wh_history.specs.Dated.{at, dated}
-use Rattle.wh_history.specs.Facts.{key_in, keys_with, same_keys, new_keys, moved_to}
+use Rattle.wh_history.specs.Facts.{key_in, same_keys, new_keys, rekeyed_to}
+use Rattle.wh_history.specs.Shapes.{shape_after, rendered_in}
 use Rattle.wh_history.specs.Keys.{at_place}
 use Rattle.wh_history.specs.Laws.{governs, mentions_member}
 use Rattle.wh_history.specs.Profiles.{current_profile}
@@ -55,7 +56,7 @@ pub same_as_itself : (a : FactKeys) → same_keys a a ≡ true
 same_as_itself a = rw (eq-eqb a.store_key a.store_key refl, eq-eqb a.product_key a.product_key refl, eq-eqb a.customer_key a.customer_key refl, eq-eqb a.profile a.profile refl) refl
 
 -- what moves, and else the fact itself, has the keys
-pub moved_gives : (f : Fact) (keys : FactKeys) → option_or (moved_to f keys) (Some f) ≡ Some (with_keys f keys)
+pub moved_gives : (f : Fact) (keys : FactKeys) → option_or (rekeyed_to f keys) (Some f) ≡ Some (with_keys f keys)
 moved_gives f keys =
     elim (same_keys keys f.keys) as (λ b. (same_keys keys f.keys ≡ b) → option_or (cond b None (Some (with_keys f keys))) (Some f) ≡ Some (with_keys f keys)) [
       | true ↦ λ same. ap (λ k. Some (with_keys f k)) (sym (same_keys_are keys f.keys same))
@@ -63,7 +64,7 @@ moved_gives f keys =
     ] refl
 
 -- what moved has the keys
-pub moved_has : (f g : Fact) (keys : FactKeys) → moved_to f keys ≡ Some g → with_keys f keys ≡ g
+pub moved_has : (f g : Fact) (keys : FactKeys) → rekeyed_to f keys ≡ Some g → with_keys f keys ≡ g
 moved_has f g keys h =
     elim (same_keys keys f.keys) as (λ b. cond b None (Some (with_keys f keys)) ≡ Some g → with_keys f keys ≡ g) [
       | true ↦ λ none. absurd cc
@@ -71,7 +72,7 @@ moved_has f g keys h =
     ] h
 
 -- and no fact moves to where it is
-pub moved_is_other : (f : Fact) (keys : FactKeys) → moved_to f keys ≡ Some f → ⊥
+pub moved_is_other : (f : Fact) (keys : FactKeys) → rekeyed_to f keys ≡ Some f → ⊥
 moved_is_other f keys h =
     elim (same_keys keys f.keys) as (λ b. (same_keys keys f.keys ≡ b) → cond b None (Some (with_keys f keys)) ≡ Some f → ⊥) [
       | true ↦ λ _ none. absurd cc
@@ -84,7 +85,7 @@ moved_is_other f keys h =
 -- ---- the keys by a member's rows
 
 abbrev pub keys_for : List Accepted → Dim → List ℕ → Fact → FactKeys
-keys_for commands dim natural f = new_keys (types_in dim commands) (profiles_of commands) dim (member_rows commands dim natural) (dated (changes_of dim commands natural)) f
+keys_for commands dim natural f = new_keys (shape_after dim commands) (rendered_in (shape_after dim commands) (member_of dim commands natural)) f
 
 -- a fact has the keys by its own members' rows
 pub own_keys : (dim : Dim) (commands : List Accepted) (s : SaleRecord) (natural : List ℕ) → member_of_sale dim s ≡ Some natural → keys_for commands dim natural (fact_of commands s) ≡ (fact_of commands s).keys
@@ -111,11 +112,11 @@ module _ (commands : List Accepted) (c : Accepted) (rs : List DimensionRecord) w
 
   -- a member that the batch does not mention gives a fact the keys that it gave
   pub keys_kept : (dim : Dim) → c.content ≡ Describes dim rs → (natural : List ℕ) → mentions_member dim c natural ≡ false → (f : Fact) → keys_for after dim natural f ≡ keys_for commands dim natural f
-  keys_kept Product is natural other f = ap (λ (found : List DimRow). keys_with Product (key_in found f.day) 0 f.keys) (plain_rows_kept Product is natural other refl)
-  keys_kept Store is natural other f = ap (λ (found : List DimRow). keys_with Store (key_in found f.day) 0 f.keys) (plain_rows_kept Store is natural other refl)
+  keys_kept Product is natural other f = ap (λ (found : List DimRow). record f.keys { product_key = key_in found f.day }) (plain_rows_kept Product is natural other refl)
+  keys_kept Store is natural other f = ap (λ (found : List DimRow). record f.keys { store_key = key_in found f.day }) (plain_rows_kept Store is natural other refl)
   keys_kept Customer is natural other f =
-      ap (λ (found : List DimRow). keys_with Customer (key_in found f.day) (profile_at after f.day natural) f.keys) (customer_rows_stay commands c (ap governs is) natural other)
-      ∙ ap (λ number. keys_with Customer (key_in (member_rows commands Customer natural) f.day) number f.keys) (profile_kept is natural other f.day)
+      ap (λ (found : List DimRow). record f.keys { customer_key = key_in found f.day; profile = profile_at after f.day natural }) (customer_rows_stay commands c (ap governs is) natural other)
+      ∙ ap (λ number. record f.keys { customer_key = key_in (member_rows commands Customer natural) f.day; profile = number }) (profile_kept is natural other f.day)
 
   module _ (dim : Dim) (is : c.content ≡ Describes dim rs) where
     pub sold_same : sold after ≡ sold commands

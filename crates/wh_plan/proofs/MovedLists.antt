@@ -1,6 +1,6 @@
 -- The rows of a list that pass a test, behind steps that keep whether they do.
 use Rattle.std.proofs.Common.{◌≡◌, ℕ, suc, ◌+◌, ◌<◌, length, drop, get_or, arith, append_assoc, drop-cons, Bool, true, false, not, cond, ◌||◌, ◌&&◌, ◌≤◌, List, [], ◌∷◌, ◌++◌, map, Option, Some, None, refl, sym, ◌∙◌, ap, subst, append-nil}
-use Rattle.std.specs.Prelude.{find, filter, filter_map, flat_map, is_some}
+use Rattle.std.specs.Prelude.{find, filter, filter_map, flat_map, is_some, zip}
 use Rattle.std.specs.Bool.{Decides}
 use Rattle.std.specs.List.{list_any, AllByRecursion, IsDistinct, cons_option}
 use Rattle.std.specs.Option.{option_and_then, option_to_list}
@@ -8,7 +8,6 @@ use Rattle.std.proofs.lemmas.List.{drop_all}
 use Rattle.std.proofs.lemmas.List.Elements.{filter-append}
 use Rattle.wh_history.proofs.Basics.{or_none}
 use Rattle.wh_history.proofs.Once.{IsOnce}
-use Rattle.wh_plan.specs.Moved.{flat_pairs}
 
 -- ---- one or none
 
@@ -181,35 +180,39 @@ found_further f found more now all xs i x made within stands is so_far =
     ∙ ap (λ ys. found ++ flat_map f ys) (sym next)
     ∙ so_far
 
--- ---- and a loop over two lists
+-- ---- and two lists side by side
 
-pub pairs_through : {N X Y Z : Type 0} (f : X → Y → List Z) (g : N → X) (h : N → Y) (ns : List N) → flat_pairs f (map g ns) (map h ns) ≡ flat_map (λ n. f (g n) (h n)) ns
+pub pairs_through : {N X Y Z : Type 0} (f : X × Y → List Z) (g : N → X) (h : N → Y) (ns : List N) → flat_map f (zip (map g ns) (map h ns)) ≡ flat_map (λ n. f (g n, h n)) ns
 pairs_through f g h [] = refl
-pairs_through f g h (n ∷ ns) = ap (λ zs. f (g n) (h n) ++ zs) (pairs_through f g h ns)
+pairs_through f g h (n ∷ ns) = ap (λ zs. f (g n, h n) ++ zs) (pairs_through f g h ns)
 
 next_left : {X : Type 0} (xs : List X) (i : ℕ) (x : X) → i < length xs → x ≡ get_or xs i x → drop i xs ≡ x ∷ drop (i + 1) xs
 next_left xs i x within stands =
     let further : suc i ≡ i + 1 = omega arith in
     drop-cons xs i x within ∙ ap (λ y. y ∷ drop (suc i) xs) (sym stands) ∙ ap (λ k. x ∷ drop k xs) further
 
-pub pairs_further : {X Y Z : Type 0} (f : X → Y → List Z) (found more now all : List Z) (xs : List X) (ys : List Y) (i : ℕ) (x : X) (y : Y) → now ≡ found ++ more
-    → i < length xs → x ≡ get_or xs i x → i < length ys → y ≡ get_or ys i y → more ≡ f x y
-    → found ++ flat_pairs f (drop i xs) (drop i ys) ≡ all → now ++ flat_pairs f (drop (i + 1) xs) (drop (i + 1) ys) ≡ all
-pairs_further f found more now all xs ys i x y made x_within x_stands y_within y_stands is so_far =
-    let rest = flat_pairs f (drop (i + 1) xs) (drop (i + 1) ys) in
-    ap (λ zs. zs ++ rest) made
-    ∙ append_assoc found more rest
-    ∙ ap (λ zs. found ++ (zs ++ rest)) is
-    ∙ ap (λ us. found ++ flat_pairs f us (y ∷ drop (i + 1) ys)) (sym (next_left xs i x x_within x_stands))
-    ∙ ap (λ us. found ++ flat_pairs f (drop i xs) us) (sym (next_left ys i y y_within y_stands))
+pub pairs_further : {X Y : Type 0} (made now : List (X × Y)) (all : List (X × Y)) (xs : List X) (ys : List Y) (i : ℕ) (x : X) (y : Y) → now ≡ made ++ (x, y) ∷ []
+    → i < length xs → x ≡ get_or xs i x → i < length ys → y ≡ get_or ys i y
+    → made ++ zip (drop i xs) (drop i ys) ≡ all → now ++ zip (drop (i + 1) xs) (drop (i + 1) ys) ≡ all
+pairs_further made now all xs ys i x y is x_within x_stands y_within y_stands so_far =
+    let rest = zip (drop (i + 1) xs) (drop (i + 1) ys) in
+    ap (λ zs. zs ++ rest) is
+    ∙ append_assoc made ((x, y) ∷ []) rest
+    ∙ ap (λ us. made ++ zip us (y ∷ drop (i + 1) ys)) (sym (next_left xs i x x_within x_stands))
+    ∙ ap (λ us. made ++ zip (drop i xs) us) (sym (next_left ys i y y_within y_stands))
     ∙ so_far
 
-pub pairs_none_left : {X Y Z : Type 0} (f : X → Y → List Z) (xs : List X) (ys : List Y) (i : ℕ) → length xs ≤ i → flat_pairs f (drop i xs) (drop i ys) ≡ []
-pairs_none_left f xs ys i past = ap (λ us. flat_pairs f us (drop i ys)) (drop_all i xs past)
+none_left_of : {X Y : Type 0} (xs : List X) (ys : List Y) (i : ℕ) → length xs ≤ i → zip (drop i xs) ys ≡ []
+none_left_of xs ys i past = ap (λ us. zip us ys) (drop_all i xs past)
 
-no_right : {X Y Z : Type 0} (f : X → Y → List Z) (xs : List X) → flat_pairs f xs [] ≡ []
-no_right f [] = refl
-no_right f (x ∷ xs) = refl
+no_right : {X Y : Type 0} (xs : List X) → zip {X = Y} xs [] ≡ []
+no_right [] = refl
+no_right (x ∷ xs) = refl
 
-pub pairs_none_right : {X Y Z : Type 0} (f : X → Y → List Z) (xs : List X) (ys : List Y) (i : ℕ) → length ys ≤ i → flat_pairs f (drop i xs) (drop i ys) ≡ []
-pairs_none_right f xs ys i past = ap (flat_pairs f (drop i xs)) (drop_all i ys past) ∙ no_right f (drop i xs)
+pub pairs_none_left : {X Y : Type 0} (made all : List (X × Y)) (xs : List X) (ys : List Y) (i : ℕ) → length xs ≤ i → made ++ zip (drop i xs) (drop i ys) ≡ all → made ++ zip (drop (i + 1) xs) (drop (i + 1) ys) ≡ all
+pairs_none_left made all xs ys i past so_far =
+    ap (λ zs. made ++ zs) (none_left_of xs (drop (i + 1) ys) (i + 1) (omega arith) ∙ sym (none_left_of xs (drop i ys) i past)) ∙ so_far
+
+pub pairs_all : {X Y : Type 0} (made all : List (X × Y)) (xs : List X) (ys : List Y) (i : ℕ) → length ys ≤ i → made ++ zip (drop i xs) (drop i ys) ≡ all → made ≡ all
+pairs_all made all xs ys i past so_far =
+    sym (append-nil made) ∙ sym (ap (λ zs. made ++ zs) (ap (zip (drop i xs)) (drop_all i ys past) ∙ no_right (drop i xs))) ∙ so_far

@@ -19,9 +19,10 @@ use Rattle.wh_policy.specs.declared.record.DimensionRecord.{DimensionRecord}
 use Rattle.wh_policy.specs.declared.record.SaleRecord.{SaleRecord}
 use Rattle.wh_history.specs.Accepted.{Accepted, Content, Describes, described, described_by, sold, member_of_sale, members, durable_key, surrogate_key, opening_of, member_of, types_in, profiles_of, change_of, changes_of}
 use Rattle.wh_history.specs.Dated.{at, dated}
-use Rattle.wh_history.specs.Facts.{key_in, keys_with, moved_to}
+use Rattle.wh_history.specs.Facts.{key_in, rekeyed_to}
+use Rattle.wh_history.specs.Shapes.{shape_after}
 use Rattle.wh_history.specs.Laws.{ChangesHaveDays, governs}
-use Rattle.wh_history.specs.Profiles.{current_profile, profile_now, profile_number}
+use Rattle.wh_history.specs.Profiles.{current_profile, profile_now}
 use Rattle.wh_history.specs.Rows.{rows}
 use Rattle.wh_history.specs.Tables.{Limits, fact_of, key_at, profile_at}
 use Rattle.wh_history.specs.declared.facts.Fact.{Fact}
@@ -42,7 +43,7 @@ use Rattle.wh_rows.specs.Tables.{Tables}
 use Rattle.wh_rows.specs.declared.key.LineKey.{LineKey}
 use Rattle.wh_sql.specs.Asked.{durable_of}
 use Rattle.wh_plan.specs.Defined.{AreOf, fact_at}
-use Rattle.wh_plan.specs.Moved.{moved_for, moves_by, earliest, moves_since, facts_with, facts_since}
+use Rattle.wh_plan.specs.MovedFacts.{moved_for, rekeyed_facts, earliest, moves_since, facts_with, facts_since}
 use Rattle.wh_plan.specs.Sound.{IsGoodSale, IsAccepted}
 use Rattle.wh_plan.proofs.FoundPlaces.{same_number_is}
 use Rattle.wh_plan.proofs.GrownMembers.{opening_given}
@@ -137,11 +138,11 @@ module _ (limits : Limits) (commands : List Accepted) (c : Accepted) (rs : List 
   -- a fact of an earlier day gets the keys that it would have had
   keys_early : (dim : Dim) (is : c.content ≡ Describes dim rs) (natural : List ℕ) (given : 0 < durable_key dim commands natural) → list_any (λ (d : Change). nat_lt d.day (first dim is natural)) (changes_of dim commands natural) ≡ true
       → (f : Fact) → is_day f.day ≡ true → f.day < first dim is natural → keys_for after dim natural f ≡ keys_for commands dim natural f
-  keys_early Product is natural given earlier f within less = ap (λ key. keys_with Product key 0 f.keys) (key_same Product is natural given earlier f.day less within)
-  keys_early Store is natural given earlier f within less = ap (λ key. keys_with Store key 0 f.keys) (key_same Store is natural given earlier f.day less within)
+  keys_early Product is natural given earlier f within less = ap (λ key. record f.keys { product_key = key }) (key_same Product is natural given earlier f.day less within)
+  keys_early Store is natural given earlier f within less = ap (λ key. record f.keys { store_key = key }) (key_same Store is natural given earlier f.day less within)
   keys_early Customer is natural given earlier f within less =
-      ap (λ key. keys_with Customer key (profile_at after f.day natural) f.keys) (key_same Customer is natural given earlier f.day less within)
-      ∙ ap (λ number. keys_with Customer (key_at commands Customer f.day natural) number f.keys) (profile_same is natural given earlier f.day less)
+      ap (λ key. record f.keys { customer_key = key; profile = profile_at after f.day natural }) (key_same Customer is natural given earlier f.day less within)
+      ∙ ap (λ number. record f.keys { customer_key = key_at commands Customer f.day natural; profile = number }) (profile_same is natural given earlier f.day less)
 
   module _ (dim : Dim) (is : c.content ≡ Describes dim rs) (t : Tables) (are : AreOf limits commands t) where
     good_sales : AllByRecursion IsGoodSale (sold commands)
@@ -176,7 +177,7 @@ module _ (limits : Limits) (commands : List Accepted) (c : Accepted) (rs : List 
           let its : member_of_sale dim s ≡ Some natural = owner_is dim commands s natural given (durable ∙ ap (durable_of dim) (sym sale.1)) in
           let keys : keys_for commands dim natural f ≡ f.keys = subst (λ (g : Fact). keys_for commands dim natural g ≡ g.keys) sale.1 (own_keys dim commands s natural its) in
           let within : is_day f.day ≡ true = subst (λ (g : Fact). is_day g.day ≡ true) sale.1 sale.2 in
-          ap (moved_to f) (keys_since f within before ∙ keys) ∙ ap (λ b. cond b None (Some f)) (same_as_itself f.keys)
+          ap (rekeyed_to f) (keys_since f within before ∙ keys) ∙ ap (λ b. cond b None (Some f)) (same_as_itself f.keys)
 
       abbrev own : Fact → Bool
       own f = eq_by_cmp nat_cmp (durable_key dim after natural) (durable_of dim f)
@@ -197,7 +198,7 @@ module _ (limits : Limits) (commands : List Accepted) (c : Accepted) (rs : List 
           cc
 
       -- so of its facts only those since it are asked for
-      pub moves_since_are_all : moves_by (types_in dim after) (profile_number (profiles_of after)) dim (member_of dim after natural) (facts_since t.fact dim (durable_key dim after natural) since)
-          ≡ moves_by (types_in dim after) (profile_number (profiles_of after)) dim (member_of dim after natural) (facts_with t.fact dim (durable_key dim after natural))
+      pub moves_since_are_all : rekeyed_facts (shape_after dim after) (member_of dim after natural) (facts_since t.fact dim (durable_key dim after natural) since)
+          ≡ rekeyed_facts (shape_after dim after) (member_of dim after natural) (facts_with t.fact dim (durable_key dim after natural))
       moves_since_are_all = idle_left_out own is_since (moved_for after dim natural) (values t.fact)
           (none_left moves_early (values t.fact) (none_passes row.line_cmp line_cmp_total line_cmp-IsAntisymmetric row.fact.key moves_early t.fact none_early))

@@ -17,7 +17,7 @@ use Rattle.wh_history.proofs.Basics.{some_is}
 use Rattle.wh_rows.specs.declared.key.MemberKey.{MemberKey}
 use Rattle.wh_plan.specs.Defined.{member_at}
 use Rattle.wh_plan.specs.Laws.{ShowsNoProfile}
-use Rattle.wh_plan.specs.Planned.{Edits, rows_of_dimension, in_dimension, behind, members_behind, new_members}
+use Rattle.wh_plan.specs.Edits.{Edits, rows_of_dimension, in_dimension, behind, members_behind, new_members}
 use Rattle.wh_plan.proofs.GrownOthers.{same_dim_is, mentions_stay, table_stays, plain_table_stays}
 use Rattle.wh_plan.proofs.GrownPlain.{sound_policies_show_none}
 

@@ -1,5 +1,5 @@
 -- The natural keys that records name, one record after the other.
-use Rattle.std.proofs.Common.{◌≡◌, ℕ, ◌+◌, ◌<◌, Bool, true, false, cond, not, List, [], ◌∷◌, ◌++◌, length, take, get_or, refl, sym, ◌∙◌, ap, arith, append-nil}
+use Rattle.std.proofs.Common.{◌≡◌, ℕ, ◌+◌, ◌<◌, Bool, true, false, cond, List, [], ◌∷◌, ◌++◌, length, take, get_or, refl, sym, ◌∙◌, ap, arith, append-nil}
 use Rattle.std.specs.Prelude.{bytes_eq}
 use Rattle.std.specs.Bool.{Decides}
 use Rattle.std.specs.List.{list_any}
@@ -11,7 +11,7 @@ use Rattle.wh_history.specs.Keys.{distinct}
 use Rattle.wh_history.proofs.Lasts.{fresh_one}
 use Rattle.wh_history.proofs.Numbers.{distinct-append}
 use Rattle.wh_history.proofs.Once.{among_distinct}
-use Rattle.wh_plan.specs.Planning.{naturals_told}
+use Rattle.wh_plan.specs.NewRows.{naturals_told}
 use Rattle.wh_plan.proofs.PlanningMembers.{naturals}
 
 pub distinct_last : {X : Type 0} (same : X → X → Bool) (decides : (x y : X) → Decides (same x y) (x ≡ y)) (x : X) (xs : List X)
@@ -52,37 +52,3 @@ told_more rs i r ns within is so_far =
     ∙ ap (λ ms. cond (list_any (λ m. bytes_eq m r.natural) before) ms (ms ++ r.natural ∷ [])) so_far
     ∙ sym (distinct_last bytes_eq bytes_eq-Decides r.natural before)
     ∙ ap (distinct bytes_eq) (sym (ap naturals (next_taken rs i r within is) ∙ map-append (λ (q : DimensionRecord). q.natural) (take i rs) (r ∷ [])))
-
-not_true : (b : Bool) → not b ≡ true → b ≡ false
-not_true true h = cc
-not_true false h = refl
-
-not_false : (b : Bool) → not b ≡ false → b ≡ true
-not_false true h = refl
-not_false false h = cc
-
--- the set of keys and the list of names grow alike
-module _ (rs : List DimensionRecord) (i : ℕ) (r : DimensionRecord) (keys ns : List (List ℕ)) (within : i < length rs) (is : r ≡ get_or rs i r) (same : keys ≡ ns) (so_far : ns ≡ naturals_told (take i rs))
-    (key : List ℕ) (key_is : key ≡ r.natural) (is_new : Bool) (added : is_new ≡ not (list_any (bytes_eq key) keys)) where
-  abbrev there : Bool
-  there = list_any (bytes_eq r.natural) ns
-
-  test : list_any (bytes_eq key) keys ≡ there
-  test = ap (λ k. list_any (bytes_eq k) keys) key_is ∙ ap (list_any (bytes_eq r.natural)) same
-
-  pub keys_more : (new : List (List ℕ)) → new ≡ cond (list_any (bytes_eq key) keys) keys (keys ++ key ∷ []) → new ≡ naturals_told (take (i + 1) rs)
-  keys_more new made =
-      made ∙ ap (λ b. cond b keys (keys ++ key ∷ [])) test
-      ∙ ap (λ ks. cond there ks (ks ++ key ∷ [])) same
-      ∙ ap (λ k. cond there ns (ns ++ k ∷ [])) key_is
-      ∙ told_more rs i r ns within is so_far
-
-  pub names_more : (new : List (List ℕ)) → is_new ≡ true → new ≡ ns ++ r.natural ∷ [] → new ≡ naturals_told (take (i + 1) rs)
-  names_more new yes_new made =
-      let missing : there ≡ false = not_true there (sym (ap not test) ∙ sym added ∙ yes_new) in
-      made ∙ sym (ap (λ b. cond b ns (ns ++ r.natural ∷ [])) missing) ∙ told_more rs i r ns within is so_far
-
-  pub names_stay : is_new ≡ false → ns ≡ naturals_told (take (i + 1) rs)
-  names_stay not_new =
-      let found : there ≡ true = not_false there (sym (ap not test) ∙ sym added ∙ not_new) in
-      sym (ap (λ b. cond b ns (ns ++ r.natural ∷ [])) found) ∙ told_more rs i r ns within is so_far

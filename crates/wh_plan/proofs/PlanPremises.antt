@@ -12,7 +12,7 @@ use Rattle.wh_history.specs.Tables.{Limits}
 use Rattle.wh_history.proofs.Growth.{anchors-append, members-append}
 use Rattle.wh_history.proofs.Joins.{all_weaker}
 use Rattle.wh_history.proofs.Untouched.{described-last}
-use Rattle.wh_plan.specs.Kept.{HaveNoEmptyValue}
+use Rattle.wh_plan.specs.Reading.{HaveNoEmptyValue}
 use Rattle.wh_plan.specs.Sound.{IsGivenValue, IsGoodRecord, IsAccepted}
 use Rattle.wh_plan.proofs.SmallNumbers.{anchors_few, members_few}
 

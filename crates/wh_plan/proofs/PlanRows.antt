@@ -1,5 +1,5 @@
 -- The rows of the members that a batch touches, as they are read, and the edits between them and those behind it.
-use Rattle.std.proofs.Common.{◌≡◌, ℕ, zero, suc, ◌+◌, ◌<◌, ◌==◌, Bool, true, false, cond, nat_lt, List, [], ◌∷◌, ◌++◌, length, map, drop, get_or, Option, Some, None, refl, sym, ◌∙◌, ap, arith, append-nil}
+use Rattle.std.proofs.Common.{◌≡◌, ℕ, zero, suc, ◌+◌, ◌<◌, ◌==◌, Bool, true, false, cond, nat_lt, List, [], ◌∷◌, ◌++◌, length, map, drop, get_or, Option, None, refl, sym, ◌∙◌, ap, arith, append-nil}
 use Rattle.std.specs.Prelude.{◌≢◌, flat_map, option_map, unwrap_or}
 use Rattle.std.specs.List.{list_any, AllByRecursion}
 use Rattle.std.specs.Option.{option_or}
@@ -8,12 +8,12 @@ use Rattle.std.proofs.lemmas.List.{append_assoc}
 use Rattle.std.proofs.lemmas.List.Folds.{find-append}
 use Rattle.wh_policy.specs.Policy.{types_of}
 use Rattle.wh_policy.specs.Types.{is_outrigger}
-use Rattle.wh_policy.specs.Written.{IsSound}
+use Rattle.wh_policy.specs.declared.attribute.AttributeType.{AttributeType}
 use Rattle.wh_policy.specs.declared.attribute.Dim.{Dim}
 use Rattle.wh_policy.specs.declared.attribute.Dim.TheVariants.{Customer}
 use Rattle.wh_policy.specs.declared.policy.Policy.{Policy}
 use Rattle.wh_policy.specs.declared.record.DimensionRecord.{DimensionRecord}
-use Rattle.wh_history.specs.Accepted.{Accepted, Describes, policy_after, durable_key, profiles_of}
+use Rattle.wh_history.specs.Accepted.{Accepted, Describes, types_in, durable_key, profiles_of}
 use Rattle.wh_history.specs.Laws.{RecordsHaveDays, governs}
 use Rattle.wh_history.specs.Plan.{IsPlan, row_of}
 use Rattle.wh_history.specs.Known.{KnowsEnough}
@@ -25,7 +25,8 @@ use Rattle.wh_history.specs.declared.plan.Edit.{Edit}
 use Rattle.wh_history.specs.declared.rows.DimRow.{DimRow}
 use Rattle.wh_history.proofs.Stays.{policy_last}
 use Rattle.wh_plan.specs.Laws.{ShowsNoProfile}
-use Rattle.wh_plan.specs.Planning.{naturals_told, rows_of_members, members_among}
+use Rattle.wh_plan.specs.NewRows.{naturals_told, rows_of_members, members_among}
+use Rattle.wh_plan.specs.Sound.{AreTypes}
 use Rattle.wh_plan.proofs.GrownPlain.{none_of}
 use Rattle.wh_plan.proofs.PlanningOwners.{touched_rows_before, touched_rows_after}
 use Rattle.wh_plan.proofs.PlanningRendered.{rendered_planned}
@@ -84,8 +85,8 @@ flat_map_same f g same (x ∷ xs) = ap (λ ys. ys ++ flat_map f xs) (same x) ∙
 
 -- ---- the edits
 
-module _ (commands : List Accepted) (c : Accepted) (dim : Dim) (records : List DimensionRecord) (policy : Policy)
-    (is : c.content ≡ Describes dim records) (governed : policy_after None commands ≡ Some policy) (sound : IsSound policy) where
+module _ (commands : List Accepted) (c : Accepted) (dim : Dim) (records : List DimensionRecord) (kinds : List AttributeType)
+    (is : c.content ≡ Describes dim records) (typed : AreTypes commands dim kinds) where
   abbrev after : List Accepted
   after = commands ++ c ∷ []
 
@@ -94,15 +95,18 @@ module _ (commands : List Accepted) (c : Accepted) (dim : Dim) (records : List D
 
   -- products and stores show none
   shows_none : dim ≢ Customer → ShowsNoProfile commands dim
-  shows_none other = ap (λ (o : Option Policy). list_any is_outrigger (unwrap_or (option_map (λ (p : Policy). types_of p dim) o) [])) governed ∙ none_of dim policy sound other
+  shows_none other = ap (λ (o : Option Policy). list_any is_outrigger (unwrap_or (option_map (λ (p : Policy). types_of p dim) o) [])) typed.governed ∙ none_of dim typed.policy typed.sound other
+
+  types_after : types_in dim after ≡ kinds
+  types_after = ap (λ (o : Option Policy). unwrap_or (option_map (λ (p : Policy). types_of p dim) o) []) (policy_last None commands c batch ∙ typed.governed) ∙ sym typed.are
 
   pub rows_planned : (number : List (List ℕ) → Option ℕ) (touched : List Member) (stored new : List DimRow) (edits : List (Edit DimRow ℕ)) → RecordsHaveDays commands → RecordsHaveDays after → touched ≡ (touched_by dim commands after records).list
       → ((key : ℕ) → row_of key stored ≡ row_of key (Left dim commands (naturals_told records)))
-      → new ≡ flat_map (rows_by (types_of policy dim) number) touched → AllByRecursion (KnowsEnough dim (types_of policy dim) number (profiles_of after)) touched
+      → new ≡ flat_map (rows_by kinds number) touched → AllByRecursion (KnowsEnough dim kinds number (profiles_of after)) touched
       → IsPlan (λ (r : DimRow). r.surrogate) (λ key. row_of key stored) (λ key. row_of key new) edits
       → IsPlan (λ (r : DimRow). r.surrogate) (dimension_row commands dim) (dimension_row after dim) edits
   rows_planned number touched stored new edits days days_after list stored_is new_is enough plan =
-      let rendered = rendered_planned dim policy number touched new new_is commands after records list (policy_last None commands c batch ∙ governed) enough in
+      let rendered = rendered_planned dim kinds number touched new new_is commands after records list types_after enough in
       touched_rows_are_the_plan commands c dim records stored new edits is shows_none
       (λ key. stored_is key ∙ touched_rows_before commands c dim records key is days)
       (λ key. ap (row_of key) rendered ∙ touched_rows_after commands c dim records key is days_after)

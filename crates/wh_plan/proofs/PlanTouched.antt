@@ -11,7 +11,7 @@ use Rattle.wh_history.specs.declared.member.Member.{Member}
 use Rattle.wh_history.proofs.Basics.{find_passes}
 use Rattle.wh_history.proofs.Batches.{touched_is}
 use Rattle.wh_history.proofs.Once.{among_distinct}
-use Rattle.wh_plan.specs.Planning.{named, naturals_told}
+use Rattle.wh_plan.specs.NewRows.{named, naturals_told}
 use Rattle.wh_plan.proofs.PlanningChanges.{found_there}
 use Rattle.wh_plan.proofs.PlanningMembers.{Among, all_among, naturals}
 

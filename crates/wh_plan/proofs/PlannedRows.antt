@@ -9,7 +9,7 @@ use Rattle.wh_history.specs.Plan.{Needs, edited, Above, Ascends, IsPlan}
 use Rattle.wh_history.specs.declared.plan.Edit.{Edit}
 use Rattle.wh_history.specs.declared.plan.Edit.TheVariants.{Put, Remove}
 use Rattle.wh_rows.specs.Holds.{Layout}
-use Rattle.wh_plan.specs.Planned.{with_edits}
+use Rattle.wh_plan.specs.Edits.{with_edits}
 
 module _ {Row : Type 0} (layout : Layout ℕ Row) (total : IsTotalOrder layout.order) (tied : (x y : ℕ) → eq_by_cmp layout.order x y ≡ (x == y)) where
   abbrev Table : Type 0

@@ -1,6 +1,6 @@
 -- The records of a batch, by the members that it touches.
 use Rattle.std.proofs.Common.{◌≡◌, ℕ, suc, ◌+◌, ◌<◌, Bool, true, false, cond, ◌||◌, List, [], ◌∷◌, ◌++◌, length, map, drop, get_or, Bor, Option, Some, None, refl, sym, ◌∙◌, ap, arith}
-use Rattle.std.specs.Prelude.{filter_map, bytes_eq, option_map}
+use Rattle.std.specs.Prelude.{filter_map, find, bytes_eq, option_map}
 use Rattle.std.specs.List.{list_any, AllByRecursion, cons_option}
 use Rattle.std.specs.Option.{option_and_then, option_copied}
 use Rattle.std.proofs.lemmas.List.{append_assoc, at_drop_more}
@@ -19,8 +19,8 @@ use Rattle.wh_history.proofs.Once.{among_distinct}
 use Rattle.wh_history.proofs.Records.{anchor_is}
 use Rattle.wh_rows.specs.declared.rows.ChangeRow.{ChangeRow}
 use Rattle.wh_plan.specs.Defined.{change_at}
-use Rattle.wh_plan.specs.Planned.{behind}
-use Rattle.wh_plan.specs.Planning.{by_place, row_of_record, named, new_change}
+use Rattle.wh_plan.specs.Edits.{behind}
+use Rattle.wh_plan.specs.NewRows.{by_place, row_of_record, named, new_change}
 use Rattle.wh_plan.proofs.GrownKeys.{at_last}
 use Rattle.wh_plan.proofs.PlanningMembers.{Among, all_among, naturals, twice}
 use Rattle.wh_plan.proofs.PlanningPlaces.{filter_map_same, by_place_same, behind_gives}
@@ -32,16 +32,16 @@ copied_or : {X : Type 0} (b : Bool) (x : Bor X) (o : Option (Bor X)) → option_
 copied_or true x o = refl
 copied_or false x o = refl
 
-pub named_more : (members : List Member) (i : ℕ) (d : Member) (text natural : List ℕ) (member : Bor Member) (o : Option (Bor Member)) → i < length members
-    → text ≡ (get_or members i d).natural → member.now ≡ get_or members i d → option_copied o ≡ named (drop (i + 1) members) natural
-    → option_copied (cond (bytes_eq text natural) (Some member) o) ≡ named (drop i members) natural
-named_more members i d text natural member o within text_is member_is old =
-    let m = get_or members i d in
-    copied_or (bytes_eq text natural) member o
-    ∙ ap (λ n. cond (bytes_eq n natural) (Some member.now) (option_copied o)) text_is
-    ∙ ap (λ (x : Member). cond (bytes_eq m.natural natural) (Some x) (option_copied o)) member_is
-    ∙ ap (λ q. cond (bytes_eq m.natural natural) (Some m) q) old
-    ∙ sym (at_drop_more (λ (ms : List Member). named ms natural) members i d within)
+pub named_more : {X : Type 0} (name : X → List ℕ) (xs : List X) (i : ℕ) (d : X) (text natural : List ℕ) (one : Bor X) (o : Option (Bor X)) → i < length xs
+    → text ≡ name (get_or xs i d) → one.now ≡ get_or xs i d → option_copied o ≡ find (λ x. bytes_eq (name x) natural) (drop (i + 1) xs)
+    → option_copied (cond (bytes_eq text natural) (Some one) o) ≡ find (λ x. bytes_eq (name x) natural) (drop i xs)
+named_more {X} name xs i d text natural one o within text_is one_is old =
+    let first = get_or xs i d in
+    copied_or (bytes_eq text natural) one o
+    ∙ ap (λ n. cond (bytes_eq n natural) (Some one.now) (option_copied o)) text_is
+    ∙ ap (λ x. cond (bytes_eq (name first) natural) (Some x) (option_copied o)) one_is
+    ∙ ap (λ q. cond (bytes_eq (name first) natural) (Some first) q) old
+    ∙ sym (at_drop_more (λ (ys : List X). find (λ x. bytes_eq (name x) natural) ys) xs i d within)
 
 -- one record more, whose row is there or not
 module _ {X Y : Type 0} (give : ℕ → X → Option Y) (rows all : List Y) (i : ℕ) (xs : List X) (x : X) (within : i < length xs) (is : x ≡ get_or xs i x) (so_far : rows ++ by_place give (suc i) (drop i xs) ≡ all) where

@@ -27,7 +27,7 @@ use Rattle.wh_history.proofs.Once.{among_distinct}
 use Rattle.wh_history.proofs.Owners.{owners_given}
 use Rattle.wh_history.proofs.Stays.{types-last}
 use Rattle.wh_plan.specs.Laws.{ShowsNoProfile, TouchedRowsAreThePlan}
-use Rattle.wh_plan.specs.Planning.{of_members, durables_touched, naturals_told}
+use Rattle.wh_plan.specs.NewRows.{of_members, durables_touched, naturals_told}
 use Rattle.wh_plan.proofs.GrownKeys.{all_at}
 use Rattle.wh_plan.proofs.GrownUntouched.{found_at, untouched_member_keeps}
 use Rattle.wh_plan.proofs.PlanningMembers.{Among}

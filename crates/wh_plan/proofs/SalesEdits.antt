@@ -19,11 +19,10 @@ use Rattle.wh_rows.specs.declared.rows.CommandRow.{CommandRow}
 use Rattle.wh_rows.specs.declared.rows.MemberRow.{MemberRow}
 use Rattle.wh_plan.specs.Defined.{command_at, member_at, change_at, profile_at, fact_at}
 use Rattle.wh_plan.specs.Sound.{same_line}
-use Rattle.wh_plan.specs.Planned.{Edits, AreFacts, AreEdits, behind, members_behind, new_members, rows_of_dimension}
+use Rattle.wh_plan.specs.Edits.{Edits, AreFacts, AreEdits, behind, members_behind, new_members, rows_of_dimension}
 use Rattle.wh_plan.proofs.GrownKeys.{at_last}
 use Rattle.wh_plan.proofs.OneDimension.{none_behind, made_mapped}
 use Rattle.wh_plan.proofs.Placeholders.{sales_put_placeholders}
-use Rattle.wh_plan.proofs.PlanEdits.{own_row}
 use Rattle.wh_plan.proofs.SalesRows.{members_counted}
 use Rattle.wh_plan.proofs.Selling.{profiles_kept, sales_are_facts}
 
@@ -103,7 +102,7 @@ module _ (commands : List Accepted) (c : Accepted) (sales : List SaleRecord) (is
   counted_as command count = record command { placeholders = count }
 
   pub edits_sold : (edits : Edits) (command : CommandRow) (count : ℕ) (products stores customers : List MemberRow)
-      → edits.command ≡ record command { placeholders = count } ∷ [] → count ≡ length ((products ++ stores) ++ customers) → edits.members ≡ (products ++ stores) ++ customers
+      → edits.command ≡ record command { placeholders = count } → count ≡ length ((products ++ stores) ++ customers) → edits.members ≡ (products ++ stores) ++ customers
       → edits.changes ≡ [] → edits.profiles ≡ [] → edits.facts ≡ map (fact_of (commands ++ c ∷ [])) sales
       → products ≡ rows_planned Product → stores ≡ rows_planned Store → customers ≡ rows_planned Customer
       → edits.products ≡ table_planned Product → edits.stores ≡ table_planned Store → edits.customers ≡ table_planned Customer
@@ -116,7 +115,7 @@ module _ (commands : List Accepted) (c : Accepted) (sales : List SaleRecord) (is
       let placeholders = placeholders_by after (suc (length commands)) c.content in
       let count_all : count ≡ placeholders = count_is ∙ ap length all ∙ all_counted in
       record {
-        command = command_is ∙ ap (λ n. counted_as command n ∷ []) count_all ∙ own_row commands c (counted_as command placeholders) at;
+        command = at ∙ ap Some (sym (command_is ∙ ap (counted_as command) count_all));
         members = members_are ∙ all ∙ members_joined;
         changes = changes_are ∙ sym no_changes;
         rows = rows;

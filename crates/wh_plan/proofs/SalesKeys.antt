@@ -1,80 +1,72 @@
 -- What the members that sales mention give their facts.
-use Rattle.std.proofs.Common.{◌≡◌, ℕ, zero, suc, ◌+◌, ◌<◌, Bool, true, false, cond, ◌||◌, List, [], ◌∷◌, ◌++◌, length, map, take, drop, get_or, Option, Some, None, Bor, refl, sym, ◌∙◌, ap, arith}
-use Rattle.std.specs.Prelude.{bytes_eq, filter_map, option_map, unwrap_or}
+use Rattle.std.proofs.Common.{◌≡◌, ℕ, zero, suc, ◌+◌, ◌<◌, true, false, cond, ◌||◌, List, [], ◌∷◌, ◌++◌, length, map, take, get_or, Option, Some, None, refl, sym, ◌∙◌, ap, arith}
+use Rattle.std.specs.Prelude.{bytes_eq, filter_map, find, option_map, unwrap_or}
 use Rattle.std.specs.List.{list_any, AllByRecursion, cons_option}
-use Rattle.std.specs.Option.{option_copied, option_and_then}
-use Rattle.std.proofs.lemmas.List.{at_drop_more, map-append}
+use Rattle.std.specs.Option.{option_and_then}
+use Rattle.std.proofs.lemmas.List.{map-append}
 use Rattle.std.proofs.lemmas.Slice.Eq.{bytes_eq-Decides}
-use Rattle.wh_policy.specs.Policy.{types_of}
 use Rattle.wh_policy.specs.declared.attribute.AttributeType.{AttributeType}
 use Rattle.wh_policy.specs.declared.attribute.Dim.{Dim}
 use Rattle.wh_policy.specs.declared.attribute.Dim.TheVariants.{Product, Store, Customer}
-use Rattle.wh_policy.specs.declared.policy.Policy.{Policy}
 use Rattle.wh_policy.specs.declared.record.SaleRecord.{SaleRecord}
-use Rattle.wh_history.specs.Accepted.{Accepted, durable_key, member_of, member_of_sale, types_in, profiles_of, policy_after}
-use Rattle.wh_history.specs.Dated.{dated}
-use Rattle.wh_history.specs.Facts.{key_in}
+use Rattle.wh_history.specs.Accepted.{Accepted, durable_key, member_of, member_of_sale, types_in, profiles_of}
+use Rattle.wh_history.specs.Dated.{at, dated}
+use Rattle.wh_history.specs.Facts.{key_in, keys_on, of_customer}
 use Rattle.wh_history.specs.Known.{KnowsEnough}
-use Rattle.wh_history.specs.Profiles.{profile_number}
+use Rattle.wh_history.specs.Profiles.{current_by, profile_number}
 use Rattle.wh_history.specs.Rows.{rows}
+use Rattle.wh_history.specs.Shapes.{Shape, RenderedMember, shape_after, rendered_in, shown}
 use Rattle.wh_history.specs.Tables.{key_at, profile_at, fact_of}
+use Rattle.wh_history.specs.declared.dimension.Rendered.{Rendered}
 use Rattle.wh_history.specs.declared.facts.Fact.{Fact}
+use Rattle.wh_history.specs.declared.facts.MemberKeys.{MemberKeys}
 use Rattle.wh_history.specs.declared.member.Member.{Member}
 use Rattle.wh_history.specs.declared.rows.DimRow.{DimRow}
 use Rattle.wh_history.proofs.Basics.{or_true, first_or}
 use Rattle.wh_history.proofs.Joins.{all_weaker}
 use Rattle.wh_history.proofs.Knowing.{day_known, rows_enough}
 use Rattle.wh_history.proofs.Once.{among_distinct}
-use Rattle.wh_plan.specs.Mentioned.{SeenMember, seen_as, shown, seen_named, profile_on, keys_on, no_keys, keys_among, keys_sold, fact_with, naturals_sold}
-use Rattle.wh_plan.specs.declared.keyed.Seen.{Seen}
-use Rattle.wh_plan.specs.declared.keyed.SaleKeys.{SaleKeys}
+use Rattle.wh_plan.specs.SoldMembers.{rendered_named, no_keys, keys_among, keys_sold, fact_with, naturals_sold}
 use Rattle.wh_plan.proofs.PlanNaturals.{next_taken}
 use Rattle.wh_plan.proofs.PlanningMembers.{Among}
 
 -- ---- members by their natural keys
 
-shown_or : (b : Bool) (x : Bor Seen) (o : Option (Bor Seen)) → option_map shown (option_copied (cond b (Some x) o)) ≡ cond b (Some (shown x.now)) (option_map shown (option_copied o))
-shown_or true x o = refl
-shown_or false x o = refl
-
--- one member more, in front
-pub seen_more : (members : List Seen) (i : ℕ) (d : Seen) (text natural : List ℕ) (seen : Bor Seen) (o : Option (Bor Seen)) → i < length members
-    → text ≡ (get_or members i d).member.now.natural → seen.now ≡ get_or members i d → option_map shown (option_copied o) ≡ seen_named (map shown (drop (i + 1) members)) natural
-    → option_map shown (option_copied (cond (bytes_eq text natural) (Some seen) o)) ≡ seen_named (map shown (drop i members)) natural
-seen_more members i d text natural seen o within text_is seen_is old =
-    let s = get_or members i d in
-    shown_or (bytes_eq text natural) seen o
-    ∙ ap (λ n. cond (bytes_eq n natural) (Some (shown seen.now)) (option_map shown (option_copied o))) text_is
-    ∙ ap (λ (x : Seen). cond (bytes_eq s.member.now.natural natural) (Some (shown x)) (option_map shown (option_copied o))) seen_is
-    ∙ ap (λ q. cond (bytes_eq s.member.now.natural natural) (Some (shown s)) q) old
-    ∙ sym (at_drop_more (λ (ms : List Seen). seen_named (map shown ms) natural) members i d within)
+-- what is found among rendered members is found among what they show
+pub found_shown : (list : List Rendered) (natural : List ℕ) → option_map shown (find (λ m. bytes_eq m.member.now.natural natural) list) ≡ rendered_named (map shown list) natural
+found_shown [] natural = refl
+found_shown (m ∷ ms) natural =
+    elim (bytes_eq m.member.now.natural natural) as (λ b. option_map shown (cond b (Some m) (find (λ m. bytes_eq m.member.now.natural natural) ms)) ≡ cond b (Some (shown m)) (rendered_named (map shown ms) natural)) [
+      | true ↦ refl
+      | false ↦ found_shown ms natural
+    ]
 
 -- ---- what a sale's member gives
 
-module _ (dim : Dim) (kinds : List AttributeType) (number : List (List ℕ) → Option ℕ) (list : List SeenMember) (s : SaleRecord) where
-  pub keys_there : (natural : List ℕ) (m : SeenMember) → member_of_sale dim s ≡ Some natural → seen_named list natural ≡ Some m → keys_on dim kinds number m s.day ≡ keys_among dim kinds number list s
+module _ (shape : Shape) (list : List RenderedMember) (s : SaleRecord) where
+  pub keys_there : (natural : List ℕ) (m : RenderedMember) → member_of_sale shape.dim s ≡ Some natural → rendered_named list natural ≡ Some m → keys_on shape m s.day ≡ keys_among shape list s
   keys_there natural m mentions there =
-      let of = λ (o : Option SeenMember). unwrap_or (option_map (λ m. keys_on dim kinds number m s.day) o) no_keys in
-      sym (ap (λ o. of (option_and_then (seen_named list) o)) mentions ∙ ap of there)
+      let of = λ (o : Option RenderedMember). unwrap_or (option_map (λ m. keys_on shape m s.day) o) no_keys in
+      sym (ap (λ o. of (option_and_then (rendered_named list) o)) mentions ∙ ap of there)
 
-  pub keys_missing : (natural : List ℕ) → member_of_sale dim s ≡ Some natural → seen_named list natural ≡ None → no_keys ≡ keys_among dim kinds number list s
+  pub keys_missing : (natural : List ℕ) → member_of_sale shape.dim s ≡ Some natural → rendered_named list natural ≡ None → no_keys ≡ keys_among shape list s
   keys_missing natural mentions there =
-      let of = λ (o : Option SeenMember). unwrap_or (option_map (λ m. keys_on dim kinds number m s.day) o) no_keys in
-      sym (ap (λ o. of (option_and_then (seen_named list) o)) mentions ∙ ap of there)
+      let of = λ (o : Option RenderedMember). unwrap_or (option_map (λ m. keys_on shape m s.day) o) no_keys in
+      sym (ap (λ o. of (option_and_then (rendered_named list) o)) mentions ∙ ap of there)
 
-  pub keys_without : member_of_sale dim s ≡ None → no_keys ≡ keys_among dim kinds number list s
-  keys_without mentions = sym (ap (λ o. unwrap_or (option_map (λ m. keys_on dim kinds number m s.day) (option_and_then (seen_named list) o)) no_keys) mentions)
+  pub keys_without : member_of_sale shape.dim s ≡ None → no_keys ≡ keys_among shape list s
+  keys_without mentions = sym (ap (λ o. unwrap_or (option_map (λ m. keys_on shape m s.day) (option_and_then (rendered_named list) o)) no_keys) mentions)
 
 -- ---- under commands
 
-seen_there : (dim : Dim) (commands : List Accepted) (kinds : List AttributeType) (number : List (List ℕ) → Option ℕ) (n : List ℕ) (ns : List (List ℕ)) → Among ns n
-    → seen_named (map (seen_as kinds number) (map (member_of dim commands) ns)) n ≡ Some (seen_as kinds number (member_of dim commands n))
-seen_there dim commands kinds number n [] h = cc
-seen_there dim commands kinds number n (m ∷ ns) h =
+rendered_there : (dim : Dim) (commands : List Accepted) (shape : Shape) (n : List ℕ) (ns : List (List ℕ)) → Among ns n
+    → rendered_named (map (rendered_in shape) (map (member_of dim commands) ns)) n ≡ Some (rendered_in shape (member_of dim commands n))
+rendered_there dim commands shape n [] h = cc
+rendered_there dim commands shape n (m ∷ ns) h =
     elim (bytes_eq m n) as (λ b. (bytes_eq m n ≡ b) → (b || list_any (λ m. bytes_eq m n) ns) ≡ true
-    → first_or b (seen_as kinds number (member_of dim commands m)) (seen_named (map (seen_as kinds number) (map (member_of dim commands) ns)) n) ≡ Some (seen_as kinds number (member_of dim commands n))) [
-      | true ↦ λ e _. ap (λ (m : List ℕ). Some (seen_as kinds number (member_of dim commands m))) ((bytes_eq-Decides m n).0 e)
-      | false ↦ λ e t. seen_there dim commands kinds number n ns t
+    → first_or b (rendered_in shape (member_of dim commands m)) (rendered_named (map (rendered_in shape) (map (member_of dim commands) ns)) n) ≡ Some (rendered_in shape (member_of dim commands n))) [
+      | true ↦ λ e _. ap (λ (m : List ℕ). Some (rendered_in shape (member_of dim commands m))) ((bytes_eq-Decides m n).0 e)
+      | false ↦ λ e t. rendered_there dim commands shape n ns t
     ] refl h
 
 -- a member that one of the sales mentions is among them
@@ -93,83 +85,86 @@ each_mentions dim (s ∷ sales) = (
 )
 
 module _ (dim : Dim) (commands : List Accepted) (sales : List SaleRecord) where
-  abbrev kinds : List AttributeType
-  kinds = types_in dim commands
+  abbrev list : List RenderedMember
+  list = map (rendered_in (shape_after dim commands)) (map (member_of dim commands) (naturals_sold dim sales))
 
-  abbrev list : List SeenMember
-  list = map (seen_as (types_in dim commands) (profile_number (profiles_of commands))) (map (member_of dim commands) (naturals_sold dim sales))
-
-  one_keyed : (s : SaleRecord) → Mentions dim sales s → keys_among dim (types_in dim commands) (profile_number (profiles_of commands)) list s ≡ keys_sold dim commands s
+  one_keyed : (s : SaleRecord) → Mentions dim sales s → keys_among (shape_after dim commands) list s ≡ keys_sold dim commands s
   one_keyed s mentions =
-      elim (member_of_sale dim s) as (λ o. (member_of_sale dim s ≡ o) → keys_among dim (types_in dim commands) (profile_number (profiles_of commands)) list s ≡ unwrap_or (option_map (λ natural. keys_on dim (types_in dim commands) (profile_number (profiles_of commands)) (seen_as (types_in dim commands) (profile_number (profiles_of commands)) (member_of dim commands natural)) s.day) o) no_keys) [
-        | None ↦ λ is. sym (keys_without dim (types_in dim commands) (profile_number (profiles_of commands)) list s is)
+      elim (member_of_sale dim s) as (λ o. (member_of_sale dim s ≡ o) → keys_among (shape_after dim commands) list s ≡ unwrap_or (option_map (λ natural. keys_on (shape_after dim commands) (rendered_in (shape_after dim commands) (member_of dim commands natural)) s.day) o) no_keys) [
+        | None ↦ λ is. sym (keys_without (shape_after dim commands) list s is)
         | Some n ↦ λ is.
             let among : Among (naturals_sold dim sales) n = among_distinct bytes_eq bytes_eq-Decides n (filter_map (member_of_sale dim) sales) ∙ mentions n is in
-            sym (keys_there dim (types_in dim commands) (profile_number (profiles_of commands)) list s n (seen_as (types_in dim commands) (profile_number (profiles_of commands)) (member_of dim commands n)) is (seen_there dim commands (types_in dim commands) (profile_number (profiles_of commands)) n (naturals_sold dim sales) among))
+            sym (keys_there (shape_after dim commands) list s n (rendered_in (shape_after dim commands) (member_of dim commands n)) is (rendered_there dim commands (shape_after dim commands) n (naturals_sold dim sales) among))
       ] refl
 
-  each_keyed : (ss : List SaleRecord) → AllByRecursion (Mentions dim sales) ss → map (keys_among dim (types_in dim commands) (profile_number (profiles_of commands)) list) ss ≡ map (keys_sold dim commands) ss
+  each_keyed : (ss : List SaleRecord) → AllByRecursion (Mentions dim sales) ss → map (keys_among (shape_after dim commands) list) ss ≡ map (keys_sold dim commands) ss
   each_keyed [] all = refl
-  each_keyed (s ∷ ss) all = ap (λ k. k ∷ map (keys_among dim (types_in dim commands) (profile_number (profiles_of commands)) list) ss) (one_keyed s all.0) ∙ ap (λ ks. keys_sold dim commands s ∷ ks) (each_keyed ss all.1)
+  each_keyed (s ∷ ss) all = ap (λ k. k ∷ map (keys_among (shape_after dim commands) list) ss) (one_keyed s all.0) ∙ ap (λ ks. keys_sold dim commands s ∷ ks) (each_keyed ss all.1)
 
-  pub all_keyed : map (keys_among dim (types_in dim commands) (profile_number (profiles_of commands)) (map (seen_as (types_in dim commands) (profile_number (profiles_of commands))) (map (member_of dim commands) (naturals_sold dim sales)))) sales ≡ map (keys_sold dim commands) sales
+  pub all_keyed : map (keys_among (shape_after dim commands) (map (rendered_in (shape_after dim commands)) (map (member_of dim commands) (naturals_sold dim sales)))) sales ≡ map (keys_sold dim commands) sales
   all_keyed = each_keyed sales (each_mentions dim sales)
 
 -- ---- where enough is known of the members
 
 module _ (dim : Dim) (kinds : List AttributeType) (number : List (List ℕ) → Option ℕ) (combinations : List (List (List ℕ))) where
-  profile_enough : (d : Dim) (m : Member) → KnowsEnough d kinds number combinations m → (day : ℕ) → profile_on d kinds number (dated m.changes) day ≡ profile_on d kinds (profile_number combinations) (dated m.changes) day
+  abbrev by : (List (List ℕ) → Option ℕ) → Shape
+  by numbers = record { dim = dim; kinds = kinds; number = numbers }
+
+  abbrev all : Shape
+  all = record { dim = dim; kinds = kinds; number = profile_number combinations }
+
+  profile_enough : (d : Dim) (m : Member) → KnowsEnough d kinds number combinations m → (day : ℕ) → of_customer d (current_by kinds number (at day (dated m.changes))) ≡ of_customer d (current_by kinds (profile_number combinations) (at day (dated m.changes)))
   profile_enough Product m enough day = refl
   profile_enough Store m enough day = refl
   profile_enough Customer m enough day = day_known kinds number combinations m enough day
 
-  one_known : (m : Member) → KnowsEnough dim kinds number combinations m → (day : ℕ) → keys_on dim kinds number (seen_as kinds number m) day ≡ keys_on dim kinds (profile_number combinations) (seen_as kinds (profile_number combinations) m) day
+  one_known : (m : Member) → KnowsEnough dim kinds number combinations m → (day : ℕ) → keys_on (by number) (rendered_in (by number) m) day ≡ keys_on all (rendered_in all m) day
   one_known m enough day =
-      let give : List DimRow → ℕ → SaleKeys = λ rs n. record { key = key_in rs day; durable = m.durable; profile = n } in
-      ap (λ rs. give rs (profile_on dim kinds number (dated m.changes) day)) (rows_enough kinds number combinations dim m enough)
+      let give : List DimRow → ℕ → MemberKeys = λ rs n. record { key = key_in rs day; durable = m.durable; profile = n } in
+      ap (λ rs. give rs (of_customer dim (current_by kinds number (at day (dated m.changes))))) (rows_enough kinds number combinations dim m enough)
       ∙ ap (give (rows kinds combinations m)) (profile_enough dim m enough day)
 
   found_known : (ms : List Member) → AllByRecursion (KnowsEnough dim kinds number combinations) ms → (n : List ℕ) (day : ℕ)
-      → option_map (λ q. keys_on dim kinds number q day) (seen_named (map (seen_as kinds number) ms) n) ≡ option_map (λ q. keys_on dim kinds (profile_number combinations) q day) (seen_named (map (seen_as kinds (profile_number combinations)) ms) n)
+      → option_map (λ q. keys_on (by number) q day) (rendered_named (map (rendered_in (by number)) ms) n) ≡ option_map (λ q. keys_on all q day) (rendered_named (map (rendered_in all) ms) n)
   found_known [] enough n day = refl
   found_known (m ∷ ms) enough n day =
-      let all = profile_number combinations in
-      elim (bytes_eq m.natural n) as (λ b. option_map (λ q. keys_on dim kinds number q day) (cond b (Some (seen_as kinds number m)) (seen_named (map (seen_as kinds number) ms) n))
-      ≡ option_map (λ q. keys_on dim kinds (profile_number combinations) q day) (cond b (Some (seen_as kinds (profile_number combinations) m)) (seen_named (map (seen_as kinds (profile_number combinations)) ms) n))) [
+      elim (bytes_eq m.natural n) as (λ b. option_map (λ q. keys_on (by number) q day) (cond b (Some (rendered_in (by number) m)) (rendered_named (map (rendered_in (by number)) ms) n))
+      ≡ option_map (λ q. keys_on all q day) (cond b (Some (rendered_in all m)) (rendered_named (map (rendered_in all) ms) n))) [
         | true ↦ ap Some (one_known m enough.0 day)
         | false ↦ found_known ms enough.1 n day
       ]
 
   sale_known : (ms : List Member) → AllByRecursion (KnowsEnough dim kinds number combinations) ms → (s : SaleRecord)
-      → keys_among dim kinds number (map (seen_as kinds number) ms) s ≡ keys_among dim kinds (profile_number combinations) (map (seen_as kinds (profile_number combinations)) ms) s
+      → keys_among (by number) (map (rendered_in (by number)) ms) s ≡ keys_among all (map (rendered_in all) ms) s
   sale_known ms enough s =
-      elim (member_of_sale dim s) as (λ o. unwrap_or (option_map (λ q. keys_on dim kinds number q s.day) (option_and_then (seen_named (map (seen_as kinds number) ms)) o)) no_keys
-      ≡ unwrap_or (option_map (λ q. keys_on dim kinds (profile_number combinations) q s.day) (option_and_then (seen_named (map (seen_as kinds (profile_number combinations)) ms)) o)) no_keys) [
+      elim (member_of_sale dim s) as (λ o. unwrap_or (option_map (λ q. keys_on (by number) q s.day) (option_and_then (rendered_named (map (rendered_in (by number)) ms)) o)) no_keys
+      ≡ unwrap_or (option_map (λ q. keys_on all q s.day) (option_and_then (rendered_named (map (rendered_in all) ms)) o)) no_keys) [
         | None ↦ refl
-        | Some n ↦ ap (λ (o : Option SaleKeys). unwrap_or o no_keys) (found_known ms enough n s.day)
+        | Some n ↦ ap (λ (o : Option MemberKeys). unwrap_or o no_keys) (found_known ms enough n s.day)
       ]
 
-  sales_known : (ms : List Member) → AllByRecursion (KnowsEnough dim kinds number combinations) ms → (ss : List SaleRecord)
-      → map (keys_among dim kinds number (map (seen_as kinds number) ms)) ss ≡ map (keys_among dim kinds (profile_number combinations) (map (seen_as kinds (profile_number combinations)) ms)) ss
+  pub sales_known : (ms : List Member) → AllByRecursion (KnowsEnough dim kinds number combinations) ms → (ss : List SaleRecord)
+      → map (keys_among (record { dim = dim; kinds = kinds; number = number }) (map (rendered_in (record { dim = dim; kinds = kinds; number = number })) ms)) ss
+      ≡ map (keys_among (record { dim = dim; kinds = kinds; number = profile_number combinations }) (map (rendered_in (record { dim = dim; kinds = kinds; number = profile_number combinations })) ms)) ss
   sales_known ms enough [] = refl
   sales_known ms enough (s ∷ ss) =
-      ap (λ k. k ∷ map (keys_among dim kinds number (map (seen_as kinds number) ms)) ss) (sale_known ms enough s)
-      ∙ ap (λ ks. keys_among dim kinds (profile_number combinations) (map (seen_as kinds (profile_number combinations)) ms) s ∷ ks) (sales_known ms enough ss)
+      ap (λ k. k ∷ map (keys_among (by number) (map (rendered_in (by number)) ms)) ss) (sale_known ms enough s)
+      ∙ ap (λ ks. keys_among all (map (rendered_in all) ms) s ∷ ks) (sales_known ms enough ss)
 
 -- for the keys that a call gives
-pub keys_planned : (dim : Dim) (policy : Policy) (number : List (List ℕ) → Option ℕ) (members : List Member) (sales : List SaleRecord) (seen : List SeenMember) (keys : List SaleKeys)
-    → keys ≡ map (keys_among dim (types_of policy dim) number seen) sales → seen ≡ map (seen_as (types_of policy dim) number) members
-    → (commands : List Accepted) → members ≡ map (member_of dim commands) (naturals_sold dim sales) → policy_after None commands ≡ Some policy
-    → AllByRecursion (KnowsEnough dim (types_of policy dim) number (profiles_of commands)) members
+pub keys_planned : (dim : Dim) (kinds : List AttributeType) (number : List (List ℕ) → Option ℕ) (members : List Member) (sales : List SaleRecord) (rendered : List RenderedMember) (keys : List MemberKeys)
+    → keys ≡ map (keys_among (record { dim = dim; kinds = kinds; number = number }) rendered) sales → rendered ≡ map (rendered_in (record { dim = dim; kinds = kinds; number = number })) members
+    → (commands : List Accepted) → members ≡ map (member_of dim commands) (naturals_sold dim sales) → kinds ≡ types_in dim commands
+    → AllByRecursion (KnowsEnough dim kinds number (profiles_of commands)) members
     → keys ≡ map (keys_sold dim commands) sales
-keys_planned dim policy number members sales seen keys made seen_are commands list governed enough =
-    let types : types_of policy dim ≡ types_in dim commands = sym (ap (λ o. unwrap_or (option_map (λ (p : Policy). types_of p dim) o) []) governed) in
-    let all = profile_number (profiles_of commands) in
+keys_planned dim kinds number members sales rendered keys made rendered_is commands members_are types enough =
+    let numbers = profile_number (profiles_of commands) in
+    let by : List AttributeType → (List (List ℕ) → Option ℕ) → Shape = λ ks numbers. record { dim = dim; kinds = ks; number = numbers } in
     made
-    ∙ ap (λ ms. map (keys_among dim (types_of policy dim) number ms) sales) seen_are
-    ∙ sales_known dim (types_of policy dim) number (profiles_of commands) members enough sales
-    ∙ ap (λ ms. map (keys_among dim (types_of policy dim) all (map (seen_as (types_of policy dim) all) ms)) sales) list
-    ∙ ap (λ kinds. map (keys_among dim kinds all (map (seen_as kinds all) (map (member_of dim commands) (naturals_sold dim sales)))) sales) types
+    ∙ ap (λ ms. map (keys_among (by kinds number) ms) sales) rendered_is
+    ∙ sales_known dim kinds number (profiles_of commands) members enough sales
+    ∙ ap (λ ms. map (keys_among (by kinds numbers) (map (rendered_in (by kinds numbers)) ms)) sales) members_are
+    ∙ ap (λ ks. map (keys_among (by ks numbers) (map (rendered_in (by ks numbers)) (map (member_of dim commands) (naturals_sold dim sales)))) sales) types
     ∙ all_keyed dim commands sales
 
 get_mapped : {X Y : Type 0} (f : X → Y) (xs : List X) (i : ℕ) (x : X) (y : Y) → i < length xs → x ≡ get_or xs i x → get_or (map f xs) i y ≡ f x
@@ -201,18 +196,18 @@ fact_by commands s customer = record {
 
 pub fact_keyed : (commands : List Accepted) (s : SaleRecord) → fact_with s (keys_sold Product commands s) (keys_sold Store commands s) (keys_sold Customer commands s) ≡ fact_of commands s
 fact_keyed commands s =
-    let of = λ (natural : List ℕ). keys_on Customer (types_in Customer commands) (profile_number (profiles_of commands)) (seen_as (types_in Customer commands) (profile_number (profiles_of commands)) (member_of Customer commands natural)) s.day in
+    let of = λ (natural : List ℕ). keys_on (shape_after Customer commands) (rendered_in (shape_after Customer commands) (member_of Customer commands natural)) s.day in
     elim s.customer as (λ o. fact_with s (keys_sold Product commands s) (keys_sold Store commands s) (unwrap_or (option_map of o) no_keys) ≡ fact_by commands s o) [
       | None ↦ refl
       | Some n ↦ refl
     ]
 
 -- one fact more
-pub facts_more : (commands : List Accepted) (sales : List SaleRecord) (i : ℕ) (s : SaleRecord) (products stores customers : List SaleKeys) (other : SaleKeys) (facts : List Fact) → i < length sales → s ≡ get_or sales i s
+pub facts_more : (commands : List Accepted) (sales : List SaleRecord) (i : ℕ) (s : SaleRecord) (products stores customers : List MemberKeys) (other : MemberKeys) (facts : List Fact) → i < length sales → s ≡ get_or sales i s
     → products ≡ map (keys_sold Product commands) sales → stores ≡ map (keys_sold Store commands) sales → customers ≡ map (keys_sold Customer commands) sales
     → facts ≡ map (fact_of commands) (take i sales) → (new : List Fact) → new ≡ facts ++ fact_with s (get_or products i other) (get_or stores i other) (get_or customers i other) ∷ [] → new ≡ map (fact_of commands) (take (i + 1) sales)
 facts_more commands sales i s products stores customers other facts within is products_are stores_are customers_are so_far new made =
-    let one : (dim : Dim) (keys : List SaleKeys) → keys ≡ map (keys_sold dim commands) sales → get_or keys i other ≡ keys_sold dim commands s = λ dim keys keys_are.
+    let one : (dim : Dim) (keys : List MemberKeys) → keys ≡ map (keys_sold dim commands) sales → get_or keys i other ≡ keys_sold dim commands s = λ dim keys keys_are.
     ap (λ ks. get_or ks i other) keys_are ∙ get_mapped (keys_sold dim commands) sales i s other within is in
     made
     ∙ ap (λ k. facts ++ fact_with s k (get_or stores i other) (get_or customers i other) ∷ []) (one Product products products_are)

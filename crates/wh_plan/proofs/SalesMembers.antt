@@ -11,7 +11,7 @@ use Rattle.wh_policy.specs.declared.attribute.Dim.{Dim}
 use Rattle.wh_policy.specs.declared.record.SaleRecord.{SaleRecord}
 use Rattle.wh_history.specs.Accepted.{Accepted, Anchor, Sells, same_anchor, opening_of, anchors_by, anchors_of_sale, member_of_sale, mentions, members, anchors, durable_key, surrogate_key, changes_of, member_of}
 use Rattle.wh_history.specs.Keys.{distinct, place}
-use Rattle.wh_history.specs.Touched.{given_or, grown}
+use Rattle.wh_history.specs.Touched.{given_or, grown, with_numbers}
 use Rattle.wh_history.specs.declared.member.Member.{Member}
 use Rattle.wh_history.proofs.Lasts.{not_among, given_or_is, grown_is}
 use Rattle.wh_history.proofs.Members.{place_within}
@@ -19,7 +19,7 @@ use Rattle.wh_history.proofs.Numbers.{fresh, distinct-append, place-append_front
 use Rattle.wh_history.proofs.Once.{IsOnce, once_distinct}
 use Rattle.wh_history.proofs.Places.{anchors_decide, place-distinct_given}
 use Rattle.wh_history.proofs.Untouched.{mentions-last}
-use Rattle.wh_plan.specs.Mentioned.{naturals_sold, with_numbers, numbered}
+use Rattle.wh_plan.specs.SoldMembers.{naturals_sold, numbered}
 use Rattle.wh_plan.proofs.FoundStored.{member_absent}
 use Rattle.wh_plan.proofs.GrownChanges.{natural_among}
 use Rattle.wh_plan.proofs.GrownMembers.{Opened, opened_in_all}

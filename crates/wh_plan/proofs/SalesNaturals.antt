@@ -9,10 +9,10 @@ use Rattle.wh_policy.specs.declared.attribute.Dim.{Dim}
 use Rattle.wh_policy.specs.declared.record.SaleRecord.{SaleRecord}
 use Rattle.wh_history.specs.Accepted.{member_of_sale}
 use Rattle.wh_history.specs.Keys.{distinct}
-use Rattle.wh_history.specs.Touched.{grown}
+use Rattle.wh_history.specs.Touched.{grown, with_numbers}
 use Rattle.wh_history.specs.declared.member.Member.{Member}
 use Rattle.wh_history.proofs.Once.{among_distinct}
-use Rattle.wh_plan.specs.Mentioned.{naturals_sold, with_natural, with_numbers, numbered}
+use Rattle.wh_plan.specs.SoldMembers.{naturals_sold, with_natural, numbered}
 use Rattle.wh_plan.proofs.PlanNaturals.{distinct_last, tests_turned, next_taken}
 
 module _ (dim : Dim) (sales : List SaleRecord) (i : ℕ) (s : SaleRecord) (ns : List (List ℕ)) (within : i < length sales) (is : s ≡ get_or sales i s) (so_far : ns ≡ naturals_sold dim (take i sales)) where

@@ -27,9 +27,10 @@ use Rattle.wh_rows.specs.declared.rows.MemberRow.{MemberRow}
 use Rattle.wh_plan.specs.Defined.{member_at}
 use Rattle.wh_history.specs.Known.{KnowsEnough}
 use Rattle.wh_history.proofs.Knowing.{rows_enough}
-use Rattle.wh_plan.specs.Mentioned.{naturals_sold, last_row, placeholder}
-use Rattle.wh_plan.specs.Planned.{behind}
-use Rattle.wh_plan.specs.Planning.{by_place, new_member}
+use Rattle.wh_history.specs.Shapes.{Shape, shape_after, rendered_in}
+use Rattle.wh_plan.specs.SoldMembers.{naturals_sold, last_row, placeholder}
+use Rattle.wh_plan.specs.Edits.{behind}
+use Rattle.wh_plan.specs.NewRows.{by_place, new_member}
 use Rattle.wh_plan.proofs.PlanningLists.{filter_same}
 use Rattle.wh_plan.proofs.PlanningMembers.{rows_behind, rows_counted}
 use Rattle.wh_plan.proofs.PlanningPlaces.{behind_gives, place_here, one_longer}
@@ -99,12 +100,12 @@ module _ (commands : List Accepted) (dim : Dim) where
 
   -- what the members give: only those behind the number that was given have a row
   placeholders_are : (given : ℕ) (ns : List (List ℕ)) → AllByRecursion (λ n. changes_of dim commands n ≡ []) (filter (λ n. nat_lt given (durable_key dim commands n)) ns)
-      → filter_map (placeholder (types_in dim commands) (profile_number (profiles_of commands)) given) (map (member_of dim commands) ns) ≡ map row_of_new (filter (λ n. nat_lt given (durable_key dim commands n)) ns)
+      → filter_map (placeholder given) (map (rendered_in (shape_after dim commands)) (map (member_of dim commands) ns)) ≡ map row_of_new (filter (λ n. nat_lt given (durable_key dim commands n)) ns)
   placeholders_are given [] blank = refl
   placeholders_are given (n ∷ ns) blank =
       let rest = placeholders_are given ns in
       let more = filter (λ n. nat_lt given (durable_key dim commands n)) ns in
-      let made = filter_map (placeholder (types_in dim commands) (profile_number (profiles_of commands)) given) (map (member_of dim commands) ns) in
+      let made = filter_map (placeholder given) (map (rendered_in (shape_after dim commands)) (map (member_of dim commands) ns)) in
       elim (nat_lt given (durable_key dim commands n)) as (λ b. AllByRecursion (λ n. changes_of dim commands n ≡ []) (cond b (n ∷ more) more)
       → cons_option (cond b (last_row (rows (types_in dim commands) (profiles_of commands) (member_of dim commands n))) None) made ≡ map row_of_new (cond b (n ∷ more) more)) [
         | true ↦ λ all. ap (λ rs. cons_option (last_row rs) made) (one_row (types_in dim commands) (profiles_of commands) (member_of dim commands n) all.0) ∙ ap (λ rs. row_of_new n ∷ rs) (rest all.1)
@@ -113,11 +114,12 @@ module _ (commands : List Accepted) (dim : Dim) where
 
 -- rows by what is known of the members
 pub placeholders_known : (dim : Dim) (types : List AttributeType) (number : List (List ℕ) → Option ℕ) (combinations : List (List (List ℕ))) (given : ℕ) (ms : List Member) → AllByRecursion (KnowsEnough dim types number combinations) ms
-    → filter_map (placeholder types number given) ms ≡ filter_map (placeholder types (profile_number combinations) given) ms
+    → filter_map (placeholder given) (map (rendered_in (record { dim = dim; kinds = types; number = number })) ms) ≡ filter_map (placeholder given) (map (rendered_in (record { dim = dim; kinds = types; number = profile_number combinations })) ms)
 placeholders_known dim types number combinations given [] enough = refl
 placeholders_known dim types number combinations given (m ∷ ms) enough =
-    let here : placeholder types number given m ≡ placeholder types (profile_number combinations) given m = ap (λ rs. cond (nat_lt given m.durable) (last_row rs) None) (rows_enough types number combinations dim m enough.0) in
-    ap (λ o. cons_option o (filter_map (placeholder types number given) ms)) here ∙ ap (cons_option (placeholder types (profile_number combinations) given m)) (placeholders_known dim types number combinations given ms enough.1)
+    let by : (List (List ℕ) → Option ℕ) → Shape = λ numbers. record { dim = dim; kinds = types; number = numbers } in
+    let here : placeholder given (rendered_in (by number) m) ≡ placeholder given (rendered_in (by (profile_number combinations)) m) = ap (λ rs. cond (nat_lt given m.durable) (last_row rs) None) (rows_enough types number combinations dim m enough.0) in
+    ap (λ o. cons_option o (filter_map (placeholder given) (map (rendered_in (by number)) ms))) here ∙ ap (cons_option (placeholder given (rendered_in (by (profile_number combinations)) m))) (placeholders_known dim types number combinations given ms enough.1)
 
 -- ---- a batch of sales
 
@@ -151,7 +153,7 @@ module _ (dim : Dim) (commands : List Accepted) (c : Accepted) (sales : List Sal
   members_sold rs made = made ∙ rows_behind dim commands after (naturals_sold dim sales) members_later
 
   -- the dimension's table gets their placeholders
-  pub placeholders_sold : filter_map (placeholder (types_in dim (commands ++ c ∷ [])) (profile_number (profiles_of (commands ++ c ∷ []))) (length (members dim commands))) (map (member_of dim (commands ++ c ∷ [])) (naturals_sold dim sales))
+  pub placeholders_sold : filter_map (placeholder (length (members dim commands))) (map (rendered_in (shape_after dim (commands ++ c ∷ []))) (map (member_of dim (commands ++ c ∷ [])) (naturals_sold dim sales)))
       ≡ filter_map (dimension_row (commands ++ c ∷ []) dim) (behind (length (anchors dim commands)) (length (anchors dim (commands ++ c ∷ []))))
   placeholders_sold =
       let ns = naturals_sold dim sales in

@@ -27,7 +27,7 @@ use Rattle.wh_rows.specs.Rows as row
 use Rattle.wh_rows.specs.declared.key.LineKey.{LineKey}
 use Rattle.wh_plan.specs.Defined.{fact_at}
 use Rattle.wh_plan.specs.Laws.{SalesAreFacts}
-use Rattle.wh_plan.specs.Planned.{has_line}
+use Rattle.wh_plan.specs.Edits.{has_line}
 use Rattle.wh_plan.proofs.Following.{Named, all_named, durable_kept, customer_kept}
 use Rattle.wh_plan.proofs.GrownChanges.{natural_among}
 use Rattle.wh_plan.proofs.GrownFacts.{found_mapped, facts_once, or_none}

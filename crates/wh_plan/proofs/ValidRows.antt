@@ -16,7 +16,7 @@ use Rattle.wh_history.specs.Keys.{place}
 use Rattle.wh_history.specs.Slots.{slot, picks, texts_eq}
 use Rattle.wh_history.specs.Dated.{dated, at, said, values_in, value_at, latest, original, prior, newest}
 use Rattle.wh_history.specs.Rows.{starts, later_starts, same_tracked, row, rows, main_column, second_column}
-use Rattle.wh_history.specs.Profiles.{behind_unknown, current_profile, profile_now}
+use Rattle.wh_history.specs.Profiles.{after_unknown, current_profile, profile_now}
 use Rattle.wh_history.specs.Accepted.{Accepted, described, change_of, changes_of}
 use Rattle.wh_history.specs.declared.member.Change.{Change}
 use Rattle.wh_history.specs.declared.member.Member.{Member}
@@ -141,7 +141,7 @@ span_days s from (next ∷ more) is low all up here =
 
 -- ---- the profile that rows show
 
-behind_small : (n : ℕ) → unwrap_or (behind_unknown n) 0 ≤ suc n
+behind_small : (n : ℕ) → unwrap_or (after_unknown n) 0 ≤ suc n
 behind_small zero = omega arith
 behind_small (suc n) = omega arith
 

@@ -20,10 +20,11 @@ use Rattle.wh_rows.specs.declared.key.LineKey.{LineKey}
 use Rattle.wh_rows.specs.declared.key.MemberKey.{MemberKey}
 use Rattle.wh_rows.specs.declared.key.ChangeKey.{ChangeKey}
 use Rattle.wh_plan.specs.Defined.{command_at, member_at, change_at, profile_at, fact_at, day_at, AreOf}
-use Rattle.wh_plan.specs.Planned.{Edits, rows_of_dimension, with_rows, with_edits, with_all_edits, has_line, behind, members_behind, new_members, AreEdits}
+use Rattle.wh_plan.specs.Edits.{Edits, rows_of_dimension, with_rows, with_edits, with_all_edits, has_line, behind, members_behind, new_members, AreEdits}
 use Rattle.wh_plan.specs.Laws.{BatchesAreWritten}
 use Rattle.wh_plan.proofs.WrittenRows.{AmongKeys, among_front, among_back, among_mapped, among_range, written, written_where}
 use Rattle.wh_plan.proofs.PlannedRows.{plan_leads}
+use Rattle.wh_plan.proofs.PlanEdits.{own_row}
 use Rattle.wh_plan.proofs.GrownCommands.{command_keyed, command_grows}
 use Rattle.wh_plan.proofs.GrownMembers.{member_keyed}
 use Rattle.wh_plan.proofs.GrownMembers as member
@@ -38,10 +39,10 @@ module _ (limits : Limits) (commands : List Accepted) (c : Accepted) (t : Tables
   abbrev after : List Accepted
   after = commands ++ c ∷ []
 
-  command_written : (number : ℕ) → get (with_rows row.command edits.command t.command) number ≡ command_at after number
+  command_written : (number : ℕ) → get (with_rows row.command (edits.command ∷ []) t.command) number ≡ command_at after number
   command_written number =
       written row.command nat_cmp_total nat_cmp-IsAntisymmetric (command_at after) (command_keyed after) (λ n. n)
-      (command_at commands) (length commands) (length after) t.command edits.command number (of.command number) are.command (command_grows commands c number)
+      (command_at commands) (length commands) (length after) t.command (edits.command ∷ []) number (of.command number) (own_row commands c edits.command are.command) (command_grows commands c number)
 
   -- a member's row stays, or is new
   behind_all : (dim : Dim) (key : MemberKey) → AmongKeys (λ k. k) key (members_behind commands after dim) → AmongKeys (λ k. k) key (new_members commands after)

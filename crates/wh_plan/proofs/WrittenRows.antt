@@ -7,7 +7,7 @@ use Rattle.std.specs.Cmp.{IsTotalOrder, eq_by_cmp_equiv, Equal-is}
 use Rattle.std.specs.FinMap.{FinMap, get, insert, IsAntisymmetric, get-insert}
 use Rattle.std.proofs.lemmas.Bool.{cases_eq}
 use Rattle.wh_rows.specs.Holds.{Layout}
-use Rattle.wh_plan.specs.Planned.{with_rows, behind}
+use Rattle.wh_plan.specs.Edits.{with_rows, behind}
 
 -- a key that is of one of the numbers, or of what else tells keys
 abbrev pub AmongKeys : {I K : Type 0} → (I → K) → K → List I → Type 0

@@ -1,5 +1,5 @@
 -- The tables that a list of accepted commands defines.
-use Rattle.std.specs.Prelude.{◌≡◌, ℕ, pos, ◌&&◌, cond, nat_le, List, Option, Some, None, option_map}
+use Rattle.std.specs.Prelude.{◌≡◌, ℕ, pos, ◌&&◌, if◌then◌else◌, nat_le, List, Option, Some, None, option_map}
 use Rattle.std.specs.Option.{option_and_then}
 use Rattle.std.specs.FinMap.{get}
 use Rattle.wh_day.specs.Day.{is_day, year_of}
@@ -39,7 +39,7 @@ profile_at commands number = option_map (λ values. record { number = number; va
 
 -- a day of the policy's years
 abbrev pub day_at : Policy → ℕ → Option DateRow
-day_at policy day = cond (is_day day && nat_le policy.years.first (year_of day) && nat_le (year_of day) policy.years.last) (Some (calendar_row policy.holidays day)) None
+day_at policy day = if is_day day && nat_le policy.years.first (year_of day) && nat_le (year_of day) policy.years.last then Some (calendar_row policy.holidays day) else None
 
 abbrev pub calendar_at : List Accepted → ℕ → Option DateRow
 calendar_at commands day = option_and_then (λ policy. day_at policy day) (policy_after None commands)

@@ -9,13 +9,13 @@ use Rattle.wh_policy.specs.declared.attribute.Dim.{Dim}
 use Rattle.wh_policy.specs.declared.attribute.Dim.TheVariants.{Product, Store, Customer}
 use Rattle.wh_policy.specs.declared.record.DimensionRecord.{DimensionRecord}
 use Rattle.wh_policy.specs.declared.record.SaleRecord.{SaleRecord}
-use Rattle.wh_history.specs.Accepted.{Accepted, Describes, Sells, anchors, policy_after, types_in, profiles_of, changes_of, member_of_sale, sold}
-use Rattle.wh_history.specs.Dated.{dated}
+use Rattle.wh_history.specs.Accepted.{Accepted, Describes, Sells, anchors, policy_after, types_in, member_of, member_of_sale, sold}
 use Rattle.wh_history.specs.Facts.{new_keys}
+use Rattle.wh_history.specs.Shapes.{shape_after, rendered_in}
 use Rattle.wh_history.specs.Keys.{at_place}
 use Rattle.wh_history.specs.Laws.{RecordsHaveDays, IsEffective, governs, mentions_member}
 use Rattle.wh_history.specs.Plan.{IsPlan, row_of}
-use Rattle.wh_history.specs.Tables.{Limits, dimension_row, member_rows, fact_of}
+use Rattle.wh_history.specs.Tables.{Limits, dimension_row, fact_of}
 use Rattle.wh_history.specs.declared.facts.Fact.{Fact}
 use Rattle.wh_history.specs.declared.plan.Edit.{Edit}
 use Rattle.wh_history.specs.declared.plan.Edit.TheVariants.{Put}
@@ -28,11 +28,11 @@ use Rattle.wh_rows.specs.declared.rows.MemberRow.{MemberRow}
 use Rattle.wh_rows.specs.Limits.{are_limits}
 use Rattle.wh_rows.specs.Tables.{Tables}
 use Rattle.wh_plan.specs.Defined.{fact_at, AreOf}
-use Rattle.wh_plan.specs.Made.{making_of}
-use Rattle.wh_plan.specs.Planned.{Edits, with_all_edits, behind, AreFacts, AreEdits}
+use Rattle.wh_plan.specs.FirstRows.{making_of}
+use Rattle.wh_plan.specs.Edits.{Edits, with_all_edits, behind, AreFacts, AreEdits}
 use Rattle.wh_plan.specs.Sound.{IsAccepted, same_line}
 use Rattle.wh_plan.specs.Writable.{MayBeWritten}
-use Rattle.wh_plan.specs.Planning.{of_members, naturals_told, durables_touched, rows_of_members, members_among}
+use Rattle.wh_plan.specs.NewRows.{of_members, naturals_told, durables_touched, rows_of_members, members_among}
 
 -- the rows of a dimension show no profile
 abbrev pub ShowsNoProfile : List Accepted → Dim → Type 0
@@ -108,11 +108,11 @@ TouchedRowsAfter = (commands : List Accepted) (c : Accepted) (dim : Dim) (record
 -- a fact with the keys that its member's rows of a dimension give it, and the profile of its day where that is customer; a sale without a card keeps its zeros
 abbrev pub followed : List Accepted → Dim → SaleRecord → Fact → Fact
 followed commands dim s f =
-    unwrap_or (option_map (λ natural. record f { keys = new_keys (types_in dim commands) (profiles_of commands) dim (member_rows commands dim natural) (dated (changes_of dim commands natural)) f }) (member_of_sale dim s)) f
+    unwrap_or (option_map (λ natural. record f { keys = new_keys (shape_after dim commands) (rendered_in (shape_after dim commands) (member_of dim commands natural)) f }) (member_of_sale dim s)) f
 
--- Behind a batch of records each stored fact has the keys that its member's rows of that dimension then give it, and its other keys as they were.
-abbrev pub FactsFollow : Type 0
-FactsFollow = (commands : List Accepted) (c : Accepted) (dim : Dim) (records : List DimensionRecord) (number : ℕ) (s : SaleRecord)
+-- After a batch of records each stored fact has the keys that its member's rows of that dimension then give it, and its other keys as they were.
+abbrev pub LateRecordsMoveFacts : Type 0
+LateRecordsMoveFacts = (commands : List Accepted) (c : Accepted) (dim : Dim) (records : List DimensionRecord) (number : ℕ) (s : SaleRecord)
     → c.content ≡ Describes dim records
     → (dim ≡ Customer → ShowsNoProfile commands Product × ShowsNoProfile commands Store)
     → at_place number (sold commands) ≡ Some s

@@ -7,12 +7,21 @@ use Rattle.wh_policy.specs.declared.attribute.Dim.TheVariants.{Product, Store, C
 use Rattle.wh_policy.specs.declared.policy.Policy.{Policy}
 use Rattle.wh_policy.specs.declared.record.DimensionRecord.{DimensionRecord}
 use Rattle.wh_policy.specs.declared.record.SaleRecord.{SaleRecord}
-use Rattle.wh_policy.specs.Policy.{policy_at}
+use Rattle.wh_policy.specs.Policy.{policy_at, types_of}
+use Rattle.wh_policy.specs.Written.{IsSound}
+use Rattle.wh_policy.specs.declared.attribute.AttributeType.{AttributeType}
 use Rattle.wh_history.specs.Accepted.{Accepted, policy_after, types_in, described, member_of_sale, sold}
 use Rattle.wh_history.specs.Tables.{Limits}
 use Rattle.wh_rows.specs.Limits.{are_limits}
 use Rattle.wh_rows.specs.Types.{is_key, is_kind, is_line, is_measure, is_slot}
-use Rattle.wh_plan.specs.Made.{making_of}
+use Rattle.wh_plan.specs.FirstRows.{making_of}
+
+-- these are the types of a dimension's slots under the policy in force, which is sound
+pub record AreTypes (commands : List Accepted) (dim : Dim) (kinds : List AttributeType) : Type 0 where
+  pub policy : Policy
+  pub governed : policy_after None commands ≡ Some policy
+  pub sound : IsSound policy
+  pub are : kinds ≡ types_of policy dim
 
 -- a value that a record gives: a text that a slot can hold, and not the empty one
 abbrev pub IsGivenValue : List ℕ → Type 0

@@ -8,7 +8,7 @@ use wh_rows::{ChangeRow, CommandRow, MemberRow, ProfileRow};
 /// that it is the first to show, the facts that are new or get other keys, and the edits of the rows of the three dimensions.
 #[derive(Debug, Drop)]
 pub struct Edits {
-    pub command: Vec<CommandRow>,
+    pub command: CommandRow,
     pub members: Vec<MemberRow>,
     pub changes: Vec<ChangeRow>,
     pub profiles: Vec<ProfileRow>,
@@ -19,12 +19,12 @@ pub struct Edits {
 }
 
 impl Model for Edits {
-    ghost use Rattle.wh_plan.specs.Planned.{Edits as Lists};
+    ghost use Rattle.wh_plan.specs.Edits.{Edits as Lists};
 
     ghost Value = { Lists };
 
     ghost view = { λ e. record {
-      command = e.command.items;
+      command = e.command;
       members = e.members.items;
       changes = e.changes.items;
       profiles = e.profiles.items;

@@ -1,7 +1,7 @@
 //! Laws of the tables that accepted commands define. They speak of the definitions alone and do nothing.
 
-ghost use Rattle.wh_plan.specs.Moved.{LateRecordsMoveFacts};
-ghost use Rattle.wh_plan.specs.Laws.{AcceptedListsBegin, BatchesAreWritten, BatchesMayBeWritten, FactsAreEffective, FactsFollow, SalesAreFacts, SalesPutPlaceholders, SecondKeysAreApart, SoundPoliciesShowNone, TouchedRowsAfter, TouchedRowsAreThePlan, TouchedRowsBefore, UntouchedMembersKeep};
+ghost use Rattle.wh_plan.specs.MovedFacts.{MovedFactsAreExact};
+ghost use Rattle.wh_plan.specs.Laws.{AcceptedListsBegin, BatchesAreWritten, BatchesMayBeWritten, FactsAreEffective, LateRecordsMoveFacts, SalesAreFacts, SalesPutPlaceholders, SecondKeysAreApart, SoundPoliciesShowNone, TouchedRowsAfter, TouchedRowsAreThePlan, TouchedRowsBefore, UntouchedMembersKeep};
 
 /// From the tables of the commands so far the edits of a batch of records or of sales lead to those of the commands with
 /// it, in all ten tables.
@@ -44,14 +44,14 @@ pub fn touched_rows_are_the_plan()
 
 /// Behind a batch of records each stored fact has the keys that its member's rows of that dimension then give it, and its
 /// other keys as they were. A late record moves facts of its own member alone.
-pub fn facts_follow()
-    ensures { FactsFollow }
+pub fn late_records_move_facts()
+    ensures { LateRecordsMoveFacts }
 {}
 
 /// The facts of the touched members whose keys change with a batch of records, with their new keys, are exactly what leads
 /// from the facts of the commands so far to those of the commands with it.
-pub fn late_records_move_facts()
-    ensures { LateRecordsMoveFacts }
+pub fn moved_facts_are_exact()
+    ensures { MovedFactsAreExact }
 {}
 
 /// The facts of a batch of sales whose lines are new, no two of them the same, are exactly what leads to the facts of the

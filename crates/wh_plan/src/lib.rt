@@ -1,18 +1,22 @@
 //! What a batch writes, planned from reads of the members that it mentions.
 #![tactic(auto)]
 
+mod batch;
+mod by_natural;
 mod edits;
-pub mod kept;
-mod keyed;
 pub mod laws;
-mod moving;
-mod plan;
-pub mod planning;
+mod moved_facts;
+mod naturals;
+pub mod new_rows;
+mod numbers;
 mod profiles;
-mod sales;
-mod side;
-mod stored;
+pub mod reading;
+mod record_plan;
+mod sale_keys;
+mod sale_plan;
+mod sold_dimension;
+mod touched;
 
 pub use edits::Edits;
-pub use plan::plan_batch;
-pub use sales::plan_sales;
+pub use record_plan::plan_batch;
+pub use sale_plan::plan_sales;

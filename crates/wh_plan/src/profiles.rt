@@ -1,37 +1,33 @@
 //! What a batch has to know of profiles: the numbers of the combinations of its customers' changes, each looked up once, and
 //! the combinations that it is the first to bring.
 
-ghost use Rattle.std.specs.Prelude.{◌≡◌, ◌≤◌, ◌++◌, ◌∷◌, [], ℕ, suc, List, nat_le, length, map, find, option_map, None, Some, IfOk, OnOk};
+ghost use Rattle.std.specs.Prelude.{◌≡◌, ◌≤◌, ◌++◌, ◌∷◌, [], ℕ, suc, nat_le, length, map, find, option_map, IfOk, OnOk};
 ghost use Rattle.std.specs.List.{list_any, AllByRecursion};
-ghost use Rattle.std.specs.Option.{option_copied, option_to_list};
-ghost use Rattle.wh_policy.specs.Policy.{types_of};
-ghost use Rattle.wh_policy.specs.Written.{IsSound};
+ghost use Rattle.std.specs.Option.{option_to_list};
 ghost use Rattle.wh_policy.specs.declared.attribute.Dim.TheVariants.{Customer};
-ghost use Rattle.wh_history.specs.Accepted.{Accepted, Describes, policy_after, profiles_of};
+ghost use Rattle.wh_history.specs.Accepted.{Accepted, Describes, profiles_of};
+ghost use Rattle.wh_history.specs.Keys.{greatest_number};
 ghost use Rattle.wh_history.specs.Known.{number_in, numbered_from, KnowsEnough};
 ghost use Rattle.wh_history.specs.Slots.{texts_eq};
-ghost use Rattle.wh_history.specs.Touched.{touched_by};
-ghost use Rattle.wh_plan.specs.Learned.{with_combination, with_combinations, told_of, said_of, said_by, number_kept, numbered_as, learned, is_none, unknown, row_of_profile, IsLearned};
+ghost use Rattle.wh_plan.specs.Profiles.{with_combination, with_combinations, told_of, said_of, said_by, number_kept, learned, is_none, unknown, row_of_profile, IsLearned};
 ghost use Rattle.wh_sql.specs.Reads.{ReadsOnly};
 ghost use Rattle.wh_store.specs.Reads.{state_of};
-ghost use Rattle.wh_store.specs.Reads.{state_of};
 ghost use Rattle.wh_plan.specs.Reads.{Finds, Tells};
-ghost use Rattle.wh_plan.specs.Sound.{IsAccepted};
+ghost use Rattle.wh_plan.specs.Sound.{AreTypes, IsAccepted};
 
-use crate::planning::six_texts;
+use crate::batch::Batch;
 use sqlite::Alter;
 use std::alloc::{AllocError, Global};
 use wh_day::Values;
-use wh_history::{Change, Member, Profiles, is_same_texts, profile_texts};
-use wh_policy::{AttributeType, Dim, DimensionRecord, Policy};
+use wh_history::{
+    Change, GREATEST_NUMBER, Member, Profiles, is_same_texts, profile_texts, six_texts,
+};
+use wh_policy::{AttributeType, Dim, DimensionRecord};
 use wh_rows::{ProfileRow, tables};
 use wh_store::{Greatest, ProfileOf, ReadFault, Tables};
 
 /// The number of the first combination; before it stand no card and unknown.
 const FIRST: u64 = 2;
-
-/// The greatest number that a table holds.
-const GREATEST: u64 = 9_999_999;
 
 /// What is read of profiles for a batch of records.
 #[derive(Drop)]
@@ -201,7 +197,7 @@ fn add_fresh(
     next: u64,
     combinations: &[Values],
 ) -> Result<Vec<ProfileRow>, AllocError>
-    requires few { next ≤ 10000000 }
+    requires few { next ≤ suc greatest_number }
     ensures { IfOk result (λ rows. (rows.items ≡ map row_of_profile (numbered_from next combinations.now)) × (known.new ≡ known.old ++ numbered_from next combinations.now)) }
 {
     let mut rows = Vec::new(alloc);
@@ -219,12 +215,12 @@ fn add_fresh(
 /// The greatest number of a profile.
 fn profiles_given<S: Alter>(tables: &mut Tables<S>, alloc: Global) -> Result<u64, ReadFault>
     ensures reads { ReadsOnly (state_of S.Store tables.old) (state_of S.Store tables.new) result }
-    ensures given { Finds (state_of S.Store tables.old) (state_of S.Store tables.new) (λ _ commands. suc (length (profiles_of commands)) ≤ 9999999 → IfOk result (λ given. given ≡ suc (length (profiles_of commands)))) }
-    ensures few { IfOk result (λ given. given ≤ 9999999) }
+    ensures given { Finds (state_of S.Store tables.old) (state_of S.Store tables.new) (λ _ commands. suc (length (profiles_of commands)) ≤ greatest_number → IfOk result (λ given. given ≡ suc (length (profiles_of commands)))) }
+    ensures few { IfOk result (λ given. given ≤ greatest_number) }
 {
     let mut found = tables.ask::<tables::Profile, Greatest>(alloc, &Greatest)?;
     match found.pop() {
-        Some(row) => Ok(row.number.min(GREATEST)),
+        Some(row) => Ok(row.number.min(GREATEST_NUMBER)),
         None => Ok(0),
     }
 }
@@ -233,15 +229,14 @@ fn profiles_given<S: Alter>(tables: &mut Tables<S>, alloc: Global) -> Result<u64
 fn known_of_customers<S: Alter>(
     tables: &mut Tables<S>,
     alloc: Global,
-    policy: &Policy,
+    types: &[AttributeType],
     members: &[Member],
 ) -> Result<Profiles, ReadFault>
     ensures reads { ReadsOnly (state_of S.Store tables.old) (state_of S.Store tables.new) result }
-    ensures known { Tells (state_of S.Store tables.old) (state_of S.Store tables.new) result (λ t known. known ≡ learned (number_kept t.profile) (with_combinations [] (said_by (types_of policy.now Customer) members.now))) }
+    ensures known { Tells (state_of S.Store tables.old) (state_of S.Store tables.new) result (λ t known. known ≡ learned (number_kept t.profile) (with_combinations [] (said_by types.now members.now))) }
 {
-    let types = policy.types(alloc, Dim::Customer)?;
     let mut combinations = Vec::new(alloc);
-    add_said_by(alloc, &types, &mut combinations, members)?;
+    add_said_by(alloc, types, &mut combinations, members)?;
     looked_up(tables, alloc, &combinations)
 }
 
@@ -249,15 +244,15 @@ fn known_of_customers<S: Alter>(
 pub(crate) fn known_of<S: Alter>(
     tables: &mut Tables<S>,
     alloc: Global,
-    policy: &Policy,
     dim: Dim,
+    types: &[AttributeType],
     members: &[Member],
 ) -> Result<Profiles, ReadFault>
     ensures reads { ReadsOnly (state_of S.Store tables.old) (state_of S.Store tables.new) result }
-    ensures enough { Finds (state_of S.Store tables.old) (state_of S.Store tables.new) (λ _ commands. policy_after None commands ≡ Some policy.now → IsSound policy.now → IfOk result (λ known. AllByRecursion (KnowsEnough dim (types_of policy.now dim) (number_in known) (profiles_of commands)) members.now)) }
+    ensures enough { Finds (state_of S.Store tables.old) (state_of S.Store tables.new) (λ _ commands. AreTypes commands dim types.now → IfOk result (λ known. AllByRecursion (KnowsEnough dim types.now (number_in known) (profiles_of commands)) members.now)) }
 {
     match dim {
-        Dim::Customer => known_of_customers(tables, alloc, policy, members),
+        Dim::Customer => known_of_customers(tables, alloc, types, members),
         _ => Ok(Profiles::new(alloc)),
     }
 }
@@ -280,16 +275,14 @@ fn combinations_touched(
 fn learned_of_customers<S: Alter>(
     tables: &mut Tables<S>,
     alloc: Global,
-    policy: &Policy,
-    records: &[DimensionRecord],
+    batch: &Batch,
     touched: &[Member],
 ) -> Result<Learned, ReadFault>
     ensures reads { ReadsOnly (state_of S.Store tables.old) (state_of S.Store tables.new) result }
-    ensures learned { Finds (state_of S.Store tables.old) (state_of S.Store tables.new) (λ limits commands. (c : Accepted) → IsAccepted limits (commands ++ c ∷ []) → c.content ≡ Describes Customer records.now → policy_after None commands ≡ Some policy.now → IsSound policy.now → IfOk result (IsLearned Customer policy.now commands (commands ++ c ∷ []) touched.now)) }
+    ensures learned { Finds (state_of S.Store tables.old) (state_of S.Store tables.new) (λ limits commands. (c : Accepted) → IsAccepted limits (commands ++ c ∷ []) → c.content ≡ Describes Customer batch.now.records.now → AreTypes commands Customer batch.now.types.now → IfOk result (IsLearned Customer batch.now.types.now commands (commands ++ c ∷ []) touched.now)) }
 {
-    let types = policy.types(alloc, Dim::Customer)?;
-    let told = combinations_told(alloc, &types, records)?;
-    let all = combinations_touched(alloc, &types, records, touched)?;
+    let told = combinations_told(alloc, batch.types, batch.records)?;
+    let all = combinations_touched(alloc, batch.types, batch.records, touched)?;
     let mut known = looked_up(tables, alloc, &all)?;
     let given = profiles_given(tables, alloc)?;
     let combinations = unknown(alloc, &known, &told)?;
@@ -301,16 +294,14 @@ fn learned_of_customers<S: Alter>(
 pub(crate) fn learned_of<S: Alter>(
     tables: &mut Tables<S>,
     alloc: Global,
-    policy: &Policy,
-    dim: Dim,
-    records: &[DimensionRecord],
+    batch: &Batch,
     touched: &[Member],
 ) -> Result<Learned, ReadFault>
     ensures reads { ReadsOnly (state_of S.Store tables.old) (state_of S.Store tables.new) result }
-    ensures learned { Finds (state_of S.Store tables.old) (state_of S.Store tables.new) (λ limits commands. (c : Accepted) → IsAccepted limits (commands ++ c ∷ []) → c.content ≡ Describes dim records.now → policy_after None commands ≡ Some policy.now → IsSound policy.now → IfOk result (IsLearned dim policy.now commands (commands ++ c ∷ []) touched.now)) }
+    ensures learned { Finds (state_of S.Store tables.old) (state_of S.Store tables.new) (λ limits commands. (c : Accepted) → IsAccepted limits (commands ++ c ∷ []) → c.content ≡ Describes batch.now.dim batch.now.records.now → AreTypes commands batch.now.dim batch.now.types.now → IfOk result (IsLearned batch.now.dim batch.now.types.now commands (commands ++ c ∷ []) touched.now)) }
 {
-    match dim {
-        Dim::Customer => learned_of_customers(tables, alloc, policy, records, touched),
+    match batch.dim {
+        Dim::Customer => learned_of_customers(tables, alloc, batch, touched),
         _ => Ok(Learned {
             known: Profiles::new(alloc),
             fresh: Vec::new(alloc),

@@ -14,7 +14,7 @@ use Rattle.wh_rows.specs.Limits.{greatest_limits}
 use Rattle.wh_rows.specs.Schema.{no_schema}
 use Rattle.wh_sql.specs.Present.{are_all_there, is_any_taken}
 use Rattle.wh_sql.proofs.Worked.{taken_in_a_warehouse, taken_in_none}
-use Rattle.wh_plan.specs.Made.{making_of}
+use Rattle.wh_plan.specs.FirstRows.{making_of}
 use Rattle.wh_plan.specs.Sound.{IsAccepted}
 use Rattle.wh_engine.specs.Admission.{accepted_after}
 use Rattle.wh_engine.specs.Answered as engine

@@ -27,8 +27,8 @@ use std::alloc::{AllocError, Global};
 use std::test::Fail;
 use wh_day::{Day, NaturalKey, Value, Values};
 use wh_history::{
-    Change, Changes, DimRow, Edit, Fact, FactKeys, Member, Plan, Profiles, latest, original,
-    plan_member, prior, profile_texts, render, render_types, row_at, trial_table, value_at,
+    Change, Changes, DimRow, Dimension, Edit, Fact, FactKeys, Member, Profiles, latest, original,
+    plan_rows, prior, profile_texts, row_at, trial_table, value_at,
 };
 use wh_policy::{AttributeType, Dim, DimensionRecord, Policy};
 use wh_scenarios::{Driver, NotMade, Step, parted};
@@ -160,12 +160,22 @@ impl HistoryDriver {
         Ok(())
     }
 
+    fn dimension<'a>(&'a self, dim: Dim, types: &'a [AttributeType]) -> Dimension<'a> {
+        Dimension {
+            dim,
+            types,
+            profiles: &self.profiles,
+        }
+    }
+
     fn rows(&self, alloc: Global) -> Result<Vec<DimRow>, AllocError> {
-        render_types(alloc, &self.types, &self.member, &self.profiles)
+        self.dimension(Dim::Product, &self.types)
+            .rows_of(alloc, &self.member)
     }
 
     fn rendered(&self, alloc: Global, dim: Dim) -> Result<Vec<DimRow>, AllocError> {
-        render(alloc, &policy(alloc)?, dim, &self.member, &self.profiles)
+        let types = policy(alloc)?.types(alloc, dim)?;
+        self.dimension(dim, &types).rows_of(alloc, &self.member)
     }
 
     fn store(&mut self, alloc: Global) -> Result<(), AllocError> {
@@ -234,16 +244,12 @@ impl HistoryDriver {
     }
 
     fn push_plan(&self, alloc: Global, answer: &mut String) -> Result<(), AllocError> {
-        let plan = plan_member(
-            alloc,
-            &policy(alloc)?,
-            Dim::Product,
-            &self.stored,
-            &self.facts,
-            &self.member,
-            &self.profiles,
-        )?;
-        push_edits(answer, &plan)
+        let types = policy(alloc)?.types(alloc, Dim::Product)?;
+        let dimension = self.dimension(Dim::Product, &types);
+        let after = dimension.rendered(alloc, &self.member)?;
+        let rows = plan_rows(alloc, &self.stored, &after.rows)?;
+        let facts = dimension.rekeyed_facts(alloc, &after, &self.facts)?;
+        push_edits(answer, &rows, &facts)
     }
 }
 
@@ -364,11 +370,15 @@ fn push_value_of(
     answer.push_str(value.as_str())
 }
 
-fn push_edits(answer: &mut String, plan: &Plan) -> Result<(), AllocError> {
-    for edit in &plan.rows {
+fn push_edits(
+    answer: &mut String,
+    rows: &[Edit<DimRow, u64>],
+    facts: &[Fact],
+) -> Result<(), AllocError> {
+    for edit in rows {
         push_edit(answer, edit)?;
     }
-    for moved in &plan.facts {
+    for moved in facts {
         answer.push_str("moved ")?;
         answer.push_str(moved.ticket.as_str())?;
         answer.push_str(" ")?;

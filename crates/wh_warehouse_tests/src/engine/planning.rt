@@ -18,9 +18,9 @@ use sqlite_value::value::Bytes;
 use std::alloc::{AllocError, Global};
 use wh_day::{Day, NaturalKey, Value, Values};
 use wh_engine::{write_edits, write_making};
-use wh_history::{Change, Changes, DimRow, Edit, Member, Profiles};
-use wh_plan::kept::{command_of, members_given, stored_changes, stored_member, stored_rows};
-use wh_plan::planning::{new_changes, new_members, rendered};
+use wh_history::{Change, Changes, DimRow, Dimension, Edit, Member, Profiles};
+use wh_plan::new_rows::{new_changes, new_members, rows_of_members};
+use wh_plan::reading::{command_of, last_member, stored_changes, stored_member, stored_rows};
 use wh_plan::{Edits, plan_batch};
 use wh_policy::{Dim, DimensionRecord, Policy};
 use wh_rows::tables::{Calendar, Product, Profile};
@@ -162,8 +162,8 @@ fn push_given(
         "store" => Dim::Store,
         _ => return Err(Trouble),
     };
-    let given = members_given(tables, alloc, dim)?;
-    Ok(push_numbers(out, &[given.members, given.opening])?)
+    let last = last_member(tables, alloc, dim)?;
+    Ok(push_numbers(out, &[last.durable, last.opening])?)
 }
 
 fn day_of(word: &str) -> Result<Day, Trouble> {
@@ -244,10 +244,14 @@ fn push_changes(alloc: Global, words: &str, handed: &str, out: &mut String) -> R
 }
 
 fn push_rendered(alloc: Global, handed: &str, out: &mut String) -> Result<(), Trouble> {
-    let policy = Policy::trial(alloc)?;
+    let types = Policy::trial(alloc)?.types(alloc, Dim::Product)?;
     let profiles = Profiles::new(alloc);
-    let members = touched(alloc, handed)?;
-    let rows = rendered(alloc, &policy, Dim::Product, &members, &profiles)?;
+    let dimension = Dimension {
+        dim: Dim::Product,
+        types: &types,
+        profiles: &profiles,
+    };
+    let rows = rows_of_members(alloc, &dimension, &touched(alloc, handed)?)?;
     Ok(push_rows(out, "", &rows)?)
 }
 
@@ -280,7 +284,9 @@ fn write(alloc: Global, tables: &mut InMemory, edits: &Edits) -> Result<(), Caus
 
 /// The edits of a command, in the order in which they are made.
 fn push_edits(out: &mut String, edits: &Edits) -> Result<(), AllocError> {
-    push_rows(out, "command ", &edits.command)?;
+    out.push_str("command ")?;
+    edits.command.push(out)?;
+    out.push_str("\n")?;
     push_rows(out, "member ", &edits.members)?;
     push_rows(out, "change ", &edits.changes)?;
     push_rows(out, "profile ", &edits.profiles)?;

@@ -1,6 +1,6 @@
 use Rattle.std.proofs.Common.{◌≡◌, ◌∙◌, true, None, Some, sym}
 use Rattle.wh_rows.specs.Types.{is_key}
-use Rattle.wh_plan.specs.Kept.{command_with}
+use Rattle.wh_plan.specs.Reading.{command_with}
 use Rattle.wh_engine.proofs.Decisions.{known_answer, is_new}
 use Rattle.wh_engine.proofs.decision.decide.Goals as goal
 

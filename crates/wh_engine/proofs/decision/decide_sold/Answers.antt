@@ -4,7 +4,7 @@ use Rattle.wh_history.specs.Accepted.{Sells, placeholders_by}
 use Rattle.wh_engine.specs.Admission.{accepted_as, answer, number_for}
 use Rattle.wh_engine.specs.Decided.{Decides, row_of_batch}
 use Rattle.wh_rows.specs.declared.rows.CommandRow.{CommandRow}
-use Rattle.wh_plan.specs.Planned.{Edits}
+use Rattle.wh_plan.specs.Edits.{Edits}
 use Rattle.wh_engine.specs.declared.command.Reply.TheVariants.{Accepted as Accepts}
 use Rattle.wh_engine.proofs.Decisions.{judged_ok, judged_err, number_refused, batch_accepted, next_number, lines_new, list_accepted, own_row, policy_in_force, sound_in_force}
 use Rattle.wh_engine.proofs.SalesPremises.{members_counted}

@@ -1,5 +1,5 @@
 use Rattle.std.proofs.Common.{◌≡◌, ◌+◌, ◌*◌, ◌≤◌, ◌++◌}
-use Rattle.wh_plan.specs.Made.{calendar_rows}
+use Rattle.wh_plan.specs.FirstRows.{calendar_rows}
 use Rattle.wh_engine.proofs.MadeCalendar.{rows_from}
 use Rattle.wh_engine.proofs.making.calendar.Given as goal
 

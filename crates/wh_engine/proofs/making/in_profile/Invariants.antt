@@ -1,7 +1,7 @@
 use Rattle.std.proofs.Common.{◌≡◌, ◌++◌, [], cond, drop}
 use Rattle.wh_policy.specs.Types.{is_profile}
 use Rattle.wh_history.specs.Slots.{columns_from}
-use Rattle.wh_plan.specs.Made.{in_profile}
+use Rattle.wh_plan.specs.FirstRows.{in_profile}
 use Rattle.wh_engine.proofs.making.in_profile.Given as goal
 
 -- the texts so far and those of the types that are left are all

@@ -2,7 +2,7 @@ use Rattle.std.proofs.Common.{◌∙◌, None, ap}
 use Rattle.std.proofs.lemmas.Result.{on_ok_weaker}
 use Rattle.wh_history.specs.Tables.{no_card_row}
 use Rattle.wh_store.specs.Meta.{made_with}
-use Rattle.wh_plan.specs.Made.{first_profiles}
+use Rattle.wh_plan.specs.FirstRows.{first_profiles}
 use Rattle.wh_engine.proofs.MadeFirst.{AreFirst, are_first}
 use Rattle.wh_engine.proofs.making.write_making.Given.{Over}
 use Rattle.wh_engine.proofs.making.write_making.Goals as goal

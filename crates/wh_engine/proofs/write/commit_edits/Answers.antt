@@ -4,7 +4,7 @@ use Rattle.sqlite.specs.State.{HasCleanDisk}
 use Rattle.sqlite.specs.Tree.{Trees}
 use Rattle.wh_rows.specs.AtRest.{AreTrees, IsAtRest}
 use Rattle.wh_rows.specs.Tables.{Tables}
-use Rattle.wh_plan.specs.Planned.{with_all_edits}
+use Rattle.wh_plan.specs.Edits.{with_all_edits}
 use Rattle.wh_plan.specs.Writable.{MayBeWritten}
 use Rattle.wh_engine.proofs.write.commit_edits.Goals as goal
 

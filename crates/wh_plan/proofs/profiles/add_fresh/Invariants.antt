@@ -1,6 +1,6 @@
 use Rattle.std.proofs.Common.{◌≡◌, ◌+◌, ◌++◌, map, drop}
 use Rattle.wh_history.specs.Known.{numbered_from}
-use Rattle.wh_plan.specs.Learned.{row_of_profile}
+use Rattle.wh_plan.specs.Profiles.{row_of_profile}
 use Rattle.wh_plan.proofs.profiles.add_fresh.Given as goal
 
 abbrev pub invariant-loop-place : goal.invariant-loop-place

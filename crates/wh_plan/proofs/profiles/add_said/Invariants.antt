@@ -1,5 +1,5 @@
 use Rattle.std.proofs.Common.{◌≡◌, drop}
-use Rattle.wh_plan.specs.Learned.{with_combinations, said_of}
+use Rattle.wh_plan.specs.Profiles.{with_combinations, said_of}
 use Rattle.wh_plan.proofs.profiles.add_said.Given as goal
 
 abbrev pub invariant-loop-change : goal.invariant-loop-change

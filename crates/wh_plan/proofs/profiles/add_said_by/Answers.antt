@@ -1,5 +1,5 @@
 use Rattle.std.proofs.Common.{◌∙◌, ap}
-use Rattle.wh_plan.specs.Learned.{with_combinations, said_of}
+use Rattle.wh_plan.specs.Profiles.{with_combinations, said_of}
 use Rattle.wh_plan.proofs.Learning.{said_more}
 use Rattle.wh_plan.proofs.profiles.add_said_by.Goals as goal
 

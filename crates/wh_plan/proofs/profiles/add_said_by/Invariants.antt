@@ -1,5 +1,5 @@
 use Rattle.std.proofs.Common.{◌≡◌, drop}
-use Rattle.wh_plan.specs.Learned.{with_combinations, said_by}
+use Rattle.wh_plan.specs.Profiles.{with_combinations, said_by}
 use Rattle.wh_plan.proofs.profiles.add_said_by.Given as goal
 
 abbrev pub invariant-loop-member : goal.invariant-loop-member

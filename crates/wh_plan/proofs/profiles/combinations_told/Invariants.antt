@@ -1,5 +1,5 @@
 use Rattle.std.proofs.Common.{◌≡◌, [], drop}
-use Rattle.wh_plan.specs.Learned.{with_combinations, told_of}
+use Rattle.wh_plan.specs.Profiles.{with_combinations, told_of}
 use Rattle.wh_plan.proofs.profiles.combinations_told.Given as goal
 
 abbrev pub invariant-loop-told : goal.invariant-loop-told

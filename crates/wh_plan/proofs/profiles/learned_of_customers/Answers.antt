@@ -1,32 +1,35 @@
-use Rattle.std.proofs.Common.{◌≡◌, ◌+◌, ◌++◌, ◌∷◌, [], suc, map, length, ◌∙◌, ap, arith}
+use Rattle.std.proofs.Common.{◌≡◌, ◌+◌, ◌++◌, ◌∷◌, [], List, suc, map, length, sym, ◌∙◌, ap, subst, arith}
+use Rattle.std.specs.List.{AllByRecursion}
 use Rattle.wh_policy.specs.Policy.{types_of}
+use Rattle.wh_policy.specs.declared.attribute.AttributeType.{AttributeType}
 use Rattle.wh_policy.specs.declared.attribute.Dim.TheVariants.{Customer}
 use Rattle.wh_history.specs.Accepted.{profiles_of}
-use Rattle.wh_history.specs.Known.{numbered_from}
+use Rattle.wh_history.specs.Known.{number_in, numbered_from, KnowsEnough}
 use Rattle.wh_history.specs.Laws.{governs}
-use Rattle.wh_plan.specs.Learned.{with_combinations, told_of, said_by, number_kept, learned, unknown, row_of_profile}
+use Rattle.wh_plan.specs.Profiles.{with_combinations, told_of, said_by, number_kept, learned, unknown, row_of_profile}
 use Rattle.wh_plan.proofs.PlanProfiles.{touched_known, touched_fresh, base_few}
 use Rattle.wh_plan.proofs.SmallNumbers.{profiles_few}
 use Rattle.wh_plan.proofs.profiles.learned_of_customers.Goals as goal
 
 pub returns-clause-learned : goal.returns-clause-learned
-returns-clause-learned g c clean limits commands t are at batch accepted is governed sound =
-    let policy = c.args.policy.now in
-    let records = c.args.records.now in
+returns-clause-learned g c clean limits commands t are at sent accepted is typed =
+    let policy = typed.policy in
+    let records = c.args.batch.now.records.now in
     let members = c.args.touched.now in
     let kinds = types_of policy Customer in
     let kept = number_kept t.profile in
     let before = c.in_ok-given.ensures.reads.clean clean in
-    let told = c.in_ok-told.ensures ∙ ap (λ ks. with_combinations [] (told_of ks records)) (c.deref.ensures.value ∙ c.in_ok-types.ensures) in
-    let all = c.deref-3.ensures.value ∙ c.in_ok-all.ensures ∙ ap (λ ks. with_combinations (with_combinations [] (told_of ks records)) (said_by ks members)) (c.deref-2.ensures.value ∙ c.in_ok-types.ensures) in
+    let told = c.in_ok-told.ensures ∙ ap (λ ks. with_combinations [] (told_of ks records)) typed.are in
+    let all = c.deref.ensures.value ∙ c.in_ok-all.ensures ∙ ap (λ ks. with_combinations (with_combinations [] (told_of ks records)) (said_by ks members)) typed.are in
     let looked = c.in_ok-known.ensures.known before t at ∙ ap (learned kept) all in
     let still = c.in_ok-known.ensures.reads.same before t at tt in
-    let given = c.in_ok-given.ensures.given clean limits commands t are still (base_few commands batch (ap governs is) (profiles_few limits (commands ++ batch ∷ []) accepted)) in
+    let given = c.in_ok-given.ensures.given clean limits commands t are still (base_few commands sent (ap governs is) (profiles_few limits (commands ++ sent ∷ []) accepted)) in
     let next : c.in_ok-given.given + 1 ≡ suc (suc (length (profiles_of commands))) = omega arith in
-    let combinations = c.deref-5.ensures.value ∙ c.in_ok-combinations.ensures ∙ ap (λ ks. unknown ks c.deref-4.result.now) looked ∙ ap (unknown (learned kept (with_combinations (with_combinations [] (told_of kinds records)) (said_by kinds members)))) (c.deref-4.ensures.value ∙ told) in
+    let combinations = c.deref-3.ensures.value ∙ c.in_ok-combinations.ensures ∙ ap (λ ks. unknown ks c.deref-2.result.now) looked ∙ ap (unknown (learned kept (with_combinations (with_combinations [] (told_of kinds records)) (said_by kinds members)))) (c.deref-2.ensures.value ∙ told) in
     let numbered = ap (λ cs. numbered_from (c.in_ok-given.given + 1) cs) combinations ∙ ap (λ n. numbered_from n (unknown (learned kept (with_combinations (with_combinations [] (told_of kinds records)) (said_by kinds members))) (with_combinations [] (told_of kinds records)))) next in
     record {
-      enough = touched_known limits commands t are policy governed sound batch records is members c.add_fresh.new.known
-          (c.in_ok-fresh.ensures.1 ∙ ap (λ ks. ks ++ numbered_from (c.in_ok-given.given + 1) c.deref-5.result.now) looked ∙ ap (λ ks. learned kept (with_combinations (with_combinations [] (told_of kinds records)) (said_by kinds members)) ++ ks) numbered);
-      fresh = c.in_ok-fresh.ensures.0 ∙ ap (map row_of_profile) numbered ∙ touched_fresh limits commands t are policy governed sound batch records is members;
+      enough = subst (λ (ks : List AttributeType). AllByRecursion (KnowsEnough Customer ks (number_in c.add_fresh.new.known) (profiles_of (commands ++ sent ∷ []))) members) (sym typed.are)
+          (touched_known limits commands t are policy typed.governed typed.sound sent records is members c.add_fresh.new.known
+          (c.in_ok-fresh.ensures.1 ∙ ap (λ ks. ks ++ numbered_from (c.in_ok-given.given + 1) c.deref-3.result.now) looked ∙ ap (λ ks. learned kept (with_combinations (with_combinations [] (told_of kinds records)) (said_by kinds members)) ++ ks) numbered));
+      fresh = c.in_ok-fresh.ensures.0 ∙ ap (map row_of_profile) numbered ∙ touched_fresh limits commands t are policy typed.governed typed.sound sent records is members;
     }

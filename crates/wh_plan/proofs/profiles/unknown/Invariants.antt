@@ -1,5 +1,5 @@
 use Rattle.std.proofs.Common.{◌≡◌, ◌++◌, drop}
-use Rattle.wh_plan.specs.Learned.{unknown}
+use Rattle.wh_plan.specs.Profiles.{unknown}
 use Rattle.wh_plan.proofs.profiles.unknown.Given as goal
 
 abbrev pub invariant-loop-texts : goal.invariant-loop-texts

@@ -1,0 +1,57 @@
+//! How a dimension shows its members.
+
+ghost use Rattle.std.specs.Prelude.{◌≡◌, IfOk};
+ghost use Rattle.wh_history.specs.Laws.{EachDayHasOneRow, OneRowIsCurrent};
+ghost use Rattle.wh_history.specs.Shapes.{shape_of, rows_in, rendered_in, shown};
+
+use crate::dated::dated;
+use crate::member::{Change, Member};
+use crate::profiles::Profiles;
+use crate::rendering::render;
+use crate::rows::DimRow;
+use std::alloc::{AllocError, Global};
+use wh_policy::{AttributeType, Dim};
+
+/// What the rows of a dimension's members and the keys of their facts depend on beside the members: the types of the
+/// slots, and what is known of profiles. A batch makes it once.
+#[derive(Drop)]
+pub struct Dimension<'a> {
+    pub dim: Dim,
+    pub types: &'a [AttributeType],
+    pub profiles: &'a Profiles,
+}
+
+/// A member with its rows, and its changes in order of their days.
+#[derive(Drop)]
+pub struct Rendered<'a> {
+    pub member: &'a Member,
+    pub rows: Vec<DimRow>,
+    pub dated: Vec<&'a Change>,
+}
+
+impl Dimension<'_> {
+    /// A member's rows, in order of their starts.
+    pub fn rows_of(&self, alloc: Global, member: &Member) -> Result<Vec<DimRow>, AllocError>
+        ensures rows { IfOk result (λ found. found.items ≡ rows_in (shape_of self.now) member.now) }
+        // No two rows overlap, and no day is left out.
+        ensures days { IfOk result (λ found. EachDayHasOneRow found.items) }
+        ensures current { IfOk result (λ found. OneRowIsCurrent found.items) }
+    {
+        render(alloc, self.types, member, self.profiles)
+    }
+
+    /// A member with its rows and its changes by days.
+    pub fn rendered<'b>(
+        &self,
+        alloc: Global,
+        member: &'b Member,
+    ) -> Result<Rendered<'b>, AllocError>
+        ensures { IfOk result (λ made. shown made ≡ rendered_in (shape_of self.now) member.now) }
+    {
+        Ok(Rendered {
+            member,
+            rows: self.rows_of(alloc, member)?,
+            dated: dated(alloc, member.changes.as_slice())?,
+        })
+    }
+}

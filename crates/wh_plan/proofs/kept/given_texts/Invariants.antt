@@ -1,6 +1,0 @@
-use Rattle.std.proofs.Common.{◌≡◌, map, take}
-use Rattle.wh_plan.specs.Kept.{given_text}
-use Rattle.wh_plan.proofs.kept.given_texts.Given as goal
-
-abbrev pub invariant-loop-text : goal.invariant-loop-text
-invariant-loop-text l = l.given ≡ map given_text (take l.text-index l.texts)

@@ -1,0 +1,14 @@
+use Rattle.wh_policy.specs.declared.attribute.Dim.TheVariants.{Product, Store, Customer}
+use Rattle.wh_plan.proofs.sale_plan.plan_sales.Goals as goal
+
+pub returns-clause-edits : goal.returns-clause-edits
+returns-clause-edits g c clean limits commands t are at sold full few is governed sound new distinct command_is =
+    let second = c.in_ok-customers.ensures.reads.clean clean in
+    let first = c.in_ok-stores.ensures.reads.clean second in
+    let at_first = c.in_ok-products.ensures.reads.same first t at tt in
+    let at_second = c.in_ok-stores.ensures.reads.same second t at_first tt in
+    c.in_ok-edits_of_sales.ensures commands sold is
+    (c.in_ok-products.ensures.sold first limits commands t are at sold full (few Product).0 (few Product).1 is governed sound)
+    (c.in_ok-stores.ensures.sold second limits commands t are at_first sold full (few Store).0 (few Store).1 is governed sound)
+    (c.in_ok-customers.ensures.sold clean limits commands t are at_second sold full (few Customer).0 (few Customer).1 is governed sound)
+    new distinct command_is

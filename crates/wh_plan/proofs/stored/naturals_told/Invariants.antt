@@ -1,9 +1,0 @@
-use Rattle.std.proofs.Common.{◌≡◌, take}
-use Rattle.wh_plan.specs.Planning.{naturals_told}
-use Rattle.wh_plan.proofs.stored.naturals_told.Given as goal
-
-abbrev pub invariant-loop-told : goal.invariant-loop-told
-invariant-loop-told l = record {
-  same : l.named.keys ≡ l.naturals.items;
-  told : l.naturals.items ≡ naturals_told (take l.told-index l.records);
-}

@@ -1,0 +1,77 @@
+-- Which stored facts a batch of records moves.
+use Rattle.std.specs.Prelude.{◌≡◌, ℕ, nat_lt, if◌then◌else◌, ◌&&◌, List, [], ◌∷◌, ◌++◌, drop, length, filter, filter_map, flat_map, Option}
+use Rattle.std.specs.List.{list_any}
+use Rattle.std.specs.FinMap.{FinMap, values}
+use Rattle.std.specs.Ordering.{eq_by_cmp, is_ge, nat_cmp}
+use Rattle.wh_day.specs.Day.{first_day, last_day}
+use Rattle.wh_policy.specs.declared.attribute.Dim.{Dim}
+use Rattle.wh_policy.specs.declared.attribute.Dim.TheVariants.{Product, Store, Customer}
+use Rattle.wh_policy.specs.declared.record.DimensionRecord.{DimensionRecord}
+use Rattle.wh_history.specs.Accepted.{Accepted, Describes, member_of, durable_key}
+use Rattle.wh_history.specs.Facts.{rekeyed_fact}
+use Rattle.wh_history.specs.Shapes.{Shape, shape_after, rendered_in}
+use Rattle.wh_history.specs.Tables.{Limits}
+use Rattle.wh_history.specs.declared.facts.Fact.{Fact}
+use Rattle.wh_history.specs.declared.member.Change.{Change}
+use Rattle.wh_history.specs.declared.member.Member.{Member}
+use Rattle.wh_rows.specs.Rows as row
+use Rattle.wh_rows.specs.Tables.{Tables}
+use Rattle.wh_sql.specs.Asked.{durable_of}
+use Rattle.wh_plan.specs.Defined.{AreOf, fact_at}
+use Rattle.wh_plan.specs.Laws.{ShowsNoProfile}
+use Rattle.wh_plan.specs.Edits.{AreFacts}
+use Rattle.wh_plan.specs.declared.touched.TouchedMember.{TouchedMember}
+use Rattle.wh_plan.specs.NewRows.{members_among, naturals_told}
+
+-- a fact with the keys that a member's rows of a dimension give it under these commands, where they are others than it has
+abbrev pub moved_for : List Accepted → Dim → List ℕ → Fact → Option Fact
+moved_for commands dim natural f = rekeyed_fact (shape_after dim commands) (rendered_in (shape_after dim commands) (member_of dim commands natural)) f
+
+-- the facts of a table that carry a durable key of a dimension, in order of their keys
+abbrev pub facts_with : FinMap row.fact.order Fact → Dim → ℕ → List Fact
+facts_with table dim durable = filter (λ f. eq_by_cmp nat_cmp durable (durable_of dim f)) (values table)
+
+-- of some facts those that move by the rows of a member, with their new keys
+abbrev pub rekeyed_facts : Shape → Member → List Fact → List Fact
+rekeyed_facts shape m facts = filter_map (rekeyed_fact shape (rendered_in shape m)) facts
+
+-- the earliest day of changes, and the last day of all where there is none
+abbrev pub earliest : List Change → ℕ
+earliest [] = last_day
+earliest (c ∷ cs) = if nat_lt c.day (earliest cs) then c.day else earliest cs
+
+-- The day since which the facts of a member can move, by its changes before a batch and with it: where one is of an earlier day than
+-- all new ones, the earliest day of these, since before it nothing changes. Before the earliest change of all, that one says what holds.
+abbrev pub since_first : List Change → ℕ → ℕ
+since_first stored first = if list_any (λ c. nat_lt c.day first) stored then first else first_day
+
+abbrev pub moves_since : List Change → List Change → ℕ
+moves_since stored changes = since_first stored (earliest (drop (length stored) changes))
+
+-- of those facts the ones since a day
+abbrev pub facts_since : FinMap row.fact.order Fact → Dim → ℕ → ℕ → List Fact
+facts_since table dim durable from = filter (λ f. eq_by_cmp nat_cmp durable (durable_of dim f) && is_ge (nat_cmp f.day from)) (values table)
+
+-- a member that a batch touches, as it is stored and as it is after the batch
+abbrev pub pair_of : TouchedMember → Member × Member
+pair_of t = (t.stored.now, t.after.now)
+
+-- of a table of facts those of a touched member that move; one that isn't stored has none
+abbrev pub moved_of_touched : Shape → FinMap row.fact.order Fact → Member × Member → List Fact
+moved_of_touched shape table t = if nat_lt 0 t.0.durable then rekeyed_facts shape t.1 (facts_since table shape.dim t.1.durable (moves_since t.0.changes t.1.changes)) else []
+
+-- of a table of the facts of some commands, those of one member that move under others, with their new keys
+abbrev pub moves_of_member : List Accepted → List Accepted → FinMap row.fact.order Fact → Dim → List ℕ → List Fact
+moves_of_member before after table dim natural = filter_map (moved_for after dim natural) (facts_with table dim (durable_key dim before natural))
+
+-- those of some members, one member after the other
+abbrev pub moves_of_members : List Accepted → List Accepted → FinMap row.fact.order Fact → Dim → List (List ℕ) → List Fact
+moves_of_members before after table dim naturals = flat_map (moves_of_member before after table dim) naturals
+
+-- Of the touched members that were there, the facts whose keys change, with their new keys, are exactly what leads from the facts of the commands to those with the batch.
+abbrev pub MovedFactsAreExact : Type 0
+MovedFactsAreExact = (limits : Limits) (commands : List Accepted) (c : Accepted) (dim : Dim) (records : List DimensionRecord) (t : Tables)
+    → c.content ≡ Describes dim records
+    → (dim ≡ Customer → ShowsNoProfile commands Product × ShowsNoProfile commands Store)
+    → AreOf limits commands t
+    → AreFacts (fact_at commands) (fact_at (commands ++ c ∷ [])) (moves_of_members commands (commands ++ c ∷ []) t.fact dim (members_among commands dim (naturals_told records)))

@@ -1,0 +1,117 @@
+//! What a batch writes, from the members that it touches.
+
+ghost use Rattle.std.specs.Prelude.{◌≡◌, ◌++◌, ◌∷◌, [], List, length, filter_map, flat_map, IfOk};
+ghost use Rattle.std.specs.List.{AllByRecursion};
+ghost use Rattle.wh_history.specs.Accepted.{Accepted, Describes, members, profiles_of, types_in};
+ghost use Rattle.wh_history.specs.Known.{number_in, KnowsEnough};
+ghost use Rattle.wh_history.specs.Shapes.{shape_of, rows_in};
+ghost use Rattle.wh_history.specs.Touched.{touched_by};
+ghost use Rattle.wh_plan.specs.Defined.{member_at, change_at};
+ghost use Rattle.wh_plan.specs.Edits.{behind};
+ghost use Rattle.wh_plan.specs.NewRows.{Records, rows_of_members, naturals_told, by_place, row_of_member, new_member, row_of_record, new_change};
+
+use crate::by_natural::by_natural;
+use std::alloc::{AllocError, Global};
+use wh_history::{DimRow, Dimension, Member, anchor_of_day, six_texts};
+use wh_policy::{Dim, DimensionRecord};
+use wh_rows::{ChangeKey, ChangeRow, MemberRow};
+
+fn member_row(dim: Dim, member: &Member) -> Result<MemberRow, AllocError>
+    ensures { IfOk result (λ row. row ≡ row_of_member dim member.now) }
+{
+    Ok(MemberRow {
+        dim,
+        durable: member.durable,
+        natural: member.natural.copy()?,
+        opening: member.opening,
+    })
+}
+
+/// The rows of the touched members whose durable keys come after those of the members before the batch.
+pub fn new_members(
+    alloc: Global,
+    dim: Dim,
+    members_before: u64,
+    touched: &[Member],
+) -> Result<Vec<MemberRow>, AllocError>
+    ensures rows { IfOk result (λ rows. rows.items ≡ filter_map (new_member dim members_before) touched.now) }
+    // They are what the member table gets.
+    ensures planned { (commands : List Accepted) (c : Accepted) (records : Records) → c.content ≡ Describes dim records
+        → touched.now ≡ (touched_by dim commands (commands ++ c ∷ []) records).list → members_before ≡ length (members dim commands)
+        → IfOk result (λ rows. rows.items ≡ filter_map (λ n. member_at (commands ++ c ∷ []) (record { dim = dim; durable = n })) (behind (length (members dim commands)) (length (members dim (commands ++ c ∷ []))))) }
+{
+    let mut rows = Vec::new(alloc);
+    for member in touched {
+        if members_before < member.durable {
+            rows.push(member_row(dim, member)?)?;
+        }
+    }
+    Ok(rows)
+}
+
+fn change_row(
+    alloc: Global,
+    dim: Dim,
+    key: ChangeKey,
+    told: &DimensionRecord,
+    member: &Member,
+) -> Result<ChangeRow, AllocError>
+    ensures { IfOk result (λ row. row ≡ row_of_record dim key.command key.place told.now member.now) }
+{
+    Ok(ChangeRow {
+        command: key.command,
+        place: key.place,
+        dim,
+        durable: member.durable,
+        day: told.day,
+        anchor: anchor_of_day(member.changes.as_slice(), told.day),
+        values: six_texts(alloc, &told.values)?,
+    })
+}
+
+/// The rows of a batch's records, by the members that it touches.
+pub fn new_changes(
+    alloc: Global,
+    dim: Dim,
+    command: u64,
+    touched: &[Member],
+    records: &[DimensionRecord],
+) -> Result<Vec<ChangeRow>, AllocError>
+    ensures rows { IfOk result (λ rows. rows.items ≡ by_place (new_change dim command touched.now) 1 records.now) }
+    // They are what the change table gets.
+    ensures planned { (commands : List Accepted) (c : Accepted) → c.content ≡ Describes dim records.now
+        → touched.now ≡ (touched_by dim commands (commands ++ c ∷ []) records.now).list → command ≡ length (commands ++ c ∷ [])
+        → IfOk result (λ rows. rows.items ≡ filter_map (λ n. change_at (commands ++ c ∷ []) (record { command = command; place = n })) (behind 0 (length records.now))) }
+{
+    let found = by_natural(alloc, touched)?;
+    let mut rows = Vec::new(alloc);
+    for (place, told) in records.iter().enumerate() {
+        if let Some(member) = found.get(told.natural.as_str()).copied() {
+            let place = place as u64 + 1;
+            let key = ChangeKey { command, place };
+            rows.push(change_row(alloc, dim, key, told, member)?)?;
+        }
+    }
+    Ok(rows)
+}
+
+/// The rows of the touched members, one member after the other.
+pub fn rows_of_members(
+    alloc: Global,
+    dimension: &Dimension,
+    touched: &[Member],
+) -> Result<Vec<DimRow>, AllocError>
+    ensures rows { IfOk result (λ found. found.items ≡ flat_map (rows_in (shape_of dimension.now)) touched.now) }
+    // Under the policy in force with a batch, where enough is known of the members' profiles, they are the rows that the members have then.
+    ensures planned { (before after : List Accepted) (records : Records) → touched.now ≡ (touched_by dimension.now.dim before after records).list
+        → types_in dimension.now.dim after ≡ dimension.now.types.now
+        → AllByRecursion (KnowsEnough dimension.now.dim dimension.now.types.now (number_in dimension.now.profiles.now) (profiles_of after)) touched.now
+        → IfOk result (λ found. found.items ≡ rows_of_members after dimension.now.dim (naturals_told records)) }
+{
+    let mut found = Vec::new(alloc);
+    for member in touched {
+        let mut rows = dimension.rows_of(alloc, member)?;
+        found.append(&mut rows)?;
+    }
+    Ok(found)
+}
