@@ -1,6 +1,9 @@
 //! The files of the system, and the connections to those that are warehouses.
 
-use sqlite::{Connection, Error, ErrorCode, FileStore, Options, Unknown};
+ghost use Rattle.std.specs.Prelude.{IsTrue};
+
+use sqlite::{Connection, Error, ErrorCode, FileStore, Files, Options, Unknown};
+use sqlite_disk::Disk;
 use sqlite_std_file::{File as DatabaseFile, OpenError};
 use std::alloc::Global;
 use std::fs::{self, File};
@@ -74,20 +77,44 @@ fn options_for(runtime: &HostRuntime, name: &str) -> Result<Options, HostError> 
     })
 }
 
+/// A connection to the database in two files, on whatever disk they lie.
+fn connected<D: Disk + Drop>(
+    alloc: Global,
+    files: Files<D>,
+    options: Options,
+) -> Result<Connection<FileStore<D>>, HostError>
+    requires log { IsTrue (D.Disk.is_usable files.log) }
+    requires db { IsTrue (D.Disk.is_usable files.db) }
+{
+    match Connection::open_files(alloc, files, options) {
+        Ok(connection) => Ok(connection),
+        Err((error, _)) => Err(of_connecting(error)),
+    }
+}
+
 /// Connects the database in a file, or in a new one of that name, whose pages get no check sums: the `sqlite3` program can write it too.
 fn connect(
     runtime: &HostRuntime,
     name: &str,
 ) -> Result<Connection<FileStore<DatabaseFile>>, HostError> {
+    let options = options_for(runtime, name)?;
     // `Unknown` says nothing of what the file holds, and supposes that a torn write leaves each byte old or new.
-    let files = match sqlite_std_file::open(runtime, name, Unknown) {
-        Ok(files) => files,
-        Err(error) => return Err(of_opening(error)),
-    };
-    match Connection::open_files(runtime.alloc(), files, options_for(runtime, name)?) {
-        Ok(connection) => Ok(connection),
-        Err((error, _)) => Err(of_connecting(error)),
+    match sqlite_std_file::open(runtime, name, Unknown) {
+        Ok(files) => connected(runtime.alloc(), files, options),
+        Err(error) => Err(of_opening(error)),
     }
+}
+
+/// What a visitor answers over a connection, which is then closed.
+fn visited<D: Disk + Drop, V: Visitor>(
+    alloc: Global,
+    connection: Connection<FileStore<D>>,
+    visitor: V,
+) -> V::Output {
+    let (output, connection) = visitor.visit(alloc, connection);
+    // What was committed is in the files already, so a failure here loses nothing.
+    let _ = connection.close();
+    output
 }
 
 /// All bytes of a file.
@@ -112,9 +139,9 @@ impl Host for SystemHost<'_> {
         name: &str,
         visitor: V,
     ) -> Result<V::Output, HostError> {
-        let (output, connection) = visitor.visit(alloc, connect(self.runtime, name)?);
-        // What was committed is in the files already, so a failure here loses nothing.
-        let _ = connection.close();
-        Ok(output)
+        match connect(self.runtime, name) {
+            Ok(connection) => Ok(visited(alloc, connection, visitor)),
+            Err(error) => Err(error),
+        }
     }
 }
