@@ -1,7 +1,7 @@
 -- What the rows of the tables say of the answer to a command.
-use Rattle.std.proofs.Common.{◌≡◌, ℕ, suc, ◌+◌, ◌-◌, ◌<◌, ◌≤◌, Bool, true, false, cond, leb, ltb, List, [], ◌∷◌, ◌++◌, length, Option, Some, None, Result, Ok, Err, refl, sym, ap, subst, ◌∙◌, arith, length-append}
+use Rattle.std.proofs.Common.{◌≡◌, ℕ, suc, ◌+◌, ◌-◌, ◌<◌, ◌≤◌, Bool, true, false, leb, List, [], ◌∷◌, ◌++◌, length, Option, Some, None, Result, Ok, Err, refl, sym, ap, subst, ◌∙◌, arith, length-append}
 use Rattle.std.proofs.lemmas.Bool.{le-leb, lt-leb, le-ltb, lt-ltb, leb-true, leb-false}
-use Rattle.std.specs.Prelude.{find, bytes_eq, option_map, IsSome, unwrap_or, ◌&&◌}
+use Rattle.std.specs.Prelude.{find, bytes_eq, option_map, IsSome, unwrap_or}
 use Rattle.wh_day.specs.Reading.{◌>>=◌}
 use Rattle.wh_policy.specs.Policy.{trial_policy}
 use Rattle.wh_policy.specs.declared.attribute.Dim.{Dim}
@@ -20,7 +20,7 @@ use Rattle.wh_history.specs.Tables.{Limits}
 use Rattle.wh_history.proofs.Basics.{some_is}
 use Rattle.wh_rows.specs.declared.rows.CommandRow.{CommandRow}
 use Rattle.wh_rows.specs.Types.{is_key}
-use Rattle.wh_engine.specs.Admission.{kind_word, content_of, in_force, accepted_as, receipt_of, changes_in, first_line_there, number_past_lines, number_for, answer_with, when_read, by_id, already, answer, with_content, after_answer, accepted_after}
+use Rattle.wh_engine.specs.Admission.{kind_word, content_of, in_force, accepted_as, receipt_of, changes_in, first_line_there, number_past_lines, number_for, answer_with, when_read, by_id, answer, with_content, after_answer, accepted_after}
 use Rattle.wh_engine.specs.Decided.{reply_to_known, as_refused, records_told, sales_told, IsNew}
 use Rattle.wh_plan.specs.Defined.{command_at}
 use Rattle.wh_engine.specs.Faults.{Judges}
@@ -30,10 +30,9 @@ use Rattle.wh_engine.specs.declared.command.Command.{Command}
 use Rattle.wh_engine.specs.declared.fault.Fault.{Fault}
 use Rattle.wh_engine.specs.declared.fault.Fault.TheVariants as faults
 use Rattle.wh_engine.specs.declared.command.Receipt.{Receipt}
-use Rattle.wh_engine.specs.declared.command.Reply.{Reply}
 use Rattle.wh_engine.specs.declared.command.Reply.TheVariants.{Accepted as Accepts, Already}
 use Rattle.wh_engine.specs.declared.command.Refused.{Refused}
-use Rattle.wh_engine.specs.declared.command.Refused.TheVariants.{BadId, Reused, Batch, LineThere, Full}
+use Rattle.wh_engine.specs.declared.command.Refused.TheVariants.{BadId, Batch, LineThere, Full}
 use Rattle.wh_engine.specs.declared.command.Limit.TheVariants.{Commands, Changes, Facts}
 use Rattle.wh_plan.proofs.FoundCommands.{stored, told, find_numbered}
 use Rattle.wh_plan.proofs.GrownKeys.{at_last}

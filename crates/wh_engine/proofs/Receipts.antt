@@ -1,23 +1,20 @@
 -- A command that comes again is told its receipt.
-use Rattle.std.proofs.Common.{◌≡◌, ℕ, suc, true, false, cond, leb, ltb, ◌+◌, List, [], ◌∷◌, ◌++◌, length, map, Option, Some, None, Result, Ok, Err, refl, sym, ◌∙◌, ap}
+use Rattle.std.proofs.Common.{◌≡◌, ℕ, suc, true, false, cond, List, [], ◌∷◌, ◌++◌, length, map, Option, None, Result, Ok, Err, refl, sym, ◌∙◌, ap}
 use Rattle.std.specs.Prelude.{find, bytes_eq}
 use Rattle.std.proofs.lemmas.Slice.Eq.{bytes_eq-Decides}
 use Rattle.wh_engine.proofs.StaysAccepted.{receipt_is}
 use Rattle.wh_batch.specs.declared.fault.BatchFault.{BatchFault}
-use Rattle.wh_history.specs.Accepted.{Accepted, Content, sold, sold_by}
+use Rattle.wh_history.specs.Accepted.{Accepted, Content}
 use Rattle.wh_history.specs.Keys.{place, after_one}
 use Rattle.wh_history.specs.Tables.{Limits}
 use Rattle.wh_rows.specs.Types.{is_key}
-use Rattle.wh_engine.specs.Admission.{kind_word, content_of, in_force, accepted_as, receipt_of, changes_in, first_line_there, when_read, answer, with_content, after_answer, accepted_after}
+use Rattle.wh_engine.specs.Admission.{kind_word, content_of, in_force, accepted_as, receipt_of, when_read, answer, with_content, after_answer, accepted_after}
 use Rattle.wh_engine.specs.Redelivered.{receipt_told, HasReceipt}
-use Rattle.wh_plan.specs.Sound.{changes_kept}
 use Rattle.wh_engine.specs.declared.command.Command.{Command}
-use Rattle.wh_engine.specs.declared.command.Limit.TheVariants.{Commands, Changes, Facts}
 use Rattle.wh_engine.specs.declared.command.Receipt.{Receipt}
 use Rattle.wh_engine.specs.declared.command.Reply.{Reply}
 use Rattle.wh_engine.specs.declared.command.Reply.TheVariants.{Accepted as Accepts, Already}
 use Rattle.wh_engine.specs.declared.command.Refused.{Refused}
-use Rattle.wh_engine.specs.declared.command.Refused.TheVariants.{Full}
 use Rattle.wh_engine.proofs.Repeats.{first_or, find_last, new_id}
 
 -- an id that is new stands last

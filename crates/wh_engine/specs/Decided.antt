@@ -1,5 +1,5 @@
 -- What is decided about a command, by what is read of the tables.
-use Rattle.std.specs.Prelude.{◌≡◌, ℕ, suc, ◌+◌, ◌&&◌, nat_le, nat_lt, cond, List, length, find, Option, Some, None, bytes_eq, Result, Ok, Err}
+use Rattle.std.specs.Prelude.{◌≡◌, ℕ, List, find, None, bytes_eq, Result, Ok, Err}
 use Rattle.wh_policy.specs.declared.attribute.Dim.{Dim}
 use Rattle.wh_policy.specs.declared.policy.Policy.{Policy}
 use Rattle.wh_policy.specs.declared.record.DimensionRecord.{DimensionRecord}
@@ -7,21 +7,19 @@ use Rattle.wh_policy.specs.declared.record.SaleRecord.{SaleRecord}
 use Rattle.wh_batch.specs.Layouts.{dimension_records, sale_records}
 use Rattle.wh_batch.specs.declared.fault.BatchFault.{BatchFault}
 use Rattle.wh_batch.specs.declared.kind.Format.TheVariants.{One}
-use Rattle.wh_history.specs.Accepted.{Accepted, Content, sold, sold_by}
-use Rattle.wh_history.specs.Tables.{Limits}
+use Rattle.wh_history.specs.Accepted.{Accepted, Content}
 use Rattle.wh_rows.specs.declared.rows.CommandRow.{CommandRow}
 use Rattle.wh_engine.specs.Admission.{kind_word, content_of, accepted_as, in_force, receipt_again, already}
 use Rattle.wh_rows.specs.Tables.{Tables}
 use Rattle.wh_plan.specs.Defined.{AreOf}
 use Rattle.wh_plan.specs.Edits.{Edits, AreEdits}
-use Rattle.wh_plan.specs.Sound.{changes_kept, IsAccepted}
+use Rattle.wh_plan.specs.Sound.{IsAccepted}
 use Rattle.wh_engine.specs.declared.command.Command.{Command}
 use Rattle.wh_engine.specs.declared.command.Receipt.{Receipt}
 use Rattle.wh_engine.specs.declared.command.Reply.{Reply}
 use Rattle.wh_engine.specs.declared.command.Reply.TheVariants.{Accepted as Accepts, Already}
 use Rattle.wh_engine.specs.declared.command.Refused.{Refused}
-use Rattle.wh_engine.specs.declared.command.Refused.TheVariants.{Reused, Batch, LineThere, Full}
-use Rattle.wh_engine.specs.declared.command.Limit.TheVariants.{Commands, Changes, Facts}
+use Rattle.wh_engine.specs.declared.command.Refused.TheVariants.{Batch}
 use Rattle.wh_engine.specs.declared.session.Session.{Session}
 use Rattle.wh_engine.specs.declared.decision.Decision.{Decision}
 use Rattle.wh_engine.specs.declared.decision.Decision.TheVariants.{Repeat, Accept}

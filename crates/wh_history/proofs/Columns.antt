@@ -2,7 +2,6 @@
 use Rattle.std.proofs.Common.{◌≡◌, ℕ, suc, ◌-◌, ◌<◌, List, [], ◌∷◌, ◌++◌, length, replicate, get_or, refl, sym, ◌∙◌, ap, append_assoc, length-append, arith}
 use Rattle.wh_policy.specs.declared.attribute.AttributeType.{AttributeType}
 use Rattle.wh_policy.specs.declared.attribute.AttributeType.TheVariants.{RetainOriginal, Overwrite, NewRow, NewAttribute, MiniDimension, MiniDimensionOutrigger, NewRowAndOverwrite, DualKeys}
-use Rattle.wh_day.specs.Value.{none_text}
 use Rattle.wh_history.specs.Slots.{six, padded, columns_from}
 use Rattle.wh_history.specs.Dated.{dated, at}
 use Rattle.wh_history.specs.Rows.{main_column}

@@ -1,4 +1,4 @@
-use Rattle.std.proofs.Common.{◌∙◌, ap}
+use Rattle.std.proofs.Common.{ap}
 use Rattle.std.proofs.lemmas.Result.{err_from_is_err_and}
 use Rattle.wh_store.specs.Reads.{state_of}
 use Rattle.wh_engine.specs.Opened.{of_limits, of_making, making_in, session_in}
