@@ -1,10 +1,11 @@
 //! Writing the edits of a command, inside a transaction.
 
-ghost use Rattle.std.specs.Prelude.{◌≡◌, ◌⊎◌, Option, Some, OnOk};
-ghost use Rattle.sqlite.specs.Held.{state};
+ghost use Rattle.std.specs.Prelude.{◌≡◌, ◌⊎◌, Some, OnOk};
 ghost use Rattle.sqlite.specs.State.{HasCleanDisk};
-ghost use Rattle.wh_rows.specs.AtRest.{AreTrees, IsAtRest, IsWriting, Leaves};
+ghost use Rattle.wh_rows.specs.AtRest.{AreTrees, IsAtRest};
 ghost use Rattle.wh_rows.specs.Tables.{Tables as Rows};
+ghost use Rattle.wh_store.specs.Reads.{state_of};
+ghost use Rattle.wh_store.specs.Writes.{WritesOnly, Makes};
 ghost use Rattle.wh_plan.specs.Edits.{with_dimensions, with_lists, with_all_edits};
 ghost use Rattle.wh_plan.specs.Writable.{AreValidRows, AreValidEdits, MayBeWritten};
 
@@ -21,11 +22,8 @@ fn put_lists<S: Alter>(
     edits: &Edits,
 ) -> Result<(), Cause>
     ensures same_reference { writing.new.tables.ghost_name ≡ writing.old.tables.ghost_name }
-    ensures clean { HasCleanDisk (state S.Store writing.new.tables.now.conn) → HasCleanDisk (state S.Store writing.old.tables.now.conn) }
-    ensures put { HasCleanDisk (state S.Store writing.new.tables.now.conn) → (before : Option Rows) (made : Rows) → IsWriting before (Some made) (state S.Store writing.old.tables.now.conn)
-        → AreValidRows edits.now → OnOk result (IsWriting before (Some (with_lists edits.now made)) (state S.Store writing.new.tables.now.conn)) }
-    ensures left { HasCleanDisk (state S.Store writing.new.tables.now.conn) → (before : Option Rows) (made : Rows) → IsWriting before (Some made) (state S.Store writing.old.tables.now.conn)
-        → AreValidRows edits.now → Leaves before (state S.Store writing.new.tables.now.conn) }
+    ensures writes { WritesOnly (state_of S.Store writing.old.tables.now) (state_of S.Store writing.new.tables.now) (AreValidRows edits.now) }
+    ensures put { Makes (state_of S.Store writing.old.tables.now) (state_of S.Store writing.new.tables.now) result (AreValidRows edits.now) (with_lists edits.now) }
 {
     writing.put::<tables::Command>(alloc, &edits.command)?;
     writing.put_all::<tables::Member>(alloc, &edits.members)?;
@@ -41,11 +39,8 @@ fn edit_rows<S: Alter>(
     edits: &Edits,
 ) -> Result<(), Cause>
     ensures same_reference { writing.new.tables.ghost_name ≡ writing.old.tables.ghost_name }
-    ensures clean { HasCleanDisk (state S.Store writing.new.tables.now.conn) → HasCleanDisk (state S.Store writing.old.tables.now.conn) }
-    ensures edited { HasCleanDisk (state S.Store writing.new.tables.now.conn) → (before : Option Rows) (made : Rows) → IsWriting before (Some made) (state S.Store writing.old.tables.now.conn)
-        → AreValidEdits edits.now → OnOk result (IsWriting before (Some (with_dimensions edits.now made)) (state S.Store writing.new.tables.now.conn)) }
-    ensures left { HasCleanDisk (state S.Store writing.new.tables.now.conn) → (before : Option Rows) (made : Rows) → IsWriting before (Some made) (state S.Store writing.old.tables.now.conn)
-        → AreValidEdits edits.now → Leaves before (state S.Store writing.new.tables.now.conn) }
+    ensures writes { WritesOnly (state_of S.Store writing.old.tables.now) (state_of S.Store writing.new.tables.now) (AreValidEdits edits.now) }
+    ensures edited { Makes (state_of S.Store writing.old.tables.now) (state_of S.Store writing.new.tables.now) result (AreValidEdits edits.now) (with_dimensions edits.now) }
 {
     writing.edit_all::<tables::Product>(alloc, &edits.products)?;
     writing.edit_all::<tables::Store>(alloc, &edits.stores)?;
@@ -59,11 +54,8 @@ pub fn write_edits<S: Alter>(
     edits: &Edits,
 ) -> Result<(), Cause>
     ensures same_reference { writing.new.tables.ghost_name ≡ writing.old.tables.ghost_name }
-    ensures clean { HasCleanDisk (state S.Store writing.new.tables.now.conn) → HasCleanDisk (state S.Store writing.old.tables.now.conn) }
-    ensures written { HasCleanDisk (state S.Store writing.new.tables.now.conn) → (before : Option Rows) (made : Rows) → IsWriting before (Some made) (state S.Store writing.old.tables.now.conn)
-        → MayBeWritten edits.now → OnOk result (IsWriting before (Some (with_all_edits edits.now made)) (state S.Store writing.new.tables.now.conn)) }
-    ensures left { HasCleanDisk (state S.Store writing.new.tables.now.conn) → (before : Option Rows) (made : Rows) → IsWriting before (Some made) (state S.Store writing.old.tables.now.conn)
-        → MayBeWritten edits.now → Leaves before (state S.Store writing.new.tables.now.conn) }
+    ensures writes { WritesOnly (state_of S.Store writing.old.tables.now) (state_of S.Store writing.new.tables.now) (MayBeWritten edits.now) }
+    ensures written { Makes (state_of S.Store writing.old.tables.now) (state_of S.Store writing.new.tables.now) result (MayBeWritten edits.now) (with_all_edits edits.now) }
 {
     put_lists(writing, alloc, edits)?;
     edit_rows(writing, alloc, edits)
@@ -75,11 +67,11 @@ pub(crate) fn commit_edits<S: Alter>(
     alloc: Global,
     edits: &Edits,
 ) -> Result<(), Cause>
-    ensures clean { HasCleanDisk (state S.Store tables.new.conn) → HasCleanDisk (state S.Store tables.old.conn) }
-    ensures written { HasCleanDisk (state S.Store tables.new.conn) → (t : Rows) → IsAtRest (Some t) (state S.Store tables.old.conn) → MayBeWritten edits.now
-        → OnOk result (IsAtRest (Some (with_all_edits edits.now t)) (state S.Store tables.new.conn)) }
-    ensures left { HasCleanDisk (state S.Store tables.new.conn) → (t : Rows) → IsAtRest (Some t) (state S.Store tables.old.conn) → MayBeWritten edits.now
-        → (trees : _) → (state S.Store tables.new.conn).may_leave trees → AreTrees (Some t) trees ⊎ AreTrees (Some (with_all_edits edits.now t)) trees }
+    ensures clean { HasCleanDisk (state_of S.Store tables.new) → HasCleanDisk (state_of S.Store tables.old) }
+    ensures written { HasCleanDisk (state_of S.Store tables.new) → (t : Rows) → IsAtRest (Some t) (state_of S.Store tables.old) → MayBeWritten edits.now
+        → OnOk result (IsAtRest (Some (with_all_edits edits.now t)) (state_of S.Store tables.new)) }
+    ensures left { HasCleanDisk (state_of S.Store tables.new) → (t : Rows) → IsAtRest (Some t) (state_of S.Store tables.old) → MayBeWritten edits.now
+        → (trees : _) → (state_of S.Store tables.new).may_leave trees → AreTrees (Some t) trees ⊎ AreTrees (Some (with_all_edits edits.now t)) trees }
 {
     let mut writing = tables.begin()?;
     write_edits(&mut writing, alloc, edits)?;

@@ -15,9 +15,9 @@ returns-in_err-write_edits-clause-left g c =
     let left = λ (clean : HasCleanDisk (state g.S.Store end.conn)) (t : Tables) (rests : IsAtRest (Some t) (state g.S.Store c.args.tables.now.conn)) (may : MayBeWritten c.args.edits.now) (trees : Trees)
     (left : g.S.Store.recovers end.conn.store trees).
     let before = c.drop-writing.ensures.clean clean in
-    let begun = c.in_ok-writing.ensures.begun (c.write_edits.ensures.clean before) (Some t) rests in
+    let begun = c.in_ok-writing.ensures.begun (c.write_edits.ensures.writes.clean before) (Some t) rests in
     let all : AreTrees (Some t) trees ⊎ AreTrees (Some (with_all_edits c.args.edits.now t)) trees = elim (c.drop-writing.ensures.survives.crash clean trees left) [
-      | inl was ↦ inl ((c.write_edits.ensures.left before (Some t) t begun may).each trees was)
+      | inl was ↦ inl ((c.write_edits.ensures.writes.left before (Some t) t begun may).each trees was)
       | inr none ↦ absurd none
     ] in all in
     rw same at left
@@ -28,7 +28,7 @@ returns-clause-written g c =
     let same : end ≡ c.tables-2-1.given.0 = search rules in
     let written = λ (clean : HasCleanDisk (state g.S.Store end.conn)) (t : Tables) (rests : IsAtRest (Some t) (state g.S.Store c.args.tables.now.conn)) (may : MayBeWritten c.args.edits.now).
     let before = c.commit.ensures.clean clean in
-    let begun = c.in_ok-writing.ensures.begun (c.write_edits.ensures.clean before) (Some t) rests in
+    let begun = c.in_ok-writing.ensures.begun (c.write_edits.ensures.writes.clean before) (Some t) rests in
     c.commit.ensures.written clean (Some t) _ (c.in_ok-write_edits.ensures.written before (Some t) t begun may) in
     rw same at written
 
@@ -38,6 +38,6 @@ returns-clause-left g c =
     let same : end ≡ c.tables-2-1.given.0 = search rules in
     let left = λ (clean : HasCleanDisk (state g.S.Store end.conn)) (t : Tables) (rests : IsAtRest (Some t) (state g.S.Store c.args.tables.now.conn)) (may : MayBeWritten c.args.edits.now).
     let before = c.commit.ensures.clean clean in
-    let begun = c.in_ok-writing.ensures.begun (c.write_edits.ensures.clean before) (Some t) rests in
+    let begun = c.in_ok-writing.ensures.begun (c.write_edits.ensures.writes.clean before) (Some t) rests in
     c.commit.ensures.left clean (Some t) _ (c.in_ok-write_edits.ensures.written before (Some t) t begun may) in
     rw same at left
