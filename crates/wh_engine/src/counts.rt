@@ -1,7 +1,6 @@
 //! How much a warehouse holds.
 
 ghost use Rattle.std.specs.Prelude.{◌≡◌, List, length, false, Some, Ok, Err, IsTrue};
-ghost use Rattle.sqlite.specs.Held.{state};
 ghost use Rattle.sqlite.specs.State.{HasCleanDisk};
 ghost use Rattle.wh_history.specs.Accepted.{Accepted, members};
 ghost use Rattle.wh_history.specs.Tables.{Limits};
@@ -75,10 +74,10 @@ fn counts_of<S: Alter>(tables: &mut Tables<S>, alloc: Global) -> Result<Counts, 
 impl<S: Alter> Engine<S> {
     /// How much the warehouse holds. After a refusal of the store it answers `Reopen`.
     pub fn counts(&mut self, alloc: Global) -> Result<Counts, Fault>
-        ensures clean { HasCleanDisk (state S.Store self.new.tables.conn) → HasCleanDisk (state S.Store self.old.tables.conn) }
-        ensures counted { HasCleanDisk (state S.Store self.new.tables.conn) → (limits : Limits) (commands : List Accepted) → IsReady limits commands self.old.session (state S.Store self.old.tables.conn)
-            → IsCounted limits commands result self.new.session (state S.Store self.new.tables.conn) }
-        ensures untouched { HasCleanDisk (state S.Store self.new.tables.conn) → (t : Rows) → IsAtRest (Some t) (state S.Store self.old.tables.conn) → IsServed result → IsAtRest (Some t) (state S.Store self.new.tables.conn) }
+        ensures clean { HasCleanDisk (state_of S.Store self.new.tables) → HasCleanDisk (state_of S.Store self.old.tables) }
+        ensures counted { HasCleanDisk (state_of S.Store self.new.tables) → (limits : Limits) (commands : List Accepted) → IsReady limits commands self.old.session (state_of S.Store self.old.tables)
+            → IsCounted limits commands result self.new.session (state_of S.Store self.new.tables) }
+        ensures untouched { HasCleanDisk (state_of S.Store self.new.tables) → (t : Rows) → IsAtRest (Some t) (state_of S.Store self.old.tables) → IsServed result → IsAtRest (Some t) (state_of S.Store self.new.tables) }
         ensures reopen { IsTrue self.old.session.must_reopen → (result ≡ Err Fault.Reopen) × (self.new.tables ≡ self.old.tables) × (self.new.session ≡ self.old.session) }
         ensures only { result ≡ Err Fault.Reopen → IsTrue self.old.session.must_reopen }
         ensures noted { self.old.session.must_reopen ≡ false → self.new.session ≡ record (self.old.session) { must_reopen = stops result } }

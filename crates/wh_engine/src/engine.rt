@@ -1,12 +1,12 @@
 //! A warehouse that is open for commands.
 
 ghost use Rattle.std.specs.Prelude.{◌≡◌, List, false, Some, Err, IsTrue};
-ghost use Rattle.sqlite.specs.Held.{state};
 ghost use Rattle.sqlite.specs.State.{HasCleanDisk};
 ghost use Rattle.wh_history.specs.Accepted.{Accepted};
 ghost use Rattle.wh_history.specs.Tables.{Limits as Counts};
 ghost use Rattle.wh_rows.specs.AtRest.{IsAtRest};
 ghost use Rattle.wh_rows.specs.Tables.{Tables as Rows};
+ghost use Rattle.wh_store.specs.Reads.{state_of};
 ghost use Rattle.wh_engine.specs.Answered.{IsReady, IsAnswered, IsPerformed, KeepsNothing};
 ghost use Rattle.wh_engine.specs.Faults.{IsWorkedOut, stops};
 
@@ -34,10 +34,10 @@ fn perform<S: Alter>(
     session: &Session,
     command: &Command,
 ) -> Result<Reply, Fault>
-    ensures clean { HasCleanDisk (state S.Store tables.new.conn) → HasCleanDisk (state S.Store tables.old.conn) }
-    ensures performed { HasCleanDisk (state S.Store tables.new.conn) → (limits : Counts) (commands : List Accepted) → IsReady limits commands session.now (state S.Store tables.old.conn)
-        → IsPerformed limits commands command.now result session.now (state S.Store tables.new.conn) }
-    ensures untouched { HasCleanDisk (state S.Store tables.new.conn) → (t : Rows) → IsAtRest (Some t) (state S.Store tables.old.conn) → KeepsNothing result → IsAtRest (Some t) (state S.Store tables.new.conn) }
+    ensures clean { HasCleanDisk (state_of S.Store tables.new) → HasCleanDisk (state_of S.Store tables.old) }
+    ensures performed { HasCleanDisk (state_of S.Store tables.new) → (limits : Counts) (commands : List Accepted) → IsReady limits commands session.now (state_of S.Store tables.old)
+        → IsPerformed limits commands command.now result session.now (state_of S.Store tables.new) }
+    ensures untouched { HasCleanDisk (state_of S.Store tables.new) → (t : Rows) → IsAtRest (Some t) (state_of S.Store tables.old) → KeepsNothing result → IsAtRest (Some t) (state_of S.Store tables.new) }
     ensures work { IsWorkedOut result }
 {
     match decide(tables, alloc, session, command) {
@@ -68,11 +68,11 @@ impl<S: Alter> Engine<S> {
     /// Answers a command. An accepted one is kept, once, in one transaction whose commit is the last call of the store. After a
     /// refusal of the store every call answers `Reopen`.
     pub fn apply(&mut self, alloc: Global, command: &Command) -> Result<Reply, Fault>
-        ensures clean { HasCleanDisk (state S.Store self.new.tables.conn) → HasCleanDisk (state S.Store self.old.tables.conn) }
-        ensures answered { HasCleanDisk (state S.Store self.new.tables.conn) → (limits : Counts) (commands : List Accepted) → IsReady limits commands self.old.session (state S.Store self.old.tables.conn)
-            → IsAnswered limits commands command.now result self.new.session (state S.Store self.new.tables.conn) }
+        ensures clean { HasCleanDisk (state_of S.Store self.new.tables) → HasCleanDisk (state_of S.Store self.old.tables) }
+        ensures answered { HasCleanDisk (state_of S.Store self.new.tables) → (limits : Counts) (commands : List Accepted) → IsReady limits commands self.old.session (state_of S.Store self.old.tables)
+            → IsAnswered limits commands command.now result self.new.session (state_of S.Store self.new.tables) }
         // Any tables stay as they were, where nothing was accepted.
-        ensures untouched { HasCleanDisk (state S.Store self.new.tables.conn) → (t : Rows) → IsAtRest (Some t) (state S.Store self.old.tables.conn) → KeepsNothing result → IsAtRest (Some t) (state S.Store self.new.tables.conn) }
+        ensures untouched { HasCleanDisk (state_of S.Store self.new.tables) → (t : Rows) → IsAtRest (Some t) (state_of S.Store self.old.tables) → KeepsNothing result → IsAtRest (Some t) (state_of S.Store self.new.tables) }
         ensures reopen { IsTrue self.old.session.must_reopen → (result ≡ Err Fault.Reopen) × (self.new.tables ≡ self.old.tables) × (self.new.session ≡ self.old.session) }
         ensures only { result ≡ Err Fault.Reopen → IsTrue self.old.session.must_reopen }
         ensures noted { self.old.session.must_reopen ≡ false → self.new.session ≡ record (self.old.session) { must_reopen = stops result } }

@@ -1,10 +1,11 @@
 //! What the making of a warehouse writes, inside a transaction.
 
-ghost use Rattle.std.specs.Prelude.{◌≡◌, Option, None, Some, [], ◌∷◌, IfOk, OnOk};
-ghost use Rattle.sqlite.specs.Held.{state};
+ghost use Rattle.std.specs.Prelude.{◌≡◌, None, Some, [], ◌∷◌, IfOk, OnOk};
 ghost use Rattle.sqlite.specs.State.{HasCleanDisk};
 ghost use Rattle.wh_rows.specs.AtRest.{IsWriting, Leaves};
 ghost use Rattle.wh_rows.specs.Tables.{Tables as Rows};
+ghost use Rattle.wh_store.specs.Reads.{state_of};
+ghost use Rattle.wh_store.specs.Writes.{WritesOnly, Makes};
 ghost use Rattle.wh_plan.specs.Defined.{AreOf};
 ghost use Rattle.wh_plan.specs.FirstRows.{making_of, IsGoodPolicy, PoliciesAreGood, making_row, in_profile, profile_of, first_profiles, calendar_rows, with_first, MayBeFirst};
 
@@ -97,11 +98,8 @@ fn put_first<S: Alter>(
     calendar: &[DateRow],
 ) -> Result<(), Cause>
     ensures same_reference { writing.new.tables.ghost_name ≡ writing.old.tables.ghost_name }
-    ensures clean { HasCleanDisk (state S.Store writing.new.tables.now.conn) → HasCleanDisk (state S.Store writing.old.tables.now.conn) }
-    ensures put { HasCleanDisk (state S.Store writing.new.tables.now.conn) → (before : Option Rows) (made : Rows) → IsWriting before (Some made) (state S.Store writing.old.tables.now.conn)
-        → MayBeFirst command.now customer.now profiles.now calendar.now → OnOk result (IsWriting before (Some (with_first command.now customer.now profiles.now calendar.now made)) (state S.Store writing.new.tables.now.conn)) }
-    ensures left { HasCleanDisk (state S.Store writing.new.tables.now.conn) → (before : Option Rows) (made : Rows) → IsWriting before (Some made) (state S.Store writing.old.tables.now.conn)
-        → MayBeFirst command.now customer.now profiles.now calendar.now → Leaves before (state S.Store writing.new.tables.now.conn) }
+    ensures writes { WritesOnly (state_of S.Store writing.old.tables.now) (state_of S.Store writing.new.tables.now) (MayBeFirst command.now customer.now profiles.now calendar.now) }
+    ensures put { Makes (state_of S.Store writing.old.tables.now) (state_of S.Store writing.new.tables.now) result (MayBeFirst command.now customer.now profiles.now calendar.now) (with_first command.now customer.now profiles.now calendar.now) }
 {
     writing.put::<tables::Command>(alloc, command)?;
     writing.put::<tables::Customer>(alloc, customer)?;
@@ -118,11 +116,11 @@ pub fn write_making<S: Alter>(
     bytes: &[u8],
 ) -> Result<(), Cause>
     ensures same_reference { writing.new.tables.ghost_name ≡ writing.old.tables.ghost_name }
-    ensures clean { HasCleanDisk (state S.Store writing.new.tables.now.conn) → HasCleanDisk (state S.Store writing.old.tables.now.conn) }
-    ensures made { HasCleanDisk (state S.Store writing.new.tables.now.conn) → IsWriting None None (state S.Store writing.old.tables.now.conn) → IsGoodPolicy policy.now
-        → OnOk result ((t : Rows) × AreOf limits (making_of policy.now bytes.now ∷ []) t × IsWriting None (Some t) (state S.Store writing.new.tables.now.conn)) }
-    ensures left { HasCleanDisk (state S.Store writing.new.tables.now.conn) → IsWriting None None (state S.Store writing.old.tables.now.conn) → IsGoodPolicy policy.now
-        → Leaves None (state S.Store writing.new.tables.now.conn) }
+    ensures clean { HasCleanDisk (state_of S.Store writing.new.tables.now) → HasCleanDisk (state_of S.Store writing.old.tables.now) }
+    ensures made { HasCleanDisk (state_of S.Store writing.new.tables.now) → IsWriting None None (state_of S.Store writing.old.tables.now) → IsGoodPolicy policy.now
+        → OnOk result ((t : Rows) × AreOf limits (making_of policy.now bytes.now ∷ []) t × IsWriting None (Some t) (state_of S.Store writing.new.tables.now)) }
+    ensures left { HasCleanDisk (state_of S.Store writing.new.tables.now) → IsWriting None None (state_of S.Store writing.old.tables.now) → IsGoodPolicy policy.now
+        → Leaves None (state_of S.Store writing.new.tables.now) }
 {
     let types = policy.types(alloc, Dim::Customer)?;
     let command = making_row(alloc, bytes)?;

@@ -9,6 +9,7 @@ ghost use Rattle.wh_history.specs.Tables.{Limits as Counts};
 ghost use Rattle.wh_rows.specs.AtRest.{IsAtRest};
 ghost use Rattle.wh_rows.specs.Tables.{Tables as Rows};
 ghost use Rattle.wh_sql.specs.Present.{is_any_taken, are_all_there};
+ghost use Rattle.wh_store.specs.Reads.{state_of};
 ghost use Rattle.wh_engine.specs.Answered.{Rests, IsReady};
 ghost use Rattle.wh_plan.specs.FirstRows.{making_of, IsGoodPolicy};
 ghost use Rattle.wh_engine.specs.Opened.{of_making, making_in, session_in, opened, IsTold, IsRead, IsNotOpened, LeavesMaking, IsNotMade, NothingIsWritten, LeavesMade};
@@ -47,10 +48,10 @@ fn commit_making<S: Alter>(
     policy: &Policy,
     bytes: &[u8],
 ) -> Result<(), Cause>
-    ensures clean { HasCleanDisk (state S.Store tables.new.conn) → HasCleanDisk (state S.Store tables.old.conn) }
-    ensures made { HasCleanDisk (state S.Store tables.new.conn) → IsAtRest None (state S.Store tables.old.conn) → IsGoodPolicy policy.now
-        → OnOk result (Rests limits (making_of policy.now bytes.now ∷ []) (state S.Store tables.new.conn)) }
-    ensures left { HasCleanDisk (state S.Store tables.new.conn) → IsAtRest None (state S.Store tables.old.conn) → IsGoodPolicy policy.now → LeavesMaking limits policy.now bytes.now (state S.Store tables.new.conn) }
+    ensures clean { HasCleanDisk (state_of S.Store tables.new) → HasCleanDisk (state_of S.Store tables.old) }
+    ensures made { HasCleanDisk (state_of S.Store tables.new) → IsAtRest None (state_of S.Store tables.old) → IsGoodPolicy policy.now
+        → OnOk result (Rests limits (making_of policy.now bytes.now ∷ []) (state_of S.Store tables.new)) }
+    ensures left { HasCleanDisk (state_of S.Store tables.new) → IsAtRest None (state_of S.Store tables.old) → IsGoodPolicy policy.now → LeavesMaking limits policy.now bytes.now (state_of S.Store tables.new) }
 {
     let mut writing = tables.begin()?;
     write_making(&mut writing, alloc, limits, policy, bytes)?;
@@ -74,8 +75,8 @@ fn policy_of(alloc: Global, makings: &[CommandRow]) -> Result<Policy, OpenFault>
 
 /// The policy in force, which is that of the making.
 fn policy_in<S: Alter>(tables: &mut Tables<S>, alloc: Global) -> Result<Policy, OpenFault>
-    ensures clean { HasCleanDisk (state S.Store tables.new.conn) → HasCleanDisk (state S.Store tables.old.conn) }
-    ensures read { HasCleanDisk (state S.Store tables.new.conn) → (t : Rows) → IsAtRest (Some t) (state S.Store tables.old.conn) → IsRead result (of_making (making_in t)) t (state S.Store tables.new.conn) }
+    ensures clean { HasCleanDisk (state_of S.Store tables.new) → HasCleanDisk (state_of S.Store tables.old) }
+    ensures read { HasCleanDisk (state_of S.Store tables.new) → (t : Rows) → IsAtRest (Some t) (state_of S.Store tables.old) → IsRead result (of_making (making_in t)) t (state_of S.Store tables.new) }
 {
     let id = Value::new(alloc, "init")?;
     let found = tables.ask::<tables::Command, CommandOf<'_>>(alloc, &CommandOf { id: &id })?;
@@ -84,8 +85,8 @@ fn policy_in<S: Alter>(tables: &mut Tables<S>, alloc: Global) -> Result<Policy, 
 
 /// What an engine has to know of its warehouse.
 fn session_of<S: Alter>(tables: &mut Tables<S>, alloc: Global) -> Result<Session, OpenFault>
-    ensures clean { HasCleanDisk (state S.Store tables.new.conn) → HasCleanDisk (state S.Store tables.old.conn) }
-    ensures read { HasCleanDisk (state S.Store tables.new.conn) → (t : Rows) → IsAtRest (Some t) (state S.Store tables.old.conn) → IsRead result (session_in t) t (state S.Store tables.new.conn) }
+    ensures clean { HasCleanDisk (state_of S.Store tables.new) → HasCleanDisk (state_of S.Store tables.old) }
+    ensures read { HasCleanDisk (state_of S.Store tables.new) → (t : Rows) → IsAtRest (Some t) (state_of S.Store tables.old) → IsRead result (session_in t) t (state_of S.Store tables.new) }
     ensures fresh { IfOk result (λ session. session.must_reopen ≡ false) }
 {
     let limits = tables.limits(alloc)?;
@@ -108,7 +109,7 @@ impl<S: Alter> Engine<S> {
         policy: &[u8],
         limits: Limits,
     ) -> Result<Engine<S>, (InitFault, Connection<S>)>
-        ensures made { IfOk result (λ engine. HasCleanDisk (state S.Store engine.tables.conn) → IsAtRest None (state S.Store conn) → IsReady limits (making_of engine.session.policy policy.now ∷ []) engine.session (state S.Store engine.tables.conn)) }
+        ensures made { IfOk result (λ engine. HasCleanDisk (state_of S.Store engine.tables) → IsAtRest None (state S.Store conn) → IsReady limits (making_of engine.session.policy policy.now ∷ []) engine.session (state_of S.Store engine.tables)) }
         ensures written { IfOk result (λ engine. (policy_at policy.now ≡ Ok engine.session.policy) × (is_any_taken (state S.Store conn).now.schema ≡ false)) }
         ensures refused { IfErr result (λ e. IsNotMade policy.now (is_any_taken (state S.Store conn).now.schema) e.0) }
         ensures same { IfErr result (λ e. NothingIsWritten e.0 → e.1 ≡ conn) }
@@ -141,13 +142,13 @@ impl<S: Alter> Engine<S> {
 
     /// Opens the warehouse of a connection. A refusal hands the connection back.
     pub fn open(alloc: Global, conn: Connection<S>) -> Result<Engine<S>, (OpenFault, Connection<S>)>
-        ensures clean { IfOk result (λ engine. HasCleanDisk (state S.Store engine.tables.conn) → HasCleanDisk (state S.Store conn)) }
-        ensures ready { IfOk result (λ engine. HasCleanDisk (state S.Store engine.tables.conn) → (limits : Counts) (commands : List Accepted) → IsAccepted limits commands → Rests limits commands (state S.Store conn)
-            → IsReady limits commands engine.session (state S.Store engine.tables.conn)) }
+        ensures clean { IfOk result (λ engine. HasCleanDisk (state_of S.Store engine.tables) → HasCleanDisk (state S.Store conn)) }
+        ensures ready { IfOk result (λ engine. HasCleanDisk (state_of S.Store engine.tables) → (limits : Counts) (commands : List Accepted) → IsAccepted limits commands → Rests limits commands (state S.Store conn)
+            → IsReady limits commands engine.session (state_of S.Store engine.tables)) }
         ensures refused { IfErr result (λ e. HasCleanDisk (state S.Store e.1) → (limits : Counts) (commands : List Accepted) → IsAccepted limits commands → Rests limits commands (state S.Store conn)
             → IsNotOpened limits commands e.0 (state S.Store e.1)) }
         // The same of any ten tables, whoever wrote their rows.
-        ensures found { IfOk result (λ engine. HasCleanDisk (state S.Store engine.tables.conn) → (t : Rows) → IsAtRest (Some t) (state S.Store conn) → (opened t ≡ Ok engine.session) × IsAtRest (Some t) (state S.Store engine.tables.conn)) }
+        ensures found { IfOk result (λ engine. HasCleanDisk (state_of S.Store engine.tables) → (t : Rows) → IsAtRest (Some t) (state S.Store conn) → (opened t ≡ Ok engine.session) × IsAtRest (Some t) (state_of S.Store engine.tables)) }
         ensures fault { IfErr result (λ e. HasCleanDisk (state S.Store e.1) → (t : Rows) → IsAtRest (Some t) (state S.Store conn) → IsRead (Err e.0) (opened t) t (state S.Store e.1)) }
         ensures fresh { IfOk result (λ engine. engine.session.must_reopen ≡ false) }
         ensures missing { conn.in_transaction ≡ false → are_all_there (state S.Store conn).now.schema ≡ false → result ≡ Err (OpenFault.NotAWarehouse, conn) }

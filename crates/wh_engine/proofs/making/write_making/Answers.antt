@@ -16,10 +16,10 @@ first g c =
 
 pub returns-clause-made : goal.returns-clause-made
 returns-clause-made g c clean at good =
-    let start = c.in_ok-make.ensures.made (c.put_first.ensures.clean clean) at in
+    let start = c.in_ok-make.ensures.made (c.put_first.ensures.writes.clean clean) at in
     on_ok_weaker c.put_first.result (λ writing. (_, (first g c).are, writing)) (c.put_first.ensures.put clean None (made_with c.args.limits) start ((first g c).may good))
 
 pub returns-clause-left : goal.returns-clause-left
 returns-clause-left g c clean at good =
-    let start = c.in_ok-make.ensures.made (c.put_first.ensures.clean clean) at in
-    c.put_first.ensures.left clean None (made_with c.args.limits) start ((first g c).may good)
+    let start = c.in_ok-make.ensures.made (c.put_first.ensures.writes.clean clean) at in
+    c.put_first.ensures.writes.left clean None (made_with c.args.limits) start ((first g c).may good)
