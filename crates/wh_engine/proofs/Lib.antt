@@ -13,6 +13,7 @@ pub mod StaysAccepted
 pub mod Decisions
 pub mod Performing
 pub mod OpenedTables
+pub mod OpenedStored
 pub mod FoundFacts
 pub mod FoundCounts
 pub mod Reopened

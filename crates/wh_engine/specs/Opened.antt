@@ -1,8 +1,9 @@
 -- Making a warehouse, and opening one.
-use Rattle.std.specs.Prelude.{◌≡◌, ◌⊎◌, ℕ, codes, List, [], ◌∷◌, filter, slice_get, Bool, true, false, Option, Some, None, Result, Ok, Err, IsOk}
+use Rattle.std.specs.Prelude.{◌≡◌, ◌⊎◌, ℕ, codes, List, [], ◌∷◌, filter, slice_get, Bool, true, false, Option, Some, None, Result, Ok, Err, IsOk, ⊤}
 use Rattle.std.specs.FinMap.{values}
 use Rattle.sqlite.specs.Tree.{Trees}
 use Rattle.sqlite.specs.State.{State}
+use Rattle.sqlite.specs.Order.{Row}
 use Rattle.wh_day.specs.Reading.{◌>>=◌}
 use Rattle.wh_policy.specs.Policy.{policy_at}
 use Rattle.wh_policy.specs.declared.fault.PolicyFault.{PolicyFault}
@@ -11,10 +12,15 @@ use Rattle.wh_history.specs.Accepted.{Accepted}
 use Rattle.wh_history.specs.Tables.{Limits}
 use Rattle.wh_rows.specs.AtRest.{AreTrees, IsAtRest, Leaves}
 use Rattle.wh_rows.specs.Tables.{Tables}
+use Rattle.wh_rows.specs.Rows as row
+use Rattle.wh_rows.specs.Raw.{Stored, AreRows, HasDamage}
+use Rattle.wh_rows.specs.Questions.{has_id}
 use Rattle.wh_rows.specs.declared.rows.CommandRow.{CommandRow}
 use Rattle.wh_rows.specs.declared.table.Table.TheVariants as tables
 use Rattle.wh_sql.specs.Asked.{same_text}
 use Rattle.wh_store.specs.Meta.{number_in, fault_of, limits_in}
+use Rattle.wh_store.specs.Raw.{FormatIs, LimitsAre, IsRefusedOn, IsLimitless}
+use Rattle.wh_sql.specs.declared.fault.ReadFault.TheVariants as reading
 use Rattle.wh_store.specs.declared.fault.OpenFault.{OpenFault}
 use Rattle.wh_engine.specs.Answered.{Rests, AreTreesOf, LeavesOneOf}
 use Rattle.wh_plan.specs.FirstRows.{making_of}
@@ -62,6 +68,43 @@ IsTold result told = told ≡ result
 abbrev pub IsRead : {A : Type 0} → Result A OpenFault → Result A OpenFault → Tables → State → Type 0
 IsRead (Err (faults.Store cause)) told t s = Leaves (Some t) s
 IsRead result told t s = IsTold result told × IsAtRest (Some t) s
+
+-- ---- the same, whoever wrote the rows
+
+-- the rows that are stored under the making's id
+abbrev pub makings_stored : Stored → List Row
+makings_stored stored = filter (has_id (codes "init")) (stored tables.Command)
+
+-- none of them is damaged, and this is what the first gives
+abbrev pub PolicyIs : Stored → Result Policy OpenFault → Type 0
+PolicyIs stored policy = (makings : List CommandRow) × AreRows row.command (makings_stored stored) makings × (of_making (slice_get makings 0) ≡ policy)
+
+-- there is no policy in force, with this fault: no row gives one, or one of the rows is damaged; or memory ran out, or the store refused a call
+abbrev pub IsPolicyless : Stored → OpenFault → Type 0
+IsPolicyless stored faults.Memory = ⊤
+IsPolicyless stored (faults.Store cause) = ⊤
+IsPolicyless stored (faults.Damaged table) = (table ≡ tables.Command) × (PolicyIs stored (Err (faults.Damaged tables.Command)) ⊎ HasDamage row.command (makings_stored stored))
+IsPolicyless stored fault = ⊥
+
+-- what an engine has to know of what is stored
+abbrev pub SessionIs : Stored → Session → Type 0
+SessionIs stored session = LimitsAre stored (Some session.limits) × PolicyIs stored (Ok session.policy) × (session.must_reopen ≡ false)
+
+-- it can't be known, with this fault: the limits are refused; or they are good, and there is no policy
+abbrev pub IsSessionless : Stored → OpenFault → Type 0
+IsSessionless stored faults.Memory = ⊤
+IsSessionless stored (faults.Store cause) = ⊤
+IsSessionless stored (faults.Damaged table) = IsLimitless stored (reading.Damaged table) ⊎ ((limits : Limits) × LimitsAre stored (Some limits) × IsPolicyless stored (faults.Damaged table))
+IsSessionless stored fault = ⊥
+
+-- what is stored isn't opened, with this fault: the format is why; or it is 1, and the session can't be known
+abbrev pub IsUnopened : Stored → OpenFault → Type 0
+IsUnopened stored faults.Memory = ⊤
+IsUnopened stored (faults.Store cause) = ⊤
+IsUnopened stored (faults.Damaged table) = IsRefusedOn stored (faults.Damaged table) ⊎ (FormatIs stored (Ok tt) × IsSessionless stored (faults.Damaged table))
+IsUnopened stored fault = IsRefusedOn stored fault
+
+-- ---- a warehouse
 
 -- A warehouse that wasn't opened: memory ran out, and nothing changed; or the store refused a call, and a crash leaves its tables. No other fault comes.
 abbrev pub IsNotOpened : Limits → List Accepted → OpenFault → State → Type 0

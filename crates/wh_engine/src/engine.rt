@@ -6,6 +6,7 @@ ghost use Rattle.wh_history.specs.Accepted.{Accepted};
 ghost use Rattle.wh_history.specs.Tables.{Limits as Counts};
 ghost use Rattle.wh_rows.specs.AtRest.{IsAtRest};
 ghost use Rattle.wh_rows.specs.Tables.{Tables as Rows};
+ghost use Rattle.wh_rows.specs.Raw.{Stored, RestsOn};
 ghost use Rattle.wh_store.specs.Reads.{state_of};
 ghost use Rattle.wh_engine.specs.Answered.{IsReady, IsAnswered, IsPerformed, KeepsNothing};
 ghost use Rattle.wh_engine.specs.Faults.{IsWorkedOut, stops};
@@ -38,6 +39,7 @@ fn perform<S: Alter>(
     ensures performed { HasCleanDisk (state_of S.Store tables.new) → (limits : Counts) (commands : List Accepted) → IsReady limits commands session.now (state_of S.Store tables.old)
         → IsPerformed limits commands command.now result session.now (state_of S.Store tables.new) }
     ensures untouched { HasCleanDisk (state_of S.Store tables.new) → (t : Rows) → IsAtRest (Some t) (state_of S.Store tables.old) → KeepsNothing result → IsAtRest (Some t) (state_of S.Store tables.new) }
+    ensures untouched_stored { HasCleanDisk (state_of S.Store tables.new) → (stored : Stored) → RestsOn stored (state_of S.Store tables.old) → KeepsNothing result → RestsOn stored (state_of S.Store tables.new) }
     ensures work { IsWorkedOut result }
 {
     match decide(tables, alloc, session, command) {
@@ -71,8 +73,9 @@ impl<S: Alter> Engine<S> {
         ensures clean { HasCleanDisk (state_of S.Store self.new.tables) → HasCleanDisk (state_of S.Store self.old.tables) }
         ensures answered { HasCleanDisk (state_of S.Store self.new.tables) → (limits : Counts) (commands : List Accepted) → IsReady limits commands self.old.session (state_of S.Store self.old.tables)
             → IsAnswered limits commands command.now result self.new.session (state_of S.Store self.new.tables) }
-        // Any tables stay as they were, where nothing was accepted.
+        // Any tables stay as they were, where nothing was accepted, and any rows, whoever wrote them.
         ensures untouched { HasCleanDisk (state_of S.Store self.new.tables) → (t : Rows) → IsAtRest (Some t) (state_of S.Store self.old.tables) → KeepsNothing result → IsAtRest (Some t) (state_of S.Store self.new.tables) }
+        ensures untouched_stored { HasCleanDisk (state_of S.Store self.new.tables) → (stored : Stored) → RestsOn stored (state_of S.Store self.old.tables) → KeepsNothing result → RestsOn stored (state_of S.Store self.new.tables) }
         ensures reopen { IsTrue self.old.session.must_reopen → (result ≡ Err Fault.Reopen) × (self.new.tables ≡ self.old.tables) × (self.new.session ≡ self.old.session) }
         ensures only { result ≡ Err Fault.Reopen → IsTrue self.old.session.must_reopen }
         ensures noted { self.old.session.must_reopen ≡ false → self.new.session ≡ record (self.old.session) { must_reopen = stops result } }

@@ -28,7 +28,7 @@ use Rattle.wh_history.proofs.Batches as batches
 use Rattle.wh_history.proofs.Places.{one_place}
 use Rattle.wh_history.proofs.Stays.{types-last, customer_rows_stay, profile_of_day_stays}
 use Rattle.wh_history.proofs.Untouched.{member-last}
-use Rattle.wh_sql.specs.Asked.{durable_of}
+use Rattle.wh_rows.specs.Questions.{durable_of}
 use Rattle.wh_plan.specs.Laws.{followed}
 use Rattle.wh_plan.proofs.GrownOthers.{profiles_stay}
 

@@ -16,7 +16,7 @@ use Rattle.wh_history.specs.declared.member.Change.{Change}
 use Rattle.wh_history.specs.declared.member.Member.{Member}
 use Rattle.wh_rows.specs.Rows as row
 use Rattle.wh_rows.specs.Tables.{Tables}
-use Rattle.wh_sql.specs.Asked.{durable_of}
+use Rattle.wh_rows.specs.Questions.{durable_of}
 use Rattle.wh_plan.specs.Defined.{AreOf, fact_at}
 use Rattle.wh_plan.specs.Laws.{ShowsNoProfile}
 use Rattle.wh_plan.specs.Edits.{AreFacts}

@@ -24,6 +24,7 @@ use Rattle.wh_rows.specs.Texts as texts
 use Rattle.wh_rows.specs.Keys.{bind_change, stands_at_change}
 use Rattle.wh_rows.specs.Meaning.{PutsOne, RemovesOne, ReadsSome, CountsAll}
 use Rattle.wh_rows.specs.Raw.{ReadsStored}
+use Rattle.wh_rows.specs.Questions.{is_of_member, is_of_anchor}
 use Rattle.wh_rows.specs.Firsts.{ReadsGreatest}
 use Rattle.wh_rows.proofs.Cast.{cast_row_own}
 use Rattle.wh_rows.proofs.Keys.{and-true, equal-Nat, sorted-Nat, then_eq, trimmed_and}
@@ -181,6 +182,14 @@ all_stored = record { reads = all; tested = λ r. refl }
 pub get_stored : (k : ChangeKey) → ReadsStored row.change (bind_change k) (stands_at_change k) (λ r. eq_by_cmp row.change.order k (row.change.key r)) texts.change.get
 unfolding get
 get_stored k = record { reads = get k; tested = λ r. refl }
+
+pub of_member_stored : (dim : Dim) (durable : ℕ) → ReadsStored row.change (Int (pos (dim_number dim)) ∷ Int (pos durable) ∷ []) (is_of_member dim durable) (λ r. eq_by_cmp nat_cmp (dim_number dim) (dim_number r.dim) && eq_by_cmp nat_cmp durable r.durable) texts.changes_of_member
+unfolding of_member
+of_member_stored dim durable = record { reads = of_member dim durable; tested = λ r. refl }
+
+pub of_anchor_stored : (dim : Dim) (anchor : ℕ) → ReadsStored row.change (Int (pos (dim_number dim)) ∷ Int (pos anchor) ∷ []) (is_of_anchor dim anchor) (λ r. eq_by_cmp nat_cmp (dim_number dim) (dim_number r.dim) && eq_by_cmp nat_cmp anchor r.anchor) texts.changes_of_anchor
+unfolding of_anchor
+of_anchor_stored dim anchor = record { reads = of_anchor dim anchor; tested = λ r. refl }
 
 -- ---- count
 

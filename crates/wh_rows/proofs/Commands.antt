@@ -19,6 +19,7 @@ use Rattle.wh_rows.specs.Texts as texts
 use Rattle.wh_rows.specs.Keys.{bind_number, stands_at_number}
 use Rattle.wh_rows.specs.Meaning.{PutsOne, KeepsApart, RemovesOne, ReadsSome, CountsAll}
 use Rattle.wh_rows.specs.Raw.{ReadsStored}
+use Rattle.wh_rows.specs.Questions.{has_id}
 use Rattle.wh_rows.specs.Firsts.{ReadsFirst}
 use Rattle.wh_rows.proofs.Cast.{cast_row_own}
 use Rattle.wh_rows.proofs.Keys.{and-true, equal-Nat, equal-Text, sorted-Nat, trimmed}
@@ -173,6 +174,10 @@ all_stored = record { reads = all; tested = λ r. refl }
 pub get_stored : (k : ℕ) → ReadsStored row.command (bind_number k) (stands_at_number k) (λ r. eq_by_cmp row.command.order k (row.command.key r)) texts.command.get
 unfolding get
 get_stored k = record { reads = get k; tested = λ r. refl }
+
+pub of_id_stored : (id : List ℕ) → ReadsStored row.command (Text id ∷ []) (has_id id) (λ r. eq_by_cmp (slice_cmp nat_cmp) id r.id) texts.command_of_id
+unfolding of_id
+of_id_stored id = record { reads = of_id id; tested = λ r. refl }
 
 -- ---- count
 

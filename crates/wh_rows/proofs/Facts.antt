@@ -24,13 +24,15 @@ use Rattle.wh_rows.specs.Types.{is_key, is_line, is_number, is_measure}
 use Rattle.wh_rows.specs.Rows as row
 use Rattle.wh_rows.specs.Texts as texts
 use Rattle.wh_rows.specs.Keys.{bind_line, stands_at_line}
+use Rattle.wh_rows.specs.Questions.{at_least, durable_of, is_sale_since}
+use Rattle.wh_policy.specs.declared.attribute.Dim.{Dim}
 use Rattle.wh_policy.specs.declared.attribute.Dim.TheVariants.{Product, Store, Customer}
 use Rattle.wh_rows.specs.Meaning.{PutsOne, MovesOne, RemovesOne, ReadsSome, CountsAll}
 use Rattle.wh_rows.specs.Raw.{ReadsStored}
 use Rattle.wh_rows.specs.Rekey.{Rekey, rekey_text, bind_rekey, are_keys, with_keys}
 use Rattle.wh_rows.proofs.Cast.{cast_row_own}
 use Rattle.wh_rows.proofs.ColumnLemmas.{both}
-use Rattle.wh_rows.proofs.Keys.{and-true, equal-Nat, equal-Text, sorted-Nat, at_least, at_least-Nat, then_eq, trimmed_and}
+use Rattle.wh_rows.proofs.Keys.{and-true, equal-Nat, equal-Text, sorted-Nat, at_least-Nat, then_eq, trimmed_and}
 use Rattle.wh_history.specs.declared.facts.Fact.{Fact}
 use Rattle.wh_day.specs.Day.{is_day}
 
@@ -225,6 +227,12 @@ of_customer_since durable from = record {
   in_order = λ v w. ap₂ ordering_then (value_cmp-Text v.ticket w.ticket) (then-Equal _ ∙ sorted-Nat v.line w.line);
 }
 
+-- the facts of a member of this dimension since a day
+pub of_sales_since : (dim : Dim) (durable from : ℕ) → ReadsSome row.fact (Int (pos durable) ∷ Int (pos from) ∷ []) (λ r. eq_by_cmp nat_cmp durable (durable_of dim r) && is_ge (nat_cmp r.day from)) (texts.sales_since dim)
+of_sales_since Product durable from = of_product_since durable from
+of_sales_since Store durable from = of_store_since durable from
+of_sales_since Customer durable from = of_customer_since durable from
+
 -- ---- read, whoever wrote the rows
 
 pub all_stored : ReadsStored row.fact [] (λ r. true) (λ r. true) texts.fact.all
@@ -234,6 +242,12 @@ all_stored = record { reads = all; tested = λ r. refl }
 pub get_stored : (k : LineKey) → ReadsStored row.fact (bind_line k) (stands_at_line k) (λ r. eq_by_cmp row.fact.order k (row.fact.key r)) texts.fact.get
 unfolding get
 get_stored k = record { reads = get k; tested = λ r. refl }
+
+pub of_sales_since_stored : (dim : Dim) (durable from : ℕ) → ReadsStored row.fact (Int (pos durable) ∷ Int (pos from) ∷ []) (is_sale_since dim durable from) (λ r. eq_by_cmp nat_cmp durable (durable_of dim r) && is_ge (nat_cmp r.day from)) (texts.sales_since dim)
+unfolding of_sales_since of_product_since of_store_since of_customer_since
+of_sales_since_stored Product durable from = record { reads = of_product_since durable from; tested = λ r. refl }
+of_sales_since_stored Store durable from = record { reads = of_store_since durable from; tested = λ r. refl }
+of_sales_since_stored Customer durable from = record { reads = of_customer_since durable from; tested = λ r. refl }
 
 -- ---- count
 

@@ -15,9 +15,10 @@ use Rattle.std.proofs.lemmas.Bool.{or_parts}
 use Rattle.sqlite_rules.specs.Lists.{Has}
 use Rattle.sqlite_sql.specs.Ops.{binary, truth, from_truth, is_true}
 use Rattle.sqlite_sql.specs.declared.ops.BinaryOp.TheVariants.{Compare}
-use Rattle.sqlite_sql.specs.declared.ops.CompareOp.TheVariants.{Gt, Ge}
+use Rattle.sqlite_sql.specs.declared.ops.CompareOp.TheVariants.{Gt}
 use Rattle.sqlite_value.specs.declared.value.Value.{Value}
 use Rattle.sqlite_schema.specs.Rules.{equal, differ}
+use Rattle.wh_rows.specs.Questions.{at_least}
 
 pub trimmed : (b : Bool) → ((b && true) || false) ≡ b
 trimmed true = refl
@@ -62,10 +63,6 @@ greater-Nat a b = truth_is (is_gt (value_cmp (Int (pos a)) (Int (pos b)))) ∙ a
 pub greater-Text : (s t : List ℕ) → greater (Text s) (Text t) ≡ is_gt (slice_cmp nat_cmp s t)
 unfolding binary
 greater-Text s t = truth_is (is_gt (value_cmp (Text s) (Text t))) ∙ ap is_gt (value_cmp-Text s t)
-
--- whether SQL's >= is true of two values
-abbrev pub at_least : Value → Value → Bool
-at_least a b = is_true (binary (Compare Ge Binary) a b)
 
 pub at_least-Nat : (a b : ℕ) → at_least (Int (pos a)) (Int (pos b)) ≡ is_ge (nat_cmp a b)
 unfolding binary

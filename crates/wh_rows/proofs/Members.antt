@@ -25,6 +25,7 @@ use Rattle.wh_rows.specs.Texts as texts
 use Rattle.wh_rows.specs.Keys.{bind_member, stands_at_member}
 use Rattle.wh_rows.specs.Meaning.{PutsOne, KeepsApart, RemovesOne, ReadsSome, CountsAll}
 use Rattle.wh_rows.specs.Raw.{ReadsStored}
+use Rattle.wh_rows.specs.Questions.{has_natural}
 use Rattle.wh_rows.specs.Firsts.{ReadsFirst}
 use Rattle.wh_rows.proofs.Cast.{cast_row_own}
 use Rattle.wh_rows.proofs.Keys.{and-true, equal-Nat, equal-Text, sorted-Nat, then_eq, trimmed_and}
@@ -176,6 +177,10 @@ all_stored = record { reads = all; tested = λ r. refl }
 pub get_stored : (k : MemberKey) → ReadsStored row.member (bind_member k) (stands_at_member k) (λ r. eq_by_cmp row.member.order k (row.member.key r)) texts.member.get
 unfolding get
 get_stored k = record { reads = get k; tested = λ r. refl }
+
+pub of_natural_stored : (dim : Dim) (natural : List ℕ) → ReadsStored row.member (Int (pos (dim_number dim)) ∷ Text natural ∷ []) (has_natural dim natural) (λ r. eq_by_cmp nat_cmp (dim_number dim) (dim_number r.dim) && eq_by_cmp (slice_cmp nat_cmp) natural r.natural) texts.member_of_natural
+unfolding of_natural
+of_natural_stored dim natural = record { reads = of_natural dim natural; tested = λ r. refl }
 
 -- ---- count
 

@@ -21,6 +21,7 @@ use Rattle.wh_rows.specs.Keys.{bind_number, stands_at_number}
 use Rattle.wh_policy.specs.declared.attribute.Dim.TheVariants.{Product}
 use Rattle.wh_rows.specs.Meaning.{PutsOne, RemovesOne, ReadsSome, CountsAll}
 use Rattle.wh_rows.specs.Raw.{ReadsStored}
+use Rattle.wh_rows.specs.Questions.{has_durable}
 use Rattle.wh_rows.specs.Firsts.{ReadsFirst}
 use Rattle.wh_rows.proofs.Cast.{cast_row_own}
 use Rattle.wh_rows.proofs.Keys.{and-true, trimmed, equal-Nat, sorted-Nat}
@@ -162,6 +163,10 @@ all_stored = record { reads = all; tested = λ r. refl }
 pub get_stored : (k : ℕ) → ReadsStored row.product (bind_number k) (stands_at_number k) (λ r. eq_by_cmp row.product.order k (row.product.key r)) texts.product.get
 unfolding get
 get_stored k = record { reads = get k; tested = λ r. refl }
+
+pub of_durable_stored : (durable : ℕ) → ReadsStored row.product (Int (pos durable) ∷ []) (has_durable durable) (λ r. eq_by_cmp nat_cmp durable r.durable) (texts.rows_of_member Product)
+unfolding of_durable
+of_durable_stored durable = record { reads = of_durable durable; tested = λ r. refl }
 
 -- ---- count
 

@@ -20,6 +20,7 @@ use Rattle.wh_rows.specs.Texts as texts
 use Rattle.wh_rows.specs.Keys.{bind_number, stands_at_number}
 use Rattle.wh_rows.specs.Meaning.{PutsOne, RemovesOne, ReadsSome, CountsAll}
 use Rattle.wh_rows.specs.Raw.{ReadsStored}
+use Rattle.wh_rows.specs.Questions.{has_values}
 use Rattle.wh_rows.specs.Firsts.{ReadsFirst}
 use Rattle.wh_rows.proofs.Cast.{cast_row_own}
 use Rattle.wh_rows.proofs.Keys.{and-true, trimmed, equal-Nat, equal-Text, sorted-Nat}
@@ -161,6 +162,10 @@ all_stored = record { reads = all; tested = λ r. refl }
 pub get_stored : (k : ℕ) → ReadsStored row.profile (bind_number k) (stands_at_number k) (λ r. eq_by_cmp row.profile.order k (row.profile.key r)) texts.profile.get
 unfolding get
 get_stored k = record { reads = get k; tested = λ r. refl }
+
+pub of_values_stored : (values : List (List ℕ)) → ReadsStored row.profile (slot_columns values) (has_values values) (λ r. eq_by_cmp (slice_cmp nat_cmp) (slice_index_or values 0 []) (slice_index_or r.values 0 []) && (eq_by_cmp (slice_cmp nat_cmp) (slice_index_or values 1 []) (slice_index_or r.values 1 []) && (eq_by_cmp (slice_cmp nat_cmp) (slice_index_or values 2 []) (slice_index_or r.values 2 []) && (eq_by_cmp (slice_cmp nat_cmp) (slice_index_or values 3 []) (slice_index_or r.values 3 []) && (eq_by_cmp (slice_cmp nat_cmp) (slice_index_or values 4 []) (slice_index_or r.values 4 []) && (eq_by_cmp (slice_cmp nat_cmp) (slice_index_or values 5 []) (slice_index_or r.values 5 []))))))) texts.profile_of_values
+unfolding of_values
+of_values_stored values = record { reads = of_values values; tested = λ r. refl }
 
 -- ---- count
 

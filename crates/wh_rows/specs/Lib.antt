@@ -15,6 +15,7 @@ pub mod Stored
 pub mod Place
 pub mod Making
 pub mod Firsts
+pub mod Questions
 pub mod Cause
 pub mod AtRest
 pub mod Raw

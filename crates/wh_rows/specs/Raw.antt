@@ -1,5 +1,5 @@
 -- What is stored in the tables, whoever wrote it: rows of values of their types, and rows that are damaged.
-use Rattle.std.specs.Prelude.{◌≡◌, ◌≢◌, ℕ, Bool, false, List, [], ◌∷◌, ◌++◌, map, Option, None, Some, IsTrue}
+use Rattle.std.specs.Prelude.{◌≡◌, ◌≢◌, ℕ, Bool, false, List, [], ◌∷◌, ◌++◌, map, Option, None, Some, IsTrue, ⊤}
 use Rattle.std.specs.List.{AllByRecursion, list_all}
 use Rattle.std.specs.List.Sorted.{IsPermutation, IsSorted}
 use Rattle.std.specs.FinMap.{FinMap, entries, values}
@@ -17,6 +17,7 @@ use Rattle.wh_rows.specs.Holds.{Layout, values_of, IsRising}
 use Rattle.wh_rows.specs.Rows as row
 use Rattle.wh_rows.specs.Tables.{Tables}
 use Rattle.wh_rows.specs.Meaning.{ReadsSome}
+use Rattle.wh_rows.specs.Firsts.{Front}
 
 -- ---- the stored rows of one table
 
@@ -119,3 +120,8 @@ pub record AreTyped (t : Tables) : Type 0 where
 pub record ReadsStored {K V : Type 0} (layout : Layout K V) (params : Row) (stands : Row → Bool) (keep : V → Bool) (text : List ℕ) : Type 0 where
   pub reads : ReadsSome layout params keep text
   pub tested : (row : Row) → reads.test row ≡ stands row
+
+-- so it is of a text that shows all of them; of one that shows the first alone this says nothing
+abbrev pub ReadsAllStored : {K V : Type 0} → Option Front → Layout K V → Row → (Row → Bool) → (V → Bool) → List ℕ → Type 0
+ReadsAllStored None layout params stands keep text = ReadsStored layout params stands keep text
+ReadsAllStored (Some front) layout params stands keep text = ⊤

@@ -5,6 +5,8 @@ ghost use Rattle.std.specs.Ordering.{eq_by_cmp, nat_cmp};
 ghost use Rattle.sqlite_value.specs.declared.value.Value.TheVariants.{Int};
 ghost use Rattle.wh_policy.specs.declared.attribute.Dim.{Dim};
 ghost use Rattle.wh_rows.specs.Meaning.{ReadsSome};
+ghost use Rattle.wh_rows.specs.Raw.{ReadsStored};
+ghost use Rattle.wh_rows.specs.Questions.{has_durable};
 
 use crate::keeps::Keeps;
 use wh_history::DimRow;
@@ -25,11 +27,14 @@ pub trait Dimension: Keeps<Row = DimRow, Key = u64> {
 
     // What the text means.
     ghost finds_rows: { (durable : ℕ) → ReadsSome Self.StoredTable.layout (Int (pos durable) ∷ []) (λ row. eq_by_cmp nat_cmp durable row.durable) rows_of_means };
+
+    // The same, whoever wrote the rows.
+    ghost finds_rows_stored: { (durable : ℕ) → ReadsStored Self.StoredTable.layout (Int (pos durable) ∷ []) (has_durable durable) (λ row. eq_by_cmp nat_cmp durable row.durable) rows_of_means };
 }
 
 impl Dimension for tables::Product {
     ghost use Rattle.wh_policy.specs.declared.attribute.Dim.TheVariants.{Product};
-    ghost use Rattle.wh_rows.proofs.Products.{of_durable_text, of_durable};
+    ghost use Rattle.wh_rows.proofs.Products.{of_durable_text, of_durable, of_durable_stored};
 
     ghost dimension = { Product };
 
@@ -44,11 +49,13 @@ impl Dimension for tables::Product {
     }
 
     ghost finds_rows = { of_durable };
+
+    ghost finds_rows_stored = { of_durable_stored };
 }
 
 impl Dimension for tables::Store {
     ghost use Rattle.wh_policy.specs.declared.attribute.Dim.TheVariants.{Store};
-    ghost use Rattle.wh_rows.proofs.Stores.{of_durable_text, of_durable};
+    ghost use Rattle.wh_rows.proofs.Stores.{of_durable_text, of_durable, of_durable_stored};
 
     ghost dimension = { Store };
 
@@ -63,11 +70,13 @@ impl Dimension for tables::Store {
     }
 
     ghost finds_rows = { of_durable };
+
+    ghost finds_rows_stored = { of_durable_stored };
 }
 
 impl Dimension for tables::Customer {
     ghost use Rattle.wh_policy.specs.declared.attribute.Dim.TheVariants.{Customer};
-    ghost use Rattle.wh_rows.proofs.Customers.{of_durable_text, of_durable};
+    ghost use Rattle.wh_rows.proofs.Customers.{of_durable_text, of_durable, of_durable_stored};
 
     ghost dimension = { Customer };
 
@@ -82,4 +91,6 @@ impl Dimension for tables::Customer {
     }
 
     ghost finds_rows = { of_durable };
+
+    ghost finds_rows_stored = { of_durable_stored };
 }

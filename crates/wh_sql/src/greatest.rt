@@ -49,7 +49,11 @@ impl Question<tables::Command> for Greatest {
         Ok(Vec::new(alloc))
     }
 
+    ghost stands = { λ q r. true };
+
     ghost reads = { λ q. greatest };
+
+    ghost reads_stored = { λ q. tt };
 }
 
 impl Question<tables::Product> for Greatest {
@@ -74,7 +78,11 @@ impl Question<tables::Product> for Greatest {
         Ok(Vec::new(alloc))
     }
 
+    ghost stands = { λ q r. true };
+
     ghost reads = { λ q. greatest };
+
+    ghost reads_stored = { λ q. tt };
 }
 
 impl Question<tables::Store> for Greatest {
@@ -99,7 +107,11 @@ impl Question<tables::Store> for Greatest {
         Ok(Vec::new(alloc))
     }
 
+    ghost stands = { λ q r. true };
+
     ghost reads = { λ q. greatest };
+
+    ghost reads_stored = { λ q. tt };
 }
 
 impl Question<tables::Customer> for Greatest {
@@ -124,7 +136,11 @@ impl Question<tables::Customer> for Greatest {
         Ok(Vec::new(alloc))
     }
 
+    ghost stands = { λ q r. true };
+
     ghost reads = { λ q. greatest };
+
+    ghost reads_stored = { λ q. tt };
 }
 
 impl Question<tables::Profile> for Greatest {
@@ -149,7 +165,11 @@ impl Question<tables::Profile> for Greatest {
         Ok(Vec::new(alloc))
     }
 
+    ghost stands = { λ q r. true };
+
     ghost reads = { λ q. greatest };
+
+    ghost reads_stored = { λ q. tt };
 }
 
 /// The member of a dimension that has the greatest durable key.
@@ -183,7 +203,11 @@ impl Question<tables::Member> for GreatestOf {
         dim_key(alloc, self.dim)
     }
 
+    ghost stands = { λ q r. true };
+
     ghost reads = { λ q. greatest q.dim };
+
+    ghost reads_stored = { λ q. tt };
 }
 
 /// The greatest anchor of the dimension's records; 0 where it has none.

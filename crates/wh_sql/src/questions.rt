@@ -21,7 +21,8 @@ impl Question<tables::Change> for RecordsOf {
     ghost use Rattle.std.specs.Ordering.{eq_by_cmp, nat_cmp};
     ghost use Rattle.sqlite_value.specs.declared.value.Value.TheVariants.{Int};
     ghost use Rattle.wh_rows.specs.Types.{is_number, dim_number};
-    ghost use Rattle.wh_rows.proofs.Changes.{of_member_text, of_member};
+    ghost use Rattle.wh_rows.proofs.Changes.{of_member_text, of_member, of_member_stored};
+    ghost use Rattle.wh_rows.specs.Questions.{is_of_member};
 
     ghost keep = { λ q r. eq_by_cmp nat_cmp (dim_number q.dim) (dim_number r.dim) && eq_by_cmp nat_cmp q.durable r.durable };
 
@@ -41,7 +42,11 @@ impl Question<tables::Change> for RecordsOf {
         dim_and_number(alloc, self.dim, self.durable)
     }
 
+    ghost stands = { λ q. is_of_member q.dim q.durable };
+
     ghost reads = { λ q. of_member q.dim q.durable };
+
+    ghost reads_stored = { λ q. of_member_stored q.dim q.durable };
 }
 
 /// The rows of one member, in the order of their keys.
@@ -55,6 +60,7 @@ impl<D: Dimension> Question<D> for RowsOf {
     ghost use Rattle.std.specs.Ordering.{eq_by_cmp, nat_cmp};
     ghost use Rattle.sqlite_value.specs.declared.value.Value.TheVariants.{Int};
     ghost use Rattle.wh_rows.specs.Types.{is_number};
+    ghost use Rattle.wh_rows.specs.Questions.{has_durable};
 
     ghost keep = { λ q r. eq_by_cmp nat_cmp q.durable r.durable };
 
@@ -74,7 +80,11 @@ impl<D: Dimension> Question<D> for RowsOf {
         number_key(alloc, &self.durable)
     }
 
+    ghost stands = { λ q. has_durable q.durable };
+
     ghost reads = { λ q. D.finds_rows q.durable };
+
+    ghost reads_stored = { λ q. D.finds_rows_stored q.durable };
 }
 
 /// The accepted records of one member and day, which share a surrogate key, in order of acceptance.
@@ -89,7 +99,8 @@ impl Question<tables::Change> for RecordsOn {
     ghost use Rattle.std.specs.Ordering.{eq_by_cmp, nat_cmp};
     ghost use Rattle.sqlite_value.specs.declared.value.Value.TheVariants.{Int};
     ghost use Rattle.wh_rows.specs.Types.{is_number, dim_number};
-    ghost use Rattle.wh_rows.proofs.Changes.{of_anchor_text, of_anchor};
+    ghost use Rattle.wh_rows.proofs.Changes.{of_anchor_text, of_anchor, of_anchor_stored};
+    ghost use Rattle.wh_rows.specs.Questions.{is_of_anchor};
 
     ghost keep = { λ q r. eq_by_cmp nat_cmp (dim_number q.dim) (dim_number r.dim) && eq_by_cmp nat_cmp q.anchor r.anchor };
 
@@ -109,7 +120,11 @@ impl Question<tables::Change> for RecordsOn {
         dim_and_number(alloc, self.dim, self.anchor)
     }
 
+    ghost stands = { λ q. is_of_anchor q.dim q.anchor };
+
     ghost reads = { λ q. of_anchor q.dim q.anchor };
+
+    ghost reads_stored = { λ q. of_anchor_stored q.dim q.anchor };
 }
 
 /// The command of an id.
@@ -121,7 +136,8 @@ pub struct CommandOf<'q> {
 impl<'q> Question<tables::Command> for CommandOf<'q> {
     ghost use Rattle.std.specs.Prelude.{[], ◌∷◌, None};
     ghost use Rattle.sqlite_value.specs.declared.value.Value.TheVariants.{Text};
-    ghost use Rattle.wh_rows.proofs.Commands.{of_id_text, of_id};
+    ghost use Rattle.wh_rows.proofs.Commands.{of_id_text, of_id, of_id_stored};
+    ghost use Rattle.wh_rows.specs.Questions.{has_id};
     ghost use Rattle.wh_sql.specs.Asked.{same_text};
 
     ghost keep = { λ q r. same_text q.id.now r.id };
@@ -142,7 +158,11 @@ impl<'q> Question<tables::Command> for CommandOf<'q> {
         text_key(alloc, self.id)
     }
 
+    ghost stands = { λ q. has_id q.id.now };
+
     ghost reads = { λ q. of_id q.id.now };
+
+    ghost reads_stored = { λ q. of_id_stored q.id.now };
 }
 
 /// The member that its source calls so.
@@ -157,7 +177,8 @@ impl<'q> Question<tables::Member> for MemberOf<'q> {
     ghost use Rattle.std.specs.Ordering.{eq_by_cmp, nat_cmp};
     ghost use Rattle.sqlite_value.specs.declared.value.Value.TheVariants.{Int, Text};
     ghost use Rattle.wh_rows.specs.Types.{dim_number};
-    ghost use Rattle.wh_rows.proofs.Members.{of_natural_text, of_natural};
+    ghost use Rattle.wh_rows.proofs.Members.{of_natural_text, of_natural, of_natural_stored};
+    ghost use Rattle.wh_rows.specs.Questions.{has_natural};
     ghost use Rattle.wh_sql.specs.Asked.{same_text};
 
     ghost keep = { λ q r. eq_by_cmp nat_cmp (dim_number q.dim) (dim_number r.dim) && same_text q.natural.now r.natural };
@@ -178,7 +199,11 @@ impl<'q> Question<tables::Member> for MemberOf<'q> {
         dim_and_text(alloc, self.dim, self.natural)
     }
 
+    ghost stands = { λ q. has_natural q.dim q.natural.now };
+
     ghost reads = { λ q. of_natural q.dim q.natural.now };
+
+    ghost reads_stored = { λ q. of_natural_stored q.dim q.natural.now };
 }
 
 /// The facts of one member of a dimension since a day, in the order of their keys.
@@ -194,7 +219,9 @@ impl Question<tables::Fact> for SalesSince {
     ghost use Rattle.std.specs.Ordering.{eq_by_cmp, is_ge, nat_cmp};
     ghost use Rattle.sqlite_value.specs.declared.value.Value.TheVariants.{Int};
     ghost use Rattle.wh_rows.specs.Types.{is_number};
-    ghost use Rattle.wh_sql.specs.Asked.{durable_of, sales_text, sales_read};
+    ghost use Rattle.wh_rows.specs.Questions.{durable_of, is_sale_since};
+    ghost use Rattle.wh_rows.specs.Texts.{sales_since};
+    ghost use Rattle.wh_rows.proofs.Facts.{of_sales_since, of_sales_since_stored};
 
     ghost keep = { λ q r. eq_by_cmp nat_cmp q.durable (durable_of q.dim r) && is_ge (nat_cmp r.day q.from) };
 
@@ -204,7 +231,7 @@ impl Question<tables::Fact> for SalesSince {
 
     ghost can_be_asked = { λ q. is_number q.durable ≡ true };
 
-    ghost means = { λ q. sales_text q.dim };
+    ghost means = { λ q. sales_since q.dim };
 
     fn text(&self) -> &'static str {
         match self.dim {
@@ -224,7 +251,11 @@ impl Question<tables::Fact> for SalesSince {
         number_and_day(alloc, self.durable, self.from)
     }
 
-    ghost reads = { λ q. sales_read q.dim q.durable q.from };
+    ghost stands = { λ q. is_sale_since q.dim q.durable q.from };
+
+    ghost reads = { λ q. of_sales_since q.dim q.durable q.from };
+
+    ghost reads_stored = { λ q. of_sales_since_stored q.dim q.durable q.from };
 }
 
 /// The profile of a combination of values.
@@ -236,7 +267,8 @@ pub struct ProfileOf<'q> {
 impl<'q> Question<tables::Profile> for ProfileOf<'q> {
     ghost use Rattle.std.specs.Prelude.{None};
     ghost use Rattle.wh_rows.specs.Rows.{slot_columns};
-    ghost use Rattle.wh_rows.proofs.Profiles.{of_values_text, of_values};
+    ghost use Rattle.wh_rows.proofs.Profiles.{of_values_text, of_values, of_values_stored};
+    ghost use Rattle.wh_rows.specs.Questions.{has_values};
     ghost use Rattle.wh_sql.specs.Asked.{same_slots};
 
     ghost keep = { λ q r. same_slots q.values.now r.values };
@@ -257,5 +289,9 @@ impl<'q> Question<tables::Profile> for ProfileOf<'q> {
         bound::slots(alloc, self.values)
     }
 
+    ghost stands = { λ q. has_values q.values.now };
+
     ghost reads = { λ q. of_values q.values.now };
+
+    ghost reads_stored = { λ q. of_values_stored q.values.now };
 }

@@ -155,6 +155,9 @@ impl<S: Alter> Tables<S> {
     ) -> Result<Vec<T::Row>, ReadFault>
         ensures reads { ReadsOnly (state_of S.Store self.old) (state_of S.Store self.new) result }
         ensures rows { SaysAtRest (state_of S.Store self.old) (state_of S.Store self.new) (λ t. IfOk result (λ rows. rows.items ≡ part Q.front (filter (Q.keep question.now) (values (T.rows t))))) }
+        // The same of any rows, whoever wrote them, where all that answer are asked for.
+        ensures stored { Q.front ≡ None → SaysAsStored (state_of S.Store self.old) (state_of S.Store self.new) (λ stored. IfOk result (λ rows. AreRows T.layout (filter (Q.stands question.now) (stored T.name)) rows.items)) }
+        ensures damaged { Q.front ≡ None → SaysAsStored (state_of S.Store self.old) (state_of S.Store self.new) (λ stored. IfErr result (IsOfDamage T.layout T.name (filter (Q.stands question.now) (stored T.name)))) }
         ensures refused { HasCleanDisk (state_of S.Store self.new) → Q.can_be_asked question.now → IfErr result (FailsToShow T.layout T.name (Q.means question.now) (Q.bind question.now) (state_of S.Store self.old) (state_of S.Store self.new)) }
     {
         ask::<T, Q, S>(alloc, &mut self.conn, question)

@@ -1,8 +1,9 @@
-use Rattle.std.proofs.Common.{ap}
+use Rattle.std.proofs.Common.{ap, refl}
 use Rattle.std.proofs.lemmas.Result.{err_from_is_err_and}
 use Rattle.wh_store.specs.Reads.{state_of}
 use Rattle.wh_engine.specs.Opened.{of_limits, of_making, making_in, session_in}
 use Rattle.wh_engine.proofs.OpenedTables.{fault_goes_on, limits_unread, policy_fault, session_is}
+use Rattle.wh_engine.proofs.OpenedStored.{unlimited_spares, limits_refused, policy_refused}
 use Rattle.wh_engine.proofs.opening.session_of.Goals as goal
 
 pub returns-in_err-limits-clause-read : goal.returns-in_err-limits-clause-read
@@ -13,14 +14,37 @@ returns-in_err-limits-clause-read g c clean t rests =
 
 pub returns-in-Ok-clause-read : goal.returns-in-Ok-clause-read
 returns-in-Ok-clause-read g c clean t rests =
-    let before = c.policy_in.ensures.clean clean in
+    let before = c.policy_in.ensures.reads.clean clean in
     let first = ap of_limits (c.in_ok-limits.ensures.limits before t rests) in
     let second = c.in-Ok.ensures.read clean t (c.in_ok-limits.ensures.reads.same before t rests tt) in
     (session_is t c.in_ok-limits.limits c.in-Ok.policy first second.0, second.1)
 
 pub returns-in-Err-clause-read : goal.returns-in-Err-clause-read
 returns-in-Err-clause-read g c clean t rests =
-    let before = c.policy_in.ensures.clean clean in
+    let before = c.policy_in.ensures.reads.clean clean in
     let first = ap of_limits (c.in_ok-limits.ensures.limits before t rests) in
     let still = c.in_ok-limits.ensures.reads.same before t rests tt in
     fault_goes_on c.in-Err.fault (of_making (making_in t)) (session_in t) t (state_of g.S.Store c.policy_in.new.tables) (λ e. policy_fault t c.in_ok-limits.limits e first) (c.in-Err.ensures.read clean t still)
+
+-- ---- whoever wrote the rows
+
+pub returns-in_err-limits-clause-reads : goal.returns-in_err-limits-clause-reads
+returns-in_err-limits-clause-reads g c =
+    let p = err_from_is_err_and c.from_residual.result c.from_residual.ensures.1 in
+    rw (p.1, p.2) (unlimited_spares (state_of g.S.Store c.args.tables.now) (state_of g.S.Store c.limits.new.self) c.in_err-limits.field-0.0 c.in_err-limits.ensures.reads)
+
+pub returns-in_err-limits-clause-sessionless : goal.returns-in_err-limits-clause-sessionless
+returns-in_err-limits-clause-sessionless g c clean stored at =
+    let p = err_from_is_err_and c.from_residual.result c.from_residual.ensures.1 in
+    rw (p.1, p.2) (limits_refused stored c.in_err-limits.field-0.0 (c.in_err-limits.ensures.limitless clean stored at))
+
+pub returns-in-Ok-clause-stored : goal.returns-in-Ok-clause-stored
+returns-in-Ok-clause-stored g c clean stored at =
+    let before = c.policy_in.ensures.reads.clean clean in
+    (c.in_ok-limits.ensures.stored before stored at, c.in-Ok.ensures.stored clean stored (c.in_ok-limits.ensures.reads.rests before stored at tt), refl)
+
+pub returns-in-Err-clause-sessionless : goal.returns-in-Err-clause-sessionless
+returns-in-Err-clause-sessionless g c clean stored at =
+    let before = c.policy_in.ensures.reads.clean clean in
+    let still = c.in_ok-limits.ensures.reads.rests before stored at tt in
+    policy_refused stored c.in_ok-limits.limits (c.in_ok-limits.ensures.stored before stored at) c.in-Err.fault (c.in-Err.ensures.policyless clean stored still)

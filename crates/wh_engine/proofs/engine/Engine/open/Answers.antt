@@ -3,6 +3,7 @@ use Rattle.sqlite.specs.Held.{state}
 use Rattle.wh_sql.specs.Present.{are_all_there}
 use Rattle.wh_sql.proofs.Worked.{all_of_a_warehouse}
 use Rattle.wh_engine.proofs.OpenedTables.{format_known, not_opened, opened_ready, opened_refused}
+use Rattle.wh_engine.proofs.OpenedStored.{format_refused, session_refused}
 use Rattle.wh_engine.proofs.engine.Engine.open.Goals as goal
 
 pub returns-in-Err-clause-fault : goal.returns-in-Err-clause-fault
@@ -21,7 +22,7 @@ returns-in-Err-clause-refused g c clean limits commands accepted rests =
 
 pub returns-in-Ok-session_of-clause-found : goal.returns-in-Ok-session_of-clause-found
 returns-in-Ok-session_of-clause-found g c clean t rests =
-    let before = c.session_of.ensures.clean clean in
+    let before = c.session_of.ensures.reads.clean clean in
     let taken = c.in-Ok.ensures.taken before t rests in
     let still = c.in-Ok.ensures.reads.same before t rests tt in
     let read = c.in-Ok-session_of.ensures.read clean t still in
@@ -29,7 +30,7 @@ returns-in-Ok-session_of-clause-found g c clean t rests =
 
 pub returns-in-Ok-session_of-clause-ready : goal.returns-in-Ok-session_of-clause-ready
 returns-in-Ok-session_of-clause-ready g c clean limits commands accepted rests =
-    let before = c.session_of.ensures.clean clean in
+    let before = c.session_of.ensures.reads.clean clean in
     let taken = c.in-Ok.ensures.taken before rests.tables rests.rests in
     let still = c.in-Ok.ensures.reads.same before rests.tables rests.rests tt in
     let read = c.in-Ok-session_of.ensures.read clean rests.tables still in
@@ -38,8 +39,8 @@ returns-in-Ok-session_of-clause-ready g c clean limits commands accepted rests =
 pub returns-in-Err-session_of-clause-fault : goal.returns-in-Err-session_of-clause-fault
 returns-in-Err-session_of-clause-fault g c clean t rests =
     let here = rw c.close.ensures at clean in
-    let taken = c.in-Ok.ensures.taken (c.session_of.ensures.clean here) t rests in
-    let still = c.in-Ok.ensures.reads.same (c.session_of.ensures.clean here) t rests tt in
+    let taken = c.in-Ok.ensures.taken (c.session_of.ensures.reads.clean here) t rests in
+    let still = c.in-Ok.ensures.reads.same (c.session_of.ensures.reads.clean here) t rests tt in
     let read = c.in-Err-session_of.ensures.read here t still in
     rw (c.close.ensures, format_known t taken) read
 
@@ -47,7 +48,30 @@ pub returns-in-Err-session_of-clause-refused : goal.returns-in-Err-session_of-cl
 returns-in-Err-session_of-clause-refused g c clean limits commands accepted rests =
     let t = rests.tables in
     let here = rw c.close.ensures at clean in
-    let taken = c.in-Ok.ensures.taken (c.session_of.ensures.clean here) t rests.rests in
-    let still = c.in-Ok.ensures.reads.same (c.session_of.ensures.clean here) t rests.rests tt in
+    let taken = c.in-Ok.ensures.taken (c.session_of.ensures.reads.clean here) t rests.rests in
+    let still = c.in-Ok.ensures.reads.same (c.session_of.ensures.reads.clean here) t rests.rests tt in
     let read = c.in-Err-session_of.ensures.read here t still in
     rw c.close.ensures (opened_refused limits commands t accepted rests.are c.in-Err-session_of.fault (state g.S.Store c.session_of.new.tables.conn) (rw (format_known t taken) read))
+
+-- ---- whoever wrote the rows
+
+pub returns-in-Err-clause-fault_stored : goal.returns-in-Err-clause-fault_stored
+returns-in-Err-clause-fault_stored g c clean stored rests =
+    let all_there = ap are_all_there rests.now.schema ∙ all_of_a_warehouse in
+    let reads = c.in-Err.ensures.reads in
+    (format_refused stored c.in-Err.fault (c.in-Err.ensures.refused_stored clean stored rests all_there), reads.leaves clean stored rests, reads.rests clean stored rests)
+
+pub returns-in-Ok-session_of-clause-found_stored : goal.returns-in-Ok-session_of-clause-found_stored
+returns-in-Ok-session_of-clause-found_stored g c clean stored rests =
+    let before = c.session_of.ensures.reads.clean clean in
+    let still = c.in-Ok.ensures.reads.rests before stored rests tt in
+    (c.in-Ok.ensures.taken_stored before stored rests, c.in-Ok-session_of.ensures.stored clean stored still, c.in-Ok-session_of.ensures.reads.rests clean stored still tt)
+
+pub returns-in-Err-session_of-clause-fault_stored : goal.returns-in-Err-session_of-clause-fault_stored
+returns-in-Err-session_of-clause-fault_stored g c clean stored rests =
+    let here = rw c.close.ensures at clean in
+    let before = c.session_of.ensures.reads.clean here in
+    let still = c.in-Ok.ensures.reads.rests before stored rests tt in
+    let reads = c.in-Err-session_of.ensures.reads in
+    let fault = session_refused stored (c.in-Ok.ensures.taken_stored before stored rests) c.in-Err-session_of.fault (c.in-Err-session_of.ensures.sessionless here stored still) in
+    rw c.close.ensures (fault, reads.leaves here stored still, reads.rests here stored still)

@@ -1,0 +1,112 @@
+-- What an engine reads of any rows when it opens a warehouse, whoever wrote them.
+use Rattle.std.proofs.Common.{◌≡◌, ◌≢◌, inl, inr, List, slice_get, Option, Some, None, Result, Ok, Err, IfOk, IfErr, refl, ap, ◌∙◌}
+use Rattle.sqlite.specs.State.{State}
+use Rattle.wh_policy.specs.Policy.{policy_at}
+use Rattle.wh_policy.specs.declared.policy.Policy.{Policy}
+use Rattle.wh_policy.specs.declared.fault.PolicyFault.{PolicyFault}
+use Rattle.wh_history.specs.Tables.{Limits}
+use Rattle.wh_rows.specs.Rows as row
+use Rattle.wh_rows.specs.Raw.{Stored, AreRows}
+use Rattle.wh_rows.specs.declared.cause.Cause.{Cause}
+use Rattle.wh_rows.specs.declared.table.Table.TheVariants as tables
+use Rattle.wh_rows.specs.declared.rows.CommandRow.{CommandRow}
+use Rattle.wh_sql.specs.Reads.{ReadsOnly, Spares, IsOfDamage, SparesStore as RefusesNothing}
+use Rattle.wh_sql.specs.declared.fault.ReadFault.{ReadFault}
+use Rattle.wh_sql.specs.declared.fault.ReadFault.TheVariants as reading
+use Rattle.wh_store.specs.Opening.{SparesStore, unread}
+use Rattle.wh_store.specs.Raw.{FormatIs, LimitsAre, IsRefusedOn, IsLimitless}
+use Rattle.wh_store.specs.declared.fault.OpenFault.{OpenFault}
+use Rattle.wh_store.specs.declared.fault.OpenFault.TheVariants as faults
+use Rattle.wh_engine.specs.Opened.{of_policy, of_making, makings_stored, IsTold, PolicyIs, IsPolicyless, IsSessionless, IsUnopened}
+
+-- ---- what is left
+
+-- rows that weren't read leave what a reading leaves
+calm : (why : ReadFault) → SparesStore (unread why) → RefusesNothing why
+calm reading.Memory spared = tt
+calm (reading.Damaged table) spared = tt
+calm (reading.Store cause) spared = absurd spared
+
+pub unread_spares : {A : Type 0} (old new : State) (why : ReadFault) → ReadsOnly {A = A} old new (Err why) → Spares old new (SparesStore (unread why))
+unread_spares old new why reads = record {
+  clean = reads.clean;
+  same = λ clean t at spared. reads.same clean t at (calm why spared);
+  left = reads.left;
+  rests = λ clean stored at spared. reads.rests clean stored at (calm why spared);
+  leaves = reads.leaves;
+}
+
+pub unlimited_spares : (old new : State) (why : ReadFault) → Spares old new (RefusesNothing why) → Spares old new (SparesStore (unread why))
+unlimited_spares old new why reads = record {
+  clean = reads.clean;
+  same = λ clean t at spared. reads.same clean t at (calm why spared);
+  left = reads.left;
+  rests = λ clean stored at spared. reads.rests clean stored at (calm why spared);
+  leaves = reads.leaves;
+}
+
+-- ---- a making that gives no policy
+
+bytes_fault : (r : Result Policy PolicyFault) (fault : OpenFault) → of_policy r ≡ Err fault → fault ≡ faults.Damaged tables.Command
+bytes_fault (Ok policy) fault is = cc
+bytes_fault (Err e) fault is = cc
+
+making_fault : (making : Option CommandRow) (fault : OpenFault) → of_making making ≡ Err fault → fault ≡ faults.Damaged tables.Command
+making_fault None fault is = cc
+making_fault (Some row) fault is = bytes_fault (policy_at row.bytes) fault is
+
+module _ (stored : Stored) where
+  -- ---- the policy
+
+  pub policy_said : (rows : List CommandRow) (result : Result Policy OpenFault) → AreRows row.command (makings_stored stored) rows → IsTold result (of_making (slice_get rows 0)) → IfOk result (λ policy. PolicyIs stored (Ok policy))
+  policy_said rows (Ok policy) are told = (rows, are, told)
+  policy_said rows (Err fault) are told = tt
+
+  pub no_policy : (rows : List CommandRow) (result : Result Policy OpenFault) → AreRows row.command (makings_stored stored) rows → IsTold result (of_making (slice_get rows 0)) → IfErr result (IsPolicyless stored)
+  no_policy rows (Ok policy) are told = tt
+  no_policy rows (Err faults.NotAWarehouse) are told = let never = making_fault (slice_get rows 0) faults.NotAWarehouse told in cc
+  no_policy rows (Err faults.OldFormat) are told = let never = making_fault (slice_get rows 0) faults.OldFormat told in cc
+  no_policy rows (Err faults.NewFormat) are told = let never = making_fault (slice_get rows 0) faults.NewFormat told in cc
+  no_policy rows (Err (faults.Damaged table)) are told =
+      let is = making_fault (slice_get rows 0) (faults.Damaged table) told in
+      (cc is, inl (rows, are, told ∙ ap Err is))
+  no_policy rows (Err faults.Memory) are told = tt
+  no_policy rows (Err (faults.Store cause)) are told = tt
+
+  pub makings_unread : (why : ReadFault) → IsOfDamage row.command tables.Command (makings_stored stored) why → IsPolicyless stored (unread why)
+  makings_unread reading.Memory damage = tt
+  makings_unread (reading.Damaged table) damage = (damage.0, inr damage.1)
+  makings_unread (reading.Store cause) damage = tt
+
+  -- ---- the session
+
+  pub limits_refused : (why : ReadFault) → IsLimitless stored why → IsSessionless stored (unread why)
+  limits_refused reading.Memory refused = tt
+  limits_refused (reading.Damaged table) refused = inl refused
+  limits_refused (reading.Store cause) refused = tt
+
+  pub policy_refused : (limits : Limits) → LimitsAre stored (Some limits) → (fault : OpenFault) → IsPolicyless stored fault → IsSessionless stored fault
+  policy_refused limits are faults.NotAWarehouse refused = refused
+  policy_refused limits are faults.OldFormat refused = refused
+  policy_refused limits are faults.NewFormat refused = refused
+  policy_refused limits are (faults.Damaged table) refused = inr (limits, are, refused)
+  policy_refused limits are faults.Memory refused = tt
+  policy_refused limits are (faults.Store cause) refused = tt
+
+  -- ---- the opening
+
+  pub format_refused : (fault : OpenFault) → IsRefusedOn stored fault → IsUnopened stored fault
+  format_refused faults.NotAWarehouse refused = refused
+  format_refused faults.OldFormat refused = refused
+  format_refused faults.NewFormat refused = refused
+  format_refused (faults.Damaged table) refused = inl refused
+  format_refused faults.Memory refused = tt
+  format_refused (faults.Store cause) refused = tt
+
+  pub session_refused : FormatIs stored (Ok tt) → (fault : OpenFault) → IsSessionless stored fault → IsUnopened stored fault
+  session_refused taken faults.NotAWarehouse refused = absurd refused
+  session_refused taken faults.OldFormat refused = absurd refused
+  session_refused taken faults.NewFormat refused = absurd refused
+  session_refused taken (faults.Damaged table) refused = inr (taken, refused)
+  session_refused taken faults.Memory refused = tt
+  session_refused taken (faults.Store cause) refused = tt
