@@ -1,5 +1,5 @@
 -- Which statement the store refused.
-use Rattle.std.proofs.Common.{◌≡◌, ◌≢◌, ℕ, zero, suc, ◌<◌, ◌≤◌, List, [], ◌∷◌, map, length, get_or, inl, inr, subst, arith}
+use Rattle.std.proofs.Common.{◌≡◌, ℕ, zero, suc, ◌<◌, ◌≤◌, List, [], ◌∷◌, map, length, get_or, inl, inr, subst, arith}
 use Rattle.sqlite_value.specs.declared.value.Value.TheVariants.{Text}
 use Rattle.sqlite.specs.Order.{Row}
 use Rattle.sqlite.specs.State.{State}
@@ -10,7 +10,6 @@ use Rattle.sqlite_rules.proofs.ProbeLemmas.{mapped_has}
 use Rattle.sqlite_rules.proofs.ListLemmas.{has_left, has_right}
 use Rattle.wh_history.specs.Tables.{Limits}
 use Rattle.wh_rows.specs.declared.cause.Cause.{Cause}
-use Rattle.wh_rows.specs.declared.cause.Cause.TheVariants.{Memory}
 use Rattle.wh_rows.specs.declared.table.Table.TheVariants.{Meta}
 use Rattle.wh_rows.specs.declared.rows.MetaRow.{MetaRow}
 use Rattle.wh_rows.specs.Rows.{meta, encode_meta}

@@ -1,8 +1,8 @@
--- What a call inside a transaction leaves, and what it makes.
-use Rattle.std.specs.Prelude.{◌≤◌, Option, Some, Result, OnOk}
+-- What a call inside a transaction leaves, what it makes, and what a transaction leaves that is undone.
+use Rattle.std.specs.Prelude.{◌≡◌, ◌≤◌, Bool, Option, Some, Result, Ok, Err, OnOk, IsTrue}
 use Rattle.sqlite.specs.State.{State, HasCleanDisk}
 use Rattle.wh_rows.specs.declared.cause.Cause.{Cause}
-use Rattle.wh_rows.specs.AtRest.{IsWriting, Leaves}
+use Rattle.wh_rows.specs.AtRest.{IsAtRest, IsWriting, Leaves}
 use Rattle.wh_rows.specs.Tables.{Tables}
 
 -- Where the disk returned what was written until now, it did so before, and no fault is forgotten; and where the rows may be put, a crash leaves what
@@ -15,3 +15,12 @@ pub record WritesOnly (old new : State) (may : Type 0) : Type 0 where
 -- where the rows may be put, the tables that the transaction has made are these after an answer
 abbrev pub Makes : {A : Type 0} → State → State → Result A Cause → Type 0 → (Tables → Tables) → Type 0
 Makes old new result may step = HasCleanDisk new → (before : Option Tables) (made : Tables) → IsWriting before (Some made) old → may → OnOk result (IsWriting before (Some (step made)) new)
+
+-- what becomes of the mark that a write was refused: a refusal sets it, and an answer leaves it
+abbrev pub NotesRefusals : {A : Type 0} → Bool → Bool → Result A Cause → Type 0
+NotesRefusals old new (Ok _) = new ≡ old
+NotesRefusals old new (Err _) = IsTrue new
+
+-- a crash leaves what the transaction began with, and so does the connection where it is still open
+abbrev pub Undoes : State → State → Type 0
+Undoes old new = HasCleanDisk new → (before made : Option Tables) → IsWriting before made old → Leaves before new × (IsTrue new.is_open → IsAtRest before new)

@@ -179,6 +179,7 @@ impl<S: Alter> Tables<S> {
         ensures begun { IfOk result (λ writing. HasCleanDisk (state S.Store writing.tables.now.conn) → (held : Option Rows) → IsAtRest held (state S.Store self.old.conn) → IsWriting held held (state S.Store writing.tables.now.conn)) }
         ensures survives { IfOk result (λ writing. Survives (state S.Store self.old.conn) (state S.Store writing.tables.now.conn) (λ _. ⊥)) }
         ensures counted { IfOk result (λ writing. writing.writes ≡ 0) }
+        ensures fresh { IfOk result (λ writing. writing.refused ≡ false) }
     {
         begin(&mut self.conn)?;
         Ok(Writing::new(self))

@@ -1,11 +1,11 @@
 //! Edits that are kept together, or not at all.
 
-ghost use Rattle.std.specs.Prelude.{◌≡◌, ◌≢◌, ◌⊎◌, ◌+◌, ◌<◌, ◌≤◌, [], pos, codes, map, Option, None, Some, IsTrue, IfOk, IfErr, OnOk, length, ⊤};
+ghost use Rattle.std.specs.Prelude.{◌≡◌, ◌≢◌, ◌⊎◌, ◌+◌, ◌<◌, ◌≤◌, [], pos, codes, map, Option, None, Some, IsTrue, IfOk, IfErr, OnOk, length, ⊤, false, Err};
 ghost use Rattle.std.specs.FinMap.{insert, remove};
 ghost use Rattle.std.specs.List.{AllByRecursion};
 ghost use Rattle.sqlite.specs.State.{HasCleanDisk, Survives};
 ghost use Rattle.sqlite_rules.specs.Lists.{Has};
-ghost use Rattle.wh_rows.specs.declared.cause.Cause.TheVariants.{Memory};
+ghost use Rattle.wh_rows.specs.declared.cause.Cause.TheVariants.{Disk, Memory};
 ghost use Rattle.wh_rows.specs.Types.{is_number};
 ghost use Rattle.wh_rows.specs.Rows.{encode_meta};
 ghost use Rattle.wh_rows.proofs.Metas.{put_text};
@@ -14,7 +14,7 @@ ghost use Rattle.wh_rows.specs.Tables.{Tables as Rows};
 ghost use Rattle.wh_rows.specs.Rekey.{rekey_text, bind_rekey, are_keys, rekeyed};
 ghost use Rattle.wh_sql.specs.Refused.{IsOneRefused};
 ghost use Rattle.wh_store.specs.Reads.{state_of};
-ghost use Rattle.wh_store.specs.Writes.{WritesOnly, Makes};
+ghost use Rattle.wh_store.specs.Writes.{WritesOnly, Makes, NotesRefusals, Undoes};
 ghost use Rattle.wh_store.specs.Edits.{with_row, with_edit, IsValid, Puts, after_all, IsOfTypes, statement_of};
 ghost use Rattle.wh_store.specs.Meta.{made_with, with_number, making};
 
@@ -23,6 +23,7 @@ use crate::tables::Tables;
 use crate::transaction::{commit, roll_back};
 use sqlite::Alter;
 use std::alloc::Global;
+use std::mem::replace;
 use wh_history::{Edit, FactKeys};
 use wh_rows::tables::Meta;
 use wh_rows::{Cause, Limits, LineKey};
@@ -33,6 +34,8 @@ pub struct Writing<'t, S: Alter> {
     tables: &'t mut Tables<S>,
     /// How many keys it has written.
     writes: u64,
+    /// Whether a write of it was refused. Such a write may have been made in part, so that nothing is kept then.
+    refused: bool,
 }
 
 impl<'t, S: Alter> Writing<'t, S> {
@@ -40,8 +43,13 @@ impl<'t, S: Alter> Writing<'t, S> {
         ensures same_reference { result.tables.ghost_name ≡ tables.entry.ghost_name }
         ensures same { result.tables.now ≡ tables.old }
         ensures counted { result.writes ≡ 0 }
+        ensures fresh { result.refused ≡ false }
     {
-        Writing { tables, writes: 0 }
+        Writing {
+            tables,
+            writes: 0,
+            refused: false,
+        }
     }
 
     /// How many keys it has written.
@@ -70,10 +78,13 @@ impl<'t, S: Alter> Writing<'t, S> {
         ensures cause { HasCleanDisk (state_of S.Store self.new.tables.now) → IsTrue (state_of S.Store self.old.tables.now).in_transaction → self.old.writes < u64.MAX → IsValid T.layout row.now
             → IfErr result (λ cause. cause ≢ Memory → IsCauseOf T.put_means (T.layout.encode row.now) (state_of S.Store self.old.tables.now) (state_of S.Store self.new.tables.now) cause) }
         ensures counted { OnOk result (self.new.writes ≡ self.old.writes + 1) }
+        ensures noted { NotesRefusals self.old.refused self.new.refused result }
     {
+        let refused = replace(&mut self.refused, true);
         let writes = self.one_more()?;
         put::<T, S>(alloc, &mut self.tables.conn, row)?;
         self.writes = writes;
+        self.refused = refused;
         Ok(())
     }
 
@@ -85,10 +96,13 @@ impl<'t, S: Alter> Writing<'t, S> {
         ensures cause { HasCleanDisk (state_of S.Store self.new.tables.now) → IsTrue (state_of S.Store self.old.tables.now).in_transaction → self.old.writes < u64.MAX → (row : T.Row) → IsTrue (T.layout.is_valid row) → T.layout.key row ≡ key.now
             → IfErr result (λ cause. cause ≢ Memory → IsCauseOf T.remove_means (T.bind key.now) (state_of S.Store self.old.tables.now) (state_of S.Store self.new.tables.now) cause) }
         ensures counted { OnOk result (self.new.writes ≡ self.old.writes + 1) }
+        ensures noted { NotesRefusals self.old.refused self.new.refused result }
     {
+        let refused = replace(&mut self.refused, true);
         let writes = self.one_more()?;
         remove::<T, S>(alloc, &mut self.tables.conn, key)?;
         self.writes = writes;
+        self.refused = refused;
         Ok(())
     }
 
@@ -100,10 +114,13 @@ impl<'t, S: Alter> Writing<'t, S> {
         ensures cause { HasCleanDisk (state_of S.Store self.new.tables.now) → IsTrue (state_of S.Store self.old.tables.now).in_transaction → self.old.writes < u64.MAX → IsTrue (are_keys keys.now)
             → IfErr result (λ cause. cause ≢ Memory → IsCauseOf rekey_text (bind_rekey (line.now, keys.now)) (state_of S.Store self.old.tables.now) (state_of S.Store self.new.tables.now) cause) }
         ensures counted { OnOk result (self.new.writes ≡ self.old.writes + 1) }
+        ensures noted { NotesRefusals self.old.refused self.new.refused result }
     {
+        let refused = replace(&mut self.refused, true);
         let writes = self.one_more()?;
         rekey(alloc, &mut self.tables.conn, line, keys)?;
         self.writes = writes;
+        self.refused = refused;
         Ok(())
     }
 
@@ -115,6 +132,7 @@ impl<'t, S: Alter> Writing<'t, S> {
         ensures cause { HasCleanDisk (state_of S.Store self.new.tables.now) → (before : Option Rows) (made : Rows) → IsWriting before (Some made) (state_of S.Store self.old.tables.now) → AllByRecursion (IsValid T.layout) rows.now → self.old.writes + length rows.now ≤ u64.MAX
             → IfErr result (λ cause. cause ≢ Memory → IsOneRefused S.Store IsCauseOf (map (λ row. (T.put_means, T.layout.encode row)) rows.now) self.old.tables.now.conn self.new.tables.now.conn cause) }
         ensures counted { OnOk result (self.new.writes ≡ self.old.writes + length rows.now) }
+        ensures noted { NotesRefusals self.old.refused self.new.refused result }
     {
         for row in rows {
             self.put::<T>(alloc, row)?;
@@ -134,6 +152,7 @@ impl<'t, S: Alter> Writing<'t, S> {
         ensures cause { HasCleanDisk (state_of S.Store self.new.tables.now) → IsTrue (state_of S.Store self.old.tables.now).in_transaction → self.old.writes < u64.MAX → IsOfTypes T.layout edit.now
             → IfErr result (λ cause. cause ≢ Memory → IsCauseOf (statement_of T.layout T.put_means T.remove_means T.bind edit.now).0 (statement_of T.layout T.put_means T.remove_means T.bind edit.now).1 (state_of S.Store self.old.tables.now) (state_of S.Store self.new.tables.now) cause) }
         ensures counted { OnOk result (self.new.writes ≡ self.old.writes + 1) }
+        ensures noted { NotesRefusals self.old.refused self.new.refused result }
     {
         match edit {
             Edit::Put(row) => self.put::<T>(alloc, row),
@@ -153,6 +172,7 @@ impl<'t, S: Alter> Writing<'t, S> {
         ensures cause { HasCleanDisk (state_of S.Store self.new.tables.now) → (before : Option Rows) (made : Rows) → IsWriting before (Some made) (state_of S.Store self.old.tables.now) → AllByRecursion (Puts (IsValid T.layout)) edits.now → ((edit : _) → Has edits.now edit → IsOfTypes T.layout edit) → self.old.writes + length edits.now ≤ u64.MAX
             → IfErr result (λ cause. cause ≢ Memory → IsOneRefused S.Store IsCauseOf (map (statement_of T.layout T.put_means T.remove_means T.bind) edits.now) self.old.tables.now.conn self.new.tables.now.conn cause) }
         ensures counted { OnOk result (self.new.writes ≡ self.old.writes + length edits.now) }
+        ensures noted { NotesRefusals self.old.refused self.new.refused result }
     {
         for edit in edits {
             self.edit::<T>(alloc, edit)?;
@@ -169,8 +189,11 @@ impl<'t, S: Alter> Writing<'t, S> {
         ensures left { HasCleanDisk (state_of S.Store self.new.tables.now) → IsWriting None None (state_of S.Store self.old.tables.now) → Leaves None (state_of S.Store self.new.tables.now) }
         ensures cause { HasCleanDisk (state_of S.Store self.new.tables.now) → IsWriting None None (state_of S.Store self.old.tables.now) → self.old.writes + 4 ≤ u64.MAX
             → IfErr result (λ cause. cause ≢ Memory → IsOneRefused S.Store IsCauseOf (making limits) self.old.tables.now.conn self.new.tables.now.conn cause) }
+        ensures noted { NotesRefusals self.old.refused self.new.refused result }
     {
+        let refused = replace(&mut self.refused, true);
         create(&mut self.tables.conn)?;
+        self.refused = refused;
         self.put_number(alloc, "changes_max", limits.changes())?;
         self.put_number(alloc, "commands_max", limits.commands())?;
         self.put_number(alloc, "facts_max", limits.facts())?;
@@ -185,20 +208,32 @@ impl<'t, S: Alter> Writing<'t, S> {
         ensures cause { HasCleanDisk (state_of S.Store self.new.tables.now) → IsTrue (state_of S.Store self.old.tables.now).in_transaction → self.old.writes < u64.MAX → IsTrue (is_number count)
             → IfErr result (λ cause. cause ≢ Memory → IsCauseOf put_text (encode_meta (record { name = name.now; value = pos count })) (state_of S.Store self.old.tables.now) (state_of S.Store self.new.tables.now) cause) }
         ensures counted { OnOk result (self.new.writes ≡ self.old.writes + 1) }
+        ensures noted { NotesRefusals self.old.refused self.new.refused result }
     {
+        let refused = replace(&mut self.refused, true);
         let row = meta::row(alloc, name, count)?;
+        self.refused = refused;
         self.put::<Meta>(alloc, &row)
     }
 
-    /// Keeps the edits.
+    /// Keeps the edits. Where one of them was refused, it keeps none, also of those that were made.
     pub fn commit(self) -> Result<(), Cause>
         ensures clean { HasCleanDisk (state_of S.Store self.exit.0.now) → HasCleanDisk (state_of S.Store self.entry.tables.now) }
-        ensures cause { HasCleanDisk (state_of S.Store self.exit.0.now) → IfErr result (IsCauseOf (codes "COMMIT") [] (state_of S.Store self.entry.tables.now) (state_of S.Store self.exit.0.now)) }
+        ensures cause { HasCleanDisk (state_of S.Store self.exit.0.now) → self.entry.refused ≡ false → IfErr result (IsCauseOf (codes "COMMIT") [] (state_of S.Store self.entry.tables.now) (state_of S.Store self.exit.0.now)) }
         ensures written { HasCleanDisk (state_of S.Store self.exit.0.now) → (before made : Option Rows) → IsWriting before made (state_of S.Store self.entry.tables.now) → OnOk result (IsAtRest made (state_of S.Store self.exit.0.now)) }
         ensures left { HasCleanDisk (state_of S.Store self.exit.0.now) → (before made : Option Rows) → IsWriting before made (state_of S.Store self.entry.tables.now)
             → (trees : _) → (state_of S.Store self.exit.0.now).may_leave trees → AreTrees before trees ⊎ AreTrees made trees }
+        ensures nothing { IsTrue self.entry.refused → (result ≡ Err Disk) × Undoes (state_of S.Store self.entry.tables.now) (state_of S.Store self.exit.0.now) }
     {
-        let Writing { tables, writes: _ } = self;
+        let Writing {
+            tables,
+            writes: _,
+            refused,
+        } = self;
+        if refused {
+            roll_back(&mut tables.conn);
+            return Err(Cause::Disk);
+        }
         commit(&mut tables.conn)
     }
 }
@@ -211,7 +246,11 @@ impl<S: Alter> Drop for Writing<'_, S> {
         ensures left { HasCleanDisk (state_of S.Store self.exit.0.now) → (before made : Option Rows) → IsWriting before made (state_of S.Store self.entry.tables.now) → Leaves before (state_of S.Store self.exit.0.now) }
         ensures survives { Survives (state_of S.Store self.entry.tables.now) (state_of S.Store self.exit.0.now) (λ _. ⊥) }
     {
-        let Writing { tables, writes: _ } = self;
+        let Writing {
+            tables,
+            writes: _,
+            refused: _,
+        } = self;
         roll_back(&mut tables.conn);
     }
 }

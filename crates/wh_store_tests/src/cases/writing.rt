@@ -110,20 +110,28 @@ fn edits_are_kept_or_dropped(rt: HostRuntime) -> Result<(), Fail> {
 }
 
 const IN_TURN: &str = "
-# A row that is refused isn't counted, and the others are kept.
+# A row that is refused isn't counted, and a commit then keeps none of the others, also of those that came after it.
 warehouse
 write
 > row product 1 Cola
 > past
+> row store 1 Bern
 > commit
 = refused size
-= 1 written
+= 2 written
+= refused disk
 count product
-= 1
+= 0
 count store
 = 0
 count customer
 = 0
+write
+> row product 1 Cola
+> commit
+= 1 written
+count product
+= 1
 
 # Of rows at one key the last stays.
 warehouse

@@ -22,4 +22,5 @@ invariant-loop-edit g l =
       put : HasCleanDisk now → (before : Option Rows) (made : Rows) → IsWriting before (Some made) old → AllByRecursion may l.edits
           → (mid : Rows) × IsWriting before (Some mid) now × IsOnTheWay step may table.rows table.with_rows (drop l.edit-index l.edits) mid (table.with_rows (after_all step l.edits (table.rows made)) made);
       counted : l.self.writes ≡ l.fn.self.writes + l.edit-index;
+      noted : l.self.refused ≡ l.fn.self.refused;
     }

@@ -22,4 +22,5 @@ invariant-loop-row g l =
       put : HasCleanDisk now → (before : Option Rows) (made : Rows) → IsWriting before (Some made) old → AllByRecursion may l.rows
           → (mid : Rows) × IsWriting before (Some mid) now × IsOnTheWay step may table.rows table.with_rows (drop l.row-index l.rows) mid (table.with_rows (after_all step l.rows (table.rows made)) made);
       counted : l.self.writes ≡ l.fn.self.writes + l.row-index;
+      noted : l.self.refused ≡ l.fn.self.refused;
     }
