@@ -1,6 +1,6 @@
 //! What the ten tables have in common: rows that stand at keys.
 
-ghost use Rattle.std.specs.Prelude.{◌≡◌, ◌≢◌, ℕ, Bool, List, [], true, false, IfOk, IfErr};
+ghost use Rattle.std.specs.Prelude.{◌≡◌, ◌≢◌, Bool, [], true, false, IfOk, IfErr};
 ghost use Rattle.std.specs.Ordering.{eq_by_cmp};
 ghost use Rattle.sqlite_value.specs.declared.value.Value.TheVariants.{Int};
 ghost use Rattle.wh_rows.specs.Types.{is_number};
@@ -9,6 +9,7 @@ ghost use Rattle.sqlite.specs.Values.{bound};
 ghost use Rattle.wh_rows.specs.declared.cause.Cause.TheVariants.{Memory, Size};
 ghost use Rattle.wh_rows.specs.declared.table.Table.{Table};
 ghost use Rattle.wh_rows.specs.Place.{IsPlaced};
+ghost use Rattle.wh_rows.specs.Texts.{Texts};
 ghost use Rattle.wh_rows.specs.Raw.{ReadsStored, table_of};
 ghost use Rattle.wh_rows.specs.Meaning.{PutsOne, RemovesOne, ReadsSome, CountsAll};
 
@@ -17,6 +18,17 @@ use std::alloc::Global;
 use wh_history::DimRow;
 use wh_policy::Dim;
 use wh_rows::{Cause, StoredTable, Table, bound};
+
+/// The texts of a table's statements: to put a row, to remove the row of a key, to show all rows in the order of their keys, to
+/// show the row of a key, and to count the rows.
+#[derive(Drop)]
+pub struct Statements {
+    pub put: &'static str,
+    pub remove: &'static str,
+    pub all: &'static str,
+    pub get: &'static str,
+    pub count: &'static str,
+}
 
 /// One of the ten tables, with the texts of its statements.
 pub trait Keeps: StoredTable {
@@ -28,33 +40,13 @@ pub trait Keeps: StoredTable {
     // Which stored rows stand at a key, whoever wrote them.
     ghost stands_at: { Self.Key → Columns → Bool };
 
-    ghost put_means: { List ℕ };
-
-    ghost remove_means: { List ℕ };
-
-    ghost all_means: { List ℕ };
-
-    ghost get_means: { List ℕ };
-
-    ghost count_means: { List ℕ };
+    ghost texts: { Texts };
 
     fn table() -> Table
         ensures { result ≡ name };
 
-    fn put_text() -> &'static str
-        ensures { result.now ≡ put_means };
-
-    fn remove_text() -> &'static str
-        ensures { result.now ≡ remove_means };
-
-    fn all_text() -> &'static str
-        ensures { result.now ≡ all_means };
-
-    fn get_text() -> &'static str
-        ensures { result.now ≡ get_means };
-
-    fn count_text() -> &'static str
-        ensures { result.now ≡ count_means };
+    fn statements() -> Statements
+        ensures { (result.put.now ≡ texts.put) × (result.remove.now ≡ texts.remove) × (result.all.now ≡ texts.all) × (result.get.now ≡ texts.get) × (result.count.now ≡ texts.count) };
 
     /// The row as the parameters of a statement. `Size`: a number is greater than any that can be stored.
     fn row<'a>(alloc: Global, row: &'a Self::Row) -> Result<Vec<ValueRef<'a>>, Cause>
@@ -67,20 +59,20 @@ pub trait Keeps: StoredTable {
         ensures err { IfErr result (λ cause. cause ≢ Memory → (cause ≡ Size) × ((row : Self.Row) → Self.layout.is_valid row ≡ true → Self.layout.key row ≢ key.now)) };
 
     // What the texts mean.
-    ghost puts: { PutsOne Self.layout put_means };
+    ghost puts: { PutsOne Self.layout texts.put };
 
-    ghost removes: { RemovesOne Self.layout bind remove_means };
+    ghost removes: { RemovesOne Self.layout bind texts.remove };
 
-    ghost lists: { ReadsSome Self.layout [] (λ row. true) all_means };
+    ghost lists: { ReadsSome Self.layout [] (λ row. true) texts.all };
 
-    ghost finds: { (key : Self.Key) → ReadsSome Self.layout (bind key) (λ row. eq_by_cmp Self.layout.order key (Self.layout.key row)) get_means };
+    ghost finds: { (key : Self.Key) → ReadsSome Self.layout (bind key) (λ row. eq_by_cmp Self.layout.order key (Self.layout.key row)) texts.get };
 
-    ghost counts: { CountsAll Self.layout count_means };
+    ghost counts: { CountsAll Self.layout texts.count };
 
     // The same, whoever wrote the rows.
-    ghost lists_stored: { ReadsStored Self.layout [] (λ row. true) (λ row. true) all_means };
+    ghost lists_stored: { ReadsStored Self.layout [] (λ row. true) (λ row. true) texts.all };
 
-    ghost finds_stored: { (key : Self.Key) → ReadsStored Self.layout (bind key) (stands_at key) (λ row. eq_by_cmp Self.layout.order key (Self.layout.key row)) get_means };
+    ghost finds_stored: { (key : Self.Key) → ReadsStored Self.layout (bind key) (stands_at key) (λ row. eq_by_cmp Self.layout.order key (Self.layout.key row)) texts.get };
 
     ghost named: { table_of name ≡ Self.layout.table };
 

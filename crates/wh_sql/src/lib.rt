@@ -16,7 +16,7 @@ mod write;
 pub use dimension::Dimension;
 pub use fault::ReadFault;
 pub use greatest::{Greatest, GreatestOf, greatest_anchor};
-pub use keeps::Keeps;
+pub use keeps::{Keeps, Statements};
 pub use making::{create, has_tables, has_taken_name};
 pub use question::{Question, ask};
 pub use questions::{CommandOf, MemberOf, ProfileOf, RecordsOf, RecordsOn, RowsOf, SalesSince};

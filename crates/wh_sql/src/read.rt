@@ -59,10 +59,10 @@ pub fn all<T: Keeps, S: Alter>(
     // The same of any rows, whoever wrote them: all that is stored is read, or a row of it is out of its type.
     ensures stored { SaysOfStored (state S.Store conn.old) (state S.Store conn.new) (λ stored. IfOk result (λ rows. AreRows T.layout (stored T.name) rows.items)) }
     ensures damaged { SaysOfStored (state S.Store conn.old) (state S.Store conn.new) (λ stored. IfErr result (IsOfDamage T.layout T.name (stored T.name))) }
-    ensures shows { HasCleanDisk (state S.Store conn.new) → IfOk result (λ rows. Shows T.layout T.all_means [] (state S.Store conn.old) (state S.Store conn.new) rows.items) }
-    ensures refused { HasCleanDisk (state S.Store conn.new) → IfErr result (FailsToShow T.layout T.name T.all_means [] (state S.Store conn.old) (state S.Store conn.new)) }
+    ensures shows { HasCleanDisk (state S.Store conn.new) → IfOk result (λ rows. Shows T.layout T.texts.all [] (state S.Store conn.old) (state S.Store conn.new) rows.items) }
+    ensures refused { HasCleanDisk (state S.Store conn.new) → IfErr result (FailsToShow T.layout T.name T.texts.all [] (state S.Store conn.old) (state S.Store conn.new)) }
 {
-    rows_shown::<T, S>(alloc, conn, T::all_text(), &[])
+    rows_shown::<T, S>(alloc, conn, T::statements().all, &[])
 }
 
 /// The row at the key, if one is there.
@@ -78,10 +78,10 @@ pub fn get<T: Keeps, S: Alter>(
     // The same of any rows, whoever wrote them: of those that are stored at the key.
     ensures stored { SaysOfStored (state S.Store conn.old) (state S.Store conn.new) (λ stored. IfOk result (IsLastOf T.layout (filter (T.stands_at key.now) (stored T.name)))) }
     ensures damaged { SaysOfStored (state S.Store conn.old) (state S.Store conn.new) (λ stored. IfErr result (IsOfDamage T.layout T.name (filter (T.stands_at key.now) (stored T.name)))) }
-    ensures refused { HasCleanDisk (state S.Store conn.new) → (row : T.Row) → IsTrue (T.layout.is_valid row) → T.layout.key row ≡ key.now → IfErr result (FailsToShow T.layout T.name T.get_means (T.bind key.now) (state S.Store conn.old) (state S.Store conn.new)) }
+    ensures refused { HasCleanDisk (state S.Store conn.new) → (row : T.Row) → IsTrue (T.layout.is_valid row) → T.layout.key row ≡ key.now → IfErr result (FailsToShow T.layout T.name T.texts.get (T.bind key.now) (state S.Store conn.old) (state S.Store conn.new)) }
 {
     let values = T::key(alloc, key)?;
-    let mut rows = rows_shown::<T, S>(alloc, conn, T::get_text(), &values)?;
+    let mut rows = rows_shown::<T, S>(alloc, conn, T::statements().get, &values)?;
     Ok(rows.pop())
 }
 
@@ -90,9 +90,9 @@ pub fn count<T: Keeps, S: Alter>(alloc: Global, conn: &mut Connection<S>) -> Res
     ensures reads { ReadsOnly (state S.Store conn.old) (state S.Store conn.new) result }
     ensures count { SaysOfTables (state S.Store conn.old) (state S.Store conn.new) (λ t. IfOk result (λ count. count ≡ len (T.rows t))) }
     ensures sound { SaysOfTables (state S.Store conn.old) (state S.Store conn.new) (λ _. IsUndamaged result) }
-    ensures refused { SaysOfTables (state S.Store conn.old) (state S.Store conn.new) (λ t. IfErr result (FailsToCount (len (T.rows t)) T.count_means (state S.Store conn.old) (state S.Store conn.new))) }
+    ensures refused { SaysOfTables (state S.Store conn.old) (state S.Store conn.new) (λ t. IfErr result (FailsToCount (len (T.rows t)) T.texts.count (state S.Store conn.old) (state S.Store conn.new))) }
 {
-    let shown = match conn.query_all(T::count_text(), &[]) {
+    let shown = match conn.query_all(T::statements().count, &[]) {
         Ok(shown) => shown,
         Err(error) => return Err(ReadFault::Store(Cause::from(error))),
     };

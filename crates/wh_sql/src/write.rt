@@ -28,14 +28,14 @@ pub fn put<T: Keeps, S: Alter>(
         → IsTrue (T.layout.is_valid row.now) → OnOk result (IsWriting before (Some (T.with_rows (insert (T.rows made) (T.layout.key row.now) row.now) made)) (state S.Store conn.new)) }
     ensures left { HasCleanDisk (state S.Store conn.new) → (before : Option Tables) (made : Tables) → IsWriting before (Some made) (state S.Store conn.old) → Leaves before (state S.Store conn.new) }
     ensures cause { HasCleanDisk (state S.Store conn.new) → IsTrue (state S.Store conn.old).in_transaction → IsTrue (T.layout.is_valid row.now)
-        → IfErr result (λ cause. cause ≢ Memory → IsCauseOf T.put_means (T.layout.encode row.now) (state S.Store conn.old) (state S.Store conn.new) cause) }
+        → IfErr result (λ cause. cause ≢ Memory → IsCauseOf T.texts.put (T.layout.encode row.now) (state S.Store conn.old) (state S.Store conn.new) cause) }
     ensures late { conn.old.in_transaction ≡ false → (result ≡ Err Disk) × (conn.new ≡ conn.old) }
 {
     if conn.is_autocommit() {
         return Err(Cause::Disk);
     }
     let values = T::row(alloc, row)?;
-    conn.execute(T::put_text(), &values)?;
+    conn.execute(T::statements().put, &values)?;
     Ok(())
 }
 
@@ -51,14 +51,14 @@ pub fn remove<T: Keeps, S: Alter>(
         → OnOk result (IsWriting before (Some (T.with_rows (remove (T.rows made) key.now) made)) (state S.Store conn.new)) }
     ensures left { HasCleanDisk (state S.Store conn.new) → (before : Option Tables) (made : Tables) → IsWriting before (Some made) (state S.Store conn.old) → Leaves before (state S.Store conn.new) }
     ensures cause { HasCleanDisk (state S.Store conn.new) → IsTrue (state S.Store conn.old).in_transaction → (row : T.Row) → IsTrue (T.layout.is_valid row) → T.layout.key row ≡ key.now
-        → IfErr result (λ cause. cause ≢ Memory → IsCauseOf T.remove_means (T.bind key.now) (state S.Store conn.old) (state S.Store conn.new) cause) }
+        → IfErr result (λ cause. cause ≢ Memory → IsCauseOf T.texts.remove (T.bind key.now) (state S.Store conn.old) (state S.Store conn.new) cause) }
     ensures late { conn.old.in_transaction ≡ false → (result ≡ Err Disk) × (conn.new ≡ conn.old) }
 {
     if conn.is_autocommit() {
         return Err(Cause::Disk);
     }
     let values = T::key(alloc, key)?;
-    conn.execute(T::remove_text(), &values)?;
+    conn.execute(T::statements().remove, &values)?;
     Ok(())
 }
 

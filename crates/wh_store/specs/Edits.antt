@@ -5,6 +5,7 @@ use Rattle.sqlite.specs.Order.{Row}
 use Rattle.wh_history.specs.declared.plan.Edit.{Edit}
 use Rattle.wh_history.specs.declared.plan.Edit.TheVariants.{Put, Remove}
 use Rattle.wh_rows.specs.Holds.{Layout}
+use Rattle.wh_rows.specs.Texts.{Texts}
 
 -- a table with a row put at its key
 abbrev pub with_row : {K V : Type 0} (layout : Layout K V) → V → FinMap layout.order V → FinMap layout.order V
@@ -35,6 +36,6 @@ IsOfTypes layout (Put row) = IsTrue (layout.is_valid row)
 IsOfTypes layout (Remove key) = (row : _) × IsTrue (layout.is_valid row) × (layout.key row ≡ key)
 
 -- the statement that makes an edit, with its parameters
-abbrev pub statement_of : {K V : Type 0} (layout : Layout K V) (put_text remove_text : List ℕ) (bind : K → Row) → Edit V K → List ℕ × Row
-statement_of layout put_text remove_text bind (Put row) = (put_text, layout.encode row)
-statement_of layout put_text remove_text bind (Remove key) = (remove_text, bind key)
+abbrev pub statement_of : {K V : Type 0} (layout : Layout K V) (texts : Texts) (bind : K → Row) → Edit V K → List ℕ × Row
+statement_of layout texts bind (Put row) = (texts.put, layout.encode row)
+statement_of layout texts bind (Remove key) = (texts.remove, bind key)

@@ -117,7 +117,7 @@ impl<S: Alter> Tables<S> {
         // The same of any rows, whoever wrote them: all that is stored is read, or a row of it is out of its type.
         ensures stored { SaysAsStored (state_of S.Store self.old) (state_of S.Store self.new) (λ stored. IfOk result (λ rows. AreRows T.layout (stored T.name) rows.items)) }
         ensures damaged { SaysAsStored (state_of S.Store self.old) (state_of S.Store self.new) (λ stored. IfErr result (IsOfDamage T.layout T.name (stored T.name))) }
-        ensures refused { HasCleanDisk (state_of S.Store self.new) → IfErr result (FailsToShow T.layout T.name T.all_means [] (state_of S.Store self.old) (state_of S.Store self.new)) }
+        ensures refused { HasCleanDisk (state_of S.Store self.new) → IfErr result (FailsToShow T.layout T.name T.texts.all [] (state_of S.Store self.old) (state_of S.Store self.new)) }
     {
         all::<T, S>(alloc, &mut self.conn)
     }
@@ -133,7 +133,7 @@ impl<S: Alter> Tables<S> {
         // The same of any rows, whoever wrote them: of those that are stored at the key.
         ensures stored { SaysAsStored (state_of S.Store self.old) (state_of S.Store self.new) (λ stored. IfOk result (IsLastOf T.layout (filter (T.stands_at key.now) (stored T.name)))) }
         ensures damaged { SaysAsStored (state_of S.Store self.old) (state_of S.Store self.new) (λ stored. IfErr result (IsOfDamage T.layout T.name (filter (T.stands_at key.now) (stored T.name)))) }
-        ensures refused { HasCleanDisk (state_of S.Store self.new) → (row : T.Row) → IsTrue (T.layout.is_valid row) → T.layout.key row ≡ key.now → IfErr result (FailsToShow T.layout T.name T.get_means (T.bind key.now) (state_of S.Store self.old) (state_of S.Store self.new)) }
+        ensures refused { HasCleanDisk (state_of S.Store self.new) → (row : T.Row) → IsTrue (T.layout.is_valid row) → T.layout.key row ≡ key.now → IfErr result (FailsToShow T.layout T.name T.texts.get (T.bind key.now) (state_of S.Store self.old) (state_of S.Store self.new)) }
     {
         get::<T, S>(alloc, &mut self.conn, key)
     }
@@ -142,7 +142,7 @@ impl<S: Alter> Tables<S> {
     pub fn count<T: Keeps>(&mut self, alloc: Global) -> Result<u64, ReadFault>
         ensures reads { ReadsOnly (state_of S.Store self.old) (state_of S.Store self.new) result }
         ensures count { SaysAtRest (state_of S.Store self.old) (state_of S.Store self.new) (λ t. IfOk result (λ count. count ≡ len (T.rows t))) }
-        ensures refused { SaysAtRest (state_of S.Store self.old) (state_of S.Store self.new) (λ t. IfErr result (FailsToCount (len (T.rows t)) T.count_means (state_of S.Store self.old) (state_of S.Store self.new))) }
+        ensures refused { SaysAtRest (state_of S.Store self.old) (state_of S.Store self.new) (λ t. IfErr result (FailsToCount (len (T.rows t)) T.texts.count (state_of S.Store self.old) (state_of S.Store self.new))) }
     {
         count::<T, S>(alloc, &mut self.conn)
     }

@@ -76,7 +76,7 @@ impl<'t, S: Alter> Writing<'t, S> {
         ensures writes { WritesOnly (state_of S.Store self.old.tables.now) (state_of S.Store self.new.tables.now) ⊤ }
         ensures put { Makes (state_of S.Store self.old.tables.now) (state_of S.Store self.new.tables.now) result (IsValid T.layout row.now) (λ made. T.with_rows (insert (T.rows made) (T.layout.key row.now) row.now) made) }
         ensures cause { HasCleanDisk (state_of S.Store self.new.tables.now) → IsTrue (state_of S.Store self.old.tables.now).in_transaction → self.old.writes < u64.MAX → IsValid T.layout row.now
-            → IfErr result (λ cause. cause ≢ Memory → IsCauseOf T.put_means (T.layout.encode row.now) (state_of S.Store self.old.tables.now) (state_of S.Store self.new.tables.now) cause) }
+            → IfErr result (λ cause. cause ≢ Memory → IsCauseOf T.texts.put (T.layout.encode row.now) (state_of S.Store self.old.tables.now) (state_of S.Store self.new.tables.now) cause) }
         ensures counted { OnOk result (self.new.writes ≡ self.old.writes + 1) }
         ensures noted { NotesRefusals self.old.refused self.new.refused result }
     {
@@ -94,7 +94,7 @@ impl<'t, S: Alter> Writing<'t, S> {
         ensures writes { WritesOnly (state_of S.Store self.old.tables.now) (state_of S.Store self.new.tables.now) ⊤ }
         ensures removed { Makes (state_of S.Store self.old.tables.now) (state_of S.Store self.new.tables.now) result ⊤ (λ made. T.with_rows (remove (T.rows made) key.now) made) }
         ensures cause { HasCleanDisk (state_of S.Store self.new.tables.now) → IsTrue (state_of S.Store self.old.tables.now).in_transaction → self.old.writes < u64.MAX → (row : T.Row) → IsTrue (T.layout.is_valid row) → T.layout.key row ≡ key.now
-            → IfErr result (λ cause. cause ≢ Memory → IsCauseOf T.remove_means (T.bind key.now) (state_of S.Store self.old.tables.now) (state_of S.Store self.new.tables.now) cause) }
+            → IfErr result (λ cause. cause ≢ Memory → IsCauseOf T.texts.remove (T.bind key.now) (state_of S.Store self.old.tables.now) (state_of S.Store self.new.tables.now) cause) }
         ensures counted { OnOk result (self.new.writes ≡ self.old.writes + 1) }
         ensures noted { NotesRefusals self.old.refused self.new.refused result }
     {
@@ -130,7 +130,7 @@ impl<'t, S: Alter> Writing<'t, S> {
         ensures writes { WritesOnly (state_of S.Store self.old.tables.now) (state_of S.Store self.new.tables.now) (AllByRecursion (IsValid T.layout) rows.now) }
         ensures put { Makes (state_of S.Store self.old.tables.now) (state_of S.Store self.new.tables.now) result (AllByRecursion (IsValid T.layout) rows.now) (λ made. T.with_rows (after_all (with_row T.layout) rows.now (T.rows made)) made) }
         ensures cause { HasCleanDisk (state_of S.Store self.new.tables.now) → (before : Option Rows) (made : Rows) → IsWriting before (Some made) (state_of S.Store self.old.tables.now) → AllByRecursion (IsValid T.layout) rows.now → self.old.writes + length rows.now ≤ u64.MAX
-            → IfErr result (λ cause. cause ≢ Memory → IsOneRefused S.Store IsCauseOf (map (λ row. (T.put_means, T.layout.encode row)) rows.now) self.old.tables.now.conn self.new.tables.now.conn cause) }
+            → IfErr result (λ cause. cause ≢ Memory → IsOneRefused S.Store IsCauseOf (map (λ row. (T.texts.put, T.layout.encode row)) rows.now) self.old.tables.now.conn self.new.tables.now.conn cause) }
         ensures counted { OnOk result (self.new.writes ≡ self.old.writes + length rows.now) }
         ensures noted { NotesRefusals self.old.refused self.new.refused result }
     {
@@ -150,7 +150,7 @@ impl<'t, S: Alter> Writing<'t, S> {
         ensures writes { WritesOnly (state_of S.Store self.old.tables.now) (state_of S.Store self.new.tables.now) ⊤ }
         ensures edited { Makes (state_of S.Store self.old.tables.now) (state_of S.Store self.new.tables.now) result (Puts (IsValid T.layout) edit.now) (λ made. T.with_rows (with_edit T.layout edit.now (T.rows made)) made) }
         ensures cause { HasCleanDisk (state_of S.Store self.new.tables.now) → IsTrue (state_of S.Store self.old.tables.now).in_transaction → self.old.writes < u64.MAX → IsOfTypes T.layout edit.now
-            → IfErr result (λ cause. cause ≢ Memory → IsCauseOf (statement_of T.layout T.put_means T.remove_means T.bind edit.now).0 (statement_of T.layout T.put_means T.remove_means T.bind edit.now).1 (state_of S.Store self.old.tables.now) (state_of S.Store self.new.tables.now) cause) }
+            → IfErr result (λ cause. cause ≢ Memory → IsCauseOf (statement_of T.layout T.texts T.bind edit.now).0 (statement_of T.layout T.texts T.bind edit.now).1 (state_of S.Store self.old.tables.now) (state_of S.Store self.new.tables.now) cause) }
         ensures counted { OnOk result (self.new.writes ≡ self.old.writes + 1) }
         ensures noted { NotesRefusals self.old.refused self.new.refused result }
     {
@@ -170,7 +170,7 @@ impl<'t, S: Alter> Writing<'t, S> {
         ensures writes { WritesOnly (state_of S.Store self.old.tables.now) (state_of S.Store self.new.tables.now) (AllByRecursion (Puts (IsValid T.layout)) edits.now) }
         ensures edited { Makes (state_of S.Store self.old.tables.now) (state_of S.Store self.new.tables.now) result (AllByRecursion (Puts (IsValid T.layout)) edits.now) (λ made. T.with_rows (after_all (with_edit T.layout) edits.now (T.rows made)) made) }
         ensures cause { HasCleanDisk (state_of S.Store self.new.tables.now) → (before : Option Rows) (made : Rows) → IsWriting before (Some made) (state_of S.Store self.old.tables.now) → AllByRecursion (Puts (IsValid T.layout)) edits.now → ((edit : _) → Has edits.now edit → IsOfTypes T.layout edit) → self.old.writes + length edits.now ≤ u64.MAX
-            → IfErr result (λ cause. cause ≢ Memory → IsOneRefused S.Store IsCauseOf (map (statement_of T.layout T.put_means T.remove_means T.bind) edits.now) self.old.tables.now.conn self.new.tables.now.conn cause) }
+            → IfErr result (λ cause. cause ≢ Memory → IsOneRefused S.Store IsCauseOf (map (statement_of T.layout T.texts T.bind) edits.now) self.old.tables.now.conn self.new.tables.now.conn cause) }
         ensures counted { OnOk result (self.new.writes ≡ self.old.writes + length edits.now) }
         ensures noted { NotesRefusals self.old.refused self.new.refused result }
     {

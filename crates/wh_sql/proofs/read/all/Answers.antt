@@ -7,24 +7,24 @@ use Rattle.wh_sql.proofs.read.all.Goals as goal
 pub returns-clause-rows : goal.returns-clause-rows
 returns-clause-rows g c clean t stored =
     let asked = all_answered g.met.T.Keeps.placed (state g.S.Store c.args.conn.now) (state g.S.Store c.rows_shown.new.conn) g.met.T.Keeps.lists in
-    rows_are asked c.rows_shown.result (rw c.all_text.ensures at (c.rows_shown.ensures.shows clean)) t stored
+    rows_are asked c.rows_shown.result (rw c.statements.ensures.2 at (c.rows_shown.ensures.shows clean)) t stored
 
 pub returns-clause-sound : goal.returns-clause-sound
 returns-clause-sound g c clean t stored =
     let asked = all_answered g.met.T.Keeps.placed (state g.S.Store c.args.conn.now) (state g.S.Store c.rows_shown.new.conn) g.met.T.Keeps.lists in
-    undamaged asked c.rows_shown.result g.T.Keeps.name (rw c.all_text.ensures at (c.rows_shown.ensures.refused clean)) t stored
+    undamaged asked c.rows_shown.result g.T.Keeps.name (rw c.statements.ensures.2 at (c.rows_shown.ensures.refused clean)) t stored
 
 pub returns-clause-reads : goal.returns-clause-reads
 returns-clause-reads g c =
-    let reads = rw c.all_text.ensures at c.rows_shown.ensures.reads in
+    let reads = rw c.statements.ensures.2 at c.rows_shown.ensures.reads in
     reads g.met.T.Keeps.lists.plain (λ clean t at. returns-clause-sound g c clean t at.now.tables)
 
 pub returns-clause-stored : goal.returns-clause-stored
 returns-clause-stored g c clean stored is =
-    let all = reads_stored g.T.Keeps.name g.met.T.Keeps.named g.met.T.Keeps.lists_stored (state g.S.Store c.args.conn.now) (state g.S.Store c.rows_shown.new.conn) stored is c.rows_shown.result (rw c.all_text.ensures at (c.rows_shown.ensures.shows clean)) in
+    let all = reads_stored g.T.Keeps.name g.met.T.Keeps.named g.met.T.Keeps.lists_stored (state g.S.Store c.args.conn.now) (state g.S.Store c.rows_shown.new.conn) stored is c.rows_shown.result (rw c.statements.ensures.2 at (c.rows_shown.ensures.shows clean)) in
     rw (filter_all (stored g.T.Keeps.name)) at all
 
 pub returns-clause-damaged : goal.returns-clause-damaged
 returns-clause-damaged g c clean stored is =
-    let all = finds_damage g.T.Keeps.name g.met.T.Keeps.named g.met.T.Keeps.lists_stored (state g.S.Store c.args.conn.now) (state g.S.Store c.rows_shown.new.conn) stored is c.rows_shown.result (rw c.all_text.ensures at (c.rows_shown.ensures.refused clean)) in
+    let all = finds_damage g.T.Keeps.name g.met.T.Keeps.named g.met.T.Keeps.lists_stored (state g.S.Store c.args.conn.now) (state g.S.Store c.rows_shown.new.conn) stored is c.rows_shown.result (rw c.statements.ensures.2 at (c.rows_shown.ensures.refused clean)) in
     rw (filter_all (stored g.T.Keeps.name)) at all

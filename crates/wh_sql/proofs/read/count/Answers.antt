@@ -9,33 +9,33 @@ use Rattle.wh_sql.proofs.read.count.Goals as goal
 
 pub returns-in-Err-clause-reads : goal.returns-in-Err-clause-reads
 returns-in-Err-clause-reads g c =
-    reads_only g.T.Keeps.count_means [] g.met.T.Keeps.counts.plain (state g.S.Store c.args.conn.now) (state g.S.Store c.query_all.new.self) (rw c.count_text.ensures at c.query_all.ensures.survives) _ (λ clean served. absurd served) (λ clean t at. tt)
+    reads_only g.T.Keeps.texts.count [] g.met.T.Keeps.counts.plain (state g.S.Store c.args.conn.now) (state g.S.Store c.query_all.new.self) (rw c.statements.ensures.4 at c.query_all.ensures.survives) _ (λ clean served. absurd served) (λ clean t at. tt)
 
 pub returns-clause-count : goal.returns-clause-count
 returns-clause-count g c clean t stored =
     let d = g.T.StoredTable in
-    let shown = rw c.count_text.ensures at (c.in-Ok.ensures.ok clean) in
-    let is = count_is d.layout d.rows d.with_rows g.met.T.Keeps.placed g.T.Keeps.count_means (state g.S.Store c.args.conn.now) (state g.S.Store c.query_all.new.self) g.met.T.Keeps.counts c.in-Ok.shown.items t stored shown in
+    let shown = rw c.statements.ensures.4 at (c.in-Ok.ensures.ok clean) in
+    let is = count_is d.layout d.rows d.with_rows g.met.T.Keeps.placed g.T.Keeps.texts.count (state g.S.Store c.args.conn.now) (state g.S.Store c.query_all.new.self) g.met.T.Keeps.counts c.in-Ok.shown.items t stored shown in
     let told = c.count_shown.ensures (len (d.rows t)) (c.deref.ensures.value ∙ is) in
     MatchResult-weaker c.count_shown.result told (λ count same. same) (λ refusal many. tt)
 
 pub returns-clause-sound : goal.returns-clause-sound
 returns-clause-sound g c clean t stored =
     let d = g.T.StoredTable in
-    let shown = rw c.count_text.ensures at (c.in-Ok.ensures.ok clean) in
-    let is = count_is d.layout d.rows d.with_rows g.met.T.Keeps.placed g.T.Keeps.count_means (state g.S.Store c.args.conn.now) (state g.S.Store c.query_all.new.self) g.met.T.Keeps.counts c.in-Ok.shown.items t stored shown in
+    let shown = rw c.statements.ensures.4 at (c.in-Ok.ensures.ok clean) in
+    let is = count_is d.layout d.rows d.with_rows g.met.T.Keeps.placed g.T.Keeps.texts.count (state g.S.Store c.args.conn.now) (state g.S.Store c.query_all.new.self) g.met.T.Keeps.counts c.in-Ok.shown.items t stored shown in
     let told = c.count_shown.ensures (len (d.rows t)) (c.deref.ensures.value ∙ is) in
     too_many _ (len (d.rows t)) c.count_shown.result told
 
 pub returns-clause-refused : goal.returns-clause-refused
 returns-clause-refused g c clean t stored =
     let d = g.T.StoredTable in
-    let shown = rw c.count_text.ensures at (c.in-Ok.ensures.ok clean) in
-    let is = count_is d.layout d.rows d.with_rows g.met.T.Keeps.placed g.T.Keeps.count_means (state g.S.Store c.args.conn.now) (state g.S.Store c.query_all.new.self) g.met.T.Keeps.counts c.in-Ok.shown.items t stored shown in
+    let shown = rw c.statements.ensures.4 at (c.in-Ok.ensures.ok clean) in
+    let is = count_is d.layout d.rows d.with_rows g.met.T.Keeps.placed g.T.Keeps.texts.count (state g.S.Store c.args.conn.now) (state g.S.Store c.query_all.new.self) g.met.T.Keeps.counts c.in-Ok.shown.items t stored shown in
     let told = c.count_shown.ensures (len (d.rows t)) (c.deref.ensures.value ∙ is) in
-    uncounted _ (len (d.rows t)) g.T.Keeps.count_means (state g.S.Store c.args.conn.now) (state g.S.Store c.query_all.new.self) c.count_shown.result told
+    uncounted _ (len (d.rows t)) g.T.Keeps.texts.count (state g.S.Store c.args.conn.now) (state g.S.Store c.query_all.new.self) c.count_shown.result told
 
 pub returns-clause-reads : goal.returns-clause-reads
 returns-clause-reads g c =
-    reads_only g.T.Keeps.count_means [] g.met.T.Keeps.counts.plain (state g.S.Store c.args.conn.now) (state g.S.Store c.query_all.new.self) (rw c.count_text.ensures at c.query_all.ensures.survives) c.count_shown.result
-    (λ clean served. (c.in-Ok.shown.items, rw c.count_text.ensures at (c.in-Ok.ensures.ok clean))) (λ clean t at. returns-clause-sound g c clean t at.now.tables)
+    reads_only g.T.Keeps.texts.count [] g.met.T.Keeps.counts.plain (state g.S.Store c.args.conn.now) (state g.S.Store c.query_all.new.self) (rw c.statements.ensures.4 at c.query_all.ensures.survives) c.count_shown.result
+    (λ clean served. (c.in-Ok.shown.items, rw c.statements.ensures.4 at (c.in-Ok.ensures.ok clean))) (λ clean t at. returns-clause-sound g c clean t at.now.tables)

@@ -17,28 +17,28 @@ pub returns-in_err-rows-clause-sound : goal.returns-in_err-rows-clause-sound
 returns-in_err-rows-clause-sound g c clean t stored =
     let asked = key_answered g.met.T.Keeps.placed (state g.S.Store c.args.conn.now) (state g.S.Store c.rows_shown.new.conn) c.args.key.now (g.met.T.Keeps.finds c.args.key.now) in
     let p = err_from_is_err_and c.from_residual-in_err-rows.result c.from_residual-in_err-rows.ensures.1 in
-    let refused = rw (c.get_text.ensures, c.deref.ensures.value, c.in_ok-values.ensures.ok) at (c.in_err-rows.ensures.refused clean) in
+    let refused = rw (c.statements.ensures.3, c.deref.ensures.value, c.in_ok-values.ensures.ok) at (c.in_err-rows.ensures.refused clean) in
     rw (p.1, p.2) (undamaged asked {A = ℕ} (Err c.in_err-rows.field-0.0) g.T.Keeps.name refused t stored)
 
 pub returns-in_err-rows-clause-reads : goal.returns-in_err-rows-clause-reads
 returns-in_err-rows-clause-reads g c =
     let asked = key_answered g.met.T.Keeps.placed (state g.S.Store c.args.conn.now) (state g.S.Store c.rows_shown.new.conn) c.args.key.now (g.met.T.Keeps.finds c.args.key.now) in
     let p = err_from_is_err_and c.from_residual-in_err-rows.result c.from_residual-in_err-rows.ensures.1 in
-    let reads = rw c.get_text.ensures at c.in_err-rows.ensures.reads in
-    let refused = rw (c.get_text.ensures, c.deref.ensures.value, c.in_ok-values.ensures.ok) at c.in_err-rows.ensures.refused in
+    let reads = rw c.statements.ensures.3 at c.in_err-rows.ensures.reads in
+    let refused = rw (c.statements.ensures.3, c.deref.ensures.value, c.in_ok-values.ensures.ok) at c.in_err-rows.ensures.refused in
     rw (p.1, p.2) (said_again (reads (g.met.T.Keeps.finds c.args.key.now).plain (λ clean t at. undamaged asked {A = ℕ} (Err c.in_err-rows.field-0.0) g.T.Keeps.name (refused clean) t at.now.tables)))
 
 pub returns-clause-row : goal.returns-clause-row
 returns-clause-row g c clean t stored =
     let asked = key_answered g.met.T.Keeps.placed (state g.S.Store c.args.conn.now) (state g.S.Store c.rows_shown.new.conn) c.args.key.now (g.met.T.Keeps.finds c.args.key.now) in
-    let shows = rw (c.get_text.ensures, c.deref.ensures.value, c.in_ok-values.ensures.ok) at (c.in_ok-rows.ensures.shows clean) in
+    let shows = rw (c.statements.ensures.3, c.deref.ensures.value, c.in_ok-values.ensures.ok) at (c.in_ok-rows.ensures.shows clean) in
     let rows = c.in_ok-rows.rows in
     let len : vec_len rows ≡ length rows.items = omega arith in
     last_is (get (g.T.StoredTable.rows t) c.args.key.now) c.pop.result rows.items c.pop.new.self.items (vec_len rows) len (rows_are asked (Ok rows) shows t stored) c.pop.ensures.items c.pop.ensures.variant
 
 pub returns-clause-reads : goal.returns-clause-reads
 returns-clause-reads g c =
-    let reads = rw c.get_text.ensures at c.in_ok-rows.ensures.reads in
+    let reads = rw c.statements.ensures.3 at c.in_ok-rows.ensures.reads in
     let here = reads (g.met.T.Keeps.finds c.args.key.now).plain (λ clean t at. tt) in
     record { clean = here.clean; sound = λ clean t at. tt; same = here.same; left = here.left; rests = here.rests; leaves = here.leaves }
 
@@ -47,12 +47,12 @@ returns-clause-reads g c =
 pub returns-in_err-rows-clause-damaged : goal.returns-in_err-rows-clause-damaged
 returns-in_err-rows-clause-damaged g c clean stored is =
     let p = err_from_is_err_and c.from_residual-in_err-rows.result c.from_residual-in_err-rows.ensures.1 in
-    let refused = rw (c.get_text.ensures, c.deref.ensures.value, c.in_ok-values.ensures.ok) at (c.in_err-rows.ensures.refused clean) in
+    let refused = rw (c.statements.ensures.3, c.deref.ensures.value, c.in_ok-values.ensures.ok) at (c.in_err-rows.ensures.refused clean) in
     rw (p.1, p.2) (finds_damage g.T.Keeps.name g.met.T.Keeps.named (g.met.T.Keeps.finds_stored c.args.key.now) (state g.S.Store c.args.conn.now) (state g.S.Store c.rows_shown.new.conn) stored is {A = ℕ} (Err c.in_err-rows.field-0.0) refused)
 
 pub returns-clause-stored : goal.returns-clause-stored
 returns-clause-stored g c clean stored is =
-    let shows = rw (c.get_text.ensures, c.deref.ensures.value, c.in_ok-values.ensures.ok) at (c.in_ok-rows.ensures.shows clean) in
+    let shows = rw (c.statements.ensures.3, c.deref.ensures.value, c.in_ok-values.ensures.ok) at (c.in_ok-rows.ensures.shows clean) in
     let rows = c.in_ok-rows.rows in
     let len : vec_len rows ≡ length rows.items = omega arith in
     last_found g.T.StoredTable.layout (filter (g.T.Keeps.stands_at c.args.key.now) (stored g.T.Keeps.name)) c.pop.result rows.items c.pop.new.self.items (vec_len rows) len c.pop.ensures.items c.pop.ensures.variant

@@ -20,7 +20,7 @@ returns-in_err-edit-clause-cause g c clean before made at may typed room =
     let among = is_among c.args.edits.now c.loop-edit.edit-index c.edit-item.result c.loop-edit-test.true c.edit-item.is in
     let refused = c.in_err-edit.ensures.cause clean was.1.inside (omega (arith, c.loop-edit.invariant.counted, c.loop-edit-test.true, room)) (typed c.edit-item.result among) in
     let p = err_from_is_err_and c.from_residual.result c.from_residual.ensures.1 in
-    rw (p.1, p.2) (λ other. one_refused g.S.Store c.args.self.now.tables.now.conn c.loop-edit.self.tables.now.conn c.edit.new.self.tables.now.conn c.loop-edit.invariant.counts IsCauseOf (statement_of g.T.StoredTable.layout g.T.Keeps.put_means g.T.Keeps.remove_means g.T.Keeps.bind) c.args.edits.now c.edit-item.result c.in_err-edit.field-0.0 among (refused other))
+    rw (p.1, p.2) (λ other. one_refused g.S.Store c.args.self.now.tables.now.conn c.loop-edit.self.tables.now.conn c.edit.new.self.tables.now.conn c.loop-edit.invariant.counts IsCauseOf (statement_of g.T.StoredTable.layout g.T.Keeps.texts g.T.Keeps.bind) c.args.edits.now c.edit-item.result c.in_err-edit.field-0.0 among (refused other))
 
 pub loop-edit-preserved : goal.loop-edit-preserved
 loop-edit-preserved g c =

@@ -22,7 +22,7 @@ returns-in_err-put-clause-cause g c clean before made at may room =
     let one = next_may g.T.StoredTable.layout (with_row g.T.StoredTable.layout) (IsValid g.T.StoredTable.layout) g.T.StoredTable.rows g.T.StoredTable.with_rows g.met.T.Keeps.placed c.args.rows.now c.loop-row.row-index c.row-item.result was.0 _ next was.2 in
     let refused = c.in_err-put.ensures.cause clean was.1.inside (omega (arith, c.loop-row.invariant.counted, c.loop-row-test.true, room)) one in
     let p = err_from_is_err_and c.from_residual.result c.from_residual.ensures.1 in
-    rw (p.1, p.2) (λ other. one_refused g.S.Store c.args.self.now.tables.now.conn c.loop-row.self.tables.now.conn c.put.new.self.tables.now.conn c.loop-row.invariant.counts IsCauseOf (λ row. (g.T.Keeps.put_means, g.T.StoredTable.layout.encode row)) c.args.rows.now c.row-item.result c.in_err-put.field-0.0 among (refused other))
+    rw (p.1, p.2) (λ other. one_refused g.S.Store c.args.self.now.tables.now.conn c.loop-row.self.tables.now.conn c.put.new.self.tables.now.conn c.loop-row.invariant.counts IsCauseOf (λ row. (g.T.Keeps.texts.put, g.T.StoredTable.layout.encode row)) c.args.rows.now c.row-item.result c.in_err-put.field-0.0 among (refused other))
 
 pub loop-row-preserved : goal.loop-row-preserved
 loop-row-preserved g c =
