@@ -32,7 +32,7 @@ module _ (limits : Limits) (commands : List Accepted) (session : Session) (old n
   tables = ready.rests.tables
 
   ready_on : IsAtRest (Some tables) new → IsReady limits commands (record { limits = session.limits; policy = session.policy; must_reopen = false }) new
-  ready_on rests = record { accepted = ready.accepted; rests = record { tables = tables; are = ready.rests.are; rests = rests }; session_is = ap (λ (q : Session). record { limits = q.limits; policy = q.policy; must_reopen = false }) ready.session_is }
+  ready_on rests = record { admitted = ready.admitted; rests = record { tables = tables; are = ready.rests.are; rests = rests }; session_is = ap (λ (q : Session). record { limits = q.limits; policy = q.policy; must_reopen = false }) ready.session_is }
 
   pub counted : (result : Result Counts Fault) → Judges (λ counts told. counts ≡ told) result (Ok (counts_of commands)) → (IsServed result → IsAtRest (Some tables) new) → Leaves (Some tables) new
       → IsCounted limits commands result (record { limits = session.limits; policy = session.policy; must_reopen = stops result }) new

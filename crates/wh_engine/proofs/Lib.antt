@@ -10,6 +10,7 @@ pub mod GoodRecords
 pub mod SameLines
 pub mod GoodSales
 pub mod StaysAccepted
+pub mod Admitted
 pub mod Decisions
 pub mod Performing
 pub mod OpenedTables

@@ -22,7 +22,7 @@ use Rattle.wh_sql.specs.Reads.{SparesRows, SparesStore as RefusesNothing}
 use Rattle.wh_sql.specs.declared.fault.ReadFault.{ReadFault}
 use Rattle.wh_sql.specs.declared.fault.ReadFault.TheVariants as reading
 use Rattle.wh_store.specs.declared.fault.OpenFault.{OpenFault}
-use Rattle.wh_engine.specs.Admission.{in_force}
+use Rattle.wh_engine.specs.Admission.{in_force, AreAdmitted}
 use Rattle.wh_engine.specs.Answered.{Rests, IsReady}
 use Rattle.wh_plan.specs.Defined.{AreOf, meta_at}
 use Rattle.wh_plan.specs.Reading.{command_with}
@@ -33,7 +33,6 @@ use Rattle.wh_store.specs.declared.fault.OpenFault.TheVariants as faults
 use Rattle.wh_engine.specs.declared.session.Session.{Session}
 use Rattle.wh_engine.proofs.Decisions.{policy_in_force}
 use Rattle.wh_plan.proofs.FoundCommands.{command_of}
-use Rattle.wh_plan.proofs.StaysBegun.{accepted_lists_begin}
 
 -- ---- readings in turn
 
@@ -145,10 +144,10 @@ module _ (limits : Limits) (commands : List Accepted) (t : Tables) (accepted : I
   opened_there = format_known t format_there ∙ session_is t limits (in_force commands) (ap of_limits limits_there) policy_there
 
   -- it is opened ready
-  pub opened_ready : (session : Session) (s : State) → opened t ≡ Ok session → IsAtRest (Some t) s → IsReady limits commands session s
-  opened_ready session s is rests =
+  pub opened_ready : AreAdmitted limits commands → (session : Session) (s : State) → opened t ≡ Ok session → IsAtRest (Some t) s → IsReady limits commands session s
+  opened_ready admitted session s is rests =
       let same : record { limits = limits; policy = in_force commands; must_reopen = false } ≡ session = same_ok (opened t) _ session opened_there is in
-      record { accepted = accepted; rests = record { tables = t; are = are; rests = rests }; session_is = sym same }
+      record { admitted = admitted; rests = record { tables = t; are = are; rests = rests }; session_is = sym same }
 
   -- and refused by the store, or for want of memory, alone
   pub opened_refused : (fault : OpenFault) (s : State) → IsRead {A = Session} (Err fault) (opened t) t s → IsNotOpened limits commands fault s
@@ -186,4 +185,8 @@ leaves_nothing limits bytes s rests = record { each = λ trees may. inl (rests.l
 
 pub made_ready : (limits : Limits) (policy : Policy) (bytes : List ℕ) (s : State) → are_limits limits ≡ true → policy_at bytes ≡ Ok policy → Rests limits (making_of policy bytes ∷ []) s
     → IsReady limits (making_of policy bytes ∷ []) (record { limits = limits; policy = policy; must_reopen = false }) s
-made_ready limits policy bytes s limited written rests = record { accepted = accepted_lists_begin limits policy bytes limited written; rests = rests; session_is = refl }
+made_ready limits policy bytes s limited written rests = record {
+  admitted = record { limited = limited; policy = policy; bytes = bytes; written = written; sent = []; admitted = refl };
+  rests = rests;
+  session_is = refl;
+}

@@ -10,7 +10,7 @@ use Rattle.wh_history.specs.Tables.{Limits}
 use Rattle.wh_history.proofs.Stays.{policy_last}
 use Rattle.wh_rows.specs.AtRest.{AreTrees, IsAtRest, Leaves}
 use Rattle.wh_rows.specs.Tables.{Tables}
-use Rattle.wh_engine.specs.Admission.{accepted_as, answer, accepted_after, in_force}
+use Rattle.wh_engine.specs.Admission.{accepted_as, answer, accepted_after, in_force, AreAdmitted}
 use Rattle.wh_engine.specs.Answered.{AreTreesOf, LeavesOneOf, IsReady, IsAnswered, IsPerformed}
 use Rattle.wh_engine.specs.Decided.{IsHeld, AreEditsOf, Decides}
 use Rattle.wh_plan.specs.Defined.{AreOf}
@@ -30,6 +30,7 @@ use Rattle.wh_engine.specs.declared.session.Session.{Session}
 use Rattle.wh_engine.proofs.Decisions.{judged_ok, after_repeat, after_accepted}
 use Rattle.wh_plan.proofs.MayBatch.{a_batch_may_be_written}
 use Rattle.wh_engine.proofs.StaysAccepted.{content_good, stays_accepted}
+use Rattle.wh_engine.proofs.Admitted.{admitted_sound, admitted_after}
 use Rattle.wh_plan.proofs.WrittenBatch.{a_batch_is_written}
 
 held_as : (limits : Limits) (commands : List Accepted) (session : Session) (t : Tables) → session ≡ record { limits = limits; policy = in_force commands; must_reopen = false } → IsAccepted limits commands → AreOf limits commands t → IsHeld session commands t
@@ -39,14 +40,17 @@ module _ (limits : Limits) (commands : List Accepted) (c : Command) (session : S
   abbrev tables : Tables
   tables = ready.rests.tables
 
+  sound : IsAccepted limits commands
+  sound = admitted_sound limits commands ready.admitted
+
   limits_are : session.limits ≡ limits
   limits_are = ap (λ (s : Session). s.limits) ready.session_is
 
   pub held : IsHeld session commands tables
-  held = held_as limits commands session tables ready.session_is ready.accepted ready.rests.are
+  held = held_as limits commands session tables ready.session_is sound ready.rests.are
 
   still_ready : (new : State) → IsAtRest (Some tables) new → IsReady limits commands session new
-  still_ready new rests = record { accepted = ready.accepted; rests = record { tables = tables; are = ready.rests.are; rests = rests }; session_is = ready.session_is }
+  still_ready new rests = record { admitted = ready.admitted; rests = record { tables = tables; are = ready.rests.are; rests = rests }; session_is = ready.session_is }
 
   kept_ready : (new : State) (list : List Accepted) → list ≡ commands → IsAtRest (Some tables) new → IsReady limits list session new
   kept_ready new list same rests = rw same (still_ready new rests)
@@ -87,10 +91,10 @@ module _ (limits : Limits) (commands : List Accepted) (c : Command) (session : S
     list_is = after_accepted limits commands c receipt batch.content said batch.read
 
     accepted : IsAccepted limits (commands ++ added ∷ [])
-    accepted = subst (IsAccepted limits) list_is (stays_accepted limits commands c ready.accepted)
+    accepted = subst (IsAccepted limits) list_is (stays_accepted limits commands c sound)
 
     is_batch : governs added.content ≡ false
-    is_batch = (content_good limits commands c ready.accepted batch.content batch.read).batch
+    is_batch = (content_good limits commands c sound batch.content batch.read).batch
 
     pub may_write : MayBeWritten edits
     may_write = a_batch_may_be_written limits commands added tables edits is_batch accepted ready.rests.are batch.edits_are
@@ -103,7 +107,7 @@ module _ (limits : Limits) (commands : List Accepted) (c : Command) (session : S
     accept_performed new rests =
         let governed : in_force (commands ++ added ∷ []) ≡ in_force commands = ap (λ o. unwrap_or o trial_policy) (policy_last None commands added is_batch) in
         let kept : session ≡ record { limits = limits; policy = in_force (commands ++ added ∷ []); must_reopen = false } = rw governed ready.session_is in
-        let after : IsReady limits (commands ++ added ∷ []) session new = record { accepted = accepted; rests = record { tables = with_all_edits edits tables; are = written; rests = rests }; session_is = kept } in
+        let after : IsReady limits (commands ++ added ∷ []) session new = record { admitted = subst (AreAdmitted limits) list_is (admitted_after limits commands c ready.admitted); rests = record { tables = with_all_edits edits tables; are = written; rests = rests }; session_is = kept } in
         (said, rw list_is after)
 
     -- or the store refused them
@@ -119,7 +123,7 @@ module _ (limits : Limits) (commands : List Accepted) (c : Command) (session : S
 
 module _ (limits : Limits) (commands : List Accepted) (c : Command) (session : Session) (s : State) where
   ready_on : (list : List Accepted) → IsReady limits list session s → IsReady limits list (record { limits = session.limits; policy = session.policy; must_reopen = false }) s
-  ready_on list ready = record { accepted = ready.accepted; rests = ready.rests; session_is = ap (λ (q : Session). record { limits = q.limits; policy = q.policy; must_reopen = false }) ready.session_is }
+  ready_on list ready = record { admitted = ready.admitted; rests = ready.rests; session_is = ap (λ (q : Session). record { limits = q.limits; policy = q.policy; must_reopen = false }) ready.session_is }
 
   pub answered : (result : Result Reply Fault) → IsPerformed limits commands c result session s → IsAnswered limits commands c result (record { limits = session.limits; policy = session.policy; must_reopen = stops result }) s
   answered (Ok reply) done = (done.0, ready_on (accepted_after limits commands c) done.1)

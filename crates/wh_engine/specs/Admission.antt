@@ -1,8 +1,8 @@
 -- The answer to a command, and the list of those that are accepted.
-use Rattle.std.specs.Prelude.{ℕ, suc, ◌+◌, ◌&&◌, nat_le, nat_lt, cond, List, [], ◌∷◌, ◌++◌, length, map, find, Option, Some, None, unwrap_or, bytes_eq, Result, Ok, Err}
+use Rattle.std.specs.Prelude.{◌≡◌, ⊤, true, ℕ, suc, ◌+◌, ◌&&◌, nat_le, nat_lt, cond, List, [], ◌∷◌, ◌++◌, length, map, find, Option, Some, None, unwrap_or, bytes_eq, Result, Ok, Err}
 use Rattle.std.specs.List.{list_any}
 use Rattle.wh_day.specs.Reading.{◌>>=◌}
-use Rattle.wh_policy.specs.Policy.{trial_policy}
+use Rattle.wh_policy.specs.Policy.{trial_policy, policy_at}
 use Rattle.wh_policy.specs.declared.policy.Policy.{Policy}
 use Rattle.wh_policy.specs.declared.record.SaleRecord.{SaleRecord}
 pub use Rattle.wh_batch.specs.Kind.{kind_word}
@@ -15,6 +15,8 @@ use Rattle.wh_history.specs.Keys.{place}
 use Rattle.wh_history.specs.Accepted.{Accepted, Content, Governs, Describes, Sells, policy_after, sold, sold_by, records_by, placeholders_by}
 use Rattle.wh_history.specs.Tables.{Limits}
 use Rattle.wh_rows.specs.Types.{is_key}
+use Rattle.wh_rows.specs.Limits.{are_limits}
+use Rattle.wh_plan.specs.FirstRows.{making_of}
 use Rattle.wh_plan.specs.Sound.{IsAccepted, changes_kept, same_line}
 use Rattle.wh_engine.specs.declared.command.Command.{Command}
 use Rattle.wh_engine.specs.declared.command.Receipt.{Receipt}
@@ -111,3 +113,38 @@ accepted_after limits commands c = after_answer commands c (answer limits comman
 -- After a batch, accepted or not, the list of accepted commands is again one that a warehouse can have accepted.
 abbrev pub AcceptedListsStaySound : Type 0
 AcceptedListsStaySound = (limits : Limits) (commands : List Accepted) (c : Command) → IsAccepted limits commands → IsAccepted limits (accepted_after limits commands c)
+
+-- ---- from the making on
+
+-- the list after commands that come one after the other
+abbrev pub accepted_after_all : Limits → List Accepted → List Command → List Accepted
+accepted_after_all limits commands [] = commands
+accepted_after_all limits commands (c ∷ sent) = accepted_after_all limits (accepted_after limits commands c) sent
+
+-- The list is one that a warehouse with these limits has after a making and some commands, of which those are in it that were accepted.
+pub record AreAdmitted (limits : Limits) (commands : List Accepted) : Type 0 where
+  pub limited : are_limits limits ≡ true
+  pub policy : Policy
+  pub bytes : List ℕ
+  pub written : policy_at bytes ≡ Ok policy
+  pub sent : List Command
+  pub admitted : commands ≡ accepted_after_all limits (making_of policy bytes ∷ []) sent
+
+-- Such a list is one that a warehouse can have accepted.
+abbrev pub AdmittedListsAreSound : Type 0
+AdmittedListsAreSound = (limits : Limits) (commands : List Accepted) → AreAdmitted limits commands → IsAccepted limits commands
+
+-- what the command says is what its kind and bytes give under the policy that was in force before it
+pub record IsRead (before : List Accepted) (a : Accepted) : Type 0 where
+  pub kind : Kind
+  pub kind_is : a.kind ≡ kind_word kind
+  pub content_is : content_of kind (in_force before) a.bytes ≡ Ok a.content
+
+-- so it is of each command that came after these
+abbrev pub AreRead : List Accepted → List Accepted → Type 0
+AreRead before [] = ⊤
+AreRead before (a ∷ later) = IsRead before a × AreRead (before ++ a ∷ []) later
+
+-- In an admitted list what each command after the making says is what its kind and bytes give.
+abbrev pub ContentsAreRead : Type 0
+ContentsAreRead = (limits : Limits) (making : Accepted) (later : List Accepted) → AreAdmitted limits (making ∷ later) → AreRead (making ∷ []) later

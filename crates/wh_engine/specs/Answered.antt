@@ -7,9 +7,9 @@ use Rattle.wh_history.specs.Accepted.{Accepted, sold, members}
 use Rattle.wh_history.specs.Tables.{Limits}
 use Rattle.wh_rows.specs.AtRest.{AreTrees, IsAtRest}
 use Rattle.wh_rows.specs.Tables.{Tables}
-use Rattle.wh_engine.specs.Admission.{in_force, answer, accepted_after}
+use Rattle.wh_engine.specs.Admission.{in_force, answer, accepted_after, AreAdmitted}
 use Rattle.wh_plan.specs.Defined.{AreOf}
-use Rattle.wh_plan.specs.Sound.{changes_kept, IsAccepted}
+use Rattle.wh_plan.specs.Sound.{changes_kept}
 use Rattle.wh_engine.specs.declared.command.Command.{Command}
 use Rattle.wh_engine.specs.declared.command.Reply.{Reply}
 use Rattle.wh_engine.specs.declared.command.Reply.TheVariants as replies
@@ -36,7 +36,7 @@ pub record LeavesOneOf (limits : Limits) (before after : List Accepted) (s : Sta
 
 -- The engine is open on a warehouse that was made with these limits and has accepted these commands.
 pub record IsReady (limits : Limits) (commands : List Accepted) (session : Session) (s : State) : Type 0 where
-  pub accepted : IsAccepted limits commands
+  pub admitted : AreAdmitted limits commands
   pub rests : Rests limits commands s
   pub session_is : session ≡ record { limits = limits; policy = in_force commands; must_reopen = false }
 

@@ -3,7 +3,7 @@
 ghost use Rattle.std.specs.Prelude.{◌≡◌, List};
 ghost use Rattle.wh_history.specs.Accepted.{Accepted};
 ghost use Rattle.wh_history.specs.Tables.{Limits};
-ghost use Rattle.wh_engine.specs.Admission.{accepted_after, AcceptedListsStaySound};
+ghost use Rattle.wh_engine.specs.Admission.{accepted_after, AcceptedListsStaySound, AdmittedListsAreSound, ContentsAreRead};
 ghost use Rattle.wh_engine.specs.declared.command.Command.{Command};
 
 /// A command that is sent twice acts once.
@@ -14,4 +14,14 @@ pub fn acts_once()
 /// A list of commands that a warehouse can have accepted stays one after each batch, accepted or refused.
 pub fn accepted_lists_stay_sound()
     ensures { AcceptedListsStaySound }
+{}
+
+/// The list that a warehouse has after its making and any commands that are sent is one that a warehouse can have accepted.
+pub fn admitted_lists_are_sound()
+    ensures { AdmittedListsAreSound }
+{}
+
+/// In that list what each command after the making says is what its kind and bytes give.
+pub fn contents_are_read()
+    ensures { ContentsAreRead }
 {}

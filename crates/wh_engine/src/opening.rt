@@ -17,7 +17,7 @@ ghost use Rattle.wh_sql.specs.Reads.{Spares};
 ghost use Rattle.wh_engine.specs.Answered.{Rests, IsReady};
 ghost use Rattle.wh_plan.specs.FirstRows.{making_of, IsGoodPolicy};
 ghost use Rattle.wh_engine.specs.Opened.{of_making, making_in, session_in, opened, IsTold, IsRead, PolicyIs, IsPolicyless, SessionIs, IsSessionless, IsUnopened, IsNotOpened, LeavesMaking, IsNotMade, NothingIsWritten, LeavesMade};
-ghost use Rattle.wh_plan.specs.Sound.{IsAccepted};
+ghost use Rattle.wh_engine.specs.Admission.{AreAdmitted};
 ghost use Rattle.wh_store.specs.declared.fault.OpenFault.TheVariants.{Store};
 ghost use Rattle.wh_rows.specs.declared.cause.Cause.{Cause};
 
@@ -153,9 +153,9 @@ impl<S: Alter> Engine<S> {
     /// Opens the warehouse of a connection. A refusal hands the connection back.
     pub fn open(alloc: Global, conn: Connection<S>) -> Result<Engine<S>, (OpenFault, Connection<S>)>
         ensures clean { IfOk result (λ engine. HasCleanDisk (state_of S.Store engine.tables) → HasCleanDisk (state S.Store conn)) }
-        ensures ready { IfOk result (λ engine. HasCleanDisk (state_of S.Store engine.tables) → (limits : Counts) (commands : List Accepted) → IsAccepted limits commands → Rests limits commands (state S.Store conn)
+        ensures ready { IfOk result (λ engine. HasCleanDisk (state_of S.Store engine.tables) → (limits : Counts) (commands : List Accepted) → AreAdmitted limits commands → Rests limits commands (state S.Store conn)
             → IsReady limits commands engine.session (state_of S.Store engine.tables)) }
-        ensures refused { IfErr result (λ e. HasCleanDisk (state S.Store e.1) → (limits : Counts) (commands : List Accepted) → IsAccepted limits commands → Rests limits commands (state S.Store conn)
+        ensures refused { IfErr result (λ e. HasCleanDisk (state S.Store e.1) → (limits : Counts) (commands : List Accepted) → AreAdmitted limits commands → Rests limits commands (state S.Store conn)
             → IsNotOpened limits commands e.0 (state S.Store e.1)) }
         // The same of any ten tables, whoever wrote their rows, as far as all of these are of their types.
         ensures found { IfOk result (λ engine. HasCleanDisk (state_of S.Store engine.tables) → (t : Rows) → IsAtRest (Some t) (state S.Store conn) → (opened t ≡ Ok engine.session) × IsAtRest (Some t) (state_of S.Store engine.tables)) }

@@ -7,7 +7,7 @@ ghost use Rattle.wh_history.specs.Accepted.{Accepted};
 ghost use Rattle.wh_history.specs.Tables.{Limits as Counts};
 ghost use Rattle.wh_engine.specs.Answered.{LeavesOneOf, IsReady};
 ghost use Rattle.wh_engine.specs.Redelivered.{IsRedelivered};
-ghost use Rattle.wh_plan.specs.Sound.{IsAccepted};
+ghost use Rattle.wh_engine.specs.Admission.{AreAdmitted};
 
 use crate::command::{Command, Reply};
 use crate::engine::Engine;
@@ -25,7 +25,7 @@ pub fn restart<D: Crash + Drop>(
     options: Options,
 ) -> Result<Engine<FileStore<D>>, OpenFault>
     ensures clean { IfOk result (λ again. HasCleanDisk (file_state again.tables.conn) → HasCleanDisk (file_state engine.tables.conn)) }
-    ensures ready { (limits : Counts) (before after : List Accepted) → IsAccepted limits before → IsAccepted limits after → LeavesOneOf limits before after (file_state engine.tables.conn)
+    ensures ready { (limits : Counts) (before after : List Accepted) → AreAdmitted limits before → AreAdmitted limits after → LeavesOneOf limits before after (file_state engine.tables.conn)
         → IfOk result (λ again. HasCleanDisk (file_state again.tables.conn) → ∥ IsReady limits before again.session (file_state again.tables.conn) ⊎ IsReady limits after again.session (file_state again.tables.conn) ∥₁) }
 {
     let conn = match restart_connection(alloc, engine.close(), options) {

@@ -5,12 +5,12 @@ use Rattle.wh_policy.specs.declared.attribute.Dim.TheVariants.{Product, Store, C
 use Rattle.wh_policy.specs.declared.record.SaleRecord.{SaleRecord}
 use Rattle.wh_history.specs.Accepted.{Accepted, durable_key, sold}
 use Rattle.wh_history.specs.Laws.{IsEffective}
-use Rattle.wh_history.specs.Tables.{Limits, key_at, fact_of}
+use Rattle.wh_history.specs.Tables.{Limits, key_at, profile_at, fact_of}
 use Rattle.wh_history.specs.declared.facts.Fact.{Fact}
 use Rattle.wh_history.proofs.Effective.{effective}
 use Rattle.wh_plan.specs.Laws.{NamesCustomer, FactsAreEffective}
 use Rattle.wh_plan.specs.Sound.{IsGoodSale, IsAccepted}
-use Rattle.wh_plan.proofs.Following.{Named, all_named}
+use Rattle.wh_plan.proofs.Following.{Named, owned, all_named}
 use Rattle.wh_plan.proofs.GrownKeys.{found_is}
 use Rattle.wh_plan.proofs.ValidFacts.{days}
 use Rattle.wh_plan.proofs.ValidTables.{made_of}
@@ -28,7 +28,12 @@ module _ (limits : Limits) (commands : List Accepted) (ok : IsAccepted limits co
       )
       by_card (Some natural) card =
           let shown = effective Customer commands natural (days limits commands ok) (named Customer natural card) s.day good.day in
-          inl (rw card shown)
+          inl (natural, record {
+            member = ap (λ o. unwrap_or (option_map (durable_key Customer commands) o) 0) card;
+            numbered = rw card (owned commands s named Customer natural card);
+            row = rw card shown;
+            profile = ap (λ o. unwrap_or (option_map (profile_at commands s.day) o) 0) card;
+          })
 
   rows_named : IsEffective commands Product (fact_of commands s).product_durable s.day (fact_of commands s).keys.product_key × IsEffective commands Store (fact_of commands s).store_durable s.day (fact_of commands s).keys.store_key × NamesCustomer commands (fact_of commands s)
   rows_named = (

@@ -65,15 +65,17 @@ all_named commands = in_each (λ dim. mentions dim commands) (sold commands) (λ
 
 -- ---- what stays
 
+-- and has a durable key, which is not 0
+pub owned : (commands : List Accepted) (s : SaleRecord) → Named commands s → (dim : Dim) (natural : List ℕ) → member_of_sale dim s ≡ Some natural → 0 < durable_key dim commands natural
+owned commands s named dim natural is =
+    place-distinct_given bytes_eq bytes_eq-Decides natural (map (λ (a : Anchor). a.natural) (mentions dim commands)) (natural_among (opening_of natural) (mentions dim commands) (named dim natural is))
+
 module _ (commands : List Accepted) (c : Accepted) (s : SaleRecord) (named : Named commands s) where
   abbrev after : List Accepted
   after = commands ++ c ∷ []
 
   pub durable_kept : (dim : Dim) (natural : List ℕ) → member_of_sale dim s ≡ Some natural → durable_key dim after natural ≡ durable_key dim commands natural
-  durable_kept dim natural is =
-      let owned : 0 < durable_key dim commands natural =
-      place-distinct_given bytes_eq bytes_eq-Decides natural (map (λ (a : Anchor). a.natural) (mentions dim commands)) (natural_among (opening_of natural) (mentions dim commands) (named dim natural is)) in
-      durable_stays dim commands (c ∷ []) natural owned
+  durable_kept dim natural is = durable_stays dim commands (c ∷ []) natural (owned commands s named dim natural is)
 
   pub customer_kept : option_map (durable_key Customer after) s.customer ≡ option_map (durable_key Customer commands) s.customer
   customer_kept = map_same (durable_key Customer after) (durable_key Customer commands) s.customer (λ natural is. durable_kept Customer natural is)

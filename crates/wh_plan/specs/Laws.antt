@@ -1,5 +1,5 @@
 -- What holds of every batch.
-use Rattle.std.specs.Prelude.{◌≡◌, ◌≢◌, ◌⊎◌, ◌↔◌, ℕ, true, false, List, [], ◌∷◌, ◌++◌, Some, None, Ok, option_map, unwrap_or, map, filter_map, length}
+use Rattle.std.specs.Prelude.{◌≡◌, ◌≢◌, ◌⊎◌, ◌↔◌, ◌<◌, ℕ, true, false, List, [], ◌∷◌, ◌++◌, Some, None, Ok, option_map, unwrap_or, map, filter_map, length}
 use Rattle.std.specs.List.{list_any, AllByRecursion, IsDistinct}
 use Rattle.wh_policy.specs.Policy.{policy_at}
 use Rattle.wh_policy.specs.Types.{is_outrigger}
@@ -9,13 +9,13 @@ use Rattle.wh_policy.specs.declared.attribute.Dim.{Dim}
 use Rattle.wh_policy.specs.declared.attribute.Dim.TheVariants.{Product, Store, Customer}
 use Rattle.wh_policy.specs.declared.record.DimensionRecord.{DimensionRecord}
 use Rattle.wh_policy.specs.declared.record.SaleRecord.{SaleRecord}
-use Rattle.wh_history.specs.Accepted.{Accepted, Describes, Sells, anchors, policy_after, types_in, member_of, member_of_sale, sold}
+use Rattle.wh_history.specs.Accepted.{Accepted, Describes, Sells, anchors, policy_after, types_in, durable_key, member_of, member_of_sale, sold}
 use Rattle.wh_history.specs.Facts.{new_keys}
 use Rattle.wh_history.specs.Shapes.{shape_after, rendered_in}
 use Rattle.wh_history.specs.Keys.{at_place}
 use Rattle.wh_history.specs.Laws.{RecordsHaveDays, IsEffective, governs, mentions_member}
 use Rattle.wh_history.specs.Plan.{IsPlan, row_of}
-use Rattle.wh_history.specs.Tables.{Limits, dimension_row, fact_of}
+use Rattle.wh_history.specs.Tables.{Limits, dimension_row, profile_at, fact_of}
 use Rattle.wh_history.specs.declared.facts.Fact.{Fact}
 use Rattle.wh_history.specs.declared.plan.Edit.{Edit}
 use Rattle.wh_history.specs.declared.plan.Edit.TheVariants.{Put}
@@ -133,9 +133,16 @@ SalesPutPlaceholders = (commands : List Accepted) (c : Accepted) (dim : Dim) (sa
     → IsPlan (λ r. r.surrogate) (dimension_row commands dim) (dimension_row (commands ++ c ∷ []) dim)
     (map Put (filter_map (dimension_row (commands ++ c ∷ []) dim) (behind (length (anchors dim commands)) (length (anchors dim (commands ++ c ∷ []))))))
 
--- what a fact names of its customer: the one row that holds its day, or without a card the row 0, with no member and no profile
+-- what a fact names of the member that has this card: its durable key, which is not 0, the one row that holds the fact's day, and its profile of that day
+pub record NamesCard (commands : List Accepted) (f : Fact) (natural : List ℕ) : Type 0 where
+  pub member : f.customer_durable ≡ durable_key Customer commands natural
+  pub numbered : 0 < f.customer_durable
+  pub row : IsEffective commands Customer f.customer_durable f.day f.keys.customer_key
+  pub profile : f.keys.profile ≡ profile_at commands f.day natural
+
+-- what a fact names of its customer: that of a card, or without one the row 0, with no member and no profile
 abbrev pub NamesCustomer : List Accepted → Fact → Type 0
-NamesCustomer commands f = IsEffective commands Customer f.customer_durable f.day f.keys.customer_key ⊎ ((f.customer_durable ≡ 0) × (f.keys.customer_key ≡ 0) × (f.keys.profile ≡ 0))
+NamesCustomer commands f = ((natural : List ℕ) × NamesCard commands f natural) ⊎ ((f.customer_durable ≡ 0) × (f.keys.customer_key ≡ 0) × (f.keys.profile ≡ 0))
 
 -- Each fact names in each dimension the one row of its member that holds the day of the sale; without a card it names the customer row 0.
 abbrev pub FactsAreEffective : Type 0

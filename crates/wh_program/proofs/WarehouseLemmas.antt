@@ -15,8 +15,7 @@ use Rattle.wh_rows.specs.Schema.{no_schema}
 use Rattle.wh_sql.specs.Present.{are_all_there, is_any_taken}
 use Rattle.wh_sql.proofs.Worked.{taken_in_a_warehouse, taken_in_none}
 use Rattle.wh_plan.specs.FirstRows.{making_of}
-use Rattle.wh_plan.specs.Sound.{IsAccepted}
-use Rattle.wh_engine.specs.Admission.{accepted_after}
+use Rattle.wh_engine.specs.Admission.{accepted_after, AreAdmitted}
 use Rattle.wh_engine.specs.Answered as engine
 use Rattle.wh_engine.specs.Answered.{IsReady, IsAnswered, IsCounted as EngineCounted}
 use Rattle.wh_engine.specs.Opened.{IsNotOpened, IsNotMade, NothingIsWritten, LeavesMade}
@@ -45,7 +44,7 @@ none_there = refl
 module _ (does : Limits → List Accepted → Told → Standing → Type 0) (content : Content) (told : Told) where
   -- and what is done then
   pub opened : (first : Session) (s0 s1 s2 : State)
-      → ((limits : Limits) (commands : List Accepted) → IsAccepted limits commands → engine.Rests limits commands s0 → IsReady limits commands first s1)
+      → ((limits : Limits) (commands : List Accepted) → AreAdmitted limits commands → engine.Rests limits commands s0 → IsReady limits commands first s1)
       → ((limits : Limits) (commands : List Accepted) → IsReady limits commands first s1 → (after : Standing) × does limits commands told after × Stands after s2)
       → (IsAtRest None s0 → ⊥)
       → IsAt content s0 → (after : Standing) × Opens does content told after × Stands after s2
@@ -54,7 +53,7 @@ module _ (does : Limits → List Accepted → Told → Standing → Type 0) (con
     | Holds limits commands ↦ λ at. let worked = works limits commands (opens limits commands at.0 at.1) in (worked.0, inl worked.1, worked.2)
   ] at
 
-  not_opened : (limits : Limits) (commands : List Accepted) (why : OpenFault) (s : State) → IfOk told (λ a. a ≡ opening_answer why) → IsAccepted limits commands → IsNotOpened limits commands why s
+  not_opened : (limits : Limits) (commands : List Accepted) (why : OpenFault) (s : State) → IfOk told (λ a. a ≡ opening_answer why) → AreAdmitted limits commands → IsNotOpened limits commands why s
       → (after : Standing) × Opens does (Holds limits commands) told after × Stands after s
   not_opened limits commands opening.NotAWarehouse s tells accepted none = absurd none
   not_opened limits commands opening.OldFormat s tells accepted none = absurd none
@@ -67,7 +66,7 @@ module _ (does : Limits → List Accepted → Told → Standing → Type 0) (con
 
   -- or one that was not
   pub unopened : (why : OpenFault) (s0 s1 : State)
-      → ((limits : Limits) (commands : List Accepted) → IsAccepted limits commands → engine.Rests limits commands s0 → IsNotOpened limits commands why s1)
+      → ((limits : Limits) (commands : List Accepted) → AreAdmitted limits commands → engine.Rests limits commands s0 → IsNotOpened limits commands why s1)
       → (IsAtRest None s0 → (why ≡ opening.NotAWarehouse) × IsAt Nothing s1)
       → IfOk told (λ a. a ≡ opening_answer why)
       → IsAt content s0 → (after : Standing) × Opens does content told after × Stands after s1
@@ -83,12 +82,12 @@ pub replied : (c : Command) (limits : Limits) (commands : List Accepted) (told :
     → IfOk told (λ a. a ≡ load_answer c.id reply) → IsAnswered limits commands c reply session s
     → (after : Standing) × IsReplied c limits commands told after × Stands after s
 replied c limits commands told (Ok reply) session s tells (is, ready) =
-    (Rests (Holds limits (accepted_after limits commands c)), record { reply = Ok reply; leaves = (is, refl); tells = tells }, (ready.accepted, ready.rests))
+    (Rests (Holds limits (accepted_after limits commands c)), record { reply = Ok reply; leaves = (is, refl); tells = tells }, (ready.admitted, ready.rests))
 replied c limits commands told (Err (fault.Refused why)) session s tells (is, ready) =
-    (Rests (Holds limits commands), record { reply = Err (fault.Refused why); leaves = (is, refl); tells = tells }, (ready.accepted, ready.rests))
+    (Rests (Holds limits commands), record { reply = Err (fault.Refused why); leaves = (is, refl); tells = tells }, (ready.admitted, ready.rests))
 replied c limits commands told (Err (fault.Damaged table)) session s tells none = absurd none
 replied c limits commands told (Err fault.Memory) session s tells ready =
-    (Rests (Holds limits commands), record { reply = Err fault.Memory; leaves = refl; tells = tells }, (ready.accepted, ready.rests))
+    (Rests (Holds limits commands), record { reply = Err fault.Memory; leaves = refl; tells = tells }, (ready.admitted, ready.rests))
 replied c limits commands told (Err (fault.Store cause)) session s tells stopped =
     (LeftAt (Holds limits commands) (Holds limits (accepted_after limits commands c)), record { reply = Err (fault.Store cause); leaves = refl; tells = tells }, record { each = stopped.left.each })
 replied c limits commands told (Err fault.Reopen) session s tells none = absurd none
@@ -99,11 +98,11 @@ pub counted : (limits : Limits) (commands : List Accepted) (told : Told) (counts
     → IfOk told (λ a. a ≡ status_answer counts) → EngineCounted limits commands counts session s
     → (after : Standing) × IsCounted limits commands told after × Stands after s
 counted limits commands told (Ok counts) session s tells (is, ready) =
-    (Rests (Holds limits commands), record { counts = Ok counts; leaves = (is, refl); tells = tells }, (ready.accepted, ready.rests))
+    (Rests (Holds limits commands), record { counts = Ok counts; leaves = (is, refl); tells = tells }, (ready.admitted, ready.rests))
 counted limits commands told (Err (fault.Refused why)) session s tells none = absurd none
 counted limits commands told (Err (fault.Damaged table)) session s tells none = absurd none
 counted limits commands told (Err fault.Memory) session s tells ready =
-    (Rests (Holds limits commands), record { counts = Err fault.Memory; leaves = refl; tells = tells }, (ready.accepted, ready.rests))
+    (Rests (Holds limits commands), record { counts = Err fault.Memory; leaves = refl; tells = tells }, (ready.admitted, ready.rests))
 counted limits commands told (Err (fault.Store cause)) session s tells stopped =
     (LeftAt (Holds limits commands) (Holds limits commands), record { counts = Err (fault.Store cause); leaves = refl; tells = tells }, record { each = stopped.left.each })
 counted limits commands told (Err fault.Reopen) session s tells none = absurd none
@@ -115,7 +114,7 @@ pub made_ok : (content : Content) (bytes : List ℕ) (told : Told) (policy : Pol
     → told ≡ Ok (done made_line) → IsAt content s0 → (after : Standing) × Makes bytes content told after × Stands after s1
 made_ok Nothing bytes told policy limits session s0 s1 most reads makes free tells at =
     let ready = subst (λ l. IsReady l (making_of policy bytes ∷ []) session s1) most (makes at) in
-    (Rests (Holds greatest_limits (making_of policy bytes ∷ [])), inl (record { policy = policy; reads = reads; then_is = refl; tells = tells }), (ready.accepted, ready.rests))
+    (Rests (Holds greatest_limits (making_of policy bytes ∷ [])), inl (record { policy = policy; reads = reads; then_is = refl; tells = tells }), (ready.admitted, ready.rests))
 made_ok (Holds l cs) bytes told policy limits session s0 s1 most reads makes free tells at =
     let taken : is_any_taken s0.now.schema ≡ true = ap is_any_taken at.1.rests.now.schema ∙ taken_in_a_warehouse in
     absurd (cc (free, taken))

@@ -8,7 +8,7 @@ use Rattle.sqlite_trees.specs.declared.memory.MemStore.{MemStore}
 use Rattle.wh_history.specs.Accepted.{Accepted}
 use Rattle.wh_history.specs.Tables.{Limits}
 use Rattle.wh_rows.specs.AtRest.{AreTrees, IsAtRest}
-use Rattle.wh_plan.specs.Sound.{IsAccepted}
+use Rattle.wh_engine.specs.Admission.{AreAdmitted}
 use Rattle.wh_engine.specs.Answered as engine
 
 -- What a database holds: no object at all, or the tables of a warehouse that was made with these limits and has accepted these commands.
@@ -25,7 +25,7 @@ pub data Standing : Type 0 where
 -- the connection is at rest with the content
 abbrev pub IsAt : Content → State → Type 0
 IsAt Nothing s = IsAtRest None s
-IsAt (Holds limits commands) s = IsAccepted limits commands × engine.Rests limits commands s
+IsAt (Holds limits commands) s = AreAdmitted limits commands × engine.Rests limits commands s
 
 -- the trees are those of a database with the content
 abbrev pub HasTrees : Content → Trees → Type 0

@@ -4,7 +4,7 @@ use Rattle.sqlite.specs.Files.{file_state}
 use Rattle.sqlite.specs.State.{HasCleanDisk}
 use Rattle.wh_engine.specs.Admission.{accepted_after}
 use Rattle.wh_engine.proofs.Redelivered.{answered_leaves, from_before, from_after}
-use Rattle.wh_engine.proofs.StaysAccepted.{stays_accepted}
+use Rattle.wh_engine.proofs.Admitted.{admitted_after}
 use Rattle.wh_engine.proofs.reopen.redeliver.Goals as goal
 
 pub returns : goal.returns
@@ -17,8 +17,8 @@ returns g c limits commands ready clean =
     let opened : HasCleanDisk (file_state again.tables.conn) = c.apply-answer.ensures.clean clean in
     let told = c.apply.ensures.answered (c.in-Ok.ensures.clean opened) limits commands ready in
     let left = answered_leaves limits commands command c.apply.result stopped.session (file_state stopped.tables.conn) told in
-    let accepted = stays_accepted limits commands command ready.accepted in
-    ∥∥₁_map (c.in-Ok.ensures.ready limits commands after ready.accepted accepted left opened) (λ which. elim which [
+    let admitted = admitted_after limits commands command ready.admitted in
+    ∥∥₁_map (c.in-Ok.ensures.ready limits commands after ready.admitted admitted left opened) (λ which. elim which [
       | inl first ↦ from_before limits commands command c.apply-answer.result last.session (file_state last.tables.conn) (c.apply-answer.ensures.answered clean limits commands first)
       | inr second ↦ from_after limits commands command c.apply-answer.result last.session (file_state last.tables.conn) (c.apply-answer.ensures.answered clean limits after second)
     ])

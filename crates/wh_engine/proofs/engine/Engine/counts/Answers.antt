@@ -1,5 +1,6 @@
 use Rattle.sqlite.specs.Held.{state}
 use Rattle.wh_engine.proofs.FoundCounts.{counted}
+use Rattle.wh_engine.proofs.Admitted.{admitted_sound}
 use Rattle.wh_engine.proofs.engine.Engine.counts.Goals as goal
 
 pub returns-clause-counted : goal.returns-clause-counted
@@ -9,4 +10,4 @@ returns-clause-counted g c clean limits commands ready =
     let t = ready.rests.tables in
     let rests = ready.rests.rests in
     rw c.stops-self.ensures (counted limits commands c.args.self.now.session old new ready c.counts_of-counts.result
-    (c.counts_of-counts.ensures.counts clean limits commands t ready.rests.are ready.accepted rests) (c.counts_of-counts.ensures.reads.same clean t rests) (c.counts_of-counts.ensures.reads.left clean t rests))
+    (c.counts_of-counts.ensures.counts clean limits commands t ready.rests.are (admitted_sound limits commands ready.admitted) rests) (c.counts_of-counts.ensures.reads.same clean t rests) (c.counts_of-counts.ensures.reads.left clean t rests))

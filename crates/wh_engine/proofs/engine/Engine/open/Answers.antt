@@ -4,6 +4,7 @@ use Rattle.wh_sql.specs.Present.{are_all_there}
 use Rattle.wh_sql.proofs.Worked.{all_of_a_warehouse}
 use Rattle.wh_engine.proofs.OpenedTables.{format_known, not_opened, opened_ready, opened_refused}
 use Rattle.wh_engine.proofs.OpenedStored.{format_refused, session_refused}
+use Rattle.wh_engine.proofs.Admitted.{admitted_sound}
 use Rattle.wh_engine.proofs.engine.Engine.open.Goals as goal
 
 pub returns-in-Err-clause-fault : goal.returns-in-Err-clause-fault
@@ -13,7 +14,8 @@ returns-in-Err-clause-fault g c clean t rests =
     not_opened t (state g.S.Store c.args.conn) (state g.S.Store c.in-Err.conn) c.in-Err.fault (c.in-Err.ensures.refused clean t rests all_there) (reads.left clean t rests) (reads.same clean t rests)
 
 pub returns-in-Err-clause-refused : goal.returns-in-Err-clause-refused
-returns-in-Err-clause-refused g c clean limits commands accepted rests =
+returns-in-Err-clause-refused g c clean limits commands admitted rests =
+    let accepted = admitted_sound limits commands admitted in
     let t = rests.tables in
     let new = state g.S.Store c.in-Err.conn in
     let all_there = ap are_all_there rests.rests.now.schema ∙ all_of_a_warehouse in
@@ -29,12 +31,13 @@ returns-in-Ok-session_of-clause-found g c clean t rests =
     (format_known t taken ∙ read.0, read.1)
 
 pub returns-in-Ok-session_of-clause-ready : goal.returns-in-Ok-session_of-clause-ready
-returns-in-Ok-session_of-clause-ready g c clean limits commands accepted rests =
+returns-in-Ok-session_of-clause-ready g c clean limits commands admitted rests =
+    let accepted = admitted_sound limits commands admitted in
     let before = c.session_of.ensures.reads.clean clean in
     let taken = c.in-Ok.ensures.taken before rests.tables rests.rests in
     let still = c.in-Ok.ensures.reads.same before rests.tables rests.rests tt in
     let read = c.in-Ok-session_of.ensures.read clean rests.tables still in
-    opened_ready limits commands rests.tables accepted rests.are c.in-Ok-session_of.session (state g.S.Store c.session_of.new.tables.conn) (format_known rests.tables taken ∙ read.0) read.1
+    opened_ready limits commands rests.tables accepted rests.are admitted c.in-Ok-session_of.session (state g.S.Store c.session_of.new.tables.conn) (format_known rests.tables taken ∙ read.0) read.1
 
 pub returns-in-Err-session_of-clause-fault : goal.returns-in-Err-session_of-clause-fault
 returns-in-Err-session_of-clause-fault g c clean t rests =
@@ -45,7 +48,8 @@ returns-in-Err-session_of-clause-fault g c clean t rests =
     rw (c.close.ensures, format_known t taken) read
 
 pub returns-in-Err-session_of-clause-refused : goal.returns-in-Err-session_of-clause-refused
-returns-in-Err-session_of-clause-refused g c clean limits commands accepted rests =
+returns-in-Err-session_of-clause-refused g c clean limits commands admitted rests =
+    let accepted = admitted_sound limits commands admitted in
     let t = rests.tables in
     let here = rw c.close.ensures at clean in
     let taken = c.in-Ok.ensures.taken (c.session_of.ensures.reads.clean here) t rests.rests in
