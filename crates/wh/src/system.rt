@@ -2,7 +2,7 @@
 
 ghost use Rattle.std.specs.Prelude.{IsTrue};
 
-use sqlite::{Connection, Error, ErrorCode, FileStore, Files, Options, Unknown};
+use sqlite::{Alter, Connection, Error, ErrorCode, FileStore, Files, Options, Unknown};
 use sqlite_disk::Disk;
 use sqlite_std_file::{File as DatabaseFile, OpenError};
 use std::alloc::Global;
@@ -117,6 +117,24 @@ fn visited<D: Disk + Drop, V: Visitor>(
     output
 }
 
+/// What a visitor answers over a connection that nothing keeps.
+fn visited_once<S: Alter + Drop, V: Visitor>(
+    alloc: Global,
+    connection: Connection<S>,
+    visitor: V,
+) -> V::Output {
+    let (output, _) = visitor.visit(alloc, connection);
+    output
+}
+
+/// Whether no file has the name.
+fn is_missing(runtime: &HostRuntime, name: &str) -> bool {
+    match fs::metadata(runtime, name) {
+        Ok(_) => false,
+        Err(error) => matches!(error.kind(), io::ErrorKind::NotFound),
+    }
+}
+
 /// All bytes of a file.
 fn bytes_of(runtime: &HostRuntime, alloc: Global, path: &str) -> io::Result<Vec<u8>> {
     let mut file = File::open(runtime, path)?;
@@ -142,6 +160,21 @@ impl Host for SystemHost<'_> {
         match connect(self.runtime, name) {
             Ok(connection) => Ok(visited(alloc, connection, visitor)),
             Err(error) => Err(error),
+        }
+    }
+
+    fn with_existing<V: Visitor>(
+        &mut self,
+        alloc: Global,
+        name: &str,
+        visitor: V,
+    ) -> Result<V::Output, HostError> {
+        if !is_missing(self.runtime, name) {
+            return self.with_connection(alloc, name, visitor);
+        }
+        match Connection::open_in_memory(alloc) {
+            Ok(connection) => Ok(visited_once(alloc, connection, visitor)),
+            Err(_) => Err(HostError::Memory),
         }
     }
 }

@@ -52,8 +52,21 @@ pub trait Host {
         ensures err { IfErr result (λ e. e ≡ NoFile → holds self.now path.now None) };
 
     /// Lends a visitor the connection of the warehouse under a name, and takes it back. Where no file has the name, the
-    /// connection is that of an empty one.
+    /// connection is that of a new one.
     fn with_connection<V: Visitor>(
+        &mut self,
+        alloc: Global,
+        name: &str,
+        visitor: V,
+    ) -> Result<V::Output, HostError>
+        ensures visited { (content : Content) → stores self.old name.now (Rests content)
+            → IfOk result (λ output. (after : Standing) × V.promises visitor content output after × stores self.new name.now after) }
+        ensures not_visited { OnErr result ((any : List ℕ) (standing : Standing) → stores self.old any standing → stores self.new any standing) }
+        ensures others { (other : List ℕ) (standing : Standing) → other ≢ name.now → stores self.old other standing → stores self.new other standing };
+
+    /// The same for a visitor that makes no warehouse. Where no file has the name, the connection is that of an empty database in
+    /// memory, and no file is made.
+    fn with_existing<V: Visitor>(
         &mut self,
         alloc: Global,
         name: &str,

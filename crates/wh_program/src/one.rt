@@ -94,4 +94,14 @@ impl Host for OneHost<'_> {
         self.connection = Some(connection);
         Ok(output)
     }
+
+    // A connection in memory is no file, whoever asks for it.
+    fn with_existing<V: Visitor>(
+        &mut self,
+        alloc: Global,
+        name: &str,
+        visitor: V,
+    ) -> Result<V::Output, HostError> {
+        self.with_connection(alloc, name, visitor)
+    }
 }

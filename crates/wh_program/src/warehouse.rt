@@ -152,7 +152,7 @@ pub fn load<H: Host>(
         bytes: Bytes::from_slice(alloc, &batch)?,
     };
     let room = room_for_receipt(alloc, id)?;
-    let visit = host.with_connection(alloc, file, Loading { command, room });
+    let visit = host.with_existing(alloc, file, Loading { command, room });
     answered(alloc, file, visit)
 }
 
@@ -160,6 +160,6 @@ pub fn load<H: Host>(
 pub fn status<H: Host>(alloc: Global, file: &str, host: &mut H) -> Result<Answer, AllocError>
     ensures { (content : Content) → H.stores host.old file.now (Rests content) → AnswersStatus (H.stores host.new file.now) content file.now result }
 {
-    let visit = host.with_connection(alloc, file, Counting);
+    let visit = host.with_existing(alloc, file, Counting);
     answered(alloc, file, visit)
 }
