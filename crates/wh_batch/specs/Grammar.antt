@@ -16,7 +16,7 @@ pub record WritesLine (text : List ℕ) (n : ℕ) : Type 0 where
   pub digits : WritesDigits 1 4 text n
   pub positive : 1 ≤ n
 
--- an amount without a sign, in hundredths: a whole number, or with a point and one or two digits behind it
+-- an amount without a sign, in hundredths: a whole number, or with a point and one or two digits after it
 pub data WritesHundredths : List ℕ → ℕ → Type 0 where
   whole : (text : List ℕ) (n : ℕ) → WritesDigits 1 7 text n → WritesHundredths text (100 * n)
   tenths : (text part : List ℕ) (n m : ℕ) → WritesDigits 1 7 text n → WritesDigits 1 1 part m → WritesHundredths (text ++ 46 ∷ part) (100 * n + 10 * m)

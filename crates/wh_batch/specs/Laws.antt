@@ -19,7 +19,7 @@ abbrev pub OneRecordMore : {R : Type 0} → Layout R → Type 0
 OneRecordMore layout = (rows : Table) (row : List (List ℕ))
     → records_after layout [] 1 (rows ++ row ∷ []) ≡ (records_after layout [] 1 rows >>= λ before. with_last layout before (length rows + 1) row)
 
--- The bytes are a good batch of these records, told without an order of work: they aren't too many, the first row is the
+-- The bytes are a good batch of these records, said without an order of work: they aren't too many, the first row is the
 -- header, few enough rows follow, each writes its record, no two records have one key, and the calendar has their days.
 pub record IsBatch {R : Type 0} (layout : Layout R) (bytes : List ℕ) (entries : List R) : Type 0 where
   pub size : length bytes ≤ 1000000

@@ -11,7 +11,7 @@ use Rattle.wh_batch.specs.Fields.{or_fault}
 unfoldable pub read_digits : ℕ → List ℕ → Option ℕ
 read_digits most text = if nat_le 1 (length text) && nat_le (length text) most && list_all is_ascii_digit text then Some (digits_value 10 text) else None
 
--- the hundredths behind a point: one or two digits
+-- the hundredths after a point: one or two digits
 unfoldable pub read_fraction : List ℕ → Option ℕ
 read_fraction text = if length text == 1 then option_map (λ n. 10 * n) (read_digits 1 text) else read_digits 2 text
 
@@ -24,7 +24,7 @@ abbrev pub hundredths_at : List ℕ → Option ℕ → Option ℕ
 hundredths_at text None = option_map (λ n. 100 * n) (read_digits 7 text)
 hundredths_at text (Some i) = option_and_then (λ whole. option_map (λ part. 100 * whole + part) (read_fraction (drop (i + 1) text))) (read_digits 7 (take i text))
 
--- the hundredths that one up to seven digits write, with nothing behind them or a point and one or two digits
+-- the hundredths that one up to seven digits write, with nothing after them or a point and one or two digits
 unfoldable pub read_hundredths : List ℕ → Option ℕ
 read_hundredths text = hundredths_at text (position is_point text)
 

@@ -57,7 +57,7 @@ impl Keys {
         })
     }
 
-    /// Adds a key, and tells whether it is new.
+    /// Adds a key, and answers whether it is new.
     pub(crate) fn insert(&mut self, key: RecordKey) -> Result<bool, AllocError>
         ensures added { IfOk result (λ added. added ≡ not (list_any (is_same_key (key_of key)) self.old)) }
         ensures keys { IfOk result (λ added. self.new ≡ (if added then self.old ++ key_of key ∷ [] else self.old)) }

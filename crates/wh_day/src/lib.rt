@@ -16,4 +16,4 @@ pub use error::ReadError;
 pub use holiday::{Holiday, Holidays};
 pub use natural_key::{NaturalKey, is_key};
 pub use value::Value;
-pub use values::Values;
+pub use values::{Values, are_same};

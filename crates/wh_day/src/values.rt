@@ -66,7 +66,8 @@ impl Values {
     }
 }
 
-fn are_same(texts: &[Value], others: &[Value]) -> bool
+/// Whether the texts are the same, one by one.
+pub fn are_same(texts: &[Value], others: &[Value]) -> bool
     ensures { result ≡ are_same texts.now others.now }
 {
     if texts.len() != others.len() {

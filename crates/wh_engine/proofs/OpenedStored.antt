@@ -10,7 +10,7 @@ use Rattle.wh_rows.specs.Raw.{Stored, AreRows}
 use Rattle.wh_rows.specs.declared.cause.Cause.{Cause}
 use Rattle.wh_rows.specs.declared.table.Table.TheVariants as tables
 use Rattle.wh_rows.specs.declared.rows.CommandRow.{CommandRow}
-use Rattle.wh_sql.specs.Reads.{ReadsOnly, Spares, IsOfDamage, SparesStore as RefusesNothing}
+use Rattle.wh_store.specs.Reads.{ReadsOnly, Spares, IsOfDamage, SparesStore as RefusesNothing}
 use Rattle.wh_sql.specs.declared.fault.ReadFault.{ReadFault}
 use Rattle.wh_sql.specs.declared.fault.ReadFault.TheVariants as reading
 use Rattle.wh_store.specs.Opening.{SparesStore, unread}

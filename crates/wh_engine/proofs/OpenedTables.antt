@@ -18,7 +18,7 @@ use Rattle.wh_rows.specs.declared.rows.MetaRow.{MetaRow}
 use Rattle.wh_store.specs.Meta.{number_of, number_in, fault_of, limits_in}
 use Rattle.wh_store.specs.Opening.{SparesStore, IsTaken, IsRefusedWith, unread}
 use Rattle.wh_rows.specs.declared.table.Table.{Table}
-use Rattle.wh_sql.specs.Reads.{SparesRows, SparesStore as RefusesNothing}
+use Rattle.wh_store.specs.Reads.{SparesRows, SparesStore as RefusesNothing}
 use Rattle.wh_sql.specs.declared.fault.ReadFault.{ReadFault}
 use Rattle.wh_sql.specs.declared.fault.ReadFault.TheVariants as reading
 use Rattle.wh_store.specs.declared.fault.OpenFault.{OpenFault}

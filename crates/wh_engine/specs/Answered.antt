@@ -1,4 +1,4 @@
--- What a warehouse holds behind a call, by its answer.
+-- What a warehouse holds after a call, by its answer.
 use Rattle.std.specs.Prelude.{◌≡◌, ◌⊎◌, false, List, length, Some, Result, Ok, Err, IsTrue, ⊤}
 use Rattle.sqlite.specs.Tree.{Trees}
 use Rattle.sqlite.specs.State.{State}

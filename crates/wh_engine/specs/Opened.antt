@@ -17,7 +17,7 @@ use Rattle.wh_rows.specs.Raw.{Stored, AreRows, HasDamage}
 use Rattle.wh_rows.specs.Questions.{has_id}
 use Rattle.wh_rows.specs.declared.rows.CommandRow.{CommandRow}
 use Rattle.wh_rows.specs.declared.table.Table.TheVariants as tables
-use Rattle.wh_sql.specs.Asked.{same_text}
+use Rattle.wh_store.specs.Reads.{same_text}
 use Rattle.wh_store.specs.Meta.{number_in, fault_of, limits_in}
 use Rattle.wh_store.specs.Raw.{FormatIs, LimitsAre, IsRefusedOn, IsLimitless}
 use Rattle.wh_sql.specs.declared.fault.ReadFault.TheVariants as reading

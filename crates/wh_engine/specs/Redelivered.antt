@@ -1,4 +1,4 @@
--- What a warehouse holds behind a command that was sent, and sent again after a crash.
+-- What a warehouse holds after a command that was sent, and sent again after a crash.
 use Rattle.std.specs.Prelude.{◌≡◌, ◌⊎◌, List, Result, Ok, Err}
 use Rattle.sqlite.specs.State.{State}
 use Rattle.wh_history.specs.Accepted.{Accepted}
@@ -13,12 +13,12 @@ use Rattle.wh_engine.specs.declared.fault.Fault.{Fault}
 use Rattle.wh_engine.specs.declared.fault.Fault.TheVariants.{Refused, Memory, Store}
 use Rattle.wh_engine.specs.declared.session.Session.{Session}
 
--- the receipt that a reply tells
+-- the receipt of a reply
 abbrev pub receipt_told : Reply → Receipt
 receipt_told (Accepts receipt) = receipt
 receipt_told (Already receipt) = receipt
 
--- A reply to the second tells the receipt that the first is told where nothing stops it.
+-- A reply to the second has the receipt of the first where nothing stops it.
 pub record HasReceipt (limits : Limits) (commands : List Accepted) (c : Command) (reply : Reply) : Type 0 where
   pub first : Reply
   pub said : answer limits commands c ≡ Ok first

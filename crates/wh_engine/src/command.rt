@@ -13,7 +13,7 @@ pub struct Command {
     pub bytes: Bytes,
 }
 
-/// What an accepted command is told, now and whenever it comes again.
+/// What an accepted command is answered, now and whenever it comes again.
 #[derive(Clone, Copy, Debug, PartialEq, Eq)]
 pub struct Receipt {
     /// Its number among the accepted commands, from 1. The making has the number 1.

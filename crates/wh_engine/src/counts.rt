@@ -5,9 +5,8 @@ ghost use Rattle.sqlite.specs.State.{HasCleanDisk};
 ghost use Rattle.wh_history.specs.Accepted.{Accepted, members};
 ghost use Rattle.wh_history.specs.Tables.{Limits};
 ghost use Rattle.wh_rows.specs.AtRest.{IsAtRest};
-ghost use Rattle.wh_sql.specs.Reads.{Spares};
-ghost use Rattle.wh_store.specs.Reads.{state_of};
-ghost use Rattle.wh_rows.specs.Tables.{Tables as Rows};
+ghost use Rattle.wh_store.specs.Reads.{Spares, state_of};
+ghost use Rattle.wh_rows.specs.Tables.{Tables as TenTables};
 ghost use Rattle.wh_rows.specs.Raw.{Stored, RestsOn};
 ghost use Rattle.wh_engine.specs.Answered.{IsReady, IsCounted, counts_of};
 ghost use Rattle.wh_plan.specs.Defined.{AreOf};
@@ -40,7 +39,7 @@ pub struct Counts {
 /// How many members a dimension has.
 fn members_of<S: Alter>(tables: &mut Tables<S>, alloc: Global, dim: Dim) -> Result<u64, Fault>
     ensures reads { Spares (state_of S.Store tables.old) (state_of S.Store tables.new) (IsServed result) }
-    ensures members { HasCleanDisk (state_of S.Store tables.new) → (limits : Limits) (commands : List Accepted) (t : Rows) → AreOf limits commands t → IsAtRest (Some t) (state_of S.Store tables.old)
+    ensures members { HasCleanDisk (state_of S.Store tables.new) → (limits : Limits) (commands : List Accepted) (t : TenTables) → AreOf limits commands t → IsAtRest (Some t) (state_of S.Store tables.old)
         → Judges (λ count told. count ≡ told) result (Ok (length (members dim commands))) }
     ensures work { IsWorkedOut result }
 {
@@ -51,7 +50,7 @@ fn members_of<S: Alter>(tables: &mut Tables<S>, alloc: Global, dim: Dim) -> Resu
 /// The rows that are there.
 fn counts_of<S: Alter>(tables: &mut Tables<S>, alloc: Global) -> Result<Counts, Fault>
     ensures reads { Spares (state_of S.Store tables.old) (state_of S.Store tables.new) (IsServed result) }
-    ensures counts { HasCleanDisk (state_of S.Store tables.new) → (limits : Limits) (commands : List Accepted) (t : Rows) → AreOf limits commands t → IsAccepted limits commands → IsAtRest (Some t) (state_of S.Store tables.old)
+    ensures counts { HasCleanDisk (state_of S.Store tables.new) → (limits : Limits) (commands : List Accepted) (t : TenTables) → AreOf limits commands t → IsAccepted limits commands → IsAtRest (Some t) (state_of S.Store tables.old)
         → Judges (λ counts told. counts ≡ told) result (Ok (counts_of commands)) }
     ensures work { IsWorkedOut result }
 {
@@ -78,7 +77,7 @@ impl<S: Alter> Engine<S> {
         ensures clean { HasCleanDisk (state_of S.Store self.new.tables) → HasCleanDisk (state_of S.Store self.old.tables) }
         ensures counted { HasCleanDisk (state_of S.Store self.new.tables) → (limits : Limits) (commands : List Accepted) → IsReady limits commands self.old.session (state_of S.Store self.old.tables)
             → IsCounted limits commands result self.new.session (state_of S.Store self.new.tables) }
-        ensures untouched { HasCleanDisk (state_of S.Store self.new.tables) → (t : Rows) → IsAtRest (Some t) (state_of S.Store self.old.tables) → IsServed result → IsAtRest (Some t) (state_of S.Store self.new.tables) }
+        ensures untouched { HasCleanDisk (state_of S.Store self.new.tables) → (t : TenTables) → IsAtRest (Some t) (state_of S.Store self.old.tables) → IsServed result → IsAtRest (Some t) (state_of S.Store self.new.tables) }
         ensures untouched_stored { HasCleanDisk (state_of S.Store self.new.tables) → (stored : Stored) → RestsOn stored (state_of S.Store self.old.tables) → IsServed result → RestsOn stored (state_of S.Store self.new.tables) }
         ensures reopen { IsTrue self.old.session.must_reopen → (result ≡ Err Fault.Reopen) × (self.new.tables ≡ self.old.tables) × (self.new.session ≡ self.old.session) }
         ensures only { result ≡ Err Fault.Reopen → IsTrue self.old.session.must_reopen }

@@ -9,8 +9,7 @@ ghost use Rattle.wh_engine.specs.Admission.{answer, content_of, first_line_there
 ghost use Rattle.wh_engine.specs.Decided.{records_told, sales_told, row_of_batch, IsNew, reply_to_known, Decides};
 ghost use Rattle.wh_plan.specs.Defined.{command_at};
 ghost use Rattle.wh_engine.specs.Faults.{IsServed, IsWorkedOut, Judges};
-ghost use Rattle.wh_sql.specs.Reads.{ReadsOnly, Spares};
-ghost use Rattle.wh_store.specs.Reads.{state_of};
+ghost use Rattle.wh_store.specs.Reads.{ReadsOnly, Spares, state_of};
 ghost use Rattle.wh_engine.specs.Serving.{Works};
 ghost use Rattle.wh_plan.specs.Edits.{AreEdits};
 ghost use Rattle.wh_plan.specs.Reads.{Finds};

@@ -3,9 +3,9 @@
 ghost use Rattle.std.specs.Prelude.{◌≡◌, List, false, Some, Err, IsTrue};
 ghost use Rattle.sqlite.specs.State.{HasCleanDisk};
 ghost use Rattle.wh_history.specs.Accepted.{Accepted};
-ghost use Rattle.wh_history.specs.Tables.{Limits as Counts};
+ghost use Rattle.wh_history.specs.Tables.{Limits as LimitCounts};
 ghost use Rattle.wh_rows.specs.AtRest.{IsAtRest};
-ghost use Rattle.wh_rows.specs.Tables.{Tables as Rows};
+ghost use Rattle.wh_rows.specs.Tables.{Tables as TenTables};
 ghost use Rattle.wh_rows.specs.Raw.{Stored, RestsOn};
 ghost use Rattle.wh_store.specs.Reads.{state_of};
 ghost use Rattle.wh_engine.specs.Answered.{IsReady, IsAnswered, IsPerformed, KeepsNothing};
@@ -36,9 +36,9 @@ fn perform<S: Alter>(
     command: &Command,
 ) -> Result<Reply, Fault>
     ensures clean { HasCleanDisk (state_of S.Store tables.new) → HasCleanDisk (state_of S.Store tables.old) }
-    ensures performed { HasCleanDisk (state_of S.Store tables.new) → (limits : Counts) (commands : List Accepted) → IsReady limits commands session.now (state_of S.Store tables.old)
+    ensures performed { HasCleanDisk (state_of S.Store tables.new) → (limits : LimitCounts) (commands : List Accepted) → IsReady limits commands session.now (state_of S.Store tables.old)
         → IsPerformed limits commands command.now result session.now (state_of S.Store tables.new) }
-    ensures untouched { HasCleanDisk (state_of S.Store tables.new) → (t : Rows) → IsAtRest (Some t) (state_of S.Store tables.old) → KeepsNothing result → IsAtRest (Some t) (state_of S.Store tables.new) }
+    ensures untouched { HasCleanDisk (state_of S.Store tables.new) → (t : TenTables) → IsAtRest (Some t) (state_of S.Store tables.old) → KeepsNothing result → IsAtRest (Some t) (state_of S.Store tables.new) }
     ensures untouched_stored { HasCleanDisk (state_of S.Store tables.new) → (stored : Stored) → RestsOn stored (state_of S.Store tables.old) → KeepsNothing result → RestsOn stored (state_of S.Store tables.new) }
     ensures work { IsWorkedOut result }
 {
@@ -71,10 +71,10 @@ impl<S: Alter> Engine<S> {
     /// refusal of the store every call answers `Reopen`.
     pub fn apply(&mut self, alloc: Global, command: &Command) -> Result<Reply, Fault>
         ensures clean { HasCleanDisk (state_of S.Store self.new.tables) → HasCleanDisk (state_of S.Store self.old.tables) }
-        ensures answered { HasCleanDisk (state_of S.Store self.new.tables) → (limits : Counts) (commands : List Accepted) → IsReady limits commands self.old.session (state_of S.Store self.old.tables)
+        ensures answered { HasCleanDisk (state_of S.Store self.new.tables) → (limits : LimitCounts) (commands : List Accepted) → IsReady limits commands self.old.session (state_of S.Store self.old.tables)
             → IsAnswered limits commands command.now result self.new.session (state_of S.Store self.new.tables) }
         // Any tables stay as they were, where nothing was accepted, and any rows, whoever wrote them.
-        ensures untouched { HasCleanDisk (state_of S.Store self.new.tables) → (t : Rows) → IsAtRest (Some t) (state_of S.Store self.old.tables) → KeepsNothing result → IsAtRest (Some t) (state_of S.Store self.new.tables) }
+        ensures untouched { HasCleanDisk (state_of S.Store self.new.tables) → (t : TenTables) → IsAtRest (Some t) (state_of S.Store self.old.tables) → KeepsNothing result → IsAtRest (Some t) (state_of S.Store self.new.tables) }
         ensures untouched_stored { HasCleanDisk (state_of S.Store self.new.tables) → (stored : Stored) → RestsOn stored (state_of S.Store self.old.tables) → KeepsNothing result → RestsOn stored (state_of S.Store self.new.tables) }
         ensures reopen { IsTrue self.old.session.must_reopen → (result ≡ Err Fault.Reopen) × (self.new.tables ≡ self.old.tables) × (self.new.session ≡ self.old.session) }
         ensures only { result ≡ Err Fault.Reopen → IsTrue self.old.session.must_reopen }

@@ -3,7 +3,7 @@
 ghost use Rattle.std.specs.Prelude.{◌≡◌, None, Some, [], ◌∷◌, IfOk, OnOk};
 ghost use Rattle.sqlite.specs.State.{HasCleanDisk};
 ghost use Rattle.wh_rows.specs.AtRest.{IsWriting, Leaves};
-ghost use Rattle.wh_rows.specs.Tables.{Tables as Rows};
+ghost use Rattle.wh_rows.specs.Tables.{Tables as TenTables};
 ghost use Rattle.wh_store.specs.Reads.{state_of};
 ghost use Rattle.wh_store.specs.Writes.{WritesOnly, Makes};
 ghost use Rattle.wh_plan.specs.Defined.{AreOf};
@@ -118,7 +118,7 @@ pub fn write_making<S: Alter>(
     ensures same_reference { writing.new.tables.ghost_name ≡ writing.old.tables.ghost_name }
     ensures clean { HasCleanDisk (state_of S.Store writing.new.tables.now) → HasCleanDisk (state_of S.Store writing.old.tables.now) }
     ensures made { HasCleanDisk (state_of S.Store writing.new.tables.now) → IsWriting None None (state_of S.Store writing.old.tables.now) → IsGoodPolicy policy.now
-        → OnOk result ((t : Rows) × AreOf limits (making_of policy.now bytes.now ∷ []) t × IsWriting None (Some t) (state_of S.Store writing.new.tables.now)) }
+        → OnOk result ((t : TenTables) × AreOf limits (making_of policy.now bytes.now ∷ []) t × IsWriting None (Some t) (state_of S.Store writing.new.tables.now)) }
     ensures left { HasCleanDisk (state_of S.Store writing.new.tables.now) → IsWriting None None (state_of S.Store writing.old.tables.now) → IsGoodPolicy policy.now
         → Leaves None (state_of S.Store writing.new.tables.now) }
 {

@@ -5,15 +5,13 @@ ghost use Rattle.sqlite.specs.Held.{state};
 ghost use Rattle.sqlite.specs.State.{HasCleanDisk};
 ghost use Rattle.wh_policy.specs.Policy.{policy_at};
 ghost use Rattle.wh_history.specs.Accepted.{Accepted};
-ghost use Rattle.wh_history.specs.Tables.{Limits as Counts};
+ghost use Rattle.wh_history.specs.Tables.{Limits as LimitCounts};
 ghost use Rattle.wh_rows.specs.AtRest.{IsAtRest};
-ghost use Rattle.wh_rows.specs.Tables.{Tables as Rows};
-ghost use Rattle.wh_sql.specs.Present.{is_any_taken, are_all_there};
-ghost use Rattle.wh_store.specs.Reads.{state_of, SaysAsStored};
+ghost use Rattle.wh_rows.specs.Tables.{Tables as TenTables};
+ghost use Rattle.wh_store.specs.Reads.{is_any_taken, are_all_there, state_of, SaysAsStored, Spares};
 ghost use Rattle.wh_store.specs.Opening.{IsServed, SparesStore};
 ghost use Rattle.wh_store.specs.Raw.{FormatIs};
 ghost use Rattle.wh_rows.specs.Raw.{Stored, RestsOn, LeavesStored};
-ghost use Rattle.wh_sql.specs.Reads.{Spares};
 ghost use Rattle.wh_engine.specs.Answered.{Rests, IsReady};
 ghost use Rattle.wh_plan.specs.FirstRows.{making_of, IsGoodPolicy};
 ghost use Rattle.wh_engine.specs.Opened.{of_making, making_in, session_in, opened, IsTold, IsRead, PolicyIs, IsPolicyless, SessionIs, IsSessionless, IsUnopened, IsNotOpened, LeavesMaking, IsNotMade, NothingIsWritten, LeavesMade};
@@ -80,7 +78,7 @@ fn policy_of(alloc: Global, makings: &[CommandRow]) -> Result<Policy, OpenFault>
 /// The policy in force, which is that of the making.
 fn policy_in<S: Alter>(tables: &mut Tables<S>, alloc: Global) -> Result<Policy, OpenFault>
     ensures reads { Spares (state_of S.Store tables.old) (state_of S.Store tables.new) (IsServed result) }
-    ensures read { HasCleanDisk (state_of S.Store tables.new) → (t : Rows) → IsAtRest (Some t) (state_of S.Store tables.old) → IsRead result (of_making (making_in t)) t (state_of S.Store tables.new) }
+    ensures read { HasCleanDisk (state_of S.Store tables.new) → (t : TenTables) → IsAtRest (Some t) (state_of S.Store tables.old) → IsRead result (of_making (making_in t)) t (state_of S.Store tables.new) }
     // The same of any rows, whoever wrote them: by those of the making's id.
     ensures stored { SaysAsStored (state_of S.Store tables.old) (state_of S.Store tables.new) (λ stored. IfOk result (λ policy. PolicyIs stored (Ok policy))) }
     ensures policyless { SaysAsStored (state_of S.Store tables.old) (state_of S.Store tables.new) (λ stored. IfErr result (IsPolicyless stored)) }
@@ -93,7 +91,7 @@ fn policy_in<S: Alter>(tables: &mut Tables<S>, alloc: Global) -> Result<Policy, 
 /// What an engine has to know of its warehouse.
 fn session_of<S: Alter>(tables: &mut Tables<S>, alloc: Global) -> Result<Session, OpenFault>
     ensures reads { Spares (state_of S.Store tables.old) (state_of S.Store tables.new) (IsServed result) }
-    ensures read { HasCleanDisk (state_of S.Store tables.new) → (t : Rows) → IsAtRest (Some t) (state_of S.Store tables.old) → IsRead result (session_in t) t (state_of S.Store tables.new) }
+    ensures read { HasCleanDisk (state_of S.Store tables.new) → (t : TenTables) → IsAtRest (Some t) (state_of S.Store tables.old) → IsRead result (session_in t) t (state_of S.Store tables.new) }
     // The same of any rows, whoever wrote them: by the limits, and then by the rows of the making's id.
     ensures stored { SaysAsStored (state_of S.Store tables.old) (state_of S.Store tables.new) (λ stored. IfOk result (SessionIs stored)) }
     ensures sessionless { SaysAsStored (state_of S.Store tables.old) (state_of S.Store tables.new) (λ stored. IfErr result (IsSessionless stored)) }
@@ -153,13 +151,13 @@ impl<S: Alter> Engine<S> {
     /// Opens the warehouse of a connection. A refusal hands the connection back.
     pub fn open(alloc: Global, conn: Connection<S>) -> Result<Engine<S>, (OpenFault, Connection<S>)>
         ensures clean { IfOk result (λ engine. HasCleanDisk (state_of S.Store engine.tables) → HasCleanDisk (state S.Store conn)) }
-        ensures ready { IfOk result (λ engine. HasCleanDisk (state_of S.Store engine.tables) → (limits : Counts) (commands : List Accepted) → AreAdmitted limits commands → Rests limits commands (state S.Store conn)
+        ensures ready { IfOk result (λ engine. HasCleanDisk (state_of S.Store engine.tables) → (limits : LimitCounts) (commands : List Accepted) → AreAdmitted limits commands → Rests limits commands (state S.Store conn)
             → IsReady limits commands engine.session (state_of S.Store engine.tables)) }
-        ensures refused { IfErr result (λ e. HasCleanDisk (state S.Store e.1) → (limits : Counts) (commands : List Accepted) → AreAdmitted limits commands → Rests limits commands (state S.Store conn)
+        ensures refused { IfErr result (λ e. HasCleanDisk (state S.Store e.1) → (limits : LimitCounts) (commands : List Accepted) → AreAdmitted limits commands → Rests limits commands (state S.Store conn)
             → IsNotOpened limits commands e.0 (state S.Store e.1)) }
         // The same of any ten tables, whoever wrote their rows, as far as all of these are of their types.
-        ensures found { IfOk result (λ engine. HasCleanDisk (state_of S.Store engine.tables) → (t : Rows) → IsAtRest (Some t) (state S.Store conn) → (opened t ≡ Ok engine.session) × IsAtRest (Some t) (state_of S.Store engine.tables)) }
-        ensures fault { IfErr result (λ e. HasCleanDisk (state S.Store e.1) → (t : Rows) → IsAtRest (Some t) (state S.Store conn) → IsRead (Err e.0) (opened t) t (state S.Store e.1)) }
+        ensures found { IfOk result (λ engine. HasCleanDisk (state_of S.Store engine.tables) → (t : TenTables) → IsAtRest (Some t) (state S.Store conn) → (opened t ≡ Ok engine.session) × IsAtRest (Some t) (state_of S.Store engine.tables)) }
+        ensures fault { IfErr result (λ e. HasCleanDisk (state S.Store e.1) → (t : TenTables) → IsAtRest (Some t) (state S.Store conn) → IsRead (Err e.0) (opened t) t (state S.Store e.1)) }
         // The same of any rows that are stored under the schema of a making: a damaged row that isn't asked for keeps nothing from opening.
         ensures found_stored { IfOk result (λ engine. HasCleanDisk (state_of S.Store engine.tables) → (stored : Stored) → RestsOn stored (state S.Store conn) → FormatIs stored (Ok tt) × SessionIs stored engine.session × RestsOn stored (state_of S.Store engine.tables)) }
         ensures fault_stored { IfErr result (λ e. HasCleanDisk (state S.Store e.1) → (stored : Stored) → RestsOn stored (state S.Store conn) → IsUnopened stored e.0 × LeavesStored stored (state S.Store e.1) × (SparesStore e.0 → RestsOn stored (state S.Store e.1))) }

@@ -4,7 +4,7 @@ ghost use Rattle.std.specs.Prelude.{◌≡◌, ◌⊎◌, List, IfOk};
 ghost use Rattle.sqlite.specs.Files.{file_state};
 ghost use Rattle.sqlite.specs.State.{HasCleanDisk};
 ghost use Rattle.wh_history.specs.Accepted.{Accepted};
-ghost use Rattle.wh_history.specs.Tables.{Limits as Counts};
+ghost use Rattle.wh_history.specs.Tables.{Limits as LimitCounts};
 ghost use Rattle.wh_engine.specs.Answered.{LeavesOneOf, IsReady};
 ghost use Rattle.wh_engine.specs.Redelivered.{IsRedelivered};
 ghost use Rattle.wh_engine.specs.Admission.{AreAdmitted};
@@ -25,7 +25,7 @@ pub fn restart<D: Crash + Drop>(
     options: Options,
 ) -> Result<Engine<FileStore<D>>, OpenFault>
     ensures clean { IfOk result (λ again. HasCleanDisk (file_state again.tables.conn) → HasCleanDisk (file_state engine.tables.conn)) }
-    ensures ready { (limits : Counts) (before after : List Accepted) → AreAdmitted limits before → AreAdmitted limits after → LeavesOneOf limits before after (file_state engine.tables.conn)
+    ensures ready { (limits : LimitCounts) (before after : List Accepted) → AreAdmitted limits before → AreAdmitted limits after → LeavesOneOf limits before after (file_state engine.tables.conn)
         → IfOk result (λ again. HasCleanDisk (file_state again.tables.conn) → ∥ IsReady limits before again.session (file_state again.tables.conn) ⊎ IsReady limits after again.session (file_state again.tables.conn) ∥₁) }
 {
     let conn = match restart_connection(alloc, engine.close(), options) {
@@ -39,14 +39,14 @@ pub fn restart<D: Crash + Drop>(
 }
 
 /// Sends a command, stops the machine whatever was answered, opens the warehouse again and sends the command once more. It has acted once,
-/// and is told the receipt that it is told where nothing stops it.
+/// and is answered with the receipt that it has where nothing stops it.
 pub fn redeliver<D: Crash + Drop>(
     alloc: Global,
     mut engine: Engine<FileStore<D>>,
     command: &Command,
     options: Options,
 ) -> Result<(Result<Reply, Fault>, Engine<FileStore<D>>), OpenFault>
-    ensures { (limits : Counts) (commands : List Accepted) → IsReady limits commands engine.session (file_state engine.tables.conn)
+    ensures { (limits : LimitCounts) (commands : List Accepted) → IsReady limits commands engine.session (file_state engine.tables.conn)
         → IfOk result (λ it. HasCleanDisk (file_state it.1.tables.conn) → ∥ IsRedelivered limits commands command.now it.0 it.1.session (file_state it.1.tables.conn) ∥₁) }
 {
     let _ = engine.apply(alloc, command);

@@ -3,7 +3,7 @@
 ghost use Rattle.std.specs.Prelude.{◌≡◌, ◌⊎◌, Some, OnOk};
 ghost use Rattle.sqlite.specs.State.{HasCleanDisk};
 ghost use Rattle.wh_rows.specs.AtRest.{AreTrees, IsAtRest};
-ghost use Rattle.wh_rows.specs.Tables.{Tables as Rows};
+ghost use Rattle.wh_rows.specs.Tables.{Tables as TenTables};
 ghost use Rattle.wh_store.specs.Reads.{state_of};
 ghost use Rattle.wh_store.specs.Writes.{WritesOnly, Makes};
 ghost use Rattle.wh_plan.specs.Edits.{with_dimensions, with_lists, with_all_edits};
@@ -68,9 +68,9 @@ pub(crate) fn commit_edits<S: Alter>(
     edits: &Edits,
 ) -> Result<(), Cause>
     ensures clean { HasCleanDisk (state_of S.Store tables.new) → HasCleanDisk (state_of S.Store tables.old) }
-    ensures written { HasCleanDisk (state_of S.Store tables.new) → (t : Rows) → IsAtRest (Some t) (state_of S.Store tables.old) → MayBeWritten edits.now
+    ensures written { HasCleanDisk (state_of S.Store tables.new) → (t : TenTables) → IsAtRest (Some t) (state_of S.Store tables.old) → MayBeWritten edits.now
         → OnOk result (IsAtRest (Some (with_all_edits edits.now t)) (state_of S.Store tables.new)) }
-    ensures left { HasCleanDisk (state_of S.Store tables.new) → (t : Rows) → IsAtRest (Some t) (state_of S.Store tables.old) → MayBeWritten edits.now
+    ensures left { HasCleanDisk (state_of S.Store tables.new) → (t : TenTables) → IsAtRest (Some t) (state_of S.Store tables.old) → MayBeWritten edits.now
         → (trees : _) → (state_of S.Store tables.new).may_leave trees → AreTrees (Some t) trees ⊎ AreTrees (Some (with_all_edits edits.now t)) trees }
 {
     let mut writing = tables.begin()?;

@@ -6,11 +6,11 @@ use Rattle.std.specs.Bool.{Decides}
 use Rattle.std.proofs.lemmas.Bool.{lt-ltb}
 use Rattle.std.proofs.lemmas.List.Sums.{sum_by-cons}
 use Rattle.std.proofs.lemmas.Slice.Eq.{bytes_eq-Decides, slice_eq-Decides}
-use Rattle.wh_history.specs.Slots.{texts_eq}
+use Rattle.wh_history.specs.Slots.{are_same}
 
 -- the test of two lists of texts decides whether they are the same
-pub texts_decide : (a b : List (List ℕ)) → Decides (texts_eq a b) (a ≡ b)
-texts_decide a b = slice_eq-Decides bytes_eq-Decides a b (texts_eq a b) refl
+pub texts_decide : (a b : List (List ℕ)) → Decides (are_same a b) (a ≡ b)
+texts_decide a b = slice_eq-Decides bytes_eq-Decides a b (are_same a b) refl
 
 pub or_true : (b : Bool) → (b || true) ≡ true
 or_true true = refl

@@ -5,7 +5,7 @@ use Rattle.std.specs.List.{position_or_len}
 use Rattle.std.proofs.lemmas.Bool.{cases_lt, lt-ltb, le-ltb}
 use Rattle.std.proofs.lemmas.Bool.Decides.{nat_tests}
 use Rattle.wh_history.specs.Keys.{place, after_one}
-use Rattle.wh_history.specs.Slots.{texts_eq}
+use Rattle.wh_history.specs.Slots.{are_same}
 use Rattle.wh_history.specs.Profiles.{profile_number}
 
 module _ {X : Type 0} (same : X → X → Bool) where
@@ -26,14 +26,14 @@ module _ {X : Type 0} (same : X → X → Bool) where
         ]
       ]
 
-pub number_from_position : (combinations : List (List (List ℕ))) (texts : List (List ℕ)) → profile_number combinations texts ≡ option_map (λ n. n + 2) (position (λ c. texts_eq c texts) combinations)
+pub number_from_position : (combinations : List (List (List ℕ))) (texts : List (List ℕ)) → profile_number combinations texts ≡ option_map (λ n. n + 2) (position (λ c. are_same c texts) combinations)
 number_from_position combinations texts =
-    let is = place_is texts_eq texts combinations in
-    elim (cases_lt (position_or_len (λ c. texts_eq c texts) combinations) (length combinations)) [
+    let is = place_is are_same texts combinations in
+    elim (cases_lt (position_or_len (λ c. are_same c texts) combinations) (length combinations)) [
       | inl within ↦
-          let here : place texts_eq texts combinations ≡ suc (position_or_len (λ c. texts_eq c texts) combinations) = is ∙ rw (lt-ltb _ _ within) refl in
+          let here : place are_same texts combinations ≡ suc (position_or_len (λ c. are_same c texts) combinations) = is ∙ rw (lt-ltb _ _ within) refl in
           rw (here, lt-ltb _ _ within) (ap Some (omega arith))
       | inr past ↦
-          let none : place texts_eq texts combinations ≡ 0 = is ∙ rw (le-ltb _ _ past) refl in
+          let none : place are_same texts combinations ≡ 0 = is ∙ rw (le-ltb _ _ past) refl in
           rw (none, le-ltb _ _ past) refl
     ]

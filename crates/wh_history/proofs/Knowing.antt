@@ -8,7 +8,7 @@ use Rattle.wh_policy.specs.declared.attribute.AttributeType.{AttributeType}
 use Rattle.wh_policy.specs.declared.attribute.Dim.{Dim}
 use Rattle.wh_policy.specs.declared.attribute.Dim.TheVariants.{Product, Store, Customer}
 use Rattle.wh_history.specs.Keys.{place, after_one}
-use Rattle.wh_history.specs.Slots.{picks, texts_eq}
+use Rattle.wh_history.specs.Slots.{picks, are_same}
 use Rattle.wh_history.specs.Dated.{dated, newest, at}
 use Rattle.wh_history.specs.Rows.{row, rows_by, rows, spans, starts}
 use Rattle.wh_history.specs.Profiles.{after_unknown, profile_number, current_by, current_profile}
@@ -34,11 +34,11 @@ counted_after : (next place : ℕ) → counted (suc next) place ≡ counted next
 counted_after next zero = refl
 counted_after next (suc n) = ap Some (omega arith)
 
-number_counted : (next : ℕ) (combinations : List (List (List ℕ))) (texts : List (List ℕ)) → number_in (numbered_from next combinations) texts ≡ counted next (place texts_eq texts combinations)
+number_counted : (next : ℕ) (combinations : List (List (List ℕ))) (texts : List (List ℕ)) → number_in (numbered_from next combinations) texts ≡ counted next (place are_same texts combinations)
 number_counted next [] texts = refl
 number_counted next (c ∷ cs) texts =
-    let rest : number_in (numbered_from (suc next) cs) texts ≡ counted next (after_one (place texts_eq texts cs)) = number_counted (suc next) cs texts ∙ counted_after next (place texts_eq texts cs) in
-    elim (texts_eq c texts) as (λ b. option_map (λ k. k.number) (cond b (Some (record { texts = c; number = next })) (find (λ k. texts_eq k.texts texts) (numbered_from (suc next) cs))) ≡ counted next (cond b 1 (after_one (place texts_eq texts cs)))) [
+    let rest : number_in (numbered_from (suc next) cs) texts ≡ counted next (after_one (place are_same texts cs)) = number_counted (suc next) cs texts ∙ counted_after next (place are_same texts cs) in
+    elim (are_same c texts) as (λ b. option_map (λ k. k.number) (cond b (Some (record { texts = c; number = next })) (find (λ k. are_same k.texts texts) (numbered_from (suc next) cs))) ≡ counted next (cond b 1 (after_one (place are_same texts cs)))) [
       | true ↦ let same : next ≡ 0 + next = omega arith in ap Some same
       | false ↦ rest
     ]
@@ -49,17 +49,17 @@ counted_is (suc n) = ap Some (omega arith)
 
 -- where all are known, each has its number
 pub number_all : (combinations : List (List (List ℕ))) (texts : List (List ℕ)) → number_in (all_numbered combinations) texts ≡ profile_number combinations texts
-number_all combinations texts = number_counted 2 combinations texts ∙ counted_is (place texts_eq texts combinations)
+number_all combinations texts = number_counted 2 combinations texts ∙ counted_is (place are_same texts combinations)
 
 abbrev pub is_there : Option ℕ → Bool
 is_there None = false
 is_there (Some n) = true
 
-pub there_is : (next : ℕ) (combinations : List (List (List ℕ))) (texts : List (List ℕ)) → list_any (λ c. texts_eq c texts) combinations ≡ is_there (number_in (numbered_from next combinations) texts)
+pub there_is : (next : ℕ) (combinations : List (List (List ℕ))) (texts : List (List ℕ)) → list_any (λ c. are_same c texts) combinations ≡ is_there (number_in (numbered_from next combinations) texts)
 there_is next [] texts = refl
 there_is next (c ∷ cs) texts =
     let rest = there_is (suc next) cs texts in
-    elim (texts_eq c texts) as (λ b. (b || list_any (λ c. texts_eq c texts) cs) ≡ is_there (option_map (λ k. k.number) (cond b (Some (record { texts = c; number = next })) (find (λ k. texts_eq k.texts texts) (numbered_from (suc next) cs))))) [
+    elim (are_same c texts) as (λ b. (b || list_any (λ c. are_same c texts) cs) ≡ is_there (option_map (λ k. k.number) (cond b (Some (record { texts = c; number = next })) (find (λ k. are_same k.texts texts) (numbered_from (suc next) cs))))) [
       | true ↦ refl
       | false ↦ rest
     ]
@@ -75,17 +75,17 @@ numbered_long next [] = refl
 numbered_long next (c ∷ cs) = ap suc (numbered_long (suc next) cs)
 
 abbrev pub with_next : List (List (List ℕ)) → List (List ℕ) → List (List (List ℕ))
-with_next combinations texts = cond (list_any (λ c. texts_eq c texts) combinations) combinations (combinations ++ texts ∷ [])
+with_next combinations texts = cond (list_any (λ c. are_same c texts) combinations) combinations (combinations ++ texts ∷ [])
 
 pub next_there : (known : List Numbered) (combinations : List (List (List ℕ))) (texts : List (List ℕ)) (n : ℕ) → number_in known texts ≡ Some n → known ≡ all_numbered combinations → known ≡ all_numbered (with_next combinations texts)
 next_there known combinations texts n found all =
-    let any : list_any (λ c. texts_eq c texts) combinations ≡ true = there_is 2 combinations texts ∙ ap (λ ks. is_there (number_in ks texts)) (sym all) ∙ ap is_there found in
+    let any : list_any (λ c. are_same c texts) combinations ≡ true = there_is 2 combinations texts ∙ ap (λ ks. is_there (number_in ks texts)) (sym all) ∙ ap is_there found in
     all ∙ sym (ap (λ b. all_numbered (cond b combinations (combinations ++ texts ∷ []))) any)
 
 pub next_new : (known : List Numbered) (combinations : List (List (List ℕ))) (texts : List (List ℕ)) (count : ℕ) → count ≡ length known → number_in known texts ≡ None → known ≡ all_numbered combinations
     → known ++ record { texts = texts; number = count + 2 } ∷ [] ≡ all_numbered (with_next combinations texts)
 next_new known combinations texts count many found all =
-    let none : list_any (λ c. texts_eq c texts) combinations ≡ false = there_is 2 combinations texts ∙ ap (λ ks. is_there (number_in ks texts)) (sym all) ∙ ap is_there found in
+    let none : list_any (λ c. are_same c texts) combinations ≡ false = there_is 2 combinations texts ∙ ap (λ ks. is_there (number_in ks texts)) (sym all) ∙ ap is_there found in
     let long : count ≡ length combinations = many ∙ ap (λ (ks : List Numbered). length ks) all ∙ numbered_long 2 combinations in
     ap (λ n. known ++ record { texts = texts; number = n + 2 } ∷ []) long
     ∙ ap (λ ks. ks ++ record { texts = texts; number = length combinations + 2 } ∷ []) all

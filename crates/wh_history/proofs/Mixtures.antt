@@ -6,7 +6,7 @@ use Rattle.wh_policy.specs.Types.{is_profile}
 use Rattle.wh_policy.specs.declared.attribute.AttributeType.{AttributeType}
 use Rattle.wh_policy.specs.declared.record.DimensionRecord.{DimensionRecord}
 use Rattle.wh_history.specs.Keys.{distinct}
-use Rattle.wh_history.specs.Slots.{picks, texts_eq}
+use Rattle.wh_history.specs.Slots.{picks, are_same}
 use Rattle.wh_history.specs.Profiles.{combinations_of}
 use Rattle.wh_history.proofs.Basics.{texts_decide}
 use Rattle.wh_history.proofs.Numbers.{distinct-append}
@@ -19,11 +19,11 @@ put_last true xs x = append-nil xs
 put_last false xs x = refl
 
 pub combinations_more : (kinds : List AttributeType) (rs : List DimensionRecord) (r : DimensionRecord)
-    → combinations_of kinds (rs ++ r ∷ []) ≡ cond (list_any (λ c. texts_eq c (picks is_profile kinds r.values)) (combinations_of kinds rs)) (combinations_of kinds rs) (combinations_of kinds rs ++ picks is_profile kinds r.values ∷ [])
+    → combinations_of kinds (rs ++ r ∷ []) ≡ cond (list_any (λ c. are_same c (picks is_profile kinds r.values)) (combinations_of kinds rs)) (combinations_of kinds rs) (combinations_of kinds rs ++ picks is_profile kinds r.values ∷ [])
 combinations_more kinds rs r =
     let pick = λ (q : DimensionRecord). picks is_profile kinds q.values in
-    ap (distinct texts_eq) (map-append pick rs (r ∷ []))
-    ∙ distinct-append texts_eq (map pick rs) (pick r ∷ [])
-    ∙ ap (λ cs. combinations_of kinds rs ++ cs) (fresh_one texts_eq texts_decide (pick r) (map pick rs))
-    ∙ ap (λ b. combinations_of kinds rs ++ cond b [] (pick r ∷ [])) (sym (among_distinct texts_eq texts_decide (pick r) (map pick rs)))
-    ∙ put_last (list_any (λ c. texts_eq c (pick r)) (combinations_of kinds rs)) (combinations_of kinds rs) (pick r)
+    ap (distinct are_same) (map-append pick rs (r ∷ []))
+    ∙ distinct-append are_same (map pick rs) (pick r ∷ [])
+    ∙ ap (λ cs. combinations_of kinds rs ++ cs) (fresh_one are_same texts_decide (pick r) (map pick rs))
+    ∙ ap (λ b. combinations_of kinds rs ++ cond b [] (pick r ∷ [])) (sym (among_distinct are_same texts_decide (pick r) (map pick rs)))
+    ∙ put_last (list_any (λ c. are_same c (pick r)) (combinations_of kinds rs)) (combinations_of kinds rs) (pick r)

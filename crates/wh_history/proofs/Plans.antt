@@ -9,7 +9,7 @@ use Rattle.std.specs.BTreeSet.{insert_key}
 use Rattle.std.specs.Ordering.{nat_cmp}
 use Rattle.std.specs.Cmp.{nat_cmp_is}
 use Rattle.std.specs.declared.cmp.Ordering.TheVariants as Ordering
-use Rattle.wh_history.specs.Slots.{texts_eq}
+use Rattle.wh_history.specs.Slots.{are_same}
 use Rattle.wh_history.proofs.Basics.{or_none, both_true, texts_decide}
 use Rattle.wh_history.specs.Plan.{Needs, edited, Above, Ascends, IsPlan, row_of, with_key, with_keys, same_flag, same_frame, same_row, edit_between, edit_in, edit_at}
 use Rattle.wh_history.specs.declared.plan.Edit.{Edit}
@@ -32,8 +32,8 @@ made r = refl
 -- rows that the test calls the same are
 pub same_row_is : (q r : DimRow) → same_row q r ≡ true → q ≡ r
 same_row_is q r h =
-    let h8 = both_true _ (texts_eq q.b r.b) h in
-    let h7 = both_true _ (texts_eq q.a r.a) h8.0 in
+    let h8 = both_true _ (are_same q.b r.b) h in
+    let h7 = both_true _ (are_same q.a r.a) h8.0 in
     let h6 = both_true (same_frame q r) (bytes_eq q.natural r.natural) h7.0 in
     let f5 = both_true _ (q.profile_now == r.profile_now) h6.0 in
     let f4 = both_true _ (same_flag q.is_current r.is_current) f5.0 in

@@ -7,7 +7,7 @@ use Rattle.wh_day.specs.Value.{none_text}
 use Rattle.wh_history.specs.Keys.{distinct, place}
 use Rattle.wh_policy.specs.Policy.{types_of}
 use Rattle.wh_policy.specs.Types.{is_profile, is_outrigger}
-use Rattle.wh_history.specs.Slots.{columns_from, picked, picks, padded, texts_eq}
+use Rattle.wh_history.specs.Slots.{columns_from, picked, picks, padded, are_same}
 use Rattle.wh_history.specs.Dated.{at, dated, newest}
 use Rattle.wh_history.specs.Rows.{row, rows, spans, starts}
 use Rattle.wh_history.specs.Profiles.{after_unknown, profile_number, current_profile, profile_now}
@@ -79,30 +79,30 @@ module _ (commands : List Accepted) (c : Accepted) (batch : governs c.content �
   pick r = picks is_profile (types_in Customer commands) r.values
 
   -- a batch only adds combinations at the end
-  pub profiles-last : profiles_of (commands ++ c ∷ []) ≡ profiles_of commands ++ fresh texts_eq (map pick (described Customer commands)) (distinct texts_eq (map pick (described_by Customer c.content)))
+  pub profiles-last : profiles_of (commands ++ c ∷ []) ≡ profiles_of commands ++ fresh are_same (map pick (described Customer commands)) (distinct are_same (map pick (described_by Customer c.content)))
   profiles-last =
-      ap (λ (kinds : List AttributeType). distinct texts_eq (map (λ (r : DimensionRecord). picks is_profile kinds r.values) (described Customer (commands ++ c ∷ [])))) (types-last Customer commands c batch)
-      ∙ ap (λ (rs : List DimensionRecord). distinct texts_eq (map pick rs)) (described-last Customer commands c)
-      ∙ ap (distinct texts_eq) (map-append pick (described Customer commands) (described_by Customer c.content))
-      ∙ distinct-append texts_eq (map pick (described Customer commands)) (map pick (described_by Customer c.content))
+      ap (λ (kinds : List AttributeType). distinct are_same (map (λ (r : DimensionRecord). picks is_profile kinds r.values) (described Customer (commands ++ c ∷ [])))) (types-last Customer commands c batch)
+      ∙ ap (λ (rs : List DimensionRecord). distinct are_same (map pick rs)) (described-last Customer commands c)
+      ∙ ap (distinct are_same) (map-append pick (described Customer commands) (described_by Customer c.content))
+      ∙ distinct-append are_same (map pick (described Customer commands)) (map pick (described_by Customer c.content))
 
   -- a number that was given stays
-  pub profile_stays : (texts : List (List ℕ)) → 0 < place texts_eq texts (profiles_of commands) → profile_number (profiles_of (commands ++ c ∷ [])) texts ≡ profile_number (profiles_of commands) texts
+  pub profile_stays : (texts : List (List ℕ)) → 0 < place are_same texts (profiles_of commands) → profile_number (profiles_of (commands ++ c ∷ [])) texts ≡ profile_number (profiles_of commands) texts
   profile_stays texts given =
-      ap (λ (cs : List (List (List ℕ))). profile_number cs texts) profiles-last ∙ ap after_unknown (place-append_front texts_eq texts (profiles_of commands) _ given)
+      ap (λ (cs : List (List (List ℕ))). profile_number cs texts) profiles-last ∙ ap after_unknown (place-append_front are_same texts (profiles_of commands) _ given)
 
   -- a change of a customer has a combination that was accepted
   abbrev Combined : Change → Type 0
-  Combined ch = list_any (λ t. texts_eq t (picks is_profile (types_in Customer commands) ch.values)) (map pick (described Customer commands)) ≡ true
+  Combined ch = list_any (λ t. are_same t (picks is_profile (types_in Customer commands) ch.values)) (map pick (described Customer commands)) ≡ true
 
   abbrev Picked : List DimensionRecord → DimensionRecord → Type 0
-  Picked rs r = list_any (λ t. texts_eq t (pick r)) (map pick rs) ≡ true
+  Picked rs r = list_any (λ t. are_same t (pick r)) (map pick rs) ≡ true
 
   picked_in : (rs : List DimensionRecord) → AllByRecursion (Picked rs) rs
   picked_in [] = tt
   picked_in (r ∷ rs) = (
     rw ((texts_decide (pick r) (pick r)).1 refl) refl,
-    all_weaker (Picked rs) (Picked (r ∷ rs)) (λ q t. rw t (or_true (texts_eq (pick r) (pick q)))) rs (picked_in rs),
+    all_weaker (Picked rs) (Picked (r ∷ rs)) (λ q t. rw t (or_true (are_same (pick r) (pick q)))) rs (picked_in rs),
   )
 
   combined_in : (natural : List ℕ) (rs : List DimensionRecord) → AllByRecursion (Picked (described Customer commands)) rs → AllByRecursion Combined (map (change_of Customer commands) (filter (λ r. bytes_eq r.natural natural) rs))
@@ -111,13 +111,13 @@ module _ (commands : List Accepted) (c : Accepted) (batch : governs c.content �
       let rest = combined_in natural rs all.1 in
       let same : picks is_profile (types_in Customer commands) (padded none_text r.values) ≡ pick r = picks_from is_profile r.values _ 0 (types_in Customer commands) in
       elim (bytes_eq r.natural natural) as (λ b. AllByRecursion Combined (map (change_of Customer commands) (cond b (r ∷ filter (λ r. bytes_eq r.natural natural) rs) (filter (λ r. bytes_eq r.natural natural) rs)))) [
-        | true ↦ (subst (λ (t : List (List ℕ)). list_any (λ u. texts_eq u t) (map pick (described Customer commands)) ≡ true) (sym same) all.0, rest)
+        | true ↦ (subst (λ (t : List (List ℕ)). list_any (λ u. are_same u t) (map pick (described Customer commands)) ≡ true) (sym same) all.0, rest)
         | false ↦ rest
       ]
 
   current_stays : (o : Option Change) → IfThere Combined o → current_profile (types_in Customer commands) (profiles_of (commands ++ c ∷ [])) o ≡ current_profile (types_in Customer commands) (profiles_of commands) o
   current_stays None all = refl
-  current_stays (Some ch) all = ap (λ (o : Option ℕ). unwrap_or o 0) (profile_stays _ (place-distinct_given texts_eq texts_decide _ (map pick (described Customer commands)) all))
+  current_stays (Some ch) all = ap (λ (o : Option ℕ). unwrap_or o 0) (profile_stays _ (place-distinct_given are_same texts_decide _ (map pick (described Customer commands)) all))
 
   -- the profile that a customer's changes before it say of a day has the number that it had
   pub profile_of_day_stays : (natural : List ℕ) (day : ℕ) → current_profile (types_in Customer commands) (profiles_of (commands ++ c ∷ [])) (at day (dated (changes_of Customer commands natural)))

@@ -6,14 +6,14 @@ use Rattle.wh_policy.specs.declared.attribute.AttributeType.{AttributeType}
 use Rattle.wh_policy.specs.declared.attribute.Dim.{Dim}
 use Rattle.wh_policy.specs.declared.attribute.Dim.TheVariants.{Product, Store, Customer}
 use Rattle.wh_history.specs.Profiles.{profile_number}
-use Rattle.wh_history.specs.Slots.{picks, texts_eq}
+use Rattle.wh_history.specs.Slots.{picks, are_same}
 use Rattle.wh_history.specs.declared.member.Change.{Change}
 use Rattle.wh_history.specs.declared.member.Member.{Member}
 use Rattle.wh_history.specs.declared.profiles.Numbered.{Numbered}
 
 -- the number that is known of a combination, if one is
 abbrev pub number_in : List Numbered → List (List ℕ) → Option ℕ
-number_in known texts = option_map (λ k. k.number) (find (λ k. texts_eq k.texts texts) known)
+number_in known texts = option_map (λ k. k.number) (find (λ k. are_same k.texts texts) known)
 
 -- combinations with their numbers, from one on
 abbrev pub numbered_from : ℕ → List (List (List ℕ)) → List Numbered

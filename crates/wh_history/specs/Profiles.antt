@@ -5,14 +5,14 @@ use Rattle.wh_policy.specs.Types.{is_profile, is_outrigger}
 use Rattle.wh_policy.specs.declared.attribute.AttributeType.{AttributeType}
 use Rattle.wh_policy.specs.declared.record.DimensionRecord.{DimensionRecord}
 use Rattle.wh_history.specs.Keys.{distinct, place}
-use Rattle.wh_history.specs.Slots.{picks, texts_eq}
+use Rattle.wh_history.specs.Slots.{picks, are_same}
 use Rattle.wh_history.specs.Dated.{dated, newest}
 use Rattle.wh_history.specs.declared.member.Change.{Change}
 use Rattle.wh_history.specs.declared.member.Member.{Member}
 
 -- the distinct combinations of profile values of records, in order of first acceptance
 abbrev pub combinations_of : List AttributeType → List DimensionRecord → List (List (List ℕ))
-combinations_of kinds records = distinct texts_eq (map (λ r. picks is_profile kinds r.values) records)
+combinations_of kinds records = distinct are_same (map (λ r. picks is_profile kinds r.values) records)
 
 -- the number of a place after those of no card and unknown: the first combination has 2
 abbrev pub after_unknown : ℕ → Option ℕ
@@ -21,7 +21,7 @@ after_unknown (suc n) = Some (suc (suc n))
 
 -- the number of a combination of profile values among those that were accepted, in order
 abbrev pub profile_number : List (List (List ℕ)) → List (List ℕ) → Option ℕ
-profile_number combinations texts = after_unknown (place texts_eq texts combinations)
+profile_number combinations texts = after_unknown (place are_same texts combinations)
 
 -- the number of a change's combination, where a function gives those of combinations; it is 1 where no change says one
 abbrev pub current_by : List AttributeType → (List (List ℕ) → Option ℕ) → Option Change → ℕ

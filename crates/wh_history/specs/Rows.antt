@@ -4,7 +4,7 @@ use Rattle.wh_day.specs.Day.{first_day, last_day, day_before}
 use Rattle.wh_policy.specs.Types.{is_tracked}
 use Rattle.wh_policy.specs.declared.attribute.AttributeType.{AttributeType}
 use Rattle.wh_policy.specs.declared.attribute.AttributeType.TheVariants.{RetainOriginal, Overwrite, NewRow, NewAttribute, MiniDimension, MiniDimensionOutrigger, NewRowAndOverwrite, DualKeys}
-use Rattle.wh_history.specs.Slots.{columns_from, picks, six, texts_eq}
+use Rattle.wh_history.specs.Slots.{columns_from, picks, six, are_same}
 use Rattle.wh_history.specs.Dated.{dated, at, value_at, latest, original, prior}
 use Rattle.wh_history.specs.Profiles.{profile_number, profile_now_by}
 use Rattle.wh_history.specs.declared.member.Change.{Change}
@@ -13,7 +13,7 @@ use Rattle.wh_history.specs.declared.rows.DimRow.{DimRow}
 
 -- whether no tracked value differs between two changes
 abbrev pub same_tracked : List AttributeType → Change → Change → Bool
-same_tracked kinds c d = texts_eq (picks is_tracked kinds c.values) (picks is_tracked kinds d.values)
+same_tracked kinds c d = are_same (picks is_tracked kinds c.values) (picks is_tracked kinds d.values)
 
 -- the days at which a tracked value differs from that of the change before
 abbrev pub later_starts : List AttributeType → Change → List Change → List ℕ

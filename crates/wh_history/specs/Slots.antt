@@ -1,7 +1,7 @@
 -- The slots of a dimension's attributes, and the values that stand in them.
-use Rattle.std.specs.Prelude.{ℕ, ◌-◌, suc, Bool, if◌then◌else◌, List, [], ◌∷◌, ◌++◌, length, replicate, slice_index_or, bytes_eq}
-use Rattle.std.specs.Cmp.Lexicographic.{pointwise}
+use Rattle.std.specs.Prelude.{ℕ, ◌-◌, suc, Bool, if◌then◌else◌, List, [], ◌∷◌, ◌++◌, length, replicate, slice_index_or}
 use Rattle.wh_day.specs.Value.{none_text}
+pub use Rattle.wh_day.specs.Value.{are_same}
 use Rattle.wh_policy.specs.declared.attribute.AttributeType.{AttributeType}
 
 -- the value in a slot; a record that was accepted before the slot was there has none
@@ -20,10 +20,6 @@ picked counts values place kind = if counts kind then slot values place else []
 -- the values in the slots that count
 abbrev pub picks : (AttributeType → Bool) → List AttributeType → List (List ℕ) → List (List ℕ)
 picks counts kinds values = columns_from (picked counts values) 0 kinds
-
--- whether two lists of texts are the same
-abbrev pub texts_eq : List (List ℕ) → List (List ℕ) → Bool
-texts_eq = pointwise bytes_eq
 
 -- texts for six slots, with a text for those that are not there
 abbrev pub padded : List ℕ → List (List ℕ) → List (List ℕ)

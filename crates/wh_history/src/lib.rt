@@ -20,7 +20,7 @@ pub use dimension::{Dimension, Rendered};
 pub use facts::{Fact, FactKeys, MemberKeys};
 pub use member::{Change, Changes, Member};
 pub use plan::{Edit, plan_rows};
-pub use profiles::{Numbered, Profiles, is_same_texts, profile_texts};
+pub use profiles::{Numbered, Profiles, profile_texts};
 pub use rows::{DimRow, GREATEST_NUMBER, row_at};
 pub use slots::{fill_columns, six_texts};
 pub use touched::{Stored, Touched, anchor_of_day, give_numbers, touch_all};

@@ -4,7 +4,7 @@ ghost use Rattle.std.specs.Prelude.{◌≡◌, ◌++◌, ◌∷◌, [], ℕ, Lis
 ghost use Rattle.std.specs.List.{list_any};
 ghost use Rattle.std.specs.Option.{option_copied};
 ghost use Rattle.wh_policy.specs.Types.{is_profile, is_outrigger};
-ghost use Rattle.wh_history.specs.Slots.{picks, texts_eq};
+ghost use Rattle.wh_history.specs.Slots.{picks, are_same};
 ghost use Rattle.wh_history.specs.Profiles.{current_by};
 ghost use Rattle.wh_history.specs.Known.{number_in, all_numbered};
 
@@ -12,7 +12,7 @@ use crate::dated::slot_text;
 use crate::member::Change;
 use std::alloc::{AllocError, Global};
 use std::marker::Model;
-use wh_day::{Value, Values};
+use wh_day::{Value, Values, are_same};
 use wh_policy::AttributeType;
 
 /// A combination of profile values with its number.
@@ -37,28 +37,11 @@ impl Model for Profiles {
     ghost view = { λ a. a.known.items };
 }
 
-/// Whether two lists of texts are the same.
-pub fn is_same_texts(some: &[Value], other: &[Value]) -> bool
-    ensures { result ≡ texts_eq some.now other.now }
-{
-    if some.len() != other.len() {
-        return false;
-    }
-    for place in 0..some.len() {
-        if !some[place].is_same(&other[place]) {
-            return false;
-        }
-    }
-    true
-}
-
 /// A combination with its number, if it is known.
 fn known_as<'a>(known: &'a [Numbered], texts: &[Value]) -> Option<&'a Numbered>
-    ensures { option_copied result ≡ find (λ k. texts_eq k.texts texts.now) known.now }
+    ensures { option_copied result ≡ find (λ k. are_same k.texts texts.now) known.now }
 {
-    known
-        .iter()
-        .find(|k| is_same_texts(k.texts.as_slice(), texts))
+    known.iter().find(|k| are_same(k.texts.as_slice(), texts))
 }
 
 /// The number that is known of a combination.
@@ -100,7 +83,7 @@ impl Profiles {
     /// Where all combinations so far are known, adds one with the next number, unless it is there. The first has 2.
     pub fn add_next(&mut self, texts: Values) -> Result<(), AllocError>
         ensures ok { OnOk result ((combinations : List (List (List ℕ))) → self.old ≡ all_numbered combinations
-            → self.new ≡ all_numbered (if list_any (λ c. texts_eq c texts) combinations then combinations else combinations ++ texts ∷ [])) }
+            → self.new ≡ all_numbered (if list_any (λ c. are_same c texts) combinations then combinations else combinations ++ texts ∷ [])) }
         ensures err { OnErr result (self.new ≡ self.old) }
     {
         match self.number(texts.as_slice()) {

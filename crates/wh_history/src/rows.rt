@@ -5,7 +5,6 @@ ghost use Rattle.wh_history.specs.Rows.{holds};
 ghost use Rattle.std.specs.Option.{option_copied};
 ghost use Rattle.wh_history.specs.Plan.{row_of, same_frame, same_row};
 
-use crate::profiles::is_same_texts;
 use std::alloc::{AllocError, Global};
 use std::marker::Model;
 use wh_day::{Day, Value, Values};
@@ -66,8 +65,8 @@ impl DimRow {
     {
         self.is_same_frame(other)
             && self.natural.is_same(&other.natural)
-            && is_same_texts(self.a.as_slice(), other.a.as_slice())
-            && is_same_texts(self.b.as_slice(), other.b.as_slice())
+            && self.a.is_same(&other.a)
+            && self.b.is_same(&other.b)
     }
 
     /// Whether the row holds a day.

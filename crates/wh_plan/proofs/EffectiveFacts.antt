@@ -28,12 +28,15 @@ module _ (limits : Limits) (commands : List Accepted) (ok : IsAccepted limits co
       )
       by_card (Some natural) card =
           let shown = effective Customer commands natural (days limits commands ok) (named Customer natural card) s.day good.day in
-          inl (natural, record {
-            member = ap (λ o. unwrap_or (option_map (durable_key Customer commands) o) 0) card;
-            numbered = rw card (owned commands s named Customer natural card);
-            row = rw card shown;
-            profile = ap (λ o. unwrap_or (option_map (profile_at commands s.day) o) 0) card;
-          })
+          inl (
+            natural,
+            record {
+              member = ap (λ o. unwrap_or (option_map (durable_key Customer commands) o) 0) card;
+              numbered = rw card (owned commands s named Customer natural card);
+              row = rw card shown;
+              profile = ap (λ o. unwrap_or (option_map (profile_at commands s.day) o) 0) card;
+            },
+          )
 
   rows_named : IsEffective commands Product (fact_of commands s).product_durable s.day (fact_of commands s).keys.product_key × IsEffective commands Store (fact_of commands s).store_durable s.day (fact_of commands s).keys.store_key × NamesCustomer commands (fact_of commands s)
   rows_named = (

@@ -14,7 +14,7 @@ use Rattle.wh_policy.specs.declared.record.DimensionRecord.{DimensionRecord}
 use Rattle.wh_history.specs.Accepted.{Accepted, described, types_in, profiles_of}
 use Rattle.wh_history.specs.Keys.{place, at_place}
 use Rattle.wh_history.specs.Profiles.{after_unknown, profile_number}
-use Rattle.wh_history.specs.Slots.{columns_from, picked, picks, six, texts_eq}
+use Rattle.wh_history.specs.Slots.{columns_from, picked, picks, six, are_same}
 use Rattle.wh_history.specs.Tables.{Limits}
 use Rattle.wh_history.proofs.Basics.{some_is, both_true, texts_decide}
 use Rattle.wh_history.proofs.Once.{once_distinct}
@@ -23,7 +23,7 @@ use Rattle.wh_history.proofs.Places.{at_place-place}
 use Rattle.wh_rows.specs.Firsts.{part}
 use Rattle.wh_rows.specs.Tables.{Tables}
 use Rattle.wh_rows.specs.declared.rows.ProfileRow.{ProfileRow}
-use Rattle.wh_sql.specs.Asked.{same_text, same_slots}
+use Rattle.wh_store.specs.Reads.{same_text, same_slots}
 use Rattle.wh_plan.specs.Defined.{AreOf, profile_at}
 use Rattle.wh_plan.specs.Profiles.{number_kept}
 use Rattle.wh_plan.proofs.FoundPlaces.{same_text_is, text_itself, at_place_there, place_at}
@@ -159,29 +159,29 @@ module _ (limits : Limits) (commands : List Accepted) (t : Tables) (are : AreOf 
 
     all_long : AllByRecursion (λ (c : List (List ℕ)). length c ≡ length kinds) combinations
     all_long =
-        all_distinct (λ (c : List (List ℕ)). length c ≡ length kinds) texts_eq (map (λ (r : DimensionRecord). picks is_profile (types_in Customer commands) r.values) (described Customer commands)) (each (described Customer commands))
+        all_distinct (λ (c : List (List ℕ)). length c ≡ length kinds) are_same (map (λ (r : DimensionRecord). picks is_profile (types_in Customer commands) r.values) (described Customer commands)) (each (described Customer commands))
       where
         each : (rs : List DimensionRecord) → AllByRecursion (λ (c : List (List ℕ)). length c ≡ length kinds) (map (λ (r : DimensionRecord). picks is_profile (types_in Customer commands) r.values) rs)
         each [] = tt
         each (r ∷ rs) = (long_columns (types_in Customer commands) r.values 0 ∙ ap length kinds_are, each rs)
 
     -- a row that passes stands at the place of the combination
-    placed : (j : ℕ) (w : ProfileRow) → get t.profile j ≡ Some w → keep w ≡ true → (i : ℕ) × (j ≡ suc (suc i)) × (place texts_eq texts combinations ≡ suc i)
+    placed : (j : ℕ) (w : ProfileRow) → get t.profile j ≡ Some w → keep w ≡ true → (i : ℕ) × (j ≡ suc (suc i)) × (place are_same texts combinations ≡ suc i)
     placed j w here passes =
         let both = both_true _ _ passes in
         let s = stands commands j w (sym (are.profile j) ∙ here) both.0 in
         let same : same_slots texts (six s.texts) ≡ true = ap (λ (r : ProfileRow). same_slots texts r.values) (sym s.row) ∙ both.1 in
         let other = all_at_place (λ (c : List (List ℕ)). length c ≡ length kinds) s.back combinations s.texts all_long s.at in
         let is : texts ≡ s.texts = slots_are texts s.texts (long ∙ sym other) (let n = long in omega arith) same in
-        let once = once_distinct texts_eq texts_decide (map (λ (r : DimensionRecord). picks is_profile (types_in Customer commands) r.values) (described Customer commands)) in
-        (s.back, s.number, place_at texts_eq texts_decide (suc s.back) combinations texts once (s.at ∙ ap Some (sym is)))
+        let once = once_distinct are_same texts_decide (map (λ (r : DimensionRecord). picks is_profile (types_in Customer commands) r.values) (described Customer commands)) in
+        (s.back, s.number, place_at are_same texts_decide (suc s.back) combinations texts once (s.at ∙ ap Some (sym is)))
 
-    kept_by : (n : ℕ) → place texts_eq texts combinations ≡ n → number_kept t.profile texts ≡ after_unknown n
+    kept_by : (n : ℕ) → place are_same texts combinations ≡ n → number_kept t.profile texts ≡ after_unknown n
     kept_by zero none =
         let nothing = none_passes nat_cmp nat_cmp_total nat_cmp-IsAntisymmetric (λ (r : ProfileRow). r.number) keep t.profile (λ k w here passes. let p = placed k w here passes in let never : 0 ≡ suc p.0 = sym none ∙ p.2 in absurd cc) in
         ap (option_map (λ (r : ProfileRow). r.number)) (first_of_both (λ r. nat_le 2 r.number) (λ r. same_slots texts r.values) (values t.profile) ∙ ap first_one nothing)
     kept_by (suc m) at =
-        let there : at_place (suc m) combinations ≡ Some texts = ap (λ n. at_place n combinations) (sym at) ∙ at_place-place texts_eq texts_decide texts combinations (omega arith) in
+        let there : at_place (suc m) combinations ≡ Some texts = ap (λ n. at_place n combinations) (sym at) ∙ at_place-place are_same texts_decide texts combinations (omega arith) in
         let stands_there : get t.profile (suc (suc m)) ≡ Some (numbered (suc (suc m)) (six texts)) = are.profile (suc (suc m)) ∙ ap (λ o. option_map (numbered (suc (suc m))) (option_map six o)) there in
         let high : nat_le 2 (suc (suc m)) ≡ true = le-leb 2 (suc (suc m)) (omega arith) in
         let own : (w : ProfileRow) → get t.profile (suc (suc m)) ≡ Some w → (w.number ≡ suc (suc m)) × (keep w ≡ true) = λ w here.
@@ -193,4 +193,4 @@ module _ (limits : Limits) (commands : List Accepted) (t : Tables) (are : AreOf 
 
     -- a search by the values of slots finds the number
     pub number_kept_is : number_kept t.profile (picks is_profile kinds told) ≡ profile_number (profiles_of commands) (picks is_profile kinds told)
-    number_kept_is = kept_by (place texts_eq texts combinations) refl
+    number_kept_is = kept_by (place are_same texts combinations) refl

@@ -11,7 +11,7 @@ use Rattle.wh_history.specs.Accepted.{Accepted, profiles_of}
 use Rattle.wh_history.specs.Keys.{distinct, at_place}
 use Rattle.wh_history.specs.Known.{number_in, numbered_from, all_numbered}
 use Rattle.wh_history.specs.Profiles.{profile_number}
-use Rattle.wh_history.specs.Slots.{picks, six, texts_eq}
+use Rattle.wh_history.specs.Slots.{picks, six, are_same}
 use Rattle.wh_history.specs.declared.member.Change.{Change}
 use Rattle.wh_history.specs.declared.member.Member.{Member}
 use Rattle.wh_history.specs.declared.profiles.Numbered.{Numbered}
@@ -28,41 +28,41 @@ use Rattle.wh_plan.specs.Profiles.{with_combination, with_combinations, said_of,
 use Rattle.wh_plan.specs.Edits.{behind}
 
 abbrev pub any_of : List (List ℕ) → List (List (List ℕ)) → Bool
-any_of t D = list_any (λ c. texts_eq c t) D
+any_of t D = list_any (λ c. are_same c t) D
 
 -- ---- combinations, each once
 
-one_more : (xs : List (List (List ℕ))) (x : List (List ℕ)) → with_combination (distinct texts_eq xs) x ≡ distinct texts_eq (xs ++ x ∷ [])
+one_more : (xs : List (List (List ℕ))) (x : List (List ℕ)) → with_combination (distinct are_same xs) x ≡ distinct are_same (xs ++ x ∷ [])
 one_more xs x =
-    sym (distinct-append texts_eq xs (x ∷ [])
-    ∙ ap (λ cs. distinct texts_eq xs ++ cs) (fresh_one texts_eq texts_decide x xs)
-    ∙ ap (λ b. distinct texts_eq xs ++ cond b [] (x ∷ [])) (sym (among_distinct texts_eq texts_decide x xs))
-    ∙ put_last (any_of x (distinct texts_eq xs)) (distinct texts_eq xs) x)
+    sym (distinct-append are_same xs (x ∷ [])
+    ∙ ap (λ cs. distinct are_same xs ++ cs) (fresh_one are_same texts_decide x xs)
+    ∙ ap (λ b. distinct are_same xs ++ cond b [] (x ∷ [])) (sym (among_distinct are_same texts_decide x xs))
+    ∙ put_last (any_of x (distinct are_same xs)) (distinct are_same xs) x)
 
-pub distinct_with : (xs ys : List (List (List ℕ))) → with_combinations (distinct texts_eq xs) ys ≡ distinct texts_eq (xs ++ ys)
-distinct_with xs [] = ap (distinct texts_eq) (sym (append-nil xs))
-distinct_with xs (y ∷ ys) = ap (λ cs. with_combinations cs ys) (one_more xs y) ∙ distinct_with (xs ++ y ∷ []) ys ∙ ap (distinct texts_eq) (append_assoc xs (y ∷ []) ys)
+pub distinct_with : (xs ys : List (List (List ℕ))) → with_combinations (distinct are_same xs) ys ≡ distinct are_same (xs ++ ys)
+distinct_with xs [] = ap (distinct are_same) (sym (append-nil xs))
+distinct_with xs (y ∷ ys) = ap (λ cs. with_combinations cs ys) (one_more xs y) ∙ distinct_with (xs ++ y ∷ []) ys ∙ ap (distinct are_same) (append_assoc xs (y ∷ []) ys)
 
 pub with_append : (cs xs ys : List (List (List ℕ))) → with_combinations cs (xs ++ ys) ≡ with_combinations (with_combinations cs xs) ys
 with_append cs [] ys = refl
 with_append cs (x ∷ xs) ys = with_append (with_combination cs x) xs ys
 
 any_with : (ts : List (List (List ℕ))) (t : List (List ℕ)) → any_of t (with_combinations [] ts) ≡ any_of t ts
-any_with ts t = ap (any_of t) (distinct_with [] ts) ∙ among_distinct texts_eq texts_decide t ts
+any_with ts t = ap (any_of t) (distinct_with [] ts) ∙ among_distinct are_same texts_decide t ts
 
 -- each of a list is among it
 pub all_there : (ts : List (List (List ℕ))) → AllByRecursion (λ t. any_of t ts ≡ true) ts
 all_there [] = tt
 all_there (x ∷ ts) = (
   rw ((texts_decide x x).1 refl) refl,
-  all_weaker (λ t. any_of t ts ≡ true) (λ t. any_of t (x ∷ ts) ≡ true) (λ t among. rw among (or_true (texts_eq x t))) ts (all_there ts),
+  all_weaker (λ t. any_of t ts ≡ true) (λ t. any_of t (x ∷ ts) ≡ true) (λ t among. rw among (or_true (are_same x t))) ts (all_there ts),
 )
 
 pub any_left : (t : List (List ℕ)) (xs ys : List (List (List ℕ))) → any_of t xs ≡ true → any_of t (xs ++ ys) ≡ true
-any_left t xs ys among = list_any-append (λ c. texts_eq c t) xs ys ∙ ap (λ b. b || any_of t ys) among
+any_left t xs ys among = list_any-append (λ c. are_same c t) xs ys ∙ ap (λ b. b || any_of t ys) among
 
 any_right : (t : List (List ℕ)) (xs ys : List (List (List ℕ))) → any_of t ys ≡ true → any_of t (xs ++ ys) ≡ true
-any_right t xs ys among = list_any-append (λ c. texts_eq c t) xs ys ∙ ap (λ b. any_of t xs || b) among ∙ or_true (any_of t xs)
+any_right t xs ys among = list_any-append (λ c. are_same c t) xs ys ∙ ap (λ b. any_of t xs || b) among ∙ or_true (any_of t xs)
 
 -- ---- what members say
 
@@ -99,19 +99,19 @@ number_learned number [] t = refl
 number_learned number (x ∷ D) t =
     let rest = number_learned number D t in
     let more : List Numbered = learned number D in
-    elim (texts_eq x t) as (λ b. (texts_eq x t ≡ b) → number_in (cons_option (numbered_as number x) more) t ≡ cond (b || any_of t D) (number t) None) [
+    elim (are_same x t) as (λ b. (are_same x t ≡ b) → number_in (cons_option (numbered_as number x) more) t ≡ cond (b || any_of t D) (number t) None) [
       | true ↦ λ e.
           let same : x ≡ t = (texts_decide x t).0 e in
           elim (number x) as (λ o. (number x ≡ o) → number_in (cons_option (option_map (λ n. record { texts = x; number = n }) o) more) t ≡ number t) [
             | None ↦ λ is.
                 let none : number t ≡ None = ap number (sym same) ∙ is in
                 rest ∙ ap (λ o. cond (any_of t D) o None) none ∙ none_either (any_of t D) ∙ sym none
-            | Some n ↦ λ is. ap (λ b. option_map (λ (k : Numbered). k.number) (cond b (Some (record { texts = x; number = n })) (find (λ k. texts_eq k.texts t) more))) e ∙ sym is ∙ ap number same
+            | Some n ↦ λ is. ap (λ b. option_map (λ (k : Numbered). k.number) (cond b (Some (record { texts = x; number = n })) (find (λ k. are_same k.texts t) more))) e ∙ sym is ∙ ap number same
           ] refl
       | false ↦ λ e.
           elim (number x) as (λ o. number_in (cons_option (option_map (λ n. record { texts = x; number = n }) o) more) t ≡ cond (any_of t D) (number t) None) [
             | None ↦ rest
-            | Some n ↦ ap (λ b. option_map (λ (k : Numbered). k.number) (cond b (Some (record { texts = x; number = n })) (find (λ k. texts_eq k.texts t) more))) e ∙ rest
+            | Some n ↦ ap (λ b. option_map (λ (k : Numbered). k.number) (cond b (Some (record { texts = x; number = n })) (find (λ k. are_same k.texts t) more))) e ∙ rest
           ]
     ] refl
 
@@ -135,7 +135,7 @@ or_mapped None b = refl
 or_mapped (Some k) b = refl
 
 number_append : (a b : List Numbered) (t : List (List ℕ)) → number_in (a ++ b) t ≡ option_or (number_in a t) (number_in b t)
-number_append a b t = ap (option_map (λ (k : Numbered). k.number)) (find-append (λ (k : Numbered). texts_eq k.texts t) a b) ∙ or_mapped (find (λ (k : Numbered). texts_eq k.texts t) a) (find (λ (k : Numbered). texts_eq k.texts t) b)
+number_append a b t = ap (option_map (λ (k : Numbered). k.number)) (find-append (λ (k : Numbered). are_same k.texts t) a b) ∙ or_mapped (find (λ (k : Numbered). are_same k.texts t) a) (find (λ (k : Numbered). are_same k.texts t) b)
 
 numbered_append : (next : ℕ) (xs ys : List (List (List ℕ))) → numbered_from next (xs ++ ys) ≡ numbered_from next xs ++ numbered_from (length xs + next) ys
 numbered_append next [] ys = let same : next ≡ 0 + next = omega arith in ap (λ n. numbered_from n ys) same

@@ -17,7 +17,7 @@ use Rattle.wh_history.specs.Keys.{distinct}
 use Rattle.wh_history.specs.Known.{number_in, numbered_from, KnowsEnough}
 use Rattle.wh_history.specs.Laws.{governs}
 use Rattle.wh_history.specs.Profiles.{combinations_of, profile_number}
-use Rattle.wh_history.specs.Slots.{picks, texts_eq}
+use Rattle.wh_history.specs.Slots.{picks, are_same}
 use Rattle.wh_history.specs.Tables.{Limits}
 use Rattle.wh_history.specs.declared.member.Member.{Member}
 use Rattle.wh_history.specs.declared.profiles.Numbered.{Numbered}
@@ -131,13 +131,13 @@ module _ (limits : Limits) (commands : List Accepted) (t : Tables) (are : AreOf 
     pick r = picks is_profile (types_in Customer commands) r.values
 
     abbrev Tells : List (List ℕ) → Type 0
-    Tells x = not (list_any (λ y. texts_eq y x) (map pick (described Customer commands))) ≡ is_none (number_in looked x)
+    Tells x = not (list_any (λ y. are_same y x) (map pick (described Customer commands))) ≡ is_none (number_in looked x)
 
     tells : (rs : List DimensionRecord) → AllByRecursion (λ x. any_of x texts_told ≡ true) (told_of kinds rs) → AllByRecursion Tells (told_of kinds rs)
     tells [] all = tt
     tells (r ∷ rs) all =
         let x = picks is_profile kinds r.values in (
-          sym (ap is_none (found_number r.values (any_left x texts_told texts_said all.0)) ∙ none_known base x ∙ ap not (among_distinct texts_eq texts_decide x (map pick (described Customer commands)))),
+          sym (ap is_none (found_number r.values (any_left x texts_told texts_said all.0)) ∙ none_known base x ∙ ap not (among_distinct are_same texts_decide x (map pick (described Customer commands)))),
           tells rs all.1,
         )
 
@@ -149,10 +149,10 @@ module _ (limits : Limits) (commands : List Accepted) (t : Tables) (are : AreOf 
         let each = tells records (all_there texts_told) in
         sym (profiles-last commands c (ap governs is)
         ∙ ap (λ cs. base ++ cs)
-        (fresh_is texts_eq (map pick (described Customer commands)) (distinct texts_eq (map pick (described_by Customer c.content)))
-        ∙ ap (λ rs. filter (λ x. not (list_any (λ y. texts_eq y x) (map pick (described Customer commands)))) (distinct texts_eq (map pick rs))) brought
-        ∙ ap (λ ks. filter (λ x. not (list_any (λ y. texts_eq y x) (map pick (described Customer commands)))) (distinct texts_eq (told_of ks records))) types
-        ∙ filter_same (λ x. not (list_any (λ y. texts_eq y x) (map pick (described Customer commands)))) (λ x. is_none (number_in looked x)) (distinct texts_eq texts_told) (all_distinct Tells texts_eq texts_told each)
+        (fresh_is are_same (map pick (described Customer commands)) (distinct are_same (map pick (described_by Customer c.content)))
+        ∙ ap (λ rs. filter (λ x. not (list_any (λ y. are_same y x) (map pick (described Customer commands)))) (distinct are_same (map pick rs))) brought
+        ∙ ap (λ ks. filter (λ x. not (list_any (λ y. are_same y x) (map pick (described Customer commands)))) (distinct are_same (told_of ks records))) types
+        ∙ filter_same (λ x. not (list_any (λ y. are_same y x) (map pick (described Customer commands)))) (λ x. is_none (number_in looked x)) (distinct are_same texts_told) (all_distinct Tells are_same texts_told each)
         ∙ ap (unknown looked) (sym (distinct_with [] texts_told))))
 
     abbrev next : ℕ

@@ -8,7 +8,7 @@ use Rattle.wh_policy.specs.declared.attribute.Dim.TheVariants.{Product, Store, C
 use Rattle.wh_policy.specs.declared.record.DimensionRecord.{DimensionRecord}
 use Rattle.wh_policy.specs.declared.record.SaleRecord.{SaleRecord}
 use Rattle.wh_history.specs.Keys.{distinct, at_place}
-use Rattle.wh_history.specs.Slots.{picks, texts_eq}
+use Rattle.wh_history.specs.Slots.{picks, are_same}
 use Rattle.wh_policy.specs.Types.{is_profile}
 use Rattle.wh_history.specs.Accepted.{Accepted, Anchor, same_anchor, opening_of, anchors_of_record, anchors_of_sale, anchors_by, described_by, sold_by, member_of_sale, mentions, anchors, members, described, sold, types_in, profiles_of}
 use Rattle.wh_history.specs.Tables.{Limits}
@@ -137,5 +137,5 @@ module _ (limits : Limits) (commands : List Accepted) (ok : IsAccepted limits co
       let pick = λ (r : DimensionRecord). picks is_profile (types_in Customer commands) r.values in
       let all = described_few Customer in
       let picked = length-map (described Customer commands) pick in
-      let once = distinct_few texts_eq (map pick (described Customer commands)) in
+      let once = distinct_few are_same (map pick (described Customer commands)) in
       omega arith

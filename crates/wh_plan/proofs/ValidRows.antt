@@ -13,7 +13,7 @@ use Rattle.wh_policy.specs.declared.attribute.AttributeType.{AttributeType}
 use Rattle.wh_policy.specs.declared.attribute.AttributeType.TheVariants.{RetainOriginal, Overwrite, NewRow, NewAttribute, MiniDimension, MiniDimensionOutrigger, NewRowAndOverwrite, DualKeys}
 use Rattle.wh_policy.specs.declared.record.DimensionRecord.{DimensionRecord}
 use Rattle.wh_history.specs.Keys.{place}
-use Rattle.wh_history.specs.Slots.{slot, picks, texts_eq}
+use Rattle.wh_history.specs.Slots.{slot, picks, are_same}
 use Rattle.wh_history.specs.Dated.{dated, at, said, values_in, value_at, latest, original, prior, newest}
 use Rattle.wh_history.specs.Rows.{starts, later_starts, same_tracked, row, rows, main_column, second_column}
 use Rattle.wh_history.specs.Profiles.{after_unknown, current_profile, profile_now}
@@ -149,8 +149,8 @@ pub current_small : (kinds : List AttributeType) (combinations : List (List (Lis
 current_small kinds combinations None = omega arith
 current_small kinds combinations (Some c) =
     let texts = picks is_profile kinds c.values in
-    let number = behind_small (place texts_eq texts combinations) in
-    let within = place_within texts_eq texts combinations in
+    let number = behind_small (place are_same texts combinations) in
+    let within = place_within are_same texts combinations in
     omega arith
 
 pub shown_small : (kinds : List AttributeType) (combinations : List (List (List ℕ))) (m : Member) → profile_now kinds combinations m ≤ suc (length combinations)

@@ -12,7 +12,7 @@ use Rattle.wh_policy.specs.declared.attribute.AttributeType.TheVariants.{RetainO
 use Rattle.wh_policy.specs.declared.record.DimensionRecord.{DimensionRecord}
 use Rattle.wh_policy.specs.declared.record.SaleRecord.{SaleRecord}
 use Rattle.wh_history.specs.Keys.{at_place, place}
-use Rattle.wh_history.specs.Slots.{slot, picked, picks, six, texts_eq}
+use Rattle.wh_history.specs.Slots.{slot, picked, picks, six, are_same}
 use Rattle.wh_history.specs.Accepted.{Accepted, Anchor, same_anchor, opening_of, day_of, anchors_of_record, anchors_of_sale, member_of_sale, anchors_by, described_by, sold_by, described, sold, mentions, anchors, members, types_in, durable_key, surrogate_key, member_of, profiles_of}
 use Rattle.wh_history.specs.Tables.{Limits, numbered_row, dimension_row, member_rows, no_card_row, no_card_main, no_card_second, change_row_of, change_row_in}
 use Rattle.wh_history.specs.Tables as history
@@ -200,7 +200,7 @@ module _ (limits : Limits) (commands : List Accepted) (ok : IsAccepted limits co
   good_combinations =
       let kinds = types_in Customer commands in
       let pick = λ (r : DimensionRecord). picks is_profile kinds r.values in
-      all_distinct IsGoodCombination texts_eq (map pick (described Customer commands))
+      all_distinct IsGoodCombination are_same (map pick (described Customer commands))
       (all_mapped IsGoodRecord IsGoodCombination pick (good_picks kinds (ok.six Customer)) (described Customer commands) (ok.records Customer))
 
   profile_slots : (n : ℕ) (texts : List (List ℕ)) → history.profile_row commands n ≡ Some texts → (n ≤ suc (length (profiles_of commands))) × (are_slots texts ≡ true)

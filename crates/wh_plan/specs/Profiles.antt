@@ -8,20 +8,20 @@ use Rattle.wh_policy.specs.declared.attribute.Dim.{Dim}
 use Rattle.wh_policy.specs.declared.record.DimensionRecord.{DimensionRecord}
 use Rattle.wh_history.specs.Accepted.{Accepted, profiles_of}
 use Rattle.wh_history.specs.Known.{number_in, KnowsEnough}
-use Rattle.wh_history.specs.Slots.{picks, six, texts_eq}
+use Rattle.wh_history.specs.Slots.{picks, six, are_same}
 use Rattle.wh_history.specs.declared.member.Change.{Change}
 use Rattle.wh_history.specs.declared.member.Member.{Member}
 use Rattle.wh_history.specs.declared.profiles.Numbered.{Numbered}
 use Rattle.wh_rows.specs.declared.rows.ProfileRow.{ProfileRow}
 use Rattle.wh_rows.specs.Rows as row
-use Rattle.wh_sql.specs.Asked.{same_slots}
+use Rattle.wh_store.specs.Reads.{same_slots}
 use Rattle.wh_plan.specs.Defined.{profile_at}
 use Rattle.wh_plan.specs.Edits.{behind}
 use Rattle.wh_plan.specs.declared.profiles.Learned.{Learned}
 
 -- combinations with one more, unless it is there
 abbrev pub with_combination : List (List (List ℕ)) → List (List ℕ) → List (List (List ℕ))
-with_combination combinations texts = if list_any (λ c. texts_eq c texts) combinations then combinations else combinations ++ texts ∷ []
+with_combination combinations texts = if list_any (λ c. are_same c texts) combinations then combinations else combinations ++ texts ∷ []
 
 -- with some more, in their order
 abbrev pub with_combinations : List (List (List ℕ)) → List (List (List ℕ)) → List (List (List ℕ))

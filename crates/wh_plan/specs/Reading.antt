@@ -33,7 +33,7 @@ abbrev pub given_text : List ℕ → List ℕ
 given_text [] = none_text
 given_text (byte ∷ bytes) = byte ∷ bytes
 
--- the change that a row of change tells
+-- the change that a row of change gives
 abbrev pub change_in : ChangeRow → Change
 change_in r = record { day = r.day; anchor = r.anchor; values = map given_text r.values }
 

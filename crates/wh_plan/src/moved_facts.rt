@@ -10,8 +10,7 @@ ghost use Rattle.wh_plan.specs.Defined.{fact_at};
 ghost use Rattle.wh_plan.specs.Edits.{AreFacts};
 ghost use Rattle.wh_plan.specs.MovedFacts.{earliest, moves_since, moved_of_touched, pair_of, rekeyed_facts};
 ghost use Rattle.wh_plan.specs.NewRows.{Records, naturals_told};
-ghost use Rattle.wh_sql.specs.Reads.{ReadsOnly};
-ghost use Rattle.wh_store.specs.Reads.{state_of};
+ghost use Rattle.wh_store.specs.Reads.{ReadsOnly, state_of};
 ghost use Rattle.wh_plan.specs.Reads.{Finds, Tells};
 ghost use Rattle.wh_plan.specs.Sound.{AreTypes, IsAccepted};
 

@@ -8,10 +8,9 @@ ghost use Rattle.wh_policy.specs.declared.attribute.Dim.TheVariants.{Customer};
 ghost use Rattle.wh_history.specs.Accepted.{Accepted, Describes, profiles_of};
 ghost use Rattle.wh_history.specs.Keys.{greatest_number};
 ghost use Rattle.wh_history.specs.Known.{number_in, numbered_from, KnowsEnough};
-ghost use Rattle.wh_history.specs.Slots.{texts_eq};
+ghost use Rattle.wh_history.specs.Slots.{are_same};
 ghost use Rattle.wh_plan.specs.Profiles.{with_combination, with_combinations, told_of, said_of, said_by, number_kept, learned, is_none, unknown, row_of_profile, IsLearned};
-ghost use Rattle.wh_sql.specs.Reads.{ReadsOnly};
-ghost use Rattle.wh_store.specs.Reads.{state_of};
+ghost use Rattle.wh_store.specs.Reads.{ReadsOnly, state_of};
 ghost use Rattle.wh_plan.specs.Reads.{Finds, Tells};
 ghost use Rattle.wh_plan.specs.Sound.{AreTypes, IsAccepted};
 
@@ -19,9 +18,7 @@ use crate::batch::Batch;
 use sqlite::Alter;
 use std::alloc::{AllocError, Global};
 use wh_day::Values;
-use wh_history::{
-    Change, GREATEST_NUMBER, Member, Profiles, is_same_texts, profile_texts, six_texts,
-};
+use wh_history::{Change, GREATEST_NUMBER, Member, Profiles, profile_texts, six_texts};
 use wh_policy::{AttributeType, Dim, DimensionRecord};
 use wh_rows::{ProfileRow, tables};
 use wh_store::{Greatest, ProfileOf, ReadFault, Tables};
@@ -40,11 +37,9 @@ pub(crate) struct Learned {
 
 /// Whether a combination is there.
 fn contains(combinations: &[Values], texts: &Values) -> bool
-    ensures { result ≡ list_any (λ c. texts_eq c texts.now) combinations.now }
+    ensures { result ≡ list_any (λ c. are_same c texts.now) combinations.now }
 {
-    combinations
-        .iter()
-        .any(|c| is_same_texts(c.as_slice(), texts.as_slice()))
+    combinations.iter().any(|c| c.is_same(texts))
 }
 
 /// Adds a combination, unless it is there.

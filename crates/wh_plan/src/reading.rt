@@ -7,8 +7,7 @@ ghost use Rattle.wh_history.specs.Laws.{RecordsHaveDays};
 ghost use Rattle.wh_history.specs.Plan.{row_of};
 ghost use Rattle.wh_history.specs.Tables.{member_rows};
 ghost use Rattle.wh_plan.specs.Reading.{HaveDistinctIds, HaveNoEmptyValue, command_with, given_text, change_in, last_opening, rows_with};
-ghost use Rattle.wh_sql.specs.Reads.{ReadsOnly};
-ghost use Rattle.wh_store.specs.Reads.{state_of};
+ghost use Rattle.wh_store.specs.Reads.{ReadsOnly, state_of};
 ghost use Rattle.wh_plan.specs.Reads.{Finds, Tells};
 
 use sqlite::Alter;
@@ -52,7 +51,7 @@ fn given_texts(alloc: Global, texts: &[Value]) -> Result<Values, AllocError>
     Ok(given)
 }
 
-/// The change that a row tells.
+/// The change that a row gives.
 fn change_in(alloc: Global, row: &ChangeRow) -> Result<Change, AllocError>
     ensures { IfOk result (λ change. change ≡ change_in row.now) }
 {

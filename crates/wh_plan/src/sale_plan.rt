@@ -12,8 +12,7 @@ ghost use Rattle.wh_plan.specs.Reading.{HaveNoEmptyValue};
 ghost use Rattle.wh_plan.specs.Sound.{same_line};
 ghost use Rattle.wh_plan.specs.SoldMembers.{IsSoldDimension};
 ghost use Rattle.wh_plan.specs.Edits.{AreEdits};
-ghost use Rattle.wh_sql.specs.Reads.{ReadsOnly};
-ghost use Rattle.wh_store.specs.Reads.{state_of};
+ghost use Rattle.wh_store.specs.Reads.{ReadsOnly, state_of};
 ghost use Rattle.wh_plan.specs.Reads.{Finds};
 
 use crate::edits::Edits;

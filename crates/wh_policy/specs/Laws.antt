@@ -57,7 +57,7 @@ NoOthersAreFound = (policy : Policy) (dim : Dim) (name : List ℕ) → (slot_fro
 abbrev pub names_of : Policy → Dim → List (List ℕ)
 names_of policy dim = map (λ a. a.name) (attributes_of policy dim)
 
--- the newer policy has the old names in their slots and may have more behind them, and has the old years
+-- the newer policy has the old names in their slots and may have more after them, and has the old years
 pub record IsFit (old new : Policy) : Type 0 where
   pub names : (dim : Dim) → (more : List (List ℕ)) × (names_of new dim ≡ names_of old dim ++ more)
   pub from : new.years.first ≤ old.years.first

@@ -69,7 +69,7 @@ fn add(
 impl Policy {
     /// The policy that the bytes of a file write: a TOML text of at most 65,536 bytes, as docs/formats.md says.
     ///
-    /// The fault is the first one in the order told there; [`ReadError::Memory`] where memory ran out.
+    /// The fault is the first one in the order that stands there; [`ReadError::Memory`] where memory ran out.
     #[tactic(auto, unfolding(crate::specs::Policy::policy_at))]
     pub fn read(alloc: Global, bytes: &[u8]) -> Result<Policy, ReadError<PolicyFault>>
         ensures { Gives (λ policy. policy) result (policy_at bytes.now) }

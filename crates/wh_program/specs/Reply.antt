@@ -21,7 +21,7 @@ use Rattle.wh_rows.specs.declared.cause.Cause.{Cause}
 use Rattle.wh_rows.specs.declared.cause.Cause.TheVariants as cause
 use Rattle.wh_program.specs.Answer.{Printed, done, refused, failed, line, batch_line, policy_line, memory_line}
 
--- what an accepted command is told, behind the word for how it was taken
+-- what an accepted command is answered, after the word for how it was taken
 abbrev pub receipt_line : List ℕ → List ℕ → Receipt → List ℕ
 receipt_line word id receipt = line (word ++ codes " " ++ decimal receipt.number ++ codes " " ++ id ++ codes ": " ++ decimal receipt.records ++ codes " records, "
     ++ decimal receipt.placeholders ++ codes " placeholders")
@@ -98,7 +98,7 @@ abbrev pub totals_text : Counts → List ℕ
 totals_text counts = line (codes "format " ++ decimal counts.format ++ codes "\ncommands " ++ decimal counts.commands ++ codes "\nchanges " ++ decimal counts.changes
     ++ codes "\nfacts " ++ decimal counts.facts)
 
--- the five lines that tell how much a warehouse holds
+-- the five lines of how much a warehouse holds
 abbrev pub counts_text : Counts → List ℕ
 counts_text counts = totals_text counts ++ members_line counts
 

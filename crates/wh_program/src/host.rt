@@ -40,10 +40,10 @@ pub trait Visitor: Drop {
 
 /// The files that a run can name.
 pub trait Host {
-    /// What stands under a name, `None` where no file does. A host that does not tell lets it be anything.
+    /// What stands under a name, `None` where no file does. A host that says nothing of it lets it be anything.
     ghost holds: { Self → List ℕ → Option (List ℕ) → Type 0 } = { λ _ _ _. ⊤ };
 
-    /// What stands under a name as a warehouse. A host that does not tell knows of nothing that stands.
+    /// What stands under a name as a warehouse. A host that says nothing of it knows of nothing that stands.
     ghost stores: { Self → List ℕ → Standing → Type 0 } = { λ _ _ _. ⊥ };
 
     /// Reads a file whole.

@@ -100,13 +100,13 @@ fn told(alloc: Global, status: Status, line: &str) -> Result<Answer, AllocError>
 /// The most bytes of a receipt's line, beside the id.
 const LONGEST_RECEIPT: usize = 128;
 
-/// Room for the line of any receipt behind an id. It is taken before a command is sent, so that no memory is wanted once the
+/// Room for the line of any receipt after an id. It is taken before a command is sent, so that no memory is wanted once the
 /// command is kept.
 pub fn room_for_receipt(alloc: Global, id: &str) -> Result<Vec<u8>, AllocError> {
     Vec::with_capacity(alloc, id.len().saturating_add(LONGEST_RECEIPT))
 }
 
-/// What an accepted command is told, behind the word for how it was taken, in room that was taken for it.
+/// What an accepted command is answered, after the word for how it was taken, in room that was taken for it.
 fn receipt_line(
     mut line: Vec<u8>,
     word: &str,
@@ -273,7 +273,7 @@ pub fn opening_answer(alloc: Global, fault: OpenFault) -> Result<Answer, AllocEr
     }
 }
 
-/// The line that tells how many members there are.
+/// The line of how many members there are.
 fn members_line(alloc: Global, counts: &Counts) -> Result<String, AllocError>
     ensures { IfOk result (λ line. string_bytes line ≡ members_line counts.now) }
 {
@@ -283,7 +283,7 @@ fn members_line(alloc: Global, counts: &Counts) -> Result<String, AllocError>
     format!(in alloc; "members product {products} store {stores} customer {customers}\n")
 }
 
-/// The lines that tell the format and how many rows there are.
+/// The lines of the format and of how many rows there are.
 fn totals_text(alloc: Global, counts: &Counts) -> Result<String, AllocError>
     ensures { IfOk result (λ text. string_bytes text ≡ totals_text counts.now) }
 {
@@ -294,7 +294,7 @@ fn totals_text(alloc: Global, counts: &Counts) -> Result<String, AllocError>
     format!(in alloc; "format {number}\ncommands {commands}\nchanges {changes}\nfacts {facts}\n")
 }
 
-/// The five lines that tell how much a warehouse holds.
+/// The five lines of how much a warehouse holds.
 fn counts_text(alloc: Global, counts: &Counts) -> Result<Vec<u8>, AllocError>
     ensures { IfOk result (λ text. text.items ≡ counts_text counts.now) }
 {

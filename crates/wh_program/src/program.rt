@@ -93,7 +93,7 @@ fn answer_to<S: AsStr, H: Host>(
     answer_request(alloc, parse(alloc, words)?, host)
 }
 
-/// One run of the program: answers the words after its name, and tells the status to exit with.
+/// One run of the program: answers the words after its name, and gives the status to exit with.
 pub fn run<S: AsStr, H: Host, W: Write>(alloc: Global, words: &[S], host: &mut H, out: &mut W) -> u8
     // What a trial of a dimension prints, with its status, under its own policy or the one in a file.
     ensures trial { (dim : Dim) (path : List ℕ) (policy : Option (List ℕ))

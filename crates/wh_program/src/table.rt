@@ -33,7 +33,7 @@ const COLUMNS: [&str; 19] = [
     "profile_now",
 ];
 
-/// The line of these fields. Over a buffer in memory `csv` fails for want of memory alone.
+/// The line of these fields. Over a buffer in memory `csv` fails only where memory runs out.
 fn line_of(alloc: Global, fields: &StringRecord) -> Result<Vec<u8>, AllocError>
     ensures { IfOk result (λ line. line.items ≡ row_text default_writer (fields_of fields.now)) }
 {

@@ -126,26 +126,3 @@ get_stored k = record { reads = get k; tested = λ r. refl }
 pub count : CountsAll row.calendar texts.calendar.count
 unfolding understood everything
 count = record { names = codes "count(*)" ∷ []; command = refl; plain = (refl, refl); unlisted = refl }
-
--- ---- by the names that the crate above cites
-
-abbrev pub bind : ℕ → Row
-bind = bind_number
-
-abbrev pub stands_at : ℕ → Row → Bool
-stands_at = stands_at_number
-
-abbrev pub put_text : List ℕ
-put_text = texts.calendar.put
-
-abbrev pub remove_text : List ℕ
-remove_text = texts.calendar.remove
-
-abbrev pub all_text : List ℕ
-all_text = texts.calendar.all
-
-abbrev pub get_text : List ℕ
-get_text = texts.calendar.get
-
-abbrev pub count_text : List ℕ
-count_text = texts.calendar.count

@@ -196,35 +196,3 @@ of_anchor_stored dim anchor = record { reads = of_anchor dim anchor; tested = λ
 pub count : CountsAll row.change texts.change.count
 unfolding understood everything
 count = record { names = codes "count(*)" ∷ []; command = refl; plain = (refl, refl); unlisted = refl }
-
--- ---- by the names that the crate above cites
-
-abbrev pub bind : ChangeKey → Row
-bind = bind_change
-
-abbrev pub stands_at : ChangeKey → Row → Bool
-stands_at = stands_at_change
-
-abbrev pub put_text : List ℕ
-put_text = texts.change.put
-
-abbrev pub remove_text : List ℕ
-remove_text = texts.change.remove
-
-abbrev pub all_text : List ℕ
-all_text = texts.change.all
-
-abbrev pub get_text : List ℕ
-get_text = texts.change.get
-
-abbrev pub count_text : List ℕ
-count_text = texts.change.count
-
-abbrev pub of_member_text : List ℕ
-of_member_text = texts.changes_of_member
-
-abbrev pub of_anchor_text : List ℕ
-of_anchor_text = texts.changes_of_anchor
-
-abbrev pub greatest_anchor_text : List ℕ
-greatest_anchor_text = texts.greatest_anchor

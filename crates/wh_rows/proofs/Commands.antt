@@ -184,32 +184,3 @@ of_id_stored id = record { reads = of_id id; tested = λ r. refl }
 pub count : CountsAll row.command texts.command.count
 unfolding understood everything
 count = record { names = codes "count(*)" ∷ []; command = refl; plain = (refl, refl); unlisted = refl }
-
--- ---- by the names that the crate above cites
-
-abbrev pub bind : ℕ → Row
-bind = bind_number
-
-abbrev pub stands_at : ℕ → Row → Bool
-stands_at = stands_at_number
-
-abbrev pub put_text : List ℕ
-put_text = texts.command.put
-
-abbrev pub remove_text : List ℕ
-remove_text = texts.command.remove
-
-abbrev pub all_text : List ℕ
-all_text = texts.command.all
-
-abbrev pub get_text : List ℕ
-get_text = texts.command.get
-
-abbrev pub count_text : List ℕ
-count_text = texts.command.count
-
-abbrev pub of_id_text : List ℕ
-of_id_text = texts.command_of_id
-
-abbrev pub greatest_text : List ℕ
-greatest_text = texts.last_command

@@ -254,35 +254,3 @@ of_sales_since_stored Customer durable from = record { reads = of_customer_since
 pub count : CountsAll row.fact texts.fact.count
 unfolding understood everything
 count = record { names = codes "count(*)" ∷ []; command = refl; plain = (refl, refl); unlisted = refl }
-
--- ---- by the names that the crate above cites
-
-abbrev pub bind : LineKey → Row
-bind = bind_line
-
-abbrev pub stands_at : LineKey → Row → Bool
-stands_at = stands_at_line
-
-abbrev pub put_text : List ℕ
-put_text = texts.fact.put
-
-abbrev pub remove_text : List ℕ
-remove_text = texts.fact.remove
-
-abbrev pub all_text : List ℕ
-all_text = texts.fact.all
-
-abbrev pub get_text : List ℕ
-get_text = texts.fact.get
-
-abbrev pub count_text : List ℕ
-count_text = texts.fact.count
-
-abbrev pub of_store_since_text : List ℕ
-of_store_since_text = texts.sales_since Store
-
-abbrev pub of_product_since_text : List ℕ
-of_product_since_text = texts.sales_since Product
-
-abbrev pub of_customer_since_text : List ℕ
-of_customer_since_text = texts.sales_since Customer

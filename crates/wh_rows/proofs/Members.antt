@@ -187,32 +187,3 @@ of_natural_stored dim natural = record { reads = of_natural dim natural; tested 
 pub count : CountsAll row.member texts.member.count
 unfolding understood everything
 count = record { names = codes "count(*)" ∷ []; command = refl; plain = (refl, refl); unlisted = refl }
-
--- ---- by the names that the crate above cites
-
-abbrev pub bind : MemberKey → Row
-bind = bind_member
-
-abbrev pub stands_at : MemberKey → Row → Bool
-stands_at = stands_at_member
-
-abbrev pub put_text : List ℕ
-put_text = texts.member.put
-
-abbrev pub remove_text : List ℕ
-remove_text = texts.member.remove
-
-abbrev pub all_text : List ℕ
-all_text = texts.member.all
-
-abbrev pub get_text : List ℕ
-get_text = texts.member.get
-
-abbrev pub count_text : List ℕ
-count_text = texts.member.count
-
-abbrev pub of_natural_text : List ℕ
-of_natural_text = texts.member_of_natural
-
-abbrev pub greatest_text : List ℕ
-greatest_text = texts.last_member

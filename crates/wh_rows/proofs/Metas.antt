@@ -124,26 +124,3 @@ get_stored k = record { reads = get k; tested = λ r. refl }
 pub count : CountsAll row.meta texts.meta.count
 unfolding understood everything
 count = record { names = codes "count(*)" ∷ []; command = refl; plain = (refl, refl); unlisted = refl }
-
--- ---- by the names that the crate above cites
-
-abbrev pub bind : List ℕ → Row
-bind = bind_text
-
-abbrev pub stands_at : List ℕ → Row → Bool
-stands_at = stands_at_text
-
-abbrev pub put_text : List ℕ
-put_text = texts.meta.put
-
-abbrev pub remove_text : List ℕ
-remove_text = texts.meta.remove
-
-abbrev pub all_text : List ℕ
-all_text = texts.meta.all
-
-abbrev pub get_text : List ℕ
-get_text = texts.meta.get
-
-abbrev pub count_text : List ℕ
-count_text = texts.meta.count

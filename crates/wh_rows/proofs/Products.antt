@@ -173,32 +173,3 @@ of_durable_stored durable = record { reads = of_durable durable; tested = λ r. 
 pub count : CountsAll row.product texts.product.count
 unfolding understood everything
 count = record { names = codes "count(*)" ∷ []; command = refl; plain = (refl, refl); unlisted = refl }
-
--- ---- by the names that the crate above cites
-
-abbrev pub bind : ℕ → Row
-bind = bind_number
-
-abbrev pub stands_at : ℕ → Row → Bool
-stands_at = stands_at_number
-
-abbrev pub put_text : List ℕ
-put_text = texts.product.put
-
-abbrev pub remove_text : List ℕ
-remove_text = texts.product.remove
-
-abbrev pub all_text : List ℕ
-all_text = texts.product.all
-
-abbrev pub get_text : List ℕ
-get_text = texts.product.get
-
-abbrev pub count_text : List ℕ
-count_text = texts.product.count
-
-abbrev pub greatest_text : List ℕ
-greatest_text = texts.last_row Product
-
-abbrev pub of_durable_text : List ℕ
-of_durable_text = texts.rows_of_member Product

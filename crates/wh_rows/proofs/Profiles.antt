@@ -172,32 +172,3 @@ of_values_stored values = record { reads = of_values values; tested = λ r. refl
 pub count : CountsAll row.profile texts.profile.count
 unfolding understood everything
 count = record { names = codes "count(*)" ∷ []; command = refl; plain = (refl, refl); unlisted = refl }
-
--- ---- by the names that the crate above cites
-
-abbrev pub bind : ℕ → Row
-bind = bind_number
-
-abbrev pub stands_at : ℕ → Row → Bool
-stands_at = stands_at_number
-
-abbrev pub put_text : List ℕ
-put_text = texts.profile.put
-
-abbrev pub remove_text : List ℕ
-remove_text = texts.profile.remove
-
-abbrev pub all_text : List ℕ
-all_text = texts.profile.all
-
-abbrev pub get_text : List ℕ
-get_text = texts.profile.get
-
-abbrev pub count_text : List ℕ
-count_text = texts.profile.count
-
-abbrev pub greatest_text : List ℕ
-greatest_text = texts.last_profile
-
-abbrev pub of_values_text : List ℕ
-of_values_text = texts.profile_of_values

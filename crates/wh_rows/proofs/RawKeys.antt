@@ -29,7 +29,7 @@ use Rattle.std.proofs.lemmas.List.Sorted.{length_permutation}
 use Rattle.sqlite_trees.proofs.ListLemmas.{filter-map, IsPermutation-filter}
 use Rattle.wh_rows.specs.declared.table.Table.TheVariants.{Meta}
 use Rattle.wh_rows.specs.Raw.{Stored, IsStored, rows_in}
-use Rattle.wh_rows.proofs.Metas.{stands_at}
+use Rattle.wh_rows.specs.Keys.{stands_at_text}
 use Rattle.wh_rows.specs.Holds.{IsRising, values_of}
 use Rattle.wh_rows.proofs.Keys.{equal-Int, equal-Text, equal_is}
 use Rattle.sqlite_value.proofs.OrderLemmas.{value_cmp-Int}
@@ -78,8 +78,8 @@ rank_apart (Int n) k p = absurd (cc)
 rank_apart (Real x) k p = absurd (cc)
 rank_apart (Blob t) k p = absurd (cc)
 
-texts_equal : (v w : Value) (k : List ℕ) → equal Binary v (Text k) ≡ true → equal Binary w (Text k) ≡ true → equal Binary v w ≡ true
-texts_equal v w k p q =
+are_sameual : (v w : Value) (k : List ℕ) → equal Binary v (Text k) ≡ true → equal Binary w (Text k) ≡ true → equal Binary v w ≡ true
+are_sameual v w k p q =
     let one = rank_apart v k p in
     let two = rank_apart w k q in
     let first : slice_cmp nat_cmp k one.0 ≡ Equal = equal_is _ (sym (equal-Text one.0 k) ∙ ap (λ v. equal Binary v (Text k)) (sym one.1) ∙ p) in
@@ -119,16 +119,16 @@ meta_once db is sound rising k =
     (λ x y hx hy px py less.
     let mine : passes Unique warehouse db.trees schema.meta x ≡ true = all_has (λ row. passes Unique warehouse db.trees schema.meta row ≡ true) rows x here hx in
     let first : not (clashes plain (1 ∷ []) rows x) ≡ true = (and_parts _ _ mine).0 in
-    let agrees : (equal Binary (column y 1) (column x 1) && true) ≡ true = both (texts_equal (column y 1) (column x 1) k (and_parts _ _ py).0 (and_parts _ _ px).0) refl in
+    let agrees : (equal Binary (column y 1) (column x 1) && true) ≡ true = both (are_sameual (column y 1) (column x 1) k (and_parts _ _ py).0 (and_parts _ _ px).0) refl in
     none_clashes (λ other. agree plain (1 ∷ []) other (1 ∷ []) x && differ (rowid other) (rowid x)) rows y (not_true _ first) hy
     (both agrees (ids_differ (rowid x) (rowid y) (all_has _ rows x rising.1 hx) (all_has _ rows y rising.1 hy) less)))
 
 -- under a name at most one row is stored, damaged or not
-pub named_once : (db : Database) (stored : Stored) → IsStored stored db → (name : List ℕ) → length (filter (stands_at name) (stored Meta)) ≤ 1
+pub named_once : (db : Database) (stored : Stored) → IsStored stored db → (name : List ℕ) → length (filter (stands_at_text name) (stored Meta)) ≤ 1
 named_once db stored is name =
     let rows = db.trees schema.meta.tree in
-    let bag = IsPermutation-filter (stands_at name) (rows_in schema.meta db.trees) (stored Meta) (is.rows Meta) in
-    let long : length (filter (stands_at name) (stored Meta)) ≡ length (filter (stands_at name) (rows_in schema.meta db.trees)) = length_permutation _ _ bag in
-    let shown : length (filter (stands_at name) (rows_in schema.meta db.trees)) ≡ length (filter (λ r. equal Binary (column r 1) (Text name) && true) rows) =
-    ap length (filter-map (stands_at name) (values_of schema.meta) rows) ∙ length-map (filter (λ r. equal Binary (column r 1) (Text name) && true) rows) (values_of schema.meta) in
+    let bag = IsPermutation-filter (stands_at_text name) (rows_in schema.meta db.trees) (stored Meta) (is.rows Meta) in
+    let long : length (filter (stands_at_text name) (stored Meta)) ≡ length (filter (stands_at_text name) (rows_in schema.meta db.trees)) = length_permutation _ _ bag in
+    let shown : length (filter (stands_at_text name) (rows_in schema.meta db.trees)) ≡ length (filter (λ r. equal Binary (column r 1) (Text name) && true) rows) =
+    ap length (filter-map (stands_at_text name) (values_of schema.meta) rows) ∙ length-map (filter (λ r. equal Binary (column r 1) (Text name) && true) rows) (values_of schema.meta) in
     omega (arith, long, shown, meta_once db is.schema is.sound is.rising.0 name)

@@ -15,10 +15,10 @@ pub struct Limits {
 
 impl Model for Limits {
     ghost use Rattle.std.specs.Prelude.{◌≡◌, true};
-    ghost use Rattle.wh_history.specs.Tables.{Limits as Counts};
+    ghost use Rattle.wh_history.specs.Tables.{Limits as LimitCounts};
     ghost use Rattle.wh_rows.specs.Limits.{are_limits};
 
-    ghost Value = { Counts };
+    ghost Value = { LimitCounts };
 
     ghost view = { λ l. record { commands = l.commands; changes = l.changes; facts = l.facts } };
 

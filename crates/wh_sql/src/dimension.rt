@@ -34,11 +34,12 @@ pub trait Dimension: Keeps<Row = DimRow, Key = u64> {
 
 impl Dimension for tables::Product {
     ghost use Rattle.wh_policy.specs.declared.attribute.Dim.TheVariants.{Product};
-    ghost use Rattle.wh_rows.proofs.Products.{of_durable_text, of_durable, of_durable_stored};
+    ghost use Rattle.wh_rows.proofs.Products.{of_durable, of_durable_stored};
+    ghost use Rattle.wh_rows.specs.Texts.{rows_of_member};
 
     ghost dimension = { Product };
 
-    ghost rows_of_means = { of_durable_text };
+    ghost rows_of_means = { rows_of_member Product };
 
     fn dim() -> Dim {
         Dim::Product
@@ -55,11 +56,12 @@ impl Dimension for tables::Product {
 
 impl Dimension for tables::Store {
     ghost use Rattle.wh_policy.specs.declared.attribute.Dim.TheVariants.{Store};
-    ghost use Rattle.wh_rows.proofs.Stores.{of_durable_text, of_durable, of_durable_stored};
+    ghost use Rattle.wh_rows.proofs.Stores.{of_durable, of_durable_stored};
+    ghost use Rattle.wh_rows.specs.Texts.{rows_of_member};
 
     ghost dimension = { Store };
 
-    ghost rows_of_means = { of_durable_text };
+    ghost rows_of_means = { rows_of_member Store };
 
     fn dim() -> Dim {
         Dim::Store
@@ -76,11 +78,12 @@ impl Dimension for tables::Store {
 
 impl Dimension for tables::Customer {
     ghost use Rattle.wh_policy.specs.declared.attribute.Dim.TheVariants.{Customer};
-    ghost use Rattle.wh_rows.proofs.Customers.{of_durable_text, of_durable, of_durable_stored};
+    ghost use Rattle.wh_rows.proofs.Customers.{of_durable, of_durable_stored};
+    ghost use Rattle.wh_rows.specs.Texts.{rows_of_member};
 
     ghost dimension = { Customer };
 
-    ghost rows_of_means = { of_durable_text };
+    ghost rows_of_means = { rows_of_member Customer };
 
     fn dim() -> Dim {
         Dim::Customer

@@ -9,7 +9,7 @@ ghost use Rattle.sqlite.specs.State.{HasCleanDisk};
 ghost use Rattle.wh_rows.specs.declared.table.Table.TheVariants.{Change as OfChange};
 ghost use Rattle.wh_rows.specs.Types.{dim_number};
 ghost use Rattle.wh_rows.specs.Rows.{change};
-ghost use Rattle.wh_rows.proofs.Changes.{greatest_anchor_text};
+ghost use Rattle.wh_rows.specs.Texts as texts;
 ghost use Rattle.wh_rows.specs.Firsts.{greatest as greatest_of};
 ghost use Rattle.wh_sql.specs.Reads.{ReadsOnly, SaysOfTables, IsUndamaged, FailsToShow};
 
@@ -29,7 +29,8 @@ pub struct Greatest;
 
 impl Question<tables::Command> for Greatest {
     ghost use Rattle.std.specs.Prelude.{true, [], Some};
-    ghost use Rattle.wh_rows.proofs.Commands.{greatest_text, greatest};
+    ghost use Rattle.wh_rows.proofs.Commands.{greatest};
+    ghost use Rattle.wh_rows.specs.Texts.{last_command};
 
     ghost keep = { λ q r. true };
 
@@ -39,7 +40,7 @@ impl Question<tables::Command> for Greatest {
 
     ghost can_be_asked = { λ q. Unit {0} };
 
-    ghost means = { λ q. greatest_text };
+    ghost means = { λ q. last_command };
 
     fn text(&self) -> &'static str {
         "SELECT * FROM command ORDER BY number DESC LIMIT 1"
@@ -58,7 +59,9 @@ impl Question<tables::Command> for Greatest {
 
 impl Question<tables::Product> for Greatest {
     ghost use Rattle.std.specs.Prelude.{true, [], Some};
-    ghost use Rattle.wh_rows.proofs.Products.{greatest_text, greatest};
+    ghost use Rattle.wh_rows.proofs.Products.{greatest};
+    ghost use Rattle.wh_rows.specs.Texts.{last_row};
+    ghost use Rattle.wh_policy.specs.declared.attribute.Dim.TheVariants.{Product};
 
     ghost keep = { λ q r. true };
 
@@ -68,7 +71,7 @@ impl Question<tables::Product> for Greatest {
 
     ghost can_be_asked = { λ q. Unit {0} };
 
-    ghost means = { λ q. greatest_text };
+    ghost means = { λ q. last_row Product };
 
     fn text(&self) -> &'static str {
         "SELECT * FROM product ORDER BY surrogate DESC LIMIT 1"
@@ -87,7 +90,9 @@ impl Question<tables::Product> for Greatest {
 
 impl Question<tables::Store> for Greatest {
     ghost use Rattle.std.specs.Prelude.{true, [], Some};
-    ghost use Rattle.wh_rows.proofs.Stores.{greatest_text, greatest};
+    ghost use Rattle.wh_rows.proofs.Stores.{greatest};
+    ghost use Rattle.wh_rows.specs.Texts.{last_row};
+    ghost use Rattle.wh_policy.specs.declared.attribute.Dim.TheVariants.{Store};
 
     ghost keep = { λ q r. true };
 
@@ -97,7 +102,7 @@ impl Question<tables::Store> for Greatest {
 
     ghost can_be_asked = { λ q. Unit {0} };
 
-    ghost means = { λ q. greatest_text };
+    ghost means = { λ q. last_row Store };
 
     fn text(&self) -> &'static str {
         "SELECT * FROM store ORDER BY surrogate DESC LIMIT 1"
@@ -116,7 +121,9 @@ impl Question<tables::Store> for Greatest {
 
 impl Question<tables::Customer> for Greatest {
     ghost use Rattle.std.specs.Prelude.{true, [], Some};
-    ghost use Rattle.wh_rows.proofs.Customers.{greatest_text, greatest};
+    ghost use Rattle.wh_rows.proofs.Customers.{greatest};
+    ghost use Rattle.wh_rows.specs.Texts.{last_row};
+    ghost use Rattle.wh_policy.specs.declared.attribute.Dim.TheVariants.{Customer};
 
     ghost keep = { λ q r. true };
 
@@ -126,7 +133,7 @@ impl Question<tables::Customer> for Greatest {
 
     ghost can_be_asked = { λ q. Unit {0} };
 
-    ghost means = { λ q. greatest_text };
+    ghost means = { λ q. last_row Customer };
 
     fn text(&self) -> &'static str {
         "SELECT * FROM customer ORDER BY surrogate DESC LIMIT 1"
@@ -145,7 +152,8 @@ impl Question<tables::Customer> for Greatest {
 
 impl Question<tables::Profile> for Greatest {
     ghost use Rattle.std.specs.Prelude.{true, [], Some};
-    ghost use Rattle.wh_rows.proofs.Profiles.{greatest_text, greatest};
+    ghost use Rattle.wh_rows.proofs.Profiles.{greatest};
+    ghost use Rattle.wh_rows.specs.Texts.{last_profile};
 
     ghost keep = { λ q r. true };
 
@@ -155,7 +163,7 @@ impl Question<tables::Profile> for Greatest {
 
     ghost can_be_asked = { λ q. Unit {0} };
 
-    ghost means = { λ q. greatest_text };
+    ghost means = { λ q. last_profile };
 
     fn text(&self) -> &'static str {
         "SELECT * FROM profile ORDER BY number DESC LIMIT 1"
@@ -183,7 +191,8 @@ impl Question<tables::Member> for GreatestOf {
     ghost use Rattle.std.specs.Ordering.{eq_by_cmp, nat_cmp};
     ghost use Rattle.sqlite_value.specs.declared.value.Value.TheVariants.{Int};
     ghost use Rattle.wh_rows.specs.Types.{dim_number};
-    ghost use Rattle.wh_rows.proofs.Members.{greatest_text, greatest};
+    ghost use Rattle.wh_rows.proofs.Members.{greatest};
+    ghost use Rattle.wh_rows.specs.Texts.{last_member};
 
     ghost keep = { λ q r. eq_by_cmp nat_cmp (dim_number q.dim) (dim_number r.dim) };
 
@@ -193,7 +202,7 @@ impl Question<tables::Member> for GreatestOf {
 
     ghost can_be_asked = { λ q. Unit {0} };
 
-    ghost means = { λ q. greatest_text };
+    ghost means = { λ q. last_member };
 
     fn text(&self) -> &'static str {
         "SELECT * FROM member WHERE dim = ?1 ORDER BY dim DESC, durable DESC LIMIT 1"
@@ -219,7 +228,7 @@ pub fn greatest_anchor<S: Alter>(
     ensures reads { ReadsOnly (state S.Store conn.old) (state S.Store conn.new) result }
     ensures anchor { SaysOfTables (state S.Store conn.old) (state S.Store conn.new) (λ t. IfOk result (λ anchor. anchor ≡ greatest_of (map (λ r. r.anchor) (filter (λ r. eq_by_cmp nat_cmp (dim_number dim) (dim_number r.dim)) (values t.change))))) }
     ensures sound { SaysOfTables (state S.Store conn.old) (state S.Store conn.new) (λ _. IsUndamaged result) }
-    ensures refused { HasCleanDisk (state S.Store conn.new) → IfErr result (FailsToShow change OfChange greatest_anchor_text (Number (pos (dim_number dim)) ∷ []) (state S.Store conn.old) (state S.Store conn.new)) }
+    ensures refused { HasCleanDisk (state S.Store conn.new) → IfErr result (FailsToShow change OfChange texts.greatest_anchor (Number (pos (dim_number dim)) ∷ []) (state S.Store conn.old) (state S.Store conn.new)) }
 {
     let text = "SELECT * FROM change WHERE dim = ?1 ORDER BY anchor DESC LIMIT 1";
     let rows = rows_shown::<tables::Change, S>(alloc, conn, text, &[bound::dim(dim)])?;

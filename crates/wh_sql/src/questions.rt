@@ -21,7 +21,8 @@ impl Question<tables::Change> for RecordsOf {
     ghost use Rattle.std.specs.Ordering.{eq_by_cmp, nat_cmp};
     ghost use Rattle.sqlite_value.specs.declared.value.Value.TheVariants.{Int};
     ghost use Rattle.wh_rows.specs.Types.{is_number, dim_number};
-    ghost use Rattle.wh_rows.proofs.Changes.{of_member_text, of_member, of_member_stored};
+    ghost use Rattle.wh_rows.proofs.Changes.{of_member, of_member_stored};
+    ghost use Rattle.wh_rows.specs.Texts.{changes_of_member};
     ghost use Rattle.wh_rows.specs.Questions.{is_of_member};
 
     ghost keep = { λ q r. eq_by_cmp nat_cmp (dim_number q.dim) (dim_number r.dim) && eq_by_cmp nat_cmp q.durable r.durable };
@@ -32,7 +33,7 @@ impl Question<tables::Change> for RecordsOf {
 
     ghost can_be_asked = { λ q. is_number q.durable ≡ true };
 
-    ghost means = { λ q. of_member_text };
+    ghost means = { λ q. changes_of_member };
 
     fn text(&self) -> &'static str {
         "SELECT * FROM change WHERE dim = ?1 AND durable = ?2 ORDER BY command, record"
@@ -99,7 +100,8 @@ impl Question<tables::Change> for RecordsOn {
     ghost use Rattle.std.specs.Ordering.{eq_by_cmp, nat_cmp};
     ghost use Rattle.sqlite_value.specs.declared.value.Value.TheVariants.{Int};
     ghost use Rattle.wh_rows.specs.Types.{is_number, dim_number};
-    ghost use Rattle.wh_rows.proofs.Changes.{of_anchor_text, of_anchor, of_anchor_stored};
+    ghost use Rattle.wh_rows.proofs.Changes.{of_anchor, of_anchor_stored};
+    ghost use Rattle.wh_rows.specs.Texts.{changes_of_anchor};
     ghost use Rattle.wh_rows.specs.Questions.{is_of_anchor};
 
     ghost keep = { λ q r. eq_by_cmp nat_cmp (dim_number q.dim) (dim_number r.dim) && eq_by_cmp nat_cmp q.anchor r.anchor };
@@ -110,7 +112,7 @@ impl Question<tables::Change> for RecordsOn {
 
     ghost can_be_asked = { λ q. is_number q.anchor ≡ true };
 
-    ghost means = { λ q. of_anchor_text };
+    ghost means = { λ q. changes_of_anchor };
 
     fn text(&self) -> &'static str {
         "SELECT * FROM change WHERE dim = ?1 AND anchor = ?2 ORDER BY command, record"
@@ -136,7 +138,8 @@ pub struct CommandOf<'q> {
 impl<'q> Question<tables::Command> for CommandOf<'q> {
     ghost use Rattle.std.specs.Prelude.{[], ◌∷◌, None};
     ghost use Rattle.sqlite_value.specs.declared.value.Value.TheVariants.{Text};
-    ghost use Rattle.wh_rows.proofs.Commands.{of_id_text, of_id, of_id_stored};
+    ghost use Rattle.wh_rows.proofs.Commands.{of_id, of_id_stored};
+    ghost use Rattle.wh_rows.specs.Texts.{command_of_id};
     ghost use Rattle.wh_rows.specs.Questions.{has_id};
     ghost use Rattle.wh_sql.specs.Asked.{same_text};
 
@@ -148,7 +151,7 @@ impl<'q> Question<tables::Command> for CommandOf<'q> {
 
     ghost can_be_asked = { λ q. Unit {0} };
 
-    ghost means = { λ q. of_id_text };
+    ghost means = { λ q. command_of_id };
 
     fn text(&self) -> &'static str {
         "SELECT * FROM command WHERE id = ?1 ORDER BY number"
@@ -177,7 +180,8 @@ impl<'q> Question<tables::Member> for MemberOf<'q> {
     ghost use Rattle.std.specs.Ordering.{eq_by_cmp, nat_cmp};
     ghost use Rattle.sqlite_value.specs.declared.value.Value.TheVariants.{Int, Text};
     ghost use Rattle.wh_rows.specs.Types.{dim_number};
-    ghost use Rattle.wh_rows.proofs.Members.{of_natural_text, of_natural, of_natural_stored};
+    ghost use Rattle.wh_rows.proofs.Members.{of_natural, of_natural_stored};
+    ghost use Rattle.wh_rows.specs.Texts.{member_of_natural};
     ghost use Rattle.wh_rows.specs.Questions.{has_natural};
     ghost use Rattle.wh_sql.specs.Asked.{same_text};
 
@@ -189,7 +193,7 @@ impl<'q> Question<tables::Member> for MemberOf<'q> {
 
     ghost can_be_asked = { λ q. Unit {0} };
 
-    ghost means = { λ q. of_natural_text };
+    ghost means = { λ q. member_of_natural };
 
     fn text(&self) -> &'static str {
         "SELECT * FROM member WHERE dim = ?1 AND natural = ?2 ORDER BY dim, durable"
@@ -267,7 +271,8 @@ pub struct ProfileOf<'q> {
 impl<'q> Question<tables::Profile> for ProfileOf<'q> {
     ghost use Rattle.std.specs.Prelude.{None};
     ghost use Rattle.wh_rows.specs.Rows.{slot_columns};
-    ghost use Rattle.wh_rows.proofs.Profiles.{of_values_text, of_values, of_values_stored};
+    ghost use Rattle.wh_rows.proofs.Profiles.{of_values, of_values_stored};
+    ghost use Rattle.wh_rows.specs.Texts.{profile_of_values};
     ghost use Rattle.wh_rows.specs.Questions.{has_values};
     ghost use Rattle.wh_sql.specs.Asked.{same_slots};
 
@@ -279,7 +284,7 @@ impl<'q> Question<tables::Profile> for ProfileOf<'q> {
 
     ghost can_be_asked = { λ q. Unit {0} };
 
-    ghost means = { λ q. of_values_text };
+    ghost means = { λ q. profile_of_values };
 
     fn text(&self) -> &'static str {
         "SELECT * FROM profile WHERE v1 = ?1 AND v2 = ?2 AND v3 = ?3 AND v4 = ?4 AND v5 = ?5 AND v6 = ?6 ORDER BY number"

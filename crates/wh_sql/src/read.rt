@@ -24,7 +24,7 @@ use std::alloc::Global;
 use wh_day::ReadError;
 use wh_rows::{Cause, Table, read_all};
 
-/// The rows of the table that a query shows, with what the connection tells of it.
+/// The rows of the table that a query shows, with what the connection says of it.
 pub(crate) fn rows_shown<T: Keeps, S: Alter>(
     alloc: Global,
     conn: &mut Connection<S>,

@@ -15,7 +15,7 @@ use Rattle.wh_rows.specs.declared.rows.MetaRow.{MetaRow}
 use Rattle.wh_rows.specs.Rows.{meta, encode_meta}
 use Rattle.wh_rows.specs.Making.{making_texts}
 use Rattle.wh_rows.specs.AtRest.{IsCauseOf}
-use Rattle.wh_rows.proofs.Metas.{put_text, get_text}
+use Rattle.wh_rows.specs.Texts as texts
 use Rattle.wh_sql.specs.Reads.{FailsToShow}
 use Rattle.wh_sql.specs.Refused.{IsCauseOfQuery, IsOneRefused, bare}
 use Rattle.wh_sql.specs.declared.fault.ReadFault.{ReadFault}
@@ -35,18 +35,18 @@ module _ {S : Type 0} (store : Ghosts S) (old before new : Held S) (since : (sta
   one_refused refuses statement_of xs x cause among refused = record { statement = statement_of x; among = mapped_has statement_of xs x among; before = before; since = since; refused = refused }
 
   -- a limit wasn't read
-  pub limit_unread : (name : List ℕ) (refusal : ReadFault) (cause : Cause) → Has limits_asked (get_text, Text name ∷ []) → FailsToShow meta Meta get_text (Text name ∷ []) (state store before) (state store new) refusal
+  pub limit_unread : (name : List ℕ) (refusal : ReadFault) (cause : Cause) → Has limits_asked (texts.meta.get, Text name ∷ []) → FailsToShow meta Meta texts.meta.get (Text name ∷ []) (state store before) (state store new) refusal
       → refusal ≡ Store cause → IsOneRefused store IsCauseOfQuery limits_asked old new cause
   limit_unread name refusal cause among fails is =
-      let refused : FailsToShow meta Meta get_text (Text name ∷ []) (state store before) (state store new) (Store cause) = subst (FailsToShow meta Meta get_text (Text name ∷ []) (state store before) (state store new)) is fails in
-      record { statement = (get_text, Text name ∷ []); among = among; before = before; since = since; refused = refused }
+      let refused : FailsToShow meta Meta texts.meta.get (Text name ∷ []) (state store before) (state store new) (Store cause) = subst (FailsToShow meta Meta texts.meta.get (Text name ∷ []) (state store before) (state store new)) is fails in
+      record { statement = (texts.meta.get, Text name ∷ []); among = among; before = before; since = since; refused = refused }
 
   -- a row of meta wasn't put
-  pub row_refused : (limits : Limits) (row : MetaRow) (cause : Cause) → Has (rows_made limits) row → IsCauseOf put_text (encode_meta row) (state store before) (state store new) cause → IsOneRefused store IsCauseOf (making limits) old new cause
+  pub row_refused : (limits : Limits) (row : MetaRow) (cause : Cause) → Has (rows_made limits) row → IsCauseOf texts.meta.put (encode_meta row) (state store before) (state store new) cause → IsOneRefused store IsCauseOf (making limits) old new cause
   unfolding making
   row_refused limits row cause among refused = record {
-    statement = (put_text, encode_meta row);
-    among = has_right (bare making_texts) (map (λ (r : MetaRow). (put_text, encode_meta r)) (rows_made limits)) (put_text, encode_meta row) (mapped_has (λ (r : MetaRow). (put_text, encode_meta r)) (rows_made limits) row among);
+    statement = (texts.meta.put, encode_meta row);
+    among = has_right (bare making_texts) (map (λ (r : MetaRow). (texts.meta.put, encode_meta r)) (rows_made limits)) (texts.meta.put, encode_meta row) (mapped_has (λ (r : MetaRow). (texts.meta.put, encode_meta r)) (rows_made limits) row among);
     before = before;
     since = since;
     refused = refused;
@@ -57,7 +57,7 @@ pub text_refused : {S : Type 0} (store : Ghosts S) (old new : Held S) (limits : 
 unfolding making
 text_refused store old new limits cause one = record {
   statement = one.statement;
-  among = has_left (bare making_texts) (map (λ (r : MetaRow). (put_text, encode_meta r)) (rows_made limits)) one.statement one.among;
+  among = has_left (bare making_texts) (map (λ (r : MetaRow). (texts.meta.put, encode_meta r)) (rows_made limits)) one.statement one.among;
   before = one.before;
   since = one.since;
   refused = one.refused;

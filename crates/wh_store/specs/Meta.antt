@@ -9,7 +9,7 @@ use Rattle.wh_rows.specs.declared.rows.MetaRow.{MetaRow}
 use Rattle.wh_rows.specs.Tables.{Tables, no_tables}
 use Rattle.wh_rows.specs.Rows.{encode_meta}
 use Rattle.wh_rows.specs.Making.{making_texts}
-use Rattle.wh_rows.proofs.Metas.{put_text, get_text}
+use Rattle.wh_rows.specs.Texts as texts
 use Rattle.wh_sql.specs.Refused.{bare}
 use Rattle.wh_store.specs.declared.fault.OpenFault.{OpenFault}
 use Rattle.wh_store.specs.declared.fault.OpenFault.TheVariants.{NotAWarehouse, OldFormat, NewFormat}
@@ -55,8 +55,8 @@ rows_made limits =
 
 -- the statements that make a warehouse with these limits, with their parameters
 unfoldable pub making : Limits → List (List ℕ × Row)
-making limits = bare making_texts ++ map (λ row. (put_text, encode_meta row)) (rows_made limits)
+making limits = bare making_texts ++ map (λ row. (texts.meta.put, encode_meta row)) (rows_made limits)
 
 -- the questions after the three limits, with their parameters
 abbrev pub limits_asked : List (List ℕ × Row)
-limits_asked = map (λ name. (get_text, Text name ∷ [])) (codes "commands_max" ∷ codes "changes_max" ∷ codes "facts_max" ∷ [])
+limits_asked = map (λ name. (texts.meta.get, Text name ∷ [])) (codes "commands_max" ∷ codes "changes_max" ∷ codes "facts_max" ∷ [])

@@ -3,7 +3,7 @@ use Rattle.std.specs.Prelude.{◌≡◌, [], ◌∷◌, Result, Ok, Err, IfErr, 
 use Rattle.sqlite_value.specs.declared.value.Value.TheVariants.{Text}
 use Rattle.sqlite.specs.State.{State}
 use Rattle.wh_rows.specs.Tables.{Tables}
-use Rattle.wh_rows.proofs.Metas.{get_text}
+use Rattle.wh_rows.specs.Texts as texts
 use Rattle.wh_sql.specs.Refused.{IsCauseOfQuery}
 use Rattle.sqlite.specs.Held.{Held}
 use Rattle.wh_sql.specs.declared.fault.ReadFault.{ReadFault}
@@ -35,7 +35,7 @@ IsServed result = IfErr result SparesStore
 -- It is refused with this fault: memory ran out; or the store refused to show the format; or it is the format's fault. No row of a warehouse is damaged.
 abbrev pub IsRefusedWith : Tables → State → State → OpenFault → Type 0
 IsRefusedWith t old new Memory = ⊤
-IsRefusedWith t old new (Store cause) = IsCauseOfQuery get_text (Text (codes "format") ∷ []) old new cause
+IsRefusedWith t old new (Store cause) = IsCauseOfQuery texts.meta.get (Text (codes "format") ∷ []) old new cause
 IsRefusedWith t old new (Damaged table) = ⊥
 IsRefusedWith t old new fault = fault_of (number_in t (codes "format")) ≡ Err fault
 

@@ -1,4 +1,4 @@
--- What meta tells, whoever wrote its rows.
+-- What meta says, whoever wrote its rows.
 use Rattle.std.specs.Prelude.{◌≡◌, ◌⊎◌, ℕ, ℤ, codes, List, [], ◌∷◌, filter, Option, None, Result, Err, ⊤}
 use Rattle.sqlite.specs.Order.{Row}
 use Rattle.sqlite_rules.specs.Lists.{Has}
@@ -7,7 +7,7 @@ use Rattle.wh_rows.specs.Raw.{Stored, HasDamage, IsLastOf}
 use Rattle.wh_history.specs.Tables.{Limits}
 use Rattle.wh_rows.specs.declared.rows.MetaRow.{MetaRow}
 use Rattle.wh_rows.specs.declared.table.Table.TheVariants.{Meta}
-use Rattle.wh_rows.proofs.Metas.{stands_at}
+use Rattle.wh_rows.specs.Keys.{stands_at_text}
 use Rattle.wh_sql.specs.declared.fault.ReadFault.{ReadFault}
 use Rattle.wh_sql.specs.declared.fault.ReadFault.TheVariants as sql
 use Rattle.wh_store.specs.declared.fault.OpenFault.{OpenFault}
@@ -16,13 +16,13 @@ use Rattle.wh_store.specs.Meta.{number_of, limits_of_numbers, fault_of}
 
 -- the rows that are stored under a name
 abbrev pub rows_named : Stored → List ℕ → List Row
-rows_named stored name = filter (stands_at name) (stored Meta)
+rows_named stored name = filter (stands_at_text name) (stored Meta)
 
 -- none of them is damaged, and the last has this number
 abbrev pub IsNumberIn : Stored → List ℕ → Option ℤ → Type 0
 IsNumberIn stored name number = (found : Option MetaRow) × IsLastOf meta (rows_named stored name) found × (number ≡ number_of found)
 
--- what the format that is stored tells
+-- what the format that is stored says
 abbrev pub FormatIs : Stored → Result ⊤ OpenFault → Type 0
 FormatIs stored told = (format : Option ℤ) × IsNumberIn stored (codes "format") format × (fault_of format ≡ told)
 

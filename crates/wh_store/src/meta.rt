@@ -9,7 +9,7 @@ ghost use Rattle.wh_rows.specs.declared.table.Table.TheVariants.{Meta as OfMeta}
 ghost use Rattle.wh_rows.specs.declared.cause.Cause.TheVariants.{Memory};
 ghost use Rattle.wh_rows.specs.Types.{is_number};
 ghost use Rattle.wh_rows.specs.Rows.{meta};
-ghost use Rattle.wh_rows.proofs.Metas.{get_text};
+ghost use Rattle.wh_rows.specs.Texts as texts;
 ghost use Rattle.wh_store.specs.Raw.{rows_named, IsNumberIn, FormatIs, IsRefusedOn};
 ghost use Rattle.wh_sql.specs.Reads.{ReadsOnly, Spares, IsOfDamage, FailsToShow};
 ghost use Rattle.wh_store.specs.Reads.{SaysAtRest, SaysAsStored};
@@ -36,7 +36,7 @@ pub(crate) fn number<S: Alter>(
     // The same of any rows, whoever wrote them: of those under the name.
     ensures stored { SaysAsStored (state S.Store conn.old) (state S.Store conn.new) (λ stored. IfOk result (IsNumberIn stored name.now)) }
     ensures damaged { SaysAsStored (state S.Store conn.old) (state S.Store conn.new) (λ stored. IfErr result (IsOfDamage meta OfMeta (rows_named stored name.now))) }
-    ensures unread { HasCleanDisk (state S.Store conn.new) → IfErr result (FailsToShow meta OfMeta get_text (Text name.now ∷ []) (state S.Store conn.old) (state S.Store conn.new)) }
+    ensures unread { HasCleanDisk (state S.Store conn.new) → IfErr result (FailsToShow meta OfMeta texts.meta.get (Text name.now ∷ []) (state S.Store conn.old) (state S.Store conn.new)) }
 {
     let name = match Value::new(alloc, name) {
         Ok(name) => name,

@@ -11,9 +11,9 @@ ghost use Rattle.wh_rows.specs.declared.table.Table.TheVariants.{Change as OfCha
 ghost use Rattle.wh_rows.specs.declared.cause.Cause.{Cause};
 ghost use Rattle.wh_rows.specs.declared.cause.Cause.TheVariants.{Memory};
 ghost use Rattle.wh_rows.specs.Rows.{change};
-ghost use Rattle.wh_rows.proofs.Changes.{greatest_anchor_text};
+ghost use Rattle.wh_rows.specs.Texts as texts;
 ghost use Rattle.wh_rows.specs.AtRest.{IsAtRest, IsWriting, Leaves};
-ghost use Rattle.wh_rows.specs.Tables.{Tables as Rows};
+ghost use Rattle.wh_rows.specs.Tables.{Tables as TenTables};
 ghost use Rattle.std.specs.Ordering.{eq_by_cmp, nat_cmp};
 ghost use Rattle.wh_rows.specs.Types.{dim_number};
 ghost use Rattle.wh_rows.specs.Firsts.{part, greatest as greatest_of};
@@ -167,7 +167,7 @@ impl<S: Alter> Tables<S> {
     pub fn greatest_anchor(&mut self, alloc: Global, dim: Dim) -> Result<u64, ReadFault>
         ensures reads { ReadsOnly (state_of S.Store self.old) (state_of S.Store self.new) result }
         ensures anchor { SaysAtRest (state_of S.Store self.old) (state_of S.Store self.new) (λ t. IfOk result (λ anchor. anchor ≡ greatest_of (map (λ r. r.anchor) (filter (λ r. eq_by_cmp nat_cmp (dim_number dim) (dim_number r.dim)) (values t.change))))) }
-        ensures refused { HasCleanDisk (state_of S.Store self.new) → IfErr result (FailsToShow change OfChange greatest_anchor_text (Number (pos (dim_number dim)) ∷ []) (state_of S.Store self.old) (state_of S.Store self.new)) }
+        ensures refused { HasCleanDisk (state_of S.Store self.new) → IfErr result (FailsToShow change OfChange texts.greatest_anchor (Number (pos (dim_number dim)) ∷ []) (state_of S.Store self.old) (state_of S.Store self.new)) }
     {
         greatest_anchor(alloc, &mut self.conn, dim)
     }
@@ -176,7 +176,7 @@ impl<S: Alter> Tables<S> {
     pub fn begin(&mut self) -> Result<Writing<'_, S>, Cause>
         ensures* refused { sem 𝓛 (RestsIfErr (the_row S.row S.Store) self.entry (λ writing. writing.tables.ghost_name) result (λ last. FailsToBegin (state S.Store self.old.conn) (state S.Store last.conn) result)) }
         ensures same_reference { IfOk result (λ writing. writing.tables.ghost_name ≡ self.entry.ghost_name) }
-        ensures begun { IfOk result (λ writing. HasCleanDisk (state S.Store writing.tables.now.conn) → (held : Option Rows) → IsAtRest held (state S.Store self.old.conn) → IsWriting held held (state S.Store writing.tables.now.conn)) }
+        ensures begun { IfOk result (λ writing. HasCleanDisk (state S.Store writing.tables.now.conn) → (held : Option TenTables) → IsAtRest held (state S.Store self.old.conn) → IsWriting held held (state S.Store writing.tables.now.conn)) }
         ensures survives { IfOk result (λ writing. Survives (state S.Store self.old.conn) (state S.Store writing.tables.now.conn) (λ _. ⊥)) }
         ensures counted { IfOk result (λ writing. writing.writes ≡ 0) }
         ensures fresh { IfOk result (λ writing. writing.refused ≡ false) }

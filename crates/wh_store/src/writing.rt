@@ -8,9 +8,9 @@ ghost use Rattle.sqlite_rules.specs.Lists.{Has};
 ghost use Rattle.wh_rows.specs.declared.cause.Cause.TheVariants.{Disk, Memory};
 ghost use Rattle.wh_rows.specs.Types.{is_number};
 ghost use Rattle.wh_rows.specs.Rows.{encode_meta};
-ghost use Rattle.wh_rows.proofs.Metas.{put_text};
+ghost use Rattle.wh_rows.specs.Texts as texts;
 ghost use Rattle.wh_rows.specs.AtRest.{AreTrees, IsAtRest, IsWriting, Leaves, IsCauseOf};
-ghost use Rattle.wh_rows.specs.Tables.{Tables as Rows};
+ghost use Rattle.wh_rows.specs.Tables.{Tables as TenTables};
 ghost use Rattle.wh_rows.specs.Rekey.{rekey_text, bind_rekey, are_keys, rekeyed};
 ghost use Rattle.wh_sql.specs.Refused.{IsOneRefused};
 ghost use Rattle.wh_store.specs.Reads.{state_of};
@@ -129,7 +129,7 @@ impl<'t, S: Alter> Writing<'t, S> {
         ensures same_reference { self.new.tables.ghost_name ≡ self.old.tables.ghost_name }
         ensures writes { WritesOnly (state_of S.Store self.old.tables.now) (state_of S.Store self.new.tables.now) (AllByRecursion (IsValid T.layout) rows.now) }
         ensures put { Makes (state_of S.Store self.old.tables.now) (state_of S.Store self.new.tables.now) result (AllByRecursion (IsValid T.layout) rows.now) (λ made. T.with_rows (after_all (with_row T.layout) rows.now (T.rows made)) made) }
-        ensures cause { HasCleanDisk (state_of S.Store self.new.tables.now) → (before : Option Rows) (made : Rows) → IsWriting before (Some made) (state_of S.Store self.old.tables.now) → AllByRecursion (IsValid T.layout) rows.now → self.old.writes + length rows.now ≤ u64.MAX
+        ensures cause { HasCleanDisk (state_of S.Store self.new.tables.now) → (before : Option TenTables) (made : TenTables) → IsWriting before (Some made) (state_of S.Store self.old.tables.now) → AllByRecursion (IsValid T.layout) rows.now → self.old.writes + length rows.now ≤ u64.MAX
             → IfErr result (λ cause. cause ≢ Memory → IsOneRefused S.Store IsCauseOf (map (λ row. (T.texts.put, T.layout.encode row)) rows.now) self.old.tables.now.conn self.new.tables.now.conn cause) }
         ensures counted { OnOk result (self.new.writes ≡ self.old.writes + length rows.now) }
         ensures noted { NotesRefusals self.old.refused self.new.refused result }
@@ -169,7 +169,7 @@ impl<'t, S: Alter> Writing<'t, S> {
         ensures same_reference { self.new.tables.ghost_name ≡ self.old.tables.ghost_name }
         ensures writes { WritesOnly (state_of S.Store self.old.tables.now) (state_of S.Store self.new.tables.now) (AllByRecursion (Puts (IsValid T.layout)) edits.now) }
         ensures edited { Makes (state_of S.Store self.old.tables.now) (state_of S.Store self.new.tables.now) result (AllByRecursion (Puts (IsValid T.layout)) edits.now) (λ made. T.with_rows (after_all (with_edit T.layout) edits.now (T.rows made)) made) }
-        ensures cause { HasCleanDisk (state_of S.Store self.new.tables.now) → (before : Option Rows) (made : Rows) → IsWriting before (Some made) (state_of S.Store self.old.tables.now) → AllByRecursion (Puts (IsValid T.layout)) edits.now → ((edit : _) → Has edits.now edit → IsOfTypes T.layout edit) → self.old.writes + length edits.now ≤ u64.MAX
+        ensures cause { HasCleanDisk (state_of S.Store self.new.tables.now) → (before : Option TenTables) (made : TenTables) → IsWriting before (Some made) (state_of S.Store self.old.tables.now) → AllByRecursion (Puts (IsValid T.layout)) edits.now → ((edit : _) → Has edits.now edit → IsOfTypes T.layout edit) → self.old.writes + length edits.now ≤ u64.MAX
             → IfErr result (λ cause. cause ≢ Memory → IsOneRefused S.Store IsCauseOf (map (statement_of T.layout T.texts T.bind) edits.now) self.old.tables.now.conn self.new.tables.now.conn cause) }
         ensures counted { OnOk result (self.new.writes ≡ self.old.writes + length edits.now) }
         ensures noted { NotesRefusals self.old.refused self.new.refused result }
@@ -206,7 +206,7 @@ impl<'t, S: Alter> Writing<'t, S> {
         ensures writes { WritesOnly (state_of S.Store self.old.tables.now) (state_of S.Store self.new.tables.now) ⊤ }
         ensures put { Makes (state_of S.Store self.old.tables.now) (state_of S.Store self.new.tables.now) result ⊤ (λ made. with_number name.now (pos count) made) }
         ensures cause { HasCleanDisk (state_of S.Store self.new.tables.now) → IsTrue (state_of S.Store self.old.tables.now).in_transaction → self.old.writes < u64.MAX → IsTrue (is_number count)
-            → IfErr result (λ cause. cause ≢ Memory → IsCauseOf put_text (encode_meta (record { name = name.now; value = pos count })) (state_of S.Store self.old.tables.now) (state_of S.Store self.new.tables.now) cause) }
+            → IfErr result (λ cause. cause ≢ Memory → IsCauseOf texts.meta.put (encode_meta (record { name = name.now; value = pos count })) (state_of S.Store self.old.tables.now) (state_of S.Store self.new.tables.now) cause) }
         ensures counted { OnOk result (self.new.writes ≡ self.old.writes + 1) }
         ensures noted { NotesRefusals self.old.refused self.new.refused result }
     {
@@ -220,8 +220,8 @@ impl<'t, S: Alter> Writing<'t, S> {
     pub fn commit(self) -> Result<(), Cause>
         ensures clean { HasCleanDisk (state_of S.Store self.exit.0.now) → HasCleanDisk (state_of S.Store self.entry.tables.now) }
         ensures cause { HasCleanDisk (state_of S.Store self.exit.0.now) → self.entry.refused ≡ false → IfErr result (IsCauseOf (codes "COMMIT") [] (state_of S.Store self.entry.tables.now) (state_of S.Store self.exit.0.now)) }
-        ensures written { HasCleanDisk (state_of S.Store self.exit.0.now) → (before made : Option Rows) → IsWriting before made (state_of S.Store self.entry.tables.now) → OnOk result (IsAtRest made (state_of S.Store self.exit.0.now)) }
-        ensures left { HasCleanDisk (state_of S.Store self.exit.0.now) → (before made : Option Rows) → IsWriting before made (state_of S.Store self.entry.tables.now)
+        ensures written { HasCleanDisk (state_of S.Store self.exit.0.now) → (before made : Option TenTables) → IsWriting before made (state_of S.Store self.entry.tables.now) → OnOk result (IsAtRest made (state_of S.Store self.exit.0.now)) }
+        ensures left { HasCleanDisk (state_of S.Store self.exit.0.now) → (before made : Option TenTables) → IsWriting before made (state_of S.Store self.entry.tables.now)
             → (trees : _) → (state_of S.Store self.exit.0.now).may_leave trees → AreTrees before trees ⊎ AreTrees made trees }
         ensures nothing { IsTrue self.entry.refused → (result ≡ Err Disk) × Undoes (state_of S.Store self.entry.tables.now) (state_of S.Store self.exit.0.now) }
     {
@@ -241,9 +241,9 @@ impl<'t, S: Alter> Writing<'t, S> {
 impl<S: Alter> Drop for Writing<'_, S> {
     fn drop(self)
         ensures clean { HasCleanDisk (state_of S.Store self.exit.0.now) → HasCleanDisk (state_of S.Store self.entry.tables.now) }
-        ensures undone { HasCleanDisk (state_of S.Store self.exit.0.now) → (before made : Option Rows) → IsWriting before made (state_of S.Store self.entry.tables.now)
+        ensures undone { HasCleanDisk (state_of S.Store self.exit.0.now) → (before made : Option TenTables) → IsWriting before made (state_of S.Store self.entry.tables.now)
             → IsTrue (state_of S.Store self.exit.0.now).is_open → IsAtRest before (state_of S.Store self.exit.0.now) }
-        ensures left { HasCleanDisk (state_of S.Store self.exit.0.now) → (before made : Option Rows) → IsWriting before made (state_of S.Store self.entry.tables.now) → Leaves before (state_of S.Store self.exit.0.now) }
+        ensures left { HasCleanDisk (state_of S.Store self.exit.0.now) → (before made : Option TenTables) → IsWriting before made (state_of S.Store self.entry.tables.now) → Leaves before (state_of S.Store self.exit.0.now) }
         ensures survives { Survives (state_of S.Store self.entry.tables.now) (state_of S.Store self.exit.0.now) (λ _. ⊥) }
     {
         let Writing {

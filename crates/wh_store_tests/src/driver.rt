@@ -21,7 +21,8 @@
 //! On a warehouse:
 //! - `write` makes the edits that it is handed in one transaction, and keeps them if the last one is `commit`. Edits are `put`, `row`, `remove`,
 //!   `past` and `rekey`, as above; `make COMMANDS CHANGES FACTS`, which makes the tables for these limits; `rows 1 Cola, 2 Tea`,
-//!   `edit 1 Cola` and `edits 1 Cola, 2` for products, of which those with no text go; `days FIRST PAST` for the days of a calendar.
+//!   `edit 1 Cola` and `edits 1 Cola, 2` for products, of which those with no text go; `days FIRST PAST` for the days of a calendar;
+//!   `tries EDIT`, after whose refusal the others are still made.
 //! - `limits` tells them. `show` tells them and all rows.
 //!
 //! On both, questions:

@@ -58,6 +58,22 @@ fn edit_once<S: Alter>(
     out: &mut String,
 ) -> Result<(), Trouble> {
     let (verb, rest) = parted(line, ' ');
+    if verb != "tries" {
+        return make_edit(alloc, writing, line, out);
+    }
+    match make_edit(alloc, writing, rest, out) {
+        Ok(()) => Ok(()),
+        Err(trouble) => Ok(push_trouble(out, trouble)?),
+    }
+}
+
+fn make_edit<S: Alter>(
+    alloc: Global,
+    writing: &mut Writing<'_, S>,
+    line: &str,
+    out: &mut String,
+) -> Result<(), Trouble> {
+    let (verb, rest) = parted(line, ' ');
     let step = Step {
         verb,
         rest,

@@ -12,7 +12,7 @@
 //!   alone. It answers how many calls there are, and what was written.
 //! - `alone NAME` runs the lines that it is handed over a host of this one warehouse, which is gone after it.
 //!
-//! `sql NAME TEXT` alters what stands under a name, and `anew` forgets all warehouses.
+//! `sql NAME TEXT` alters what stands under a name, `stands NAME` answers whether anything does, and `anew` forgets all warehouses.
 
 mod answers;
 mod files;
@@ -27,7 +27,7 @@ use crate::program::host::{MemoryHost, alter};
 use crate::program::runs::{breaks, ended, lines, run_alone, run_step};
 use crate::trouble::Trouble;
 use std::alloc::Global;
-use wh_scenarios::{Driver, NotMade, Step, parted};
+use wh_scenarios::{Driver, NotMade, Step, parted, push_line};
 
 /// Makes the steps of scenarios of the program.
 #[derive(Drop)]
@@ -70,8 +70,14 @@ fn perform(
         "ended" => ended(alloc, host, rest, handed, out),
         "breaks" => breaks(alloc, host, rest, out),
         "alone" => run_alone(alloc, host.files(), rest, handed, out),
+        "stands" => push_standing(host, rest, out),
         _ => prepare(alloc, host, step),
     }
+}
+
+fn push_standing(host: &MemoryHost, name: &str, out: &mut String) -> Result<(), Trouble> {
+    let line = if host.stands(name) { "yes" } else { "no" };
+    Ok(push_line(out, line)?)
 }
 
 /// A step that answers nothing.

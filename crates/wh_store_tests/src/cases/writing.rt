@@ -110,15 +110,14 @@ fn edits_are_kept_or_dropped(rt: HostRuntime) -> Result<(), Fail> {
 }
 
 const IN_TURN: &str = "
-# A row that is refused isn't counted, and a commit then keeps none of the others, also of those that came after it.
+# A row that is refused isn't counted, and none of the others is kept.
 warehouse
 write
 > row product 1 Cola
 > past
-> row store 1 Bern
 > commit
 = refused size
-= 2 written
+= 1 written
 = refused disk
 count product
 = 0
@@ -126,12 +125,39 @@ count store
 = 0
 count customer
 = 0
+
+# An id stands under one number. Where it is put under another, a commit leaves the tables as they were.
+warehouse
+write
+> put command 1, 'init', 'init', x'', 0, 0
+> row store 1 Bern
+> commit
+= 2 written
 write
 > row product 1 Cola
+> tries put command 2, 'init', 'init', x'', 0, 0
+> row product 2 Tea
+> remove store 1
+> commit
+= refused disk
+= 3 written
+= refused disk
+show
+= limits 10, 200, 3000
+= meta 'changes_max', 200
+= meta 'commands_max', 10
+= meta 'facts_max', 3000
+= meta 'format', 1
+= command 1, 'init', 'init', x'', 0, 0
+= store 1, 1, 'M1', 19000101, 99991231, 1, 'Bern', '', '', '', '', '', '', '', '', '', '', '', 0
+
+# The next transaction is kept.
+write
+> row product 2 Tea
 > commit
 = 1 written
-count product
-= 1
+rows product 2
+= product 2, 2, 'M2', 19000101, 99991231, 1, 'Tea', '', '', '', '', '', '', '', '', '', '', '', 0
 
 # Of rows at one key the last stays.
 warehouse

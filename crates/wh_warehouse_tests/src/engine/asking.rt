@@ -11,7 +11,7 @@ use wh_batch::Kind;
 use wh_day::Value;
 use wh_engine::{Command, Counts, Engine, Fault, InitFault, OpenFault, Receipt, Refused, Reply};
 use wh_policy::{Dim, Policy};
-use wh_scenarios::{parted, push_line};
+use wh_scenarios::parted;
 
 fn kind_of(word: &str) -> Result<Kind, Trouble> {
     match word {
@@ -153,7 +153,7 @@ pub fn counts<S: Alter>(
 ) -> Result<(), Trouble> {
     match engine.counts(alloc) {
         Ok(counts) => Ok(push_counts(out, &counts)?),
-        Err(_) => Ok(push_line(out, "no counts")?),
+        Err(fault) => Ok(write!(out, "{fault:?}\n")?),
     }
 }
 

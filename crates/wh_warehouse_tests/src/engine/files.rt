@@ -409,7 +409,7 @@ fn has_stopped<D: Disk>(files: &mut Files<D>) -> bool {
     fails(&mut files.log) || fails(&mut files.db)
 }
 
-/// `POLICY KIND ID`: what a batch is told that is sent again after a crash, and how much the warehouse holds then.
+/// `POLICY KIND ID`: what a batch is answered that is sent again after a crash, and how much the warehouse holds then.
 pub fn redelivered(
     alloc: Global,
     words: &str,

@@ -45,6 +45,16 @@ impl MemoryHost {
         write(&mut self.files, alloc, name, bytes)
     }
 
+    /// Whether a warehouse, or an empty one, stands under a name.
+    pub fn stands(&self, name: &str) -> bool {
+        for place in &self.kept {
+            if place.name.as_str() == name {
+                return true;
+            }
+        }
+        false
+    }
+
     pub fn forget_warehouses(&mut self, alloc: Global) {
         self.kept = Vec::new(alloc);
     }
@@ -150,9 +160,27 @@ impl Host for MemoryHost {
         keep(&mut self.kept, name, connection);
         Ok(output)
     }
+
+    fn with_existing<V: Visitor>(
+        &mut self,
+        alloc: Global,
+        name: &str,
+        visitor: V,
+    ) -> Result<V::Output, HostError> {
+        if self.stands(name) || file_named(self.files.as_slice(), name).is_some() {
+            return self.with_connection(alloc, name, visitor);
+        }
+        match Connection::open_in_memory(alloc) {
+            Ok(connection) => {
+                let (output, _) = visitor.visit(alloc, connection);
+                Ok(output)
+            }
+            Err(_) => Err(HostError::Memory),
+        }
+    }
 }
 
-/// Runs a text on the connection of a file, and tells whether it was taken.
+/// Runs a text on the connection of a file, and answers whether it was taken.
 #[derive(Clone, Copy)]
 struct Altering<'a> {
     text: &'a str,

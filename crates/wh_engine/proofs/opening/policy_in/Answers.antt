@@ -1,8 +1,7 @@
 use Rattle.std.proofs.Common.{◌≡◌, ◌∙◌, ap, refl, sym, subst, filter, slice_get}
 use Rattle.std.proofs.lemmas.Result.{err_from_is_err_and}
 use Rattle.std.specs.FinMap.{values}
-use Rattle.wh_sql.specs.Asked.{same_text}
-use Rattle.wh_store.specs.Reads.{state_of}
+use Rattle.wh_store.specs.Reads.{same_text, state_of}
 use Rattle.wh_engine.specs.Opened.{of_making, makings_in, making_in, IsTold}
 use Rattle.wh_rows.specs.Rows as row
 use Rattle.wh_rows.specs.Raw.{AreRows}

@@ -2,8 +2,7 @@ use Rattle.std.proofs.Common.{◌≡◌, ◌++◌, drop}
 use Rattle.std.specs.Prelude.{Ok, flat_map}
 use Rattle.wh_history.specs.Shapes.{shape_of}
 use Rattle.wh_plan.specs.MovedFacts.{moved_of_touched, pair_of}
-use Rattle.wh_sql.specs.Reads.{ReadsOnly}
-use Rattle.wh_store.specs.Reads.{state_of}
+use Rattle.wh_store.specs.Reads.{ReadsOnly, state_of}
 use Rattle.wh_plan.specs.Reads.{Tells}
 use Rattle.wh_plan.proofs.moved_facts.moved_of_members.Given as goal
 

@@ -11,13 +11,14 @@ use Rattle.wh_policy.specs.declared.attribute.Dim.{Dim}
 use Rattle.wh_rows.specs.Types.{dim_number}
 use Rattle.wh_rows.specs.Rows as row
 use Rattle.wh_rows.specs.declared.table.Table.TheVariants.{Change}
-use Rattle.wh_rows.proofs.Changes.{greatest_anchor_text, greatest_anchor}
+use Rattle.wh_rows.specs.Texts as texts
+use Rattle.wh_rows.proofs.Changes.{greatest_anchor}
 use Rattle.wh_rows.proofs.Places.{change}
 use Rattle.wh_sql.proofs.Reading.{IsAnswered, IsLedByGreatest, greatest_answered, rows_are, undamaged, said_again}
 use Rattle.wh_sql.proofs.greatest.greatest_anchor.Goals as goal
 
 asked : (dim : Dim) (old new : State)
-    → IsAnswered row.change greatest_anchor_text (Int (pos (dim_number dim)) ∷ []) old new (λ t. IsLedByGreatest (λ r. r.anchor) (filter (λ r. eq_by_cmp nat_cmp (dim_number dim) (dim_number r.dim)) (values t.change)))
+    → IsAnswered row.change texts.greatest_anchor (Int (pos (dim_number dim)) ∷ []) old new (λ t. IsLedByGreatest (λ r. r.anchor) (filter (λ r. eq_by_cmp nat_cmp (dim_number dim) (dim_number r.dim)) (values t.change)))
 asked dim old new = greatest_answered change old new (λ r. eq_by_cmp nat_cmp (dim_number dim) (dim_number r.dim)) (λ r. r.anchor) (greatest_anchor dim)
 
 pub returns-in_err-rows-clause-sound : goal.returns-in_err-rows-clause-sound

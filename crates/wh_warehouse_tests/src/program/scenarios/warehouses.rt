@@ -269,7 +269,7 @@ run init w flat.toml
 = accepted 1 init: 0 records, 0 placeholders
 = status 0
 
-# Nothing is there.
+# Nothing is there, and nothing is left there by a name that was mistyped.
 anew
 run load w product p1 p1.csv
 = failed: N1 not a warehouse
@@ -277,6 +277,13 @@ run load w product p1 p1.csv
 run status w
 = failed: N1 not a warehouse
 = status 3
+stands w
+= no
+run init w flat.toml
+= accepted 1 init: 0 records, 0 placeholders
+= status 0
+stands w
+= yes
 
 # Another program's file is no warehouse, but one can be made in it.
 anew

@@ -1,6 +1,6 @@
 use Rattle.std.proofs.Common.{◌∙◌, ap}
 use Rattle.sqlite.specs.Held.{state}
-use Rattle.wh_sql.specs.Present.{are_all_there}
+use Rattle.wh_store.specs.Reads.{are_all_there}
 use Rattle.wh_sql.proofs.Worked.{all_of_a_warehouse}
 use Rattle.wh_engine.proofs.OpenedTables.{format_known, not_opened, opened_ready, opened_refused}
 use Rattle.wh_engine.proofs.OpenedStored.{format_refused, session_refused}

@@ -3,7 +3,7 @@ use Rattle.std.specs.List.{AllByRecursion}
 use Rattle.sqlite.specs.Held.{state}
 use Rattle.sqlite.specs.State.{HasCleanDisk}
 use Rattle.wh_rows.specs.AtRest.{IsWriting}
-use Rattle.wh_rows.specs.Tables.{Tables as Rows}
+use Rattle.wh_rows.specs.Tables.{Tables as TenTables}
 use Rattle.wh_store.specs.Edits.{with_row, after_all, IsValid}
 use Rattle.wh_store.proofs.Looping.{IsOnTheWay}
 use Rattle.wh_store.proofs.writing.Writing.put_all.Given as goal
@@ -19,8 +19,8 @@ invariant-loop-row g l =
       same_reference : l.self.tables.ghost_name ≡ l.fn.self.tables.ghost_name;
       clean : HasCleanDisk now → HasCleanDisk old;
       counts : old.faults ≤ now.faults;
-      put : HasCleanDisk now → (before : Option Rows) (made : Rows) → IsWriting before (Some made) old → AllByRecursion may l.rows
-          → (mid : Rows) × IsWriting before (Some mid) now × IsOnTheWay step may table.rows table.with_rows (drop l.row-index l.rows) mid (table.with_rows (after_all step l.rows (table.rows made)) made);
+      put : HasCleanDisk now → (before : Option TenTables) (made : TenTables) → IsWriting before (Some made) old → AllByRecursion may l.rows
+          → (mid : TenTables) × IsWriting before (Some mid) now × IsOnTheWay step may table.rows table.with_rows (drop l.row-index l.rows) mid (table.with_rows (after_all step l.rows (table.rows made)) made);
       counted : l.self.writes ≡ l.fn.self.writes + l.row-index;
       noted : l.self.refused ≡ l.fn.self.refused;
     }

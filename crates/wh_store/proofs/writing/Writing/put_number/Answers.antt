@@ -3,7 +3,7 @@ use Rattle.sqlite.specs.Held.{state}
 use Rattle.wh_rows.specs.AtRest.{IsWriting, IsCauseOf}
 use Rattle.wh_rows.specs.declared.cause.Cause.TheVariants.{Memory}
 use Rattle.wh_rows.specs.Rows.{encode_meta}
-use Rattle.wh_rows.proofs.Metas.{put_text}
+use Rattle.wh_rows.specs.Texts as texts
 use Rattle.wh_rows.specs.declared.rows.MetaRow.{MetaRow}
 use Rattle.std.specs.Str.{is_utf8}
 use Rattle.std.specs.FinMap.{insert}
@@ -23,4 +23,4 @@ returns-clause-cause g c clean inside room number =
     let same : c.in_ok-row.row ≡ (record { name = c.args.name.now; value = pos c.args.count }) = c.in_ok-row.ensures.ok in
     let utf8 : is_utf8 c.args.name.now ≡ true = is_utf8-from_IsUtf8 c.args.name.now c.utf8.name in
     let told = c.put.ensures.cause clean inside room (ap (λ (r : MetaRow). is_utf8 r.name) same ∙ utf8) in
-    subst (λ (r : MetaRow). IfErr c.put.result (λ cause. cause ≢ Memory → IsCauseOf put_text (encode_meta r) (state g.S.Store c.args.self.now.tables.now.conn) (state g.S.Store c.put.new.self.tables.now.conn) cause)) same told
+    subst (λ (r : MetaRow). IfErr c.put.result (λ cause. cause ≢ Memory → IsCauseOf texts.meta.put (encode_meta r) (state g.S.Store c.args.self.now.tables.now.conn) (state g.S.Store c.put.new.self.tables.now.conn) cause)) same told
