@@ -1,5 +1,5 @@
 -- What is left of a command that was decided, written or refused.
-use Rattle.std.proofs.Common.{◌≡◌, ◌⊎◌, inl, inr, false, List, [], ◌∷◌, ◌++◌, Some, None, Result, Ok, Err, refl, sym, ap, subst, ◌∙◌}
+use Rattle.std.proofs.Common.{◌≡◌, ◌⊎◌, inl, inr, ℕ, false, List, [], ◌∷◌, ◌++◌, Some, None, Result, Ok, Err, refl, sym, ap, subst, ◌∙◌}
 use Rattle.std.specs.Prelude.{unwrap_or}
 use Rattle.sqlite.specs.Tree.{Trees}
 use Rattle.sqlite.specs.State.{State}
@@ -11,11 +11,11 @@ use Rattle.wh_history.proofs.Stays.{policy_last}
 use Rattle.wh_rows.specs.AtRest.{AreTrees, IsAtRest, Leaves}
 use Rattle.wh_rows.specs.Tables.{Tables}
 use Rattle.wh_engine.specs.Admission.{accepted_as, answer, accepted_after, in_force, AreAdmitted}
-use Rattle.wh_engine.specs.Answered.{AreTreesOf, LeavesOneOf, IsReady, IsAnswered, IsPerformed}
+use Rattle.wh_engine.specs.Answered.{AreTreesOf, LeavesOneOf, IsReady, IsAnswered, IsPerformed, IsWritten, IsForeseen, IsForetold}
 use Rattle.wh_engine.specs.Decided.{IsHeld, AreEditsOf, Decides}
 use Rattle.wh_plan.specs.Defined.{AreOf}
 use Rattle.wh_engine.specs.Faults.{IsServed, Judges, stops}
-use Rattle.wh_plan.specs.Edits.{Edits, with_all_edits}
+use Rattle.wh_plan.specs.Edits.{Edits, AreEdits, no_edits, edit_count, with_all_edits}
 use Rattle.wh_plan.specs.Sound.{IsAccepted}
 use Rattle.wh_plan.specs.Writable.{MayBeWritten}
 use Rattle.wh_engine.specs.declared.command.Command.{Command}
@@ -31,7 +31,7 @@ use Rattle.wh_engine.proofs.Decisions.{judged_ok, after_repeat, after_accepted}
 use Rattle.wh_plan.proofs.MayBatch.{a_batch_may_be_written}
 use Rattle.wh_engine.proofs.StaysAccepted.{content_good, stays_accepted}
 use Rattle.wh_engine.proofs.Admitted.{admitted_sound, admitted_after}
-use Rattle.wh_plan.proofs.WrittenBatch.{a_batch_is_written}
+use Rattle.wh_plan.proofs.WrittenEdits.{edits_are_written, exact_edits_are_one, no_edits_stay}
 
 held_as : (limits : Limits) (commands : List Accepted) (session : Session) (t : Tables) → session ≡ record { limits = limits; policy = in_force commands; must_reopen = false } → IsAccepted limits commands → AreOf limits commands t → IsHeld session commands t
 held_as limits commands session t is accepted are = rw is (record { accepted = accepted; are = are; policy = refl })
@@ -72,6 +72,21 @@ module _ (limits : Limits) (commands : List Accepted) (c : Command) (session : S
   fault_performed (faults.Damaged table) new judged rests left = judged
   fault_performed faults.Reopen new judged rests left = judged
 
+  -- what a plan says of it
+  pub repeat_foreseen : (receipt : Receipt) (new : State) → Judges (Decides commands c) (Ok (Repeat receipt)) (answer session.limits commands c) → IsAtRest (Some tables) new → IsForeseen limits commands c (Ok no_edits) session new
+  repeat_foreseen receipt new judged rests =
+      let (reply, is, same) = judged_ok (Decides commands c) (Repeat receipt) (answer session.limits commands c) judged in
+      let said : answer limits commands c ≡ Ok (Already receipt) = ap (λ l. answer l commands c) (sym limits_are) ∙ is ∙ ap Ok same in
+      ((Already receipt, said), subst (λ list. AreEdits commands list no_edits) (sym (after_repeat limits commands c receipt said)) (no_edits_stay commands), still_ready new rests)
+
+  pub fault_foreseen : (fault : Fault) (new : State) → Judges (Decides commands c) (Err fault) (answer session.limits commands c) → (IsServed {A = Decision} (Err fault) → IsAtRest (Some tables) new) → Leaves (Some tables) new
+      → IsForeseen limits commands c (Err fault) session new
+  fault_foreseen (faults.Refused why) new judged rests left = (ap (λ l. answer l commands c) (sym limits_are) ∙ judged, still_ready new (rests tt))
+  fault_foreseen faults.Memory new judged rests left = still_ready new (rests tt)
+  fault_foreseen (faults.Store cause) new judged rests left = record { each = λ trees may. inl (record { tables = tables; are = ready.rests.are; trees_are = left.each trees may }) }
+  fault_foreseen (faults.Damaged table) new judged rests left = judged
+  fault_foreseen faults.Reopen new judged rests left = judged
+
   -- ---- it is accepted
 
   module _ (receipt : Receipt) (edits : Edits) (judged : Judges (Decides commands c) (Ok (Accept receipt edits)) (answer session.limits commands c)) where
@@ -100,7 +115,10 @@ module _ (limits : Limits) (commands : List Accepted) (c : Command) (session : S
     may_write = a_batch_may_be_written limits commands added tables edits is_batch accepted ready.rests.are batch.edits_are
 
     written : AreOf limits (commands ++ added ∷ []) (with_all_edits edits tables)
-    written = a_batch_is_written limits commands added tables edits is_batch ready.rests.are batch.edits_are
+    written = edits_are_written limits commands (commands ++ added ∷ []) tables edits ready.rests.are batch.edits_are
+
+    pub accept_foreseen : (new : State) → IsAtRest (Some tables) new → IsForeseen limits commands c (Ok edits) session new
+    accept_foreseen new rests = ((Accepts receipt, said), subst (λ list. AreEdits commands list edits) (sym list_is) batch.edits_are, still_ready new rests)
 
     -- its edits were kept
     pub accept_performed : (new : State) → IsAtRest (Some (with_all_edits edits tables)) new → IsPerformed limits commands c (Ok (Accepts receipt)) session new
@@ -109,6 +127,11 @@ module _ (limits : Limits) (commands : List Accepted) (c : Command) (session : S
         let kept : session ≡ record { limits = limits; policy = in_force (commands ++ added ∷ []); must_reopen = false } = rw governed ready.session_is in
         let after : IsReady limits (commands ++ added ∷ []) session new = record { admitted = subst (AreAdmitted limits) list_is (admitted_after limits commands c ready.admitted); rests = record { tables = with_all_edits edits tables; are = written; rests = rests }; session_is = kept } in
         (said, rw list_is after)
+
+    pub writes_counted : (writes : ℕ) → writes ≡ edit_count edits → IsWritten limits commands c (Ok (Accepts receipt)) writes
+    writes_counted writes counted other exact =
+        let own : AreEdits commands (accepted_after limits commands c) edits = subst (λ list. AreEdits commands list edits) (sym list_is) batch.edits_are in
+        counted ∙ ap edit_count (exact_edits_are_one commands (accepted_after limits commands c) edits other own exact)
 
     -- or the store refused them
     pub stop_performed : (new : State) → ((trees : Trees) → new.may_leave trees → AreTrees (Some tables) trees ⊎ AreTrees (Some (with_all_edits edits tables)) trees) → LeavesOneOf limits commands (accepted_after limits commands c) new
@@ -132,3 +155,11 @@ module _ (limits : Limits) (commands : List Accepted) (c : Command) (session : S
   answered (Err (faults.Store cause)) done = record { flagged = refl; left = done }
   answered (Err (faults.Damaged table)) done = done
   answered (Err faults.Reopen) done = done
+
+  pub foretold : (result : Result Edits Fault) → IsForeseen limits commands c result session s → IsForetold limits commands c result (record { limits = session.limits; policy = session.policy; must_reopen = stops result }) s
+  foretold (Ok edits) seen = (seen.0, seen.1, ready_on commands seen.2)
+  foretold (Err (faults.Refused why)) seen = (seen.0, ready_on commands seen.1)
+  foretold (Err faults.Memory) seen = ready_on commands seen
+  foretold (Err (faults.Store cause)) seen = record { flagged = refl; left = seen }
+  foretold (Err (faults.Damaged table)) seen = seen
+  foretold (Err faults.Reopen) seen = seen

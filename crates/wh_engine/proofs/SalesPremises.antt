@@ -1,13 +1,17 @@
 -- What holds of a batch of sales, where the list with it is one that can have been accepted.
 use Rattle.std.proofs.Common.{◌≡◌, suc, ◌≤◌, Bool, false, List, [], ◌∷◌, ◌++◌, length, Option, Some, None, refl, sym, ap, ◌∙◌, subst, arith}
-use Rattle.std.specs.Prelude.{is_some}
+use Rattle.std.specs.Prelude.{is_some, filter_map}
+use Rattle.std.proofs.lemmas.List.{length-map}
+use Rattle.wh_history.specs.declared.plan.Edit.TheVariants.{Put}
 use Rattle.std.specs.List.{AllByRecursion, IsDistinct}
 use Rattle.wh_policy.specs.declared.attribute.Dim.{Dim}
 use Rattle.wh_policy.specs.declared.record.SaleRecord.{SaleRecord}
 use Rattle.wh_history.specs.Accepted.{Accepted, Sells, anchors, members, placeholders_by, sold}
 use Rattle.wh_history.specs.Tables.{Limits}
 use Rattle.wh_engine.specs.Admission.{first_line_there}
-use Rattle.wh_plan.specs.Defined.{fact_at}
+use Rattle.wh_plan.specs.Defined.{fact_at, member_at}
+use Rattle.wh_plan.specs.BatchRows.{new_members}
+use Rattle.wh_plan.proofs.BatchPlans.{members_are}
 use Rattle.wh_plan.specs.Edits.{Edits, AreEdits}
 use Rattle.wh_plan.specs.Sound.{same_line, IsAccepted}
 use Rattle.wh_plan.proofs.SalesEdits.{members_joined, all_counted}
@@ -41,5 +45,7 @@ pub lines_absent : (commands : List Accepted) (sales : List SaleRecord) → firs
 lines_absent commands sales none = each_absent commands sales (all_new (sold commands) 1 sales none)
 
 -- as many members are new as the receipt counts
-pub members_counted : (commands : List Accepted) (c : Accepted) (sales : List SaleRecord) (edits : Edits) → c.content ≡ Sells sales → AreEdits commands c edits → length edits.members ≡ placeholders_by (commands ++ c ∷ []) (suc (length commands)) c.content
-members_counted commands c sales edits is are = ap length (are.members ∙ sym (members_joined commands c sales is)) ∙ all_counted commands c sales is
+pub members_counted : (commands : List Accepted) (c : Accepted) (sales : List SaleRecord) (edits : Edits) → c.content ≡ Sells sales → AreEdits commands (commands ++ c ∷ []) edits → length edits.members ≡ placeholders_by (commands ++ c ∷ []) (suc (length commands)) c.content
+members_counted commands c sales edits is are =
+    ap length (members_are commands c edits.members are.members) ∙ length-map (filter_map (member_at (commands ++ c ∷ [])) (new_members commands (commands ++ c ∷ []))) Put
+    ∙ ap length (sym (members_joined commands c sales is)) ∙ all_counted commands c sales is

@@ -1,5 +1,5 @@
 -- What a warehouse holds after a call, by its answer.
-use Rattle.std.specs.Prelude.{◌≡◌, ◌⊎◌, false, List, length, Some, Result, Ok, Err, IsTrue, ⊤}
+use Rattle.std.specs.Prelude.{◌≡◌, ◌⊎◌, ℕ, false, List, length, Some, Result, Ok, Err, IsTrue, ⊤}
 use Rattle.sqlite.specs.Tree.{Trees}
 use Rattle.sqlite.specs.State.{State}
 use Rattle.wh_policy.specs.declared.attribute.Dim.TheVariants.{Product, Store as Stores, Customer}
@@ -9,6 +9,7 @@ use Rattle.wh_rows.specs.AtRest.{AreTrees, IsAtRest}
 use Rattle.wh_rows.specs.Tables.{Tables}
 use Rattle.wh_engine.specs.Admission.{in_force, answer, accepted_after, AreAdmitted}
 use Rattle.wh_plan.specs.Defined.{AreOf}
+use Rattle.wh_plan.specs.Edits.{Edits, AreEdits, edit_count}
 use Rattle.wh_plan.specs.Sound.{changes_kept}
 use Rattle.wh_engine.specs.declared.command.Command.{Command}
 use Rattle.wh_engine.specs.declared.command.Reply.{Reply}
@@ -59,12 +60,38 @@ abbrev pub IsAnswered : Limits → List Accepted → Command → Result Reply Fa
 IsAnswered limits commands c (Err (Store cause)) session s = IsStopped limits commands (accepted_after limits commands c) session s
 IsAnswered limits commands c result session s = IsPerformed limits commands c result session s
 
+-- What the work on a plan says: the edits are exactly those that the tables need to be those of the list after the command, and nothing changed; or the
+-- command is refused as the definition refuses it; or memory ran out and nothing changed; or the store refused a call.
+abbrev pub IsForeseen : Limits → List Accepted → Command → Result Edits Fault → Session → State → Type 0
+IsForeseen limits commands c (Ok edits) session s = ((reply : Reply) × (answer limits commands c ≡ Ok reply)) × AreEdits commands (accepted_after limits commands c) edits × IsReady limits commands session s
+IsForeseen limits commands c (Err (Refused why)) session s = (answer limits commands c ≡ Err why) × IsReady limits commands session s
+IsForeseen limits commands c (Err Memory) session s = IsReady limits commands session s
+IsForeseen limits commands c (Err (Store cause)) session s = LeavesOneOf limits commands commands s
+IsForeseen limits commands c (Err fault) session s = ⊥
+
+-- What a plan says: the same, and where the store refused a call the engine has to be opened again.
+abbrev pub IsForetold : Limits → List Accepted → Command → Result Edits Fault → Session → State → Type 0
+IsForetold limits commands c (Err (Store cause)) session s = IsStopped limits commands commands session s
+IsForetold limits commands c result session s = IsForeseen limits commands c result session s
+
 -- an answer that leaves any tables as they were: nothing was accepted, and the store refused no call
 abbrev pub KeepsNothing : Result Reply Fault → Type 0
 KeepsNothing (Ok (replies.Accepted receipt)) = ⊥
 KeepsNothing (Ok (replies.Already receipt)) = ⊤
 KeepsNothing (Err (Store cause)) = ⊥
 KeepsNothing (Err fault) = ⊤
+
+-- nothing was accepted
+abbrev pub IsNotAccepted : Result Reply Fault → Type 0
+IsNotAccepted (Ok (replies.Accepted receipt)) = ⊥
+IsNotAccepted (Ok (replies.Already receipt)) = ⊤
+IsNotAccepted (Err fault) = ⊤
+
+-- as many keys are written as there are edits that lead from the tables of the commands to those of the list after the command; none where it isn't accepted
+abbrev pub IsWritten : Limits → List Accepted → Command → Result Reply Fault → ℕ → Type 0
+IsWritten limits commands c (Ok (replies.Accepted receipt)) writes = (edits : Edits) → AreEdits commands (accepted_after limits commands c) edits → writes ≡ edit_count edits
+IsWritten limits commands c (Ok (replies.Already receipt)) writes = writes ≡ 0
+IsWritten limits commands c (Err fault) writes = writes ≡ 0
 
 -- how much the tables of these commands hold
 abbrev pub counts_of : List Accepted → Counts

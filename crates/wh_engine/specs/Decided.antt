@@ -1,5 +1,5 @@
 -- What is decided about a command, by what is read of the tables.
-use Rattle.std.specs.Prelude.{◌≡◌, ℕ, List, find, None, bytes_eq, Result, Ok, Err}
+use Rattle.std.specs.Prelude.{◌≡◌, ℕ, List, [], ◌∷◌, ◌++◌, find, None, bytes_eq, Result, Ok, Err}
 use Rattle.wh_policy.specs.declared.attribute.Dim.{Dim}
 use Rattle.wh_policy.specs.declared.policy.Policy.{Policy}
 use Rattle.wh_policy.specs.declared.record.DimensionRecord.{DimensionRecord}
@@ -60,7 +60,7 @@ pub record IsHeld (session : Session) (commands : List Accepted) (tables : Table
 pub record AreEditsOf (commands : List Accepted) (c : Command) (edits : Edits) : Type 0 where
   pub content : Content
   pub read : content_of c.kind (in_force commands) c.bytes ≡ Ok content
-  pub edits_are : AreEdits commands (accepted_as c content) edits
+  pub edits_are : AreEdits commands (commands ++ accepted_as c content ∷ []) edits
 
 -- the decision is this reply, with the edits of an accepted command
 abbrev pub Decides : List Accepted → Command → Decision → Reply → Type 0

@@ -1,5 +1,6 @@
 -- Faults of an engine, and what they say of the tables.
 use Rattle.std.specs.Prelude.{◌≡◌, Bool, true, false, Result, Ok, Err, ⊤}
+use Rattle.wh_rows.specs.Raw.{Stored, HasDamageIn}
 use Rattle.wh_sql.specs.declared.fault.ReadFault.{ReadFault}
 use Rattle.wh_sql.specs.declared.fault.ReadFault.TheVariants as reading
 use Rattle.wh_engine.specs.declared.command.Refused.{Refused}
@@ -29,6 +30,15 @@ stops (Err (faults.Damaged table)) = false
 stops (Err faults.Memory) = false
 stops (Err (faults.Store cause)) = true
 stops (Err faults.Reopen) = false
+
+-- the table that is blamed stores a damaged row
+abbrev pub BlamesDamage : {A : Type 0} → Stored → Result A Fault → Type 0
+BlamesDamage stored (Ok answer) = ⊤
+BlamesDamage stored (Err (faults.Refused why)) = ⊤
+BlamesDamage stored (Err (faults.Damaged table)) = HasDamageIn stored table
+BlamesDamage stored (Err faults.Memory) = ⊤
+BlamesDamage stored (Err (faults.Store cause)) = ⊤
+BlamesDamage stored (Err faults.Reopen) = ⊤
 
 -- it isn't one of the answers that are given before any work
 abbrev pub IsWorkedOut : {A : Type 0} → Result A Fault → Type 0

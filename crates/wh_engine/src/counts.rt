@@ -5,12 +5,12 @@ ghost use Rattle.sqlite.specs.State.{HasCleanDisk};
 ghost use Rattle.wh_history.specs.Accepted.{Accepted, members};
 ghost use Rattle.wh_history.specs.Tables.{Limits};
 ghost use Rattle.wh_rows.specs.AtRest.{IsAtRest};
-ghost use Rattle.wh_store.specs.Reads.{Spares, state_of};
+ghost use Rattle.wh_store.specs.Reads.{Spares, SaysAsStored, state_of};
 ghost use Rattle.wh_rows.specs.Tables.{Tables as TenTables};
 ghost use Rattle.wh_rows.specs.Raw.{Stored, RestsOn};
 ghost use Rattle.wh_engine.specs.Answered.{IsReady, IsCounted, counts_of};
 ghost use Rattle.wh_plan.specs.Defined.{AreOf};
-ghost use Rattle.wh_engine.specs.Faults.{IsServed, IsWorkedOut, Judges, stops};
+ghost use Rattle.wh_engine.specs.Faults.{IsServed, BlamesDamage, IsWorkedOut, Judges, stops};
 ghost use Rattle.wh_plan.specs.Sound.{IsAccepted};
 
 use crate::engine::Engine;
@@ -39,6 +39,7 @@ pub struct Counts {
 /// How many members a dimension has.
 fn members_of<S: Alter>(tables: &mut Tables<S>, alloc: Global, dim: Dim) -> Result<u64, Fault>
     ensures reads { Spares (state_of S.Store tables.old) (state_of S.Store tables.new) (IsServed result) }
+    ensures blames { SaysAsStored (state_of S.Store tables.old) (state_of S.Store tables.new) (λ stored. BlamesDamage stored result) }
     ensures members { HasCleanDisk (state_of S.Store tables.new) → (limits : Limits) (commands : List Accepted) (t : TenTables) → AreOf limits commands t → IsAtRest (Some t) (state_of S.Store tables.old)
         → Judges (λ count told. count ≡ told) result (Ok (length (members dim commands))) }
     ensures work { IsWorkedOut result }
@@ -50,6 +51,7 @@ fn members_of<S: Alter>(tables: &mut Tables<S>, alloc: Global, dim: Dim) -> Resu
 /// The rows that are there.
 fn counts_of<S: Alter>(tables: &mut Tables<S>, alloc: Global) -> Result<Counts, Fault>
     ensures reads { Spares (state_of S.Store tables.old) (state_of S.Store tables.new) (IsServed result) }
+    ensures blames { SaysAsStored (state_of S.Store tables.old) (state_of S.Store tables.new) (λ stored. BlamesDamage stored result) }
     ensures counts { HasCleanDisk (state_of S.Store tables.new) → (limits : Limits) (commands : List Accepted) (t : TenTables) → AreOf limits commands t → IsAccepted limits commands → IsAtRest (Some t) (state_of S.Store tables.old)
         → Judges (λ counts told. counts ≡ told) result (Ok (counts_of commands)) }
     ensures work { IsWorkedOut result }
@@ -79,6 +81,8 @@ impl<S: Alter> Engine<S> {
             → IsCounted limits commands result self.new.session (state_of S.Store self.new.tables) }
         ensures untouched { HasCleanDisk (state_of S.Store self.new.tables) → (t : TenTables) → IsAtRest (Some t) (state_of S.Store self.old.tables) → IsServed result → IsAtRest (Some t) (state_of S.Store self.new.tables) }
         ensures untouched_stored { HasCleanDisk (state_of S.Store self.new.tables) → (stored : Stored) → RestsOn stored (state_of S.Store self.old.tables) → IsServed result → RestsOn stored (state_of S.Store self.new.tables) }
+        // The table that is named as damaged stores a damaged row, whoever wrote it.
+        ensures blames { SaysAsStored (state_of S.Store self.old.tables) (state_of S.Store self.new.tables) (λ stored. BlamesDamage stored result) }
         ensures reopen { IsTrue self.old.session.must_reopen → (result ≡ Err Fault.Reopen) × (self.new.tables ≡ self.old.tables) × (self.new.session ≡ self.old.session) }
         ensures only { result ≡ Err Fault.Reopen → IsTrue self.old.session.must_reopen }
         ensures noted { self.old.session.must_reopen ≡ false → self.new.session ≡ record (self.old.session) { must_reopen = stops result } }

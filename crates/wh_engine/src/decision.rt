@@ -4,12 +4,13 @@ ghost use Rattle.std.specs.Prelude.{◌≡◌, ◌++◌, ◌∷◌, [], suc, tru
 ghost use Rattle.wh_batch.specs.declared.kind.Kind.TheVariants.{Dimension, Sales};
 ghost use Rattle.wh_policy.specs.Written.{IsSound};
 ghost use Rattle.wh_history.specs.Accepted.{Accepted, Sells, placeholders_by, policy_after, sold};
+ghost use Rattle.wh_rows.specs.Raw.{Stored};
 ghost use Rattle.wh_rows.specs.Types.{is_key};
 ghost use Rattle.wh_engine.specs.Admission.{answer, content_of, first_line_there, in_force};
 ghost use Rattle.wh_engine.specs.Decided.{records_told, sales_told, row_of_batch, IsNew, reply_to_known, Decides};
 ghost use Rattle.wh_plan.specs.Defined.{command_at};
-ghost use Rattle.wh_engine.specs.Faults.{IsServed, IsWorkedOut, Judges};
-ghost use Rattle.wh_store.specs.Reads.{ReadsOnly, Spares, state_of};
+ghost use Rattle.wh_engine.specs.Faults.{IsServed, BlamesDamage, IsWorkedOut, Judges};
+ghost use Rattle.wh_store.specs.Reads.{ReadsOnly, Spares, SaysAsStored, state_of};
 ghost use Rattle.wh_engine.specs.Serving.{Works};
 ghost use Rattle.wh_plan.specs.Edits.{AreEdits};
 ghost use Rattle.wh_plan.specs.Reads.{Finds};
@@ -47,6 +48,7 @@ fn records_of(
     bytes: &[u8],
 ) -> Result<DimensionRecords, Fault>
     ensures read { Judges (λ records told. records ≡ told) result (records_told dim policy.now bytes.now) }
+    ensures blames { (stored : Stored) → BlamesDamage stored result }
     ensures work { IsWorkedOut result }
 {
     match dimension_records(alloc, dim, policy, Format::One, bytes) {
@@ -59,6 +61,7 @@ fn records_of(
 /// The sales of a batch.
 fn sales_of(alloc: Global, policy: &Policy, bytes: &[u8]) -> Result<SaleRecords, Fault>
     ensures read { Judges (λ sales told. sales ≡ told) result (sales_told policy.now bytes.now) }
+    ensures blames { (stored : Stored) → BlamesDamage stored result }
     ensures work { IsWorkedOut result }
 {
     match sale_records(alloc, policy, Format::One, bytes) {
@@ -96,6 +99,7 @@ fn decide_records<S: Alter>(
     command: &Command,
 ) -> Result<Decision, Fault>
     ensures reads { Spares (state_of S.Store tables.old) (state_of S.Store tables.new) (IsServed result) }
+    ensures blames { SaysAsStored (state_of S.Store tables.old) (state_of S.Store tables.new) (λ stored. BlamesDamage stored result) }
     ensures decided { Works (state_of S.Store tables.old) (state_of S.Store tables.new) session.now (λ commands. command.now.kind ≡ Dimension dim → is_key 40 command.now.id ≡ true
         → IsNew commands command.now → Judges (Decides commands command.now) result (answer session.now.limits commands command.now)) }
     ensures work { IsWorkedOut result }
@@ -128,7 +132,7 @@ fn accept_sales<S: Alter>(
     ensures edits { Finds (state_of S.Store tables.old) (state_of S.Store tables.new) (λ limits commands. (c : Accepted) → IsAccepted limits (commands ++ c ∷ []) → c.content ≡ Sells sales.now
         → policy_after None commands ≡ Some policy.now → IsSound policy.now → first_line_there (sold commands) 1 sales.now ≡ None
         → command_at (commands ++ c ∷ []) (suc (length commands)) ≡ Some (record row { placeholders = placeholders_by (commands ++ c ∷ []) (suc (length commands)) c.content })
-        → IfOk result (AreEdits commands c)) }
+        → IfOk result (AreEdits commands (commands ++ c ∷ []))) }
 {
     let edits = plan_sales(tables, alloc, policy, row, sales)?;
     Ok(edits)
@@ -143,6 +147,7 @@ fn decide_sold<S: Alter>(
     sales: &[SaleRecord],
 ) -> Result<Decision, Fault>
     ensures reads { Spares (state_of S.Store tables.old) (state_of S.Store tables.new) (IsServed result) }
+    ensures blames { SaysAsStored (state_of S.Store tables.old) (state_of S.Store tables.new) (λ stored. BlamesDamage stored result) }
     ensures decided { Works (state_of S.Store tables.old) (state_of S.Store tables.new) session.now (λ commands. is_key 40 command.now.id ≡ true → IsNew commands command.now
         → content_of command.now.kind (in_force commands) command.now.bytes ≡ Ok (Sells sales.now)
         → Judges (Decides commands command.now) result (answer session.now.limits commands command.now)) }
@@ -170,6 +175,7 @@ fn decide_sales<S: Alter>(
     command: &Command,
 ) -> Result<Decision, Fault>
     ensures reads { Spares (state_of S.Store tables.old) (state_of S.Store tables.new) (IsServed result) }
+    ensures blames { SaysAsStored (state_of S.Store tables.old) (state_of S.Store tables.new) (λ stored. BlamesDamage stored result) }
     ensures decided { Works (state_of S.Store tables.old) (state_of S.Store tables.new) session.now (λ commands. command.now.kind ≡ Sales → is_key 40 command.now.id ≡ true → IsNew commands command.now
         → Judges (Decides commands command.now) result (answer session.now.limits commands command.now)) }
     ensures work { IsWorkedOut result }
@@ -186,6 +192,7 @@ fn decide_new<S: Alter>(
     command: &Command,
 ) -> Result<Decision, Fault>
     ensures reads { Spares (state_of S.Store tables.old) (state_of S.Store tables.new) (IsServed result) }
+    ensures blames { SaysAsStored (state_of S.Store tables.old) (state_of S.Store tables.new) (λ stored. BlamesDamage stored result) }
     ensures decided { Works (state_of S.Store tables.old) (state_of S.Store tables.new) session.now (λ commands. is_key 40 command.now.id ≡ true → IsNew commands command.now
         → Judges (Decides commands command.now) result (answer session.now.limits commands command.now)) }
     ensures work { IsWorkedOut result }
@@ -200,6 +207,7 @@ fn decide_new<S: Alter>(
 fn decide_known(row: &CommandRow, command: &Command) -> Result<Decision, Fault>
     ensures work { IsWorkedOut result }
     ensures known { (commands : List Accepted) → Judges (Decides commands command.now) result (reply_to_known row.now command.now) }
+    ensures blames { (stored : Stored) → BlamesDamage stored result }
 {
     match receipt_of_known(row, command) {
         Ok(receipt) => Ok(Decision::Repeat(receipt)),
@@ -215,6 +223,7 @@ pub(crate) fn decide<S: Alter>(
     command: &Command,
 ) -> Result<Decision, Fault>
     ensures reads { Spares (state_of S.Store tables.old) (state_of S.Store tables.new) (IsServed result) }
+    ensures blames { SaysAsStored (state_of S.Store tables.old) (state_of S.Store tables.new) (λ stored. BlamesDamage stored result) }
     ensures decided { Works (state_of S.Store tables.old) (state_of S.Store tables.new) session.now (λ commands. Judges (Decides commands command.now) result (answer session.now.limits commands command.now)) }
     ensures work { IsWorkedOut result }
 {

@@ -7,9 +7,9 @@ ghost use Rattle.wh_history.specs.Tables.{Limits as LimitCounts};
 ghost use Rattle.wh_rows.specs.AtRest.{IsAtRest};
 ghost use Rattle.wh_rows.specs.Tables.{Tables as TenTables};
 ghost use Rattle.wh_rows.specs.Raw.{Stored, RestsOn};
-ghost use Rattle.wh_store.specs.Reads.{state_of};
-ghost use Rattle.wh_engine.specs.Answered.{IsReady, IsAnswered, IsPerformed, KeepsNothing};
-ghost use Rattle.wh_engine.specs.Faults.{IsWorkedOut, stops};
+ghost use Rattle.wh_store.specs.Reads.{SaysAsStored, state_of};
+ghost use Rattle.wh_engine.specs.Answered.{IsReady, IsAnswered, IsPerformed, IsWritten, IsNotAccepted, KeepsNothing};
+ghost use Rattle.wh_engine.specs.Faults.{BlamesDamage, IsWorkedOut, stops};
 
 use crate::command::{Command, Reply};
 use crate::decision::{Decision, decide};
@@ -26,6 +26,8 @@ use wh_store::Tables;
 pub struct Engine<S: Alter> {
     pub(crate) tables: Tables<S>,
     pub(crate) session: Session,
+    /// How many keys the last command wrote.
+    pub(crate) writes: u64,
 }
 
 /// Does what is decided about a command.
@@ -34,18 +36,27 @@ fn perform<S: Alter>(
     alloc: Global,
     session: &Session,
     command: &Command,
+    writes: &mut u64,
 ) -> Result<Reply, Fault>
     ensures clean { HasCleanDisk (state_of S.Store tables.new) → HasCleanDisk (state_of S.Store tables.old) }
     ensures performed { HasCleanDisk (state_of S.Store tables.new) → (limits : LimitCounts) (commands : List Accepted) → IsReady limits commands session.now (state_of S.Store tables.old)
         → IsPerformed limits commands command.now result session.now (state_of S.Store tables.new) }
     ensures untouched { HasCleanDisk (state_of S.Store tables.new) → (t : TenTables) → IsAtRest (Some t) (state_of S.Store tables.old) → KeepsNothing result → IsAtRest (Some t) (state_of S.Store tables.new) }
     ensures untouched_stored { HasCleanDisk (state_of S.Store tables.new) → (stored : Stored) → RestsOn stored (state_of S.Store tables.old) → KeepsNothing result → RestsOn stored (state_of S.Store tables.new) }
+    ensures blames { SaysAsStored (state_of S.Store tables.old) (state_of S.Store tables.new) (λ stored. BlamesDamage stored result) }
     ensures work { IsWorkedOut result }
+    ensures written { HasCleanDisk (state_of S.Store tables.new) → (limits : LimitCounts) (commands : List Accepted) → IsReady limits commands session.now (state_of S.Store tables.old)
+        → IsWritten limits commands command.now result writes.new }
+    ensures silent { IsNotAccepted result → writes.new ≡ 0 }
 {
+    *writes = 0;
     match decide(tables, alloc, session, command) {
         Ok(Decision::Repeat(receipt)) => Ok(Reply::Already(receipt)),
         Ok(Decision::Accept(receipt, edits)) => match commit_edits(tables, alloc, &edits) {
-            Ok(()) => Ok(Reply::Accepted(receipt)),
+            Ok(count) => {
+                *writes = count;
+                Ok(Reply::Accepted(receipt))
+            }
             Err(cause) => Err(Fault::Store(cause)),
         },
         Err(fault) => Err(fault),
@@ -58,6 +69,13 @@ impl<S: Alter> Engine<S> {
         ensures { result.now ≡ self.now.session.policy }
     {
         &self.session.policy
+    }
+
+    /// How many keys the last command wrote: 0 before any, and after any answer but that it was accepted.
+    pub fn writes(&self) -> u64
+        ensures { result ≡ self.now.writes }
+    {
+        self.writes
     }
 
     /// Hands the connection back.
@@ -76,14 +94,27 @@ impl<S: Alter> Engine<S> {
         // Any tables stay as they were, where nothing was accepted, and any rows, whoever wrote them.
         ensures untouched { HasCleanDisk (state_of S.Store self.new.tables) → (t : TenTables) → IsAtRest (Some t) (state_of S.Store self.old.tables) → KeepsNothing result → IsAtRest (Some t) (state_of S.Store self.new.tables) }
         ensures untouched_stored { HasCleanDisk (state_of S.Store self.new.tables) → (stored : Stored) → RestsOn stored (state_of S.Store self.old.tables) → KeepsNothing result → RestsOn stored (state_of S.Store self.new.tables) }
+        // The table that is named as damaged stores a damaged row, whoever wrote it.
+        ensures blames { SaysAsStored (state_of S.Store self.old.tables) (state_of S.Store self.new.tables) (λ stored. BlamesDamage stored result) }
         ensures reopen { IsTrue self.old.session.must_reopen → (result ≡ Err Fault.Reopen) × (self.new.tables ≡ self.old.tables) × (self.new.session ≡ self.old.session) }
         ensures only { result ≡ Err Fault.Reopen → IsTrue self.old.session.must_reopen }
         ensures noted { self.old.session.must_reopen ≡ false → self.new.session ≡ record (self.old.session) { must_reopen = stops result } }
+        // As many keys are written as its exact edits are, and none by an answer that accepts nothing.
+        ensures written { HasCleanDisk (state_of S.Store self.new.tables) → (limits : LimitCounts) (commands : List Accepted) → IsReady limits commands self.old.session (state_of S.Store self.old.tables)
+            → IsWritten limits commands command.now result self.new.writes }
+        ensures silent { IsNotAccepted result → self.new.writes ≡ 0 }
     {
         if self.session.must_reopen {
+            self.writes = 0;
             return Err(Fault::Reopen);
         }
-        let answer = perform(&mut self.tables, alloc, &self.session, command);
+        let answer = perform(
+            &mut self.tables,
+            alloc,
+            &self.session,
+            command,
+            &mut self.writes,
+        );
         self.session.must_reopen = stops(&answer);
         answer
     }

@@ -14,7 +14,7 @@ use wh_store::ReadFault;
 pub enum Fault {
     /// The command isn't accepted. It isn't kept, and nothing changed.
     Refused(Refused),
-    /// A stored value is out of its type, or a row that is needed isn't there. Nothing changed.
+    /// A row of this table is out of its type. Nothing changed.
     Damaged(Table),
     /// A growth was refused before anything was written. Nothing changed.
     Memory,

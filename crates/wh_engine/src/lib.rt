@@ -10,6 +10,7 @@ mod fault;
 pub mod laws;
 mod making;
 mod opening;
+mod planning;
 mod reopen;
 mod session;
 mod write;

@@ -121,7 +121,7 @@ impl<S: Alter> Engine<S> {
         ensures written { IfOk result (λ engine. (policy_at policy.now ≡ Ok engine.session.policy) × (is_any_taken (state S.Store conn).now.schema ≡ false)) }
         ensures refused { IfErr result (λ e. IsNotMade policy.now (is_any_taken (state S.Store conn).now.schema) e.0) }
         ensures same { IfErr result (λ e. NothingIsWritten e.0 → e.1 ≡ conn) }
-        ensures fresh { IfOk result (λ engine. engine.session.must_reopen ≡ false) }
+        ensures fresh { IfOk result (λ engine. (engine.session.must_reopen ≡ false) × (engine.writes ≡ 0)) }
         ensures kept { is_any_taken (state S.Store conn).now.schema ≡ true → IfErr result (λ e. e.1 ≡ conn) }
         ensures left { IfErr result (λ e. HasCleanDisk (state S.Store e.1) → IsAtRest None (state S.Store conn) → LeavesMade limits policy.now (state S.Store e.1)) }
     {
@@ -143,6 +143,7 @@ impl<S: Alter> Engine<S> {
                     policy: read,
                     must_reopen: false,
                 },
+                writes: 0,
             }),
             Err(cause) => Err((InitFault::Store(cause), tables.close())),
         }
@@ -161,7 +162,7 @@ impl<S: Alter> Engine<S> {
         // The same of any rows that are stored under the schema of a making: a damaged row that isn't asked for keeps nothing from opening.
         ensures found_stored { IfOk result (λ engine. HasCleanDisk (state_of S.Store engine.tables) → (stored : Stored) → RestsOn stored (state S.Store conn) → FormatIs stored (Ok tt) × SessionIs stored engine.session × RestsOn stored (state_of S.Store engine.tables)) }
         ensures fault_stored { IfErr result (λ e. HasCleanDisk (state S.Store e.1) → (stored : Stored) → RestsOn stored (state S.Store conn) → IsUnopened stored e.0 × LeavesStored stored (state S.Store e.1) × (SparesStore e.0 → RestsOn stored (state S.Store e.1))) }
-        ensures fresh { IfOk result (λ engine. engine.session.must_reopen ≡ false) }
+        ensures fresh { IfOk result (λ engine. (engine.session.must_reopen ≡ false) × (engine.writes ≡ 0)) }
         ensures missing { conn.in_transaction ≡ false → are_all_there (state S.Store conn).now.schema ≡ false → result ≡ Err (OpenFault.NotAWarehouse, conn) }
     {
         let mut tables = match Tables::open(alloc, conn) {
@@ -169,7 +170,11 @@ impl<S: Alter> Engine<S> {
             Err((fault, conn)) => return Err((fault, conn)),
         };
         match session_of(&mut tables, alloc) {
-            Ok(session) => Ok(Engine { tables, session }),
+            Ok(session) => Ok(Engine {
+                tables,
+                session,
+                writes: 0,
+            }),
             Err(fault) => Err((fault, tables.close())),
         }
     }

@@ -1,50 +1,102 @@
 //! Writing the edits of a command, inside a transaction.
 
-ghost use Rattle.std.specs.Prelude.{◌≡◌, ◌⊎◌, Some, OnOk};
+ghost use Rattle.std.specs.Prelude.{◌≡◌, ◌⊎◌, ◌+◌, length, Some, OnOk, IfOk, ⊤};
+ghost use Rattle.std.specs.List.{AllByRecursion};
 ghost use Rattle.sqlite.specs.State.{HasCleanDisk};
 ghost use Rattle.wh_rows.specs.AtRest.{AreTrees, IsAtRest};
 ghost use Rattle.wh_rows.specs.Tables.{Tables as TenTables};
 ghost use Rattle.wh_store.specs.Reads.{state_of};
 ghost use Rattle.wh_store.specs.Writes.{WritesOnly, Makes};
-ghost use Rattle.wh_plan.specs.Edits.{with_dimensions, with_lists, with_all_edits};
-ghost use Rattle.wh_plan.specs.Writable.{AreValidRows, AreValidEdits, MayBeWritten};
+ghost use Rattle.wh_store.specs.Edits.{after_all};
+ghost use Rattle.wh_plan.specs.Edits.{with_commands, with_dimensions, with_facts, with_fact_edit, with_all_edits, count_commands, count_dimensions, count_facts, edit_count};
+ghost use Rattle.wh_plan.specs.Writable.{AreValidCommands, AreValidDimensions, AreValidFacts, IsValidFactEdit, MayBeWritten};
 
 use sqlite::Alter;
 use std::alloc::Global;
-use wh_plan::Edits;
+use wh_plan::{Edits, FactEdit};
 use wh_rows::{Cause, tables};
 use wh_store::{Tables, Writing};
 
-/// Puts the rows of a command beside those of the dimensions.
-fn put_lists<S: Alter>(
+/// Makes the edits of command, member and change.
+fn edit_commands<S: Alter>(
     writing: &mut Writing<'_, S>,
     alloc: Global,
     edits: &Edits,
 ) -> Result<(), Cause>
     ensures same_reference { writing.new.tables.ghost_name ≡ writing.old.tables.ghost_name }
-    ensures writes { WritesOnly (state_of S.Store writing.old.tables.now) (state_of S.Store writing.new.tables.now) (AreValidRows edits.now) }
-    ensures put { Makes (state_of S.Store writing.old.tables.now) (state_of S.Store writing.new.tables.now) result (AreValidRows edits.now) (with_lists edits.now) }
+    ensures writes { WritesOnly (state_of S.Store writing.old.tables.now) (state_of S.Store writing.new.tables.now) (AreValidCommands edits.now) }
+    ensures edited { Makes (state_of S.Store writing.old.tables.now) (state_of S.Store writing.new.tables.now) result (AreValidCommands edits.now) (with_commands edits.now) }
+    ensures counted { OnOk result (writing.new.writes ≡ writing.old.writes + count_commands edits.now) }
 {
-    writing.put::<tables::Command>(alloc, &edits.command)?;
-    writing.put_all::<tables::Member>(alloc, &edits.members)?;
-    writing.put_all::<tables::Change>(alloc, &edits.changes)?;
-    writing.put_all::<tables::Profile>(alloc, &edits.profiles)?;
-    writing.put_all::<tables::Fact>(alloc, &edits.facts)
+    writing.edit_all::<tables::Command>(alloc, &edits.commands)?;
+    writing.edit_all::<tables::Member>(alloc, &edits.members)?;
+    writing.edit_all::<tables::Change>(alloc, &edits.changes)
 }
 
-/// Makes the edits of the tables of the dimensions.
-fn edit_rows<S: Alter>(
+/// Makes the edits of product, store and customer.
+fn edit_dimensions<S: Alter>(
     writing: &mut Writing<'_, S>,
     alloc: Global,
     edits: &Edits,
 ) -> Result<(), Cause>
     ensures same_reference { writing.new.tables.ghost_name ≡ writing.old.tables.ghost_name }
-    ensures writes { WritesOnly (state_of S.Store writing.old.tables.now) (state_of S.Store writing.new.tables.now) (AreValidEdits edits.now) }
-    ensures edited { Makes (state_of S.Store writing.old.tables.now) (state_of S.Store writing.new.tables.now) result (AreValidEdits edits.now) (with_dimensions edits.now) }
+    ensures writes { WritesOnly (state_of S.Store writing.old.tables.now) (state_of S.Store writing.new.tables.now) (AreValidDimensions edits.now) }
+    ensures edited { Makes (state_of S.Store writing.old.tables.now) (state_of S.Store writing.new.tables.now) result (AreValidDimensions edits.now) (with_dimensions edits.now) }
+    ensures counted { OnOk result (writing.new.writes ≡ writing.old.writes + count_dimensions edits.now) }
 {
     writing.edit_all::<tables::Product>(alloc, &edits.products)?;
     writing.edit_all::<tables::Store>(alloc, &edits.stores)?;
     writing.edit_all::<tables::Customer>(alloc, &edits.customers)
+}
+
+/// Makes one edit of a fact.
+fn edit_fact<S: Alter>(
+    writing: &mut Writing<'_, S>,
+    alloc: Global,
+    edit: &FactEdit,
+) -> Result<(), Cause>
+    ensures same_reference { writing.new.tables.ghost_name ≡ writing.old.tables.ghost_name }
+    ensures writes { WritesOnly (state_of S.Store writing.old.tables.now) (state_of S.Store writing.new.tables.now) ⊤ }
+    ensures edited { Makes (state_of S.Store writing.old.tables.now) (state_of S.Store writing.new.tables.now) result (IsValidFactEdit edit.now) (λ made. record made { fact = with_fact_edit edit.now made.fact }) }
+    ensures counted { OnOk result (writing.new.writes ≡ writing.old.writes + 1) }
+{
+    match edit {
+        FactEdit::Row(edit) => writing.edit::<tables::Fact>(alloc, edit),
+        FactEdit::Rekey(line, keys) => writing.rekey(alloc, line, keys),
+    }
+}
+
+/// Makes edits of facts, one after the other.
+fn edit_each_fact<S: Alter>(
+    writing: &mut Writing<'_, S>,
+    alloc: Global,
+    edits: &[FactEdit],
+) -> Result<(), Cause>
+    ensures same_reference { writing.new.tables.ghost_name ≡ writing.old.tables.ghost_name }
+    ensures writes { WritesOnly (state_of S.Store writing.old.tables.now) (state_of S.Store writing.new.tables.now) (AllByRecursion IsValidFactEdit edits.now) }
+    ensures edited { Makes (state_of S.Store writing.old.tables.now) (state_of S.Store writing.new.tables.now) result (AllByRecursion IsValidFactEdit edits.now) (λ made. record made { fact = after_all with_fact_edit edits.now made.fact }) }
+    ensures counted { OnOk result (writing.new.writes ≡ writing.old.writes + length edits.now) }
+{
+    for edit in edits {
+        edit_fact(writing, alloc, edit)?;
+    }
+    Ok(())
+}
+
+/// Makes the edits of profile, calendar and fact.
+fn edit_facts<S: Alter>(
+    writing: &mut Writing<'_, S>,
+    alloc: Global,
+    edits: &Edits,
+) -> Result<(), Cause>
+    ensures same_reference { writing.new.tables.ghost_name ≡ writing.old.tables.ghost_name }
+    ensures writes { WritesOnly (state_of S.Store writing.old.tables.now) (state_of S.Store writing.new.tables.now) (AreValidFacts edits.now) }
+    ensures edited { Makes (state_of S.Store writing.old.tables.now) (state_of S.Store writing.new.tables.now) result (AreValidFacts edits.now) (with_facts edits.now) }
+    ensures counted { OnOk result (writing.new.writes ≡ writing.old.writes + count_facts edits.now) }
+{
+    writing.edit_all::<tables::Profile>(alloc, &edits.profiles)?;
+    writing.edit_all::<tables::Calendar>(alloc, &edits.calendar)?;
+    edit_each_fact(writing, alloc, &edits.facts)
 }
 
 /// Writes the edits of a command.
@@ -56,24 +108,31 @@ pub fn write_edits<S: Alter>(
     ensures same_reference { writing.new.tables.ghost_name ≡ writing.old.tables.ghost_name }
     ensures writes { WritesOnly (state_of S.Store writing.old.tables.now) (state_of S.Store writing.new.tables.now) (MayBeWritten edits.now) }
     ensures written { Makes (state_of S.Store writing.old.tables.now) (state_of S.Store writing.new.tables.now) result (MayBeWritten edits.now) (with_all_edits edits.now) }
+    ensures counted { OnOk result (writing.new.writes ≡ writing.old.writes + edit_count edits.now) }
 {
-    put_lists(writing, alloc, edits)?;
-    edit_rows(writing, alloc, edits)
+    edit_commands(writing, alloc, edits)?;
+    edit_dimensions(writing, alloc, edits)?;
+    edit_facts(writing, alloc, edits)
 }
 
-/// Writes the edits of a command in one transaction, and keeps them.
+/// Writes the edits of a command in one transaction, and keeps them. It answers how many keys the transaction wrote.
 pub(crate) fn commit_edits<S: Alter>(
     tables: &mut Tables<S>,
     alloc: Global,
     edits: &Edits,
-) -> Result<(), Cause>
+) -> Result<u64, Cause>
     ensures clean { HasCleanDisk (state_of S.Store tables.new) → HasCleanDisk (state_of S.Store tables.old) }
     ensures written { HasCleanDisk (state_of S.Store tables.new) → (t : TenTables) → IsAtRest (Some t) (state_of S.Store tables.old) → MayBeWritten edits.now
         → OnOk result (IsAtRest (Some (with_all_edits edits.now t)) (state_of S.Store tables.new)) }
     ensures left { HasCleanDisk (state_of S.Store tables.new) → (t : TenTables) → IsAtRest (Some t) (state_of S.Store tables.old) → MayBeWritten edits.now
         → (trees : _) → (state_of S.Store tables.new).may_leave trees → AreTrees (Some t) trees ⊎ AreTrees (Some (with_all_edits edits.now t)) trees }
+    ensures counted { IfOk result (λ writes. writes ≡ edit_count edits.now) }
 {
     let mut writing = tables.begin()?;
     write_edits(&mut writing, alloc, edits)?;
-    writing.commit()
+    let writes = writing.writes();
+    match writing.commit() {
+        Ok(()) => Ok(writes),
+        Err(cause) => Err(cause),
+    }
 }

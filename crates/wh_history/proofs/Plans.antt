@@ -6,12 +6,13 @@ use Rattle.std.proofs.lemmas.Bool.{cases_lt, cases_eq, lt-ltb, le-ltb, eq-eqb, n
 use Rattle.std.proofs.lemmas.Slice.Eq.{bytes_eq-Decides}
 use Rattle.std.proofs.lemmas.List.{drop_more}
 use Rattle.std.specs.BTreeSet.{insert_key}
-use Rattle.std.specs.Ordering.{nat_cmp}
-use Rattle.std.specs.Cmp.{nat_cmp_is}
+use Rattle.std.specs.Ordering.{nat_cmp, eq_by_cmp}
+use Rattle.std.specs.Cmp.{nat_cmp_is, unsigned_tied}
+use Rattle.std.proofs.lemmas.Cmp.{nat_cmp_total}
 use Rattle.std.specs.declared.cmp.Ordering.TheVariants as Ordering
 use Rattle.wh_history.specs.Slots.{are_same}
 use Rattle.wh_history.proofs.Basics.{or_none, both_true, texts_decide}
-use Rattle.wh_history.specs.Plan.{Needs, edited, Above, Ascends, IsPlan, row_of, with_key, with_keys, same_flag, same_frame, same_row, edit_between, edit_in, edit_at}
+use Rattle.wh_history.specs.Plan.{Needs, edited, Above, Ascends, IsRowPlan, row_of, with_key, with_keys, same_flag, same_frame, same_row, edit_between, edit_in, edit_at}
 use Rattle.wh_history.specs.declared.plan.Edit.{Edit}
 use Rattle.wh_history.specs.declared.plan.Edit.TheVariants.{Put, Remove}
 use Rattle.wh_history.specs.declared.rows.DimRow.{DimRow}
@@ -111,14 +112,14 @@ edit_at_key stored after key e h = edit_key key (row_of key stored) (row_of key 
 module _ (f : ℕ → Option (Edit DimRow ℕ)) (of_key : (key : ℕ) (e : Edit DimRow ℕ) → f key ≡ Some e → edited (λ r. r.surrogate) e ≡ key) where
   -- the edit of a key
   abbrev is_of : ℕ → Edit DimRow ℕ → Bool
-  is_of key e = edited (λ (r : DimRow). r.surrogate) e == key
+  is_of key e = eq_by_cmp nat_cmp (edited (λ (r : DimRow). r.surrogate) e) key
 
   -- the edit of another key is passed over
   skipped : (key k : ℕ) (es : List (Edit DimRow ℕ)) → (k == key) ≡ false → find (is_of key) (cons_option (f k) es) ≡ find (is_of key) es
   skipped key k es other =
       elim (f k) as (λ o. (f k ≡ o) → find (is_of key) (cons_option o es) ≡ find (is_of key) es) [
         | None ↦ λ e. refl
-        | Some e ↦ λ is. let at = of_key k e is in rw (at, other) refl
+        | Some e ↦ λ is. let at = of_key k e is in let apart : is_of key e ≡ false = ap (λ n. eq_by_cmp nat_cmp n key) at ∙ unsigned_tied k key ∙ other in rw apart refl
       ] refl
 
   -- no edit of a key is found where the key is not among the keys
@@ -138,7 +139,7 @@ module _ (f : ℕ → Option (Edit DimRow ℕ)) (of_key : (key : ℕ) (e : Edit 
         | true ↦ λ same _.
             let is = eqb-true k key same in
             elim (f k) as (λ o. (f k ≡ o) → find (is_of key) (cons_option o (filter_map f keys)) ≡ f key) [
-              | Some e ↦ λ made. let at = of_key k e made in let t : is_of key e ≡ true = eq-eqb _ _ (at ∙ is) in rw t (sym made ∙ ap f is)
+              | Some e ↦ λ made. let at = of_key k e made in let t : is_of key e ≡ true = unsigned_tied _ key ∙ eq-eqb _ _ (at ∙ is) in rw t (sym made ∙ ap f is)
               | None ↦ λ made. elim (list_any (λ k. k == key) keys) as (λ b. (list_any (λ k. k == key) keys ≡ b) → find (is_of key) (filter_map f keys) ≡ f key) [
                 | true ↦ λ among. found key keys among
                 | false ↦ λ absent. none_found key keys absent ∙ sym made ∙ ap f is
@@ -202,42 +203,45 @@ no_row key (r ∷ rs) ks h =
     (rw split.0 rest.0, rest.1)
 
 -- edits above a key are above a lower one, and ascend
-lower : (low k : ℕ) (es : List (Edit DimRow ℕ)) → low < k → Above (λ (r : DimRow). r.surrogate) k es → Above (λ (r : DimRow). r.surrogate) low es
-lower low k [] less up = tt
-lower low k (e ∷ es) less up = (omega arith, up.1)
+abbrev key_in : Edit DimRow ℕ → ℕ
+key_in e = edited (λ (r : DimRow). r.surrogate) e
 
-from_above : (k : ℕ) (es : List (Edit DimRow ℕ)) → Above (λ (r : DimRow). r.surrogate) k es → Ascends (λ (r : DimRow). r.surrogate) es
+lower : (low k : ℕ) (es : List (Edit DimRow ℕ)) → low < k → Above nat_cmp key_in k es → Above nat_cmp key_in low es
+lower low k [] less up = tt
+lower low k (e ∷ es) less up = (nat_cmp_total.trans low k (key_in e) (sym (nat_cmp_is low k Ordering.Less less)) up.0, up.1)
+
+from_above : (k : ℕ) (es : List (Edit DimRow ℕ)) → Above nat_cmp key_in k es → Ascends nat_cmp key_in es
 from_above k [] up = tt
 from_above k (e ∷ es) up = up.1
 
 module _ (f : ℕ → Option (Edit DimRow ℕ)) (of_key : (key : ℕ) (e : Edit DimRow ℕ) → f key ≡ Some e → edited (λ r. r.surrogate) e ≡ key) where
   -- edits ascend with their keys
-  above_edits : (low : ℕ) (keys : List ℕ) → AboveKey low keys → Above (λ (r : DimRow). r.surrogate) low (filter_map f keys)
+  above_edits : (low : ℕ) (keys : List ℕ) → AboveKey low keys → Above nat_cmp key_in low (filter_map f keys)
   above_edits low [] up = tt
   above_edits low (k ∷ keys) up =
       let rest = above_edits k keys up.1 in
-      elim (f k) as (λ o. (f k ≡ o) → Above (λ (r : DimRow). r.surrogate) low (cons_option o (filter_map f keys))) [
+      elim (f k) as (λ o. (f k ≡ o) → Above nat_cmp key_in low (cons_option o (filter_map f keys))) [
         | None ↦ λ none. lower low k (filter_map f keys) up.0 rest
-        | Some e ↦ λ made. let at = of_key k e made in rw at (up.0, rest)
+        | Some e ↦ λ made. let at = of_key k e made in rw at (sym (nat_cmp_is low k Ordering.Less up.0), rest)
       ] refl
 
-  ascend_edits : (keys : List ℕ) → AscendKeys keys → Ascends (λ (r : DimRow). r.surrogate) (filter_map f keys)
+  ascend_edits : (keys : List ℕ) → AscendKeys keys → Ascends nat_cmp key_in (filter_map f keys)
   ascend_edits [] up = tt
   ascend_edits (k ∷ keys) up =
       let rest = above_edits k keys up in
-      elim (f k) as (λ o. (f k ≡ o) → Ascends (λ (r : DimRow). r.surrogate) (cons_option o (filter_map f keys))) [
+      elim (f k) as (λ o. (f k ≡ o) → Ascends nat_cmp key_in (cons_option o (filter_map f keys))) [
         | None ↦ λ none. from_above k (filter_map f keys) rest
         | Some e ↦ λ made. let at = of_key k e made in rw at rest
       ] refl
 
-pub is_plan : (stored after : List DimRow) → IsPlan (λ r. r.surrogate) (λ key. row_of key stored) (λ key. row_of key after) (filter_map (edit_at stored after) (with_keys stored (with_keys after [])))
+pub is_plan : (stored after : List DimRow) → IsRowPlan (λ key. row_of key stored) (λ key. row_of key after) (filter_map (edit_at stored after) (with_keys stored (with_keys after [])))
 is_plan stored after =
     let keys = with_keys stored (with_keys after []) in
     let f = edit_at stored after in
     let of_key = edit_at_key stored after in
     record {
       ordered = ascend_edits f of_key keys (ascend_with_all stored (with_keys after []) (ascend_with_all after [] tt));
-      exact = λ key. elim (list_any (λ k. k == key) keys) as (λ b. (list_any (λ k. k == key) keys ≡ b) → Needs key (row_of key stored) (row_of key after) (find (λ (e : Edit DimRow ℕ). edited (λ (r : DimRow). r.surrogate) e == key) (filter_map f keys))) [
+      exact = λ key. elim (list_any (λ k. k == key) keys) as (λ b. (list_any (λ k. k == key) keys ≡ b) → Needs key (row_of key stored) (row_of key after) (find (λ (e : Edit DimRow ℕ). eq_by_cmp nat_cmp (edited (λ (r : DimRow). r.surrogate) e) key) (filter_map f keys))) [
         | true ↦ λ among. rw (found f of_key key keys among) (needed key (row_of key stored) (row_of key after))
         | false ↦ λ absent.
             let first = no_row key stored (with_keys after []) absent in
@@ -272,7 +276,7 @@ filter_map_same f g same (key ∷ keys) = let here = same key in let rest = filt
 
 -- the same by maps that have the rows of the lists
 pub plan_by_maps : (stored after : List DimRow) (old new : ℕ → Option DimRow) (keys : List ℕ) (edits : List (Edit DimRow ℕ)) → ((key : ℕ) → old key ≡ row_of key stored) → ((key : ℕ) → new key ≡ row_of key after)
-    → keys ≡ with_keys stored (with_keys after []) → edits ≡ filter_map (edit_in old new) keys → IsPlan (λ r. r.surrogate) (λ key. row_of key stored) (λ key. row_of key after) edits
+    → keys ≡ with_keys stored (with_keys after []) → edits ≡ filter_map (edit_in old new) keys → IsRowPlan (λ key. row_of key stored) (λ key. row_of key after) edits
 plan_by_maps stored after old new keys edits olds news keys_are made =
     let same : (key : ℕ) → edit_in old new key ≡ edit_at stored after key = λ key. let o = olds key in let n = news key in rw (o, n) refl in
     rw (made, filter_map_same (edit_in old new) (edit_at stored after) same keys, keys_are) (is_plan stored after)

@@ -4,7 +4,7 @@ ghost use Rattle.std.specs.Prelude.{◌≡◌, ℕ, IfOk, OnOk, filter_map};
 ghost use Rattle.std.specs.BTreeMap.{get};
 ghost use Rattle.std.specs.Ordering.{nat_cmp};
 ghost use Rattle.std.specs.Option.{option_copied};
-ghost use Rattle.wh_history.specs.Plan.{IsPlan, row_of, with_keys, edit_between, edit_in};
+ghost use Rattle.wh_history.specs.Plan.{IsRowPlan, row_of, with_keys, edit_between, edit_in};
 
 use crate::rows::DimRow;
 use std::alloc::{AllocError, Global};
@@ -91,7 +91,7 @@ pub fn plan_rows(
     stored: &[DimRow],
     after: &[DimRow],
 ) -> Result<Vec<Edit<DimRow, u64>>, AllocError>
-    ensures { IfOk result (λ edits. IsPlan (λ r. r.surrogate) (λ key. row_of key stored.now) (λ key. row_of key after.now) edits.items) }
+    ensures { IfOk result (λ edits. IsRowPlan (λ key. row_of key stored.now) (λ key. row_of key after.now) edits.items) }
 {
     let mut keys = BTreeSet::new(alloc);
     add_keys(&mut keys, after)?;

@@ -88,15 +88,15 @@ module _ (commands : List Accepted) (c : Accepted) where
   longer : length after ≡ suc (length commands)
   longer = length-append commands (c ∷ []) ∙ omega arith
 
+  pub none_yet : (place : ℕ) → change_at commands (key_of place) ≡ None
+  none_yet place = ap (option_map (keyed_row (key_of place))) (none_past commands (length after) place (omega (arith, longer)))
+
   module _ (dim : Dim) (rs : List DimensionRecord) (is : c.content ≡ Describes dim rs) where
     pub new_row : (place : ℕ) → change_row after (length after) place ≡ option_map (change_row_of after dim) (at_place place rs)
     new_row place = ap (option_and_then (row_in after place)) (at_last commands c) ∙ ap (change_row_in after place) is
 
     no_row : (place : ℕ) → at_place place rs ≡ None → change_at after (key_of place) ≡ None
     no_row place none = ap (option_map (keyed_row (key_of place))) (new_row place ∙ ap (option_map (change_row_of after dim)) none)
-
-    none_yet : (place : ℕ) → change_at commands (key_of place) ≡ None
-    none_yet place = ap (option_map (keyed_row (key_of place))) (none_past commands (length after) place (omega (arith, longer)))
 
     before_first : (place : ℕ) → place ≤ 0 → at_place place rs ≡ None
     before_first zero h = refl

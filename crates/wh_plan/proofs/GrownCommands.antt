@@ -39,7 +39,7 @@ module _ (commands : List Accepted) (c : Accepted) where
       ap (option_map (row_with after n)) (at_front n commands (c ∷ []) h)
       ∙ map_same (row_with after n) (row_with commands n) (at_place n commands) (λ d _. rw (placeholders_stay n d.content h) refl)
 
-  none_past : (list : List Accepted) (n : ℕ) → length list < n → command_at list n ≡ None
+  pub none_past : (list : List Accepted) (n : ℕ) → length list < n → command_at list n ≡ None
   none_past list n h = ap (λ o. option_map (placed n) (option_map (row_with list n) o)) (at_past n list h)
 
   -- the rows of the older commands stay

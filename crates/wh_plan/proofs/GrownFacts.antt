@@ -1,4 +1,4 @@
--- Facts that are put at their keys.
+-- Facts and their lines.
 use Rattle.std.proofs.Common.{◌≡◌, ◌==◌, ◌&&◌, true, false, cond, List, [], ◌∷◌, map, Option, Some, None, refl, sym, ◌∙◌, ap, subst}
 use Rattle.std.specs.Prelude.{find, bytes_eq, option_map}
 use Rattle.std.specs.Cmp.{eq_by_cmp_equiv, Equal-is}
@@ -12,11 +12,11 @@ use Rattle.wh_policy.specs.declared.record.SaleRecord.{SaleRecord}
 use Rattle.wh_history.specs.Accepted.{Accepted}
 use Rattle.wh_history.specs.Tables.{fact_of}
 use Rattle.wh_history.specs.declared.facts.Fact.{Fact}
-use Rattle.wh_history.proofs.Joins.{all_weaker}
 use Rattle.wh_rows.proofs.Orders.{line_cmp_total, line_cmp-IsAntisymmetric}
 use Rattle.wh_rows.specs.Rows as row
 use Rattle.wh_rows.specs.declared.key.LineKey.{LineKey}
-use Rattle.wh_plan.specs.Edits.{with_rows, has_line, AreFacts}
+use Rattle.wh_plan.specs.Edits.{with_rows}
+use Rattle.wh_plan.specs.BatchRows.{has_line}
 use Rattle.wh_plan.specs.Sound.{same_line}
 
 -- ---- the key of a fact
@@ -88,13 +88,6 @@ pub found_each : (facts : List Fact) → Once facts → AllByRecursion (λ g. fi
 unfolding IsDistinct
 found_each [] once = tt
 found_each (f ∷ fs) once = (rw (own_line f) refl, all_behind f fs fs once.0 (found_each fs once.1))
-
--- and so it stands in the later table
-pub stand_after : (before after : LineKey → Option Fact) (facts : List Fact) → AreFacts before after facts → AllByRecursion (λ f. after (row.fact.key f) ≡ Some f) facts
-stand_after before after facts are = all_weaker (λ f. find (has_line (row.fact.key f)) facts ≡ Some f) (λ f. after (row.fact.key f) ≡ Some f) such facts (found_each facts are.once)
-  where
-    such : (f : Fact) → find (has_line (row.fact.key f)) facts ≡ Some f → after (row.fact.key f) ≡ Some f
-    such f found = sym (are.lead (row.fact.key f)) ∙ ap (λ o. option_or o (before (row.fact.key f))) found
 
 -- ---- the facts of sales
 

@@ -100,7 +100,7 @@ module _ (dim : Dim) (commands : List Accepted) (c : Accepted) where
       let stays = surrogate_stays dim commands (c ∷ []) (opening_of natural) (opening_given dim commands n natural there) in
       ap (λ k. record { natural = natural; opening = k }) stays)
 
-  none_past : (list : List Accepted) (n : ℕ) → length (members dim list) < n → member_at list (key_of dim n) ≡ None
+  pub none_past : (list : List Accepted) (n : ℕ) → length (members dim list) < n → member_at list (key_of dim n) ≡ None
   none_past list n h = ap (λ o. option_map (keyed_row (key_of dim n)) (option_map (member_with (mentions dim list)) o)) (at_past n (members dim list) h)
 
   pub of_dimension : (n : ℕ) → Grows (key_of dim) (length (members dim commands)) (length (members dim after)) (member_at commands) (member_at after) (key_of dim n)

@@ -25,7 +25,7 @@ use Rattle.wh_history.proofs.Once.{among_distinct}
 use Rattle.wh_rows.specs.declared.rows.ProfileRow.{ProfileRow}
 use Rattle.wh_plan.specs.Defined.{profile_at}
 use Rattle.wh_plan.specs.Profiles.{with_combination, with_combinations, said_of, said_by, numbered_as, learned, is_none, row_of_profile}
-use Rattle.wh_plan.specs.Edits.{behind}
+use Rattle.wh_plan.specs.BatchRows.{behind}
 
 abbrev pub any_of : List (List ℕ) → List (List (List ℕ)) → Bool
 any_of t D = list_any (λ c. are_same c t) D

@@ -1,5 +1,6 @@
 pub mod WrittenRows
-pub mod PlannedRows
+pub mod Exact
+pub mod Plans
 pub mod GrownKeys
 pub mod GrownCommands
 pub mod GrownOthers
@@ -10,9 +11,8 @@ pub mod GrownPlain
 pub mod OneDimension
 pub mod GrownFacts
 pub mod PlanEdits
-pub mod WrittenBatch
+pub mod BatchPlans
 pub mod SmallNumbers
-pub mod MadeAtNumbers
 pub mod OwnKeys
 pub mod ValidSlots
 pub mod ValidRows
@@ -50,6 +50,8 @@ pub mod MayBatch
 pub mod Selling
 pub mod Placeholders
 pub mod MovedLists
+pub mod FactPlans
+pub mod WrittenEdits
 pub mod MovedKeys
 pub mod MovedFacts
 pub mod MovedSince

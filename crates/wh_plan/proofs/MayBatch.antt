@@ -11,60 +11,66 @@ use Rattle.wh_history.specs.Accepted.{Accepted, Content, Governs, Describes, Sel
 use Rattle.wh_history.specs.Tables.{Limits, change_row, change_row_in, change_row_of, dimension_row}
 use Rattle.wh_history.specs.Laws.{governs}
 use Rattle.wh_history.specs.Tables as history
+use Rattle.wh_history.specs.declared.facts.Fact.{Fact}
+use Rattle.wh_history.specs.declared.plan.Edit.TheVariants.{Put, Remove}
 use Rattle.wh_history.specs.declared.rows.DimRow.{DimRow}
-use Rattle.wh_history.proofs.Basics.{some_is}
-use Rattle.wh_history.proofs.Joins.{all_weaker}
+use Rattle.wh_history.proofs.Basics.{both_true, some_is}
+use Rattle.wh_history.proofs.Stays.{policy_last}
 use Rattle.wh_history.proofs.Batches.{same_dimension}
 use Rattle.wh_history.proofs.Untouched.{described-last}
 use Rattle.wh_rows.specs.declared.rows.CommandRow.{CommandRow}
 use Rattle.wh_rows.specs.declared.rows.ChangeRow.{ChangeRow}
-use Rattle.wh_rows.specs.Types.{is_number, is_key, is_kind}
-use Rattle.wh_rows.specs.Rows.{is_command, is_change, is_dimension}
+use Rattle.wh_rows.specs.Types.{is_number, is_measure, is_key, is_kind}
+use Rattle.wh_rows.proofs.Orders.{member_cmp_total, change_cmp_total, line_cmp_total}
+use Rattle.std.proofs.lemmas.Cmp.{nat_cmp_total}
+use Rattle.wh_rows.specs.Rekey.{are_keys}
+use Rattle.wh_rows.specs.declared.key.LineKey.{LineKey}
+use Rattle.wh_rows.specs.Rows.{is_command, is_change, is_dimension, is_fact}
 use Rattle.wh_rows.specs.Rows as row
 use Rattle.wh_rows.specs.Tables.{Tables}
-use Rattle.wh_plan.specs.Defined.{command_at, member_at, change_at, profile_at, fact_at, AreOf}
+use Rattle.wh_plan.specs.Defined.{command_at, member_at, change_at, profile_at, calendar_at, fact_at, day_at, AreOf}
 use Rattle.wh_plan.specs.Laws.{BatchesMayBeWritten}
-use Rattle.wh_plan.specs.Edits.{Edits, rows_of_dimension, AreEdits, behind, new_members}
+use Rattle.wh_plan.specs.Edits.{Edits, AreEdits, NeedsFact, rows_of_dimension, edited_line}
 use Rattle.wh_plan.specs.Sound.{IsGoodRecord, IsAccepted}
 use Rattle.wh_store.specs.Edits.{IsValid, Puts}
-use Rattle.wh_plan.specs.Writable.{MayBeWritten}
-use Rattle.wh_plan.proofs.WrittenRows.{Grows}
-use Rattle.wh_plan.proofs.GrownFacts.{stand_after}
+use Rattle.wh_plan.specs.Writable.{MayBeWritten, IsValidFactEdit}
+use Rattle.wh_plan.specs.declared.edits.FactEdit.{FactEdit}
+use Rattle.wh_plan.specs.declared.edits.FactEdit.TheVariants.{Row, Rekey}
+use Rattle.wh_plan.proofs.Exact.{exact_all}
+use Rattle.wh_plan.proofs.Plans.{plan_puts}
+use Rattle.wh_plan.proofs.GrownCommands.{command_grows}
 use Rattle.wh_plan.proofs.GrownKeys.{at_last, all_at}
-use Rattle.wh_plan.proofs.GrownChanges.{all_apart, new_row}
+use Rattle.wh_plan.proofs.GrownChanges.{all_apart, new_row, batch_grows}
 use Rattle.wh_plan.proofs.GrownChanges as change
 use Rattle.wh_plan.proofs.SmallNumbers.{is_small, commands_few, described_few, members_few, sold_few}
-use Rattle.wh_plan.proofs.MadeAtNumbers.{all_made, plan_puts}
 use Rattle.wh_plan.proofs.ValidTables.{made_of, dimension_valid, member_valid, change_made, profile_valid}
 use Rattle.wh_plan.proofs.ValidFacts.{fact_valid}
 use Rattle.wh_plan.proofs.Selling.{sold_more}
-
--- a row that was there stays
-stays : {K V : Type 0} (at : ℕ → K) (low high : ℕ) (old new : K → Option V) (k : K) (v : V) → Grows at low high old new k → old k ≡ Some v → new k ≡ Some v
-stays at low high old new k v grows is = elim grows [
-  | inl kept ↦ kept.same ∙ is
-  | inr added ↦ let none = added.none in absurd (cc)
-]
 
 take_all : {X : Type 0} (xs : List X) → take (length xs) xs ≡ xs
 take_all [] = refl
 take_all (x ∷ xs) = ap (λ ys. x ∷ ys) (take_all xs)
 
--- one number behind another
-one_behind : (low high : ℕ) → high ≡ suc low → behind low high ≡ high ∷ []
-one_behind low high next =
-    let one : high - low ≡ 1 = omega arith in
-    ap (range_with_len (suc low)) one ∙ ap (λ n. n ∷ []) (sym next)
-
-all_one : {V : Type 0} (P : V → Type 0) (o : Option V) → ((v : V) → o ≡ Some v → P v) → AllByRecursion P (cons_option o [])
-all_one P None each = tt
-all_one P (Some v) each = (each v refl, tt)
+-- the keys of a fact that can be stored can be
+are_keys_of : (f : Fact) → is_fact f ≡ true → are_keys f.keys ≡ true
+are_keys_of f valid =
+    let cost = both_true _ (is_measure 999999999 f.cost) valid in
+    let amount = both_true _ (is_measure 999999999 f.amount) cost.0 in
+    let quantity = both_true _ (is_measure 9999 f.quantity) amount.0 in
+    let profile = both_true _ (is_number f.keys.profile) quantity.0 in
+    let of_customer = both_true _ (is_number f.customer_durable) profile.0 in
+    let of_product = both_true _ (is_number f.product_durable) of_customer.0 in
+    let of_store = both_true _ (is_number f.store_durable) of_product.0 in
+    let customer = both_true _ (is_number f.keys.customer_key) of_store.0 in
+    let product = both_true _ (is_number f.keys.product_key) customer.0 in
+    let store = both_true _ (is_number f.keys.store_key) product.0 in
+    rw (store.1, product.1, customer.1, profile.1) refl
 
 valid_parts : (r : CommandRow) → is_number r.number ≡ true → is_key 40 r.id ≡ true → is_kind r.kind ≡ true → is_number r.records ≡ true → is_number r.placeholders ≡ true → is_command r ≡ true
 valid_parts r number id kind records placeholders = rw (number, id, kind, records, placeholders) refl
 
 module _ (limits : Limits) (commands : List Accepted) (c : Accepted) (t : Tables) (edits : Edits)
-    (batch : governs c.content ≡ false) (ok : IsAccepted limits (commands ++ c ∷ [])) (of : AreOf limits commands t) (are : AreEdits commands c edits) where
+    (batch : governs c.content ≡ false) (ok : IsAccepted limits (commands ++ c ∷ [])) (of : AreOf limits commands t) (are : AreEdits commands (commands ++ c ∷ []) edits) where
   abbrev after : List Accepted
   after = commands ++ c ∷ []
 
@@ -128,17 +134,18 @@ module _ (limits : Limits) (commands : List Accepted) (c : Accepted) (t : Tables
       let placeholders = is_small (placeholders_by after (length after) c.content) (omega arith) in
       valid_parts made_command number id kind own placeholders
 
-  valid_command_row : is_command edits.command ≡ true
-  valid_command_row =
-      let longer : length after ≡ suc (length commands) = length-append commands (c ∷ []) ∙ omega arith in
-      subst (λ (w : CommandRow). is_command w ≡ true) (some_is made_command edits.command (sym own_command ∙ ap (command_at after) longer ∙ are.command)) valid_command
+  -- a row of command that is put is the command's own
+  valid_put : (row : CommandRow) → (command_at commands row.number ≡ Some row → ⊥) → command_at after row.number ≡ Some row → is_command row ≡ true
+  valid_put row new is = elim (command_grows commands c row.number) [
+    | inl kept ↦ absurd (new (sym kept.same ∙ is))
+    | inr added ↦
+        let above = added.above in
+        let within = added.within in
+        let number : row.number ≡ length after = let longer : length after ≡ suc (length commands) = length-append commands (c ∷ []) ∙ omega arith in added.is ∙ omega arith in
+        subst (λ (w : CommandRow). is_command w ≡ true) (some_is made_command row (sym own_command ∙ ap (command_at after) (sym number) ∙ is)) valid_command
+  ]
 
-  -- ---- the members
-
-  valid_members : AllByRecursion (IsValid row.member) edits.members
-  valid_members = subst (AllByRecursion (IsValid row.member)) (sym are.members) (all_made (IsValid row.member) (member_at after) (λ k v here. member_valid limits after ok k v here) (new_members commands after))
-
-  -- ---- the changes and the profiles
+  -- ---- the changes
 
   valid_change : (content : Content) → c.content ≡ content → governs content ≡ false → (n : ℕ) (v : ChangeRow) → change_at after (change.key_of commands c n) ≡ Some v → is_change v ≡ true
   valid_change (Governs policy) is none n v here = absurd cc
@@ -151,29 +158,67 @@ module _ (limits : Limits) (commands : List Accepted) (c : Accepted) (t : Tables
       let there : None ≡ Some made.0 = sym no_row ∙ made.1 in
       absurd cc
 
-  valid_changes : AllByRecursion (IsValid row.change) edits.changes
-  valid_changes = subst (AllByRecursion (IsValid row.change)) (sym are.changes) (all_made (IsValid row.change) (λ n. change_at after (change.key_of commands c n)) (valid_change c.content refl batch) (behind 0 (records_by c.content)))
-
-  valid_profiles : AllByRecursion (IsValid row.profile) edits.profiles
-  valid_profiles =
-      subst (AllByRecursion (IsValid row.profile)) (sym are.profiles)
-      (all_made (IsValid row.profile) (profile_at after) (profile_valid limits after ok) (behind (suc (length (profiles_of commands))) (suc (length (profiles_of after)))))
+  valid_change_put : (v : ChangeRow) → (change_at commands (row.change.key v) ≡ Some v → ⊥) → change_at after (row.change.key v) ≡ Some v → is_change v ≡ true
+  valid_change_put v new is = elim (batch_grows commands c c.content refl batch (row.change.key v)) [
+    | inl kept ↦ absurd (new (sym kept.same ∙ is))
+    | inr added ↦ valid_change c.content refl batch added.number v (ap (change_at after) (sym added.is) ∙ is)
+  ]
 
   -- ---- the facts
 
-  valid_facts : AllByRecursion (IsValid row.fact) edits.facts
-  valid_facts = all_weaker (λ f. fact_at after (row.fact.key f) ≡ Some f) (IsValid row.fact) (λ f there. fact_valid limits after ok (row.fact.key f) f there) edits.facts (stand_after (fact_at commands) (fact_at after) edits.facts are.facts)
+  valid_fact_edit : (e : FactEdit) → NeedsFact (edited_line e) (fact_at commands (edited_line e)) (fact_at after (edited_line e)) (Some e) → IsValidFactEdit e
+  valid_fact_edit e needs = by_rows e (fact_at commands (edited_line e)) (fact_at after (edited_line e)) refl needs
+    where
+      valid : (line : LineKey) (new : Fact) → fact_at after line ≡ Some new → is_fact new ≡ true
+      valid line new is = fact_valid limits after ok line new is
 
-  -- ---- the rows of the dimensions
+      keys : (line : LineKey) (new : Fact) → fact_at after line ≡ Some new → are_keys new.keys ≡ true
+      keys line new is = are_keys_of new (valid line new is)
 
-  valid_edits : (other : Dim) → AllByRecursion (Puts (λ (r : DimRow). is_dimension other r ≡ true)) (rows_of_dimension other edits)
-  valid_edits other =
-      plan_puts (λ (r : DimRow). r.surrogate) (λ (r : DimRow). is_dimension other r ≡ true) (dimension_row commands other) (dimension_row after other) (rows_of_dimension other edits) (are.rows other) (dimension_valid limits after ok other)
+      by_rows : (e : FactEdit) (old new : Option Fact) → fact_at after (edited_line e) ≡ new → NeedsFact (edited_line e) old new (Some e) → IsValidFactEdit e
+      by_rows (Row (Put f)) None None at is = absurd cc
+      by_rows (Row (Put f)) (Some old) None at is = absurd cc
+      by_rows (Row (Put f)) None (Some new) at is = let same : new ≡ f = cc in subst (λ g. is_fact g ≡ true) same (valid (row.fact.key f) new at)
+      by_rows (Row (Put f)) (Some old) (Some new) at is = elim is [
+        | inl kept ↦ let none = kept.1 in absurd cc
+        | inr other ↦ elim other [
+          | inl moved ↦ let rekeyed = moved.2 in absurd cc
+          | inr put ↦ let here = put.1 in let same : new ≡ f = cc in subst (λ g. is_fact g ≡ true) same (valid (row.fact.key f) new at)
+        ]
+      ]
+      by_rows (Row (Remove line)) old new at is = tt
+      by_rows (Rekey line given) None None at is = absurd cc
+      by_rows (Rekey line given) (Some old) None at is = absurd cc
+      by_rows (Rekey line given) None (Some new) at is = absurd cc
+      by_rows (Rekey line given) (Some old) (Some new) at is = elim is [
+        | inl kept ↦ let none = kept.1 in absurd cc
+        | inr other ↦ elim other [
+          | inl moved ↦ let rekeyed = moved.2 in let same : new.keys ≡ given = cc in subst (λ ks. are_keys ks ≡ true) same (keys line new at)
+          | inr put ↦ let here = put.1 in absurd cc
+        ]
+      ]
+
+  -- ---- the tables
+
+  valid_rows : (other : Dim) → AllByRecursion (Puts (λ (r : DimRow). is_dimension other r ≡ true)) (rows_of_dimension other edits)
+  valid_rows other = plan_puts row.product nat_cmp_total (λ (r : DimRow). is_dimension other r ≡ true) (dimension_row commands other) (dimension_row after other) (rows_of_dimension other edits) (are.rows other) (λ r _ is. dimension_valid limits after ok other r.surrogate r is)
+
+  no_day : (day : ℕ) → calendar_at after day ≡ calendar_at commands day
+  no_day day = ap (option_and_then (λ policy. day_at policy day)) (policy_last None commands c batch)
 
   pub batch_may_be_written : MayBeWritten edits
   batch_may_be_written = record {
-    lists = record { command = valid_command_row; members = valid_members; changes = valid_changes; profiles = valid_profiles; facts = valid_facts };
-    rows = record { products = valid_edits Product; stores = valid_edits Store; customers = valid_edits Customer };
+    commands = record {
+      commands = plan_puts row.command nat_cmp_total (IsValid row.command) (command_at commands) (command_at after) edits.commands are.commands valid_put;
+      members = plan_puts row.member member_cmp_total (IsValid row.member) (member_at commands) (member_at after) edits.members are.members (λ r _ is. member_valid limits after ok (row.member.key r) r is);
+      changes = plan_puts row.change change_cmp_total (IsValid row.change) (change_at commands) (change_at after) edits.changes are.changes valid_change_put;
+    };
+    dimensions = record { products = valid_rows Product; stores = valid_rows Store; customers = valid_rows Customer };
+    facts = record {
+      profiles = plan_puts row.profile nat_cmp_total (IsValid row.profile) (profile_at commands) (profile_at after) edits.profiles are.profiles (λ r _ is. profile_valid limits after ok r.number r is);
+      calendar = plan_puts row.calendar nat_cmp_total (IsValid row.calendar) (calendar_at commands) (calendar_at after) edits.calendar are.calendar (λ r new is. absurd (new (sym (no_day r.date_key) ∙ is)));
+      facts = exact_all row.fact.order line_cmp_total edited_line NeedsFact IsValidFactEdit (fact_at commands) (fact_at after) edits.facts are.facts valid_fact_edit;
+    };
   }
 
 pub a_batch_may_be_written : BatchesMayBeWritten

@@ -26,7 +26,7 @@ use Rattle.wh_rows.specs.Questions.{durable_of}
 use Rattle.wh_plan.specs.Defined.{AreOf, fact_at}
 use Rattle.wh_plan.specs.Laws.{ShowsNoProfile, followed}
 use Rattle.wh_plan.specs.MovedFacts.{moved_for, moves_of_member, moves_of_members, MovedFactsAreExact}
-use Rattle.wh_plan.specs.Edits.{has_line}
+use Rattle.wh_plan.specs.BatchRows.{AreRekeyed, has_line}
 use Rattle.wh_plan.specs.NewRows.{members_among, naturals_told}
 use Rattle.wh_plan.proofs.Following.{Named, all_named, late_records_move_facts}
 use Rattle.wh_plan.proofs.FoundPlaces.{same_number_is, number_itself}
@@ -202,9 +202,29 @@ module _ (limits : Limits) (commands : List Accepted) (c : Accepted) (dim : Dim)
   moves_needed : AllByRecursion (λ f. fact_at commands (row.fact.key f) ≢ Some f) moves
   moves_needed = all_weaker (λ f. find (has_line (row.fact.key f)) moves ≡ Some f) (λ f. fact_at commands (row.fact.key f) ≢ Some f) moved_needed moves (found_each moves moves_once)
 
+  -- each is one that stood there, with other keys
+  moved_stood : (f : Fact) → find (has_line (row.fact.key f)) moves ≡ Some f → (old : Fact) × (fact_at commands (row.fact.key f) ≡ Some old) × (f ≡ with_keys old f.keys)
+  moved_stood f found =
+      let key = row.fact.key f in
+      by_row (fact_at commands key) refl (sym (find_by_filter (has_line key) moves (option_and_then move_of (fact_at commands key)) (moves_of_line key)) ∙ found)
+    where
+      by_owner : (old : Fact) (o : Option (List ℕ)) → option_and_then (λ n. moved_for after dim n old) o ≡ Some f → f ≡ with_keys old f.keys
+      by_owner old None h = absurd cc
+      by_owner old (Some natural) h = let same = moved_has old f (keys_for after dim natural old) h in sym same ∙ ap (λ (g : Fact). with_keys old g.keys) same
+
+      by_row : (o : Option Fact) → fact_at commands (row.fact.key f) ≡ o → option_and_then move_of o ≡ Some f → (old : Fact) × (fact_at commands (row.fact.key f) ≡ Some old) × (f ≡ with_keys old f.keys)
+      by_row None is h = absurd cc
+      by_row (Some old) is h = (old, is, by_owner old (find (owns old) touched) h)
+
+  moves_rekeyed : AreRekeyed (fact_at commands) moves
+  moves_rekeyed = all_weaker (λ f. find (has_line (row.fact.key f)) moves ≡ Some f) (λ f. (old : Fact) × (fact_at commands (row.fact.key f) ≡ Some old) × (f ≡ record old { keys = f.keys })) moved_stood moves (found_each moves moves_once)
+
 pub moved_facts_are_exact : MovedFactsAreExact
-moved_facts_are_exact limits commands c dim rs t is shown are = record {
-  lead = moves_lead limits commands c dim rs t is shown are;
-  needed = moves_needed limits commands c dim rs t is shown are;
-  once = moves_once limits commands c dim rs t is shown are;
-}
+moved_facts_are_exact limits commands c dim rs t is shown are = (
+  record {
+    lead = moves_lead limits commands c dim rs t is shown are;
+    needed = moves_needed limits commands c dim rs t is shown are;
+    once = moves_once limits commands c dim rs t is shown are;
+  },
+  moves_rekeyed limits commands c dim rs t is shown are,
+)

@@ -29,7 +29,7 @@ use Rattle.wh_rows.specs.Rows as row
 use Rattle.wh_rows.specs.Tables.{Tables}
 use Rattle.wh_plan.specs.Defined.{AreOf, fact_at}
 use Rattle.wh_plan.specs.MovedFacts.{facts_with, facts_since, rekeyed_facts, moves_since, moved_of_touched, moves_of_member, moves_of_members}
-use Rattle.wh_plan.specs.Edits.{AreFacts}
+use Rattle.wh_plan.specs.BatchRows.{AreFacts, AreRekeyed}
 use Rattle.wh_plan.specs.NewRows.{members_among, naturals_told}
 use Rattle.wh_plan.specs.Sound.{AreTypes, IsAccepted}
 use Rattle.wh_plan.proofs.GrownPlain.{sound_policies_show_none}
@@ -98,7 +98,7 @@ pub facts_moved : (limits : Limits) (commands : List Accepted) (c : Accepted) (d
     → (number : List (List ℕ) → Option ℕ) → AllByRecursion (KnowsEnough dim kinds number (profiles_of (commands ++ c ∷ []))) (touched_by dim commands (commands ++ c ∷ []) rs).list
     → (pairs : List (Member × Member)) → pairs ≡ zip (map (member_of dim commands) (naturals_told rs)) (touched_by dim commands (commands ++ c ∷ []) rs).list
     → (facts : List Fact) → facts ≡ flat_map (moved_of_touched (record { dim = dim; kinds = kinds; number = number }) t.fact) pairs
-    → AreFacts (fact_at commands) (fact_at (commands ++ c ∷ [])) facts
+    → AreFacts (fact_at commands) (fact_at (commands ++ c ∷ [])) facts × AreRekeyed (fact_at commands) facts
 facts_moved limits commands c dim rs kinds t are ok is typed number enough pairs paired facts made =
     let after = commands ++ c ∷ [] in
     let policy = typed.policy in
@@ -114,4 +114,4 @@ facts_moved limits commands c dim rs kinds t are ok is typed number enough pairs
     ∙ ap (λ (ks : List AttributeType). flat_map (λ n. moved_of_touched (by ks numbers) t.fact (member_of dim commands n, member_of dim after n)) ns) types
     ∙ moves_of_touched limits commands c ok dim rs is t are ns in
     let plain = sound_policies_show_none commands (λ (p : Policy) same. subst IsSound (some_is policy p (sym typed.governed ∙ same)) typed.sound) in
-    subst (AreFacts (fact_at commands) (fact_at after)) (sym all) (moved_facts_are_exact limits commands c dim rs t is (λ _. plain) are)
+    subst (λ fs. AreFacts (fact_at commands) (fact_at after) fs × AreRekeyed (fact_at commands) fs) (sym all) (moved_facts_are_exact limits commands c dim rs t is (λ _. plain) are)

@@ -1,7 +1,8 @@
 -- A batch of one dimension leaves the others' members and rows.
 use Rattle.std.proofs.Common.{◌≡◌, ℕ, suc, ◌-◌, true, false, cond, List, [], ◌∷◌, ◌++◌, length, map, Option, Some, None, inl, refl, sym, ◌∙◌, ap, subst, append-nil, arith}
 use Rattle.std.specs.Prelude.{bytes_eq, filter_map}
-use Rattle.std.specs.List.{range_with_len, cons_option}
+use Rattle.std.proofs.lemmas.Cmp.{nat_cmp_total}
+use Rattle.std.specs.List.{range_with_len}
 use Rattle.wh_policy.specs.declared.attribute.Dim.{Dim}
 use Rattle.wh_policy.specs.declared.attribute.Dim.TheVariants.{Product, Store, Customer}
 use Rattle.wh_policy.specs.declared.policy.Policy.{Policy}
@@ -9,28 +10,19 @@ use Rattle.wh_policy.specs.declared.record.DimensionRecord.{DimensionRecord}
 use Rattle.wh_policy.specs.Written.{IsSound}
 use Rattle.wh_history.specs.Keys.{distinct}
 use Rattle.wh_history.specs.Accepted.{Accepted, Anchor, Describes, same_dim, members, policy_after}
-use Rattle.wh_history.specs.Plan.{Needs, IsPlan}
+use Rattle.wh_history.specs.Plan.{IsRowPlan}
 use Rattle.wh_history.specs.Tables.{dimension_row}
 use Rattle.wh_history.specs.declared.plan.Edit.{Edit}
 use Rattle.wh_history.specs.declared.rows.DimRow.{DimRow}
 use Rattle.wh_history.proofs.Basics.{some_is}
 use Rattle.wh_rows.specs.declared.key.MemberKey.{MemberKey}
+use Rattle.wh_rows.specs.Rows as row
 use Rattle.wh_plan.specs.Defined.{member_at}
 use Rattle.wh_plan.specs.Laws.{ShowsNoProfile}
-use Rattle.wh_plan.specs.Edits.{Edits, rows_of_dimension, in_dimension, behind, members_behind, new_members}
+use Rattle.wh_plan.specs.BatchRows.{BatchRows, rows_brought, in_dimension, behind, members_behind, new_members}
+use Rattle.wh_plan.proofs.Plans.{empty_plan, made_mapped}
 use Rattle.wh_plan.proofs.GrownOthers.{same_dim_is, mentions_stay, table_stays, plain_table_stays}
 use Rattle.wh_plan.proofs.GrownPlain.{sound_policies_show_none}
-
--- ---- no edit
-
-pub none_needed : (key : ℕ) (old new : Option DimRow) → new ≡ old → Needs key old new None
-none_needed key None None is = refl
-none_needed key None (Some new) is = absurd cc
-none_needed key (Some old) None is = absurd cc
-none_needed key (Some old) (Some new) is = inl (sym (some_is new old is), refl)
-
-empty_plan : (before after : ℕ → Option DimRow) → ((key : ℕ) → after key ≡ before key) → IsPlan (λ (r : DimRow). r.surrogate) before after []
-empty_plan before after same = record { ordered = tt; exact = λ key. none_needed key (before key) (after key) (same key) }
 
 -- ---- no member
 
@@ -46,10 +38,6 @@ joined : (dim : Dim) (keys : Dim → List MemberKey) → ((other : Dim) → same
 joined Product keys none = alone (keys Product) (keys Store) (keys Customer) (none Store refl) (none Customer refl)
 joined Store keys none = rw (none Product refl, none Customer refl) (append-nil (keys Store))
 joined Customer keys none = rw (none Product refl, none Store refl) refl
-
-pub made_mapped : {X Y Z : Type 0} (f : X → Y) (make : Y → Option Z) (xs : List X) → filter_map make (map f xs) ≡ filter_map (λ x. make (f x)) xs
-made_mapped f make [] = refl
-made_mapped f make (x ∷ xs) = ap (cons_option (make (f x))) (made_mapped f make xs)
 
 module _ (dim : Dim) (commands : List Accepted) (c : Accepted) (records : List DimensionRecord) (is : c.content ≡ Describes dim records) where
   abbrev after : List Accepted
@@ -81,17 +69,17 @@ module _ (dim : Dim) (commands : List Accepted) (c : Accepted) (records : List D
         ] refl
 
     -- the plan of the batch's dimension, and none for the others
-    planned_for : (rows : List (Edit DimRow ℕ)) → IsPlan (λ (r : DimRow). r.surrogate) (dimension_row commands dim) (dimension_row (commands ++ c ∷ []) dim) rows
-        → (other : Dim) → IsPlan (λ (r : DimRow). r.surrogate) (dimension_row commands other) (dimension_row (commands ++ c ∷ []) other) (in_dimension other dim rows)
+    planned_for : (rows : List (Edit DimRow ℕ)) → IsRowPlan (dimension_row commands dim) (dimension_row (commands ++ c ∷ []) dim) rows
+        → (other : Dim) → IsRowPlan (dimension_row commands other) (dimension_row (commands ++ c ∷ []) other) (in_dimension other dim rows)
     planned_for rows plan other =
-        elim (same_dim other dim) as (λ b. (same_dim other dim ≡ b) → IsPlan (λ (r : DimRow). r.surrogate) (dimension_row commands other) (dimension_row after other) (cond b rows [])) [
-          | true ↦ λ same. subst (λ d. IsPlan (λ (r : DimRow). r.surrogate) (dimension_row commands d) (dimension_row after d) rows) (sym (same_dim_is other dim same)) plan
-          | false ↦ λ apart. empty_plan (dimension_row commands other) (dimension_row after other) (stays other apart)
+        elim (same_dim other dim) as (λ b. (same_dim other dim ≡ b) → IsRowPlan (dimension_row commands other) (dimension_row after other) (cond b rows [])) [
+          | true ↦ λ same. subst (λ d. IsRowPlan (dimension_row commands d) (dimension_row after d) rows) (sym (same_dim_is other dim same)) plan
+          | false ↦ λ apart. empty_plan row.product nat_cmp_total (dimension_row commands other) (dimension_row after other) (stays other apart)
         ] refl
 
-    pub all_planned : (edits : Edits) (rows : List (Edit DimRow ℕ)) → edits.products ≡ in_dimension Product dim rows → edits.stores ≡ in_dimension Store dim rows → edits.customers ≡ in_dimension Customer dim rows
-        → IsPlan (λ (r : DimRow). r.surrogate) (dimension_row commands dim) (dimension_row (commands ++ c ∷ []) dim) rows
-        → (other : Dim) → IsPlan (λ (r : DimRow). r.surrogate) (dimension_row commands other) (dimension_row (commands ++ c ∷ []) other) (rows_of_dimension other edits)
-    all_planned edits rows products stores customers plan Product = rw products (planned_for rows plan Product)
-    all_planned edits rows products stores customers plan Store = rw stores (planned_for rows plan Store)
-    all_planned edits rows products stores customers plan Customer = rw customers (planned_for rows plan Customer)
+    pub all_planned : (brought : BatchRows) (rows : List (Edit DimRow ℕ)) → brought.products ≡ in_dimension Product dim rows → brought.stores ≡ in_dimension Store dim rows → brought.customers ≡ in_dimension Customer dim rows
+        → IsRowPlan (dimension_row commands dim) (dimension_row (commands ++ c ∷ []) dim) rows
+        → (other : Dim) → IsRowPlan (dimension_row commands other) (dimension_row (commands ++ c ∷ []) other) (rows_brought other brought)
+    all_planned brought rows products stores customers plan Product = rw products (planned_for rows plan Product)
+    all_planned brought rows products stores customers plan Store = rw stores (planned_for rows plan Store)
+    all_planned brought rows products stores customers plan Customer = rw customers (planned_for rows plan Customer)

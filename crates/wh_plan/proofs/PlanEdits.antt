@@ -5,7 +5,7 @@ use Rattle.std.specs.List.{range_with_len, cons_option}
 use Rattle.wh_history.specs.Accepted.{Accepted}
 use Rattle.wh_rows.specs.declared.rows.CommandRow.{CommandRow}
 use Rattle.wh_plan.specs.Defined.{command_at}
-use Rattle.wh_plan.specs.Edits.{behind}
+use Rattle.wh_plan.specs.BatchRows.{behind}
 use Rattle.wh_plan.proofs.FoundCommands.{command_number}
 
 module _ (commands : List Accepted) (c : Accepted) (own : CommandRow) (at : command_at (commands ++ c ∷ []) (suc (length commands)) ≡ Some own) where

@@ -15,7 +15,7 @@ use Rattle.wh_policy.specs.declared.policy.Policy.{Policy}
 use Rattle.wh_policy.specs.declared.record.DimensionRecord.{DimensionRecord}
 use Rattle.wh_history.specs.Accepted.{Accepted, Describes, types_in, durable_key, profiles_of}
 use Rattle.wh_history.specs.Laws.{RecordsHaveDays, governs}
-use Rattle.wh_history.specs.Plan.{IsPlan, row_of}
+use Rattle.wh_history.specs.Plan.{IsRowPlan, row_of}
 use Rattle.wh_history.specs.Known.{KnowsEnough}
 use Rattle.wh_history.specs.Rows.{rows_by}
 use Rattle.wh_history.specs.Tables.{member_rows, dimension_row}
@@ -103,8 +103,8 @@ module _ (commands : List Accepted) (c : Accepted) (dim : Dim) (records : List D
   pub rows_planned : (number : List (List ℕ) → Option ℕ) (touched : List Member) (stored new : List DimRow) (edits : List (Edit DimRow ℕ)) → RecordsHaveDays commands → RecordsHaveDays after → touched ≡ (touched_by dim commands after records).list
       → ((key : ℕ) → row_of key stored ≡ row_of key (Left dim commands (naturals_told records)))
       → new ≡ flat_map (rows_by kinds number) touched → AllByRecursion (KnowsEnough dim kinds number (profiles_of after)) touched
-      → IsPlan (λ (r : DimRow). r.surrogate) (λ key. row_of key stored) (λ key. row_of key new) edits
-      → IsPlan (λ (r : DimRow). r.surrogate) (dimension_row commands dim) (dimension_row after dim) edits
+      → IsRowPlan (λ key. row_of key stored) (λ key. row_of key new) edits
+      → IsRowPlan (dimension_row commands dim) (dimension_row after dim) edits
   rows_planned number touched stored new edits days days_after list stored_is new_is enough plan =
       let rendered = rendered_planned dim kinds number touched new new_is commands after records list types_after enough in
       touched_rows_are_the_plan commands c dim records stored new edits is shows_none

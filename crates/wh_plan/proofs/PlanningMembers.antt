@@ -27,7 +27,7 @@ use Rattle.wh_history.proofs.Places.{place-distinct_given}
 use Rattle.wh_history.proofs.Untouched.{mentions-last}
 use Rattle.wh_rows.specs.declared.rows.MemberRow.{MemberRow}
 use Rattle.wh_plan.specs.Defined.{member_at}
-use Rattle.wh_plan.specs.Edits.{behind}
+use Rattle.wh_plan.specs.BatchRows.{behind}
 use Rattle.wh_plan.specs.NewRows.{row_of_member, new_member}
 use Rattle.wh_plan.proofs.PlanningLists.{filter_same, filter_twice, fresh_is}
 use Rattle.wh_plan.proofs.PlanningPlaces.{filter_map_same, behind_gives, by_number}

@@ -9,7 +9,7 @@ use Rattle.wh_history.specs.Keys.{place, at_place}
 use Rattle.wh_history.proofs.Basics.{or_none}
 use Rattle.wh_history.proofs.Once.{IsOnce, apart}
 use Rattle.wh_history.proofs.Untouched.{any_none}
-use Rattle.wh_plan.specs.Edits.{behind}
+use Rattle.wh_plan.specs.BatchRows.{behind}
 use Rattle.wh_plan.specs.NewRows.{by_place}
 
 get_here : {X : Type 0} (front : List X) (x : X) (back : List X) → slice_get (front ++ x ∷ back) (length front) ≡ Some x

@@ -2,14 +2,14 @@
 use Rattle.std.proofs.Common.{◌≡◌, ℕ, suc, ◌-◌, List, [], ◌∷◌, ◌++◌, length, map, take, Option, Some, None, refl, sym, ◌∙◌, ap, subst, arith, length-append}
 use Rattle.std.specs.Prelude.{filter_map, option_map}
 use Rattle.std.specs.Option.{option_and_then}
-use Rattle.std.specs.List.{AllByRecursion, IsDistinct, cons_option}
+use Rattle.std.specs.List.{cons_option}
 use Rattle.std.proofs.lemmas.List.Elements.{filter_map-append}
 use Rattle.wh_policy.specs.declared.attribute.Dim.{Dim}
 use Rattle.wh_policy.specs.declared.attribute.Dim.TheVariants.{Product, Store, Customer}
 use Rattle.wh_policy.specs.declared.record.SaleRecord.{SaleRecord}
 use Rattle.wh_history.specs.Accepted.{Accepted, Sells, anchors, members, members_after, placeholders_by, profiles_of, records_by}
-use Rattle.wh_history.specs.Plan.{IsPlan}
-use Rattle.wh_history.specs.Tables.{dimension_row, fact_of, change_row_in}
+use Rattle.wh_history.specs.Plan.{IsRowPlan}
+use Rattle.wh_history.specs.Tables.{dimension_row, change_row_in}
 use Rattle.wh_history.specs.Tables as history
 use Rattle.wh_history.specs.declared.plan.Edit.{Edit}
 use Rattle.wh_history.specs.declared.plan.Edit.TheVariants.{Put}
@@ -18,13 +18,14 @@ use Rattle.wh_rows.specs.declared.rows.ChangeRow.{ChangeRow}
 use Rattle.wh_rows.specs.declared.rows.CommandRow.{CommandRow}
 use Rattle.wh_rows.specs.declared.rows.MemberRow.{MemberRow}
 use Rattle.wh_plan.specs.Defined.{command_at, member_at, change_at, profile_at, fact_at}
-use Rattle.wh_plan.specs.Sound.{same_line}
-use Rattle.wh_plan.specs.Edits.{Edits, AreFacts, AreEdits, behind, members_behind, new_members, rows_of_dimension}
+use Rattle.wh_plan.specs.Edits.{IsFactPlan}
+use Rattle.wh_plan.specs.BatchRows.{BatchRows, AreBatchRows, rows_brought, behind, members_behind, new_members}
 use Rattle.wh_plan.proofs.GrownKeys.{at_last}
-use Rattle.wh_plan.proofs.OneDimension.{none_behind, made_mapped}
+use Rattle.wh_plan.proofs.OneDimension.{none_behind}
+use Rattle.wh_plan.proofs.Plans.{made_mapped}
 use Rattle.wh_plan.proofs.Placeholders.{sales_put_placeholders}
 use Rattle.wh_plan.proofs.SalesRows.{members_counted}
-use Rattle.wh_plan.proofs.Selling.{profiles_kept, sales_are_facts}
+use Rattle.wh_plan.proofs.Selling.{profiles_kept}
 
 -- ---- lists
 
@@ -95,21 +96,20 @@ module _ (commands : List Accepted) (c : Accepted) (sales : List SaleRecord) (is
   abbrev pub table_planned : Dim → List (Edit DimRow ℕ)
   table_planned dim = map Put (filter_map (dimension_row (commands ++ c ∷ []) dim) (behind (length (anchors dim commands)) (length (anchors dim (commands ++ c ∷ [])))))
 
-  planned : (dim : Dim) (rows : List (Edit DimRow ℕ)) → rows ≡ table_planned dim → IsPlan (λ (r : DimRow). r.surrogate) (dimension_row commands dim) (dimension_row after dim) rows
-  planned dim rows made = subst (IsPlan (λ (r : DimRow). r.surrogate) (dimension_row commands dim) (dimension_row after dim)) (sym made) (sales_put_placeholders commands c dim sales is)
+  planned : (dim : Dim) (rows : List (Edit DimRow ℕ)) → rows ≡ table_planned dim → IsRowPlan (dimension_row commands dim) (dimension_row after dim) rows
+  planned dim rows made = subst (IsRowPlan (dimension_row commands dim) (dimension_row after dim)) (sym made) (sales_put_placeholders commands c dim sales is)
 
   abbrev counted_as : CommandRow → ℕ → CommandRow
   counted_as command count = record command { placeholders = count }
 
-  pub edits_sold : (edits : Edits) (command : CommandRow) (count : ℕ) (products stores customers : List MemberRow)
-      → edits.command ≡ record command { placeholders = count } → count ≡ length ((products ++ stores) ++ customers) → edits.members ≡ (products ++ stores) ++ customers
-      → edits.changes ≡ [] → edits.profiles ≡ [] → edits.facts ≡ map (fact_of (commands ++ c ∷ [])) sales
+  pub rows_sold : (brought : BatchRows) (command : CommandRow) (count : ℕ) (products stores customers : List MemberRow)
+      → brought.command ≡ record command { placeholders = count } → count ≡ length ((products ++ stores) ++ customers) → brought.members ≡ (products ++ stores) ++ customers
+      → brought.changes ≡ [] → brought.profiles ≡ [] → IsFactPlan (fact_at commands) (fact_at (commands ++ c ∷ [])) brought.facts
       → products ≡ rows_planned Product → stores ≡ rows_planned Store → customers ≡ rows_planned Customer
-      → edits.products ≡ table_planned Product → edits.stores ≡ table_planned Store → edits.customers ≡ table_planned Customer
-      → AllByRecursion (λ s. fact_at commands (record { ticket = s.ticket; line = s.line }) ≡ None) sales → IsDistinct same_line sales
+      → brought.products ≡ table_planned Product → brought.stores ≡ table_planned Store → brought.customers ≡ table_planned Customer
       → command_at (commands ++ c ∷ []) (suc (length commands)) ≡ Some (record command { placeholders = placeholders_by (commands ++ c ∷ []) (suc (length commands)) c.content })
-      → AreEdits commands c edits
-  edits_sold edits command count products stores customers command_is count_is members_are changes_are profiles_are facts_are products_are stores_are customers_are product_rows store_rows customer_rows new distinct at =
+      → AreBatchRows commands c brought
+  rows_sold brought command count products stores customers command_is count_is members_are changes_are profiles_are facts products_are stores_are customers_are product_rows store_rows customer_rows at =
       let all : (products ++ stores) ++ customers ≡ (rows_planned Product ++ rows_planned Store) ++ rows_planned Customer =
       ap (λ rs. (rs ++ stores) ++ customers) products_are ∙ ap (λ rs. (rows_planned Product ++ rs) ++ customers) stores_are ∙ ap (λ rs. (rows_planned Product ++ rows_planned Store) ++ rs) customers_are in
       let placeholders = placeholders_by after (suc (length commands)) c.content in
@@ -120,10 +120,10 @@ module _ (commands : List Accepted) (c : Accepted) (sales : List SaleRecord) (is
         changes = changes_are ∙ sym no_changes;
         rows = rows;
         profiles = profiles_are ∙ sym no_profiles;
-        facts = subst (AreFacts (fact_at commands) (fact_at after)) (sym facts_are) (sales_are_facts commands c sales is new distinct);
+        facts = facts;
       }
     where
-      rows : (dim : Dim) → IsPlan (λ (r : DimRow). r.surrogate) (dimension_row commands dim) (dimension_row after dim) (rows_of_dimension dim edits)
-      rows Product = planned Product edits.products product_rows
-      rows Store = planned Store edits.stores store_rows
-      rows Customer = planned Customer edits.customers customer_rows
+      rows : (dim : Dim) → IsRowPlan (dimension_row commands dim) (dimension_row after dim) (rows_brought dim brought)
+      rows Product = planned Product brought.products product_rows
+      rows Store = planned Store brought.stores store_rows
+      rows Customer = planned Customer brought.customers customer_rows

@@ -29,7 +29,7 @@ use Rattle.wh_history.specs.Known.{KnowsEnough}
 use Rattle.wh_history.proofs.Knowing.{rows_enough}
 use Rattle.wh_history.specs.Shapes.{Shape, shape_after, rendered_in}
 use Rattle.wh_plan.specs.SoldMembers.{naturals_sold, last_row, placeholder}
-use Rattle.wh_plan.specs.Edits.{behind}
+use Rattle.wh_plan.specs.BatchRows.{behind}
 use Rattle.wh_plan.specs.NewRows.{by_place, new_member}
 use Rattle.wh_plan.proofs.PlanningLists.{filter_same}
 use Rattle.wh_plan.proofs.PlanningMembers.{rows_behind, rows_counted}

@@ -27,7 +27,7 @@ use Rattle.wh_rows.specs.Rows as row
 use Rattle.wh_rows.specs.declared.key.LineKey.{LineKey}
 use Rattle.wh_plan.specs.Defined.{fact_at}
 use Rattle.wh_plan.specs.Laws.{SalesAreFacts}
-use Rattle.wh_plan.specs.Edits.{has_line}
+use Rattle.wh_plan.specs.BatchRows.{has_line}
 use Rattle.wh_plan.proofs.Following.{Named, all_named, durable_kept, customer_kept}
 use Rattle.wh_plan.proofs.GrownChanges.{natural_among}
 use Rattle.wh_plan.proofs.GrownFacts.{found_mapped, facts_once, or_none}
@@ -144,6 +144,10 @@ module _ (commands : List Accepted) (c : Accepted) (sales : List SaleRecord) (is
             ap (λ o. option_or (option_map (fact_of after) o) (Some (fact_of commands old))) (none_new key old sales some new) ∙ ap Some (sym kept)
       ] refl
       ∙ sym whole
+
+  pub facts_new : (ss : List SaleRecord) → AllByRecursion (λ s. fact_at commands (record { ticket = s.ticket; line = s.line }) ≡ None) ss → AllByRecursion (λ f. fact_at commands (row.fact.key f) ≡ None) (map (fact_of (commands ++ c ∷ [])) ss)
+  facts_new [] new = tt
+  facts_new (s ∷ ss) new = (new.0, facts_new ss new.1)
 
   facts_needed : (ss : List SaleRecord) → AllByRecursion (λ s. fact_at commands (line_of s) ≡ None) ss → AllByRecursion (λ f. fact_at commands (row.fact.key f) ≢ Some f) (map (fact_of after) ss)
   facts_needed [] new = tt

@@ -1,4 +1,4 @@
--- What rows that are put at their keys make of a table.
+-- Tables that grow by the rows of new keys, and what rows that are put at their keys make of a table.
 use Rattle.std.proofs.Common.{◌≡◌, ◌⊎◌, inl, inr, ℕ, zero, suc, ◌+◌, ◌-◌, ◌<◌, ◌≤◌, true, false, cond, List, [], ◌∷◌, ◌++◌, map, Option, Some, None, refl, sym, ◌∙◌, ap, arith}
 use Rattle.std.specs.Prelude.{filter_map}
 use Rattle.std.specs.List.{range_with_len, cons_option}
@@ -7,7 +7,8 @@ use Rattle.std.specs.Cmp.{IsTotalOrder, eq_by_cmp_equiv, Equal-is}
 use Rattle.std.specs.FinMap.{FinMap, get, insert, IsAntisymmetric, get-insert}
 use Rattle.std.proofs.lemmas.Bool.{cases_eq}
 use Rattle.wh_rows.specs.Holds.{Layout}
-use Rattle.wh_plan.specs.Edits.{with_rows, behind}
+use Rattle.wh_plan.specs.Edits.{with_rows}
+use Rattle.wh_plan.specs.BatchRows.{behind}
 
 -- a key that is of one of the numbers, or of what else tells keys
 abbrev pub AmongKeys : {I K : Type 0} → (I → K) → K → List I → Type 0

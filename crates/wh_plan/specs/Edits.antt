@@ -1,14 +1,14 @@
--- What a command writes.
-use Rattle.std.specs.Prelude.{◌≡◌, ℕ, suc, ◌-◌, List, [], ◌∷◌, ◌++◌, length, map, filter_map, find, if◌then◌else◌, bytes_eq, ◌≢◌, ◌==◌, ◌&&◌, Bool, Option, Some}
-use Rattle.std.specs.List.{range_with_len, AllByRecursion, IsDistinct}
-use Rattle.std.specs.Option.{option_or}
+-- What a command writes: for each table the edits of its rows, in order of their keys.
+use Rattle.std.specs.Prelude.{◌≡◌, ◌≢◌, ◌⊎◌, ℕ, ◌+◌, List, [], length, Option, Some, None}
 use Rattle.std.specs.FinMap.{FinMap}
+use Rattle.wh_day.specs.declared.calendar.DateRow.{DateRow}
 use Rattle.wh_policy.specs.declared.attribute.Dim.{Dim}
 use Rattle.wh_policy.specs.declared.attribute.Dim.TheVariants.{Product, Store, Customer}
-use Rattle.wh_history.specs.Accepted.{Accepted, same_dim, members, profiles_of, records_by}
+use Rattle.wh_history.specs.Accepted.{Accepted}
 use Rattle.wh_history.specs.Tables.{dimension_row}
-use Rattle.wh_history.specs.Plan.{IsPlan}
+use Rattle.wh_history.specs.Plan.{IsExact, IsPlan, IsRowPlan, edited}
 use Rattle.wh_history.specs.declared.plan.Edit.{Edit}
+use Rattle.wh_history.specs.declared.plan.Edit.TheVariants.{Put, Remove}
 use Rattle.wh_history.specs.declared.rows.DimRow.{DimRow}
 use Rattle.wh_history.specs.declared.facts.Fact.{Fact}
 use Rattle.wh_rows.specs.declared.rows.CommandRow.{CommandRow}
@@ -16,23 +16,31 @@ use Rattle.wh_rows.specs.declared.rows.MemberRow.{MemberRow}
 use Rattle.wh_rows.specs.declared.rows.ChangeRow.{ChangeRow}
 use Rattle.wh_rows.specs.declared.rows.ProfileRow.{ProfileRow}
 use Rattle.wh_rows.specs.declared.key.MemberKey.{MemberKey}
+use Rattle.wh_rows.specs.declared.key.ChangeKey.{ChangeKey}
 use Rattle.wh_rows.specs.declared.key.LineKey.{LineKey}
 use Rattle.wh_rows.specs.Holds.{Layout}
+use Rattle.wh_rows.specs.Rekey.{rekeyed}
 use Rattle.wh_rows.specs.Rows as row
 use Rattle.wh_rows.specs.Tables.{Tables}
 use Rattle.wh_store.specs.Edits.{with_row, with_edit, after_all}
-use Rattle.wh_plan.specs.Defined.{command_at, member_at, change_at, profile_at, fact_at}
+use Rattle.wh_plan.specs.Defined.{command_at, member_at, change_at, profile_at, calendar_at, fact_at}
+use Rattle.wh_plan.specs.declared.edits.FactEdit.{FactEdit}
+use Rattle.wh_plan.specs.declared.edits.FactEdit.TheVariants.{Row, Rekey}
 
--- the edits of a command: its own row, the members that it is the first to mention, its records, new profiles, the facts that are new or get other keys, and the rows of the three dimensions
 pub record Edits : Type 0 where
-  pub command : CommandRow
-  pub members : List MemberRow
-  pub changes : List ChangeRow
-  pub profiles : List ProfileRow
-  pub facts : List Fact
+  pub commands : List (Edit CommandRow ℕ)
+  pub members : List (Edit MemberRow MemberKey)
+  pub changes : List (Edit ChangeRow ChangeKey)
   pub products : List (Edit DimRow ℕ)
   pub stores : List (Edit DimRow ℕ)
   pub customers : List (Edit DimRow ℕ)
+  pub profiles : List (Edit ProfileRow ℕ)
+  pub calendar : List (Edit DateRow ℕ)
+  pub facts : List FactEdit
+
+-- none
+abbrev pub no_edits : Edits
+no_edits = record { commands = []; members = []; changes = []; products = []; stores = []; customers = []; profiles = []; calendar = []; facts = [] }
 
 -- those of the rows of a dimension
 abbrev pub rows_of_dimension : Dim → Edits → List (Edit DimRow ℕ)
@@ -40,9 +48,20 @@ rows_of_dimension Product edits = edits.products
 rows_of_dimension Store edits = edits.stores
 rows_of_dimension Customer edits = edits.customers
 
--- edits of one dimension's rows, as those of another or the same
-abbrev pub in_dimension : Dim → Dim → List (Edit DimRow ℕ) → List (Edit DimRow ℕ)
-in_dimension other dim edits = if same_dim other dim then edits else []
+-- how many there are
+abbrev pub count_commands : Edits → ℕ
+count_commands edits = length edits.commands + length edits.members + length edits.changes
+
+abbrev pub count_dimensions : Edits → ℕ
+count_dimensions edits = length edits.products + length edits.stores + length edits.customers
+
+abbrev pub count_facts : Edits → ℕ
+count_facts edits = length edits.profiles + length edits.calendar + length edits.facts
+
+abbrev pub edit_count : Edits → ℕ
+edit_count edits = count_commands edits + count_dimensions edits + count_facts edits
+
+-- ---- what they make of the tables
 
 -- a table with rows put at their keys, the first one first
 abbrev pub with_rows : {K V : Type 0} (layout : Layout K V) → List V → FinMap layout.order V → FinMap layout.order V
@@ -52,17 +71,20 @@ with_rows layout = after_all (with_row layout)
 abbrev pub with_edits : {K V : Type 0} (layout : Layout K V) → List (Edit V K) → FinMap layout.order V → FinMap layout.order V
 with_edits layout = after_all (with_edit layout)
 
--- the tables with the rows of command, member, change, profile and fact
-abbrev pub with_lists : Edits → Tables → Tables
-with_lists edits t = record t {
-  command = with_row row.command edits.command t.command;
-  member = with_rows row.member edits.members t.member;
-  change = with_rows row.change edits.changes t.change;
-  profile = with_rows row.profile edits.profiles t.profile;
-  fact = with_rows row.fact edits.facts t.fact;
+-- the facts with an edit of one
+abbrev pub with_fact_edit : FactEdit → FinMap row.fact.order Fact → FinMap row.fact.order Fact
+with_fact_edit (Row edit) facts = with_edit row.fact edit facts
+with_fact_edit (Rekey line keys) facts = rekeyed (line, keys) facts
+
+-- the tables with the edits of command, member and change
+abbrev pub with_commands : Edits → Tables → Tables
+with_commands edits t = record t {
+  command = with_edits row.command edits.commands t.command;
+  member = with_edits row.member edits.members t.member;
+  change = with_edits row.change edits.changes t.change;
 }
 
--- the tables with the edits of the rows of the dimensions
+-- with those of product, store and customer
 abbrev pub with_dimensions : Edits → Tables → Tables
 with_dimensions edits t = record t {
   product = with_edits row.product edits.products t.product;
@@ -70,37 +92,51 @@ with_dimensions edits t = record t {
   customer = with_edits row.customer edits.customers t.customer;
 }
 
+-- and with those of profile, calendar and fact
+abbrev pub with_facts : Edits → Tables → Tables
+with_facts edits t = record t {
+  profile = with_edits row.profile edits.profiles t.profile;
+  calendar = with_edits row.calendar edits.calendar t.calendar;
+  fact = after_all with_fact_edit edits.facts t.fact;
+}
+
 -- the tables with the edits of a command
 abbrev pub with_all_edits : Edits → Tables → Tables
-with_all_edits edits t = with_dimensions edits (with_lists edits t)
+with_all_edits edits t = with_facts edits (with_dimensions edits (with_commands edits t))
 
--- the numbers after a number, up to another
-abbrev pub behind : ℕ → ℕ → List ℕ
-behind number upto = range_with_len (suc number) (upto - number)
+-- ---- exact edits
 
--- the keys of the members of a dimension that the later list has and the earlier one hasn't
-abbrev pub members_behind : List Accepted → List Accepted → Dim → List MemberKey
-members_behind before after dim = map (λ n. record { dim = dim; durable = n }) (behind (length (members dim before)) (length (members dim after)))
+-- the edits of a table are exactly what leads from the rows of some keys to others
+abbrev pub IsTablePlan : {K V : Type 0} → Layout K V → (K → Option V) → (K → Option V) → List (Edit V K) → Type 0
+IsTablePlan layout = IsPlan layout.order layout.key
 
--- those of all dimensions
-abbrev pub new_members : List Accepted → List Accepted → List MemberKey
-new_members before after = members_behind before after Product ++ members_behind before after Store ++ members_behind before after Customer
+-- the line of which an edit is
+abbrev pub edited_line : FactEdit → LineKey
+edited_line (Row edit) = edited row.fact.key edit
+edited_line (Rekey line keys) = line
 
--- a fact has this key
-abbrev pub has_line : LineKey → Fact → Bool
-has_line key f = bytes_eq f.ticket key.ticket && (f.line == key.line)
+-- the edit of a fact that was one and is to be another: where only its keys differ it gets other keys
+abbrev pub ChangesFact : LineKey → Fact → Fact → Option FactEdit → Type 0
+ChangesFact line old new edit =
+    ((old ≡ new) × (edit ≡ None)) ⊎ (((old ≢ new) × (record old { keys = new.keys } ≡ new) × (edit ≡ Some (Rekey line new.keys))) ⊎ ((record old { keys = new.keys } ≢ new) × (edit ≡ Some (Row (Put new)))))
 
--- The facts are exactly what leads from one table of facts to another: put at their keys they do, each differs from what stands there, and no two have one key.
-pub record AreFacts (before after : LineKey → Option Fact) (facts : List Fact) : Type 0 where
-  pub lead : (key : LineKey) → option_or (find (has_line key) facts) (before key) ≡ after key
-  pub needed : AllByRecursion (λ f. before (row.fact.key f) ≢ Some f) facts
-  pub once : IsDistinct (λ f. has_line (row.fact.key f)) facts
+-- the edit that a line needs
+abbrev pub NeedsFact : LineKey → Option Fact → Option Fact → Option FactEdit → Type 0
+NeedsFact line None None edit = edit ≡ None
+NeedsFact line (Some old) None edit = edit ≡ Some (Row (Remove line))
+NeedsFact line None (Some new) edit = edit ≡ Some (Row (Put new))
+NeedsFact line (Some old) (Some new) edit = ChangesFact line old new edit
 
--- The edits are exactly what leads from the tables of the commands so far to those of the list with one more command.
-pub record AreEdits (before : List Accepted) (c : Accepted) (edits : Edits) : Type 0 where
-  pub command : command_at (before ++ c ∷ []) (suc (length before)) ≡ Some edits.command
-  pub members : edits.members ≡ filter_map (member_at (before ++ c ∷ [])) (new_members before (before ++ c ∷ []))
-  pub changes : edits.changes ≡ filter_map (λ n. change_at (before ++ c ∷ []) (record { command = length (before ++ c ∷ []); place = n })) (behind 0 (records_by c.content))
-  pub rows : (dim : Dim) → IsPlan (λ r. r.surrogate) (dimension_row before dim) (dimension_row (before ++ c ∷ []) dim) (rows_of_dimension dim edits)
-  pub profiles : edits.profiles ≡ filter_map (profile_at (before ++ c ∷ [])) (behind (suc (length (profiles_of before))) (suc (length (profiles_of (before ++ c ∷ [])))))
-  pub facts : AreFacts (fact_at before) (fact_at (before ++ c ∷ [])) edits.facts
+-- the edits of facts are exactly what leads from some facts to others
+abbrev pub IsFactPlan : (LineKey → Option Fact) → (LineKey → Option Fact) → List FactEdit → Type 0
+IsFactPlan = IsExact row.fact.order edited_line NeedsFact
+
+-- The edits are exactly what leads from the tables of some accepted commands to those of others: in each table one edit, in order of key, for each key whose rows differ, and none for any other.
+pub record AreEdits (before after : List Accepted) (edits : Edits) : Type 0 where
+  pub commands : IsTablePlan row.command (command_at before) (command_at after) edits.commands
+  pub members : IsTablePlan row.member (member_at before) (member_at after) edits.members
+  pub changes : IsTablePlan row.change (change_at before) (change_at after) edits.changes
+  pub rows : (dim : Dim) → IsRowPlan (dimension_row before dim) (dimension_row after dim) (rows_of_dimension dim edits)
+  pub profiles : IsTablePlan row.profile (profile_at before) (profile_at after) edits.profiles
+  pub calendar : IsTablePlan row.calendar (calendar_at before) (calendar_at after) edits.calendar
+  pub facts : IsFactPlan (fact_at before) (fact_at after) edits.facts

@@ -18,7 +18,8 @@ use Rattle.wh_rows.specs.declared.rows.CommandRow.{CommandRow}
 use Rattle.wh_rows.specs.declared.rows.ProfileRow.{ProfileRow}
 use Rattle.wh_store.specs.Edits.{with_row, IsValid}
 use Rattle.wh_plan.specs.Defined.{day_at}
-use Rattle.wh_plan.specs.Edits.{with_rows, behind}
+use Rattle.wh_plan.specs.Edits.{with_rows}
+use Rattle.wh_plan.specs.BatchRows.{behind}
 
 -- the command that a making is
 abbrev pub making_of : Policy → List ℕ → Accepted

@@ -14,7 +14,7 @@ use Rattle.wh_history.specs.Facts.{new_keys}
 use Rattle.wh_history.specs.Shapes.{shape_after, rendered_in}
 use Rattle.wh_history.specs.Keys.{at_place}
 use Rattle.wh_history.specs.Laws.{RecordsHaveDays, IsEffective, governs, mentions_member}
-use Rattle.wh_history.specs.Plan.{IsPlan, row_of}
+use Rattle.wh_history.specs.Plan.{IsRowPlan, row_of}
 use Rattle.wh_history.specs.Tables.{Limits, dimension_row, profile_at, fact_of}
 use Rattle.wh_history.specs.declared.facts.Fact.{Fact}
 use Rattle.wh_history.specs.declared.plan.Edit.{Edit}
@@ -29,7 +29,8 @@ use Rattle.wh_rows.specs.Limits.{are_limits}
 use Rattle.wh_rows.specs.Tables.{Tables}
 use Rattle.wh_plan.specs.Defined.{fact_at, AreOf}
 use Rattle.wh_plan.specs.FirstRows.{making_of}
-use Rattle.wh_plan.specs.Edits.{Edits, with_all_edits, behind, AreFacts, AreEdits}
+use Rattle.wh_plan.specs.Edits.{Edits, no_edits, with_all_edits, AreEdits}
+use Rattle.wh_plan.specs.BatchRows.{behind, AreFacts}
 use Rattle.wh_plan.specs.Sound.{IsAccepted, same_line}
 use Rattle.wh_plan.specs.Writable.{MayBeWritten}
 use Rattle.wh_plan.specs.NewRows.{of_members, naturals_told, durables_touched, rows_of_members, members_among}
@@ -38,13 +39,20 @@ use Rattle.wh_plan.specs.NewRows.{of_members, naturals_told, durables_touched, r
 abbrev pub ShowsNoProfile : List Accepted → Dim → Type 0
 ShowsNoProfile commands dim = list_any is_outrigger (types_in dim commands) ≡ false
 
--- From the tables of the commands so far the edits of a batch, of records or of sales, lead to those of the commands with it.
-abbrev pub BatchesAreWritten : Type 0
-BatchesAreWritten = (limits : Limits) (commands : List Accepted) (c : Accepted) (tables : Tables) (edits : Edits)
-    → governs c.content ≡ false
-    → AreOf limits commands tables
-    → AreEdits commands c edits
-    → AreOf limits (commands ++ c ∷ []) (with_all_edits edits tables)
+-- From the tables of some commands the exact edits lead to those of others.
+abbrev pub EditsAreWritten : Type 0
+EditsAreWritten = (limits : Limits) (before after : List Accepted) (tables : Tables) (edits : Edits)
+    → AreOf limits before tables
+    → AreEdits before after edits
+    → AreOf limits after (with_all_edits edits tables)
+
+-- Between the tables of two lists of commands there is one list of exact edits.
+abbrev pub ExactEditsAreOne : Type 0
+ExactEditsAreOne = (before after : List Accepted) (a b : Edits) → AreEdits before after a → AreEdits before after b → a ≡ b
+
+-- Between the tables of the same commands there is no edit.
+abbrev pub NoEditsStay : Type 0
+NoEditsStay = (commands : List Accepted) → AreEdits commands commands no_edits
 
 -- A row of a member that a batch does not mention stands under its key in the tables of the commands so far exactly where it stands
 -- there in those of the commands with it; again where rows of products and stores show no profile.
@@ -70,7 +78,7 @@ BatchesMayBeWritten = (limits : Limits) (commands : List Accepted) (c : Accepted
     → governs c.content ≡ false
     → IsAccepted limits (commands ++ c ∷ [])
     → AreOf limits commands tables
-    → AreEdits commands c edits
+    → AreEdits commands (commands ++ c ∷ []) edits
     → MayBeWritten edits
 
 -- In the tables of accepted commands no two commands have one id, and no two members of a dimension one natural key: no row that is put
@@ -88,8 +96,8 @@ TouchedRowsAreThePlan = (commands : List Accepted) (c : Accepted) (dim : Dim) (r
     → (dim ≢ Customer → ShowsNoProfile commands dim)
     → ((key : ℕ) → row_of key stored ≡ of_members (durables_touched dim commands (commands ++ c ∷ []) records) (dimension_row commands dim key))
     → ((key : ℕ) → row_of key after ≡ of_members (durables_touched dim commands (commands ++ c ∷ []) records) (dimension_row (commands ++ c ∷ []) dim key))
-    → IsPlan (λ r. r.surrogate) (λ key. row_of key stored) (λ key. row_of key after) edits
-    → IsPlan (λ r. r.surrogate) (dimension_row commands dim) (dimension_row (commands ++ c ∷ []) dim) edits
+    → IsRowPlan (λ key. row_of key stored) (λ key. row_of key after) edits
+    → IsRowPlan (dimension_row commands dim) (dimension_row (commands ++ c ∷ []) dim) edits
 
 -- The rows of the touched members that the older commands mention, one member after the other, are those in the table before the batch.
 abbrev pub TouchedRowsBefore : Type 0
@@ -130,7 +138,7 @@ SalesAreFacts = (commands : List Accepted) (c : Accepted) (sales : List SaleReco
 abbrev pub SalesPutPlaceholders : Type 0
 SalesPutPlaceholders = (commands : List Accepted) (c : Accepted) (dim : Dim) (sales : List SaleRecord)
     → c.content ≡ Sells sales
-    → IsPlan (λ r. r.surrogate) (dimension_row commands dim) (dimension_row (commands ++ c ∷ []) dim)
+    → IsRowPlan (dimension_row commands dim) (dimension_row (commands ++ c ∷ []) dim)
     (map Put (filter_map (dimension_row (commands ++ c ∷ []) dim) (behind (length (anchors dim commands)) (length (anchors dim (commands ++ c ∷ []))))))
 
 -- what a fact names of the member that has this card: its durable key, which is not 0, the one row that holds the fact's day, and its profile of that day

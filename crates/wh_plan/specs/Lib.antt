@@ -2,6 +2,8 @@ pub mod Defined
 pub mod Reading
 pub mod Reads
 pub mod Edits
+pub mod BatchRows
+pub mod FactEdits
 pub mod Writable
 pub mod Sound
 pub mod FirstRows

@@ -19,7 +19,7 @@ use Rattle.wh_rows.specs.Tables.{Tables}
 use Rattle.wh_rows.specs.Questions.{durable_of}
 use Rattle.wh_plan.specs.Defined.{AreOf, fact_at}
 use Rattle.wh_plan.specs.Laws.{ShowsNoProfile}
-use Rattle.wh_plan.specs.Edits.{AreFacts}
+use Rattle.wh_plan.specs.BatchRows.{AreFacts, AreRekeyed}
 use Rattle.wh_plan.specs.declared.touched.TouchedMember.{TouchedMember}
 use Rattle.wh_plan.specs.NewRows.{members_among, naturals_told}
 
@@ -68,10 +68,11 @@ moves_of_member before after table dim natural = filter_map (moved_for after dim
 abbrev pub moves_of_members : List Accepted → List Accepted → FinMap row.fact.order Fact → Dim → List (List ℕ) → List Fact
 moves_of_members before after table dim naturals = flat_map (moves_of_member before after table dim) naturals
 
--- Of the touched members that were there, the facts whose keys change, with their new keys, are exactly what leads from the facts of the commands to those with the batch.
+-- Of the touched members that were there, the facts whose keys change, with their new keys, are exactly what leads from the facts of the commands to those with the batch; of each nothing but its keys changes.
 abbrev pub MovedFactsAreExact : Type 0
 MovedFactsAreExact = (limits : Limits) (commands : List Accepted) (c : Accepted) (dim : Dim) (records : List DimensionRecord) (t : Tables)
     → c.content ≡ Describes dim records
     → (dim ≡ Customer → ShowsNoProfile commands Product × ShowsNoProfile commands Store)
     → AreOf limits commands t
     → AreFacts (fact_at commands) (fact_at (commands ++ c ∷ [])) (moves_of_members commands (commands ++ c ∷ []) t.fact dim (members_among commands dim (naturals_told records)))
+    × AreRekeyed (fact_at commands) (moves_of_members commands (commands ++ c ∷ []) t.fact dim (members_among commands dim (naturals_told records)))

@@ -10,7 +10,7 @@ use Rattle.wh_history.specs.Touched.{touched_by}
 use Rattle.wh_history.specs.declared.dimension.Dimension.{Dimension}
 use Rattle.wh_history.specs.declared.member.Member.{Member}
 use Rattle.wh_plan.specs.Defined.{fact_at, profile_at}
-use Rattle.wh_plan.specs.Edits.{AreFacts, behind}
+use Rattle.wh_plan.specs.BatchRows.{AreFacts, AreRekeyed, behind}
 use Rattle.wh_plan.specs.NewRows.{naturals_told, rows_of_members, members_among}
 use Rattle.wh_plan.specs.declared.record_plan.Found.{Found}
 use Rattle.wh_plan.specs.declared.record_plan.Planned.{Planned}
@@ -29,3 +29,4 @@ pub record IsPlanned (dimension : Dimension) (records : List DimensionRecord) (b
   pub enough : AllByRecursion (KnowsEnough dimension.dim dimension.types.now (number_in dimension.profiles.now) (profiles_of after)) members
   pub profiles : planned.profiles.items ≡ filter_map (profile_at after) (behind (suc (length (profiles_of before))) (suc (length (profiles_of after))))
   pub facts : AreFacts (fact_at before) (fact_at after) planned.facts.items
+  pub rekeyed : AreRekeyed (fact_at before) planned.facts.items

@@ -16,7 +16,7 @@ use Rattle.wh_history.specs.declared.member.Member.{Member}
 use Rattle.wh_history.specs.declared.plan.Edit.TheVariants.{Put}
 use Rattle.wh_history.specs.declared.rows.DimRow.{DimRow}
 use Rattle.wh_plan.specs.Defined.{member_at}
-use Rattle.wh_plan.specs.Edits.{behind}
+use Rattle.wh_plan.specs.BatchRows.{behind}
 use Rattle.wh_plan.specs.declared.sold_dimension.SoldDimension.{SoldDimension}
 
 -- the members of a dimension that sales mention, each once, in order of first mention

@@ -1,21 +1,54 @@
 //! The edits of a command.
 
-use std::marker::Model;
-use wh_history::{DimRow, Edit, Fact};
-use wh_rows::{ChangeRow, CommandRow, MemberRow, ProfileRow};
+ghost use Rattle.std.specs.Prelude.{◌≡◌};
+ghost use Rattle.wh_plan.specs.Edits.{no_edits};
 
-/// What a command writes: its own row, the rows of the members that it is the first to mention, its records, the profiles
-/// that it is the first to show, the facts that are new or get other keys, and the edits of the rows of the three dimensions.
+use std::alloc::Global;
+use std::marker::Model;
+use wh_day::{DateRow, Day};
+use wh_history::{DimRow, Edit, Fact, FactKeys};
+use wh_rows::{ChangeKey, ChangeRow, CommandRow, LineKey, MemberKey, MemberRow, ProfileRow};
+
+/// A change of one fact.
+#[derive(Debug, Drop)]
+pub enum FactEdit {
+    /// The fact is new, is there with other contents, or is no longer there.
+    Row(Edit<Fact, LineKey>),
+    /// A fact that is there gets other keys, and nothing else of it changes.
+    Rekey(LineKey, FactKeys),
+}
+
+/// What a command writes: for each table the edits of its rows, in order of their keys. A key whose row stays the same has none.
 #[derive(Debug, Drop)]
 pub struct Edits {
-    pub command: CommandRow,
-    pub members: Vec<MemberRow>,
-    pub changes: Vec<ChangeRow>,
-    pub profiles: Vec<ProfileRow>,
-    pub facts: Vec<Fact>,
+    pub commands: Vec<Edit<CommandRow, u64>>,
+    pub members: Vec<Edit<MemberRow, MemberKey>>,
+    pub changes: Vec<Edit<ChangeRow, ChangeKey>>,
     pub products: Vec<Edit<DimRow, u64>>,
     pub stores: Vec<Edit<DimRow, u64>>,
     pub customers: Vec<Edit<DimRow, u64>>,
+    pub profiles: Vec<Edit<ProfileRow, u64>>,
+    pub calendar: Vec<Edit<DateRow, Day>>,
+    pub facts: Vec<FactEdit>,
+}
+
+impl Edits {
+    /// No edit of any table.
+    pub fn none(alloc: Global) -> Edits
+        ensures { result ≡ no_edits }
+    {
+        Edits {
+            commands: Vec::new(alloc),
+            members: Vec::new(alloc),
+            changes: Vec::new(alloc),
+            products: Vec::new(alloc),
+            stores: Vec::new(alloc),
+            customers: Vec::new(alloc),
+            profiles: Vec::new(alloc),
+            calendar: Vec::new(alloc),
+            facts: Vec::new(alloc),
+        }
+    }
 }
 
 impl Model for Edits {
@@ -24,13 +57,14 @@ impl Model for Edits {
     ghost Value = { Lists };
 
     ghost view = { λ e. record {
-      command = e.command;
+      commands = e.commands.items;
       members = e.members.items;
       changes = e.changes.items;
-      profiles = e.profiles.items;
-      facts = e.facts.items;
       products = e.products.items;
       stores = e.stores.items;
       customers = e.customers.items;
+      profiles = e.profiles.items;
+      calendar = e.calendar.items;
+      facts = e.facts.items;
     } };
 }

@@ -1,12 +1,21 @@
 //! Laws of the tables that accepted commands define. They speak of the definitions alone and do nothing.
 
 ghost use Rattle.wh_plan.specs.MovedFacts.{MovedFactsAreExact};
-ghost use Rattle.wh_plan.specs.Laws.{AcceptedListsBegin, BatchesAreWritten, BatchesMayBeWritten, FactsAreEffective, LateRecordsMoveFacts, SalesAreFacts, SalesPutPlaceholders, SecondKeysAreApart, SoundPoliciesShowNone, TouchedRowsAfter, TouchedRowsAreThePlan, TouchedRowsBefore, UntouchedMembersKeep};
+ghost use Rattle.wh_plan.specs.Laws.{AcceptedListsBegin, BatchesMayBeWritten, EditsAreWritten, ExactEditsAreOne, FactsAreEffective, LateRecordsMoveFacts, NoEditsStay, SalesAreFacts, SalesPutPlaceholders, SecondKeysAreApart, SoundPoliciesShowNone, TouchedRowsAfter, TouchedRowsAreThePlan, TouchedRowsBefore, UntouchedMembersKeep};
 
-/// From the tables of the commands so far the edits of a batch of records or of sales lead to those of the commands with
-/// it, in all ten tables.
-pub fn a_batch_is_written()
-    ensures { BatchesAreWritten }
+/// From the tables of some accepted commands the exact edits lead to those of others, in all ten tables.
+pub fn edits_are_written()
+    ensures { EditsAreWritten }
+{}
+
+/// Between the tables of two lists of commands there is one list of exact edits.
+pub fn exact_edits_are_one()
+    ensures { ExactEditsAreOne }
+{}
+
+/// Between the tables of the same commands there is no edit.
+pub fn no_edits_stay()
+    ensures { NoEditsStay }
 {}
 
 /// Under a sound policy no row of a product or a store shows a profile, as a batch of customers asks.
@@ -49,7 +58,7 @@ pub fn late_records_move_facts()
 {}
 
 /// The facts of the touched members whose keys change with a batch of records, with their new keys, are exactly what leads
-/// from the facts of the commands so far to those of the commands with it.
+/// from the facts of the commands so far to those of the commands with it; nothing but its keys changes of any.
 pub fn moved_facts_are_exact()
     ensures { MovedFactsAreExact }
 {}

@@ -2,8 +2,10 @@
 #![tactic(auto)]
 
 mod batch;
+mod batch_rows;
 mod by_natural;
 mod edits;
+mod fact_edits;
 pub mod laws;
 mod moved_facts;
 mod naturals;
@@ -17,6 +19,6 @@ mod sale_plan;
 mod sold_dimension;
 mod touched;
 
-pub use edits::Edits;
+pub use edits::{Edits, FactEdit};
 pub use record_plan::plan_batch;
 pub use sale_plan::plan_sales;

@@ -7,7 +7,7 @@ ghost use Rattle.wh_history.specs.Known.{number_in, KnowsEnough};
 ghost use Rattle.wh_history.specs.Shapes.{shape_of};
 ghost use Rattle.wh_history.specs.Touched.{touched_by};
 ghost use Rattle.wh_plan.specs.Defined.{fact_at};
-ghost use Rattle.wh_plan.specs.Edits.{AreFacts};
+ghost use Rattle.wh_plan.specs.BatchRows.{AreFacts, AreRekeyed};
 ghost use Rattle.wh_plan.specs.MovedFacts.{earliest, moves_since, moved_of_touched, pair_of, rekeyed_facts};
 ghost use Rattle.wh_plan.specs.NewRows.{Records, naturals_told};
 ghost use Rattle.wh_store.specs.Reads.{ReadsOnly, state_of};
@@ -130,7 +130,7 @@ pub(crate) fn facts_to_move<'a, S: Alter>(
 ) -> Result<Vec<Fact>, ReadFault>
     ensures reads { ReadsOnly (state_of S.Store tables.old) (state_of S.Store tables.new) result }
     // They are what leads from the facts of the commands so far to those with the batch.
-    ensures moved { Finds (state_of S.Store tables.old) (state_of S.Store tables.new) (λ limits commands. (c : Accepted) (records : Records) → IsAccepted limits (commands ++ c ∷ []) → c.content ≡ Describes dimension.now.dim records → AreTypes commands dimension.now.dim dimension.now.types.now → stored.now ≡ map (member_of dimension.now.dim commands) (naturals_told records) → after.now ≡ (touched_by dimension.now.dim commands (commands ++ c ∷ []) records).list → AllByRecursion (KnowsEnough dimension.now.dim dimension.now.types.now (number_in dimension.now.profiles.now) (profiles_of (commands ++ c ∷ []))) after.now → IfOk result (λ facts. AreFacts (fact_at commands) (fact_at (commands ++ c ∷ [])) facts.items)) }
+    ensures moved { Finds (state_of S.Store tables.old) (state_of S.Store tables.new) (λ limits commands. (c : Accepted) (records : Records) → IsAccepted limits (commands ++ c ∷ []) → c.content ≡ Describes dimension.now.dim records → AreTypes commands dimension.now.dim dimension.now.types.now → stored.now ≡ map (member_of dimension.now.dim commands) (naturals_told records) → after.now ≡ (touched_by dimension.now.dim commands (commands ++ c ∷ []) records).list → AllByRecursion (KnowsEnough dimension.now.dim dimension.now.types.now (number_in dimension.now.profiles.now) (profiles_of (commands ++ c ∷ []))) after.now → IfOk result (λ facts. AreFacts (fact_at commands) (fact_at (commands ++ c ∷ [])) facts.items × AreRekeyed (fact_at commands) facts.items)) }
 {
     let touched = touched_pairs(alloc, stored, after)?;
     moved_of_members(tables, alloc, dimension, &touched)

@@ -8,11 +8,12 @@ ghost use Rattle.wh_history.specs.Accepted.{Accepted, Describes, member_of, poli
 ghost use Rattle.wh_history.specs.Keys.{greatest_number};
 ghost use Rattle.wh_history.specs.Known.{number_in, KnowsEnough};
 ghost use Rattle.wh_history.specs.Laws.{RecordsHaveDays};
-ghost use Rattle.wh_history.specs.Plan.{IsPlan, row_of};
+ghost use Rattle.wh_history.specs.Plan.{IsRowPlan, row_of};
 ghost use Rattle.wh_history.specs.Tables.{dimension_row};
 ghost use Rattle.wh_history.specs.Touched.{touched_by};
 ghost use Rattle.wh_plan.specs.Defined.{command_at};
-ghost use Rattle.wh_plan.specs.Edits.{AreEdits, in_dimension};
+ghost use Rattle.wh_plan.specs.Edits.{AreEdits};
+ghost use Rattle.wh_plan.specs.BatchRows.{in_dimension, AreBatchRows};
 ghost use Rattle.wh_plan.specs.NewRows.{Records, members_among, naturals_told, rows_of_members};
 ghost use Rattle.wh_plan.specs.Reading.{HaveNoEmptyValue};
 ghost use Rattle.wh_store.specs.Reads.{ReadsOnly, state_of};
@@ -21,7 +22,9 @@ ghost use Rattle.wh_plan.specs.RecordPlan.{IsFound, IsPlanned};
 ghost use Rattle.wh_plan.specs.Sound.{AreTypes, IsAccepted};
 
 use crate::batch::Batch;
+use crate::batch_rows::{BatchRows, edits_of_batch};
 use crate::edits::Edits;
+use crate::fact_edits::fact_rekeys;
 use crate::moved_facts::facts_to_move;
 use crate::naturals::naturals_told;
 use crate::new_rows::{new_changes, new_members, rows_of_members};
@@ -132,7 +135,7 @@ fn row_edits(
         → touched.now ≡ (touched_by dimension.now.dim commands (commands ++ c ∷ []) records).list
         → AllByRecursion (KnowsEnough dimension.now.dim dimension.now.types.now (number_in dimension.now.profiles.now) (profiles_of (commands ++ c ∷ []))) touched.now
         → ((key : ℕ) → row_of key stored.now ≡ row_of key (rows_of_members commands dimension.now.dim (members_among commands dimension.now.dim (naturals_told records))))
-        → IfOk result (λ edits. IsPlan (λ r. r.surrogate) (dimension_row commands dimension.now.dim) (dimension_row (commands ++ c ∷ []) dimension.now.dim) edits.items) }
+        → IfOk result (λ edits. IsRowPlan (dimension_row commands dimension.now.dim) (dimension_row (commands ++ c ∷ []) dimension.now.dim) edits.items) }
 {
     let after = rows_of_members(alloc, dimension, touched)?;
     Ok(plan_rows(alloc, stored, &after)?)
@@ -175,30 +178,31 @@ pub(crate) struct Planned {
     pub(crate) facts: Vec<Fact>,
 }
 
-/// The edits of a batch, by the members as they are after it, and what was read and planned for it.
-fn edits_of(
+/// What a batch brings, by the members as they are after it, and what was read and planned for it.
+fn rows_of_batch(
     alloc: Global,
     command: CommandRow,
     records: &[DimensionRecord],
     dimension: &Dimension,
     after: &[Member],
     planned: Planned,
-) -> Result<Edits, AllocError>
+) -> Result<BatchRows, AllocError>
     ensures { (commands : List Accepted) (c : Accepted) → c.content ≡ Describes dimension.now.dim records.now → AreTypes commands dimension.now.dim dimension.now.types.now
         → RecordsHaveDays commands → RecordsHaveDays (commands ++ c ∷ []) → command_at (commands ++ c ∷ []) (suc (length commands)) ≡ Some command
-        → IsPlanned dimension.now records.now commands (commands ++ c ∷ []) after.now planned → IfOk result (AreEdits commands c) }
+        → IsPlanned dimension.now records.now commands (commands ++ c ∷ []) after.now planned → IfOk result (AreBatchRows commands c) }
 {
     let dim = dimension.dim;
     let members = new_members(alloc, dim, planned.found.drawn.members, after)?;
     let changes = new_changes(alloc, dim, command.number, after, records)?;
     let rows = row_edits(alloc, dimension, after, &planned.found.rows)?;
     let rows = of_dimension(alloc, dim, rows);
-    Ok(Edits {
+    let facts = fact_rekeys(alloc, planned.facts)?;
+    Ok(BatchRows {
         command,
         members,
         changes,
         profiles: planned.profiles,
-        facts: planned.facts,
+        facts,
         products: rows.products,
         stores: rows.stores,
         customers: rows.customers,
@@ -216,7 +220,7 @@ pub fn plan_batch<S: Alter>(
     records: &[DimensionRecord],
 ) -> Result<Edits, ReadFault>
     ensures reads { ReadsOnly (state_of S.Store tables.old) (state_of S.Store tables.new) result }
-    ensures edits { Finds (state_of S.Store tables.old) (state_of S.Store tables.new) (λ limits commands. (c : Accepted) → IsAccepted limits (commands ++ c ∷ []) → c.content ≡ Describes dim records.now → policy_after None commands ≡ Some policy.now → IsSound policy.now → command_at (commands ++ c ∷ []) (suc (length commands)) ≡ Some command → IfOk result (AreEdits commands c)) }
+    ensures edits { Finds (state_of S.Store tables.old) (state_of S.Store tables.new) (λ limits commands. (c : Accepted) → IsAccepted limits (commands ++ c ∷ []) → c.content ≡ Describes dim records.now → policy_after None commands ≡ Some policy.now → IsSound policy.now → command_at (commands ++ c ∷ []) (suc (length commands)) ≡ Some command → IfOk result (AreEdits commands (commands ++ c ∷ []))) }
 {
     let types = policy.types(alloc, dim)?;
     let batch = Batch {
@@ -240,5 +244,6 @@ pub fn plan_batch<S: Alter>(
         profiles,
         facts,
     };
-    Ok(edits_of(alloc, command, records, &dimension, after, planned)?)
+    let rows = rows_of_batch(alloc, command, records, &dimension, after, planned)?;
+    Ok(edits_of_batch(alloc, rows)?)
 }

@@ -11,11 +11,14 @@ ghost use Rattle.wh_plan.specs.Defined.{command_at, fact_at};
 ghost use Rattle.wh_plan.specs.Reading.{HaveNoEmptyValue};
 ghost use Rattle.wh_plan.specs.Sound.{same_line};
 ghost use Rattle.wh_plan.specs.SoldMembers.{IsSoldDimension};
+ghost use Rattle.wh_plan.specs.BatchRows.{AreBatchRows};
 ghost use Rattle.wh_plan.specs.Edits.{AreEdits};
 ghost use Rattle.wh_store.specs.Reads.{ReadsOnly, state_of};
 ghost use Rattle.wh_plan.specs.Reads.{Finds};
 
+use crate::batch_rows::{BatchRows, edits_of_batch};
 use crate::edits::Edits;
+use crate::fact_edits::fact_puts;
 use crate::sale_keys::facts_of;
 use crate::sold_dimension::{SoldDimension, read_sold_dimension};
 use sqlite::Alter;
@@ -24,15 +27,15 @@ use wh_policy::{Dim, Policy, SaleRecord};
 use wh_rows::CommandRow;
 use wh_store::{ReadFault, Tables};
 
-/// The edits of a batch of sales, by what they have of the three dimensions.
-fn edits_of_sales(
+/// What a batch of sales brings, by what they have of the three dimensions.
+fn rows_of_sales(
     alloc: Global,
     command: CommandRow,
     sales: &[SaleRecord],
     products: SoldDimension,
     stores: SoldDimension,
     customers: SoldDimension,
-) -> Result<Edits, AllocError>
+) -> Result<BatchRows, AllocError>
     requires products { length products.keys.items ≡ length sales.now }
     requires stores { length stores.keys.items ≡ length sales.now }
     requires customers { length customers.keys.items ≡ length sales.now }
@@ -40,9 +43,10 @@ fn edits_of_sales(
         → IsSoldDimension Product commands (commands ++ c ∷ []) sales.now products → IsSoldDimension Store commands (commands ++ c ∷ []) sales.now stores → IsSoldDimension Customer commands (commands ++ c ∷ []) sales.now customers
         → AllByRecursion (λ s. fact_at commands (record { ticket = s.ticket; line = s.line }) ≡ None) sales.now → IsDistinct same_line sales.now
         → command_at (commands ++ c ∷ []) (suc (length commands)) ≡ Some (record command { placeholders = placeholders_by (commands ++ c ∷ []) (suc (length commands)) c.content })
-        → IfOk result (AreEdits commands c) }
+        → IfOk result (AreBatchRows commands c) }
 {
-    let facts = facts_of(alloc, sales, &products.keys, &stores.keys, &customers.keys)?;
+    let sold = facts_of(alloc, sales, &products.keys, &stores.keys, &customers.keys)?;
+    let facts = fact_puts(alloc, sold)?;
     let mut members = products.members;
     let mut of_stores = stores.members;
     let mut of_customers = customers.members;
@@ -50,7 +54,7 @@ fn edits_of_sales(
     members.append(&mut of_customers)?;
     let mut command = command;
     command.placeholders = members.len() as u64;
-    Ok(Edits {
+    Ok(BatchRows {
         command,
         members,
         changes: Vec::new(alloc),
@@ -72,10 +76,11 @@ pub fn plan_sales<S: Alter>(
     sales: &[SaleRecord],
 ) -> Result<Edits, ReadFault>
     ensures reads { ReadsOnly (state_of S.Store tables.old) (state_of S.Store tables.new) result }
-    ensures edits { Finds (state_of S.Store tables.old) (state_of S.Store tables.new) (λ _ commands. (c : Accepted) → HaveNoEmptyValue commands → ((dim : Dimension) → (length (members dim (commands ++ c ∷ [])) ≤ greatest_number) × (length (anchors dim (commands ++ c ∷ [])) ≤ greatest_number)) → c.content ≡ Sells sales.now → policy_after None commands ≡ Some policy.now → IsSound policy.now → AllByRecursion (λ s. fact_at commands (record { ticket = s.ticket; line = s.line }) ≡ None) sales.now → IsDistinct same_line sales.now → command_at (commands ++ c ∷ []) (suc (length commands)) ≡ Some (record command { placeholders = placeholders_by (commands ++ c ∷ []) (suc (length commands)) c.content }) → IfOk result (AreEdits commands c)) }
+    ensures edits { Finds (state_of S.Store tables.old) (state_of S.Store tables.new) (λ _ commands. (c : Accepted) → HaveNoEmptyValue commands → ((dim : Dimension) → (length (members dim (commands ++ c ∷ [])) ≤ greatest_number) × (length (anchors dim (commands ++ c ∷ [])) ≤ greatest_number)) → c.content ≡ Sells sales.now → policy_after None commands ≡ Some policy.now → IsSound policy.now → AllByRecursion (λ s. fact_at commands (record { ticket = s.ticket; line = s.line }) ≡ None) sales.now → IsDistinct same_line sales.now → command_at (commands ++ c ∷ []) (suc (length commands)) ≡ Some (record command { placeholders = placeholders_by (commands ++ c ∷ []) (suc (length commands)) c.content }) → IfOk result (AreEdits commands (commands ++ c ∷ []))) }
 {
     let products = read_sold_dimension(tables, alloc, policy, Dim::Product, sales)?;
     let stores = read_sold_dimension(tables, alloc, policy, Dim::Store, sales)?;
     let customers = read_sold_dimension(tables, alloc, policy, Dim::Customer, sales)?;
-    Ok(edits_of_sales(alloc, command, sales, products, stores, customers)?)
+    let rows = rows_of_sales(alloc, command, sales, products, stores, customers)?;
+    Ok(edits_of_batch(alloc, rows)?)
 }

@@ -3,7 +3,7 @@ use Rattle.std.proofs.Common.{◌≡◌, [], ◌∷◌, refl, sym, true, false, 
 use Rattle.clap.specs.Words.{takes, subcommand_of, Text}
 use Rattle.clap.specs.Lexer.{long_of, short_of}
 use Rattle.clap.proofs.OnLiterals.{clap_on_literals}
-use Rattle.wh_program.specs.CommandLine.{CommandLine, Trial, Init, Load, Status, program_app, words_of, is_operand, has_operands, named}
+use Rattle.wh_program.specs.CommandLine.{CommandLine, Trial, Init, Load, Plan, Status, program_app, words_of, is_operand, has_operands, named}
 
 not-true : (b : Bool) → not b ≡ true → b ≡ false
 not-true true h = cc
@@ -56,6 +56,14 @@ load_named : (f k i p : Text) → IsPlain f → IsPlain k → IsPlain i → IsPl
 unfolding clap_on_literals
 load_named f k i p f-is k-is i-is p-is = rw (f-is.no_end, f-is.no_long, f-is.no_short, k-is.no_end, k-is.no_long, k-is.no_short, i-is.no_end, i-is.no_long, i-is.no_short, p-is.no_end, p-is.no_long, p-is.no_short) (refl {a = Some (Load f k i p)})
 
+plan_taken : (f k i p : Text) → IsPlain f → IsPlain k → IsPlain i → IsPlain p → takes program_app (words_of (Plan f k i p)) ≡ true
+unfolding clap_on_literals
+plan_taken f k i p f-is k-is i-is p-is = rw (f-is.no_end, f-is.no_long, f-is.no_short, k-is.no_end, k-is.no_long, k-is.no_short, i-is.no_end, i-is.no_long, i-is.no_short, p-is.no_end, p-is.no_long, p-is.no_short) refl
+
+plan_named : (f k i p : Text) → IsPlain f → IsPlain k → IsPlain i → IsPlain p → named (subcommand_of program_app (words_of (Plan f k i p))) ≡ Some (Plan f k i p)
+unfolding clap_on_literals
+plan_named f k i p f-is k-is i-is p-is = rw (f-is.no_end, f-is.no_long, f-is.no_short, k-is.no_end, k-is.no_long, k-is.no_short, i-is.no_end, i-is.no_long, i-is.no_short, p-is.no_end, p-is.no_long, p-is.no_short) (refl {a = Some (Plan f k i p)})
+
 status_taken : (f : Text) → IsPlain f → takes program_app (words_of (Status f)) ≡ true
 unfolding clap_on_literals
 status_taken f f-is = rw (f-is.no_end, f-is.no_long, f-is.no_short) refl
@@ -80,6 +88,11 @@ taken (Load f k i p) is =
     let k-is = both (is_operand k) _ f-is.1 in
     let i-is = both (is_operand i) _ k-is.1 in
     load_taken f k i p (plain f f-is.0) (plain k k-is.0) (plain i i-is.0) (plain p i-is.1)
+taken (Plan f k i p) is =
+    let f-is = both (is_operand f) _ is in
+    let k-is = both (is_operand k) _ f-is.1 in
+    let i-is = both (is_operand i) _ k-is.1 in
+    plan_taken f k i p (plain f f-is.0) (plain k k-is.0) (plain i i-is.0) (plain p i-is.1)
 taken (Status f) is = status_taken f (plain f is)
 
 -- and finds the command with its operands
@@ -98,4 +111,9 @@ found (Load f k i p) is =
     let k-is = both (is_operand k) _ f-is.1 in
     let i-is = both (is_operand i) _ k-is.1 in
     load_named f k i p (plain f f-is.0) (plain k k-is.0) (plain i i-is.0) (plain p i-is.1)
+found (Plan f k i p) is =
+    let f-is = both (is_operand f) _ is in
+    let k-is = both (is_operand k) _ f-is.1 in
+    let i-is = both (is_operand i) _ k-is.1 in
+    plan_named f k i p (plain f f-is.0) (plain k k-is.0) (plain i i-is.0) (plain p i-is.1)
 found (Status f) is = status_named f (plain f is)

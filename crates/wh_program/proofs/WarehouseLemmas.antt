@@ -14,10 +14,11 @@ use Rattle.wh_rows.specs.Limits.{greatest_limits}
 use Rattle.wh_rows.specs.Schema.{no_schema}
 use Rattle.wh_sql.specs.Present.{are_all_there, is_any_taken}
 use Rattle.wh_sql.proofs.Worked.{taken_in_a_warehouse, taken_in_none}
+use Rattle.wh_plan.specs.Edits.{Edits}
 use Rattle.wh_plan.specs.FirstRows.{making_of}
 use Rattle.wh_engine.specs.Admission.{accepted_after, AreAdmitted}
 use Rattle.wh_engine.specs.Answered as engine
-use Rattle.wh_engine.specs.Answered.{IsReady, IsAnswered, IsCounted as EngineCounted}
+use Rattle.wh_engine.specs.Answered.{IsReady, IsAnswered, IsForetold as EngineForetold, IsCounted as EngineCounted}
 use Rattle.wh_engine.specs.Opened.{IsNotOpened, IsNotMade, NothingIsWritten, LeavesMade}
 use Rattle.wh_engine.specs.declared.command.Command.{Command}
 use Rattle.wh_engine.specs.declared.command.Reply.{Reply}
@@ -30,9 +31,9 @@ use Rattle.wh_store.specs.declared.fault.OpenFault.{OpenFault}
 use Rattle.wh_store.specs.declared.fault.OpenFault.TheVariants as opening
 use Rattle.wh_engine.specs.declared.session.Session.{Session}
 use Rattle.wh_program.specs.Answer.{done, failed, no_file_line}
-use Rattle.wh_program.specs.Reply.{load_answer, opening_answer, status_answer, making_answer, made_line}
+use Rattle.wh_program.specs.Reply.{load_answer, plan_answer, opening_answer, status_answer, making_answer, made_line}
 use Rattle.wh_program.specs.Standing.{Content, Nothing, Holds, Standing, Rests, LeftAt, IsAt, Stands}
-use Rattle.wh_program.specs.Warehouse.{Told, Opens, IsReplied, IsCounted, Makes, AnswersWith, AnswersStatus}
+use Rattle.wh_program.specs.Warehouse.{Told, Opens, IsReplied, IsForetold, IsCounted, Makes, AnswersWith, AnswersStatus}
 
 -- where no object is, the ten tables are not all there
 pub none_there : are_all_there no_schema ≡ false
@@ -91,6 +92,23 @@ replied c limits commands told (Err fault.Memory) session s tells ready =
 replied c limits commands told (Err (fault.Store cause)) session s tells stopped =
     (LeftAt (Holds limits commands) (Holds limits (accepted_after limits commands c)), record { reply = Err (fault.Store cause); leaves = refl; tells = tells }, record { each = stopped.left.each })
 replied c limits commands told (Err fault.Reopen) session s tells none = absurd none
+
+-- ---- plan
+
+-- what the engine's plan says of the store, as what stands
+pub foretold : (c : Command) (limits : Limits) (commands : List Accepted) (told : Told) (edits : Result Edits Fault) (session : Session) (s : State)
+    → IfOk told (λ a. a ≡ plan_answer edits) → EngineForetold limits commands c edits session s
+    → (after : Standing) × IsForetold c limits commands told after × Stands after s
+foretold c limits commands told (Ok edits) session s tells (is, are, ready) =
+    (Rests (Holds limits commands), record { edits = Ok edits; leaves = (is, are, refl); tells = tells }, (ready.admitted, ready.rests))
+foretold c limits commands told (Err (fault.Refused why)) session s tells (is, ready) =
+    (Rests (Holds limits commands), record { edits = Err (fault.Refused why); leaves = (is, refl); tells = tells }, (ready.admitted, ready.rests))
+foretold c limits commands told (Err (fault.Damaged table)) session s tells none = absurd none
+foretold c limits commands told (Err fault.Memory) session s tells ready =
+    (Rests (Holds limits commands), record { edits = Err fault.Memory; leaves = refl; tells = tells }, (ready.admitted, ready.rests))
+foretold c limits commands told (Err (fault.Store cause)) session s tells stopped =
+    (LeftAt (Holds limits commands) (Holds limits commands), record { edits = Err (fault.Store cause); leaves = refl; tells = tells }, record { each = stopped.left.each })
+foretold c limits commands told (Err fault.Reopen) session s tells none = absurd none
 
 -- ---- status
 

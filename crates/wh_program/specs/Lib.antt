@@ -2,6 +2,7 @@ pub mod CommandLine
 pub mod Request
 pub mod Table
 pub mod Answer
+pub mod PlanText
 pub mod Reply
 pub mod Run
 pub mod Standing

@@ -19,7 +19,9 @@ use Rattle.wh_rows.specs.Names.{table_name}
 use Rattle.wh_rows.specs.declared.table.Table.{Table}
 use Rattle.wh_rows.specs.declared.cause.Cause.{Cause}
 use Rattle.wh_rows.specs.declared.cause.Cause.TheVariants as cause
+use Rattle.wh_plan.specs.Edits.{Edits}
 use Rattle.wh_program.specs.Answer.{Printed, done, refused, failed, line, batch_line, policy_line, memory_line}
+use Rattle.wh_program.specs.PlanText.{plan_text}
 
 -- what an accepted command is answered, after the word for how it was taken
 abbrev pub receipt_line : List ℕ → List ℕ → Receipt → List ℕ
@@ -71,6 +73,10 @@ fault_answer fault.Reopen = failed (line (codes "failed: E10 reopen"))
 abbrev pub load_answer : List ℕ → Result Reply Fault → Printed
 load_answer id (Ok reply) = reply_answer id reply
 load_answer id (Err fault) = fault_answer fault
+
+abbrev pub plan_answer : Result Edits Fault → Printed
+plan_answer (Ok edits) = done (plan_text edits)
+plan_answer (Err fault) = fault_answer fault
 
 abbrev pub made_line : List ℕ
 made_line = line (codes "accepted 1 init: 0 records, 0 placeholders")

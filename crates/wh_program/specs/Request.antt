@@ -6,22 +6,28 @@ use Rattle.wh_policy.specs.Words.{dim_of_word}
 use Rattle.wh_batch.specs.declared.kind.Kind.{Kind}
 use Rattle.wh_batch.specs.Kind.{kind_of_word}
 use Rattle.wh_program.specs.Answer.{no_dimension_line, no_kind_line}
-use Rattle.wh_program.specs.CommandLine.{CommandLine}
+use Rattle.wh_program.specs.CommandLine.{CommandLine, Batch}
 use Rattle.wh_program.specs.CommandLine as line
+use Rattle.wh_program.specs.declared.command.BatchOperands.{BatchOperands}
 use Rattle.wh_program.specs.declared.command.Operands.{Operands}
 use Rattle.wh_program.specs.declared.command.Operands.TheVariants as operands
 use Rattle.wh_program.specs.declared.command.Request.{Request}
-use Rattle.wh_program.specs.declared.command.Request.TheVariants.{Trial, Init, Load, Status, Usage}
+use Rattle.wh_program.specs.declared.command.Request.TheVariants.{Trial, Init, Load, Plan, Status, Usage}
 
 -- what an option points to
 abbrev pub text_of : Option (Bor (List ℕ)) → Option (List ℕ)
 text_of word = option_map (λ w. w.now) word
 
+-- the batch that operands name
+abbrev pub batch_of : BatchOperands → Batch
+batch_of b = record { file = b.file.now; kind = b.kind.now; id = b.id.now; path = b.path.now }
+
 -- the command line whose operands these are
 abbrev pub line_of : Operands → CommandLine
 line_of (operands.Trial dimension path policy) = line.Trial dimension.now path.now (text_of policy)
 line_of (operands.Init file policy) = line.Init file.now policy.now
-line_of (operands.Load file kind id path) = line.Load file.now kind.now id.now path.now
+line_of (operands.Load b) = line.Load b.file.now b.kind.now b.id.now b.path.now
+line_of (operands.Plan b) = line.Plan b.file.now b.kind.now b.id.now b.path.now
 line_of (operands.Status file) = line.Status file.now
 
 -- the request says by this line that the words are wrong
@@ -46,6 +52,12 @@ AsksLoad file (Some kind) id path (Load of told called from) = (of.now ≡ file)
 AsksLoad file (Some kind) id path _ = ⊥
 AsksLoad file None id path request = IsUsage no_kind_line request
 
+-- the plan of one, likewise
+abbrev pub AsksPlan : List ℕ → Option Kind → List ℕ → List ℕ → Request → Type 0
+AsksPlan file (Some kind) id path (Plan of told called from) = (of.now ≡ file) × (told ≡ kind) × (called.now ≡ id) × (from.now ≡ path)
+AsksPlan file (Some kind) id path _ = ⊥
+AsksPlan file None id path request = IsUsage no_kind_line request
+
 -- how much a warehouse holds
 abbrev pub AsksStatus : List ℕ → Request → Type 0
 AsksStatus file (Status of) = of.now ≡ file
@@ -56,4 +68,5 @@ abbrev pub Asks : CommandLine → Request → Type 0
 Asks (line.Trial dimension path policy) request = AsksTrial (dim_of_word dimension) path policy request
 Asks (line.Init file policy) request = AsksInit file policy request
 Asks (line.Load file kind id path) request = AsksLoad file (kind_of_word kind) id path request
+Asks (line.Plan file kind id path) request = AsksPlan file (kind_of_word kind) id path request
 Asks (line.Status file) request = AsksStatus file request

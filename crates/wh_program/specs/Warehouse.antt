@@ -7,6 +7,7 @@ use Rattle.wh_history.specs.Accepted.{Accepted}
 use Rattle.wh_history.specs.Tables.{Limits}
 use Rattle.wh_batch.specs.declared.kind.Kind.{Kind}
 use Rattle.wh_rows.specs.Limits.{greatest_limits}
+use Rattle.wh_plan.specs.Edits.{Edits, AreEdits}
 use Rattle.wh_plan.specs.FirstRows.{making_of}
 use Rattle.wh_engine.specs.Admission.{answer, accepted_after}
 use Rattle.wh_engine.specs.Answered.{counts_of}
@@ -22,7 +23,7 @@ use Rattle.wh_store.specs.declared.fault.OpenFault.{OpenFault}
 use Rattle.wh_store.specs.declared.fault.OpenFault.TheVariants as opening
 use Rattle.wh_program.specs.Answer.{Printed, done, failed, no_file_line}
 use Rattle.wh_program.specs.CommandLine.{CommandLine, words_of, has_operands}
-use Rattle.wh_program.specs.Reply.{load_answer, opening_answer, status_answer, making_answer, made_line}
+use Rattle.wh_program.specs.Reply.{load_answer, plan_answer, opening_answer, status_answer, making_answer, made_line}
 use Rattle.wh_program.specs.Run.{out_of_memory}
 use Rattle.wh_program.specs.Standing.{Content, Nothing, Holds, Standing, Rests, LeftAt}
 
@@ -68,6 +69,24 @@ pub record IsReplied (c : Command) (limits : Limits) (commands : List Accepted) 
   pub reply : Result Reply Fault
   pub leaves : LeavesReplied limits commands c reply after
   pub tells : IfOk told (λ a. a ≡ load_answer c.id reply)
+
+-- ---- plan
+
+-- What a plan of a command leaves of a warehouse with these commands, by what the engine foretold: the edits are exactly those that its tables need to be
+-- those of the list after the command.
+abbrev pub LeavesForetold : Limits → List Accepted → Command → Result Edits Fault → Standing → Type 0
+LeavesForetold limits commands c (Ok edits) after =
+    ((reply : Reply) × (answer limits commands c ≡ Ok reply)) × AreEdits commands (accepted_after limits commands c) edits × (after ≡ Rests (Holds limits commands))
+LeavesForetold limits commands c (Err (fault.Refused why)) after = (answer limits commands c ≡ Err why) × (after ≡ Rests (Holds limits commands))
+LeavesForetold limits commands c (Err fault.Memory) after = after ≡ Rests (Holds limits commands)
+LeavesForetold limits commands c (Err (fault.Store cause)) after = after ≡ LeftAt (Holds limits commands) (Holds limits commands)
+LeavesForetold limits commands c (Err _) after = ⊥
+
+-- the engine foretold what the command would write
+pub record IsForetold (c : Command) (limits : Limits) (commands : List Accepted) (told : Told) (after : Standing) : Type 0 where
+  pub edits : Result Edits Fault
+  pub leaves : LeavesForetold limits commands c edits after
+  pub tells : IfOk told (λ a. a ≡ plan_answer edits)
 
 -- ---- status
 
@@ -122,6 +141,11 @@ pub record IsTried (stands : Standing → Type 0) (does : Told → Standing → 
   pub then_stands : stands after
   pub did : does told after
 
+-- the command that the batch of a file is, if the file is there
+abbrev pub IsCommandOf : (List ℕ → Option (List ℕ) → Type 0) → Kind → (id path : List ℕ) → Option Command → Type 0
+IsCommandOf holds kind id path None = holds path None
+IsCommandOf holds kind id path (Some c) = (bytes : List ℕ) × holds path (Some bytes) × (c ≡ record { id = id; kind = kind; bytes = bytes })
+
 -- with the bytes of its input
 pub record IsTriedWith (holds : List ℕ → Option (List ℕ) → Type 0) (stands : Standing → Type 0) (does : List ℕ → Told → Standing → Type 0) (path : List ℕ) (told : Told) : Type 0 where
   pub bytes : List ℕ
@@ -145,6 +169,10 @@ AnswersWith holds stands does content file path told = IsTriedWith holds stands 
 -- a load of the batch of a file
 abbrev pub Loads : Kind → (id bytes : List ℕ) → Content → Told → Standing → Type 0
 Loads kind id bytes = Opens (IsReplied (record { id = id; kind = kind; bytes = bytes }))
+
+-- a plan of the batch of a file
+abbrev pub Plans : Kind → (id bytes : List ℕ) → Content → Told → Standing → Type 0
+Plans kind id bytes = Opens (IsForetold (record { id = id; kind = kind; bytes = bytes }))
 
 abbrev pub AnswersStatus : (Standing → Type 0) → Content → (file : List ℕ) → Told → Type 0
 AnswersStatus stands content file told = IsTried stands (Opens IsCounted content) told ⊎ IsNotConnected stands content file told

@@ -4,8 +4,9 @@ ghost use Rattle.std.specs.Prelude.{◌≡◌, ℕ, List, Option, IfOk, IfErr, I
 ghost use Rattle.clap.specs.Words.{app_of, first_of, found_of, rows_of, subcommand_rows_of, kind_of, takes, subcommand_of};
 ghost use Rattle.clap.specs.declared.builder.command.Command.TheViews.{out-Command};
 ghost use Rattle.clap.specs.declared.error.ErrorKind.TheVariants.{OutOfMemory};
-ghost use Rattle.wh_program.specs.Request.{line_of, IsUsage, Asks};
-ghost use Rattle.wh_program.specs.CommandLine.{CommandLine, first_app, program_app, operands_app, trial_app, init_app, batch_app, load_app, status_app, words_of, has_operands, named, named_trial, named_init, named_load, named_status};
+ghost use Rattle.wh_program.specs.Request.{batch_of, line_of, IsUsage, AsksLoad, AsksPlan, Asks};
+ghost use Rattle.wh_batch.specs.Kind.{kind_of_word};
+ghost use Rattle.wh_program.specs.CommandLine.{CommandLine, first_app, program_app, operands_app, trial_app, init_app, kind_app, batch_app, load_app, plan_app, second_app, status_app, words_of, has_operands, named, named_trial, named_init, named_batch, named_load, named_plan, named_status};
 
 use crate::lines::{NO_COMMAND_LINE, NO_DIMENSION_LINE, NO_KIND_LINE};
 use clap::error::ErrorKind;
@@ -31,6 +32,13 @@ pub enum Request<'a> {
     },
     /// The load of the batch in the file `path` into the warehouse in `file`, under an id.
     Load {
+        file: &'a str,
+        kind: Kind,
+        id: &'a str,
+        path: &'a str,
+    },
+    /// What that load would write.
+    Plan {
         file: &'a str,
         kind: Kind,
         id: &'a str,
@@ -90,8 +98,8 @@ fn init_command<'a>(alloc: Global) -> Result<Command<'a>, AllocError>
         .arg(policy)
 }
 
-fn batch_command<'a>(alloc: Global) -> Result<Command<'a>, AllocError>
-    ensures app { IfOk result (λ c. app_of c ≡ batch_app) }
+fn kind_command<'a>(alloc: Global, name: &'a str) -> Result<Command<'a>, AllocError>
+    ensures app { IfOk result (λ c. app_of c ≡ kind_app name.now) }
     ensures local { IfOk result (λ c. (out-Command c).has_globals ≡ false) }
 {
     let file = Arg::new(alloc, "FILE")
@@ -100,15 +108,12 @@ fn batch_command<'a>(alloc: Global) -> Result<Command<'a>, AllocError>
     let kind = Arg::new(alloc, "KIND")
         .required(true)
         .help("product, store, customer or sales");
-    Command::new(alloc, "load")
-        .about("Loads a batch into a warehouse")
-        .after_help("Example: wh load shop.wh product p1 examples/late.csv")
-        .arg(file)?
-        .arg(kind)
+    Command::new(alloc, name).arg(file)?.arg(kind)
 }
 
-fn load_command<'a>(alloc: Global) -> Result<Command<'a>, AllocError>
-    ensures app { IfOk result (λ c. app_of c ≡ load_app) }
+/// A command that takes a batch.
+fn batch_command<'a>(alloc: Global, name: &'a str) -> Result<Command<'a>, AllocError>
+    ensures app { IfOk result (λ c. app_of c ≡ batch_app name.now) }
     ensures local { IfOk result (λ c. (out-Command c).has_globals ≡ false) }
 {
     let id = Arg::new(alloc, "ID")
@@ -117,7 +122,27 @@ fn load_command<'a>(alloc: Global) -> Result<Command<'a>, AllocError>
     let batch = Arg::new(alloc, "CSV")
         .required(true)
         .help("the batch's file");
-    batch_command(alloc)?.arg(id)?.arg(batch)
+    kind_command(alloc, name)?.arg(id)?.arg(batch)
+}
+
+fn load_command<'a>(alloc: Global) -> Result<Command<'a>, AllocError>
+    ensures app { IfOk result (λ c. app_of c ≡ load_app) }
+    ensures local { IfOk result (λ c. (out-Command c).has_globals ≡ false) }
+{
+    let command = batch_command(alloc, "load")?
+        .about("Loads a batch into a warehouse")
+        .after_help("Example: wh load shop.wh product p1 examples/late.csv");
+    Ok(command)
+}
+
+fn plan_command<'a>(alloc: Global) -> Result<Command<'a>, AllocError>
+    ensures app { IfOk result (λ c. app_of c ≡ plan_app) }
+    ensures local { IfOk result (λ c. (out-Command c).has_globals ≡ false) }
+{
+    let command = batch_command(alloc, "plan")?
+        .about("Prints what a load would write, and writes nothing")
+        .after_help("Example: wh plan shop.wh product p1 examples/late.csv");
+    Ok(command)
 }
 
 fn status_command<'a>(alloc: Global) -> Result<Command<'a>, AllocError>
@@ -147,12 +172,20 @@ fn first_command<'a>(alloc: Global) -> Result<Command<'a>, AllocError>
         .subcommand(init)
 }
 
+fn second_command<'a>(alloc: Global) -> Result<Command<'a>, AllocError>
+    ensures app { IfOk result (λ c. app_of c ≡ second_app) }
+    ensures local { IfOk result (λ c. (out-Command c).has_globals ≡ false) }
+{
+    let load = load_command(alloc)?;
+    let plan = plan_command(alloc)?;
+    first_command(alloc)?.subcommand(load)?.subcommand(plan)
+}
+
 fn program_command<'a>(alloc: Global) -> Result<Command<'a>, AllocError>
     ensures { IfOk result (λ c. app_of c ≡ program_app) }
 {
-    let load = load_command(alloc)?;
     let status = status_command(alloc)?;
-    first_command(alloc)?.subcommand(load)?.subcommand(status)
+    second_command(alloc)?.subcommand(status)
 }
 
 /// What `clap` finds in the words. Where it takes them, it is refused memory alone.
@@ -161,6 +194,15 @@ fn matches_of<'a, S: AsStr>(alloc: Global, words: &'a [S]) -> Result<ArgMatches<
     ensures err { takes program_app (map S.text words.now) ≡ true → IfErr result (λ e. kind_of e ≡ OutOfMemory) }
 {
     program_command(alloc)?.try_get_matches_from(words)
+}
+
+/// The operands that name a batch and the warehouse that it is for.
+#[derive(Clone, Copy, Debug, Drop)]
+struct BatchOperands<'a> {
+    file: &'a str,
+    kind: &'a str,
+    id: &'a str,
+    path: &'a str,
 }
 
 /// A subcommand with its operands.
@@ -175,12 +217,8 @@ enum Operands<'a> {
         file: &'a str,
         policy: &'a str,
     },
-    Load {
-        file: &'a str,
-        kind: &'a str,
-        id: &'a str,
-        path: &'a str,
-    },
+    Load(BatchOperands<'a>),
+    Plan(BatchOperands<'a>),
     Status {
         file: &'a str,
     },
@@ -212,15 +250,27 @@ fn init_operands<'a>(inner: &ArgMatches<'a>) -> Option<Operands<'a>>
     })
 }
 
-fn load_operands<'a>(inner: &ArgMatches<'a>) -> Option<Operands<'a>>
-    ensures { option_map line_of result ≡ named_load (rows_of (found_of inner.now)) }
+fn batch_operands<'a>(inner: &ArgMatches<'a>) -> Option<BatchOperands<'a>>
+    ensures { option_map batch_of result ≡ named_batch (rows_of (found_of inner.now)) }
 {
-    Some(Operands::Load {
+    Some(BatchOperands {
         file: value_of(inner, "FILE")?,
         kind: value_of(inner, "KIND")?,
         id: value_of(inner, "ID")?,
         path: value_of(inner, "CSV")?,
     })
+}
+
+fn load_operands<'a>(inner: &ArgMatches<'a>) -> Option<Operands<'a>>
+    ensures { option_map line_of result ≡ named_load (rows_of (found_of inner.now)) }
+{
+    Some(Operands::Load(batch_operands(inner)?))
+}
+
+fn plan_operands<'a>(inner: &ArgMatches<'a>) -> Option<Operands<'a>>
+    ensures { option_map line_of result ≡ named_plan (rows_of (found_of inner.now)) }
+{
+    Some(Operands::Plan(batch_operands(inner)?))
 }
 
 fn status_operands<'a>(inner: &ArgMatches<'a>) -> Option<Operands<'a>>
@@ -240,6 +290,7 @@ fn operands_of<'a>(matches: &ArgMatches<'a>) -> Option<Operands<'a>>
         "trial" => trial_operands(inner),
         "init" => init_operands(inner),
         "load" => load_operands(inner),
+        "plan" => plan_operands(inner),
         "status" => status_operands(inner),
         _ => None,
     }
@@ -262,6 +313,36 @@ fn mistake<'a>(alloc: Global, line: &str) -> Result<Request<'a>, AllocError>
     Ok(Request::Usage(String::from_str(alloc, line)?))
 }
 
+/// The load of a batch of a kind.
+fn load_request<'a>(alloc: Global, batch: BatchOperands<'a>) -> Result<Request<'a>, AllocError>
+    ensures { IfOk result (AsksLoad batch.entry.file.now (kind_of_word batch.entry.kind.now) batch.entry.id.now batch.entry.path.now) }
+{
+    match Kind::from_word(batch.kind) {
+        Some(kind) => Ok(Request::Load {
+            file: batch.file,
+            kind,
+            id: batch.id,
+            path: batch.path,
+        }),
+        None => mistake(alloc, NO_KIND_LINE),
+    }
+}
+
+/// The plan of one.
+fn plan_request<'a>(alloc: Global, batch: BatchOperands<'a>) -> Result<Request<'a>, AllocError>
+    ensures { IfOk result (AsksPlan batch.entry.file.now (kind_of_word batch.entry.kind.now) batch.entry.id.now batch.entry.path.now) }
+{
+    match Kind::from_word(batch.kind) {
+        Some(kind) => Ok(Request::Plan {
+            file: batch.file,
+            kind,
+            id: batch.id,
+            path: batch.path,
+        }),
+        None => mistake(alloc, NO_KIND_LINE),
+    }
+}
+
 /// What a subcommand asks for, by its operands.
 fn requested<'a>(alloc: Global, operands: Operands<'a>) -> Result<Request<'a>, AllocError>
     ensures { IfOk result (Asks (line_of operands.entry)) }
@@ -276,20 +357,8 @@ fn requested<'a>(alloc: Global, operands: Operands<'a>) -> Result<Request<'a>, A
             None => mistake(alloc, NO_DIMENSION_LINE),
         },
         Operands::Init { file, policy } => Ok(Request::Init { file, policy }),
-        Operands::Load {
-            file,
-            kind,
-            id,
-            path,
-        } => match Kind::from_word(kind) {
-            Some(kind) => Ok(Request::Load {
-                file,
-                kind,
-                id,
-                path,
-            }),
-            None => mistake(alloc, NO_KIND_LINE),
-        },
+        Operands::Load(batch) => load_request(alloc, batch),
+        Operands::Plan(batch) => plan_request(alloc, batch),
         Operands::Status { file } => Ok(Request::Status { file }),
     }
 }

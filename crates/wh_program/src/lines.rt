@@ -2,13 +2,15 @@
 
 ghost use Rattle.std.specs.Prelude.{◌≡◌, IfOk, string_bytes};
 ghost use Rattle.wh_program.specs.Answer.{status_code, done, refused, failed, no_file_line, batch_line, batch_fault_name, policy_line, policy_fault_name};
-ghost use Rattle.wh_program.specs.Reply.{receipt_line, reply_answer, limit_name, full_line, sale_there_line, refused_line, damaged_line, cause_name, store_line, fault_answer, load_answer, made_line, making_answer, opening_answer, members_line, totals_text, counts_text, status_answer};
+ghost use Rattle.wh_program.specs.Reply.{receipt_line, reply_answer, limit_name, full_line, sale_there_line, refused_line, damaged_line, cause_name, store_line, fault_answer, load_answer, plan_answer, made_line, making_answer, opening_answer, members_line, totals_text, counts_text, status_answer};
 
 use crate::answer::{Answer, Status};
+use crate::plan_text::plan_text;
 use itoa::Buffer;
 use std::alloc::{AllocError, Global};
 use wh_batch::{BatchFault, FaultKind};
 use wh_engine::{Counts, Fault, InitFault, Limit, OpenFault, Receipt, Refused, Reply};
+use wh_plan::Edits;
 use wh_policy::PolicyFault;
 use wh_rows::{Cause, Table};
 
@@ -232,6 +234,16 @@ pub fn load_answer(
 {
     match reply {
         Ok(reply) => reply_answer(room, id, reply),
+        Err(fault) => fault_answer(alloc, fault),
+    }
+}
+
+/// The answer to what a load would write.
+pub fn plan_answer(alloc: Global, edits: Result<Edits, Fault>) -> Result<Answer, AllocError>
+    ensures { IfOk result (λ answer. answer ≡ plan_answer edits) }
+{
+    match edits {
+        Ok(edits) => Ok(Answer::new(Status::Done, plan_text(alloc, &edits)?)),
         Err(fault) => fault_answer(alloc, fault),
     }
 }

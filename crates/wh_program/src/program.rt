@@ -3,14 +3,14 @@
 ghost use Rattle.std.specs.Prelude.{◌≡◌, ◌≢◌, ◌⊎◌, ℕ, List, Option, Some, IfOk, map, true};
 ghost use Rattle.wh_program.specs.Answer.{Printed, AnswersTrial, wrong_words, no_text_line};
 ghost use Rattle.wh_program.specs.CommandLine.{trial_words, is_operand, is_operand_or_none};
-ghost use Rattle.wh_program.specs.CommandLine.{Init, Load, Status as StatusLine};
-ghost use Rattle.wh_program.specs.Request.{AsksTrial, AsksInit, AsksLoad, AsksStatus};
+ghost use Rattle.wh_program.specs.CommandLine.{Init, Load, Plan, Status as StatusLine};
+ghost use Rattle.wh_program.specs.Request.{AsksTrial, AsksInit, AsksLoad, AsksPlan, AsksStatus};
 ghost use Rattle.wh_policy.specs.declared.attribute.Dim.{Dim};
 ghost use Rattle.wh_policy.specs.Words.{word_of};
 ghost use Rattle.wh_batch.specs.Kind.{kind_of_word};
 ghost use Rattle.wh_program.specs.Run.{Prints, out_of_memory};
 ghost use Rattle.wh_program.specs.Standing.{Content, Rests};
-ghost use Rattle.wh_program.specs.Warehouse.{Told, Makes, Loads, AnswersWith, AnswersStatus, Says, printed};
+ghost use Rattle.wh_program.specs.Warehouse.{Told, Makes, Loads, Plans, AnswersWith, AnswersStatus, Says, printed};
 ghost use Rattle.wh_batch.specs.declared.kind.Kind.{Kind};
 
 use crate::answer::{Answer, Status};
@@ -19,7 +19,7 @@ use crate::host::Host;
 use crate::lines::{MEMORY_LINE, NO_TEXT_LINE, WRITE_LINE};
 use crate::output::write_whole;
 use crate::trial::{plain_trial, trial_under};
-use crate::warehouse::{init, load, status};
+use crate::warehouse::{init, load, plan, status};
 use std::alloc::{AllocError, Global};
 use std::convert::AsStr;
 use std::io;
@@ -49,6 +49,8 @@ fn answer_request<H: Host>(
         → AnswersWith (H.holds host.old) (H.stores host.new file) Makes content file policy result }
     ensures load { (file : List ℕ) (kind : Kind) (id path : List ℕ) (content : Content) → AsksLoad file (Some kind) id path request.entry → H.stores host.old file (Rests content)
         → AnswersWith (H.holds host.old) (H.stores host.new file) (Loads kind id) content file path result }
+    ensures plan { (file : List ℕ) (kind : Kind) (id path : List ℕ) (content : Content) → AsksPlan file (Some kind) id path request.entry → H.stores host.old file (Rests content)
+        → AnswersWith (H.holds host.old) (H.stores host.new file) (Plans kind id) content file path result }
     ensures status { (file : List ℕ) (content : Content) → AsksStatus file request.entry → H.stores host.old file (Rests content) → AnswersStatus (H.stores host.new file) content file result }
 {
     match request {
@@ -69,6 +71,12 @@ fn answer_request<H: Host>(
             id,
             path,
         } => load(alloc, file, kind, id, path, host),
+        Request::Plan {
+            file,
+            kind,
+            id,
+            path,
+        } => plan(alloc, file, kind, id, path, host),
         Request::Status { file } => status(alloc, file, host),
         Request::Help(text) => Ok(Answer::new(Status::Done, text.into_bytes())),
         Request::Usage(text) => Ok(Answer::new(Status::Usage, text.into_bytes())),
@@ -88,6 +96,8 @@ fn answer_to<S: AsStr, H: Host>(
         → AnswersWith (H.holds host.old) (H.stores host.new file) Makes content file policy result }
     ensures load { (file word id path : List ℕ) (kind : Kind) (content : Content) → Says (map S.text words.now) (Load file word id path) → kind_of_word word ≡ Some kind → H.stores host.old file (Rests content)
         → AnswersWith (H.holds host.old) (H.stores host.new file) (Loads kind id) content file path result }
+    ensures plan { (file word id path : List ℕ) (kind : Kind) (content : Content) → Says (map S.text words.now) (Plan file word id path) → kind_of_word word ≡ Some kind → H.stores host.old file (Rests content)
+        → AnswersWith (H.holds host.old) (H.stores host.new file) (Plans kind id) content file path result }
     ensures status { (file : List ℕ) (content : Content) → Says (map S.text words.now) (StatusLine file) → H.stores host.old file (Rests content) → AnswersStatus (H.stores host.new file) content file result }
 {
     answer_request(alloc, parse(alloc, words)?, host)
@@ -102,11 +112,13 @@ pub fn run<S: AsStr, H: Host, W: Write>(alloc: Global, words: &[S], host: &mut H
         ⊎ ((answer : Printed) × AnswersTrial (H.holds host.old) dim path policy answer
         × Prints (W.contents out.old) (W.contents out.new) result answer) }
 
-    // What a making, a load and a count print, and what they leave under the warehouse's name.
+    // What a making, a load, a plan and a count print, and what they leave under the warehouse's name.
     ensures init { (file policy : List ℕ) (content : Content) → Says (map S.text words.now) (Init file policy) → H.stores host.old file (Rests content)
         → (told : Told) × AnswersWith (H.holds host.old) (H.stores host.new file) Makes content file policy told × Prints (W.contents out.old) (W.contents out.new) result (printed told) }
     ensures load { (file word id path : List ℕ) (kind : Kind) (content : Content) → Says (map S.text words.now) (Load file word id path) → kind_of_word word ≡ Some kind → H.stores host.old file (Rests content)
         → (told : Told) × AnswersWith (H.holds host.old) (H.stores host.new file) (Loads kind id) content file path told × Prints (W.contents out.old) (W.contents out.new) result (printed told) }
+    ensures plan { (file word id path : List ℕ) (kind : Kind) (content : Content) → Says (map S.text words.now) (Plan file word id path) → kind_of_word word ≡ Some kind → H.stores host.old file (Rests content)
+        → (told : Told) × AnswersWith (H.holds host.old) (H.stores host.new file) (Plans kind id) content file path told × Prints (W.contents out.old) (W.contents out.new) result (printed told) }
     ensures status { (file : List ℕ) (content : Content) → Says (map S.text words.now) (StatusLine file) → H.stores host.old file (Rests content)
         → (told : Told) × AnswersStatus (H.stores host.new file) content file told × Prints (W.contents out.old) (W.contents out.new) result (printed told) }
 

@@ -3,12 +3,13 @@
 ghost use Rattle.std.specs.Prelude.{◌≡◌, ⊤, IfOk, OnErr};
 ghost use Rattle.wh_program.specs.Answer.{failed, no_file_line};
 ghost use Rattle.wh_program.specs.Standing.{Content, Standing, Rests};
-ghost use Rattle.wh_program.specs.Warehouse.{Opens, IsReplied, IsCounted, Makes, Loads, AnswersWith, AnswersStatus};
+ghost use Rattle.wh_program.specs.Warehouse.{Opens, IsReplied, IsForetold, IsCounted, IsCommandOf, Makes, Loads, Plans, AnswersWith, AnswersStatus};
 
 use crate::answer::Answer;
 use crate::host::{Host, HostError, Visitor, file_of};
 use crate::lines::{
-    load_answer, made, making_answer, no_file, opening_answer, room_for_receipt, status_answer,
+    load_answer, made, making_answer, no_file, opening_answer, plan_answer, room_for_receipt,
+    status_answer,
 };
 use sqlite::{Alter, Connection};
 use sqlite_value::value::Bytes;
@@ -74,6 +75,32 @@ impl Visitor for Loading {
     }
 }
 
+/// Foretells what a load would write into a warehouse.
+#[derive(Drop)]
+struct Planning {
+    command: Command,
+}
+
+impl Visitor for Planning {
+    type Output = Result<Answer, AllocError>;
+
+    ghost promises = { λ planning content told after. Opens (IsForetold planning.command) content told after };
+
+    fn visit<T: Alter + Drop>(
+        self,
+        alloc: Global,
+        connection: Connection<T>,
+    ) -> (Result<Answer, AllocError>, Connection<T>) {
+        match Engine::open(alloc, connection) {
+            Ok(mut engine) => {
+                let edits = engine.plan(alloc, &self.command);
+                (plan_answer(alloc, edits), engine.close())
+            }
+            Err((fault, connection)) => (opening_answer(alloc, fault), connection),
+        }
+    }
+}
+
 /// Counts what a warehouse holds.
 #[derive(Clone, Copy)]
 struct Counting;
@@ -131,6 +158,26 @@ pub fn init<H: Host>(
     answered(alloc, file, visit)
 }
 
+/// The command that the batch in a file is, if the file is there.
+fn command_of<H: Host>(
+    alloc: Global,
+    kind: Kind,
+    id: &str,
+    path: &str,
+    host: &H,
+) -> Result<Option<Command>, AllocError>
+    ensures { IfOk result (IsCommandOf (H.holds host.now) kind id.now path.now) }
+{
+    let Some(batch) = file_of(alloc, path, host)? else {
+        return Ok(None);
+    };
+    Ok(Some(Command {
+        id: Value::new(alloc, id)?,
+        kind,
+        bytes: Bytes::from_slice(alloc, &batch)?,
+    }))
+}
+
 /// Loads the batch in a file into the warehouse in another. The batch's file is read first.
 pub fn load<H: Host>(
     alloc: Global,
@@ -143,16 +190,30 @@ pub fn load<H: Host>(
     ensures { (content : Content) → H.stores host.old file.now (Rests content)
         → AnswersWith (H.holds host.old) (H.stores host.new file.now) (Loads kind id.now) content file.now path.now result }
 {
-    let Some(batch) = file_of(alloc, path, host)? else {
+    let Some(command) = command_of(alloc, kind, id, path, host)? else {
         return no_file(alloc, path);
-    };
-    let command = Command {
-        id: Value::new(alloc, id)?,
-        kind,
-        bytes: Bytes::from_slice(alloc, &batch)?,
     };
     let room = room_for_receipt(alloc, id)?;
     let visit = host.with_existing(alloc, file, Loading { command, room });
+    answered(alloc, file, visit)
+}
+
+/// Tells what the load of the batch in a file would write into the warehouse in another, and writes nothing.
+pub fn plan<H: Host>(
+    alloc: Global,
+    file: &str,
+    kind: Kind,
+    id: &str,
+    path: &str,
+    host: &mut H,
+) -> Result<Answer, AllocError>
+    ensures { (content : Content) → H.stores host.old file.now (Rests content)
+        → AnswersWith (H.holds host.old) (H.stores host.new file.now) (Plans kind id.now) content file.now path.now result }
+{
+    let Some(command) = command_of(alloc, kind, id, path, host)? else {
+        return no_file(alloc, path);
+    };
+    let visit = host.with_existing(alloc, file, Planning { command });
     answered(alloc, file, visit)
 }
 

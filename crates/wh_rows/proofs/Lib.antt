@@ -36,3 +36,4 @@ pub mod Making
 pub mod OnLiterals
 pub mod Worked
 pub mod Firsts
+pub mod Among

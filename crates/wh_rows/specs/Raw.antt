@@ -83,6 +83,19 @@ pub record RestsOn (stored : Stored) (s : State) : Type 0 where
   pub committed : s.committed ≡ s.now
   pub left : LeavesStored stored s
 
+-- one of the rows stored in this table is damaged
+abbrev pub HasDamageIn : Stored → Table → Type 0
+HasDamageIn stored Meta = HasDamage row.meta (stored Meta)
+HasDamageIn stored Command = HasDamage row.command (stored Command)
+HasDamageIn stored Member = HasDamage row.member (stored Member)
+HasDamageIn stored Change = HasDamage row.change (stored Change)
+HasDamageIn stored Product = HasDamage row.product (stored Product)
+HasDamageIn stored Store = HasDamage row.store (stored Store)
+HasDamageIn stored Customer = HasDamage row.customer (stored Customer)
+HasDamageIn stored Profile = HasDamage row.profile (stored Profile)
+HasDamageIn stored Calendar = HasDamage row.calendar (stored Calendar)
+HasDamageIn stored Fact = HasDamage row.fact (stored Fact)
+
 -- what is stored where the tables are these
 abbrev pub stored_of : Tables → Stored
 stored_of t Meta = map row.encode_meta (values t.meta)

@@ -5,6 +5,7 @@ use Rattle.std.specs.Option.{option_to_list}
 use Rattle.std.specs.FinMap.{FinMap, values, get}
 use Rattle.std.specs.Ordering.{eq_by_cmp}
 use Rattle.std.specs.Prelude.{Vec, MatchResult}
+use Rattle.std.specs.declared.cmp.Ordering.{Ordering}
 use Rattle.wh_rows.specs.declared.cause.Cause.{Cause}
 use Rattle.wh_rows.specs.declared.cause.Cause.TheVariants.{Size}
 use Rattle.wh_rows.specs.declared.cause.Cause.TheVariants as causes
@@ -18,19 +19,23 @@ use Rattle.wh_rows.specs.Holds.{Layout}
 use Rattle.wh_rows.specs.Place.{IsPlaced}
 use Rattle.wh_rows.specs.Tables.{Tables, Stores}
 use Rattle.wh_rows.specs.AtRest.{Has, IsAtRest, Leaves}
-use Rattle.wh_rows.specs.Meaning.{ReadsSome}
+use Rattle.wh_rows.specs.Meaning.{ReadsSome, CountsAll}
 use Rattle.std.specs.List.Sorted.{IsPermutation}
 use Rattle.std.proofs.lemmas.List.Sorted.{IsPermutation-refl, IsPermutation-sym, IsPermutation-trans}
 use Rattle.sqlite_trees.proofs.ListLemmas.{IsPermutation-filter}
-use Rattle.wh_rows.specs.Raw.{Stored, IsStored, RestsOn, LeavesStored, ReadsStored, AreRows, table_of, rows_in}
-use Rattle.wh_rows.proofs.Raw.{no_damage, damage_again, shows_stored, shows_in_order}
-use Rattle.wh_rows.specs.Firsts.{Front, part, greatest, ReadsPart, ReadsGreatest}
+use Rattle.wh_rows.specs.Raw.{Stored, IsStored, HasDamage, HasDamageIn, RestsOn, LeavesStored, ReadsStored, AreRows, table_of, rows_in}
+use Rattle.sqlite_sql.specs.Aggregate.{count}
+use Rattle.sqlite_rules.specs.Lists.{Has as IsAmong}
+use Rattle.wh_rows.proofs.Raw.{has_again, no_damage, damage_again, shows_stored, shows_in_order}
+use Rattle.wh_rows.proofs.Among.{part_among, sorted_among}
+use Rattle.wh_rows.proofs.Counts.{counts_stored}
+use Rattle.wh_rows.specs.Firsts.{Front, part, greatest, ReadsSorted, ReadsPart, ReadsGreatest}
 use Rattle.wh_rows.specs.declared.table.Table.{Table}
 use Rattle.wh_rows.proofs.Edits.{filter_all}
 use Rattle.wh_rows.proofs.Maps.{filter-get}
 use Rattle.wh_rows.proofs.Queries.{query_keeps, query_commits_nothing}
 use Rattle.wh_rows.proofs.OnTables.{answer_is, first_is, greatest_is, valid_answer, valid_first, valid_among, read_is}
-use Rattle.wh_sql.specs.Reads.{ReadsOnly, SparesRows, IsServed, IsUndamaged, Shows, FailsToShow, FailsToCount, IsOfDamage, unasked}
+use Rattle.wh_sql.specs.Reads.{ReadsOnly, NamesDamage, SparesRows, IsServed, IsUndamaged, Shows, FailsToShow, FailsToCount, IsOfDamage, unasked}
 use Rattle.wh_sql.specs.declared.fault.ReadFault.{ReadFault}
 use Rattle.wh_sql.specs.declared.fault.ReadFault.TheVariants.{Memory, Damaged, Store}
 
@@ -96,16 +101,60 @@ module _ {K V : Type 0} {layout : Layout K V} (name : Table) (named : table_of n
   finds_damage (Err (Store cause)) fails = tt
   finds_damage (Err Memory) fails = tt
 
+-- ---- which table is named
+
+-- it is one that stores a damaged row, where each row that is shown is one of those that are stored
+pub names_damage : {A K V : Type 0} (layout : Layout K V) (name : Table) → table_of name ≡ layout.table → ((stored : Stored) → HasDamage layout (stored name) → HasDamageIn stored name) → (text : List ℕ) (params : Row) (old new : State)
+    → ((answer : List Row) → Shown text params old new answer → (row : Row) → IsAmong answer row → IsAmong (rows_in layout.table old.now.trees) row)
+    → (result : Result A ReadFault) → IfErr result (FailsToShow layout name text params old new) → (stored : Stored) → IsStored stored old.now → IfErr result (NamesDamage stored)
+names_damage layout name named harmed text params old new among (Ok x) fails stored is = tt
+names_damage layout name named harmed text params old new among (Err (Damaged met)) fails stored is =
+    let rows : IsPermutation (rows_in layout.table old.now.trees) (stored name) = subst (λ t. IsPermutation (rows_in t old.now.trees) (stored name)) named (is.rows name) in
+    let damage = fails.3 in
+    let here = has_again (stored name) (rows_in layout.table old.now.trees) damage.0 (IsPermutation-sym _ _ rows) (among fails.1 fails.2 damage.0 damage.1) in
+    subst (HasDamageIn stored) (sym fails.0) (harmed stored (damage.0, here, damage.2))
+names_damage layout name named harmed text params old new among (Err (Store cause)) fails stored is = tt
+names_damage layout name named harmed text params old new among (Err Memory) fails stored is = tt
+
+-- of a text that shows a part of the rows that pass a test
+pub part_named : {A K V : Type 0} (layout : Layout K V) (name : Table) → table_of name ≡ layout.table → ((stored : Stored) → HasDamage layout (stored name) → HasDamageIn stored name) → (text : List ℕ) (params : Row) (old new : State)
+    → (front : Option Front) (keep : V → Bool) → ReadsPart front layout params keep text
+    → (result : Result A ReadFault) → IfErr result (FailsToShow layout name text params old new) → (stored : Stored) → IsStored stored old.now → IfErr result (NamesDamage stored)
+part_named layout name named harmed text params old new front keep reads result fails stored is =
+    names_damage layout name named harmed text params old new (λ answer shown. part_among layout text params keep old new answer is.schema shown front reads) result fails stored is
+
+-- of one that shows up to so many of them, sorted by a comparison
+pub sorted_named : {A K V : Type 0} (layout : Layout K V) (name : Table) → table_of name ≡ layout.table → ((stored : Stored) → HasDamage layout (stored name) → HasDamageIn stored name) → (text : List ℕ) (params : Row) (old new : State)
+    → (most : ℕ) (cmp : V → V → Ordering) (keep : V → Bool) → ReadsSorted layout params keep most cmp text
+    → (result : Result A ReadFault) → IfErr result (FailsToShow layout name text params old new) → (stored : Stored) → IsStored stored old.now → IfErr result (NamesDamage stored)
+sorted_named layout name named harmed text params old new most cmp keep reads result fails stored is =
+    names_damage layout name named harmed text params old new (λ answer shown. sorted_among layout text params keep old new answer is.schema shown most cmp reads) result fails stored is
+
+-- where no row out of its type was met, no table is named
+pub names_no_table : {A : Type 0} (stored : Stored) (result : Result A ReadFault) → IsUndamaged result → IfErr result (NamesDamage stored)
+names_no_table stored (Ok x) told = tt
+names_no_table stored (Err (Damaged table)) told = absurd told
+names_no_table stored (Err (Store cause)) told = tt
+names_no_table stored (Err Memory) told = tt
+
+-- a text that counts all rows shows how many are stored
+pub count_stored : {K V : Type 0} (layout : Layout K V) (name : Table) → table_of name ≡ layout.table → (text : List ℕ) → CountsAll layout text → (old new : State) (answer : List Row) → Shown text [] old new answer
+    → (stored : Stored) → IsStored stored old.now → answer ≡ (count (length (stored name)) ∷ []) ∷ []
+count_stored layout name named text counts old new answer shown stored is =
+    counts_stored layout text counts.names old new answer counts.command counts.plain counts.unlisted is.schema shown (stored name) (subst (λ t. IsPermutation (rows_in t old.now.trees) (stored name)) named (is.rows name))
+
 -- a text that only reads, whatever was made of what it showed
 pub reads_only : {A : Type 0} (text : List ℕ) (params : Row) (plain : IsPlain (understood warehouse text)) (old new : State) → Survives old new (CommitsShowing text params old) → (result : Result A ReadFault)
-    → (HasCleanDisk new → IsServed result → (answer : List Row) × Shown text params old new answer) → (HasCleanDisk new → (t : Tables) → IsAtRest (Some t) old → IsUndamaged result) → ReadsOnly old new result
-reads_only text params plain old new survives result shown sound = record {
+    → (HasCleanDisk new → IsServed result → (answer : List Row) × Shown text params old new answer) → (HasCleanDisk new → (t : Tables) → IsAtRest (Some t) old → IsUndamaged result)
+    → (HasCleanDisk new → (stored : Stored) → RestsOn stored old → IfErr result (NamesDamage stored)) → ReadsOnly old new result
+reads_only text params plain old new survives result shown sound named = record {
   clean = λ clean. omega (arith, survives.clean, clean);
   sound = sound;
   same = λ clean t at served. let told = shown clean served in still_rests text params plain t old new at survives clean told.0 told.1;
   left = λ clean t at. leaves_same text params plain t old new at survives clean;
   rests = λ clean stored at served. let told = shown clean served in still_stored text params plain stored old new at survives clean told.0 told.1;
   leaves = λ clean stored at. leaves_stored text params plain stored old new at survives clean;
+  named = named;
 }
 
 -- what wasn't asked met no row, and changes nothing
@@ -115,15 +164,29 @@ no_row causes.Disk = tt
 no_row causes.Size = tt
 no_row causes.Interrupted = tt
 
+names_nothing : (stored : Stored) (cause : Cause) → NamesDamage stored (unasked cause)
+names_nothing stored causes.Memory = tt
+names_nothing stored causes.Disk = tt
+names_nothing stored causes.Size = tt
+names_nothing stored causes.Interrupted = tt
+
 not_asked : {A : Type 0} (s : State) (cause : Cause) → ReadsOnly {A = A} s s (Err (unasked cause))
-not_asked s cause = record { clean = λ clean. clean; sound = λ clean t at. no_row cause; same = λ clean t at served. at; left = λ clean t at. at.left; rests = λ clean stored at served. at; leaves = λ clean stored at. at.left }
+not_asked s cause = record {
+  clean = λ clean. clean;
+  sound = λ clean t at. no_row cause;
+  same = λ clean t at served. at;
+  left = λ clean t at. at.left;
+  rests = λ clean stored at served. at;
+  leaves = λ clean stored at. at.left;
+  named = λ clean stored at. names_nothing stored cause;
+}
 
 pub nothing_asked : {A : Type 0} (s : State) (cause : Cause) (result : Result A ReadFault) → result ≡ Err (unasked cause) → ReadsOnly s s result
 nothing_asked s cause result is = subst (ReadsOnly s s) (sym is) (not_asked s cause)
 
 -- the same fault, of another answer
 pub said_again : {A B : Type 0} {old new : State} {fault : ReadFault} → ReadsOnly {A = A} old new (Err fault) → ReadsOnly {A = B} old new (Err fault)
-said_again here = record { clean = here.clean; sound = here.sound; same = here.same; left = here.left; rests = here.rests; leaves = here.leaves }
+said_again here = record { clean = here.clean; sound = here.sound; same = here.same; left = here.left; rests = here.rests; leaves = here.leaves; named = here.named }
 
 -- ---- a text that shows rows of one table
 

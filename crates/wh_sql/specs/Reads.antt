@@ -9,7 +9,7 @@ use Rattle.wh_rows.specs.declared.table.Table.{Table}
 use Rattle.wh_rows.specs.Holds.{Layout}
 use Rattle.wh_rows.specs.Tables.{Tables, Stores}
 use Rattle.wh_rows.specs.AtRest.{IsAtRest, Leaves}
-use Rattle.wh_rows.specs.Raw.{Stored, IsStored, HasDamage, RestsOn, LeavesStored}
+use Rattle.wh_rows.specs.Raw.{Stored, IsStored, HasDamage, HasDamageIn, RestsOn, LeavesStored}
 use Rattle.wh_sql.specs.declared.fault.ReadFault.{ReadFault}
 use Rattle.wh_sql.specs.declared.fault.ReadFault.TheVariants.{Memory, Damaged, Store}
 use Rattle.wh_sql.specs.Refused.{IsCauseOfQuery}
@@ -28,6 +28,12 @@ SparesRows Memory = ⊤
 SparesRows (Damaged table) = ⊥
 SparesRows (Store why) = ⊤
 
+-- the table that is named as damaged stores a damaged row
+abbrev pub NamesDamage : Stored → ReadFault → Type 0
+NamesDamage stored Memory = ⊤
+NamesDamage stored (Damaged table) = HasDamageIn stored table
+NamesDamage stored (Store why) = ⊤
+
 -- the store refused nothing, so the connection is as it was
 abbrev pub IsServed : {A : Type 0} → Result A ReadFault → Type 0
 IsServed result = IfErr result SparesStore
@@ -37,7 +43,8 @@ abbrev pub IsUndamaged : {A : Type 0} → Result A ReadFault → Type 0
 IsUndamaged result = IfErr result SparesRows
 
 -- Where the disk returned what was written until now, it did so before. Where tables were at rest, no row out of its type was met, they are as they
--- were unless the store refused, and a crash leaves what they held. So it is of whatever was stored, but that a row of it may be damaged.
+-- were unless the store refused, and a crash leaves what they held. So it is of whatever was stored, but that a row of it may be damaged, and then
+-- the table that is named stores such a row.
 pub record ReadsOnly {A : Type 0} (old new : State) (result : Result A ReadFault) : Type 0 where
   pub clean : HasCleanDisk new → HasCleanDisk old
   pub sound : HasCleanDisk new → (t : Tables) → IsAtRest (Some t) old → IsUndamaged result
@@ -45,6 +52,7 @@ pub record ReadsOnly {A : Type 0} (old new : State) (result : Result A ReadFault
   pub left : HasCleanDisk new → (t : Tables) → IsAtRest (Some t) old → Leaves (Some t) new
   pub rests : HasCleanDisk new → (stored : Stored) → RestsOn stored old → IsServed result → RestsOn stored new
   pub leaves : HasCleanDisk new → (stored : Stored) → RestsOn stored old → LeavesStored stored new
+  pub named : HasCleanDisk new → (stored : Stored) → RestsOn stored old → IfErr result (NamesDamage stored)
 
 -- The same of a call that reads and answers otherwise: what was at rest is as it was where this holds.
 pub record Spares (old new : State) (calm : Type 0) : Type 0 where

@@ -12,7 +12,7 @@ use wh_rows::{Cause, Table};
 pub enum ReadFault {
     /// A growth was refused outside the store, and the store refused nothing.
     Memory,
-    /// A stored value is out of its type.
+    /// A row of this table is out of its type.
     Damaged(Table),
     /// The store refused the statement.
     Store(Cause),

@@ -10,7 +10,7 @@ ghost use Rattle.wh_rows.specs.declared.cause.Cause.TheVariants.{Memory, Size};
 ghost use Rattle.wh_rows.specs.declared.table.Table.{Table};
 ghost use Rattle.wh_rows.specs.Place.{IsPlaced};
 ghost use Rattle.wh_rows.specs.Texts.{Texts};
-ghost use Rattle.wh_rows.specs.Raw.{ReadsStored, table_of};
+ghost use Rattle.wh_rows.specs.Raw.{Stored, HasDamage, HasDamageIn, ReadsStored, table_of};
 ghost use Rattle.wh_rows.specs.Meaning.{PutsOne, RemovesOne, ReadsSome, CountsAll};
 
 use sqlite::types::ValueRef;
@@ -75,6 +75,9 @@ pub trait Keeps: StoredTable {
     ghost finds_stored: { (key : Self.Key) → ReadsStored Self.layout (bind key) (stands_at key) (λ row. eq_by_cmp Self.layout.order key (Self.layout.key row)) texts.get };
 
     ghost named: { table_of name ≡ Self.layout.table };
+
+    // Damage among the rows that are stored in it is damage in the table of its name.
+    ghost harmed: { (stored : Stored) → HasDamage Self.layout (stored name) → HasDamageIn stored name };
 
     ghost placed: { IsPlaced Self.layout Self.rows Self.with_rows };
 }

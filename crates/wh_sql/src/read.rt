@@ -1,6 +1,6 @@
 //! Reading rows of the tables, in the order of their keys.
 
-ghost use Rattle.std.specs.Prelude.{◌≡◌, ◌≢◌, ◌≤◌, ℕ, filter, Err, [], ◌∷◌, Some, MatchResult, IsTrue, IfOk, IfErr};
+ghost use Rattle.std.specs.Prelude.{◌≡◌, ◌≢◌, ◌≤◌, ℕ, filter, length, Err, [], ◌∷◌, Some, MatchResult, IsTrue, IfOk, IfErr};
 ghost use Rattle.std.specs.FinMap.{values, get, len};
 ghost use Rattle.sqlite_sql.specs.Aggregate.{count as number_of};
 ghost use Rattle.sqlite.specs.Held.{state};
@@ -11,8 +11,8 @@ ghost use Rattle.wh_rows.specs.AtRest.{IsAtRest};
 ghost use Rattle.wh_rows.specs.Schema.{warehouse};
 ghost use Rattle.sqlite.specs.Listing.{understood};
 ghost use Rattle.sqlite.proofs.Callers.{IsPlain};
-ghost use Rattle.wh_rows.specs.Raw.{AreRows, IsLastOf};
-ghost use Rattle.wh_sql.specs.Reads.{ReadsOnly, SaysOfTables, SaysOfStored, IsUndamaged, IsOfDamage, Shows, FailsToShow, FailsToCount};
+ghost use Rattle.wh_rows.specs.Raw.{Stored, RestsOn, AreRows, IsLastOf};
+ghost use Rattle.wh_sql.specs.Reads.{ReadsOnly, NamesDamage, SaysOfTables, SaysOfStored, IsUndamaged, IsOfDamage, Shows, FailsToShow, FailsToCount};
 ghost use Rattle.wh_sql.specs.declared.fault.ReadFault.TheVariants.{Damaged, Store};
 ghost use Rattle.wh_rows.specs.declared.cause.Cause.TheVariants.{Size};
 
@@ -33,8 +33,9 @@ pub(crate) fn rows_shown<T: Keeps, S: Alter>(
 ) -> Result<Vec<T::Row>, ReadFault>
     ensures shows { HasCleanDisk (state S.Store conn.new) → IfOk result (λ rows. Shows T.layout text.now (bound params.now) (state S.Store conn.old) (state S.Store conn.new) rows.items) }
     ensures refused { HasCleanDisk (state S.Store conn.new) → IfErr result (FailsToShow T.layout T.name text.now (bound params.now) (state S.Store conn.old) (state S.Store conn.new)) }
-    // Nothing is out of its type where that is known of what is stored.
-    ensures reads { IsPlain (understood warehouse text.now) → (HasCleanDisk (state S.Store conn.new) → (t : Tables) → IsAtRest (Some t) (state S.Store conn.old) → IsUndamaged result) → ReadsOnly (state S.Store conn.old) (state S.Store conn.new) result }
+    // Nothing is out of its type where that is known of what is stored, and the table that is named as damaged is one where that is.
+    ensures reads { IsPlain (understood warehouse text.now) → (HasCleanDisk (state S.Store conn.new) → (t : Tables) → IsAtRest (Some t) (state S.Store conn.old) → IsUndamaged result)
+        → (HasCleanDisk (state S.Store conn.new) → (stored : Stored) → RestsOn stored (state S.Store conn.old) → IfErr result (NamesDamage stored)) → ReadsOnly (state S.Store conn.old) (state S.Store conn.new) result }
     ensures survives { Survives (state S.Store conn.old) (state S.Store conn.new) (CommitsShowing text.now (bound params.now) (state S.Store conn.old)) }
 {
     let shown = match conn.query_all(text, params) {
@@ -90,6 +91,8 @@ pub fn count<T: Keeps, S: Alter>(alloc: Global, conn: &mut Connection<S>) -> Res
     ensures reads { ReadsOnly (state S.Store conn.old) (state S.Store conn.new) result }
     ensures count { SaysOfTables (state S.Store conn.old) (state S.Store conn.new) (λ t. IfOk result (λ count. count ≡ len (T.rows t))) }
     ensures sound { SaysOfTables (state S.Store conn.old) (state S.Store conn.new) (λ _. IsUndamaged result) }
+    // The same of any rows, whoever wrote them: all that are stored are counted, damaged or not.
+    ensures stored { SaysOfStored (state S.Store conn.old) (state S.Store conn.new) (λ stored. IfOk result (λ count. count ≡ length (stored T.name))) }
     ensures refused { SaysOfTables (state S.Store conn.old) (state S.Store conn.new) (λ t. IfErr result (FailsToCount (len (T.rows t)) T.texts.count (state S.Store conn.old) (state S.Store conn.new))) }
 {
     let shown = match conn.query_all(T::statements().count, &[]) {

@@ -66,6 +66,8 @@ impl Keeps for tables::Meta {
 
     ghost named = { refl };
 
+    ghost harmed = { λ stored damage. damage };
+
     ghost placed = { place };
 }
 
@@ -122,6 +124,8 @@ impl Keeps for tables::Command {
     ghost finds_stored = { get_stored };
 
     ghost named = { refl };
+
+    ghost harmed = { λ stored damage. damage };
 
     ghost placed = { place };
 }
@@ -180,6 +184,8 @@ impl Keeps for tables::Member {
 
     ghost named = { refl };
 
+    ghost harmed = { λ stored damage. damage };
+
     ghost placed = { place };
 }
 
@@ -236,6 +242,8 @@ impl Keeps for tables::Change {
     ghost finds_stored = { get_stored };
 
     ghost named = { refl };
+
+    ghost harmed = { λ stored damage. damage };
 
     ghost placed = { place };
 }
@@ -294,6 +302,8 @@ impl Keeps for tables::Product {
 
     ghost named = { refl };
 
+    ghost harmed = { λ stored damage. damage };
+
     ghost placed = { place };
 }
 
@@ -350,6 +360,8 @@ impl Keeps for tables::Store {
     ghost finds_stored = { get_stored };
 
     ghost named = { refl };
+
+    ghost harmed = { λ stored damage. damage };
 
     ghost placed = { place };
 }
@@ -408,6 +420,8 @@ impl Keeps for tables::Customer {
 
     ghost named = { refl };
 
+    ghost harmed = { λ stored damage. damage };
+
     ghost placed = { place };
 }
 
@@ -464,6 +478,8 @@ impl Keeps for tables::Profile {
     ghost finds_stored = { get_stored };
 
     ghost named = { refl };
+
+    ghost harmed = { λ stored damage. damage };
 
     ghost placed = { place };
 }
@@ -522,6 +538,8 @@ impl Keeps for tables::Calendar {
 
     ghost named = { refl };
 
+    ghost harmed = { λ stored damage. damage };
+
     ghost placed = { place };
 }
 
@@ -578,6 +596,8 @@ impl Keeps for tables::Fact {
     ghost finds_stored = { get_stored };
 
     ghost named = { refl };
+
+    ghost harmed = { λ stored damage. damage };
 
     ghost placed = { place };
 }

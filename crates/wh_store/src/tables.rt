@@ -1,6 +1,6 @@
 //! The tables over one connection.
 
-ghost use Rattle.std.specs.Prelude.{◌≡◌, ◌≢◌, ◌⊎◌, [], ◌∷◌, pos, true, false, map, filter, Ok, Err, Some, None, Option, IsTrue, IfOk, IfErr, OnOk};
+ghost use Rattle.std.specs.Prelude.{◌≡◌, ◌≢◌, ◌⊎◌, [], ◌∷◌, pos, true, false, map, filter, length, Ok, Err, Some, None, Option, IsTrue, IfOk, IfErr, OnOk};
 ghost use Rattle.std.specs.Borrow.{sem, RestsIfErr};
 ghost use Rattle.std.specs.FinMap.{values, get, len};
 ghost use Rattle.sqlite_value.specs.declared.value.Value.TheVariants.{Int as Number};
@@ -142,6 +142,8 @@ impl<S: Alter> Tables<S> {
     pub fn count<T: Keeps>(&mut self, alloc: Global) -> Result<u64, ReadFault>
         ensures reads { ReadsOnly (state_of S.Store self.old) (state_of S.Store self.new) result }
         ensures count { SaysAtRest (state_of S.Store self.old) (state_of S.Store self.new) (λ t. IfOk result (λ count. count ≡ len (T.rows t))) }
+        // The same of any rows, whoever wrote them: all that are stored are counted, damaged or not.
+        ensures stored { SaysAsStored (state_of S.Store self.old) (state_of S.Store self.new) (λ stored. IfOk result (λ count. count ≡ length (stored T.name))) }
         ensures refused { SaysAtRest (state_of S.Store self.old) (state_of S.Store self.new) (λ t. IfErr result (FailsToCount (len (T.rows t)) T.texts.count (state_of S.Store self.old) (state_of S.Store self.new))) }
     {
         count::<T, S>(alloc, &mut self.conn)

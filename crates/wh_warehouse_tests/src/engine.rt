@@ -11,6 +11,7 @@
 //! - `send KIND ID`: the lines that it is handed are the batch, and what the engine answers is the answer;
 //! - `batch p1`: one of the batches of `batches`, by its id; `load p0 p8`: those from one to another, of which it answers those that aren't
 //!   accepted;
+//! - `plan KIND ID`: what a batch of the lines that it is handed would write, a line an edit; `writes`: how many keys the last command wrote;
 //! - `counts`; `policy`: the last year, and how many attributes a product has;
 //! - `table NAME`: the rows of a table; `command NUMBER`: the row of a command;
 //! - `mark`: remembers all ten tables; `same`: whether they are as they were then;
@@ -31,6 +32,7 @@ mod batches;
 mod columns;
 mod files;
 mod planning;
+mod plans;
 mod policies;
 mod scenarios;
 mod tables;

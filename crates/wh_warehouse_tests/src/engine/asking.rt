@@ -1,6 +1,7 @@
 //! What is asked of an engine, and its answers as lines.
 
 use crate::engine::batches::{batch, load};
+use crate::engine::plans::plan;
 use crate::trouble::Trouble;
 use crate::words::push_number;
 use sqlite::Alter;
@@ -67,6 +68,8 @@ pub fn ask<S: Alter>(
         "send" => send(alloc, engine, rest, handed, out),
         "batch" => batch(alloc, engine, rest, out),
         "load" => load(alloc, engine, rest, out),
+        "plan" => plan(alloc, engine, rest, handed, out),
+        "writes" => Ok(push_count(out, "written", engine.writes())?),
         "counts" => counts(alloc, engine, out),
         "policy" => push_policy(out, engine.policy()),
         _ => Err(Trouble),

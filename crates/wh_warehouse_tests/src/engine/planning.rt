@@ -18,10 +18,10 @@ use sqlite_value::value::Bytes;
 use std::alloc::{AllocError, Global};
 use wh_day::{Day, NaturalKey, Value, Values};
 use wh_engine::{write_edits, write_making};
-use wh_history::{Change, Changes, DimRow, Dimension, Edit, Member, Profiles};
+use wh_history::{Change, Changes, Dimension, Edit, Member, Profiles};
 use wh_plan::new_rows::{new_changes, new_members, rows_of_members};
 use wh_plan::reading::{command_of, last_member, stored_changes, stored_member, stored_rows};
-use wh_plan::{Edits, plan_batch};
+use wh_plan::{Edits, FactEdit, plan_batch};
 use wh_policy::{Dim, DimensionRecord, Policy};
 use wh_rows::tables::{Calendar, Product, Profile};
 use wh_rows::{Cause, CommandRow, Limits};
@@ -284,36 +284,69 @@ fn write(alloc: Global, tables: &mut InMemory, edits: &Edits) -> Result<(), Caus
 
 /// The edits of a command, in the order in which they are made.
 fn push_edits(out: &mut String, edits: &Edits) -> Result<(), AllocError> {
-    out.push_str("command ")?;
-    edits.command.push(out)?;
-    out.push_str("\n")?;
-    push_rows(out, "member ", &edits.members)?;
-    push_rows(out, "change ", &edits.changes)?;
-    push_rows(out, "profile ", &edits.profiles)?;
-    push_rows(out, "fact ", &edits.facts)?;
+    push_row_edits(out, "command ", &edits.commands)?;
+    push_puts(out, "member ", &edits.members)?;
+    push_puts(out, "change ", &edits.changes)?;
     push_row_edits(out, "product ", &edits.products)?;
     push_row_edits(out, "store ", &edits.stores)?;
-    push_row_edits(out, "customer ", &edits.customers)
+    push_row_edits(out, "customer ", &edits.customers)?;
+    push_row_edits(out, "profile ", &edits.profiles)?;
+    push_puts(out, "calendar ", &edits.calendar)?;
+    for edit in &edits.facts {
+        out.push_str("fact ")?;
+        push_fact_edit(out, edit)?;
+        out.push_str("\n")?;
+    }
+    Ok(())
 }
 
-fn push_edit(out: &mut String, edit: &Edit<DimRow, u64>) -> Result<(), AllocError> {
+fn push_fact_edit(out: &mut String, edit: &FactEdit) -> Result<(), AllocError> {
     match edit {
-        Edit::Put(row) => row.push(out),
-        Edit::Remove(key) => {
+        FactEdit::Row(Edit::Put(row)) => row.push(out),
+        FactEdit::Row(Edit::Remove(line)) => {
             out.push_str("without ")?;
-            push_number(out, *key)
+            out.push_str(line.ticket.as_str())
+        }
+        FactEdit::Rekey(line, keys) => {
+            out.push_str("rekeyed ")?;
+            out.push_str(line.ticket.as_str())?;
+            out.push_str(" ")?;
+            push_number(out, keys.product_key)
         }
     }
 }
 
-fn push_row_edits(
+fn push_row_edits<R: Columns>(
     out: &mut String,
     word: &str,
-    edits: &[Edit<DimRow, u64>],
+    edits: &[Edit<R, u64>],
 ) -> Result<(), AllocError> {
     for edit in edits {
         out.push_str(word)?;
-        push_edit(out, edit)?;
+        match edit {
+            Edit::Put(row) => row.push(out)?,
+            Edit::Remove(key) => {
+                out.push_str("without ")?;
+                push_number(out, *key)?;
+            }
+        }
+        out.push_str("\n")?;
+    }
+    Ok(())
+}
+
+/// The rows that are put of a table whose rows are never taken out.
+fn push_puts<R: Columns, K>(
+    out: &mut String,
+    word: &str,
+    edits: &[Edit<R, K>],
+) -> Result<(), AllocError> {
+    for edit in edits {
+        out.push_str(word)?;
+        match edit {
+            Edit::Put(row) => row.push(out)?,
+            Edit::Remove(_) => out.push_str("taken out")?,
+        }
         out.push_str("\n")?;
     }
     Ok(())

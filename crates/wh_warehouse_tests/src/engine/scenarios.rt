@@ -5,6 +5,7 @@ mod batches;
 mod limits;
 mod opening;
 mod parts;
+mod plans;
 mod repeats;
 mod restarts;
 mod sales;

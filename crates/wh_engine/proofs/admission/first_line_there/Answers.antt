@@ -30,6 +30,7 @@ loop-place-preserved g c =
         left = λ clean t rests. read.reads.left clean t (kept.reads.same (read.reads.clean clean) t rests tt);
         rests = λ clean stored rests served. read.reads.rests clean stored (kept.reads.rests (read.reads.clean clean) stored rests tt) tt;
         leaves = λ clean stored rests. read.reads.leaves clean stored (kept.reads.rests (read.reads.clean clean) stored rests tt);
+        named = λ clean stored rests. tt;
       };
       passed = λ clean limits commands t are rests.
           let before = read.reads.clean clean in

@@ -21,3 +21,6 @@ returns-in-None-clause-decided g c clean commands t held rests =
     let none : command_with commands command.id ≡ None = sym (c.in_ok-row.ensures.command before limits commands t held.are rests held.accepted.distinct) ∙ c.in-None.is in
     let still = c.in_ok-row.ensures.reads.same before t rests tt in
     c.decide_new.ensures.decided clean commands t held still good (is_new limits commands command none)
+
+pub returns-in-Some-clause-blames : goal.returns-in-Some-clause-blames
+returns-in-Some-clause-blames g c clean stored rests = c.decide_known.ensures.blames stored

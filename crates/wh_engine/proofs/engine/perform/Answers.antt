@@ -1,5 +1,5 @@
 use Rattle.sqlite.specs.Held.{state}
-use Rattle.wh_engine.proofs.Performing.{held, repeat_performed, fault_performed, may_write, accept_performed, stop_performed}
+use Rattle.wh_engine.proofs.Performing.{held, repeat_performed, fault_performed, may_write, accept_performed, writes_counted, stop_performed}
 use Rattle.wh_engine.proofs.engine.perform.Goals as goal
 
 pub returns-in-Ok-Repeat-clause-performed : goal.returns-in-Ok-Repeat-clause-performed
@@ -24,6 +24,15 @@ returns-in-Ok-clause-performed g c clean limits commands ready =
     let may = may_write limits commands command c.args.session.now old ready c.in-Ok-Accept.receipt c.in-Ok-Accept.edits judged in
     accept_performed limits commands command c.args.session.now old ready c.in-Ok-Accept.receipt c.in-Ok-Accept.edits judged new
     (c.in-Ok.ensures.written clean ready.rests.tables still may)
+
+pub returns-in-Ok-clause-written : goal.returns-in-Ok-clause-written
+returns-in-Ok-clause-written g c clean limits commands ready =
+    let command = c.args.command.now in
+    let old = state g.S.Store c.args.tables.now.conn in
+    let before = c.commit_edits.ensures.clean clean in
+    let is_held = held limits commands command c.args.session.now old ready in
+    let judged = rw c.in-Ok-Accept.field-0-is at (c.in-Ok-Accept.ensures.decided before commands ready.rests.tables is_held ready.rests.rests) in
+    writes_counted limits commands command c.args.session.now old ready c.in-Ok-Accept.receipt c.in-Ok-Accept.edits judged c.in-Ok.count c.in-Ok.ensures.counted
 
 pub returns-in-Ok-Accept-clause-performed : goal.returns-in-Ok-Accept-clause-performed
 returns-in-Ok-Accept-clause-performed g c clean limits commands ready =

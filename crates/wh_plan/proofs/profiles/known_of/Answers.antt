@@ -25,7 +25,7 @@ returns-in-Customer-clause-enough g c clean limits commands t are at typed =
 
 pub returns-in_default : goal.returns-in_default
 returns-in_default g c = record {
-  reads = record { clean = λ clean. clean; sound = λ clean t at. tt; same = λ clean t at calm. at; left = λ clean t at. at.left; rests = λ clean stored at calm. at; leaves = λ clean stored at. at.left };
+  reads = record { clean = λ clean. clean; sound = λ clean t at. tt; same = λ clean t at calm. at; left = λ clean t at. at.left; rests = λ clean stored at calm. at; leaves = λ clean stored at. at.left; named = λ clean stored at. tt };
   enough = λ clean limits commands t are at typed. subst (λ (ks : List AttributeType). AllByRecursion (KnowsEnough c.args.dim ks (number_in c.new.result) (profiles_of commands)) c.args.members.now) (sym typed.are)
       (others_known c.args.dim typed.policy typed.sound c.in_default.not-Customer (number_in c.new.result) (profiles_of commands) c.args.members.now);
 }

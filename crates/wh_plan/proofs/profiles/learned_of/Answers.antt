@@ -8,7 +8,7 @@ use Rattle.wh_plan.proofs.profiles.learned_of.Goals as goal
 
 pub returns-in_default : goal.returns-in_default
 returns-in_default g c = record {
-  reads = record { clean = λ clean. clean; sound = λ clean t at. tt; same = λ clean t at calm. at; left = λ clean t at. at.left; rests = λ clean stored at calm. at; leaves = λ clean stored at. at.left };
+  reads = record { clean = λ clean. clean; sound = λ clean t at. tt; same = λ clean t at calm. at; left = λ clean t at. at.left; rests = λ clean stored at calm. at; leaves = λ clean stored at. at.left; named = λ clean stored at. tt };
   learned = λ clean limits commands t are at sent accepted is typed.
       let dim = c.args.batch.now.dim in
       let after = commands ++ sent ∷ [] in

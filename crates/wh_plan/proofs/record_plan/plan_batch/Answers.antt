@@ -3,6 +3,7 @@ use Rattle.std.specs.List.{AllByRecursion}
 use Rattle.wh_policy.specs.declared.attribute.AttributeType.{AttributeType}
 use Rattle.wh_history.specs.Accepted.{profiles_of}
 use Rattle.wh_history.specs.Known.{number_in, KnowsEnough}
+use Rattle.wh_history.specs.Laws.{governs}
 use Rattle.wh_plan.specs.Sound.{AreTypes}
 use Rattle.wh_plan.proofs.PlanPremises.{days_before, days_after}
 use Rattle.wh_plan.proofs.record_plan.plan_batch.Goals as goal
@@ -23,5 +24,6 @@ returns-clause-edits g c clean limits commands t are at sent accepted is governe
     let learned = c.in_ok-learned.ensures.learned second limits commands t are at_first sent accepted is typed in
     let enough = subst (λ (ks : List AttributeType). AllByRecursion (KnowsEnough dim ks (number_in c.in_ok-learned.learned.known) (profiles_of after)) c.as_slice-after.result.now) (c.deref.ensures.value ∙ sym c.deref-3.ensures.value) learned.enough in
     let facts = c.in_ok-facts.ensures.moved clean limits commands t are at_second sent c.args.records.now accepted is typed_now (c.deref-4.ensures.value ∙ found.members_read) list enough in
-    c.in_ok-edits_of.ensures commands sent is typed_now (days_before limits commands sent accepted) (days_after limits commands sent accepted) command_is
-    (record { found = found; touched = list; enough = enough; profiles = learned.fresh; facts = facts })
+    let rows = c.in_ok-rows.ensures commands sent is typed_now (days_before limits commands sent accepted) (days_after limits commands sent accepted) command_is
+    (record { found = found; touched = list; enough = enough; profiles = learned.fresh; facts = facts.0; rekeyed = facts.1 }) in
+    c.in_ok-edits_of_batch.ensures commands sent (ap governs is) rows

@@ -1,5 +1,5 @@
 -- The text means a record of the dimension with the greatest anchor.
-use Rattle.std.proofs.Common.{ℕ, [], ◌∷◌, filter, pos, Err, Ok, sym, ap, ◌∙◌}
+use Rattle.std.proofs.Common.{ℕ, [], ◌∷◌, filter, pos, Err, Ok, refl, sym, ap, ◌∙◌}
 use Rattle.std.specs.Prelude.{slice_get, unwrap_or, option_map}
 use Rattle.std.specs.FinMap.{values}
 use Rattle.std.specs.Ordering.{eq_by_cmp, nat_cmp}
@@ -14,7 +14,7 @@ use Rattle.wh_rows.specs.declared.table.Table.TheVariants.{Change}
 use Rattle.wh_rows.specs.Texts as texts
 use Rattle.wh_rows.proofs.Changes.{greatest_anchor}
 use Rattle.wh_rows.proofs.Places.{change}
-use Rattle.wh_sql.proofs.Reading.{IsAnswered, IsLedByGreatest, greatest_answered, rows_are, undamaged, said_again}
+use Rattle.wh_sql.proofs.Reading.{IsAnswered, IsLedByGreatest, greatest_answered, rows_are, undamaged, sorted_named, said_again}
 use Rattle.wh_sql.proofs.greatest.greatest_anchor.Goals as goal
 
 asked : (dim : Dim) (old new : State)
@@ -32,7 +32,10 @@ returns-in_err-rows-clause-reads g c =
     let it = asked c.args.dim (state g.S.Store c.args.conn.now) (state g.S.Store c.rows_shown.new.conn) in
     let p = err_from_is_err_and c.from_residual.result c.from_residual.ensures.1 in
     let refused = rw c.dim.ensures at c.in_err-rows.ensures.refused in
-    rw (p.1, p.2) (said_again (c.in_err-rows.ensures.reads it.plain (λ clean t at. undamaged it {A = ℕ} (Err c.in_err-rows.field-0.0) Change (refused clean) t at.now.tables)))
+    rw (p.1, p.2) (said_again (c.in_err-rows.ensures.reads it.plain (λ clean t at. undamaged it {A = ℕ} (Err c.in_err-rows.field-0.0) Change (refused clean) t at.now.tables)
+    (λ clean stored at.
+    sorted_named {A = ℕ} row.change Change refl (λ stored damage. damage) texts.greatest_anchor (Int (pos (dim_number c.args.dim)) ∷ []) (state g.S.Store c.args.conn.now) (state g.S.Store c.rows_shown.new.conn)
+    1 (λ v w. nat_cmp w.anchor v.anchor) (λ r. eq_by_cmp nat_cmp (dim_number c.args.dim) (dim_number r.dim)) (greatest_anchor c.args.dim) (Err c.in_err-rows.field-0.0) (refused clean) stored at.now)))
 
 pub returns-in_err-rows-clause-refused : goal.returns-in_err-rows-clause-refused
 returns-in_err-rows-clause-refused g c clean =
@@ -49,5 +52,5 @@ returns-clause-anchor g c clean t stored =
 pub returns-clause-reads : goal.returns-clause-reads
 returns-clause-reads g c =
     let it = asked c.args.dim (state g.S.Store c.args.conn.now) (state g.S.Store c.rows_shown.new.conn) in
-    let here = c.in_ok-rows.ensures.reads it.plain (λ clean t at. tt) in
-    record { clean = here.clean; sound = λ clean t at. tt; same = here.same; left = here.left; rests = here.rests; leaves = here.leaves }
+    let here = c.in_ok-rows.ensures.reads it.plain (λ clean t at. tt) (λ clean stored at. tt) in
+    record { clean = here.clean; sound = λ clean t at. tt; same = here.same; left = here.left; rests = here.rests; leaves = here.leaves; named = λ clean stored at. tt }

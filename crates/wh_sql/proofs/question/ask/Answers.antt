@@ -3,7 +3,7 @@ use Rattle.std.proofs.Common.{Err, ap, subst, ◌∙◌}
 use Rattle.std.proofs.lemmas.Result.{err_from_is_err_and}
 use Rattle.sqlite.specs.Held.{state}
 use Rattle.wh_rows.specs.Raw.{ReadsAllStored}
-use Rattle.wh_sql.proofs.Reading.{part_answered, rows_are, undamaged, nothing_asked, reads_stored, finds_damage}
+use Rattle.wh_sql.proofs.Reading.{part_answered, rows_are, undamaged, part_named, nothing_asked, reads_stored, finds_damage}
 use Rattle.wh_sql.proofs.question.ask.Goals as goal
 
 pub returns-clause-rows : goal.returns-clause-rows
@@ -31,7 +31,11 @@ returns-clause-reads g c =
     let of = c.args.question.now in
     let asked = part_answered g.met.T.Keeps.placed (state g.S.Store c.args.conn.now) (state g.S.Store c.rows_shown.new.conn) (q.means of) (q.bind of) q.front (q.keep of) (g.met.Q.Question.reads of) in
     let reads = rw c.text.ensures at c.rows_shown.ensures.reads in
+    let refused = rw (c.text.ensures, c.deref.ensures.value, c.in_ok-values.ensures.ok) at c.rows_shown.ensures.refused in
     reads asked.plain (λ clean t at. returns-clause-sound g c clean t at.now.tables)
+    (λ clean stored at.
+    part_named g.T.StoredTable.layout g.T.Keeps.name g.met.T.Keeps.named g.met.T.Keeps.harmed (q.means of) (q.bind of) (state g.S.Store c.args.conn.now) (state g.S.Store c.rows_shown.new.conn)
+    q.front (q.keep of) (g.met.Q.Question.reads of) c.rows_shown.result (refused clean) stored at.now)
 
 -- ---- whoever wrote the rows
 

@@ -1,7 +1,8 @@
 -- The text means all rows.
+use Rattle.std.proofs.Common.{[], true, None}
 use Rattle.sqlite.specs.Held.{state}
 use Rattle.wh_rows.proofs.Edits.{filter_all}
-use Rattle.wh_sql.proofs.Reading.{all_answered, rows_are, undamaged, reads_stored, finds_damage}
+use Rattle.wh_sql.proofs.Reading.{all_answered, rows_are, undamaged, part_named, reads_stored, finds_damage}
 use Rattle.wh_sql.proofs.read.all.Goals as goal
 
 pub returns-clause-rows : goal.returns-clause-rows
@@ -17,7 +18,11 @@ returns-clause-sound g c clean t stored =
 pub returns-clause-reads : goal.returns-clause-reads
 returns-clause-reads g c =
     let reads = rw c.statements.ensures.2 at c.rows_shown.ensures.reads in
+    let refused = rw c.statements.ensures.2 at c.rows_shown.ensures.refused in
     reads g.met.T.Keeps.lists.plain (λ clean t at. returns-clause-sound g c clean t at.now.tables)
+    (λ clean stored at.
+    part_named g.T.StoredTable.layout g.T.Keeps.name g.met.T.Keeps.named g.met.T.Keeps.harmed g.T.Keeps.texts.all [] (state g.S.Store c.args.conn.now) (state g.S.Store c.rows_shown.new.conn)
+    None (λ row. true) g.met.T.Keeps.lists c.rows_shown.result (refused clean) stored at.now)
 
 pub returns-clause-stored : goal.returns-clause-stored
 returns-clause-stored g c clean stored is =

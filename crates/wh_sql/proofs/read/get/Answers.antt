@@ -1,10 +1,11 @@
 -- The text means the rows of the key.
-use Rattle.std.proofs.Common.{ℕ, filter, Ok, Err, arith, ◌≡◌, length, ap, ◌∙◌}
+use Rattle.std.proofs.Common.{ℕ, filter, None, Ok, Err, arith, ◌≡◌, length, ap, ◌∙◌}
 use Rattle.std.proofs.lemmas.Result.{err_from_is_err_and}
 use Rattle.std.specs.Prelude.{vec_len}
 use Rattle.std.specs.FinMap.{get}
+use Rattle.std.specs.Ordering.{eq_by_cmp}
 use Rattle.sqlite.specs.Held.{state}
-use Rattle.wh_sql.proofs.Reading.{key_answered, rows_are, undamaged, last_is, finds_damage, reads_stored, nothing_asked, said_again}
+use Rattle.wh_sql.proofs.Reading.{key_answered, rows_are, undamaged, part_named, last_is, finds_damage, reads_stored, nothing_asked, said_again}
 use Rattle.wh_rows.proofs.Raw.{last_found}
 use Rattle.wh_sql.proofs.read.get.Goals as goal
 
@@ -26,7 +27,10 @@ returns-in_err-rows-clause-reads g c =
     let p = err_from_is_err_and c.from_residual-in_err-rows.result c.from_residual-in_err-rows.ensures.1 in
     let reads = rw c.statements.ensures.3 at c.in_err-rows.ensures.reads in
     let refused = rw (c.statements.ensures.3, c.deref.ensures.value, c.in_ok-values.ensures.ok) at c.in_err-rows.ensures.refused in
-    rw (p.1, p.2) (said_again (reads (g.met.T.Keeps.finds c.args.key.now).plain (λ clean t at. undamaged asked {A = ℕ} (Err c.in_err-rows.field-0.0) g.T.Keeps.name (refused clean) t at.now.tables)))
+    rw (p.1, p.2) (said_again (reads (g.met.T.Keeps.finds c.args.key.now).plain (λ clean t at. undamaged asked {A = ℕ} (Err c.in_err-rows.field-0.0) g.T.Keeps.name (refused clean) t at.now.tables)
+    (λ clean stored at.
+    part_named {A = ℕ} g.T.StoredTable.layout g.T.Keeps.name g.met.T.Keeps.named g.met.T.Keeps.harmed g.T.Keeps.texts.get (g.T.Keeps.bind c.args.key.now) (state g.S.Store c.args.conn.now) (state g.S.Store c.rows_shown.new.conn)
+    None (λ row. eq_by_cmp g.T.StoredTable.layout.order c.args.key.now (g.T.StoredTable.layout.key row)) (g.met.T.Keeps.finds c.args.key.now) (Err c.in_err-rows.field-0.0) (refused clean) stored at.now)))
 
 pub returns-clause-row : goal.returns-clause-row
 returns-clause-row g c clean t stored =
@@ -39,8 +43,8 @@ returns-clause-row g c clean t stored =
 pub returns-clause-reads : goal.returns-clause-reads
 returns-clause-reads g c =
     let reads = rw c.statements.ensures.3 at c.in_ok-rows.ensures.reads in
-    let here = reads (g.met.T.Keeps.finds c.args.key.now).plain (λ clean t at. tt) in
-    record { clean = here.clean; sound = λ clean t at. tt; same = here.same; left = here.left; rests = here.rests; leaves = here.leaves }
+    let here = reads (g.met.T.Keeps.finds c.args.key.now).plain (λ clean t at. tt) (λ clean stored at. tt) in
+    record { clean = here.clean; sound = λ clean t at. tt; same = here.same; left = here.left; rests = here.rests; leaves = here.leaves; named = λ clean stored at. tt }
 
 -- ---- whoever wrote the rows
 

@@ -246,6 +246,53 @@ run load w sales s3 s3.csv
 run load w sales s1 s1.csv
 = already 5 s1: 2 records, 1 placeholders
 = status 0
+
+# What a load would write is printed before, and nothing is written.
+anew
+run init w flat.toml
+= accepted 1 init: 0 records, 0 placeholders
+= status 0
+run plan w product p1 p1.csv
+= put command 2
+= put member 1 1
+= put change 2 1
+= put product 1
+= edits 4
+= status 0
+run load w product p1 p1.csv
+= accepted 2 p1: 1 records, 0 placeholders
+= status 0
+run plan w product p1 p1.csv
+= edits 0
+= status 0
+run plan w product p1 p1x.csv
+= refused: E2 id reused
+= status 2
+run plan w product p2 p2.csv
+= put command 3
+= put change 3 1
+= put product 1
+= put product 3
+= edits 4
+= status 0
+run plan w sales s1 s1.csv
+= put command 3
+= put member 2 1
+= put store 1
+= put fact T0 1
+= put fact T1 1
+= edits 5
+= status 0
+run plan w product p2 none.csv
+= failed: F1 file, none.csv
+= status 3
+run status w
+= format 1
+= commands 2
+= changes 1
+= facts 0
+= members product 1 store 0 customer 0
+= status 0
 "#;
 
 #[test]

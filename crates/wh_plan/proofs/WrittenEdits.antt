@@ -1,0 +1,60 @@
+-- What exact edits lead to.
+use Rattle.std.proofs.Common.{◌≡◌, List, refl}
+use Rattle.std.proofs.lemmas.Cmp.{nat_cmp_total}
+use Rattle.std.specs.Cmp.Lexicographic.{nat_list_cmp_total}
+use Rattle.wh_policy.specs.declared.attribute.Dim.{Dim}
+use Rattle.wh_policy.specs.declared.attribute.Dim.TheVariants.{Product, Store, Customer}
+use Rattle.wh_history.specs.Accepted.{Accepted}
+use Rattle.wh_history.specs.Plan.{IsRowPlan}
+use Rattle.wh_history.specs.Tables.{Limits, dimension_row}
+use Rattle.wh_rows.proofs.Orders.{member_cmp_total, change_cmp_total}
+use Rattle.wh_rows.specs.Rows as row
+use Rattle.wh_rows.specs.Tables.{Tables}
+use Rattle.wh_plan.specs.Defined.{command_at, member_at, change_at, profile_at, calendar_at, fact_at, AreOf}
+use Rattle.wh_plan.specs.Edits.{Edits, AreEdits, no_edits, rows_of_dimension, with_all_edits}
+use Rattle.wh_plan.specs.Laws.{EditsAreWritten, ExactEditsAreOne, NoEditsStay}
+use Rattle.wh_plan.proofs.FactPlans.{facts_lead, no_facts, one_fact_plan}
+use Rattle.wh_plan.proofs.Plans.{plan_leads, empty_plan, one_plan}
+
+pub edits_are_written : EditsAreWritten
+edits_are_written limits before after t edits of are = record {
+  meta = of.meta;
+  command = λ number. plan_leads row.command nat_cmp_total (command_at before) (command_at after) edits.commands t.command number are.commands (of.command number);
+  member = λ key. plan_leads row.member member_cmp_total (member_at before) (member_at after) edits.members t.member key are.members (of.member key);
+  change = λ key. plan_leads row.change change_cmp_total (change_at before) (change_at after) edits.changes t.change key are.changes (of.change key);
+  product = λ key. plan_leads row.product nat_cmp_total (dimension_row before Product) (dimension_row after Product) edits.products t.product key (are.rows Product) (of.product key);
+  store = λ key. plan_leads row.store nat_cmp_total (dimension_row before Store) (dimension_row after Store) edits.stores t.store key (are.rows Store) (of.store key);
+  customer = λ key. plan_leads row.customer nat_cmp_total (dimension_row before Customer) (dimension_row after Customer) edits.customers t.customer key (are.rows Customer) (of.customer key);
+  profile = λ number. plan_leads row.profile nat_cmp_total (profile_at before) (profile_at after) edits.profiles t.profile number are.profiles (of.profile number);
+  calendar = λ day. plan_leads row.calendar nat_cmp_total (calendar_at before) (calendar_at after) edits.calendar t.calendar day are.calendar (of.calendar day);
+  fact = λ line. facts_lead (fact_at before) (fact_at after) edits.facts t.fact line are.facts (of.fact line);
+}
+
+pub no_edits_stay : NoEditsStay
+no_edits_stay commands = record {
+  commands = empty_plan row.command nat_cmp_total (command_at commands) (command_at commands) (λ _. refl);
+  members = empty_plan row.member member_cmp_total (member_at commands) (member_at commands) (λ _. refl);
+  changes = empty_plan row.change change_cmp_total (change_at commands) (change_at commands) (λ _. refl);
+  rows = none;
+  profiles = empty_plan row.profile nat_cmp_total (profile_at commands) (profile_at commands) (λ _. refl);
+  calendar = empty_plan row.calendar nat_cmp_total (calendar_at commands) (calendar_at commands) (λ _. refl);
+  facts = no_facts (fact_at commands);
+}
+  where
+    none : (dim : Dim) → IsRowPlan (dimension_row commands dim) (dimension_row commands dim) (rows_of_dimension dim no_edits)
+    none Product = empty_plan row.product nat_cmp_total (dimension_row commands Product) (dimension_row commands Product) (λ _. refl)
+    none Store = empty_plan row.product nat_cmp_total (dimension_row commands Store) (dimension_row commands Store) (λ _. refl)
+    none Customer = empty_plan row.product nat_cmp_total (dimension_row commands Customer) (dimension_row commands Customer) (λ _. refl)
+
+pub exact_edits_are_one : ExactEditsAreOne
+exact_edits_are_one before after a b first second =
+    let commands = one_plan row.command nat_cmp_total (command_at before) (command_at after) a.commands b.commands first.commands second.commands in
+    let members = one_plan row.member member_cmp_total (member_at before) (member_at after) a.members b.members first.members second.members in
+    let changes = one_plan row.change change_cmp_total (change_at before) (change_at after) a.changes b.changes first.changes second.changes in
+    let products = one_plan row.product nat_cmp_total (dimension_row before Product) (dimension_row after Product) a.products b.products (first.rows Product) (second.rows Product) in
+    let stores = one_plan row.product nat_cmp_total (dimension_row before Store) (dimension_row after Store) a.stores b.stores (first.rows Store) (second.rows Store) in
+    let customers = one_plan row.product nat_cmp_total (dimension_row before Customer) (dimension_row after Customer) a.customers b.customers (first.rows Customer) (second.rows Customer) in
+    let profiles = one_plan row.profile nat_cmp_total (profile_at before) (profile_at after) a.profiles b.profiles first.profiles second.profiles in
+    let calendar = one_plan row.calendar nat_cmp_total (calendar_at before) (calendar_at after) a.calendar b.calendar first.calendar second.calendar in
+    let facts = one_fact_plan (fact_at before) (fact_at after) a.facts b.facts first.facts second.facts in
+    λ i. record { commands = commands i; members = members i; changes = changes i; products = products i; stores = stores i; customers = customers i; profiles = profiles i; calendar = calendar i; facts = facts i }

@@ -1,0 +1,78 @@
+//! The rows that a batch brings, and the edits that they are.
+
+ghost use Rattle.std.specs.Prelude.{◌≡◌, ◌++◌, ◌∷◌, [], false, List, map, IfOk};
+ghost use Rattle.wh_history.specs.Accepted.{Accepted};
+ghost use Rattle.wh_history.specs.Laws.{governs};
+ghost use Rattle.wh_history.specs.declared.plan.Edit.TheVariants.{Put};
+ghost use Rattle.wh_plan.specs.BatchRows.{AreBatchRows};
+ghost use Rattle.wh_plan.specs.Edits.{AreEdits};
+
+use crate::edits::{Edits, FactEdit};
+use std::alloc::{AllocError, Global};
+use std::marker::Model;
+use wh_history::{DimRow, Edit};
+use wh_rows::{ChangeRow, CommandRow, MemberRow, ProfileRow};
+
+/// What a batch brings: its own row, the rows of the members that it is the first to mention, of its records and of the profiles
+/// that it is the first to show, the edits of facts, and those of the rows of the three dimensions.
+#[derive(Drop)]
+pub(crate) struct BatchRows {
+    pub(crate) command: CommandRow,
+    pub(crate) members: Vec<MemberRow>,
+    pub(crate) changes: Vec<ChangeRow>,
+    pub(crate) profiles: Vec<ProfileRow>,
+    pub(crate) facts: Vec<FactEdit>,
+    pub(crate) products: Vec<Edit<DimRow, u64>>,
+    pub(crate) stores: Vec<Edit<DimRow, u64>>,
+    pub(crate) customers: Vec<Edit<DimRow, u64>>,
+}
+
+impl Model for BatchRows {
+    ghost use Rattle.wh_plan.specs.BatchRows.{BatchRows as Lists};
+
+    ghost Value = { Lists };
+
+    ghost view = { λ r. record {
+      command = r.command;
+      members = r.members.items;
+      changes = r.changes.items;
+      profiles = r.profiles.items;
+      facts = r.facts.items;
+      products = r.products.items;
+      stores = r.stores.items;
+      customers = r.customers.items;
+    } };
+}
+
+/// Rows as edits that put them.
+fn puts<Row: Drop, Key: Drop>(
+    alloc: Global,
+    rows: Vec<Row>,
+) -> Result<Vec<Edit<Row, Key>>, AllocError>
+    ensures { IfOk result (λ edits. edits.items ≡ map Put rows.items) }
+{
+    let mut edits = Vec::new(alloc);
+    for row in rows {
+        edits.push(Edit::Put(row))?;
+    }
+    Ok(edits)
+}
+
+/// The edits of a batch, by the rows that it brings.
+pub(crate) fn edits_of_batch(alloc: Global, rows: BatchRows) -> Result<Edits, AllocError>
+    ensures { (commands : List Accepted) (c : Accepted) → governs c.content ≡ false → AreBatchRows commands c rows → IfOk result (AreEdits commands (commands ++ c ∷ [])) }
+{
+    let mut commands = Vec::new(alloc);
+    commands.push(Edit::Put(rows.command))?;
+    Ok(Edits {
+        commands,
+        members: puts(alloc, rows.members)?,
+        changes: puts(alloc, rows.changes)?,
+        products: rows.products,
+        stores: rows.stores,
+        customers: rows.customers,
+        profiles: puts(alloc, rows.profiles)?,
+        calendar: Vec::new(alloc),
+        facts: rows.facts,
+    })
+}

@@ -1,0 +1,92 @@
+//! The edits of facts, in order of their tickets and lines.
+
+ghost use Rattle.std.specs.Prelude.{◌≡◌, map, IfOk, None};
+ghost use Rattle.std.specs.List.{AllByRecursion};
+ghost use Rattle.std.specs.List.Sorted.{IsPermutation, IsSorted};
+ghost use Rattle.wh_rows.specs.Rows.{fact as layout};
+ghost use Rattle.wh_plan.specs.BatchRows.{AreFacts, AreRekeyed};
+ghost use Rattle.wh_plan.specs.Edits.{IsFactPlan};
+ghost use Rattle.wh_plan.specs.FactEdits.{Facts, by_line, put_of, rekey_of};
+
+use crate::edits::FactEdit;
+use std::alloc::{AllocError, Global};
+use std::cmp::Ordering;
+use wh_history::{Edit, Fact};
+use wh_rows::LineKey;
+
+/// How the lines of two facts stand to each other: by the bytes of their tickets, and then by number.
+fn by_line(a: &Fact, b: &Fact) -> Ordering
+    ensures { result ≡ by_line a.now b.now }
+{
+    a.ticket
+        .as_str()
+        .cmp(b.ticket.as_str())
+        .then(a.line.cmp(&b.line))
+}
+
+/// Puts facts in order of their lines.
+fn sort_by_line(facts: &mut Vec<Fact>)
+    ensures same { IsPermutation facts.old.items facts.new.items }
+    ensures sorted { IsSorted by_line facts.new.items }
+{
+    facts.sort_unstable_by(|a, b| by_line(a, b));
+}
+
+/// The edit that gives a stored fact the keys of this one.
+fn rekey_of(fact: Fact) -> FactEdit
+    ensures { result ≡ rekey_of fact }
+{
+    let Fact {
+        ticket,
+        line,
+        day: _,
+        keys,
+        store_durable: _,
+        product_durable: _,
+        customer_durable: _,
+        quantity: _,
+        amount: _,
+        cost: _,
+    } = fact;
+    FactEdit::Rekey(LineKey { ticket, line }, keys)
+}
+
+/// The edits that put facts, one after the other.
+fn each_put(alloc: Global, facts: Vec<Fact>) -> Result<Vec<FactEdit>, AllocError>
+    ensures { IfOk result (λ edits. edits.items ≡ map put_of facts.items) }
+{
+    let mut edits = Vec::new(alloc);
+    for fact in facts {
+        edits.push(FactEdit::Row(Edit::Put(fact)))?;
+    }
+    Ok(edits)
+}
+
+/// The edits that give the facts of these lines the keys of these, one after the other.
+fn each_rekeyed(alloc: Global, facts: Vec<Fact>) -> Result<Vec<FactEdit>, AllocError>
+    ensures { IfOk result (λ edits. edits.items ≡ map rekey_of facts.items) }
+{
+    let mut edits = Vec::new(alloc);
+    for fact in facts {
+        edits.push(rekey_of(fact))?;
+    }
+    Ok(edits)
+}
+
+/// The edits that put facts, whose lines are not there, in order of their lines.
+pub(crate) fn fact_puts(alloc: Global, facts: Vec<Fact>) -> Result<Vec<FactEdit>, AllocError>
+    ensures { (before after : Facts) → AreFacts before after facts.items → AllByRecursion (λ f. before (layout.key f) ≡ None) facts.items → IfOk result (λ edits. IsFactPlan before after edits.items) }
+{
+    let mut facts = facts;
+    sort_by_line(&mut facts);
+    each_put(alloc, facts)
+}
+
+/// The edits that give stored facts other keys, in order of their lines.
+pub(crate) fn fact_rekeys(alloc: Global, facts: Vec<Fact>) -> Result<Vec<FactEdit>, AllocError>
+    ensures { (before after : Facts) → AreFacts before after facts.items → AreRekeyed before facts.items → IfOk result (λ edits. IsFactPlan before after edits.items) }
+{
+    let mut facts = facts;
+    sort_by_line(&mut facts);
+    each_rekeyed(alloc, facts)
+}

@@ -1,0 +1,110 @@
+-- The text of two plans and of none, by computation. Of a row its key alone is looked at.
+use Rattle.std.proofs.Common.{◌≡◌, ℕ, List, [], ◌∷◌, false, refl}
+use Rattle.std.specs.Prelude.{codes, pos}
+use Rattle.std.specs.Fmt.{digits}
+use Rattle.wh_policy.specs.declared.attribute.Dim.{Dim}
+use Rattle.wh_policy.specs.declared.attribute.Dim.TheVariants.{Product, Customer}
+use Rattle.wh_day.specs.declared.calendar.DateRow.{DateRow}
+use Rattle.wh_history.specs.declared.plan.Edit.TheVariants.{Put, Remove}
+use Rattle.wh_history.specs.declared.rows.DimRow.{DimRow}
+use Rattle.wh_history.specs.declared.facts.Fact.{Fact}
+use Rattle.wh_history.specs.declared.facts.FactKeys.{FactKeys}
+use Rattle.wh_rows.specs.declared.rows.CommandRow.{CommandRow}
+use Rattle.wh_rows.specs.declared.rows.MemberRow.{MemberRow}
+use Rattle.wh_rows.specs.declared.rows.ChangeRow.{ChangeRow}
+use Rattle.wh_rows.specs.declared.rows.ProfileRow.{ProfileRow}
+use Rattle.wh_plan.specs.Edits.{Edits, no_edits}
+use Rattle.wh_plan.specs.declared.edits.FactEdit.TheVariants.{Row, Rekey}
+use Rattle.wh_program.specs.PlanText.{plan_text}
+
+abbrev command : ℕ → CommandRow
+command number = record { number = number; id = []; kind = []; bytes = []; records = 1; placeholders = 0 }
+
+abbrev member : Dim → ℕ → MemberRow
+member dim durable = record { dim = dim; durable = durable; natural = []; opening = 0 }
+
+abbrev change : ℕ → ℕ → ChangeRow
+change command place = record { command = command; place = place; dim = Product; durable = 1; day = 20240101; anchor = 0; values = [] }
+
+abbrev dim_row : ℕ → DimRow
+dim_row surrogate = record { surrogate = surrogate; durable = 1; natural = []; from_day = 19000101; to_day = 99991231; is_current = false; a = []; b = []; profile_now = 0 }
+
+abbrev profile : ℕ → ProfileRow
+profile number = record { number = number; values = [] }
+
+abbrev date : ℕ → DateRow
+date key = record {
+  date_key = key;
+  iso = [];
+  year = pos 0;
+  quarter = pos 0;
+  month = pos 0;
+  day = pos 0;
+  day_of_year = pos 0;
+  weekday = pos 0;
+  weekday_name = [];
+  weekend = false;
+  holiday = [];
+}
+
+abbrev keys : FactKeys
+keys = record { store_key = 1; product_key = 4; customer_key = 0; profile = 0 }
+
+abbrev fact : List ℕ → ℕ → Fact
+fact ticket line = record {
+  ticket = ticket;
+  line = line;
+  day = 20240101;
+  keys = keys;
+  store_durable = 1;
+  product_durable = 1;
+  customer_durable = 0;
+  quantity = pos 1;
+  amount = pos 1;
+  cost = pos 1;
+}
+
+-- a late record of a product: one row takes the place of another, a third one is split, and a sale gets other keys
+abbrev late_record : Edits
+late_record = record no_edits {
+  commands = Put (command 6) ∷ [];
+  changes = Put (change 6 1) ∷ [];
+  products = Put (dim_row 1) ∷ Remove 3 ∷ Put (dim_row 4) ∷ [];
+  facts = Rekey (record { ticket = codes "T1"; line = 1 }) keys ∷ [];
+}
+
+text_of_a_late_record : plan_text late_record ≡ codes "put command 6\nput change 6 1\nput product 1\nremove product 3\nput product 4\nrekey fact T1 1\nedits 6\n"
+unfolding digits
+text_of_a_late_record = refl
+
+-- a batch of sales that mentions a product and a customer first
+abbrev first_sale : Edits
+first_sale = record no_edits {
+  commands = Put (command 12) ∷ [];
+  members = Put (member Product 2) ∷ Put (member Customer 1) ∷ [];
+  products = Put (dim_row 9) ∷ [];
+  customers = Put (dim_row 1) ∷ [];
+  facts = Row (Put (fact (codes "T2") 1)) ∷ [];
+}
+
+text_of_a_first_sale : plan_text first_sale ≡ codes "put command 12\nput member 1 2\nput member 3 1\nput product 9\nput customer 1\nput fact T2 1\nedits 6\n"
+unfolding digits
+text_of_a_first_sale = refl
+
+-- the tables that the two have no edit of, and removals
+abbrev other_tables : Edits
+other_tables = record no_edits {
+  stores = Put (dim_row 10) ∷ [];
+  profiles = Put (profile 2) ∷ Remove 3 ∷ [];
+  calendar = Remove 20231231 ∷ Put (date 20240229) ∷ [];
+  facts = Row (Remove (record { ticket = codes "T-1"; line = 9999 })) ∷ [];
+}
+
+text_of_other_tables : plan_text other_tables ≡ codes "put store 10\nput profile 2\nremove profile 3\nremove calendar 20231231\nput calendar 20240229\nremove fact T-1 9999\nedits 6\n"
+unfolding digits
+text_of_other_tables = refl
+
+-- a batch that was accepted before
+text_of_none : plan_text no_edits ≡ codes "edits 0\n"
+unfolding digits
+text_of_none = refl
