@@ -1,5 +1,6 @@
 #!/usr/bin/env python3
-"""Times `wh load` of 5,000 sales, of 5,000 late product records and of 2,000 late customer records into a warehouse of 200,000 facts (build
+"""Times `wh load` of 5,000 sales, of 5,000 late product records and of 2,000 late customer records into a warehouse of 200,000 facts, and a
+migration there: one whose rows are all the same, and one that takes the tier of 2,000 customers out of their rows (build
 the program first: `rt run` in crates/wh). sales.py [PROGRAM]. Prints for each the least processor time of seven runs, less that of an open (a
 load that is refused for its id right after it), and the greatest memory of a run. The late records are of a day near the end, and move the
 facts since: some 2,700 of a product's, 900 of a customer's."""
@@ -69,12 +70,20 @@ def warehouse(folder):
     return path
 
 
-def least(folder, path, *words, told):
+def policy(folder, tier):
+    """The policy with another type of the customers' tier."""
+    path = os.path.join(folder, "newer.toml")
+    with open(POLICY, encoding="utf-8") as old, open(path, "w", encoding="utf-8") as new:
+        new.write(old.read().replace('name = "tier"\ntype = 2', f'name = "tier"\ntype = {tier}'))
+    return path
+
+
+def least(folder, path, word, *words, told):
     copy = os.path.join(folder, "copy.wh")
     best, memory = None, 0
     for _ in range(RUNS):
         shutil.copyfile(path, copy)
-        spent, most = run("load", copy, *words, told=told)
+        spent, most = run(word, copy, *words, told=told)
         best = spent if best is None else min(best, spent)
         memory = max(memory, most)
         os.remove(copy)
@@ -89,10 +98,13 @@ def main():
             ("5,000 late product records", "product", products(os.path.join(folder, "late.csv"), "2025-12-20", 1)),
             ("2,000 late customer records", "customer", customers(os.path.join(folder, "cards.csv"), "2025-12-20", 1)),
         )
-        opening, memory = least(folder, path, "sales", "bad id", batches[0][2], told="refused: E1")
+        opening, memory = least(folder, path, "load", "sales", "bad id", batches[0][2], told="refused: E1")
         print(f"an open of {os.path.getsize(path) / 1e6:.0f} MB: {opening:.3f} s, {memory:.0f} MB")
         for name, kind, batch in batches:
-            spent, memory = least(folder, path, kind, "new", batch, told="accepted")
+            spent, memory = least(folder, path, "load", kind, "new", batch, told="accepted")
+            print(f"{name}: {spent - opening:.3f} s more than an open, {memory:.0f} MB")
+        for name, tier in (("a migration to the same policy", 2), ("a migration of one type", 1)):
+            spent, memory = least(folder, path, "migrate", "new", policy(folder, tier), told="accepted")
             print(f"{name}: {spent - opening:.3f} s more than an open, {memory:.0f} MB")
 
 

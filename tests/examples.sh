@@ -45,6 +45,7 @@ line "already 2 p1: 3 records, 0 placeholders" 0 load "$work/shop.wh" product p1
 line "accepted 3 s1: 2 records, 1 placeholders" 0 load "$work/shop.wh" sales s1 examples/sales.csv
 line "refused: E11 not empty" 2 init "$work/shop.wh" examples/flat.toml
 line "$(printf 'format 1\ncommands 3\nchanges 3\nfacts 2\nmembers product 1 store 1 customer 0')" 0 status "$work/shop.wh"
+line "accepted 4 m1: 0 records, 0 placeholders" 0 migrate "$work/shop.wh" m1 examples/overwritten.toml
 line "failed: N1 not a warehouse" 3 status "$work/none.wh"
 line "failed: N1 not a warehouse" 3 load "$work/none.wh" product p1 examples/late.csv
 # A mistyped name leaves no file.

@@ -1,6 +1,5 @@
 -- The lists of commands that were admitted from the making on.
 use Rattle.std.proofs.Common.{◌≡◌, ℕ, List, [], ◌∷◌, ◌++◌, Result, Ok, Err, refl, sym, ap, subst, ◌∙◌, append_assoc}
-use Rattle.wh_batch.specs.declared.fault.BatchFault.{BatchFault}
 use Rattle.wh_history.specs.Accepted.{Accepted, Content}
 use Rattle.wh_history.specs.Tables.{Limits}
 use Rattle.wh_plan.specs.FirstRows.{making_of}
@@ -57,14 +56,14 @@ record IsReadFrom (making : Accepted) (commands : List Accepted) : Type 0 where
 
 module _ (making : Accepted) (limits : Limits) where
   module _ (commands : List Accepted) (c : Command) (from : IsReadFrom making commands) where
-    by_content : (r : Result Content BatchFault) → content_of c.kind (in_force commands) c.bytes ≡ r → IsReadFrom making (with_content commands c r)
+    by_content : (r : Result Content Refused) → content_of c.kind (in_force commands) c.bytes ≡ r → IsReadFrom making (with_content commands c r)
     by_content (Ok content) is = record {
       later = from.later ++ accepted_as c content ∷ [];
       begins = ap (λ (list : List Accepted). list ++ accepted_as c content ∷ []) from.begins;
       are = one_more_read (making ∷ []) from.later (accepted_as c content) from.are
           (subst (λ list. IsRead list (accepted_as c content)) from.begins (record { kind = c.kind; kind_is = refl; content_is = is }));
     }
-    by_content (Err fault) is = from
+    by_content (Err why) is = from
 
     by_answer : (r : Result Reply Refused) → IsReadFrom making (after_answer commands c r)
     by_answer (Ok (Accepts receipt)) = by_content (content_of c.kind (in_force commands) c.bytes) refl

@@ -9,33 +9,31 @@ use Rattle.wh_policy.specs.declared.policy.Policy.{Policy}
 use Rattle.wh_policy.specs.declared.record.DimensionRecord.{DimensionRecord}
 use Rattle.wh_policy.specs.declared.record.SaleRecord.{SaleRecord}
 use Rattle.wh_policy.specs.Written.{IsSound}
-use Rattle.wh_policy.proofs.FileLaws.{policies_are_sound}
-use Rattle.wh_batch.specs.Layouts.{dimension_records, sale_records}
 use Rattle.wh_batch.specs.declared.kind.Kind.TheVariants.{Dimension, Sales}
-use Rattle.wh_batch.specs.declared.kind.Format.TheVariants.{One}
-use Rattle.wh_batch.specs.declared.fault.BatchFault.{BatchFault}
 use Rattle.wh_history.specs.Keys.{at_place}
-use Rattle.wh_history.specs.Accepted.{Accepted, Content, Describes, Sells, policy_after, sold, sold_by, records_by, placeholders_by}
+use Rattle.wh_history.specs.Accepted.{Accepted, Content, Governs, Describes, Sells, policy_after, sold, sold_by, records_by, placeholders_by}
 use Rattle.wh_history.specs.Tables.{Limits}
 use Rattle.wh_history.proofs.Basics.{some_is}
 use Rattle.wh_rows.specs.declared.rows.CommandRow.{CommandRow}
 use Rattle.wh_rows.specs.Types.{is_key}
-use Rattle.wh_engine.specs.Admission.{kind_word, content_of, in_force, accepted_as, receipt_of, changes_in, first_line_there, number_past_lines, number_for, answer_with, when_read, by_id, answer, with_content, after_answer, accepted_after}
-use Rattle.wh_engine.specs.Decided.{reply_to_known, as_refused, records_told, sales_told, IsNew}
+use Rattle.wh_engine.specs.Admission.{command_word, records_told, sales_told, policy_told, content_of, in_force, accepted_as, receipt_of, changes_in, first_line_there, number_past_lines, number_for, answer_with, when_read, by_id, answer, with_content, after_answer, accepted_after}
+use Rattle.wh_engine.specs.Decided.{reply_to_known, IsNew}
 use Rattle.wh_plan.specs.Defined.{command_at}
 use Rattle.wh_engine.specs.Faults.{Judges}
 use Rattle.wh_plan.specs.Reading.{number_of, command_with}
 use Rattle.wh_plan.specs.Sound.{changes_kept, IsAccepted}
 use Rattle.wh_engine.specs.declared.command.Command.{Command}
+use Rattle.wh_engine.specs.declared.command.CommandKind.TheVariants.{Batch, Migration}
 use Rattle.wh_engine.specs.declared.fault.Fault.{Fault}
 use Rattle.wh_engine.specs.declared.fault.Fault.TheVariants as faults
 use Rattle.wh_engine.specs.declared.command.Receipt.{Receipt}
 use Rattle.wh_engine.specs.declared.command.Reply.TheVariants.{Accepted as Accepts, Already}
 use Rattle.wh_engine.specs.declared.command.Refused.{Refused}
-use Rattle.wh_engine.specs.declared.command.Refused.TheVariants.{BadId, Batch, LineThere, Full}
+use Rattle.wh_engine.specs.declared.command.Refused.TheVariants.{BadId, LineThere, Full}
 use Rattle.wh_engine.specs.declared.command.Limit.TheVariants.{Commands, Changes, Facts}
 use Rattle.wh_plan.proofs.FoundCommands.{stored, told, find_numbered}
 use Rattle.wh_plan.proofs.GrownKeys.{at_last}
+use Rattle.wh_engine.proofs.Migrated.{IsSoundIf, sound_after}
 use Rattle.wh_engine.proofs.StaysAccepted.{stays_accepted, had_number}
 
 -- ---- the room that there is
@@ -73,18 +71,6 @@ is_none (Some x) other = absurd (other x refl)
 -- a content without sales has no line that is there
 pub no_line : (commands : List Accepted) (content : Content) → sold_by content ≡ [] → first_line_there (sold commands) 1 (sold_by content) ≡ None
 no_line commands content none = ap (first_line_there (sold commands) 1) none
-
--- what was read, or the fault
-told_ok : {A : Type 0} (o : Result A BatchFault) (x : A) → as_refused o ≡ Ok x → o ≡ Ok x
-told_ok (Ok y) x same = ap Ok (read_same y x same)
-  where
-    read_same : {A : Type 0} (y x : A) → as_refused (Ok y) ≡ Ok x → y ≡ x
-    read_same y x h = cc
-told_ok (Err fault) x same = absurd cc
-
-told_err : {A : Type 0} (o : Result A BatchFault) (why : Refused) → as_refused o ≡ Err why → (fault : BatchFault) × (o ≡ Err fault) × (why ≡ Batch fault)
-told_err (Ok y) why same = absurd cc
-told_err (Err fault) why same = (fault, refl, cc)
 
 -- what is left below a limit
 below-limit : (b : Bool) (kept more limit left : ℕ) → left ≡ limit - kept → kept ≤ limit → leb (kept + more) limit ≡ b → leb more left ≡ b
@@ -135,15 +121,15 @@ module _ (limits : Limits) (commands : List Accepted) (c : Command) where
   pub bad_answer : is_key 40 c.id ≡ false → answer limits commands c ≡ Err BadId
   bad_answer bad = rw bad refl
 
-  -- ---- the batch's fault, and the room that there is
+  -- ---- why it is refused, and the room that there is
 
   abbrev after : Content → List Accepted
   after content = commands ++ accepted_as c content ∷ []
 
   module _ (good : is_key 40 c.id ≡ true) (new : IsNew commands c) where
-    -- the batch has a fault
-    pub fault_refused : (fault : BatchFault) → content_of c.kind (in_force commands) c.bytes ≡ Err fault → answer limits commands c ≡ Err (Batch fault)
-    fault_refused fault h = new_answer good new ∙ ap (when_read limits commands c) h
+    -- what it says is refused
+    content_refused : (why : Refused) → content_of c.kind (in_force commands) c.bytes ≡ Err why → answer limits commands c ≡ Err why
+    content_refused why h = new_answer good new ∙ ap (when_read limits commands c) h
 
     -- there is no number for it
     pub number_refused : (content : Content) (why : Refused) → content_of c.kind (in_force commands) c.bytes ≡ Ok content → number_for limits commands content ≡ Err why → answer limits commands c ≡ Err why
@@ -151,8 +137,8 @@ module _ (limits : Limits) (commands : List Accepted) (c : Command) where
 
     module _ (content : Content) (read : content_of c.kind (in_force commands) c.bytes ≡ Ok content) (next : ℕ) (room : number_for limits commands content ≡ Ok next) where
       -- it is accepted
-      pub batch_accepted : answer limits commands c ≡ Ok (Accepts (receipt_of (after content) next content))
-      batch_accepted = new_answer good new ∙ ap (when_read limits commands c) read ∙ ap (answer_with commands c content) room
+      pub command_accepted : answer limits commands c ≡ Ok (Accepts (receipt_of (after content) next content))
+      command_accepted = new_answer good new ∙ ap (when_read limits commands c) read ∙ ap (answer_with commands c content) room
 
       pub next_number : next ≡ suc (length commands)
       next_number = (had_number limits commands content next room).1
@@ -162,38 +148,41 @@ module _ (limits : Limits) (commands : List Accepted) (c : Command) where
       lines_new = (had_number limits commands content next room).0.lines_new
 
       pub list_accepted : IsAccepted limits commands → IsAccepted limits (commands ++ accepted_as c content ∷ [])
-      list_accepted accepted = subst (IsAccepted limits) (ap (after_answer commands c) batch_accepted ∙ ap (with_content commands c) read) (stays_accepted limits commands c accepted)
+      list_accepted accepted = subst (IsAccepted limits) (ap (after_answer commands c) command_accepted ∙ ap (with_content commands c) read) (stays_accepted limits commands c accepted)
 
       -- its receipt, and its row among the commands
       pub own_receipt : receipt_of (after content) next content ≡ record { number = next; records = records_by content; placeholders = placeholders_by (after content) next content }
       own_receipt = refl
 
-      pub own_row : command_at (after content) (suc (length commands)) ≡ Some (record { number = next; id = c.id; kind = kind_word c.kind; bytes = c.bytes; records = records_by content; placeholders = placeholders_by (after content) next content })
+      pub own_row : command_at (after content) (suc (length commands)) ≡ Some (record { number = next; id = c.id; kind = command_word c.kind; bytes = c.bytes; records = records_by content; placeholders = placeholders_by (after content) next content })
       own_row =
           let longer : suc (length commands) ≡ length (after content) = omega (arith, length-append commands (accepted_as c content ∷ [])) in
           ap (λ (n : ℕ). option_map (stored (suc (length commands))) (option_map (told (after content) (suc (length commands))) (at_place n (after content)))) longer
           ∙ ap (λ (o : Option Accepted). option_map (stored (suc (length commands))) (option_map (told (after content) (suc (length commands))) o)) (at_last commands (accepted_as c content))
-          ∙ ap (λ (n : ℕ). Some (record { number = n; id = c.id; kind = kind_word c.kind; bytes = c.bytes; records = records_by content; placeholders = placeholders_by (after content) n content })) (sym next_number)
+          ∙ ap (λ (n : ℕ). Some (record { number = n; id = c.id; kind = command_word c.kind; bytes = c.bytes; records = records_by content; placeholders = placeholders_by (after content) n content })) (sym next_number)
 
-    -- a batch of records, and one of sales
+    -- a batch of records, one of sales, and a migration
 
-    module _ (dim : Dim) (kind : c.kind ≡ Dimension dim) where
+    module _ (dim : Dim) (kind : c.kind ≡ Batch (Dimension dim)) where
       pub records_content : (records : List DimensionRecord) → records_told dim (in_force commands) c.bytes ≡ Ok records → content_of c.kind (in_force commands) c.bytes ≡ Ok (Describes dim records)
-      records_content records read = ap (λ k. content_of k (in_force commands) c.bytes) kind ∙ rw (told_ok (dimension_records dim (in_force commands) One c.bytes) records read) refl
+      records_content records read = ap (λ k. content_of k (in_force commands) c.bytes) kind ∙ ap (λ o. o >>= λ records. Ok (Describes dim records)) read
 
       pub records_refused : (why : Refused) → records_told dim (in_force commands) c.bytes ≡ Err why → answer limits commands c ≡ Err why
-      records_refused why read =
-          let (fault, is, same) = told_err (dimension_records dim (in_force commands) One c.bytes) why read in
-          fault_refused fault (ap (λ k. content_of k (in_force commands) c.bytes) kind ∙ ap (λ o. o >>= λ records. Ok (Describes dim records)) is) ∙ ap Err (sym same)
+      records_refused why read = content_refused why (ap (λ k. content_of k (in_force commands) c.bytes) kind ∙ ap (λ o. o >>= λ records. Ok (Describes dim records)) read)
 
-    module _ (kind : c.kind ≡ Sales) where
+    module _ (kind : c.kind ≡ Batch Sales) where
       pub sales_content : (sales : List SaleRecord) → sales_told (in_force commands) c.bytes ≡ Ok sales → content_of c.kind (in_force commands) c.bytes ≡ Ok (Sells sales)
-      sales_content sales read = ap (λ k. content_of k (in_force commands) c.bytes) kind ∙ rw (told_ok (sale_records (in_force commands) One c.bytes) sales read) refl
+      sales_content sales read = ap (λ k. content_of k (in_force commands) c.bytes) kind ∙ ap (λ o. o >>= λ sales. Ok (Sells sales)) read
 
       pub sales_refused : (why : Refused) → sales_told (in_force commands) c.bytes ≡ Err why → answer limits commands c ≡ Err why
-      sales_refused why read =
-          let (fault, is, same) = told_err (sale_records (in_force commands) One c.bytes) why read in
-          fault_refused fault (ap (λ k. content_of k (in_force commands) c.bytes) kind ∙ ap (λ o. o >>= λ sales. Ok (Sells sales)) is) ∙ ap Err (sym same)
+      sales_refused why read = content_refused why (ap (λ k. content_of k (in_force commands) c.bytes) kind ∙ ap (λ o. o >>= λ sales. Ok (Sells sales)) read)
+
+    module _ (kind : c.kind ≡ Migration) where
+      pub policy_content : (newer : Policy) → policy_told (in_force commands) c.bytes ≡ Ok newer → content_of c.kind (in_force commands) c.bytes ≡ Ok (Governs newer)
+      policy_content newer read = ap (λ k. content_of k (in_force commands) c.bytes) kind ∙ ap (λ o. o >>= λ newer. Ok (Governs newer)) read
+
+      pub policy_refused : (why : Refused) → policy_told (in_force commands) c.bytes ≡ Err why → answer limits commands c ≡ Err why
+      policy_refused why read = content_refused why (ap (λ k. content_of k (in_force commands) c.bytes) kind ∙ ap (λ o. o >>= λ newer. Ok (Governs newer)) read)
 
   -- ---- the list after a command
 
@@ -216,9 +205,7 @@ policy_in_force commands some = by_option (policy_after None commands) some
 
 -- and it is sound
 pub sound_in_force : (limits : Limits) (commands : List Accepted) → IsAccepted limits commands → IsSound (in_force commands)
-sound_in_force limits commands accepted =
-    let same : accepted.begun.policy ≡ in_force commands = some_is _ _ (sym accepted.begun.kept ∙ policy_in_force commands accepted.governed) in
-    subst IsSound same (policies_are_sound accepted.begun.bytes accepted.begun.policy accepted.begun.written)
+sound_in_force limits commands accepted = subst IsSoundIf (policy_in_force commands accepted.governed) (sound_after None commands tt accepted.policies)
 
 -- ---- an answer that was judged
 

@@ -16,9 +16,11 @@ pub mod Performing
 pub mod OpenedTables
 pub mod OpenedStored
 pub mod FoundFacts
+pub mod FoundPolicy
 pub mod FoundCounts
 pub mod Reopened
 pub mod Receipts
 pub mod Redelivered
 pub mod MayWorked
+pub mod Migrated
 pub mod SalesPremises

@@ -72,7 +72,8 @@ accepted written = record {
   facts_within = omega arith;
   few_a_batch = omega arith;
   few_sales_a_batch = omega arith;
-  begun = record { policy = policy; bytes = codes "policy"; rest = record { id = codes "p1"; kind = codes "product"; bytes = codes "first"; content = Describes Product (told ∷ []) } ∷ []; making = refl; written = written; kept = refl };
+  begun = record { policy = policy; bytes = codes "policy"; rest = record { id = codes "p1"; kind = codes "product"; bytes = codes "first"; content = Describes Product (told ∷ []) } ∷ []; making = refl; written = written };
+  policies = ((refl, written), (refl, tt));
   governed = refl;
   six = few_slots;
   ids = (refl, (refl, tt));

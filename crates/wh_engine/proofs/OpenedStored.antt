@@ -6,18 +6,19 @@ use Rattle.wh_policy.specs.declared.policy.Policy.{Policy}
 use Rattle.wh_policy.specs.declared.fault.PolicyFault.{PolicyFault}
 use Rattle.wh_history.specs.Tables.{Limits}
 use Rattle.wh_rows.specs.Rows as row
-use Rattle.wh_rows.specs.Raw.{Stored, AreRows}
+use Rattle.wh_rows.specs.Firsts.{last_one}
+use Rattle.wh_rows.specs.Raw.{Stored, AreAsked}
 use Rattle.wh_rows.specs.declared.cause.Cause.{Cause}
 use Rattle.wh_rows.specs.declared.table.Table.TheVariants as tables
 use Rattle.wh_rows.specs.declared.rows.CommandRow.{CommandRow}
-use Rattle.wh_store.specs.Reads.{ReadsOnly, Spares, IsOfDamage, SparesStore as RefusesNothing}
+use Rattle.wh_store.specs.Reads.{ReadsOnly, Spares, IsOfAskedDamage, SparesStore as RefusesNothing}
 use Rattle.wh_sql.specs.declared.fault.ReadFault.{ReadFault}
 use Rattle.wh_sql.specs.declared.fault.ReadFault.TheVariants as reading
 use Rattle.wh_store.specs.Opening.{SparesStore, unread}
 use Rattle.wh_store.specs.Raw.{FormatIs, LimitsAre, IsRefusedOn, IsLimitless}
 use Rattle.wh_store.specs.declared.fault.OpenFault.{OpenFault}
 use Rattle.wh_store.specs.declared.fault.OpenFault.TheVariants as faults
-use Rattle.wh_engine.specs.Opened.{of_policy, of_making, makings_stored, IsTold, PolicyIs, IsPolicyless, IsSessionless, IsUnopened}
+use Rattle.wh_engine.specs.Opened.{of_policy, of_command, policies_stored, IsTold, PolicyIs, IsPolicyless, IsSessionless, IsUnopened}
 
 -- ---- what is left
 
@@ -45,38 +46,38 @@ unlimited_spares old new why reads = record {
   leaves = reads.leaves;
 }
 
--- ---- a making that gives no policy
+-- ---- a command that gives no policy
 
 bytes_fault : (r : Result Policy PolicyFault) (fault : OpenFault) → of_policy r ≡ Err fault → fault ≡ faults.Damaged tables.Command
 bytes_fault (Ok policy) fault is = cc
 bytes_fault (Err e) fault is = cc
 
-making_fault : (making : Option CommandRow) (fault : OpenFault) → of_making making ≡ Err fault → fault ≡ faults.Damaged tables.Command
-making_fault None fault is = cc
-making_fault (Some row) fault is = bytes_fault (policy_at row.bytes) fault is
+command_fault : (command : Option CommandRow) (fault : OpenFault) → of_command command ≡ Err fault → fault ≡ faults.Damaged tables.Command
+command_fault None fault is = cc
+command_fault (Some row) fault is = bytes_fault (policy_at row.bytes) fault is
 
 module _ (stored : Stored) where
   -- ---- the policy
 
-  pub policy_said : (rows : List CommandRow) (result : Result Policy OpenFault) → AreRows row.command (makings_stored stored) rows → IsTold result (of_making (slice_get rows 0)) → IfOk result (λ policy. PolicyIs stored (Ok policy))
+  pub policy_said : (rows : List CommandRow) (result : Result Policy OpenFault) → AreAsked (Some last_one) row.command (policies_stored stored) rows → IsTold result (of_command (slice_get rows 0)) → IfOk result (λ policy. PolicyIs stored (Ok policy))
   policy_said rows (Ok policy) are told = (rows, are, told)
   policy_said rows (Err fault) are told = tt
 
-  pub no_policy : (rows : List CommandRow) (result : Result Policy OpenFault) → AreRows row.command (makings_stored stored) rows → IsTold result (of_making (slice_get rows 0)) → IfErr result (IsPolicyless stored)
+  pub no_policy : (rows : List CommandRow) (result : Result Policy OpenFault) → AreAsked (Some last_one) row.command (policies_stored stored) rows → IsTold result (of_command (slice_get rows 0)) → IfErr result (IsPolicyless stored)
   no_policy rows (Ok policy) are told = tt
-  no_policy rows (Err faults.NotAWarehouse) are told = let never = making_fault (slice_get rows 0) faults.NotAWarehouse told in cc
-  no_policy rows (Err faults.OldFormat) are told = let never = making_fault (slice_get rows 0) faults.OldFormat told in cc
-  no_policy rows (Err faults.NewFormat) are told = let never = making_fault (slice_get rows 0) faults.NewFormat told in cc
+  no_policy rows (Err faults.NotAWarehouse) are told = let never = command_fault (slice_get rows 0) faults.NotAWarehouse told in cc
+  no_policy rows (Err faults.OldFormat) are told = let never = command_fault (slice_get rows 0) faults.OldFormat told in cc
+  no_policy rows (Err faults.NewFormat) are told = let never = command_fault (slice_get rows 0) faults.NewFormat told in cc
   no_policy rows (Err (faults.Damaged table)) are told =
-      let is = making_fault (slice_get rows 0) (faults.Damaged table) told in
+      let is = command_fault (slice_get rows 0) (faults.Damaged table) told in
       (cc is, inl (rows, are, told ∙ ap Err is))
   no_policy rows (Err faults.Memory) are told = tt
   no_policy rows (Err (faults.Store cause)) are told = tt
 
-  pub makings_unread : (why : ReadFault) → IsOfDamage row.command tables.Command (makings_stored stored) why → IsPolicyless stored (unread why)
-  makings_unread reading.Memory damage = tt
-  makings_unread (reading.Damaged table) damage = (damage.0, inr damage.1)
-  makings_unread (reading.Store cause) damage = tt
+  pub policy_unread : (why : ReadFault) → IsOfAskedDamage (Some last_one) row.command tables.Command (policies_stored stored) why → IsPolicyless stored (unread why)
+  policy_unread reading.Memory damage = tt
+  policy_unread (reading.Damaged table) damage = (damage.0, inr damage.1)
+  policy_unread (reading.Store cause) damage = tt
 
   -- ---- the session
 

@@ -1,7 +1,6 @@
 -- What an engine reads when it opens a warehouse.
-use Rattle.std.proofs.Common.{◌≡◌, ◌≢◌, ◌⊎◌, inl, inr, ℕ, Bool, true, false, List, [], ◌∷◌, slice_get, Option, Some, None, Result, Ok, Err, OnOk, refl, sym, ap, ◌∙◌}
+use Rattle.std.proofs.Common.{◌≡◌, ◌≢◌, ◌⊎◌, inl, inr, ℕ, Bool, true, false, List, [], ◌∷◌, filter, slice_get, Option, Some, None, Result, Ok, Err, OnOk, refl, sym, ap, ◌∙◌}
 use Rattle.std.specs.Prelude.{codes, pos}
-use Rattle.std.specs.Option.{option_to_list}
 use Rattle.sqlite.specs.Tree.{Trees}
 use Rattle.sqlite.specs.State.{State}
 use Rattle.wh_policy.specs.Policy.{policy_at}
@@ -10,6 +9,8 @@ use Rattle.wh_history.specs.Accepted.{Accepted}
 use Rattle.wh_history.specs.Tables.{Limits}
 use Rattle.wh_history.proofs.Basics.{some_is}
 use Rattle.wh_rows.specs.AtRest.{AreTrees, IsAtRest, Leaves}
+use Rattle.wh_rows.specs.Firsts.{last_one, part}
+use Rattle.wh_rows.specs.Questions.{gives_policy}
 use Rattle.wh_rows.specs.Limits.{limits_of, are_limits}
 use Rattle.wh_rows.specs.Tables.{Tables}
 use Rattle.wh_rows.specs.declared.cause.Cause.{Cause}
@@ -25,14 +26,14 @@ use Rattle.wh_store.specs.declared.fault.OpenFault.{OpenFault}
 use Rattle.wh_engine.specs.Admission.{in_force, AreAdmitted}
 use Rattle.wh_engine.specs.Answered.{Rests, IsReady}
 use Rattle.wh_plan.specs.Defined.{AreOf, meta_at}
-use Rattle.wh_plan.specs.Reading.{command_with}
 use Rattle.wh_plan.specs.FirstRows.{making_of}
-use Rattle.wh_engine.specs.Opened.{making_in, of_limits, of_policy, of_making, session_in, opened, IsTold, IsRead, IsNotOpened, LeavesMaking, LeavesMade}
+use Rattle.wh_engine.specs.Opened.{last_policy_in, of_limits, of_policy, of_command, session_in, opened, IsTold, IsRead, IsNotOpened, LeavesMaking, LeavesMade}
 use Rattle.wh_plan.specs.Sound.{IsAccepted}
 use Rattle.wh_store.specs.declared.fault.OpenFault.TheVariants as faults
 use Rattle.wh_engine.specs.declared.session.Session.{Session}
 use Rattle.wh_engine.proofs.Decisions.{policy_in_force}
-use Rattle.wh_plan.proofs.FoundCommands.{command_of}
+use Rattle.wh_plan.proofs.FoundCommands.{command_rows}
+use Rattle.wh_engine.proofs.FoundPolicy.{first_taken, last_gives}
 
 -- ---- readings in turn
 
@@ -60,11 +61,11 @@ module _ (t : Tables) where
   unfolding session_in
   limits_fault e is = rw is refl
 
-  pub policy_fault : (limits : Limits) (e : OpenFault) → of_limits (limits_in t) ≡ Ok limits → of_making (making_in t) ≡ Err e → session_in t ≡ Err e
+  pub policy_fault : (limits : Limits) (e : OpenFault) → of_limits (limits_in t) ≡ Ok limits → of_command (last_policy_in t) ≡ Err e → session_in t ≡ Err e
   unfolding session_in
   policy_fault limits e first is = rw (first, is) refl
 
-  pub session_is : (limits : Limits) (policy : Policy) → of_limits (limits_in t) ≡ Ok limits → of_making (making_in t) ≡ Ok policy → session_in t ≡ Ok (record { limits = limits; policy = policy; must_reopen = false })
+  pub session_is : (limits : Limits) (policy : Policy) → of_limits (limits_in t) ≡ Ok limits → of_command (last_policy_in t) ≡ Ok policy → session_in t ≡ Ok (record { limits = limits; policy = policy; must_reopen = false })
   unfolding session_in
   session_is limits policy first second = rw (first, second) refl
 
@@ -124,21 +125,15 @@ module _ (limits : Limits) (commands : List Accepted) (t : Tables) (accepted : I
       let facts_max = number_there (codes "facts_max") (record { name = codes "facts_max"; value = pos limits.facts }) refl in
       rw (commands_max, changes_max, facts_max) (limits_if (are_limits limits) refl accepted.limited)
 
-  abbrev making : CommandRow
-  making = record { number = 1; id = codes "init"; kind = codes "init"; bytes = accepted.begun.bytes; records = 0; placeholders = 0 }
-
-  making_stored : command_with commands (codes "init") ≡ Some making
-  making_stored = ap (λ (cs : List Accepted). command_with cs (codes "init")) accepted.begun.making
-
-  making_there : making_in t ≡ Some making
-  making_there =
-      ap (λ (rows : List CommandRow). slice_get rows 0) (command_of limits commands t are accepted.distinct (codes "init"))
-      ∙ ap (λ (o : Option CommandRow). slice_get (option_to_list o) 0) making_stored
-
-  policy_there : of_making (making_in t) ≡ Ok (in_force commands)
-  policy_there =
-      let same : accepted.begun.policy ≡ in_force commands = some_is _ _ (sym accepted.begun.kept ∙ policy_in_force commands accepted.governed) in
-      ap of_making making_there ∙ ap of_policy accepted.begun.written ∙ ap Ok same
+  -- the last command that gives a policy gives the one in force
+  policy_there : of_command (last_policy_in t) ≡ Ok (in_force commands)
+  policy_there = elim (last_gives commands accepted.policies) [
+    | inl none ↦ let never : None ≡ Some (in_force commands) = sym none.1 ∙ policy_in_force commands accepted.governed in cc
+    | inr found ↦
+        let there : last_policy_in t ≡ Some found.0 = ap (λ (rows : List CommandRow). slice_get (part (Some last_one) (filter (λ (r : CommandRow). gives_policy r.kind) rows)) 0) (command_rows limits commands t are) ∙ first_taken _ ∙ found.2 in
+        let same : found.1 ≡ in_force commands = some_is _ _ (sym found.4 ∙ policy_in_force commands accepted.governed) in
+        ap of_command there ∙ ap of_policy found.3 ∙ ap Ok same
+  ]
 
   pub opened_there : opened t ≡ Ok (record { limits = limits; policy = in_force commands; must_reopen = false })
   opened_there = format_known t format_there ∙ session_is t limits (in_force commands) (ap of_limits limits_there) policy_there

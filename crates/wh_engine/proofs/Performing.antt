@@ -1,18 +1,17 @@
 -- What is left of a command that was decided, written or refused.
-use Rattle.std.proofs.Common.{◌≡◌, ◌⊎◌, inl, inr, ℕ, false, List, [], ◌∷◌, ◌++◌, Some, None, Result, Ok, Err, refl, sym, ap, subst, ◌∙◌}
+use Rattle.std.proofs.Common.{◌≡◌, ◌⊎◌, inl, inr, ℕ, false, List, [], ◌∷◌, ◌++◌, Option, Some, None, Result, Ok, Err, refl, sym, ap, subst, ◌∙◌}
 use Rattle.std.specs.Prelude.{unwrap_or}
 use Rattle.sqlite.specs.Tree.{Trees}
 use Rattle.sqlite.specs.State.{State}
 use Rattle.wh_policy.specs.Policy.{trial_policy}
-use Rattle.wh_history.specs.Accepted.{Accepted}
-use Rattle.wh_history.specs.Laws.{governs}
+use Rattle.wh_policy.specs.declared.policy.Policy.{Policy}
+use Rattle.wh_history.specs.Accepted.{Accepted, policy_after}
 use Rattle.wh_history.specs.Tables.{Limits}
-use Rattle.wh_history.proofs.Stays.{policy_last}
 use Rattle.wh_rows.specs.AtRest.{AreTrees, IsAtRest, Leaves}
 use Rattle.wh_rows.specs.Tables.{Tables}
 use Rattle.wh_engine.specs.Admission.{accepted_as, answer, accepted_after, in_force, AreAdmitted}
 use Rattle.wh_engine.specs.Answered.{AreTreesOf, LeavesOneOf, IsReady, IsAnswered, IsPerformed, IsWritten, IsForeseen, IsForetold}
-use Rattle.wh_engine.specs.Decided.{IsHeld, AreEditsOf, Decides}
+use Rattle.wh_engine.specs.Decided.{IsHeld, IsWorkOf, Decides}
 use Rattle.wh_plan.specs.Defined.{AreOf}
 use Rattle.wh_engine.specs.Faults.{IsServed, Judges, stops}
 use Rattle.wh_plan.specs.Edits.{Edits, AreEdits, no_edits, edit_count, with_all_edits}
@@ -28,8 +27,9 @@ use Rattle.wh_engine.specs.declared.fault.Fault.{Fault}
 use Rattle.wh_engine.specs.declared.fault.Fault.TheVariants as faults
 use Rattle.wh_engine.specs.declared.session.Session.{Session}
 use Rattle.wh_engine.proofs.Decisions.{judged_ok, after_repeat, after_accepted}
-use Rattle.wh_plan.proofs.MayBatch.{a_batch_may_be_written}
-use Rattle.wh_engine.proofs.StaysAccepted.{content_good, stays_accepted}
+use Rattle.wh_plan.proofs.MayBeWritten.{a_command_may_be_written}
+use Rattle.wh_engine.proofs.Migrated.{policy_with, newer_in_force}
+use Rattle.wh_engine.proofs.StaysAccepted.{stays_accepted}
 use Rattle.wh_engine.proofs.Admitted.{admitted_sound, admitted_after}
 use Rattle.wh_plan.proofs.WrittenEdits.{edits_are_written, exact_edits_are_one, no_edits_stay}
 
@@ -89,48 +89,61 @@ module _ (limits : Limits) (commands : List Accepted) (c : Command) (session : S
 
   -- ---- it is accepted
 
-  module _ (receipt : Receipt) (edits : Edits) (judged : Judges (Decides commands c) (Ok (Accept receipt edits)) (answer session.limits commands c)) where
-    abbrev decided : (reply : Reply) × (answer session.limits commands c ≡ Ok reply) × Decides commands c (Accept receipt edits) reply
-    decided = judged_ok (Decides commands c) (Accept receipt edits) (answer session.limits commands c) judged
+  module _ (receipt : Receipt) (edits : Edits) (newer : Option Policy) (judged : Judges (Decides commands c) (Ok (Accept receipt edits newer)) (answer session.limits commands c)) where
+    abbrev decided : (reply : Reply) × (answer session.limits commands c ≡ Ok reply) × Decides commands c (Accept receipt edits newer) reply
+    decided = judged_ok (Decides commands c) (Accept receipt edits newer) (answer session.limits commands c) judged
 
     said : answer limits commands c ≡ Ok (Accepts receipt)
     said = ap (λ l. answer l commands c) (sym limits_are) ∙ decided.1 ∙ ap Ok decided.2.0
 
-    abbrev batch : AreEditsOf commands c edits
-    batch = decided.2.1
+    abbrev work : IsWorkOf commands c edits newer
+    work = decided.2.1
 
     abbrev added : Accepted
-    added = accepted_as c batch.content
+    added = accepted_as c work.content
 
     list_is : accepted_after limits commands c ≡ commands ++ added ∷ []
-    list_is = after_accepted limits commands c receipt batch.content said batch.read
+    list_is = after_accepted limits commands c receipt work.content said work.read
 
     accepted : IsAccepted limits (commands ++ added ∷ [])
     accepted = subst (IsAccepted limits) list_is (stays_accepted limits commands c sound)
 
-    is_batch : governs added.content ≡ false
-    is_batch = (content_good limits commands c sound batch.content batch.read).batch
-
     pub may_write : MayBeWritten edits
-    may_write = a_batch_may_be_written limits commands added tables edits is_batch accepted ready.rests.are batch.edits_are
+    may_write = a_command_may_be_written limits commands added tables edits accepted ready.rests.are work.edits_are
 
     written : AreOf limits (commands ++ added ∷ []) (with_all_edits edits tables)
-    written = edits_are_written limits commands (commands ++ added ∷ []) tables edits ready.rests.are batch.edits_are
+    written = edits_are_written limits commands (commands ++ added ∷ []) tables edits ready.rests.are work.edits_are
 
     pub accept_foreseen : (new : State) → IsAtRest (Some tables) new → IsForeseen limits commands c (Ok edits) session new
-    accept_foreseen new rests = ((Accepts receipt, said), subst (λ list. AreEdits commands list edits) (sym list_is) batch.edits_are, still_ready new rests)
+    accept_foreseen new rests = ((Accepts receipt, said), subst (λ list. AreEdits commands list edits) (sym list_is) work.edits_are, still_ready new rests)
+
+    -- the policy that it gives, or else the one before, is in force
+    now_in_force : unwrap_or newer (in_force commands) ≡ in_force (commands ++ added ∷ [])
+    now_in_force =
+        ap (λ o. unwrap_or o (in_force commands)) work.newer_is ∙ sym (newer_in_force (policy_after None commands) work.content trial_policy)
+        ∙ ap (λ o. unwrap_or o trial_policy) (sym (policy_with None commands added))
+
+    abbrev governed : Session
+    governed = record { limits = session.limits; policy = unwrap_or newer session.policy; must_reopen = session.must_reopen }
+
+    governed_is : governed ≡ record { limits = limits; policy = in_force (commands ++ added ∷ []); must_reopen = false }
+    governed_is =
+        ap (λ (s : Session). record { limits = s.limits; policy = unwrap_or newer s.policy; must_reopen = s.must_reopen }) ready.session_is
+        ∙ ap (λ (policy : Policy). record { limits = limits; policy = policy; must_reopen = false }) now_in_force
 
     -- its edits were kept
-    pub accept_performed : (new : State) → IsAtRest (Some (with_all_edits edits tables)) new → IsPerformed limits commands c (Ok (Accepts receipt)) session new
+    pub accept_performed : (new : State) → IsAtRest (Some (with_all_edits edits tables)) new → IsPerformed limits commands c (Ok (Accepts receipt)) governed new
     accept_performed new rests =
-        let governed : in_force (commands ++ added ∷ []) ≡ in_force commands = ap (λ o. unwrap_or o trial_policy) (policy_last None commands added is_batch) in
-        let kept : session ≡ record { limits = limits; policy = in_force (commands ++ added ∷ []); must_reopen = false } = rw governed ready.session_is in
-        let after : IsReady limits (commands ++ added ∷ []) session new = record { admitted = subst (AreAdmitted limits) list_is (admitted_after limits commands c ready.admitted); rests = record { tables = with_all_edits edits tables; are = written; rests = rests }; session_is = kept } in
+        let after : IsReady limits (commands ++ added ∷ []) governed new = record {
+          admitted = subst (AreAdmitted limits) list_is (admitted_after limits commands c ready.admitted);
+          rests = record { tables = with_all_edits edits tables; are = written; rests = rests };
+          session_is = governed_is;
+        } in
         (said, rw list_is after)
 
     pub writes_counted : (writes : ℕ) → writes ≡ edit_count edits → IsWritten limits commands c (Ok (Accepts receipt)) writes
     writes_counted writes counted other exact =
-        let own : AreEdits commands (accepted_after limits commands c) edits = subst (λ list. AreEdits commands list edits) (sym list_is) batch.edits_are in
+        let own : AreEdits commands (accepted_after limits commands c) edits = subst (λ list. AreEdits commands list edits) (sym list_is) work.edits_are in
         counted ∙ ap edit_count (exact_edits_are_one commands (accepted_after limits commands c) edits other own exact)
 
     -- or the store refused them

@@ -3,12 +3,11 @@ use Rattle.std.proofs.Common.{◌≡◌, ℕ, suc, true, false, cond, List, [], 
 use Rattle.std.specs.Prelude.{find, bytes_eq}
 use Rattle.std.proofs.lemmas.Slice.Eq.{bytes_eq-Decides}
 use Rattle.wh_engine.proofs.StaysAccepted.{receipt_is}
-use Rattle.wh_batch.specs.declared.fault.BatchFault.{BatchFault}
 use Rattle.wh_history.specs.Accepted.{Accepted, Content}
 use Rattle.wh_history.specs.Keys.{place, after_one}
 use Rattle.wh_history.specs.Tables.{Limits}
 use Rattle.wh_rows.specs.Types.{is_key}
-use Rattle.wh_engine.specs.Admission.{kind_word, content_of, in_force, accepted_as, receipt_of, when_read, answer, with_content, after_answer, accepted_after}
+use Rattle.wh_engine.specs.Admission.{command_word, content_of, in_force, accepted_as, receipt_of, when_read, answer, with_content, after_answer, accepted_after}
 use Rattle.wh_engine.specs.Redelivered.{receipt_told, HasReceipt}
 use Rattle.wh_engine.specs.declared.command.Command.{Command}
 use Rattle.wh_engine.specs.declared.command.Receipt.{Receipt}
@@ -38,7 +37,7 @@ module _ (limits : Limits) (commands : List Accepted) (c : Command) where
       → answer limits (commands ++ accepted_as c content ∷ []) c ≡ Ok reply → HasReceipt limits commands c reply
   again_with content receipt reply told good new is again =
       let id = (bytes_eq-Decides c.id c.id).1 refl in
-      let kind = (bytes_eq-Decides (kind_word c.kind) (kind_word c.kind)).1 refl in
+      let kind = (bytes_eq-Decides (command_word c.kind) (command_word c.kind)).1 refl in
       let bytes = (bytes_eq-Decides c.bytes c.bytes).1 refl in
       let there = find_last (λ (a : Accepted). bytes_eq a.id c.id) (accepted_as c content) commands new id in
       let after = commands ++ accepted_as c content ∷ [] in
@@ -52,9 +51,9 @@ module _ (limits : Limits) (commands : List Accepted) (c : Command) where
         same = ap receipt_told (sym reply_is) ∙ ap (λ n. receipt_of after n content) (placed_last c.id commands (accepted_as c content) new id) ∙ receipt_is limits commands c content receipt read;
       }
 
-  by_content : (read : Result Content BatchFault) (receipt : Receipt) (reply : Reply) → content_of c.kind (in_force commands) c.bytes ≡ read → is_key 40 c.id ≡ true → found ≡ None → answer limits commands c ≡ Ok (Accepts receipt)
+  by_content : (read : Result Content Refused) (receipt : Receipt) (reply : Reply) → content_of c.kind (in_force commands) c.bytes ≡ read → is_key 40 c.id ≡ true → found ≡ None → answer limits commands c ≡ Ok (Accepts receipt)
       → answer limits (with_content commands c read) c ≡ Ok reply → HasReceipt limits commands c reply
-  by_content (Err fault) receipt reply told good new is again = same_reply reply again
+  by_content (Err why) receipt reply told good new is again = same_reply reply again
   by_content (Ok content) receipt reply told good new is again = again_with content receipt reply told good new is again
 
   by_answer : (a : Result Reply Refused) (reply : Reply) → answer limits commands c ≡ a → answer limits (after_answer commands c a) c ≡ Ok reply → HasReceipt limits commands c reply
@@ -71,14 +70,14 @@ module _ (limits : Limits) (commands : List Accepted) (c : Command) where
   not_refused : (content : Content) (why : Refused) → is_key 40 c.id ≡ true → found ≡ None → answer limits (commands ++ accepted_as c content ∷ []) c ≡ Err why → answer limits commands c ≡ Err why
   not_refused content why good new again =
       let id = (bytes_eq-Decides c.id c.id).1 refl in
-      let kind = (bytes_eq-Decides (kind_word c.kind) (kind_word c.kind)).1 refl in
+      let kind = (bytes_eq-Decides (command_word c.kind) (command_word c.kind)).1 refl in
       let bytes = (bytes_eq-Decides c.bytes c.bytes).1 refl in
       let there = find_last (λ (a : Accepted). bytes_eq a.id c.id) (accepted_as c content) commands new id in
       let known = rw (good, there, kind, bytes) at again in
       absurd cc
 
-  refused_content : (read : Result Content BatchFault) (why : Refused) → is_key 40 c.id ≡ true → found ≡ None → answer limits (with_content commands c read) c ≡ Err why → answer limits commands c ≡ Err why
-  refused_content (Err fault) why good new again = again
+  refused_content : (read : Result Content Refused) (why : Refused) → is_key 40 c.id ≡ true → found ≡ None → answer limits (with_content commands c read) c ≡ Err why → answer limits commands c ≡ Err why
+  refused_content (Err other) why good new again = again
   refused_content (Ok content) why good new again = not_refused content why good new again
 
   refused_by : (a : Result Reply Refused) (why : Refused) → answer limits commands c ≡ a → answer limits (after_answer commands c a) c ≡ Err why → answer limits commands c ≡ Err why

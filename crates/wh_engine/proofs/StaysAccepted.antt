@@ -1,5 +1,5 @@
--- An accepted batch leaves the list of commands one that can have been accepted.
-use Rattle.std.proofs.Common.{◌≡◌, ℕ, suc, ◌+◌, ◌*◌, ◌≤◌, ◌<◌, Bool, true, false, cond, leb, ltb, ◌||◌, List, [], ◌∷◌, ◌++◌, length, map, Option, Some, None, Result, Ok, Err, refl, sym, ap, ◌∙◌, arith, append-nil}
+-- An accepted command leaves the list of commands one that can have been accepted.
+use Rattle.std.proofs.Common.{◌≡◌, ℕ, suc, ◌+◌, ◌*◌, ◌≤◌, ◌<◌, Bool, true, false, cond, leb, ltb, ◌||◌, List, [], ◌∷◌, ◌++◌, length, map, Option, Some, None, Result, Ok, Err, refl, sym, ap, subst, ◌∙◌, arith, append-nil}
 use Rattle.std.specs.Prelude.{find, bytes_eq, IsSome, unwrap_or, option_map}
 use Rattle.std.specs.List.{AllByRecursion, IsDistinct, list_any}
 use Rattle.std.proofs.lemmas.Bool.{leb-false, ltb-false}
@@ -14,26 +14,27 @@ use Rattle.wh_policy.specs.declared.record.DimensionRecord.{DimensionRecord}
 use Rattle.wh_policy.specs.declared.record.SaleRecord.{SaleRecord}
 use Rattle.wh_batch.specs.Layouts.{dimension_records, sale_records}
 use Rattle.wh_batch.specs.declared.fault.BatchFault.{BatchFault}
-use Rattle.wh_batch.specs.declared.kind.Kind.{Kind}
 use Rattle.wh_batch.specs.declared.kind.Kind.TheVariants.{Dimension, Sales}
 use Rattle.wh_batch.specs.declared.kind.Format.TheVariants.{One}
 use Rattle.wh_batch.proofs.GoodLemmas.{bind_ok, cond_ok}
 use Rattle.wh_history.specs.Accepted.{Accepted, Content, Governs, Describes, Sells, policy_after, described, described_by, sold, sold_by, same_dim}
-use Rattle.wh_history.specs.Laws.{governs}
 use Rattle.wh_history.specs.Tables.{Limits}
 use Rattle.wh_history.proofs.Joins.{all_append}
-use Rattle.wh_history.proofs.Stays.{policy_last, types-last}
 use Rattle.wh_history.proofs.Untouched.{described-last}
+use Rattle.wh_rows.specs.Questions.{gives_policy}
 use Rattle.wh_rows.specs.Types.{is_key, is_kind}
-use Rattle.wh_engine.specs.Admission.{kind_word, content_of, in_force, accepted_as, receipt_of, changes_in, first_line_there, number_past_lines, number_for, answer_with, when_read, answer, with_content, after_answer, accepted_after, AcceptedListsStaySound}
-use Rattle.wh_plan.specs.Sound.{IsGoodRecord, IsGoodSale, same_line, changes_kept, IsAccepted}
+use Rattle.wh_engine.specs.Admission.{command_word, of_batch, records_told, sales_told, policy_told, content_of, in_force, accepted_as, receipt_of, changes_in, first_line_there, number_past_lines, number_for, answer_with, when_read, answer, with_content, after_answer, accepted_after, AcceptedListsStaySound}
+use Rattle.wh_plan.specs.Sound.{IsGoodRecord, IsGoodSale, same_line, changes_kept, GivesPolicy, IsAccepted}
 use Rattle.wh_engine.specs.declared.command.Command.{Command}
+use Rattle.wh_engine.specs.declared.command.CommandKind.{CommandKind}
+use Rattle.wh_engine.specs.declared.command.CommandKind.TheVariants.{Batch, Migration}
 use Rattle.wh_engine.specs.declared.command.Receipt.{Receipt}
 use Rattle.wh_engine.specs.declared.command.Reply.{Reply}
 use Rattle.wh_engine.specs.declared.command.Reply.TheVariants.{Accepted as Accepts, Already}
 use Rattle.wh_engine.specs.declared.command.Refused.{Refused}
 use Rattle.wh_engine.specs.declared.command.Refused.TheVariants.{Full}
 use Rattle.wh_engine.specs.declared.command.Limit.TheVariants.{Commands, Changes, Facts}
+use Rattle.wh_engine.proofs.Migrated.{HasSix, IsTaken, policy_taken, policy_with, still_governed, still_six}
 use Rattle.wh_engine.proofs.Repeats.{new_id}
 use Rattle.wh_engine.proofs.GoodRecords.{good_records, few_records}
 use Rattle.wh_engine.proofs.GoodSales.{good_sales, few_sales, sales_once}
@@ -91,11 +92,10 @@ all_new before number (s ∷ sales) none =
       | false ↦ λ is h. (is, all_new before (suc number) sales h)
     ] refl none
 
--- ---- one batch more
+-- ---- one command more
 
--- a content that a batch can hold: few good records, or few good sales of which no two have one line
+-- a content that a command can hold: few good records, or few good sales of which no two have one line
 pub record IsGoodContent (content : Content) : Type 0 where
-  pub batch : governs content ≡ false
   pub few : changes_in content ≤ 5000
   pub few_sales : length (sold_by content) ≤ 5000
   pub records : (dim : Dim) → AllByRecursion IsGoodRecord (described_by dim content)
@@ -114,7 +114,7 @@ counted (Describes Store records) = omega arith
 counted (Describes Customer records) = omega arith
 counted (Sells sales) = omega arith
 
-module _ (limits : Limits) (commands : List Accepted) (c : Accepted) (accepted : IsAccepted limits commands) (good : IsGoodContent c.content) where
+module _ (limits : Limits) (commands : List Accepted) (c : Accepted) (accepted : IsAccepted limits commands) (good : IsGoodContent c.content) (gives : GivesPolicy c.kind c.bytes c.content) where
   abbrev after : List Accepted
   after = commands ++ c ∷ []
 
@@ -132,9 +132,9 @@ module _ (limits : Limits) (commands : List Accepted) (c : Accepted) (accepted :
   sold_more : sold after ≡ sold commands ++ sold_by c.content
   sold_more = flat_map-append (λ (d : Accepted). sold_by d.content) commands (c ∷ []) ∙ ap (λ ss. sold commands ++ ss) (append-nil (sold_by c.content))
 
-  pub batch_added : is_key 40 c.id ≡ true → is_kind c.kind ≡ true → find (λ (a : Accepted). bytes_eq a.id c.id) commands ≡ None
+  pub command_added : is_key 40 c.id ≡ true → is_kind c.kind ≡ true → find (λ (a : Accepted). bytes_eq a.id c.id) commands ≡ None
       → length commands < limits.commands → changes_kept commands + changes_in c.content ≤ limits.changes → length (sold commands) + length (sold_by c.content) ≤ limits.facts → AreNew (sold commands) (sold_by c.content) → IsAccepted limits after
-  batch_added id kind new room changes facts lines =
+  command_added id kind new room changes facts lines =
       let longer_by_one = length-append commands (c ∷ []) in
       let few_before = accepted.few_a_batch in
       let few_sold = accepted.few_sales_a_batch in
@@ -157,10 +157,10 @@ module _ (limits : Limits) (commands : List Accepted) (c : Accepted) (accepted :
           rest = accepted.begun.rest ++ c ∷ [];
           making = ap (λ cs. cs ++ c ∷ []) accepted.begun.making;
           written = accepted.begun.written;
-          kept = policy_last None commands c good.batch ∙ accepted.begun.kept;
         };
-        governed = rw (policy_last None commands c good.batch) accepted.governed;
-        six = λ other. rw (types-last other commands c good.batch) (accepted.six other);
+        policies = all_append (λ a. GivesPolicy a.kind a.bytes a.content) commands (c ∷ []) accepted.policies (gives, tt);
+        governed = subst IsSome (sym (policy_with None commands c)) (still_governed (policy_after None commands) c.content accepted.governed);
+        six = λ other. subst (HasSix other) (sym (policy_with None commands c)) (still_six other (policy_after None commands) c.kind c.bytes c.content gives (accepted.six other));
         ids = all_append (λ a. is_key 40 a.id ≡ true) commands (c ∷ []) accepted.ids (id, tt);
         kinds = all_append (λ a. is_kind a.kind ≡ true) commands (c ∷ []) accepted.kinds (kind, tt);
         distinct = rw (map-append (λ (a : Accepted). a.id) commands (c ∷ [])) (distinct_last bytes_eq (map (λ (a : Accepted). a.id) commands) c.id (unknown c.id commands new) accepted.distinct);
@@ -176,11 +176,12 @@ in_force_six : (dim : Dim) (o : Option Policy) (other : Policy) → IsSome o →
 in_force_six dim None other some six = absurd cc
 in_force_six dim (Some policy) other some six = omega (arith, length-map (attributes_of policy dim) (λ (a : Attribute). a.kind))
 
-kind_known : (kind : Kind) → is_kind (kind_word kind) ≡ true
-kind_known (Dimension Product) = refl
-kind_known (Dimension Store) = refl
-kind_known (Dimension Customer) = refl
-kind_known Sales = refl
+kind_known : (kind : CommandKind) → is_kind (command_word kind) ≡ true
+kind_known (Batch (Dimension Product)) = refl
+kind_known (Batch (Dimension Store)) = refl
+kind_known (Batch (Dimension Customer)) = refl
+kind_known (Batch Sales) = refl
+kind_known Migration = refl
 
 -- there was room for what was accepted, and no line of it was there
 pub record HasRoom (limits : Limits) (commands : List Accepted) (content : Content) : Type 0 where
@@ -217,43 +218,71 @@ module _ (limits : Limits) (commands : List Accepted) (c : Command) (content : C
       let told = was_numbered (number_for limits commands content) h in
       ap (λ n. receipt_of (commands ++ accepted_as c content ∷ []) n content) (sym (had_number limits commands content told.0 told.1).1) ∙ told.2
 
--- what was read is good
-good_content : (kind : Kind) (policy : Policy) (bytes : List ℕ) (content : Content) → ((dim : Dim) → length (attributes_of policy dim) ≤ 6) → content_of kind policy bytes ≡ Ok content → IsGoodContent content
+batch_ok : {A : Type 0} (o : Result A BatchFault) (x : A) → of_batch o ≡ Ok x → o ≡ Ok x
+batch_ok (Ok y) x h = let e : y ≡ x = cc in ap Ok e
+batch_ok (Err fault) x h = absurd cc
+
+no_policy : (dim : Dim) → gives_policy (command_word (Batch (Dimension dim))) ≡ false
+no_policy Product = refl
+no_policy Store = refl
+no_policy Customer = refl
+
+-- what was read of a command is good, and gives a policy as its word says
+pub record IsWell (word bytes : List ℕ) (content : Content) : Type 0 where
+  pub good : IsGoodContent content
+  pub gives : GivesPolicy word bytes content
+
+well : (kind : CommandKind) (policy : Policy) (bytes : List ℕ) (content : Content) → ((dim : Dim) → length (attributes_of policy dim) ≤ 6) → content_of kind policy bytes ≡ Ok content → IsWell (command_word kind) bytes content
 unfolding IsDistinct
-good_content (Dimension dim) policy bytes content six told =
-    let (records, read, last) = bind_ok (dimension_records dim policy One bytes) _ content told in
+well (Batch (Dimension dim)) policy bytes content six told =
+    let (records, given, last) = bind_ok (records_told dim policy bytes) (λ records. Ok (Describes dim records)) content told in
+    let read = batch_ok (dimension_records dim policy One bytes) records given in
     let e : Describes dim records ≡ content = cc in
     let good = good_records dim policy bytes records (six dim) read in
     rw (← e) (record {
-      batch = refl;
-      few = few_records dim policy bytes records read;
-      few_sales = omega arith;
-      records = λ other. all_if IsGoodRecord (same_dim other dim) records good;
-      sales = tt;
-      lines = tt;
+      good = record {
+        few = few_records dim policy bytes records read;
+        few_sales = omega arith;
+        records = λ other. all_if IsGoodRecord (same_dim other dim) records good;
+        sales = tt;
+        lines = tt;
+      };
+      gives = no_policy dim;
     })
-good_content Sales policy bytes content six told =
-    let (sales, read, last) = bind_ok (sale_records policy One bytes) _ content told in
+well (Batch Sales) policy bytes content six told =
+    let (sales, given, last) = bind_ok (sales_told policy bytes) (λ sales. Ok (Sells sales)) content told in
+    let read = batch_ok (sale_records policy One bytes) sales given in
     let e : Sells sales ≡ content = cc in
     rw (← e) (record {
-      batch = refl;
-      few = omega arith;
-      few_sales = few_sales policy bytes sales read;
-      records = λ other. tt;
-      sales = good_sales policy bytes sales read;
-      lines = sales_once policy bytes sales read;
+      good = record {
+        few = omega arith;
+        few_sales = few_sales policy bytes sales read;
+        records = λ other. tt;
+        sales = good_sales policy bytes sales read;
+        lines = sales_once policy bytes sales read;
+      };
+      gives = refl;
+    })
+well Migration policy bytes content six told =
+    let (newer, read, last) = bind_ok (policy_told policy bytes) (λ newer. Ok (Governs newer)) content told in
+    let e : Governs newer ≡ content = cc in
+    let taken = policy_taken policy bytes newer read in
+    rw (← e) (record {
+      good = record { few = omega arith; few_sales = omega arith; records = λ other. tt; sales = tt; lines = tt };
+      gives = (refl, taken.written);
     })
 
 module _ (limits : Limits) (commands : List Accepted) (c : Command) (accepted : IsAccepted limits commands) where
-  pub content_good : (content : Content) → content_of c.kind (in_force commands) c.bytes ≡ Ok content → IsGoodContent content
-  content_good content told = good_content c.kind (in_force commands) c.bytes content (λ dim. in_force_six dim (policy_after None commands) _ accepted.governed (accepted.six dim)) told
+  content_well : (content : Content) → content_of c.kind (in_force commands) c.bytes ≡ Ok content → IsWell (command_word c.kind) c.bytes content
+  content_well content told = well c.kind (in_force commands) c.bytes content (λ dim. in_force_six dim (policy_after None commands) _ accepted.governed (accepted.six dim)) told
 
-  by_content : (read : Result Content BatchFault) (receipt : Receipt) → content_of c.kind (in_force commands) c.bytes ≡ read → is_key 40 c.id ≡ true → find (λ (a : Accepted). bytes_eq a.id c.id) commands ≡ None
+  by_content : (read : Result Content Refused) (receipt : Receipt) → content_of c.kind (in_force commands) c.bytes ≡ read → is_key 40 c.id ≡ true → find (λ (a : Accepted). bytes_eq a.id c.id) commands ≡ None
       → when_read limits commands c read ≡ Ok (Accepts receipt) → IsAccepted limits (with_content commands c read)
-  by_content (Err fault) receipt told good new h = accepted
+  by_content (Err why) receipt told good new h = accepted
   by_content (Ok content) receipt told good new h =
       let room = had_room limits commands c content receipt h in
-      batch_added limits commands (accepted_as c content) accepted (content_good content told) good (kind_known c.kind) new room.commands_left room.changes_left room.facts_left (all_new (sold commands) 1 (sold_by content) room.lines_new)
+      let read = content_well content told in
+      command_added limits commands (accepted_as c content) accepted read.good read.gives good (kind_known c.kind) new room.commands_left room.changes_left room.facts_left (all_new (sold commands) 1 (sold_by content) room.lines_new)
 
   by_answer : (a : Result Reply Refused) → answer limits commands c ≡ a → IsAccepted limits (after_answer commands c a)
   by_answer (Ok (Already receipt)) said = accepted

@@ -15,16 +15,17 @@ use Rattle.wh_history.specs.Accepted.{Accepted, Governs, Describes, Sells}
 use Rattle.wh_history.specs.Tables.{Limits}
 use Rattle.wh_engine.specs.Admission.{answer, accepted_after}
 use Rattle.wh_engine.specs.declared.command.Command.{Command}
+use Rattle.wh_engine.specs.declared.command.CommandKind.TheVariants.{Batch}
 use Rattle.wh_engine.specs.declared.command.Receipt.{Receipt}
 use Rattle.wh_engine.specs.declared.command.Reply.TheVariants.{Accepted as Accepts, Already}
-use Rattle.wh_engine.specs.declared.command.Refused.TheVariants.{BadId, Reused, Batch, LineThere, Full}
+use Rattle.wh_engine.specs.declared.command.Refused.TheVariants.{BadId, Reused, Batch as BadBatch, LineThere, Full}
 use Rattle.wh_engine.specs.declared.command.Limit.TheVariants.{Commands, Changes}
 
 abbrev limits : ℕ → ℕ → ℕ → Limits
 limits commands changes facts = record { commands = commands; changes = changes; facts = facts }
 
 abbrev sent : List ℕ → Kind → List ℕ → Command
-sent id kind bytes = record { id = id; kind = kind; bytes = bytes }
+sent id kind bytes = record { id = id; kind = Batch kind; bytes = bytes }
 
 abbrev receipt : ℕ → ℕ → ℕ → Receipt
 receipt number records placeholders = record { number = number; records = records; placeholders = placeholders }
@@ -72,7 +73,7 @@ blank_in_the_id = refl
 no_id : answer (limits 9 9 9) making (sent [] (Dimension Product) header) ≡ Err BadId
 no_id = refl
 
-no_bytes : answer (limits 9 9 9) making (sent (codes "p00") (Dimension Product) []) ≡ Err (Batch (at 0 WrongHeader))
+no_bytes : answer (limits 9 9 9) making (sent (codes "p00") (Dimension Product) []) ≡ Err (BadBatch (at 0 WrongHeader))
 unfolding batch_on_literals
 no_bytes = refl
 
@@ -81,7 +82,7 @@ unfolding batch_on_literals
 full_of_commands = refl
 
 -- a batch that isn't one is refused for that, full or not
-fault_first : answer (limits 2 9 9) with_p0 (sent (codes "p1") (Dimension Product) []) ≡ Err (Batch (at 0 WrongHeader))
+fault_first : answer (limits 2 9 9) with_p0 (sent (codes "p1") (Dimension Product) []) ≡ Err (BadBatch (at 0 WrongHeader))
 unfolding batch_on_literals
 fault_first = refl
 

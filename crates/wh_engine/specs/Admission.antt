@@ -1,13 +1,16 @@
 -- The answer to a command, and the list of those that are accepted.
-use Rattle.std.specs.Prelude.{◌≡◌, ⊤, true, ℕ, suc, ◌+◌, ◌&&◌, nat_le, nat_lt, cond, List, [], ◌∷◌, ◌++◌, length, map, find, Option, Some, None, unwrap_or, bytes_eq, Result, Ok, Err}
+use Rattle.std.specs.Prelude.{◌≡◌, ⊤, true, ℕ, suc, ◌+◌, ◌&&◌, nat_le, nat_lt, cond, codes, List, [], ◌∷◌, ◌++◌, length, map, find, Option, Some, None, unwrap_or, bytes_eq, Result, Ok, Err}
 use Rattle.std.specs.List.{list_any}
 use Rattle.wh_day.specs.Reading.{◌>>=◌}
+use Rattle.wh_policy.specs.Names.{fits}
 use Rattle.wh_policy.specs.Policy.{trial_policy, policy_at}
+use Rattle.wh_policy.specs.declared.attribute.Dim.{Dim}
+use Rattle.wh_policy.specs.declared.fault.PolicyFault.{PolicyFault}
 use Rattle.wh_policy.specs.declared.policy.Policy.{Policy}
+use Rattle.wh_policy.specs.declared.record.DimensionRecord.{DimensionRecord}
 use Rattle.wh_policy.specs.declared.record.SaleRecord.{SaleRecord}
-pub use Rattle.wh_batch.specs.Kind.{kind_word}
+use Rattle.wh_batch.specs.Kind.{kind_word}
 use Rattle.wh_batch.specs.Layouts.{dimension_records, sale_records}
-use Rattle.wh_batch.specs.declared.kind.Kind.{Kind}
 use Rattle.wh_batch.specs.declared.kind.Kind.TheVariants.{Dimension, Sales}
 use Rattle.wh_batch.specs.declared.kind.Format.TheVariants.{One}
 use Rattle.wh_batch.specs.declared.fault.BatchFault.{BatchFault}
@@ -19,25 +22,53 @@ use Rattle.wh_rows.specs.Limits.{are_limits}
 use Rattle.wh_plan.specs.FirstRows.{making_of}
 use Rattle.wh_plan.specs.Sound.{IsAccepted, changes_kept, same_line}
 use Rattle.wh_engine.specs.declared.command.Command.{Command}
+use Rattle.wh_engine.specs.declared.command.CommandKind.{CommandKind}
+use Rattle.wh_engine.specs.declared.command.CommandKind.TheVariants.{Batch, Migration}
 use Rattle.wh_engine.specs.declared.command.Receipt.{Receipt}
 use Rattle.wh_engine.specs.declared.command.Reply.{Reply}
 use Rattle.wh_engine.specs.declared.command.Reply.TheVariants.{Accepted as Accepts, Already}
 use Rattle.wh_engine.specs.declared.command.Refused.{Refused}
-use Rattle.wh_engine.specs.declared.command.Refused.TheVariants.{BadId, Reused, Batch, LineThere, Full}
+use Rattle.wh_engine.specs.declared.command.Refused.TheVariants.{BadId, Reused, Batch as BadBatch, Policy as BadPolicy, Unfit, LineThere, Full}
 use Rattle.wh_engine.specs.declared.command.Limit.TheVariants.{Commands, Changes, Facts}
 
 -- the policy in force; a list of accepted commands begins with a making, so it has one
 abbrev pub in_force : List Accepted → Policy
 in_force commands = unwrap_or (policy_after None commands) trial_policy
 
--- what the bytes of a batch say under a policy, or their first fault
-abbrev pub content_of : Kind → Policy → List ℕ → Result Content BatchFault
-content_of (Dimension dim) policy bytes = dimension_records dim policy One bytes >>= λ records. Ok (Describes dim records)
-content_of Sales policy bytes = sale_records policy One bytes >>= λ sales. Ok (Sells sales)
+-- the word for what a command is
+abbrev pub command_word : CommandKind → List ℕ
+command_word (Batch kind) = kind_word kind
+command_word Migration = codes "migrate"
+
+-- what was read of a batch, or its first fault
+abbrev pub of_batch : {A : Type 0} → Result A BatchFault → Result A Refused
+of_batch (Ok read) = Ok read
+of_batch (Err fault) = Err (BadBatch fault)
+
+abbrev pub records_told : Dim → Policy → List ℕ → Result (List DimensionRecord) Refused
+records_told dim policy bytes = of_batch (dimension_records dim policy One bytes)
+
+abbrev pub sales_told : Policy → List ℕ → Result (List SaleRecord) Refused
+sales_told policy bytes = of_batch (sale_records policy One bytes)
+
+-- what was read of a policy file, or its first fault
+abbrev pub of_file : Result Policy PolicyFault → Result Policy Refused
+of_file (Ok policy) = Ok policy
+of_file (Err fault) = Err (BadPolicy fault)
+
+-- the policy that takes the place of another: the one that the bytes write, where it fits
+abbrev pub policy_told : Policy → List ℕ → Result Policy Refused
+policy_told older bytes = of_file (policy_at bytes) >>= λ newer. cond (fits older newer) (Ok newer) (Err Unfit)
+
+-- what the bytes of a command say under a policy, or why they are refused
+abbrev pub content_of : CommandKind → Policy → List ℕ → Result Content Refused
+content_of (Batch (Dimension dim)) policy bytes = records_told dim policy bytes >>= λ records. Ok (Describes dim records)
+content_of (Batch Sales) policy bytes = sales_told policy bytes >>= λ sales. Ok (Sells sales)
+content_of Migration policy bytes = policy_told policy bytes >>= λ newer. Ok (Governs newer)
 
 -- a command with what it says
 abbrev pub accepted_as : Command → Content → Accepted
-accepted_as c content = record { id = c.id; kind = kind_word c.kind; bytes = c.bytes; content = content }
+accepted_as c content = record { id = c.id; kind = command_word c.kind; bytes = c.bytes; content = content }
 
 -- the receipt of a command of the list
 abbrev pub receipt_of : List Accepted → ℕ → Content → Receipt
@@ -72,13 +103,13 @@ abbrev pub answer_with : List Accepted → Command → Content → Result ℕ Re
 answer_with commands c content (Ok number) = Ok (Accepts (receipt_of (commands ++ accepted_as c content ∷ []) number content))
 answer_with commands c content (Err why) = Err why
 
-abbrev pub when_read : Limits → List Accepted → Command → Result Content BatchFault → Result Reply Refused
-when_read limits commands c (Err fault) = Err (Batch fault)
+abbrev pub when_read : Limits → List Accepted → Command → Result Content Refused → Result Reply Refused
+when_read limits commands c (Err why) = Err why
 when_read limits commands c (Ok content) = answer_with commands c content (number_for limits commands content)
 
 -- a command whose id is known comes again where kind and bytes are the same too, and has the receipt that was kept
 abbrev pub receipt_again : (kind bytes : List ℕ) → Command → Receipt → Result Receipt Refused
-receipt_again kind bytes c kept = cond (bytes_eq kind (kind_word c.kind) && bytes_eq bytes c.bytes) (Ok kept) (Err Reused)
+receipt_again kind bytes c kept = cond (bytes_eq kind (command_word c.kind) && bytes_eq bytes c.bytes) (Ok kept) (Err Reused)
 
 -- and the answer with it
 abbrev pub already : Result Receipt Refused → Result Reply Refused
@@ -97,9 +128,9 @@ abbrev pub answer : Limits → List Accepted → Command → Result Reply Refuse
 answer limits commands c = cond (is_key 40 c.id) (by_id limits commands c (find (λ (a : Accepted). bytes_eq a.id c.id) commands)) (Err BadId)
 
 -- the list with what was read of a command
-abbrev pub with_content : List Accepted → Command → Result Content BatchFault → List Accepted
+abbrev pub with_content : List Accepted → Command → Result Content Refused → List Accepted
 with_content commands c (Ok content) = commands ++ accepted_as c content ∷ []
-with_content commands c (Err fault) = commands
+with_content commands c (Err why) = commands
 
 -- the list after a command: with it where it is accepted
 abbrev pub after_answer : List Accepted → Command → Result Reply Refused → List Accepted
@@ -110,7 +141,7 @@ after_answer commands c (Err why) = commands
 abbrev pub accepted_after : Limits → List Accepted → Command → List Accepted
 accepted_after limits commands c = after_answer commands c (answer limits commands c)
 
--- After a batch, accepted or not, the list of accepted commands is again one that a warehouse can have accepted.
+-- After a command, accepted or not, the list of accepted commands is again one that a warehouse can have accepted.
 abbrev pub AcceptedListsStaySound : Type 0
 AcceptedListsStaySound = (limits : Limits) (commands : List Accepted) (c : Command) → IsAccepted limits commands → IsAccepted limits (accepted_after limits commands c)
 
@@ -136,8 +167,8 @@ AdmittedListsAreSound = (limits : Limits) (commands : List Accepted) → AreAdmi
 
 -- what the command says is what its kind and bytes give under the policy that was in force before it
 pub record IsRead (before : List Accepted) (a : Accepted) : Type 0 where
-  pub kind : Kind
-  pub kind_is : a.kind ≡ kind_word kind
+  pub kind : CommandKind
+  pub kind_is : a.kind ≡ command_word kind
   pub content_is : content_of kind (in_force before) a.bytes ≡ Ok a.content
 
 -- so it is of each command that came after these

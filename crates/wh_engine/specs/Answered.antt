@@ -11,6 +11,7 @@ use Rattle.wh_engine.specs.Admission.{in_force, answer, accepted_after, AreAdmit
 use Rattle.wh_plan.specs.Defined.{AreOf}
 use Rattle.wh_plan.specs.Edits.{Edits, AreEdits, edit_count}
 use Rattle.wh_plan.specs.Sound.{changes_kept}
+use Rattle.wh_engine.specs.Faults.{stops}
 use Rattle.wh_engine.specs.declared.command.Command.{Command}
 use Rattle.wh_engine.specs.declared.command.Reply.{Reply}
 use Rattle.wh_engine.specs.declared.command.Reply.TheVariants as replies
@@ -86,6 +87,12 @@ abbrev pub IsNotAccepted : Result Reply Fault → Type 0
 IsNotAccepted (Ok (replies.Accepted receipt)) = ⊥
 IsNotAccepted (Ok (replies.Already receipt)) = ⊤
 IsNotAccepted (Err fault) = ⊤
+
+-- A call that was worked on notes whether the store refused it. The limits stay, and so does the policy where nothing was accepted.
+pub record IsNoted (old new : Session) (result : Result Reply Fault) : Type 0 where
+  pub flag : new.must_reopen ≡ stops result
+  pub limits : new.limits ≡ old.limits
+  pub policy : IsNotAccepted result → new.policy ≡ old.policy
 
 -- as many keys are written as there are edits that lead from the tables of the commands to those of the list after the command; none where it isn't accepted
 abbrev pub IsWritten : Limits → List Accepted → Command → Result Reply Fault → ℕ → Type 0

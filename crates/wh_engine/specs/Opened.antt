@@ -13,11 +13,11 @@ use Rattle.wh_history.specs.Tables.{Limits}
 use Rattle.wh_rows.specs.AtRest.{AreTrees, IsAtRest, Leaves}
 use Rattle.wh_rows.specs.Tables.{Tables}
 use Rattle.wh_rows.specs.Rows as row
-use Rattle.wh_rows.specs.Raw.{Stored, AreRows, HasDamage}
-use Rattle.wh_rows.specs.Questions.{has_id}
+use Rattle.wh_rows.specs.Firsts.{last_one, part}
+use Rattle.wh_rows.specs.Raw.{Stored, AreAsked, HasAskedDamage}
+use Rattle.wh_rows.specs.Questions.{gives_policy, has_policy}
 use Rattle.wh_rows.specs.declared.rows.CommandRow.{CommandRow}
 use Rattle.wh_rows.specs.declared.table.Table.TheVariants as tables
-use Rattle.wh_store.specs.Reads.{same_text}
 use Rattle.wh_store.specs.Meta.{number_in, fault_of, limits_in}
 use Rattle.wh_store.specs.Raw.{FormatIs, LimitsAre, IsRefusedOn, IsLimitless}
 use Rattle.wh_sql.specs.declared.fault.ReadFault.TheVariants as reading
@@ -29,31 +29,28 @@ use Rattle.wh_engine.specs.declared.opening.InitFault.TheVariants as init
 use Rattle.wh_store.specs.declared.fault.OpenFault.TheVariants as faults
 use Rattle.wh_engine.specs.declared.session.Session.{Session}
 
--- the rows with the making's id, and the first of them
-abbrev pub makings_in : Tables → List CommandRow
-makings_in t = filter (λ r. same_text (codes "init") r.id) (values t.command)
-
-abbrev pub making_in : Tables → Option CommandRow
-making_in t = slice_get (makings_in t) 0
+-- the last command that gives a policy, where one does
+abbrev pub last_policy_in : Tables → Option CommandRow
+last_policy_in t = slice_get (part (Some last_one) (filter (λ r. gives_policy r.kind) (values t.command))) 0
 
 -- the limits, or meta is damaged
 abbrev pub of_limits : Option Limits → Result Limits OpenFault
 of_limits (Some limits) = Ok limits
 of_limits None = Err (faults.Damaged tables.Meta)
 
--- the policy that the making's bytes give, or command is damaged
+-- the policy that a command's bytes give, or command is damaged
 abbrev pub of_policy : Result Policy PolicyFault → Result Policy OpenFault
 of_policy (Ok policy) = Ok policy
 of_policy (Err fault) = Err (faults.Damaged tables.Command)
 
-abbrev pub of_making : Option CommandRow → Result Policy OpenFault
-of_making (Some row) = of_policy (policy_at row.bytes)
-of_making None = Err (faults.Damaged tables.Command)
+abbrev pub of_command : Option CommandRow → Result Policy OpenFault
+of_command (Some row) = of_policy (policy_at row.bytes)
+of_command None = Err (faults.Damaged tables.Command)
 
 -- What an engine has to know of tables that are opened, or the first fault that is met.
 unfoldable pub session_in : Tables → Result Session OpenFault
 session_in t =
-    of_limits (limits_in t) >>= λ limits. of_making (making_in t) >>= λ policy. Ok (record { limits = limits; policy = policy; must_reopen = false })
+    of_limits (limits_in t) >>= λ limits. of_command (last_policy_in t) >>= λ policy. Ok (record { limits = limits; policy = policy; must_reopen = false })
 
 unfoldable pub opened : Tables → Result Session OpenFault
 opened t = fault_of (number_in t (codes "format")) >>= λ _. session_in t
@@ -71,19 +68,19 @@ IsRead result told t s = IsTold result told × IsAtRest (Some t) s
 
 -- ---- the same, whoever wrote the rows
 
--- the rows that are stored under the making's id
-abbrev pub makings_stored : Stored → List Row
-makings_stored stored = filter (has_id (codes "init")) (stored tables.Command)
+-- the stored rows of commands that give a policy
+abbrev pub policies_stored : Stored → List Row
+policies_stored stored = filter has_policy (stored tables.Command)
 
--- none of them is damaged, and this is what the first gives
+-- the last of them isn't damaged, and this is what it gives, or they are none
 abbrev pub PolicyIs : Stored → Result Policy OpenFault → Type 0
-PolicyIs stored policy = (makings : List CommandRow) × AreRows row.command (makings_stored stored) makings × (of_making (slice_get makings 0) ≡ policy)
+PolicyIs stored policy = (last : List CommandRow) × AreAsked (Some last_one) row.command (policies_stored stored) last × (of_command (slice_get last 0) ≡ policy)
 
--- there is no policy in force, with this fault: no row gives one, or one of the rows is damaged; or memory ran out, or the store refused a call
+-- there is no policy in force, with this fault: the last of them gives none, or they are none, or the last is damaged; or memory ran out, or the store refused a call
 abbrev pub IsPolicyless : Stored → OpenFault → Type 0
 IsPolicyless stored faults.Memory = ⊤
 IsPolicyless stored (faults.Store cause) = ⊤
-IsPolicyless stored (faults.Damaged table) = (table ≡ tables.Command) × (PolicyIs stored (Err (faults.Damaged tables.Command)) ⊎ HasDamage row.command (makings_stored stored))
+IsPolicyless stored (faults.Damaged table) = (table ≡ tables.Command) × (PolicyIs stored (Err (faults.Damaged tables.Command)) ⊎ HasAskedDamage (Some last_one) row.command (policies_stored stored))
 IsPolicyless stored fault = ⊥
 
 -- what an engine has to know of what is stored

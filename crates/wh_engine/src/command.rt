@@ -1,15 +1,41 @@
 //! Commands, and what is answered to them.
 
+ghost use Rattle.std.specs.Prelude.{◌≡◌};
+ghost use Rattle.wh_engine.specs.Admission.{command_word};
+
 use sqlite_value::value::Bytes;
 use wh_batch::{BatchFault, Kind};
 use wh_day::Value;
+use wh_policy::PolicyFault;
 
-/// A batch as it is sent, under a name that its sender gives it.
+/// What a command is.
+#[derive(Clone, Copy, Debug, PartialEq, Eq)]
+pub enum CommandKind {
+    /// A batch of records.
+    Batch(Kind),
+    /// A new policy, which is in force from then on.
+    Migration,
+}
+
+impl CommandKind {
+    /// The word for it, among the commands that are kept: that of the batch, or `migrate`.
+    pub fn word(self) -> &'static str
+        ensures { result.now ≡ command_word self }
+    {
+        match self {
+            CommandKind::Batch(kind) => kind.word(),
+            CommandKind::Migration => "migrate",
+        }
+    }
+}
+
+/// A batch or a policy as it is sent, under a name that its sender gives it.
 #[derive(Debug, Drop)]
 pub struct Command {
     /// What the sender calls it. The same command may come again under the same id.
     pub id: Value,
-    pub kind: Kind,
+    pub kind: CommandKind,
+    /// The batch, or the policy file.
     pub bytes: Bytes,
 }
 
@@ -48,6 +74,10 @@ pub enum Refused {
     Reused,
     /// The batch has this fault.
     Batch(BatchFault),
+    /// The policy has this fault.
+    Policy(PolicyFault),
+    /// The policy doesn't fit the one in force: a name or a year is lost, or a name stands in another slot.
+    Unfit,
     /// The first sale, from 1, whose ticket and line are those of a stored fact.
     LineThere(u64),
     /// A limit of the warehouse is reached, or would be passed.

@@ -6,8 +6,9 @@ ghost use Rattle.wh_policy.specs.Written.{IsSound};
 ghost use Rattle.wh_history.specs.Accepted.{Accepted, Sells, placeholders_by, policy_after, sold};
 ghost use Rattle.wh_rows.specs.Raw.{Stored};
 ghost use Rattle.wh_rows.specs.Types.{is_key};
-ghost use Rattle.wh_engine.specs.Admission.{answer, content_of, first_line_there, in_force};
-ghost use Rattle.wh_engine.specs.Decided.{records_told, sales_told, row_of_batch, IsNew, reply_to_known, Decides};
+ghost use Rattle.wh_engine.specs.Admission.{answer, content_of, first_line_there, in_force, policy_told, records_told, sales_told};
+ghost use Rattle.wh_engine.specs.Decided.{row_of_command, IsNew, reply_to_known, Decides};
+ghost use Rattle.wh_engine.specs.declared.command.CommandKind.TheVariants.{Batch, Migration};
 ghost use Rattle.wh_plan.specs.Defined.{command_at};
 ghost use Rattle.wh_engine.specs.Faults.{IsServed, BlamesDamage, IsWorkedOut, Judges};
 ghost use Rattle.wh_store.specs.Reads.{ReadsOnly, Spares, SaysAsStored, state_of};
@@ -17,7 +18,7 @@ ghost use Rattle.wh_plan.specs.Reads.{Finds};
 ghost use Rattle.wh_plan.specs.Sound.{IsAccepted};
 
 use crate::admission::{number_for_records, number_for_sales, receipt_of_known};
-use crate::command::{Command, Receipt, Refused};
+use crate::command::{Command, CommandKind, Receipt, Refused};
 use crate::fault::Fault;
 use crate::session::Session;
 use sqlite::Alter;
@@ -26,7 +27,7 @@ use std::alloc::{AllocError, Global};
 use wh_batch::{DimensionRecords, Format, Kind, SaleRecords, dimension_records, sale_records};
 use wh_day::{ReadError, Value, is_key};
 use wh_plan::reading::command_of;
-use wh_plan::{Edits, plan_batch, plan_sales};
+use wh_plan::{Edits, plan_batch, plan_migration, plan_sales};
 use wh_policy::{Dim, Policy, SaleRecord};
 use wh_rows::CommandRow;
 use wh_store::{ReadFault, Tables};
@@ -36,8 +37,8 @@ use wh_store::{ReadFault, Tables};
 pub(crate) enum Decision {
     /// It came again: nothing is written.
     Repeat(Receipt),
-    /// It is accepted, and these edits are to be written.
-    Accept(Receipt, Edits),
+    /// It is accepted: these edits are to be written, and this policy, if there is one, is in force from then on.
+    Accept(Receipt, Edits, Option<Policy>),
 }
 
 /// The records of a batch.
@@ -71,14 +72,31 @@ fn sales_of(alloc: Global, policy: &Policy, bytes: &[u8]) -> Result<SaleRecords,
     }
 }
 
-/// The row of a batch among the commands.
+/// The policy of a migration, where it fits the one in force.
+fn policy_of(alloc: Global, older: &Policy, bytes: &[u8]) -> Result<Policy, Fault>
+    ensures read { Judges (λ newer told. newer ≡ told) result (policy_told older.now bytes.now) }
+    ensures blames { (stored : Stored) → BlamesDamage stored result }
+    ensures work { IsWorkedOut result }
+{
+    let newer = match Policy::read(alloc, bytes) {
+        Ok(newer) => newer,
+        Err(ReadError::Fault(fault)) => return Err(Fault::Refused(Refused::Policy(fault))),
+        Err(ReadError::Memory) => return Err(Fault::Memory),
+    };
+    if !older.fits(&newer) {
+        return Err(Fault::Refused(Refused::Unfit));
+    }
+    Ok(newer)
+}
+
+/// The row of a command among those that are kept.
 fn command_row(
     alloc: Global,
     command: &Command,
     number: u64,
     records: u64,
 ) -> Result<CommandRow, AllocError>
-    ensures { IfOk result (λ row. row ≡ row_of_batch command.now number records) }
+    ensures { IfOk result (λ row. row ≡ row_of_command command.now number records) }
 {
     Ok(CommandRow {
         number,
@@ -100,7 +118,7 @@ fn decide_records<S: Alter>(
 ) -> Result<Decision, Fault>
     ensures reads { Spares (state_of S.Store tables.old) (state_of S.Store tables.new) (IsServed result) }
     ensures blames { SaysAsStored (state_of S.Store tables.old) (state_of S.Store tables.new) (λ stored. BlamesDamage stored result) }
-    ensures decided { Works (state_of S.Store tables.old) (state_of S.Store tables.new) session.now (λ commands. command.now.kind ≡ Dimension dim → is_key 40 command.now.id ≡ true
+    ensures decided { Works (state_of S.Store tables.old) (state_of S.Store tables.new) session.now (λ commands. command.now.kind ≡ Batch (Dimension dim) → is_key 40 command.now.id ≡ true
         → IsNew commands command.now → Judges (Decides commands command.now) result (answer session.now.limits commands command.now)) }
     ensures work { IsWorkedOut result }
 {
@@ -117,7 +135,7 @@ fn decide_records<S: Alter>(
         records: count,
         placeholders: 0,
     };
-    Ok(Decision::Accept(receipt, edits))
+    Ok(Decision::Accept(receipt, edits, None))
 }
 
 /// What an accepted batch of sales writes, under its number.
@@ -164,7 +182,7 @@ fn decide_sold<S: Alter>(
         records: sales.len() as u64,
         placeholders: edits.members.len() as u64,
     };
-    Ok(Decision::Accept(receipt, edits))
+    Ok(Decision::Accept(receipt, edits, None))
 }
 
 /// What is to be done about a batch of sales whose id is new.
@@ -176,7 +194,7 @@ fn decide_sales<S: Alter>(
 ) -> Result<Decision, Fault>
     ensures reads { Spares (state_of S.Store tables.old) (state_of S.Store tables.new) (IsServed result) }
     ensures blames { SaysAsStored (state_of S.Store tables.old) (state_of S.Store tables.new) (λ stored. BlamesDamage stored result) }
-    ensures decided { Works (state_of S.Store tables.old) (state_of S.Store tables.new) session.now (λ commands. command.now.kind ≡ Sales → is_key 40 command.now.id ≡ true → IsNew commands command.now
+    ensures decided { Works (state_of S.Store tables.old) (state_of S.Store tables.new) session.now (λ commands. command.now.kind ≡ Batch Sales → is_key 40 command.now.id ≡ true → IsNew commands command.now
         → Judges (Decides commands command.now) result (answer session.now.limits commands command.now)) }
     ensures work { IsWorkedOut result }
 {
@@ -184,7 +202,35 @@ fn decide_sales<S: Alter>(
     decide_sold(tables, alloc, session, command, sales.as_slice())
 }
 
-/// What is to be done about a batch whose id is new.
+/// What is to be done about a migration whose id is new.
+fn decide_migration<S: Alter>(
+    tables: &mut Tables<S>,
+    alloc: Global,
+    session: &Session,
+    command: &Command,
+) -> Result<Decision, Fault>
+    ensures reads { Spares (state_of S.Store tables.old) (state_of S.Store tables.new) (IsServed result) }
+    ensures blames { SaysAsStored (state_of S.Store tables.old) (state_of S.Store tables.new) (λ stored. BlamesDamage stored result) }
+    ensures decided { Works (state_of S.Store tables.old) (state_of S.Store tables.new) session.now (λ commands. command.now.kind ≡ Migration → is_key 40 command.now.id ≡ true → IsNew commands command.now
+        → Judges (Decides commands command.now) result (answer session.now.limits commands command.now)) }
+    ensures work { IsWorkedOut result }
+{
+    let newer = policy_of(alloc, &session.policy, command.bytes.as_slice())?;
+    let number = match number_for_records(tables, alloc, session.limits, 0) {
+        Ok(number) => number,
+        Err(fault) => return Err(fault),
+    };
+    let row = command_row(alloc, command, number, 0)?;
+    let edits = plan_migration(tables, alloc, &session.policy, &newer, row)?;
+    let receipt = Receipt {
+        number,
+        records: 0,
+        placeholders: 0,
+    };
+    Ok(Decision::Accept(receipt, edits, Some(newer)))
+}
+
+/// What is to be done about a command whose id is new.
 fn decide_new<S: Alter>(
     tables: &mut Tables<S>,
     alloc: Global,
@@ -198,8 +244,11 @@ fn decide_new<S: Alter>(
     ensures work { IsWorkedOut result }
 {
     match command.kind {
-        Kind::Dimension(dim) => decide_records(tables, alloc, session, dim, command),
-        Kind::Sales => decide_sales(tables, alloc, session, command),
+        CommandKind::Batch(Kind::Dimension(dim)) => {
+            decide_records(tables, alloc, session, dim, command)
+        }
+        CommandKind::Batch(Kind::Sales) => decide_sales(tables, alloc, session, command),
+        CommandKind::Migration => decide_migration(tables, alloc, session, command),
     }
 }
 

@@ -8,8 +8,8 @@ ghost use Rattle.wh_rows.specs.AtRest.{IsAtRest};
 ghost use Rattle.wh_rows.specs.Tables.{Tables as TenTables};
 ghost use Rattle.wh_rows.specs.Raw.{Stored, RestsOn};
 ghost use Rattle.wh_store.specs.Reads.{SaysAsStored, state_of};
-ghost use Rattle.wh_engine.specs.Answered.{IsReady, IsAnswered, IsPerformed, IsWritten, IsNotAccepted, KeepsNothing};
-ghost use Rattle.wh_engine.specs.Faults.{BlamesDamage, IsWorkedOut, stops};
+ghost use Rattle.wh_engine.specs.Answered.{IsReady, IsAnswered, IsPerformed, IsWritten, IsNotAccepted, IsNoted, KeepsNothing};
+ghost use Rattle.wh_engine.specs.Faults.{BlamesDamage, IsWorkedOut};
 
 use crate::command::{Command, Reply};
 use crate::decision::{Decision, decide};
@@ -34,27 +34,30 @@ pub struct Engine<S: Alter> {
 fn perform<S: Alter>(
     tables: &mut Tables<S>,
     alloc: Global,
-    session: &Session,
+    session: &mut Session,
     command: &Command,
     writes: &mut u64,
 ) -> Result<Reply, Fault>
     ensures clean { HasCleanDisk (state_of S.Store tables.new) → HasCleanDisk (state_of S.Store tables.old) }
-    ensures performed { HasCleanDisk (state_of S.Store tables.new) → (limits : LimitCounts) (commands : List Accepted) → IsReady limits commands session.now (state_of S.Store tables.old)
-        → IsPerformed limits commands command.now result session.now (state_of S.Store tables.new) }
+    ensures performed { HasCleanDisk (state_of S.Store tables.new) → (limits : LimitCounts) (commands : List Accepted) → IsReady limits commands session.old (state_of S.Store tables.old)
+        → IsPerformed limits commands command.now result session.new (state_of S.Store tables.new) }
     ensures untouched { HasCleanDisk (state_of S.Store tables.new) → (t : TenTables) → IsAtRest (Some t) (state_of S.Store tables.old) → KeepsNothing result → IsAtRest (Some t) (state_of S.Store tables.new) }
     ensures untouched_stored { HasCleanDisk (state_of S.Store tables.new) → (stored : Stored) → RestsOn stored (state_of S.Store tables.old) → KeepsNothing result → RestsOn stored (state_of S.Store tables.new) }
     ensures blames { SaysAsStored (state_of S.Store tables.old) (state_of S.Store tables.new) (λ stored. BlamesDamage stored result) }
     ensures work { IsWorkedOut result }
-    ensures written { HasCleanDisk (state_of S.Store tables.new) → (limits : LimitCounts) (commands : List Accepted) → IsReady limits commands session.now (state_of S.Store tables.old)
+    ensures written { HasCleanDisk (state_of S.Store tables.new) → (limits : LimitCounts) (commands : List Accepted) → IsReady limits commands session.old (state_of S.Store tables.old)
         → IsWritten limits commands command.now result writes.new }
     ensures silent { IsNotAccepted result → writes.new ≡ 0 }
+    ensures limits { session.new.limits ≡ session.old.limits }
+    ensures policy { IsNotAccepted result → session.new.policy ≡ session.old.policy }
 {
     *writes = 0;
     match decide(tables, alloc, session, command) {
         Ok(Decision::Repeat(receipt)) => Ok(Reply::Already(receipt)),
-        Ok(Decision::Accept(receipt, edits)) => match commit_edits(tables, alloc, &edits) {
+        Ok(Decision::Accept(receipt, edits, newer)) => match commit_edits(tables, alloc, &edits) {
             Ok(count) => {
                 *writes = count;
+                session.govern(newer);
                 Ok(Reply::Accepted(receipt))
             }
             Err(cause) => Err(Fault::Store(cause)),
@@ -98,7 +101,8 @@ impl<S: Alter> Engine<S> {
         ensures blames { SaysAsStored (state_of S.Store self.old.tables) (state_of S.Store self.new.tables) (λ stored. BlamesDamage stored result) }
         ensures reopen { IsTrue self.old.session.must_reopen → (result ≡ Err Fault.Reopen) × (self.new.tables ≡ self.old.tables) × (self.new.session ≡ self.old.session) }
         ensures only { result ≡ Err Fault.Reopen → IsTrue self.old.session.must_reopen }
-        ensures noted { self.old.session.must_reopen ≡ false → self.new.session ≡ record (self.old.session) { must_reopen = stops result } }
+        // The limits stay, and the policy too, unless a command is accepted.
+        ensures noted { self.old.session.must_reopen ≡ false → IsNoted self.old.session self.new.session result }
         // As many keys are written as its exact edits are, and none by an answer that accepts nothing.
         ensures written { HasCleanDisk (state_of S.Store self.new.tables) → (limits : LimitCounts) (commands : List Accepted) → IsReady limits commands self.old.session (state_of S.Store self.old.tables)
             → IsWritten limits commands command.now result self.new.writes }
@@ -111,7 +115,7 @@ impl<S: Alter> Engine<S> {
         let answer = perform(
             &mut self.tables,
             alloc,
-            &self.session,
+            &mut self.session,
             command,
             &mut self.writes,
         );

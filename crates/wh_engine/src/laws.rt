@@ -11,7 +11,7 @@ pub fn acts_once()
     ensures { (limits : Limits) (commands : List Accepted) (c : Command) → accepted_after limits (accepted_after limits commands c) c ≡ accepted_after limits commands c }
 {}
 
-/// A list of commands that a warehouse can have accepted stays one after each batch, accepted or refused.
+/// A list of commands that a warehouse can have accepted stays one after each command, accepted or refused.
 pub fn accepted_lists_stay_sound()
     ensures { AcceptedListsStaySound }
 {}

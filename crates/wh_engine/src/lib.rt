@@ -15,7 +15,7 @@ mod reopen;
 mod session;
 mod write;
 
-pub use command::{Command, Limit, Receipt, Refused, Reply};
+pub use command::{Command, CommandKind, Limit, Receipt, Refused, Reply};
 pub use counts::Counts;
 pub use engine::Engine;
 pub use fault::Fault;

@@ -14,7 +14,7 @@ ghost use Rattle.wh_store.specs.Raw.{FormatIs};
 ghost use Rattle.wh_rows.specs.Raw.{Stored, RestsOn, LeavesStored};
 ghost use Rattle.wh_engine.specs.Answered.{Rests, IsReady};
 ghost use Rattle.wh_plan.specs.FirstRows.{making_of, IsGoodPolicy};
-ghost use Rattle.wh_engine.specs.Opened.{of_making, making_in, session_in, opened, IsTold, IsRead, PolicyIs, IsPolicyless, SessionIs, IsSessionless, IsUnopened, IsNotOpened, LeavesMaking, IsNotMade, NothingIsWritten, LeavesMade};
+ghost use Rattle.wh_engine.specs.Opened.{of_command, last_policy_in, session_in, opened, IsTold, IsRead, PolicyIs, IsPolicyless, SessionIs, IsSessionless, IsUnopened, IsNotOpened, LeavesMaking, IsNotMade, NothingIsWritten, LeavesMade};
 ghost use Rattle.wh_engine.specs.Admission.{AreAdmitted};
 ghost use Rattle.wh_store.specs.declared.fault.OpenFault.TheVariants.{Store};
 ghost use Rattle.wh_rows.specs.declared.cause.Cause.{Cause};
@@ -24,10 +24,10 @@ use crate::making::write_making;
 use crate::session::Session;
 use sqlite::{Alter, Connection};
 use std::alloc::Global;
-use wh_day::{ReadError, Value};
+use wh_day::ReadError;
 use wh_policy::{Policy, PolicyFault};
 use wh_rows::{Cause, CommandRow, Limits, Table, tables};
-use wh_store::{CommandOf, MakeFault, OpenFault, Tables};
+use wh_store::{LastPolicy, MakeFault, OpenFault, Tables};
 
 /// Why no warehouse was made.
 #[derive(Clone, Copy, Debug, PartialEq, Eq)]
@@ -60,39 +60,38 @@ fn commit_making<S: Alter>(
     writing.commit()
 }
 
-/// The policy that the row of the making gives.
-fn policy_of(alloc: Global, makings: &[CommandRow]) -> Result<Policy, OpenFault>
-    ensures told { IsTold result (of_making (slice_get makings.now 0)) }
+/// The policy that the first of these commands gives.
+fn policy_of(alloc: Global, commands: &[CommandRow]) -> Result<Policy, OpenFault>
+    ensures told { IsTold result (of_command (slice_get commands.now 0)) }
     ensures pure { (cause : Cause) → result ≢ Err (Store cause) }
 {
-    let Some(making) = makings.first() else {
+    let Some(command) = commands.first() else {
         return Err(OpenFault::Damaged(Table::Command));
     };
-    match Policy::read(alloc, making.bytes.as_slice()) {
+    match Policy::read(alloc, command.bytes.as_slice()) {
         Ok(policy) => Ok(policy),
         Err(ReadError::Memory) => Err(OpenFault::Memory),
         Err(ReadError::Fault(_)) => Err(OpenFault::Damaged(Table::Command)),
     }
 }
 
-/// The policy in force, which is that of the making.
+/// The policy in force, which is that of the last command that gives one.
 fn policy_in<S: Alter>(tables: &mut Tables<S>, alloc: Global) -> Result<Policy, OpenFault>
     ensures reads { Spares (state_of S.Store tables.old) (state_of S.Store tables.new) (IsServed result) }
-    ensures read { HasCleanDisk (state_of S.Store tables.new) → (t : TenTables) → IsAtRest (Some t) (state_of S.Store tables.old) → IsRead result (of_making (making_in t)) t (state_of S.Store tables.new) }
-    // The same of any rows, whoever wrote them: by those of the making's id.
+    ensures read { HasCleanDisk (state_of S.Store tables.new) → (t : TenTables) → IsAtRest (Some t) (state_of S.Store tables.old) → IsRead result (of_command (last_policy_in t)) t (state_of S.Store tables.new) }
+    // The same of any rows, whoever wrote them: by the last that gives a policy.
     ensures stored { SaysAsStored (state_of S.Store tables.old) (state_of S.Store tables.new) (λ stored. IfOk result (λ policy. PolicyIs stored (Ok policy))) }
     ensures policyless { SaysAsStored (state_of S.Store tables.old) (state_of S.Store tables.new) (λ stored. IfErr result (IsPolicyless stored)) }
 {
-    let id = Value::new(alloc, "init")?;
-    let found = tables.ask::<tables::Command, CommandOf<'_>>(alloc, &CommandOf { id: &id })?;
-    policy_of(alloc, &found)
+    let last = tables.ask::<tables::Command, LastPolicy>(alloc, &LastPolicy)?;
+    policy_of(alloc, &last)
 }
 
 /// What an engine has to know of its warehouse.
 fn session_of<S: Alter>(tables: &mut Tables<S>, alloc: Global) -> Result<Session, OpenFault>
     ensures reads { Spares (state_of S.Store tables.old) (state_of S.Store tables.new) (IsServed result) }
     ensures read { HasCleanDisk (state_of S.Store tables.new) → (t : TenTables) → IsAtRest (Some t) (state_of S.Store tables.old) → IsRead result (session_in t) t (state_of S.Store tables.new) }
-    // The same of any rows, whoever wrote them: by the limits, and then by the rows of the making's id.
+    // The same of any rows, whoever wrote them: by the limits, and then by the last row that gives a policy.
     ensures stored { SaysAsStored (state_of S.Store tables.old) (state_of S.Store tables.new) (λ stored. IfOk result (SessionIs stored)) }
     ensures sessionless { SaysAsStored (state_of S.Store tables.old) (state_of S.Store tables.new) (λ stored. IfErr result (IsSessionless stored)) }
     ensures fresh { IfOk result (λ session. session.must_reopen ≡ false) }

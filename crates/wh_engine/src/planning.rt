@@ -36,7 +36,7 @@ fn foretell<S: Alter>(
 {
     match decide(tables, alloc, session, command) {
         Ok(Decision::Repeat(_)) => Ok(Edits::none(alloc)),
-        Ok(Decision::Accept(_, edits)) => Ok(edits),
+        Ok(Decision::Accept(_, edits, _)) => Ok(edits),
         Err(fault) => Err(fault),
     }
 }

@@ -33,7 +33,7 @@ use Rattle.wh_plan.proofs.GrownCommands.{command_keyed, command_grows}
 use Rattle.wh_plan.proofs.GrownCommands as command
 use Rattle.wh_plan.proofs.GrownMembers.{member_keyed}
 use Rattle.wh_plan.proofs.GrownMembers as member
-use Rattle.wh_plan.proofs.GrownChanges.{change_keyed, batch_grows}
+use Rattle.wh_plan.proofs.GrownChanges.{change_keyed, changes_grow}
 use Rattle.wh_plan.proofs.GrownChanges as change
 use Rattle.wh_plan.proofs.GrownProfiles.{profile_keyed, profile_grows}
 use Rattle.wh_plan.proofs.GrownProfiles as profile
@@ -137,7 +137,7 @@ module _ (commands : List Accepted) (c : Accepted) where
     change_plan =
         subst (λ rows. IsTablePlan row.change (change_at commands) (change_at after) (map Put rows)) (sym are.changes)
         (grown_plan row.change change_cmp_total change_cmp-IsAntisymmetric (change_at after) (change_keyed after) (change.key_of commands c) places_rise (change_at commands) 0 (records_by c.content)
-        (λ n _. change.none_yet commands c n) (batch_grows commands c c.content refl batch))
+        (λ n _. change.none_yet commands c n) (changes_grow commands c c.content refl))
       where
         places_rise : (n m : ℕ) → n < m → row.change_cmp (change.key_of commands c n) (change.key_of commands c m) ≡ Less
         places_rise n m h = ap (λ o. ordering_then o (nat_cmp n m)) (sym (nat_cmp_is (length after) (length after) Equal refl)) ∙ less n m h

@@ -45,7 +45,7 @@ given_none zero = refl
 given_none (suc n) = ap (λ texts. none_text ∷ texts) (given_none n)
 
 -- read back, a record's values are padded with the text for none
-read_back : (texts : List (List ℕ)) → AllByRecursion (λ text. text ≢ []) texts → map given_text (padded [] texts) ≡ padded none_text texts
+pub read_back : (texts : List (List ℕ)) → AllByRecursion (λ text. text ≢ []) texts → map given_text (padded [] texts) ≡ padded none_text texts
 read_back texts all =
     map-append given_text texts (replicate (6 - length texts) [])
     ∙ ap (λ ts. ts ++ map given_text (replicate (6 - length texts) [])) (given_all texts all)

@@ -107,11 +107,11 @@ module _ (row : ℕ → Option DimRow) (at : (n : ℕ) (r : DimRow) → row n �
   none_before from zero less = refl
   none_before from (suc count) less = passed_over from (filter_map row (range_with_len (from + 1) count)) (λ same. absurd (omega arith)) ∙ none_before (from + 1) count (omega arith)
 
-  none_behind : (from count : ℕ) → from + count ≤ key → row_of key (passing from count) ≡ None
+  pub none_behind : (from count : ℕ) → from + count ≤ key → row_of key (passing from count) ≡ None
   none_behind from zero past = refl
   none_behind from (suc count) past = passed_over from (filter_map row (range_with_len (from + 1) count)) (λ same. absurd (omega arith)) ∙ none_behind (from + 1) count (omega arith)
 
-  under_key : (from count : ℕ) → from ≤ key → key < from + count → row_of key (passing from count) ≡ kept keep (row key)
+  pub under_key : (from count : ℕ) → from ≤ key → key < from + count → row_of key (passing from count) ≡ kept keep (row key)
   under_key from zero low high = absurd (omega arith)
   under_key from (suc count) low high =
       let rest = filter_map row (range_with_len (from + 1) count) in

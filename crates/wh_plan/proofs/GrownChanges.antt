@@ -6,10 +6,8 @@ use Rattle.std.specs.List.{list_any, AllByRecursion}
 use Rattle.std.proofs.lemmas.Bool.{cases_eq, cases_lt}
 use Rattle.std.proofs.lemmas.Slice.Eq.{bytes_eq-Decides}
 use Rattle.wh_policy.specs.declared.attribute.Dim.{Dim}
-use Rattle.wh_policy.specs.declared.record.SaleRecord.{SaleRecord}
 use Rattle.wh_policy.specs.declared.record.DimensionRecord.{DimensionRecord}
 use Rattle.wh_history.specs.Keys.{at_place}
-use Rattle.wh_history.specs.Laws.{governs}
 use Rattle.wh_history.specs.Accepted.{Accepted, Content, Governs, Describes, Sells, Anchor, same_anchor, same_day, day_of, described_by, mentions, durable_key, surrogate_key, records_by}
 use Rattle.wh_history.specs.Tables.{change_row, change_row_of, change_row_in}
 use Rattle.wh_history.specs.Tables as history
@@ -121,22 +119,22 @@ module _ (commands : List Accepted) (c : Accepted) where
           ]
         ]
 
-  -- sales bring no change
-  sales_bring_none : (sales : List SaleRecord) → c.content ≡ Sells sales → (key : ChangeKey) → change_at after key ≡ change_at commands key
-  sales_bring_none sales is key =
+  -- a command without records brings no change
+  brings_none : (content : Content) → c.content ≡ content → ((place : ℕ) → change_row_in after place content ≡ None) → (key : ChangeKey) → change_at after key ≡ change_at commands key
+  brings_none content is without key =
       elim (cases_lt (length commands) key.command) [
         | inr older ↦ ap (option_map (keyed_row key)) (older_stay key.command key.place older)
         | inl later ↦ elim (cases_eq key.command (length after)) [
           | inl new ↦
               let none : change_row after key.command key.place ≡ None =
-              ap (λ n. change_row after n key.place) new ∙ ap (option_and_then (row_in after key.place)) (at_last commands c) ∙ ap (change_row_in after key.place) is in
+              ap (λ n. change_row after n key.place) new ∙ ap (option_and_then (row_in after key.place)) (at_last commands c) ∙ ap (change_row_in after key.place) is ∙ without key.place in
               ap (option_map (keyed_row key)) (none ∙ sym (none_past commands key.command key.place later))
           | inr other ↦ ap (option_map (keyed_row key)) (none_past after key.command key.place (omega (arith, longer)) ∙ sym (none_past commands key.command key.place later))
         ]
       ]
 
-  -- whatever a batch holds
-  pub batch_grows : (content : Content) → c.content ≡ content → governs content ≡ false → (key : ChangeKey) → Grows key_of 0 (records_by content) (change_at commands) (change_at after) key
-  batch_grows (Governs policy) is batch key = absurd cc
-  batch_grows (Describes dim rs) is batch key = change_grows dim rs is key
-  batch_grows (Sells sales) is batch key = inl (record { same = sales_bring_none sales is key })
+  -- whatever a command holds
+  pub changes_grow : (content : Content) → c.content ≡ content → (key : ChangeKey) → Grows key_of 0 (records_by content) (change_at commands) (change_at after) key
+  changes_grow (Governs policy) is key = inl (record { same = brings_none (Governs policy) is (λ _. refl) key })
+  changes_grow (Describes dim rs) is key = change_grows dim rs is key
+  changes_grow (Sells sales) is key = inl (record { same = brings_none (Sells sales) is (λ _. refl) key })

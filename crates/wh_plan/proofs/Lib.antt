@@ -44,9 +44,14 @@ pub mod Learning
 pub mod FoundProfiles
 pub mod PlanProfiles
 pub mod Following
+pub mod ValidCalendar
 pub mod ValidFacts
 pub mod EffectiveFacts
-pub mod MayBatch
+pub mod GovernedLists
+pub mod AllMembers
+pub mod AllRows
+pub mod AnewFacts
+pub mod MayBeWritten
 pub mod Selling
 pub mod Placeholders
 pub mod MovedLists
@@ -61,3 +66,8 @@ pub mod SalesNaturals
 pub mod SalesRows
 pub mod SalesKeys
 pub mod SalesEdits
+pub mod NumberedPlans
+pub mod PlanCalendar
+pub mod MigrationPlans
+pub mod FoundCombinations
+pub mod PlanRenumbered

@@ -55,7 +55,7 @@ fact_keyed commands key f is = by_sale (find (on_line key) (sold commands)) refl
         line_is key f (ap (has_line key) (sym one) ∙ on)
 
 -- the facts of a line are up to one
-facts_of_line : (limits : Limits) (commands : List Accepted) (t : Tables) → AreOf limits commands t → (key : LineKey) → filter (has_line key) (values t.fact) ≡ option_to_list (fact_at commands key)
+pub facts_of_line : (limits : Limits) (commands : List Accepted) (t : Tables) → AreOf limits commands t → (key : LineKey) → filter (has_line key) (values t.fact) ≡ option_to_list (fact_at commands key)
 facts_of_line limits commands t are key =
     let keyed : (j : LineKey) (f : Fact) → get t.fact j ≡ Some f → row.fact.key f ≡ j = λ j f here. fact_keyed commands j f (sym (are.fact j) ∙ here) in
     passes_at row.line_cmp line_cmp_total line_cmp-IsAntisymmetric row.fact.key (has_line key) t.fact key

@@ -84,7 +84,7 @@ module _ (dim : Dim) (list : List Accepted) (ends : RecordsHaveDays list) where
   not_its natural key (Some r) member is other = let owner = row_owner natural key r member is in absurd (other owner.0 owner.1 owner.2)
 
   -- under no anchor's number no member has a row
-  nowhere : (key : ℕ) → at_place key (anchors dim list) ≡ None → (ns : List (List ℕ)) → AllByRecursion (IsMember dim list) ns → row_of key (rows_of_members list dim ns) ≡ None
+  pub nowhere : (key : ℕ) → at_place key (anchors dim list) ≡ None → (ns : List (List ℕ)) → AllByRecursion (IsMember dim list) ns → row_of key (rows_of_members list dim ns) ≡ None
   nowhere key none [] all = refl
   nowhere key none (n ∷ ns) all =
       let here : row_of key (rows_of n) ≡ None = not_its n key (row_of key (rows_of n)) all.0 refl (λ a at _. cc) in
@@ -93,7 +93,7 @@ module _ (dim : Dim) (list : List Accepted) (ends : RecordsHaveDays list) where
       ∙ nowhere key none ns all.1
 
   -- under an anchor's number only its member has one
-  found_in : (key : ℕ) (a : Anchor) → at_place key (anchors dim list) ≡ Some a → (ns : List (List ℕ)) → AllByRecursion (IsMember dim list) ns
+  pub found_in : (key : ℕ) (a : Anchor) → at_place key (anchors dim list) ≡ Some a → (ns : List (List ℕ)) → AllByRecursion (IsMember dim list) ns
       → row_of key (rows_of_members list dim ns) ≡ cond (list_any (λ n. bytes_eq n a.natural) ns) (row_of key (rows_of a.natural)) None
   found_in key a at [] all = refl
   found_in key a at (n ∷ ns) all =

@@ -28,7 +28,8 @@ accepted_lists_begin limits policy bytes limited written =
       facts_within = omega arith;
       few_a_batch = omega arith;
       few_sales_a_batch = omega arith;
-      begun = record { policy = policy; bytes = bytes; rest = []; making = refl; written = written; kept = refl };
+      begun = record { policy = policy; bytes = bytes; rest = []; making = refl; written = written };
+      policies = ((refl, written), tt);
       governed = refl;
       six = λ dim. omega (arith, length-map (attributes_of policy dim) (λ (a : Attribute). a.kind), (sound.attributes dim).few);
       ids = (refl, tt);

@@ -72,10 +72,9 @@ SoundPoliciesShowNone = (commands : List Accepted) → ((policy : Policy) → po
 abbrev pub AcceptedListsBegin : Type 0
 AcceptedListsBegin = (limits : Limits) (policy : Policy) (bytes : List ℕ) → are_limits limits ≡ true → policy_at bytes ≡ Ok policy → IsAccepted limits (making_of policy bytes ∷ [])
 
--- The edits of a batch that can be accepted after the commands so far may be written: each row that they put is valid.
-abbrev pub BatchesMayBeWritten : Type 0
-BatchesMayBeWritten = (limits : Limits) (commands : List Accepted) (c : Accepted) (tables : Tables) (edits : Edits)
-    → governs c.content ≡ false
+-- The edits of a command that can be accepted after the commands so far may be written: each row that they put is valid.
+abbrev pub CommandsMayBeWritten : Type 0
+CommandsMayBeWritten = (limits : Limits) (commands : List Accepted) (c : Accepted) (tables : Tables) (edits : Edits)
     → IsAccepted limits (commands ++ c ∷ [])
     → AreOf limits commands tables
     → AreEdits commands (commands ++ c ∷ []) edits

@@ -7,9 +7,11 @@ pub mod FactEdits
 pub mod Writable
 pub mod Sound
 pub mod FirstRows
+pub mod Migration
 pub mod NewRows
 pub mod RecordPlan
 pub mod Profiles
 pub mod Laws
 pub mod MovedFacts
+pub mod ShownAnew
 pub mod SoldMembers

@@ -1,5 +1,5 @@
 -- What holds of every list of accepted commands, as far as batches go.
-use Rattle.std.specs.Prelude.{◌≡◌, ◌≢◌, ℕ, ◌+◌, ◌*◌, ◌≤◌, ◌==◌, ◌&&◌, Bool, true, Some, None, Ok, List, [], ◌∷◌, length, map, IsSome, bytes_eq}
+use Rattle.std.specs.Prelude.{◌≡◌, ◌≢◌, ℕ, ◌+◌, ◌*◌, ◌≤◌, ◌==◌, ◌&&◌, Bool, true, false, Some, None, Ok, List, [], ◌∷◌, length, map, IsSome, bytes_eq}
 use Rattle.std.specs.List.{AllByRecursion, IsDistinct}
 use Rattle.wh_day.specs.Day.{is_day}
 use Rattle.wh_policy.specs.declared.attribute.Dim.{Dim}
@@ -10,9 +10,10 @@ use Rattle.wh_policy.specs.declared.record.SaleRecord.{SaleRecord}
 use Rattle.wh_policy.specs.Policy.{policy_at, types_of}
 use Rattle.wh_policy.specs.Written.{IsSound}
 use Rattle.wh_policy.specs.declared.attribute.AttributeType.{AttributeType}
-use Rattle.wh_history.specs.Accepted.{Accepted, policy_after, types_in, described, member_of_sale, sold}
+use Rattle.wh_history.specs.Accepted.{Accepted, Content, Governs, Describes, Sells, policy_after, types_in, described, member_of_sale, sold}
 use Rattle.wh_history.specs.Tables.{Limits}
 use Rattle.wh_rows.specs.Limits.{are_limits}
+use Rattle.wh_rows.specs.Questions.{gives_policy}
 use Rattle.wh_rows.specs.Types.{is_key, is_kind, is_line, is_measure, is_slot}
 use Rattle.wh_plan.specs.FirstRows.{making_of}
 
@@ -52,17 +53,22 @@ same_line a b = bytes_eq b.ticket a.ticket && (b.line == a.line)
 abbrev pub changes_kept : List Accepted → ℕ
 changes_kept commands = length (described Product commands) + length (described Store commands) + length (described Customer commands)
 
--- It begins with a making, whose bytes give the policy in force: no migration came yet.
+-- It begins with a making under the policy of its bytes.
 pub record IsBegun (commands : List Accepted) : Type 0 where
   pub policy : Policy
   pub bytes : List ℕ
   pub rest : List Accepted
   pub making : commands ≡ making_of policy bytes ∷ rest
   pub written : policy_at bytes ≡ Ok policy
-  pub kept : policy_after None commands ≡ Some policy
 
--- The list is one that a warehouse with these limits can have accepted: it begins with a making, and that policy is in force, with up to six attributes a dimension; ids and kinds are well formed, no two commands
--- share an id; its records and sales are good, no two sales have one line, and no batch has more than 5,000; the limits aren't passed.
+-- a making or a migration gives the policy of its bytes, and no other command gives one
+abbrev pub GivesPolicy : (kind bytes : List ℕ) → Content → Type 0
+GivesPolicy kind bytes (Governs policy) = (gives_policy kind ≡ true) × (policy_at bytes ≡ Ok policy)
+GivesPolicy kind bytes (Describes dim records) = gives_policy kind ≡ false
+GivesPolicy kind bytes (Sells sales) = gives_policy kind ≡ false
+
+-- The list is one that a warehouse with these limits can have accepted: it begins with a making, and makings and migrations give the policies of their bytes, with up to six attributes a dimension; ids and kinds are well
+-- formed, no two commands share an id; its records and sales are good, no two sales have one line, and no batch has more than 5,000; the limits aren't passed.
 pub record IsAccepted (limits : Limits) (commands : List Accepted) : Type 0 where
   pub limited : are_limits limits ≡ true
   pub commands_within : length commands ≤ limits.commands
@@ -71,6 +77,7 @@ pub record IsAccepted (limits : Limits) (commands : List Accepted) : Type 0 wher
   pub few_a_batch : changes_kept commands ≤ length commands * 5000
   pub few_sales_a_batch : length (sold commands) ≤ length commands * 5000
   pub begun : IsBegun commands
+  pub policies : AllByRecursion (λ c. GivesPolicy c.kind c.bytes c.content) commands
   pub governed : IsSome (policy_after None commands)
   pub six : (dim : Dim) → length (types_in dim commands) ≤ 6
   pub ids : AllByRecursion (λ c. is_key 40 c.id ≡ true) commands

@@ -1,7 +1,7 @@
 //! Laws of the tables that accepted commands define. They speak of the definitions alone and do nothing.
 
 ghost use Rattle.wh_plan.specs.MovedFacts.{MovedFactsAreExact};
-ghost use Rattle.wh_plan.specs.Laws.{AcceptedListsBegin, BatchesMayBeWritten, EditsAreWritten, ExactEditsAreOne, FactsAreEffective, LateRecordsMoveFacts, NoEditsStay, SalesAreFacts, SalesPutPlaceholders, SecondKeysAreApart, SoundPoliciesShowNone, TouchedRowsAfter, TouchedRowsAreThePlan, TouchedRowsBefore, UntouchedMembersKeep};
+ghost use Rattle.wh_plan.specs.Laws.{AcceptedListsBegin, CommandsMayBeWritten, EditsAreWritten, ExactEditsAreOne, FactsAreEffective, LateRecordsMoveFacts, NoEditsStay, SalesAreFacts, SalesPutPlaceholders, SecondKeysAreApart, SoundPoliciesShowNone, TouchedRowsAfter, TouchedRowsAreThePlan, TouchedRowsBefore, UntouchedMembersKeep};
 
 /// From the tables of some accepted commands the exact edits lead to those of others, in all ten tables.
 pub fn edits_are_written()
@@ -33,9 +33,9 @@ pub fn accepted_lists_begin()
     ensures { AcceptedListsBegin }
 {}
 
-/// The edits of a batch that can be accepted may be written: each row that they put is valid.
-pub fn a_batch_may_be_written()
-    ensures { BatchesMayBeWritten }
+/// The edits of a command that can be accepted may be written: each row that they put is valid.
+pub fn a_command_may_be_written()
+    ensures { CommandsMayBeWritten }
 {}
 
 /// In the tables of accepted commands no two commands have one id, and no two members of a dimension one natural key. So

@@ -24,7 +24,7 @@ use wh_rows::{ProfileRow, tables};
 use wh_store::{Greatest, ProfileOf, ReadFault, Tables};
 
 /// The number of the first combination; before it stand no card and unknown.
-const FIRST: u64 = 2;
+pub(crate) const FIRST: u64 = 2;
 
 /// What is read of profiles for a batch of records.
 #[derive(Drop)]
@@ -43,7 +43,7 @@ fn contains(combinations: &[Values], texts: &Values) -> bool
 }
 
 /// Adds a combination, unless it is there.
-fn add_combination(found: &mut Vec<Values>, texts: Values) -> Result<(), AllocError>
+pub(crate) fn add_combination(found: &mut Vec<Values>, texts: Values) -> Result<(), AllocError>
     ensures { OnOk result (found.new.items ≡ with_combination found.old.items texts) }
 {
     if !contains(found.as_slice(), &texts) {
@@ -186,7 +186,7 @@ fn unknown(
 }
 
 /// Gives combinations the next numbers, and makes their rows.
-fn add_fresh(
+pub(crate) fn add_fresh(
     alloc: Global,
     known: &mut Profiles,
     next: u64,

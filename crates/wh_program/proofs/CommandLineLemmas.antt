@@ -1,9 +1,9 @@
 -- What clap makes of the words of a command.
 use Rattle.std.proofs.Common.{◌≡◌, [], ◌∷◌, refl, sym, true, false, Bool, ◌==◌, ◌&&◌, Some, None, not, bytes_eq, true≢false}
-use Rattle.clap.specs.Words.{takes, subcommand_of, Text}
+use Rattle.clap.specs.Words.{is_simple, takes, subcommand_of, Text}
 use Rattle.clap.specs.Lexer.{long_of, short_of}
 use Rattle.clap.proofs.OnLiterals.{clap_on_literals}
-use Rattle.wh_program.specs.CommandLine.{CommandLine, Trial, Init, Load, Plan, Status, program_app, words_of, is_operand, has_operands, named}
+use Rattle.wh_program.specs.CommandLine.{CommandLine, Trial, Init, Load, Migrate, Plan, Status, program_app, words_of, is_operand, has_operands, named}
 
 not-true : (b : Bool) → not b ≡ true → b ≡ false
 not-true true h = cc
@@ -23,6 +23,11 @@ pub record IsPlain (word : Text) : Type 0 where
 plain : (word : Text) → is_operand word ≡ true → IsPlain word
 plain [] is = record { no_end = refl; no_long = refl; no_short = refl }
 plain (b ∷ rest) is = let e = not-true (b == 45) is in record { no_end = rw e refl; no_long = rw e refl; no_short = rw e refl }
+
+-- none of the commands has what changes how words are read
+pub simple : is_simple program_app ≡ true
+unfolding clap_on_literals
+simple = refl
 
 trial_taken : (d p : Text) → IsPlain d → IsPlain p → takes program_app (words_of (Trial d p None)) ≡ true
 unfolding clap_on_literals
@@ -56,6 +61,14 @@ load_named : (f k i p : Text) → IsPlain f → IsPlain k → IsPlain i → IsPl
 unfolding clap_on_literals
 load_named f k i p f-is k-is i-is p-is = rw (f-is.no_end, f-is.no_long, f-is.no_short, k-is.no_end, k-is.no_long, k-is.no_short, i-is.no_end, i-is.no_long, i-is.no_short, p-is.no_end, p-is.no_long, p-is.no_short) (refl {a = Some (Load f k i p)})
 
+migrate_taken : (f i p : Text) → IsPlain f → IsPlain i → IsPlain p → takes program_app (words_of (Migrate f i p)) ≡ true
+unfolding clap_on_literals
+migrate_taken f i p f-is i-is p-is = rw (f-is.no_end, f-is.no_long, f-is.no_short, i-is.no_end, i-is.no_long, i-is.no_short, p-is.no_end, p-is.no_long, p-is.no_short) refl
+
+migrate_named : (f i p : Text) → IsPlain f → IsPlain i → IsPlain p → named (subcommand_of program_app (words_of (Migrate f i p))) ≡ Some (Migrate f i p)
+unfolding clap_on_literals
+migrate_named f i p f-is i-is p-is = rw (f-is.no_end, f-is.no_long, f-is.no_short, i-is.no_end, i-is.no_long, i-is.no_short, p-is.no_end, p-is.no_long, p-is.no_short) (refl {a = Some (Migrate f i p)})
+
 plan_taken : (f k i p : Text) → IsPlain f → IsPlain k → IsPlain i → IsPlain p → takes program_app (words_of (Plan f k i p)) ≡ true
 unfolding clap_on_literals
 plan_taken f k i p f-is k-is i-is p-is = rw (f-is.no_end, f-is.no_long, f-is.no_short, k-is.no_end, k-is.no_long, k-is.no_short, i-is.no_end, i-is.no_long, i-is.no_short, p-is.no_end, p-is.no_long, p-is.no_short) refl
@@ -88,6 +101,10 @@ taken (Load f k i p) is =
     let k-is = both (is_operand k) _ f-is.1 in
     let i-is = both (is_operand i) _ k-is.1 in
     load_taken f k i p (plain f f-is.0) (plain k k-is.0) (plain i i-is.0) (plain p i-is.1)
+taken (Migrate f i p) is =
+    let f-is = both (is_operand f) _ is in
+    let i-is = both (is_operand i) _ f-is.1 in
+    migrate_taken f i p (plain f f-is.0) (plain i i-is.0) (plain p i-is.1)
 taken (Plan f k i p) is =
     let f-is = both (is_operand f) _ is in
     let k-is = both (is_operand k) _ f-is.1 in
@@ -111,6 +128,10 @@ found (Load f k i p) is =
     let k-is = both (is_operand k) _ f-is.1 in
     let i-is = both (is_operand i) _ k-is.1 in
     load_named f k i p (plain f f-is.0) (plain k k-is.0) (plain i i-is.0) (plain p i-is.1)
+found (Migrate f i p) is =
+    let f-is = both (is_operand f) _ is in
+    let i-is = both (is_operand i) _ f-is.1 in
+    migrate_named f i p (plain f f-is.0) (plain i i-is.0) (plain p i-is.1)
 found (Plan f k i p) is =
     let f-is = both (is_operand f) _ is in
     let k-is = both (is_operand k) _ f-is.1 in

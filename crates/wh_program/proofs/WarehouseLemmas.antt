@@ -31,7 +31,7 @@ use Rattle.wh_store.specs.declared.fault.OpenFault.{OpenFault}
 use Rattle.wh_store.specs.declared.fault.OpenFault.TheVariants as opening
 use Rattle.wh_engine.specs.declared.session.Session.{Session}
 use Rattle.wh_program.specs.Answer.{done, failed, no_file_line}
-use Rattle.wh_program.specs.Reply.{load_answer, plan_answer, opening_answer, status_answer, making_answer, made_line}
+use Rattle.wh_program.specs.Reply.{sent_answer, plan_answer, opening_answer, status_answer, making_answer, made_line}
 use Rattle.wh_program.specs.Standing.{Content, Nothing, Holds, Standing, Rests, LeftAt, IsAt, Stands}
 use Rattle.wh_program.specs.Warehouse.{Told, Opens, IsReplied, IsForetold, IsCounted, Makes, AnswersWith, AnswersStatus}
 
@@ -80,7 +80,7 @@ module _ (does : Limits → List Accepted → Told → Standing → Type 0) (con
 
 -- what the engine's reply says of the store, as what stands
 pub replied : (c : Command) (limits : Limits) (commands : List Accepted) (told : Told) (reply : Result Reply Fault) (session : Session) (s : State)
-    → IfOk told (λ a. a ≡ load_answer c.id reply) → IsAnswered limits commands c reply session s
+    → IfOk told (λ a. a ≡ sent_answer c.id reply) → IsAnswered limits commands c reply session s
     → (after : Standing) × IsReplied c limits commands told after × Stands after s
 replied c limits commands told (Ok reply) session s tells (is, ready) =
     (Rests (Holds limits (accepted_after limits commands c)), record { reply = Ok reply; leaves = (is, refl); tells = tells }, (ready.admitted, ready.rests))

@@ -91,6 +91,9 @@ no_dimension_line = line (codes "error: DIMENSION is none of product, store and 
 abbrev pub no_kind_line : List ℕ
 no_kind_line = line (codes "error: KIND is none of product, store, customer and sales")
 
+abbrev pub no_command_kind_line : List ℕ
+no_command_kind_line = line (codes "error: KIND is none of product, store, customer, sales and migrate")
+
 abbrev pub no_text_line : List ℕ
 no_text_line = line (codes "error: an argument is no text")
 

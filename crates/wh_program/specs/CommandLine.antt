@@ -19,18 +19,24 @@ trial_app = with_rule operands_app (option_of (codes "POLICY") (codes "policy"))
 abbrev pub init_app : App
 init_app = with_rule (with_rule (new_app (codes "init")) (operand (codes "FILE"))) (operand (codes "POLICY"))
 
--- a word that takes a batch
+-- a word that takes a command of a kind, under an id
 abbrev pub kind_app : List ℕ → App
 kind_app name = with_rule (with_rule (new_app name) (operand (codes "FILE"))) (operand (codes "KIND"))
 
-abbrev pub batch_app : List ℕ → App
-batch_app name = with_rule (with_rule (kind_app name) (operand (codes "ID"))) (operand (codes "CSV"))
+abbrev pub called_app : List ℕ → App
+called_app name = with_rule (kind_app name) (operand (codes "ID"))
 
 abbrev pub load_app : App
-load_app = batch_app (codes "load")
+load_app = with_rule (called_app (codes "load")) (operand (codes "CSV"))
 
 abbrev pub plan_app : App
-plan_app = batch_app (codes "plan")
+plan_app = with_rule (called_app (codes "plan")) (operand (codes "INPUT"))
+
+abbrev pub migration_app : App
+migration_app = with_rule (with_rule (new_app (codes "migrate")) (operand (codes "FILE"))) (operand (codes "ID"))
+
+abbrev pub migrate_app : App
+migrate_app = with_rule migration_app (operand (codes "POLICY"))
 
 abbrev pub status_app : App
 status_app = with_rule (new_app (codes "status")) (operand (codes "FILE"))
@@ -42,11 +48,11 @@ abbrev pub first_app : App
 first_app = with_subcommand (with_subcommand top_app trial_app.top) init_app.top
 
 abbrev pub second_app : App
-second_app = with_subcommand (with_subcommand first_app load_app.top) plan_app.top
+second_app = with_subcommand (with_subcommand first_app load_app.top) migrate_app.top
 
 -- the whole program
 abbrev pub program_app : App
-program_app = with_subcommand second_app status_app.top
+program_app = with_subcommand (with_subcommand second_app plan_app.top) status_app.top
 
 -- the words of a trial, under its own policy or the one in a file
 abbrev pub trial_words : List ℕ → List ℕ → Option (List ℕ) → List (List ℕ)
@@ -67,6 +73,7 @@ pub data CommandLine : Type 0 where
   Trial : (dimension path : List ℕ) → (policy : Option (List ℕ)) → CommandLine
   Init : (file policy : List ℕ) → CommandLine
   Load : (file kind id path : List ℕ) → CommandLine
+  Migrate : (file id policy : List ℕ) → CommandLine
   Plan : (file kind id path : List ℕ) → CommandLine
   Status : (file : List ℕ) → CommandLine
 
@@ -75,6 +82,7 @@ abbrev pub words_of : CommandLine → List (List ℕ)
 words_of (Trial dimension path policy) = trial_words dimension path policy
 words_of (Init file policy) = codes "init" ∷ file ∷ policy ∷ []
 words_of (Load file kind id path) = codes "load" ∷ file ∷ kind ∷ id ∷ path ∷ []
+words_of (Migrate file id policy) = codes "migrate" ∷ file ∷ id ∷ policy ∷ []
 words_of (Plan file kind id path) = codes "plan" ∷ file ∷ kind ∷ id ∷ path ∷ []
 words_of (Status file) = codes "status" ∷ file ∷ []
 
@@ -83,6 +91,7 @@ abbrev pub has_operands : CommandLine → Bool
 has_operands (Trial dimension path policy) = is_operand dimension && (is_operand path && is_operand_or_none policy)
 has_operands (Init file policy) = is_operand file && is_operand policy
 has_operands (Load file kind id path) = is_operand file && (is_operand kind && (is_operand id && is_operand path))
+has_operands (Migrate file id policy) = is_operand file && (is_operand id && is_operand policy)
 has_operands (Plan file kind id path) = is_operand file && (is_operand kind && (is_operand id && is_operand path))
 has_operands (Status file) = is_operand file
 
@@ -93,24 +102,27 @@ named_trial rows = option_and_then (λ d. option_map (λ p. Trial d p (first_of 
 abbrev pub named_init : List Row → Option CommandLine
 named_init rows = option_and_then (λ f. option_map (λ p. Init f p) (first_of (codes "POLICY") rows)) (first_of (codes "FILE") rows)
 
--- a batch for the warehouse in a file
-pub record Batch : Type 0 where
+-- a command for the warehouse in a file, with the file that it is read from
+pub record Sent : Type 0 where
   pub file : List ℕ
   pub kind : List ℕ
   pub id : List ℕ
   pub path : List ℕ
 
-abbrev pub named_input : List ℕ → List ℕ → List Row → Option Batch
-named_input file kind rows = option_and_then (λ i. option_map (λ p. record { file = file; kind = kind; id = i; path = p }) (first_of (codes "CSV") rows)) (first_of (codes "ID") rows)
+abbrev pub named_input : List ℕ → List ℕ → List ℕ → List Row → Option Sent
+named_input file kind input rows = option_and_then (λ i. option_map (λ p. record { file = file; kind = kind; id = i; path = p }) (first_of input rows)) (first_of (codes "ID") rows)
 
-abbrev pub named_batch : List Row → Option Batch
-named_batch rows = option_and_then (λ f. option_and_then (λ k. named_input f k rows) (first_of (codes "KIND") rows)) (first_of (codes "FILE") rows)
+abbrev pub named_sent : List ℕ → List Row → Option Sent
+named_sent input rows = option_and_then (λ f. option_and_then (λ k. named_input f k input rows) (first_of (codes "KIND") rows)) (first_of (codes "FILE") rows)
 
 abbrev pub named_load : List Row → Option CommandLine
-named_load rows = option_map (λ b. Load b.file b.kind b.id b.path) (named_batch rows)
+named_load rows = option_map (λ s. Load s.file s.kind s.id s.path) (named_sent (codes "CSV") rows)
 
 abbrev pub named_plan : List Row → Option CommandLine
-named_plan rows = option_map (λ b. Plan b.file b.kind b.id b.path) (named_batch rows)
+named_plan rows = option_map (λ s. Plan s.file s.kind s.id s.path) (named_sent (codes "INPUT") rows)
+
+abbrev pub named_migrate : List Row → Option CommandLine
+named_migrate rows = option_and_then (λ f. option_and_then (λ i. option_map (λ p. Migrate f i p) (first_of (codes "POLICY") rows)) (first_of (codes "ID") rows)) (first_of (codes "FILE") rows)
 
 abbrev pub named_status : List Row → Option CommandLine
 named_status rows = option_map (λ f. Status f) (first_of (codes "FILE") rows)
@@ -121,6 +133,7 @@ named_by name rows =
     if bytes_eq name (codes "trial") then named_trial rows
     else if bytes_eq name (codes "init") then named_init rows
     else if bytes_eq name (codes "load") then named_load rows
+    else if bytes_eq name (codes "migrate") then named_migrate rows
     else if bytes_eq name (codes "plan") then named_plan rows
     else if bytes_eq name (codes "status") then named_status rows
     else None

@@ -47,6 +47,8 @@ abbrev pub refused_line : Refused → List ℕ
 refused_line refusal.BadId = line (codes "refused: E1 bad id")
 refused_line refusal.Reused = line (codes "refused: E2 id reused")
 refused_line (refusal.Batch fault) = batch_line fault
+refused_line (refusal.Policy fault) = policy_line fault
+refused_line refusal.Unfit = line (codes "refused: E5 policy does not fit")
 refused_line (refusal.LineThere number) = sale_there_line number
 refused_line (refusal.Full limit) = full_line limit
 
@@ -70,9 +72,9 @@ fault_answer fault.Memory = failed memory_line
 fault_answer (fault.Store cause) = failed (store_line cause)
 fault_answer fault.Reopen = failed (line (codes "failed: E10 reopen"))
 
-abbrev pub load_answer : List ℕ → Result Reply Fault → Printed
-load_answer id (Ok reply) = reply_answer id reply
-load_answer id (Err fault) = fault_answer fault
+abbrev pub sent_answer : List ℕ → Result Reply Fault → Printed
+sent_answer id (Ok reply) = reply_answer id reply
+sent_answer id (Err fault) = fault_answer fault
 
 abbrev pub plan_answer : Result Edits Fault → Printed
 plan_answer (Ok edits) = done (plan_text edits)

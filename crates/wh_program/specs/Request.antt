@@ -1,33 +1,40 @@
 -- What the words of the command line ask for.
-use Rattle.std.specs.Prelude.{◌≡◌, ℕ, List, Option, Some, None, option_map, string_bytes}
+use Rattle.std.specs.Prelude.{◌≡◌, ℕ, List, Option, Some, None, option_map, string_bytes, codes, if◌then◌else◌, bytes_eq}
 use Rattle.std.specs.Borrow.{Bor}
 use Rattle.wh_policy.specs.declared.attribute.Dim.{Dim}
 use Rattle.wh_policy.specs.Words.{dim_of_word}
 use Rattle.wh_batch.specs.declared.kind.Kind.{Kind}
 use Rattle.wh_batch.specs.Kind.{kind_of_word}
-use Rattle.wh_program.specs.Answer.{no_dimension_line, no_kind_line}
-use Rattle.wh_program.specs.CommandLine.{CommandLine, Batch}
+use Rattle.wh_engine.specs.declared.command.CommandKind.{CommandKind}
+use Rattle.wh_engine.specs.declared.command.CommandKind.TheVariants as kinds
+use Rattle.wh_program.specs.Answer.{no_dimension_line, no_kind_line, no_command_kind_line}
+use Rattle.wh_program.specs.CommandLine.{CommandLine, Sent}
 use Rattle.wh_program.specs.CommandLine as line
-use Rattle.wh_program.specs.declared.command.BatchOperands.{BatchOperands}
 use Rattle.wh_program.specs.declared.command.Operands.{Operands}
 use Rattle.wh_program.specs.declared.command.Operands.TheVariants as operands
 use Rattle.wh_program.specs.declared.command.Request.{Request}
-use Rattle.wh_program.specs.declared.command.Request.TheVariants.{Trial, Init, Load, Plan, Status, Usage}
+use Rattle.wh_program.specs.declared.command.Request.TheVariants.{Trial, Init, Load, Migrate, Plan, Status, Usage}
+use Rattle.wh_program.specs.declared.command.SentOperands.{SentOperands}
+
+-- the kind of a command by the word for it
+abbrev pub command_kind_of : List ℕ → Option CommandKind
+command_kind_of word = if bytes_eq word (codes "migrate") then Some kinds.Migration else option_map kinds.Batch (kind_of_word word)
 
 -- what an option points to
 abbrev pub text_of : Option (Bor (List ℕ)) → Option (List ℕ)
 text_of word = option_map (λ w. w.now) word
 
--- the batch that operands name
-abbrev pub batch_of : BatchOperands → Batch
-batch_of b = record { file = b.file.now; kind = b.kind.now; id = b.id.now; path = b.path.now }
+-- the command that operands name
+abbrev pub sent_of : SentOperands → Sent
+sent_of s = record { file = s.file.now; kind = s.kind.now; id = s.id.now; path = s.path.now }
 
 -- the command line whose operands these are
 abbrev pub line_of : Operands → CommandLine
 line_of (operands.Trial dimension path policy) = line.Trial dimension.now path.now (text_of policy)
 line_of (operands.Init file policy) = line.Init file.now policy.now
-line_of (operands.Load b) = line.Load b.file.now b.kind.now b.id.now b.path.now
-line_of (operands.Plan b) = line.Plan b.file.now b.kind.now b.id.now b.path.now
+line_of (operands.Load s) = line.Load s.file.now s.kind.now s.id.now s.path.now
+line_of (operands.Migrate file id policy) = line.Migrate file.now id.now policy.now
+line_of (operands.Plan s) = line.Plan s.file.now s.kind.now s.id.now s.path.now
 line_of (operands.Status file) = line.Status file.now
 
 -- the request says by this line that the words are wrong
@@ -52,11 +59,16 @@ AsksLoad file (Some kind) id path (Load of told called from) = (of.now ≡ file)
 AsksLoad file (Some kind) id path _ = ⊥
 AsksLoad file None id path request = IsUsage no_kind_line request
 
--- the plan of one, likewise
-abbrev pub AsksPlan : List ℕ → Option Kind → List ℕ → List ℕ → Request → Type 0
+-- a migration to the policy in a file
+abbrev pub AsksMigrate : List ℕ → List ℕ → List ℕ → Request → Type 0
+AsksMigrate file id policy (Migrate of called under) = (of.now ≡ file) × (called.now ≡ id) × (under.now ≡ policy)
+AsksMigrate file id policy _ = ⊥
+
+-- the plan of a command of that kind, or of a word that names none
+abbrev pub AsksPlan : List ℕ → Option CommandKind → List ℕ → List ℕ → Request → Type 0
 AsksPlan file (Some kind) id path (Plan of told called from) = (of.now ≡ file) × (told ≡ kind) × (called.now ≡ id) × (from.now ≡ path)
 AsksPlan file (Some kind) id path _ = ⊥
-AsksPlan file None id path request = IsUsage no_kind_line request
+AsksPlan file None id path request = IsUsage no_command_kind_line request
 
 -- how much a warehouse holds
 abbrev pub AsksStatus : List ℕ → Request → Type 0
@@ -68,5 +80,6 @@ abbrev pub Asks : CommandLine → Request → Type 0
 Asks (line.Trial dimension path policy) request = AsksTrial (dim_of_word dimension) path policy request
 Asks (line.Init file policy) request = AsksInit file policy request
 Asks (line.Load file kind id path) request = AsksLoad file (kind_of_word kind) id path request
-Asks (line.Plan file kind id path) request = AsksPlan file (kind_of_word kind) id path request
+Asks (line.Migrate file id policy) request = AsksMigrate file id policy request
+Asks (line.Plan file kind id path) request = AsksPlan file (command_kind_of kind) id path request
 Asks (line.Status file) request = AsksStatus file request

@@ -5,7 +5,6 @@ use Rattle.wh_policy.specs.Policy.{policy_at}
 use Rattle.wh_policy.specs.declared.policy.Policy.{Policy}
 use Rattle.wh_history.specs.Accepted.{Accepted}
 use Rattle.wh_history.specs.Tables.{Limits}
-use Rattle.wh_batch.specs.declared.kind.Kind.{Kind}
 use Rattle.wh_rows.specs.Limits.{greatest_limits}
 use Rattle.wh_plan.specs.Edits.{Edits, AreEdits}
 use Rattle.wh_plan.specs.FirstRows.{making_of}
@@ -13,6 +12,7 @@ use Rattle.wh_engine.specs.Admission.{answer, accepted_after}
 use Rattle.wh_engine.specs.Answered.{counts_of}
 use Rattle.wh_engine.specs.Opened.{IsNotMade}
 use Rattle.wh_engine.specs.declared.command.Command.{Command}
+use Rattle.wh_engine.specs.declared.command.CommandKind.{CommandKind}
 use Rattle.wh_engine.specs.declared.command.Reply.{Reply}
 use Rattle.wh_engine.specs.declared.counts.Counts.{Counts}
 use Rattle.wh_engine.specs.declared.fault.Fault.{Fault}
@@ -23,7 +23,7 @@ use Rattle.wh_store.specs.declared.fault.OpenFault.{OpenFault}
 use Rattle.wh_store.specs.declared.fault.OpenFault.TheVariants as opening
 use Rattle.wh_program.specs.Answer.{Printed, done, failed, no_file_line}
 use Rattle.wh_program.specs.CommandLine.{CommandLine, words_of, has_operands}
-use Rattle.wh_program.specs.Reply.{load_answer, plan_answer, opening_answer, status_answer, making_answer, made_line}
+use Rattle.wh_program.specs.Reply.{sent_answer, plan_answer, opening_answer, status_answer, making_answer, made_line}
 use Rattle.wh_program.specs.Run.{out_of_memory}
 use Rattle.wh_program.specs.Standing.{Content, Nothing, Holds, Standing, Rests, LeftAt}
 
@@ -54,7 +54,7 @@ abbrev pub Opens : (Limits → List Accepted → Told → Standing → Type 0) �
 Opens does Nothing told after = (after ≡ Rests Nothing) × IfOk told (λ a. a ≡ opening_answer opening.NotAWarehouse)
 Opens does (Holds limits commands) told after = does limits commands told after ⊎ IsUnopened limits commands told after
 
--- ---- load
+-- ---- load and migrate
 
 -- What a command leaves of a warehouse with these commands, by what the engine replied.
 abbrev pub LeavesReplied : Limits → List Accepted → Command → Result Reply Fault → Standing → Type 0
@@ -68,7 +68,7 @@ LeavesReplied limits commands c (Err _) after = ⊥
 pub record IsReplied (c : Command) (limits : Limits) (commands : List Accepted) (told : Told) (after : Standing) : Type 0 where
   pub reply : Result Reply Fault
   pub leaves : LeavesReplied limits commands c reply after
-  pub tells : IfOk told (λ a. a ≡ load_answer c.id reply)
+  pub tells : IfOk told (λ a. a ≡ sent_answer c.id reply)
 
 -- ---- plan
 
@@ -141,8 +141,8 @@ pub record IsTried (stands : Standing → Type 0) (does : Told → Standing → 
   pub then_stands : stands after
   pub did : does told after
 
--- the command that the batch of a file is, if the file is there
-abbrev pub IsCommandOf : (List ℕ → Option (List ℕ) → Type 0) → Kind → (id path : List ℕ) → Option Command → Type 0
+-- the command whose bytes a file holds, if the file is there
+abbrev pub IsCommandOf : (List ℕ → Option (List ℕ) → Type 0) → CommandKind → (id path : List ℕ) → Option Command → Type 0
 IsCommandOf holds kind id path None = holds path None
 IsCommandOf holds kind id path (Some c) = (bytes : List ℕ) × holds path (Some bytes) × (c ≡ record { id = id; kind = kind; bytes = bytes })
 
@@ -166,12 +166,12 @@ pub record IsNotConnected (stands : Standing → Type 0) (content : Content) (fi
 abbrev pub AnswersWith : (List ℕ → Option (List ℕ) → Type 0) → (Standing → Type 0) → (List ℕ → Content → Told → Standing → Type 0) → Content → (file path : List ℕ) → Told → Type 0
 AnswersWith holds stands does content file path told = IsTriedWith holds stands (λ bytes. does bytes content) path told ⊎ IsNotTried holds stands content file path told
 
--- a load of the batch of a file
-abbrev pub Loads : Kind → (id bytes : List ℕ) → Content → Told → Standing → Type 0
-Loads kind id bytes = Opens (IsReplied (record { id = id; kind = kind; bytes = bytes }))
+-- a load of the batch of a file, or a migration to its policy
+abbrev pub Sends : CommandKind → (id bytes : List ℕ) → Content → Told → Standing → Type 0
+Sends kind id bytes = Opens (IsReplied (record { id = id; kind = kind; bytes = bytes }))
 
--- a plan of the batch of a file
-abbrev pub Plans : Kind → (id bytes : List ℕ) → Content → Told → Standing → Type 0
+-- a plan of one
+abbrev pub Plans : CommandKind → (id bytes : List ℕ) → Content → Told → Standing → Type 0
 Plans kind id bytes = Opens (IsForetold (record { id = id; kind = kind; bytes = bytes }))
 
 abbrev pub AnswersStatus : (Standing → Type 0) → Content → (file : List ℕ) → Told → Type 0

@@ -4,16 +4,17 @@ ghost use Rattle.std.specs.Prelude.{◌≡◌, ℕ, List, Option, IfOk, IfErr, I
 ghost use Rattle.clap.specs.Words.{app_of, first_of, found_of, rows_of, subcommand_rows_of, kind_of, takes, subcommand_of};
 ghost use Rattle.clap.specs.declared.builder.command.Command.TheViews.{out-Command};
 ghost use Rattle.clap.specs.declared.error.ErrorKind.TheVariants.{OutOfMemory};
-ghost use Rattle.wh_program.specs.Request.{batch_of, line_of, IsUsage, AsksLoad, AsksPlan, Asks};
+ghost use Rattle.wh_program.specs.Request.{command_kind_of, sent_of, line_of, IsUsage, AsksLoad, AsksPlan, Asks};
 ghost use Rattle.wh_batch.specs.Kind.{kind_of_word};
-ghost use Rattle.wh_program.specs.CommandLine.{CommandLine, first_app, program_app, operands_app, trial_app, init_app, kind_app, batch_app, load_app, plan_app, second_app, status_app, words_of, has_operands, named, named_trial, named_init, named_batch, named_load, named_plan, named_status};
+ghost use Rattle.wh_program.specs.CommandLine.{CommandLine, first_app, program_app, operands_app, trial_app, init_app, kind_app, called_app, load_app, migration_app, migrate_app, plan_app, second_app, status_app, words_of, has_operands, named, named_trial, named_init, named_sent, named_load, named_migrate, named_plan, named_status};
 
-use crate::lines::{NO_COMMAND_LINE, NO_DIMENSION_LINE, NO_KIND_LINE};
+use crate::lines::{NO_COMMAND_KIND_LINE, NO_COMMAND_LINE, NO_DIMENSION_LINE, NO_KIND_LINE};
 use clap::error::ErrorKind;
 use clap::{Arg, ArgMatches, Command};
 use std::alloc::{AllocError, Global};
 use std::convert::AsStr;
 use wh_batch::Kind;
+use wh_engine::CommandKind;
 use wh_policy::Dim;
 
 /// What the words ask for.
@@ -37,10 +38,16 @@ pub enum Request<'a> {
         id: &'a str,
         path: &'a str,
     },
-    /// What that load would write.
+    /// The migration of the warehouse in `file` to the policy in a file, under an id.
+    Migrate {
+        file: &'a str,
+        id: &'a str,
+        policy: &'a str,
+    },
+    /// What such a load, or such a migration, would write.
     Plan {
         file: &'a str,
-        kind: Kind,
+        kind: CommandKind,
         id: &'a str,
         path: &'a str,
     },
@@ -98,51 +105,84 @@ fn init_command<'a>(alloc: Global) -> Result<Command<'a>, AllocError>
         .arg(policy)
 }
 
-fn kind_command<'a>(alloc: Global, name: &'a str) -> Result<Command<'a>, AllocError>
+fn kind_command<'a>(alloc: Global, name: &'a str, kinds: &'a str) -> Result<Command<'a>, AllocError>
     ensures app { IfOk result (λ c. app_of c ≡ kind_app name.now) }
     ensures local { IfOk result (λ c. (out-Command c).has_globals ≡ false) }
 {
     let file = Arg::new(alloc, "FILE")
         .required(true)
         .help("the warehouse's file");
-    let kind = Arg::new(alloc, "KIND")
-        .required(true)
-        .help("product, store, customer or sales");
+    let kind = Arg::new(alloc, "KIND").required(true).help(kinds);
     Command::new(alloc, name).arg(file)?.arg(kind)
 }
 
-/// A command that takes a batch.
-fn batch_command<'a>(alloc: Global, name: &'a str) -> Result<Command<'a>, AllocError>
-    ensures app { IfOk result (λ c. app_of c ≡ batch_app name.now) }
+/// A command that takes what is called by an id.
+fn called_command<'a>(
+    alloc: Global,
+    name: &'a str,
+    kinds: &'a str,
+) -> Result<Command<'a>, AllocError>
+    ensures app { IfOk result (λ c. app_of c ≡ called_app name.now) }
     ensures local { IfOk result (λ c. (out-Command c).has_globals ≡ false) }
 {
     let id = Arg::new(alloc, "ID")
         .required(true)
-        .help("what the batch is called, once");
-    let batch = Arg::new(alloc, "CSV")
-        .required(true)
-        .help("the batch's file");
-    kind_command(alloc, name)?.arg(id)?.arg(batch)
+        .help("what the command is called, once");
+    kind_command(alloc, name, kinds)?.arg(id)
 }
 
 fn load_command<'a>(alloc: Global) -> Result<Command<'a>, AllocError>
     ensures app { IfOk result (λ c. app_of c ≡ load_app) }
     ensures local { IfOk result (λ c. (out-Command c).has_globals ≡ false) }
 {
-    let command = batch_command(alloc, "load")?
+    let batch = Arg::new(alloc, "CSV")
+        .required(true)
+        .help("the batch's file");
+    called_command(alloc, "load", "product, store, customer or sales")?
         .about("Loads a batch into a warehouse")
-        .after_help("Example: wh load shop.wh product p1 examples/late.csv");
-    Ok(command)
+        .after_help("Example: wh load shop.wh product p1 examples/late.csv")
+        .arg(batch)
+}
+
+/// A migration, without its policy.
+fn migration_command<'a>(alloc: Global) -> Result<Command<'a>, AllocError>
+    ensures app { IfOk result (λ c. app_of c ≡ migration_app) }
+    ensures local { IfOk result (λ c. (out-Command c).has_globals ≡ false) }
+{
+    let file = Arg::new(alloc, "FILE")
+        .required(true)
+        .help("the warehouse's file");
+    let id = Arg::new(alloc, "ID")
+        .required(true)
+        .help("what the migration is called, once");
+    Command::new(alloc, "migrate")
+        .about("Puts a newer policy in force")
+        .after_help("Example: wh migrate shop.wh m1 newer.toml")
+        .arg(file)?
+        .arg(id)
+}
+
+fn migrate_command<'a>(alloc: Global) -> Result<Command<'a>, AllocError>
+    ensures app { IfOk result (λ c. app_of c ≡ migrate_app) }
+    ensures local { IfOk result (λ c. (out-Command c).has_globals ≡ false) }
+{
+    let policy = Arg::new(alloc, "POLICY")
+        .required(true)
+        .help("the newer policy's file");
+    migration_command(alloc)?.arg(policy)
 }
 
 fn plan_command<'a>(alloc: Global) -> Result<Command<'a>, AllocError>
     ensures app { IfOk result (λ c. app_of c ≡ plan_app) }
     ensures local { IfOk result (λ c. (out-Command c).has_globals ≡ false) }
 {
-    let command = batch_command(alloc, "plan")?
-        .about("Prints what a load would write, and writes nothing")
-        .after_help("Example: wh plan shop.wh product p1 examples/late.csv");
-    Ok(command)
+    let input = Arg::new(alloc, "INPUT")
+        .required(true)
+        .help("the batch's file, or the newer policy's");
+    called_command(alloc, "plan", "product, store, customer, sales or migrate")?
+        .about("Prints what a load or a migration would write, and writes nothing")
+        .after_help("Example: wh plan shop.wh product p1 examples/late.csv")
+        .arg(input)
 }
 
 fn status_command<'a>(alloc: Global) -> Result<Command<'a>, AllocError>
@@ -177,15 +217,16 @@ fn second_command<'a>(alloc: Global) -> Result<Command<'a>, AllocError>
     ensures local { IfOk result (λ c. (out-Command c).has_globals ≡ false) }
 {
     let load = load_command(alloc)?;
-    let plan = plan_command(alloc)?;
-    first_command(alloc)?.subcommand(load)?.subcommand(plan)
+    let migrate = migrate_command(alloc)?;
+    first_command(alloc)?.subcommand(load)?.subcommand(migrate)
 }
 
 fn program_command<'a>(alloc: Global) -> Result<Command<'a>, AllocError>
     ensures { IfOk result (λ c. app_of c ≡ program_app) }
 {
+    let plan = plan_command(alloc)?;
     let status = status_command(alloc)?;
-    second_command(alloc)?.subcommand(status)
+    second_command(alloc)?.subcommand(plan)?.subcommand(status)
 }
 
 /// What `clap` finds in the words. Where it takes them, it is refused memory alone.
@@ -196,9 +237,9 @@ fn matches_of<'a, S: AsStr>(alloc: Global, words: &'a [S]) -> Result<ArgMatches<
     program_command(alloc)?.try_get_matches_from(words)
 }
 
-/// The operands that name a batch and the warehouse that it is for.
+/// The operands that name a command and the warehouse that it is for.
 #[derive(Clone, Copy, Debug, Drop)]
-struct BatchOperands<'a> {
+struct SentOperands<'a> {
     file: &'a str,
     kind: &'a str,
     id: &'a str,
@@ -217,8 +258,13 @@ enum Operands<'a> {
         file: &'a str,
         policy: &'a str,
     },
-    Load(BatchOperands<'a>),
-    Plan(BatchOperands<'a>),
+    Load(SentOperands<'a>),
+    Migrate {
+        file: &'a str,
+        id: &'a str,
+        policy: &'a str,
+    },
+    Plan(SentOperands<'a>),
     Status {
         file: &'a str,
     },
@@ -250,27 +296,38 @@ fn init_operands<'a>(inner: &ArgMatches<'a>) -> Option<Operands<'a>>
     })
 }
 
-fn batch_operands<'a>(inner: &ArgMatches<'a>) -> Option<BatchOperands<'a>>
-    ensures { option_map batch_of result ≡ named_batch (rows_of (found_of inner.now)) }
+/// Those of a command whose file has this name among them.
+fn sent_operands<'a>(inner: &ArgMatches<'a>, input: &str) -> Option<SentOperands<'a>>
+    ensures { option_map sent_of result ≡ named_sent input.now (rows_of (found_of inner.now)) }
 {
-    Some(BatchOperands {
+    Some(SentOperands {
         file: value_of(inner, "FILE")?,
         kind: value_of(inner, "KIND")?,
         id: value_of(inner, "ID")?,
-        path: value_of(inner, "CSV")?,
+        path: value_of(inner, input)?,
     })
 }
 
 fn load_operands<'a>(inner: &ArgMatches<'a>) -> Option<Operands<'a>>
     ensures { option_map line_of result ≡ named_load (rows_of (found_of inner.now)) }
 {
-    Some(Operands::Load(batch_operands(inner)?))
+    Some(Operands::Load(sent_operands(inner, "CSV")?))
+}
+
+fn migrate_operands<'a>(inner: &ArgMatches<'a>) -> Option<Operands<'a>>
+    ensures { option_map line_of result ≡ named_migrate (rows_of (found_of inner.now)) }
+{
+    Some(Operands::Migrate {
+        file: value_of(inner, "FILE")?,
+        id: value_of(inner, "ID")?,
+        policy: value_of(inner, "POLICY")?,
+    })
 }
 
 fn plan_operands<'a>(inner: &ArgMatches<'a>) -> Option<Operands<'a>>
     ensures { option_map line_of result ≡ named_plan (rows_of (found_of inner.now)) }
 {
-    Some(Operands::Plan(batch_operands(inner)?))
+    Some(Operands::Plan(sent_operands(inner, "INPUT")?))
 }
 
 fn status_operands<'a>(inner: &ArgMatches<'a>) -> Option<Operands<'a>>
@@ -290,6 +347,7 @@ fn operands_of<'a>(matches: &ArgMatches<'a>) -> Option<Operands<'a>>
         "trial" => trial_operands(inner),
         "init" => init_operands(inner),
         "load" => load_operands(inner),
+        "migrate" => migrate_operands(inner),
         "plan" => plan_operands(inner),
         "status" => status_operands(inner),
         _ => None,
@@ -314,32 +372,45 @@ fn mistake<'a>(alloc: Global, line: &str) -> Result<Request<'a>, AllocError>
 }
 
 /// The load of a batch of a kind.
-fn load_request<'a>(alloc: Global, batch: BatchOperands<'a>) -> Result<Request<'a>, AllocError>
-    ensures { IfOk result (AsksLoad batch.entry.file.now (kind_of_word batch.entry.kind.now) batch.entry.id.now batch.entry.path.now) }
+fn load_request<'a>(alloc: Global, sent: SentOperands<'a>) -> Result<Request<'a>, AllocError>
+    ensures { IfOk result (AsksLoad sent.entry.file.now (kind_of_word sent.entry.kind.now) sent.entry.id.now sent.entry.path.now) }
 {
-    match Kind::from_word(batch.kind) {
+    match Kind::from_word(sent.kind) {
         Some(kind) => Ok(Request::Load {
-            file: batch.file,
+            file: sent.file,
             kind,
-            id: batch.id,
-            path: batch.path,
+            id: sent.id,
+            path: sent.path,
         }),
         None => mistake(alloc, NO_KIND_LINE),
     }
 }
 
-/// The plan of one.
-fn plan_request<'a>(alloc: Global, batch: BatchOperands<'a>) -> Result<Request<'a>, AllocError>
-    ensures { IfOk result (AsksPlan batch.entry.file.now (kind_of_word batch.entry.kind.now) batch.entry.id.now batch.entry.path.now) }
+/// The kind of a command by the word for it.
+fn command_kind_of(word: &str) -> Option<CommandKind>
+    ensures { result ≡ command_kind_of word.now }
 {
-    match Kind::from_word(batch.kind) {
+    if word == "migrate" {
+        return Some(CommandKind::Migration);
+    }
+    match Kind::from_word(word) {
+        Some(kind) => Some(CommandKind::Batch(kind)),
+        None => None,
+    }
+}
+
+/// The plan of a command of a kind.
+fn plan_request<'a>(alloc: Global, sent: SentOperands<'a>) -> Result<Request<'a>, AllocError>
+    ensures { IfOk result (AsksPlan sent.entry.file.now (command_kind_of sent.entry.kind.now) sent.entry.id.now sent.entry.path.now) }
+{
+    match command_kind_of(sent.kind) {
         Some(kind) => Ok(Request::Plan {
-            file: batch.file,
+            file: sent.file,
             kind,
-            id: batch.id,
-            path: batch.path,
+            id: sent.id,
+            path: sent.path,
         }),
-        None => mistake(alloc, NO_KIND_LINE),
+        None => mistake(alloc, NO_COMMAND_KIND_LINE),
     }
 }
 
@@ -357,8 +428,9 @@ fn requested<'a>(alloc: Global, operands: Operands<'a>) -> Result<Request<'a>, A
             None => mistake(alloc, NO_DIMENSION_LINE),
         },
         Operands::Init { file, policy } => Ok(Request::Init { file, policy }),
-        Operands::Load(batch) => load_request(alloc, batch),
-        Operands::Plan(batch) => plan_request(alloc, batch),
+        Operands::Load(sent) => load_request(alloc, sent),
+        Operands::Migrate { file, id, policy } => Ok(Request::Migrate { file, id, policy }),
+        Operands::Plan(sent) => plan_request(alloc, sent),
         Operands::Status { file } => Ok(Request::Status { file }),
     }
 }

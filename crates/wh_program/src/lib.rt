@@ -16,7 +16,7 @@ mod warehouse;
 pub use answer::Answer;
 pub use host::{Host, HostError, Visitor};
 pub use lines::{
-    load_answer, made, making_answer, opening_answer, plan_answer, room_for_receipt, status_answer,
+    made, making_answer, opening_answer, plan_answer, room_for_receipt, sent_answer, status_answer,
 };
 pub use one::OneHost;
 pub use program::{run, run_without_words};

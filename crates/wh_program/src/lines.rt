@@ -2,7 +2,7 @@
 
 ghost use Rattle.std.specs.Prelude.{◌≡◌, IfOk, string_bytes};
 ghost use Rattle.wh_program.specs.Answer.{status_code, done, refused, failed, no_file_line, batch_line, batch_fault_name, policy_line, policy_fault_name};
-ghost use Rattle.wh_program.specs.Reply.{receipt_line, reply_answer, limit_name, full_line, sale_there_line, refused_line, damaged_line, cause_name, store_line, fault_answer, load_answer, plan_answer, made_line, making_answer, opening_answer, members_line, totals_text, counts_text, status_answer};
+ghost use Rattle.wh_program.specs.Reply.{receipt_line, reply_answer, limit_name, full_line, sale_there_line, refused_line, damaged_line, cause_name, store_line, fault_answer, sent_answer, plan_answer, made_line, making_answer, opening_answer, members_line, totals_text, counts_text, status_answer};
 
 use crate::answer::{Answer, Status};
 use crate::plan_text::plan_text;
@@ -25,6 +25,10 @@ pub const NO_DIMENSION_LINE: &str = "error: DIMENSION is none of product, store 
 
 /// What is wrong with the words of a load.
 pub const NO_KIND_LINE: &str = "error: KIND is none of product, store, customer and sales\n";
+
+/// What is wrong with the words of a plan.
+pub const NO_COMMAND_KIND_LINE: &str =
+    "error: KIND is none of product, store, customer, sales and migrate\n";
 
 /// What is wrong with words of which none names a command.
 pub const NO_COMMAND_LINE: &str = "error: no command was given\n";
@@ -176,6 +180,8 @@ fn refused_answer(alloc: Global, why: Refused) -> Result<Answer, AllocError>
         Refused::BadId => told(alloc, Status::Refused, "refused: E1 bad id\n"),
         Refused::Reused => told(alloc, Status::Refused, "refused: E2 id reused\n"),
         Refused::Batch(fault) => Ok(Answer::new(Status::Refused, batch_line(alloc, fault)?)),
+        Refused::Policy(fault) => Ok(Answer::new(Status::Refused, policy_line(alloc, fault)?)),
+        Refused::Unfit => told(alloc, Status::Refused, "refused: E5 policy does not fit\n"),
         Refused::LineThere(number) => {
             Ok(Answer::new(Status::Refused, sale_there_line(alloc, number)?))
         }
@@ -223,14 +229,14 @@ fn fault_answer(alloc: Global, fault: Fault) -> Result<Answer, AllocError>
     }
 }
 
-/// The answer to the load of a batch under an id, with room for a receipt's line.
-pub fn load_answer(
+/// The answer to a command that is sent under an id, with room for a receipt's line.
+pub fn sent_answer(
     alloc: Global,
     room: Vec<u8>,
     id: &str,
     reply: Result<Reply, Fault>,
 ) -> Result<Answer, AllocError>
-    ensures { IfOk result (λ answer. answer ≡ load_answer id.now reply) }
+    ensures { IfOk result (λ answer. answer ≡ sent_answer id.now reply) }
 {
     match reply {
         Ok(reply) => reply_answer(room, id, reply),
@@ -238,7 +244,7 @@ pub fn load_answer(
     }
 }
 
-/// The answer to what a load would write.
+/// The answer to what a command would write.
 pub fn plan_answer(alloc: Global, edits: Result<Edits, Fault>) -> Result<Answer, AllocError>
     ensures { IfOk result (λ answer. answer ≡ plan_answer edits) }
 {

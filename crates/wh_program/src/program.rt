@@ -3,15 +3,17 @@
 ghost use Rattle.std.specs.Prelude.{◌≡◌, ◌≢◌, ◌⊎◌, ℕ, List, Option, Some, IfOk, map, true};
 ghost use Rattle.wh_program.specs.Answer.{Printed, AnswersTrial, wrong_words, no_text_line};
 ghost use Rattle.wh_program.specs.CommandLine.{trial_words, is_operand, is_operand_or_none};
-ghost use Rattle.wh_program.specs.CommandLine.{Init, Load, Plan, Status as StatusLine};
-ghost use Rattle.wh_program.specs.Request.{AsksTrial, AsksInit, AsksLoad, AsksPlan, AsksStatus};
+ghost use Rattle.wh_program.specs.CommandLine.{Init, Load, Migrate, Plan, Status as StatusLine};
+ghost use Rattle.wh_program.specs.Request.{AsksTrial, AsksInit, AsksLoad, AsksMigrate, AsksPlan, AsksStatus, command_kind_of};
 ghost use Rattle.wh_policy.specs.declared.attribute.Dim.{Dim};
 ghost use Rattle.wh_policy.specs.Words.{word_of};
 ghost use Rattle.wh_batch.specs.Kind.{kind_of_word};
 ghost use Rattle.wh_program.specs.Run.{Prints, out_of_memory};
 ghost use Rattle.wh_program.specs.Standing.{Content, Rests};
-ghost use Rattle.wh_program.specs.Warehouse.{Told, Makes, Loads, Plans, AnswersWith, AnswersStatus, Says, printed};
+ghost use Rattle.wh_program.specs.Warehouse.{Told, Makes, Sends, Plans, AnswersWith, AnswersStatus, Says, printed};
 ghost use Rattle.wh_batch.specs.declared.kind.Kind.{Kind};
+ghost use Rattle.wh_engine.specs.declared.command.CommandKind.{CommandKind as KindOfCommand};
+ghost use Rattle.wh_engine.specs.declared.command.CommandKind.TheVariants.{Batch, Migration};
 
 use crate::answer::{Answer, Status};
 use crate::command::{Request, parse};
@@ -19,11 +21,12 @@ use crate::host::Host;
 use crate::lines::{MEMORY_LINE, NO_TEXT_LINE, WRITE_LINE};
 use crate::output::write_whole;
 use crate::trial::{plain_trial, trial_under};
-use crate::warehouse::{init, load, plan, status};
+use crate::warehouse::{init, plan, send, status};
 use std::alloc::{AllocError, Global};
 use std::convert::AsStr;
 use std::io;
 use std::io::Write;
+use wh_engine::CommandKind;
 
 /// Prints a text, and answers the status. Where the writer fails the status is that of a failure, and a line says so
 /// if it can still be written.
@@ -48,8 +51,10 @@ fn answer_request<H: Host>(
     ensures init { (file policy : List ℕ) (content : Content) → AsksInit file policy request.entry → H.stores host.old file (Rests content)
         → AnswersWith (H.holds host.old) (H.stores host.new file) Makes content file policy result }
     ensures load { (file : List ℕ) (kind : Kind) (id path : List ℕ) (content : Content) → AsksLoad file (Some kind) id path request.entry → H.stores host.old file (Rests content)
-        → AnswersWith (H.holds host.old) (H.stores host.new file) (Loads kind id) content file path result }
-    ensures plan { (file : List ℕ) (kind : Kind) (id path : List ℕ) (content : Content) → AsksPlan file (Some kind) id path request.entry → H.stores host.old file (Rests content)
+        → AnswersWith (H.holds host.old) (H.stores host.new file) (Sends (Batch kind) id) content file path result }
+    ensures migrate { (file id policy : List ℕ) (content : Content) → AsksMigrate file id policy request.entry → H.stores host.old file (Rests content)
+        → AnswersWith (H.holds host.old) (H.stores host.new file) (Sends Migration id) content file policy result }
+    ensures plan { (file : List ℕ) (kind : KindOfCommand) (id path : List ℕ) (content : Content) → AsksPlan file (Some kind) id path request.entry → H.stores host.old file (Rests content)
         → AnswersWith (H.holds host.old) (H.stores host.new file) (Plans kind id) content file path result }
     ensures status { (file : List ℕ) (content : Content) → AsksStatus file request.entry → H.stores host.old file (Rests content) → AnswersStatus (H.stores host.new file) content file result }
 {
@@ -70,7 +75,10 @@ fn answer_request<H: Host>(
             kind,
             id,
             path,
-        } => load(alloc, file, kind, id, path, host),
+        } => send(alloc, file, CommandKind::Batch(kind), id, path, host),
+        Request::Migrate { file, id, policy } => {
+            send(alloc, file, CommandKind::Migration, id, policy, host)
+        }
         Request::Plan {
             file,
             kind,
@@ -95,8 +103,10 @@ fn answer_to<S: AsStr, H: Host>(
     ensures init { (file policy : List ℕ) (content : Content) → Says (map S.text words.now) (Init file policy) → H.stores host.old file (Rests content)
         → AnswersWith (H.holds host.old) (H.stores host.new file) Makes content file policy result }
     ensures load { (file word id path : List ℕ) (kind : Kind) (content : Content) → Says (map S.text words.now) (Load file word id path) → kind_of_word word ≡ Some kind → H.stores host.old file (Rests content)
-        → AnswersWith (H.holds host.old) (H.stores host.new file) (Loads kind id) content file path result }
-    ensures plan { (file word id path : List ℕ) (kind : Kind) (content : Content) → Says (map S.text words.now) (Plan file word id path) → kind_of_word word ≡ Some kind → H.stores host.old file (Rests content)
+        → AnswersWith (H.holds host.old) (H.stores host.new file) (Sends (Batch kind) id) content file path result }
+    ensures migrate { (file id policy : List ℕ) (content : Content) → Says (map S.text words.now) (Migrate file id policy) → H.stores host.old file (Rests content)
+        → AnswersWith (H.holds host.old) (H.stores host.new file) (Sends Migration id) content file policy result }
+    ensures plan { (file word id path : List ℕ) (kind : KindOfCommand) (content : Content) → Says (map S.text words.now) (Plan file word id path) → command_kind_of word ≡ Some kind → H.stores host.old file (Rests content)
         → AnswersWith (H.holds host.old) (H.stores host.new file) (Plans kind id) content file path result }
     ensures status { (file : List ℕ) (content : Content) → Says (map S.text words.now) (StatusLine file) → H.stores host.old file (Rests content) → AnswersStatus (H.stores host.new file) content file result }
 {
@@ -112,12 +122,14 @@ pub fn run<S: AsStr, H: Host, W: Write>(alloc: Global, words: &[S], host: &mut H
         ⊎ ((answer : Printed) × AnswersTrial (H.holds host.old) dim path policy answer
         × Prints (W.contents out.old) (W.contents out.new) result answer) }
 
-    // What a making, a load, a plan and a count print, and what they leave under the warehouse's name.
+    // What a making, a load, a migration, a plan and a count print, and what they leave under the warehouse's name.
     ensures init { (file policy : List ℕ) (content : Content) → Says (map S.text words.now) (Init file policy) → H.stores host.old file (Rests content)
         → (told : Told) × AnswersWith (H.holds host.old) (H.stores host.new file) Makes content file policy told × Prints (W.contents out.old) (W.contents out.new) result (printed told) }
     ensures load { (file word id path : List ℕ) (kind : Kind) (content : Content) → Says (map S.text words.now) (Load file word id path) → kind_of_word word ≡ Some kind → H.stores host.old file (Rests content)
-        → (told : Told) × AnswersWith (H.holds host.old) (H.stores host.new file) (Loads kind id) content file path told × Prints (W.contents out.old) (W.contents out.new) result (printed told) }
-    ensures plan { (file word id path : List ℕ) (kind : Kind) (content : Content) → Says (map S.text words.now) (Plan file word id path) → kind_of_word word ≡ Some kind → H.stores host.old file (Rests content)
+        → (told : Told) × AnswersWith (H.holds host.old) (H.stores host.new file) (Sends (Batch kind) id) content file path told × Prints (W.contents out.old) (W.contents out.new) result (printed told) }
+    ensures migrate { (file id policy : List ℕ) (content : Content) → Says (map S.text words.now) (Migrate file id policy) → H.stores host.old file (Rests content)
+        → (told : Told) × AnswersWith (H.holds host.old) (H.stores host.new file) (Sends Migration id) content file policy told × Prints (W.contents out.old) (W.contents out.new) result (printed told) }
+    ensures plan { (file word id path : List ℕ) (kind : KindOfCommand) (content : Content) → Says (map S.text words.now) (Plan file word id path) → command_kind_of word ≡ Some kind → H.stores host.old file (Rests content)
         → (told : Told) × AnswersWith (H.holds host.old) (H.stores host.new file) (Plans kind id) content file path told × Prints (W.contents out.old) (W.contents out.new) result (printed told) }
     ensures status { (file : List ℕ) (content : Content) → Says (map S.text words.now) (StatusLine file) → H.stores host.old file (Rests content)
         → (told : Told) × AnswersStatus (H.stores host.new file) content file told × Prints (W.contents out.old) (W.contents out.new) result (printed told) }

@@ -3,20 +3,19 @@
 ghost use Rattle.std.specs.Prelude.{◌≡◌, ⊤, IfOk, OnErr};
 ghost use Rattle.wh_program.specs.Answer.{failed, no_file_line};
 ghost use Rattle.wh_program.specs.Standing.{Content, Standing, Rests};
-ghost use Rattle.wh_program.specs.Warehouse.{Opens, IsReplied, IsForetold, IsCounted, IsCommandOf, Makes, Loads, Plans, AnswersWith, AnswersStatus};
+ghost use Rattle.wh_program.specs.Warehouse.{Opens, IsReplied, IsForetold, IsCounted, IsCommandOf, Makes, Sends, Plans, AnswersWith, AnswersStatus};
 
 use crate::answer::Answer;
 use crate::host::{Host, HostError, Visitor, file_of};
 use crate::lines::{
-    load_answer, made, making_answer, no_file, opening_answer, plan_answer, room_for_receipt,
+    made, making_answer, no_file, opening_answer, plan_answer, room_for_receipt, sent_answer,
     status_answer,
 };
 use sqlite::{Alter, Connection};
 use sqlite_value::value::Bytes;
 use std::alloc::{AllocError, Global};
-use wh_batch::Kind;
 use wh_day::Value;
-use wh_engine::{Command, Engine};
+use wh_engine::{Command, CommandKind, Engine};
 use wh_rows::Limits;
 
 /// Makes a warehouse under the policy that these bytes write.
@@ -46,18 +45,18 @@ impl Visitor for Making {
     }
 }
 
-/// Loads a batch into a warehouse.
+/// Sends a command to a warehouse.
 #[derive(Drop)]
-struct Loading {
+struct Sending {
     command: Command,
     /// Room for the line of its receipt.
     room: Vec<u8>,
 }
 
-impl Visitor for Loading {
+impl Visitor for Sending {
     type Output = Result<Answer, AllocError>;
 
-    ghost promises = { λ loading content told after. Opens (IsReplied loading.command) content told after };
+    ghost promises = { λ sending content told after. Opens (IsReplied sending.command) content told after };
 
     fn visit<T: Alter + Drop>(
         self,
@@ -67,7 +66,7 @@ impl Visitor for Loading {
         match Engine::open(alloc, connection) {
             Ok(mut engine) => {
                 let reply = engine.apply(alloc, &self.command);
-                let answer = load_answer(alloc, self.room, self.command.id.as_str(), reply);
+                let answer = sent_answer(alloc, self.room, self.command.id.as_str(), reply);
                 (answer, engine.close())
             }
             Err((fault, connection)) => (opening_answer(alloc, fault), connection),
@@ -75,7 +74,7 @@ impl Visitor for Loading {
     }
 }
 
-/// Foretells what a load would write into a warehouse.
+/// Foretells what a command would write into a warehouse.
 #[derive(Drop)]
 struct Planning {
     command: Command,
@@ -158,51 +157,52 @@ pub fn init<H: Host>(
     answered(alloc, file, visit)
 }
 
-/// The command that the batch in a file is, if the file is there.
+/// The command whose batch, or whose policy, is in a file, if the file is there.
 fn command_of<H: Host>(
     alloc: Global,
-    kind: Kind,
+    kind: CommandKind,
     id: &str,
     path: &str,
     host: &H,
 ) -> Result<Option<Command>, AllocError>
     ensures { IfOk result (IsCommandOf (H.holds host.now) kind id.now path.now) }
 {
-    let Some(batch) = file_of(alloc, path, host)? else {
+    let Some(text) = file_of(alloc, path, host)? else {
         return Ok(None);
     };
     Ok(Some(Command {
         id: Value::new(alloc, id)?,
         kind,
-        bytes: Bytes::from_slice(alloc, &batch)?,
+        bytes: Bytes::from_slice(alloc, &text)?,
     }))
 }
 
-/// Loads the batch in a file into the warehouse in another. The batch's file is read first.
-pub fn load<H: Host>(
+/// Sends the warehouse in a file the command in another: loads its batch, or puts its policy in force. The command's file is read
+/// first.
+pub fn send<H: Host>(
     alloc: Global,
     file: &str,
-    kind: Kind,
+    kind: CommandKind,
     id: &str,
     path: &str,
     host: &mut H,
 ) -> Result<Answer, AllocError>
     ensures { (content : Content) → H.stores host.old file.now (Rests content)
-        → AnswersWith (H.holds host.old) (H.stores host.new file.now) (Loads kind id.now) content file.now path.now result }
+        → AnswersWith (H.holds host.old) (H.stores host.new file.now) (Sends kind id.now) content file.now path.now result }
 {
     let Some(command) = command_of(alloc, kind, id, path, host)? else {
         return no_file(alloc, path);
     };
     let room = room_for_receipt(alloc, id)?;
-    let visit = host.with_existing(alloc, file, Loading { command, room });
+    let visit = host.with_existing(alloc, file, Sending { command, room });
     answered(alloc, file, visit)
 }
 
-/// Tells what the load of the batch in a file would write into the warehouse in another, and writes nothing.
+/// Tells what the command in a file would write into the warehouse in another, and writes nothing.
 pub fn plan<H: Host>(
     alloc: Global,
     file: &str,
-    kind: Kind,
+    kind: CommandKind,
     id: &str,
     path: &str,
     host: &mut H,

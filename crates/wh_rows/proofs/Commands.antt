@@ -1,12 +1,12 @@
 -- The statements on command.
-use Rattle.std.proofs.Common.{Bool, ℕ, List, [], ◌∷◌, codes, map, drop, pos, true, ◌&&◌, refl, sym, ap, ◌∙◌, inl, inr}
+use Rattle.std.proofs.Common.{Bool, ℕ, List, [], ◌∷◌, codes, map, drop, pos, true, ◌&&◌, ◌||◌, refl, sym, ap, ap₂, ◌∙◌, inl, inr}
 use Rattle.std.specs.Ordering.{is_eq, eq_by_cmp, nat_cmp}
 use Rattle.std.specs.Cmp.Lexicographic.{slice_cmp}
 use Rattle.sqlite_value.specs.declared.value.Value.TheVariants.{Null, Int, Text}
 use Rattle.sqlite_value.specs.declared.keys.Key.{Key}
 use Rattle.sqlite_value.specs.Keys.{first_key, ascending}
 use Rattle.sqlite_value.proofs.OrderLemmas.{then-Equal}
-use Rattle.sqlite_sql.specs.declared.ops.BinaryOp.TheVariants.{Compare}
+use Rattle.sqlite_sql.specs.declared.ops.BinaryOp.TheVariants.{Compare, Or}
 use Rattle.sqlite_sql.specs.declared.ops.CompareOp.TheVariants.{Eq}
 use Rattle.sqlite_schema.specs.Rules.{equal}
 use Rattle.sqlite_tied.specs.Compute.{everything}
@@ -18,11 +18,11 @@ use Rattle.wh_rows.specs.Rows as row
 use Rattle.wh_rows.specs.Texts as texts
 use Rattle.wh_rows.specs.Keys.{bind_number, stands_at_number}
 use Rattle.wh_rows.specs.Meaning.{PutsOne, KeepsApart, RemovesOne, ReadsSome, CountsAll}
-use Rattle.wh_rows.specs.Raw.{ReadsStored}
-use Rattle.wh_rows.specs.Questions.{has_id}
-use Rattle.wh_rows.specs.Firsts.{ReadsFirst}
+use Rattle.wh_rows.specs.Raw.{ReadsStored, ReadsFrontStored}
+use Rattle.wh_rows.specs.Questions.{has_id, has_policy, gives_policy}
+use Rattle.wh_rows.specs.Firsts.{last_one, ReadsFirst}
 use Rattle.wh_rows.proofs.Cast.{cast_row_own}
-use Rattle.wh_rows.proofs.Keys.{and-true, equal-Nat, equal-Text, sorted-Nat, trimmed}
+use Rattle.wh_rows.proofs.Keys.{and-true, equal-Nat, equal-Text, is_text, or_true, sorted-Nat, trimmed}
 use Rattle.wh_rows.specs.Schema.{index}
 
 -- ---- put
@@ -165,6 +165,25 @@ greatest = record {
   in_order = λ v w. then-Equal _ ∙ sorted-Nat w.number v.number;
 }
 
+-- the last that gives a policy
+pub last_policy : ReadsFirst row.command ([]) (λ r. gives_policy r.kind) 1 true texts.last_policy
+unfolding understood everything
+last_policy = record {
+  tests = op2 Or (op2 (Compare Eq Binary) (col 1 3) (lit (Text (codes "init")))) (op2 (Compare Eq Binary) (col 1 3) (lit (Text (codes "migrate")))) ∷ [];
+  project = shown;
+  order = (col 1 0, record { collation = Binary; descending = true }) ∷ [];
+  names = map (λ c. c.name) row.command.table.columns;
+  command = refl;
+  plain = (refl, refl);
+  unlisted = refl;
+  test = has_policy;
+  hits = λ r. and-true _ ∙ or_true _ _;
+  agree = λ w. ap₂ (λ a b. a || b) (is_text w.kind (codes "init")) (is_text w.kind (codes "migrate"));
+  sorted_by = λ r. column r 0 ∷ [];
+  shows = λ r. refl;
+  in_order = λ v w. then-Equal _ ∙ sorted-Nat w.number v.number;
+}
+
 -- ---- read, whoever wrote the rows
 
 pub all_stored : ReadsStored row.command [] (λ r. true) (λ r. true) texts.command.all
@@ -178,6 +197,14 @@ get_stored k = record { reads = get k; tested = λ r. refl }
 pub of_id_stored : (id : List ℕ) → ReadsStored row.command (Text id ∷ []) (has_id id) (λ r. eq_by_cmp (slice_cmp nat_cmp) id r.id) texts.command_of_id
 unfolding of_id
 of_id_stored id = record { reads = of_id id; tested = λ r. refl }
+
+pub greatest_stored : ReadsFrontStored last_one row.command [] (λ r. true) (λ r. true) texts.last_command
+unfolding greatest
+greatest_stored = record { reads = greatest; tested = λ r. refl; in_order = λ r s. refl }
+
+pub last_policy_stored : ReadsFrontStored last_one row.command [] has_policy (λ r. gives_policy r.kind) texts.last_policy
+unfolding last_policy
+last_policy_stored = record { reads = last_policy; tested = λ r. refl; in_order = λ r s. refl }
 
 -- ---- count
 

@@ -24,9 +24,9 @@ use Rattle.wh_rows.specs.Rows as row
 use Rattle.wh_rows.specs.Texts as texts
 use Rattle.wh_rows.specs.Keys.{bind_member, stands_at_member}
 use Rattle.wh_rows.specs.Meaning.{PutsOne, KeepsApart, RemovesOne, ReadsSome, CountsAll}
-use Rattle.wh_rows.specs.Raw.{ReadsStored}
-use Rattle.wh_rows.specs.Questions.{has_natural}
-use Rattle.wh_rows.specs.Firsts.{ReadsFirst}
+use Rattle.wh_rows.specs.Raw.{ReadsStored, ReadsFrontStored}
+use Rattle.wh_rows.specs.Questions.{has_natural, is_of_dim}
+use Rattle.wh_rows.specs.Firsts.{last_one, ReadsFirst}
 use Rattle.wh_rows.proofs.Cast.{cast_row_own}
 use Rattle.wh_rows.proofs.Keys.{and-true, equal-Nat, equal-Text, sorted-Nat, then_eq, trimmed_and}
 use Rattle.wh_rows.specs.Schema.{index}
@@ -181,6 +181,10 @@ get_stored k = record { reads = get k; tested = λ r. refl }
 pub of_natural_stored : (dim : Dim) (natural : List ℕ) → ReadsStored row.member (Int (pos (dim_number dim)) ∷ Text natural ∷ []) (has_natural dim natural) (λ r. eq_by_cmp nat_cmp (dim_number dim) (dim_number r.dim) && eq_by_cmp (slice_cmp nat_cmp) natural r.natural) texts.member_of_natural
 unfolding of_natural
 of_natural_stored dim natural = record { reads = of_natural dim natural; tested = λ r. refl }
+
+pub greatest_stored : (dim : Dim) → ReadsFrontStored last_one row.member (Int (pos (dim_number dim)) ∷ []) (is_of_dim dim) (λ r. eq_by_cmp nat_cmp (dim_number dim) (dim_number r.dim)) texts.last_member
+unfolding greatest
+greatest_stored dim = record { reads = greatest dim; tested = λ r. refl; in_order = λ r s. refl }
 
 -- ---- count
 

@@ -20,9 +20,9 @@ use Rattle.wh_rows.specs.Texts as texts
 use Rattle.wh_rows.specs.Keys.{bind_number, stands_at_number}
 use Rattle.wh_policy.specs.declared.attribute.Dim.TheVariants.{Product}
 use Rattle.wh_rows.specs.Meaning.{PutsOne, RemovesOne, ReadsSome, CountsAll}
-use Rattle.wh_rows.specs.Raw.{ReadsStored}
+use Rattle.wh_rows.specs.Raw.{ReadsStored, ReadsFrontStored}
 use Rattle.wh_rows.specs.Questions.{has_durable}
-use Rattle.wh_rows.specs.Firsts.{ReadsFirst}
+use Rattle.wh_rows.specs.Firsts.{last_one, ReadsFirst}
 use Rattle.wh_rows.proofs.Cast.{cast_row_own}
 use Rattle.wh_rows.proofs.Keys.{and-true, trimmed, equal-Nat, sorted-Nat}
 
@@ -167,6 +167,10 @@ get_stored k = record { reads = get k; tested = λ r. refl }
 pub of_durable_stored : (durable : ℕ) → ReadsStored row.product (Int (pos durable) ∷ []) (has_durable durable) (λ r. eq_by_cmp nat_cmp durable r.durable) (texts.rows_of_member Product)
 unfolding of_durable
 of_durable_stored durable = record { reads = of_durable durable; tested = λ r. refl }
+
+pub greatest_stored : ReadsFrontStored last_one row.product [] (λ r. true) (λ r. true) (texts.last_row Product)
+unfolding greatest
+greatest_stored = record { reads = greatest; tested = λ r. refl; in_order = λ r s. refl }
 
 -- ---- count
 

@@ -19,9 +19,9 @@ use Rattle.wh_rows.specs.Rows as row
 use Rattle.wh_rows.specs.Texts as texts
 use Rattle.wh_rows.specs.Keys.{bind_number, stands_at_number}
 use Rattle.wh_rows.specs.Meaning.{PutsOne, RemovesOne, ReadsSome, CountsAll}
-use Rattle.wh_rows.specs.Raw.{ReadsStored}
+use Rattle.wh_rows.specs.Raw.{ReadsStored, ReadsFrontStored}
 use Rattle.wh_rows.specs.Questions.{has_values}
-use Rattle.wh_rows.specs.Firsts.{ReadsFirst}
+use Rattle.wh_rows.specs.Firsts.{last_one, ReadsFirst}
 use Rattle.wh_rows.proofs.Cast.{cast_row_own}
 use Rattle.wh_rows.proofs.Keys.{and-true, trimmed, equal-Nat, equal-Text, sorted-Nat}
 
@@ -166,6 +166,10 @@ get_stored k = record { reads = get k; tested = λ r. refl }
 pub of_values_stored : (values : List (List ℕ)) → ReadsStored row.profile (slot_columns values) (has_values values) (λ r. eq_by_cmp (slice_cmp nat_cmp) (slice_index_or values 0 []) (slice_index_or r.values 0 []) && (eq_by_cmp (slice_cmp nat_cmp) (slice_index_or values 1 []) (slice_index_or r.values 1 []) && (eq_by_cmp (slice_cmp nat_cmp) (slice_index_or values 2 []) (slice_index_or r.values 2 []) && (eq_by_cmp (slice_cmp nat_cmp) (slice_index_or values 3 []) (slice_index_or r.values 3 []) && (eq_by_cmp (slice_cmp nat_cmp) (slice_index_or values 4 []) (slice_index_or r.values 4 []) && (eq_by_cmp (slice_cmp nat_cmp) (slice_index_or values 5 []) (slice_index_or r.values 5 []))))))) texts.profile_of_values
 unfolding of_values
 of_values_stored values = record { reads = of_values values; tested = λ r. refl }
+
+pub greatest_stored : ReadsFrontStored last_one row.profile [] (λ r. true) (λ r. true) texts.last_profile
+unfolding greatest
+greatest_stored = record { reads = greatest; tested = λ r. refl; in_order = λ r s. refl }
 
 -- ---- count
 

@@ -1,5 +1,5 @@
 -- The stored rows of a table, whoever wrote them.
-use Rattle.std.proofs.Common.{Option, None, Some, IsSome, ◌++◌, ◌↔◌, add-one, Result, Ok, Err, ◌⊎◌, ◌≡◌, ℕ, zero, suc, ◌+◌, ◌<◌, List, [], ◌∷◌, map, filter, length, Bool, true, false, inl, inr, refl, sym, ap, subst, subst₂, ◌∙◌, arith, Ordering, Less, Equal, Greater, is_lt}
+use Rattle.std.proofs.Common.{Option, None, Some, IsSome, ◌++◌, ◌↔◌, add-one, Result, Ok, Err, ◌⊎◌, ◌≡◌, ℕ, zero, suc, ◌+◌, ◌<◌, List, [], ◌∷◌, map, filter, take, length, Bool, true, false, inl, inr, refl, sym, ap, subst, subst₂, ◌∙◌, arith, Ordering, Less, Equal, Greater, is_lt}
 use Rattle.std.specs.Prelude.{IsTrue}
 use Rattle.std.specs.List.{AllByRecursion, list_all}
 use Rattle.std.specs.List.Sorted.{IsPermutation, IsSorted}
@@ -8,8 +8,9 @@ use Rattle.std.specs.Ordering.{ordering_reverse}
 use Rattle.std.specs.Option.{option_to_list}
 use Rattle.std.specs.FinMap.{FinMap, entries, values, entries_sorted}
 use Rattle.std.proofs.lemmas.List.{get_or-map, length-map}
-use Rattle.std.proofs.lemmas.List.Sorted.{IsPermutation-map, IsPermutation-sym}
-use Rattle.sqlite_trees.proofs.ListLemmas.{all-permutation}
+use Rattle.std.proofs.lemmas.List.Sorted.{IsPermutation-map, IsPermutation-sym, IsPermutation-trans}
+use Rattle.sqlite_trees.proofs.ListLemmas.{all-permutation, IsPermutation-filter, pull_back}
+use Rattle.sqlite_exec.proofs.PartitionLemmas.{IsSorted-from_map}
 use Rattle.sqlite_value.specs.Order.{Row}
 use Rattle.sqlite_trees.specs.Tree.{Trees, IsAscending}
 use Rattle.sqlite_trees.proofs.ListLemmas.{filter-map}
@@ -23,7 +24,9 @@ use Rattle.wh_rows.specs.Schema.{warehouse}
 use Rattle.wh_rows.specs.Statements.{reading}
 use Rattle.wh_rows.specs.Holds.{Layout, values_of, Holds}
 use Rattle.wh_rows.specs.Meaning.{passes}
-use Rattle.wh_rows.specs.Raw.{HasDamage, AreRows, IsLastOf, ReadsStored, rows_in}
+use Rattle.wh_rows.specs.Firsts.{Front, reading_first}
+use Rattle.wh_rows.specs.Raw.{HasDamage, AreRows, IsLastOf, IsFrontOf, ReadsStored, ReadsFrontStored, rows_in}
+use Rattle.wh_rows.proofs.Firsts.{is_read_first}
 use Rattle.std.proofs.lemmas.Bool.{and_parts}
 use Rattle.wh_rows.specs.declared.columns.Damaged.{Damaged}
 use Rattle.wh_rows.proofs.ColumnLemmas.{both}
@@ -161,3 +164,34 @@ module _ {K V : Type 0} (layout : Layout K V) (params : Row) (stands : Row → B
       let one : found.ordered ≡ map (λ v. show (layout.encode v)) rows = ordered_is ∙ ap (map show) same ∙ map-map show layout.encode rows in
       subst (λ (R : V → V → Ordering). IsSorted R rows) (λ i v w. it.reads.in_order v w i)
       (sorted-map (output_cmp query) (λ v. show (layout.encode v)) rows (subst (IsSorted (output_cmp query)) one found.sorted))
+
+-- ---- what a query shows that asks for some of them
+
+module _ {K V : Type 0} (front : Front) (layout : Layout K V) (params : Row) (stands : Row → Bool) (keep : V → Bool) (text : List ℕ) (it : ReadsFrontStored front layout params stands keep text) (old new : State) (answer : List Row)
+    (is : old.now.schema ≡ warehouse) (shown : Shown text params old new answer) where
+  -- the answer is the first of the stored rows that stand
+  pub shows_front : IsFrontOf front layout.table (filter stands (rows_in layout.table old.now.trees)) answer
+  shows_front =
+      let q = reading_first front.most layout.table.tree it.reads.tests it.reads.project it.reads.order in
+      let read = reads_as text params old new warehouse is _ it.reads.command it.reads.plain it.reads.unlisted answer shown in
+      let found = is_read_first old.now.trees params front.most layout.table.tree it.reads.tests it.reads.project it.reads.order answer read.answer in
+      let db = old.now.trees layout.table.tree in
+      let show : Row → Output = λ values. (it.reads.sorted_by values, values) in
+      let some = filter stands (rows_in layout.table old.now.trees) in
+      let kept : some ≡ map (values_of layout.table) (filter (passes params it.reads.tests) db) =
+      filter-map stands (values_of layout.table) db ∙ ap (map (values_of layout.table)) (filter_same (λ r. stands (values_of layout.table r)) (passes params it.reads.tests) db (λ r here. sym (it.reads.hits r ∙ it.tested (values_of layout.table r)))) in
+      let outputs : map (λ row. output q (params ∷ row ∷ [])) (filter (passes params it.reads.tests) db) ≡ map show some =
+      ap (λ f. map f (filter (passes params it.reads.tests) db)) (λ i r. it.reads.shows r i) ∙ sym (map-map show (values_of layout.table) _) ∙ ap (map show) (sym kept) in
+      let back = pull_back show _ found.ordered (subst (λ l. IsPermutation l found.ordered) outputs found.same) some refl in
+      record {
+        ordered = back.0;
+        same = back.1;
+        sorted = subst (λ (R : Row → Row → Ordering). IsSorted R back.0) (λ i r s. it.in_order r s i) (IsSorted-from_map (output_cmp q) show back.0 (subst (IsSorted (output_cmp q)) back.2 found.sorted));
+        first = found.shown ∙ ap (take front.most) (ap (map (λ (o : Output). o.1)) back.2 ∙ map-map (λ (o : Output). o.1) show back.0 ∙ map_same (λ values. values) back.0 (all_from _ back.0 (λ x h. refl)));
+      }
+
+  -- so it is of the same rows in any order
+  pub shows_front_again : (stored : List Row) → IsPermutation (rows_in layout.table old.now.trees) stored → IsFrontOf front layout.table (filter stands stored) answer
+  shows_front_again stored same =
+      let first = shows_front in
+      record { ordered = first.ordered; same = IsPermutation-trans _ _ _ (IsPermutation-sym _ _ (IsPermutation-filter stands _ _ same)) first.same; sorted = first.sorted; first = first.first }

@@ -1,5 +1,5 @@
 -- At a key at most one row is stored, whoever wrote it.
-use Rattle.std.proofs.Common.{not, subst, ap, ap₂, Some, Ordering, Greater, ◌≡◌, ℕ, ℤ, ◌≤◌, Bool, true, false, ◌&&◌, List, [], ◌∷◌, filter, length, inl, inr, refl, sym, ◌∙◌, arith, Less, Equal}
+use Rattle.std.proofs.Common.{not, subst, ap, ap₂, Some, Ordering, Greater, ◌≡◌, ℕ, ℤ, ◌≤◌, Bool, true, false, ◌&&◌, List, [], ◌∷◌, filter, take, length, inl, inr, refl, sym, ◌∙◌, arith, Less, Equal}
 use Rattle.std.specs.Prelude.{IsTrue}
 use Rattle.std.specs.List.{AllByRecursion, list_any}
 use Rattle.std.specs.Cmp.Lexicographic.{slice_cmp, nat_list_cmp_total}
@@ -9,8 +9,11 @@ use Rattle.std.proofs.lemmas.Bool.{and_parts}
 use Rattle.sqlite_value.specs.declared.value.Value.{Value}
 use Rattle.sqlite_value.specs.declared.value.Value.TheVariants.{Null, Int, Real, Text, Blob}
 use Rattle.sqlite_value.specs.Order.{Row, column, value_cmp}
-use Rattle.sqlite_trees.specs.Tree.{rowid, IsTable}
-use Rattle.sqlite_keyed.proofs.ListLemmas.{ascending-filter}
+use Rattle.sqlite_trees.specs.Tree.{rowid, IsAscending, IsTable}
+use Rattle.sqlite_keyed.proofs.ListLemmas.{ascending-filter, ascending-map}
+use Rattle.sqlite_keyed.proofs.SortLemmas.{sorted_unique}
+use Rattle.sqlite_exec.proofs.ScanLemmas.{ascending-reverse}
+use Rattle.sqlite_sql.proofs.QueryLemmas.{key_cmp_total}
 use Rattle.sqlite_value.specs.Keys.{plain, first_key}
 use Rattle.sqlite_sql.specs.Ops.{binary, is_true, from_truth}
 use Rattle.sqlite_schema.specs.declared.schema.Constraint.TheVariants.{Unique}
@@ -25,14 +28,16 @@ use Rattle.sqlite_rules.proofs.ListLemmas.{all_has, has_filtered, some_from}
 use Rattle.sqlite.specs.Collation.TheVariants.{Binary}
 use Rattle.sqlite.specs.View.{is_int}
 use Rattle.std.proofs.lemmas.List.{length-map}
-use Rattle.std.proofs.lemmas.List.Sorted.{length_permutation}
+use Rattle.std.specs.List.Sorted.{IsPermutation}
+use Rattle.std.proofs.lemmas.List.Sorted.{length_permutation, IsPermutation-refl, IsPermutation-reverse, IsPermutation-sym, IsPermutation-trans}
 use Rattle.sqlite_trees.proofs.ListLemmas.{filter-map, IsPermutation-filter}
-use Rattle.wh_rows.specs.declared.table.Table.TheVariants.{Meta}
-use Rattle.wh_rows.specs.Raw.{Stored, IsStored, rows_in}
+use Rattle.wh_rows.specs.declared.table.Table.TheVariants.{Meta, Command}
+use Rattle.wh_rows.specs.Firsts.{Front, from_end, part}
+use Rattle.wh_rows.specs.Raw.{Stored, IsStored, IsFrontOf, rows_in, stored_cmp}
 use Rattle.wh_rows.specs.Keys.{stands_at_text}
 use Rattle.wh_rows.specs.Holds.{IsRising, values_of}
 use Rattle.wh_rows.proofs.Keys.{equal-Int, equal-Text, equal_is}
-use Rattle.sqlite_value.proofs.OrderLemmas.{value_cmp-Int}
+use Rattle.sqlite_value.proofs.OrderLemmas.{then-Equal, value_cmp-Int}
 
 -- of rows whose rowids rise at most one passes a test that no two of them pass
 at_most_one : (rows : List Row) (p : Row → Bool) → IsTable rows → ((x y : Row) → Has rows x → Has rows y → p x ≡ true → p y ≡ true → value_cmp (rowid x) (rowid y) ≡ Less → ⊥) → length (filter p rows) ≤ 1
@@ -132,3 +137,31 @@ named_once db stored is name =
     let shown : length (filter (stands_at_text name) (rows_in schema.meta db.trees)) ≡ length (filter (λ r. equal Binary (column r 1) (Text name) && true) rows) =
     ap length (filter-map (stands_at_text name) (values_of schema.meta) rows) ∙ length-map (filter (λ r. equal Binary (column r 1) (Text name) && true) rows) (values_of schema.meta) in
     omega (arith, long, shown, meta_once db is.schema is.sound is.rising.0 name)
+
+-- ---- what is asked for from an end of command
+
+-- it is one list, since no two rows have one number
+module _ (db : Database) (stored : Stored) (is : IsStored stored db) (stands : Row → Bool) where
+  abbrev kept : List Row
+  kept = filter stands (rows_in schema.command db.trees)
+
+  abbrev Below : Bool → Row → Row → Type 0
+  Below backwards r s = stored_cmp schema.command backwards r s ≡ Less
+
+  numbered : IsAscending (Below false) (rows_in schema.command db.trees)
+  numbered =
+      ascending-map (Below false) (values_of schema.command) (db.trees schema.command.tree)
+      (subst (λ (R : Row → Row → Ordering). IsAscending (λ x y. R x y ≡ Less) (db.trees schema.command.tree)) (λ i x y. sym (then-Equal (value_cmp (rowid x) (rowid y))) i) is.rising.1.0.0)
+
+  turned : (backwards : Bool) → IsAscending (Below backwards) (from_end backwards kept)
+  turned true = ascending-reverse (Below false) kept (ascending-filter (Below false) stands _ numbered)
+  turned false = ascending-filter (Below false) stands _ numbered
+
+  turned_same : (backwards : Bool) → IsPermutation (from_end backwards kept) kept
+  turned_same true = IsPermutation-sym _ _ (IsPermutation-reverse kept)
+  turned_same false = IsPermutation-refl kept
+
+  pub front_is : (front : Front) (shown : List Row) → IsFrontOf front schema.command (filter stands (stored Command)) shown → shown ≡ part (Some front) kept
+  front_is front shown it =
+      let same = IsPermutation-trans _ _ _ (turned_same front.backwards) (IsPermutation-trans _ _ _ (IsPermutation-filter stands _ _ (is.rows Command)) it.same) in
+      it.first ∙ ap (take front.most) (sorted_unique (stored_cmp schema.command front.backwards) (key_cmp_total (record { collation = Binary; descending = front.backwards } ∷ []) 0) _ it.ordered (turned front.backwards) same it.sorted)

@@ -1,5 +1,5 @@
 -- Reading the first rows of an answer: those at either end of a table, or one with the greatest number.
-use Rattle.std.specs.Prelude.{◌≡◌, ℕ, pos, max, Bool, false, if◌then◌else◌, List, [], ◌∷◌, reverse, take, Option, None, Some}
+use Rattle.std.specs.Prelude.{◌≡◌, ℕ, pos, max, Bool, true, false, if◌then◌else◌, List, [], ◌∷◌, reverse, take, Option, None, Some}
 use Rattle.std.specs.declared.cmp.Ordering.{Ordering}
 use Rattle.std.specs.Ordering.{nat_cmp}
 use Rattle.sqlite.specs.Order.{Row}
@@ -27,6 +27,14 @@ from_end backwards xs = if backwards then reverse xs else xs
 pub record Front : Type 0 where
   pub most : ℕ
   pub backwards : Bool
+
+-- the last row alone
+abbrev pub last_one : Front
+last_one = record { most = 1; backwards = true }
+
+-- the first thousand rows
+abbrev pub first_thousand : Front
+first_thousand = record { most = 1000; backwards = false }
 
 -- the part of an answer that is asked for, which may be all of it
 abbrev pub part : {X : Type 0} → Option Front → List X → List X

@@ -1,10 +1,11 @@
 -- Which stored rows answer a question, whoever wrote them.
-use Rattle.std.specs.Prelude.{ℕ, List, [], ◌∷◌, Bool, true, ◌&&◌, pos, slice_index_or}
+use Rattle.std.specs.Prelude.{ℕ, List, [], ◌∷◌, Bool, true, ◌&&◌, ◌||◌, pos, slice_index_or, bytes_eq, codes}
+use Rattle.std.specs.Ordering.{is_gt}
 use Rattle.sqlite_value.specs.declared.value.Value.{Value}
 use Rattle.sqlite_value.specs.declared.value.Value.TheVariants.{Int, Text}
 use Rattle.sqlite_sql.specs.Ops.{binary, is_true}
 use Rattle.sqlite_sql.specs.declared.ops.BinaryOp.TheVariants.{Compare}
-use Rattle.sqlite_sql.specs.declared.ops.CompareOp.TheVariants.{Ge}
+use Rattle.sqlite_sql.specs.declared.ops.CompareOp.TheVariants.{Ge, Gt}
 use Rattle.sqlite_schema.specs.Rules.{equal}
 use Rattle.sqlite.specs.Collation.TheVariants.{Binary}
 use Rattle.sqlite.specs.Order.{Row, column}
@@ -12,16 +13,29 @@ use Rattle.wh_policy.specs.declared.attribute.Dim.{Dim}
 use Rattle.wh_policy.specs.declared.attribute.Dim.TheVariants.{Product, Store, Customer}
 use Rattle.wh_history.specs.declared.facts.Fact.{Fact}
 use Rattle.wh_rows.specs.Types.{dim_number}
+use Rattle.wh_rows.specs.Rows.{LineKey, line_cmp}
 
 -- whether SQL's >= is true of two values
 abbrev pub at_least : Value → Value → Bool
 at_least a b = is_true (binary (Compare Ge Binary) a b)
+
+-- whether SQL's > is
+abbrev pub greater : Value → Value → Bool
+greater a b = is_true (binary (Compare Gt Binary) a b)
 
 -- ---- by the columns
 
 -- the command that its sender calls so
 abbrev pub has_id : List ℕ → Row → Bool
 has_id id r = equal Binary (column r 1) (Text id) && true
+
+-- a command that gives a policy
+abbrev pub has_policy : Row → Bool
+has_policy r = equal Binary (column r 2) (Text (codes "init")) || equal Binary (column r 2) (Text (codes "migrate"))
+
+-- a member of this dimension
+abbrev pub is_of_dim : Dim → Row → Bool
+is_of_dim dim r = equal Binary (column r 0) (Int (pos (dim_number dim))) && true
 
 -- the member that its source calls so
 abbrev pub has_natural : Dim → List ℕ → Row → Bool
@@ -55,10 +69,22 @@ durable_column Customer = 8
 abbrev pub is_sale_since : Dim → ℕ → ℕ → Row → Bool
 is_sale_since dim durable from r = equal Binary (column r (durable_column dim)) (Int (pos durable)) && (at_least (column r 2) (Int (pos from)) && true)
 
+-- a fact after a line
+abbrev pub stands_after : LineKey → Row → Bool
+stands_after line r = at_least (column r 0) (Text line.ticket) && ((greater (column r 0) (Text line.ticket) || greater (column r 1) (Int (pos line.line))) && true)
+
 -- ---- by the row that they are of
+
+-- the kind of a command that gives a policy: a making or a migration
+abbrev pub gives_policy : List ℕ → Bool
+gives_policy kind = bytes_eq kind (codes "init") || bytes_eq kind (codes "migrate")
 
 -- the durable key of the fact's member of this dimension
 abbrev pub durable_of : Dim → Fact → ℕ
 durable_of Product fact = fact.product_durable
 durable_of Store fact = fact.store_durable
 durable_of Customer fact = fact.customer_durable
+
+-- the fact is after the line, in the order of keys
+abbrev pub is_after : LineKey → Fact → Bool
+is_after line fact = is_gt (line_cmp (record { ticket = fact.ticket; line = fact.line }) line)

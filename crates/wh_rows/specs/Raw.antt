@@ -1,9 +1,12 @@
 -- What is stored in the tables, whoever wrote it: rows of values of their types, and rows that are damaged.
-use Rattle.std.specs.Prelude.{◌≡◌, ◌≢◌, ℕ, Bool, false, List, [], ◌∷◌, ◌++◌, map, Option, None, Some, IsTrue, ⊤}
+use Rattle.std.specs.Prelude.{◌≡◌, ◌≢◌, ℕ, Bool, false, List, [], ◌∷◌, ◌++◌, map, take, Option, None, Some, IsTrue}
+use Rattle.std.specs.declared.cmp.Ordering.{Ordering}
 use Rattle.std.specs.List.{AllByRecursion, list_all}
 use Rattle.std.specs.List.Sorted.{IsPermutation, IsSorted}
 use Rattle.std.specs.FinMap.{FinMap, entries, values}
 use Rattle.sqlite.specs.Order.{Row}
+use Rattle.sqlite.specs.Collation.TheVariants.{Binary}
+use Rattle.sqlite.specs.Query.{key_cmp, output_cmp}
 use Rattle.sqlite.specs.Tree.{Trees}
 use Rattle.sqlite.specs.Table as stored
 use Rattle.sqlite.specs.Effect.{Database, IsDatabase}
@@ -17,7 +20,7 @@ use Rattle.wh_rows.specs.Holds.{Layout, values_of, IsRising}
 use Rattle.wh_rows.specs.Rows as row
 use Rattle.wh_rows.specs.Tables.{Tables}
 use Rattle.wh_rows.specs.Meaning.{ReadsSome}
-use Rattle.wh_rows.specs.Firsts.{Front}
+use Rattle.wh_rows.specs.Firsts.{Front, reading_first, ReadsFirst}
 
 -- ---- the stored rows of one table
 
@@ -39,6 +42,27 @@ pub record AreRows {K V : Type 0} (layout : Layout K V) (stored : List Row) (row
 abbrev pub IsLastOf : {K V : Type 0} → Layout K V → List Row → Option V → Type 0
 IsLastOf layout stored None = AreRows layout stored []
 IsLastOf layout stored (Some row) = (before : List _) × AreRows layout stored (before ++ row ∷ [])
+
+-- stored rows in the order of their keys, which are the first columns; or backwards
+abbrev pub stored_cmp : stored.Table → Bool → Row → Row → Ordering
+stored_cmp table backwards = key_cmp 0 (map (λ _. record { collation = Binary; descending = backwards }) table.primary)
+
+-- these are up to so many of the stored rows, from either end
+pub record IsFrontOf (front : Front) (table : stored.Table) (stored shown : List Row) : Type 0 where
+  pub ordered : List Row
+  pub same : IsPermutation stored ordered
+  pub sorted : IsSorted (stored_cmp table front.backwards) ordered
+  pub first : shown ≡ take front.most ordered
+
+-- these are the rows that are asked for, of those that are stored, and none of them is damaged
+abbrev pub AreAsked : {K V : Type 0} → Option Front → Layout K V → List Row → List V → Type 0
+AreAsked None layout stored rows = AreRows layout stored rows
+AreAsked (Some front) layout stored rows = IsFrontOf front layout.table stored (map layout.encode rows) × IsTrue (list_all layout.is_valid rows)
+
+-- one of them is damaged
+abbrev pub HasAskedDamage : {K V : Type 0} → Option Front → Layout K V → List Row → Type 0
+HasAskedDamage None layout stored = HasDamage layout stored
+HasAskedDamage (Some front) layout stored = (shown : List Row) × IsFrontOf front layout.table stored shown × HasDamage layout shown
 
 -- ---- the stored rows of the ten tables
 
@@ -134,7 +158,13 @@ pub record ReadsStored {K V : Type 0} (layout : Layout K V) (params : Row) (stan
   pub reads : ReadsSome layout params keep text
   pub tested : (row : Row) → reads.test row ≡ stands row
 
--- so it is of a text that shows all of them; of one that shows the first alone this says nothing
-abbrev pub ReadsAllStored : {K V : Type 0} → Option Front → Layout K V → Row → (Row → Bool) → (V → Bool) → List ℕ → Type 0
-ReadsAllStored None layout params stands keep text = ReadsStored layout params stands keep text
-ReadsAllStored (Some front) layout params stands keep text = ⊤
+-- so it is of a text that shows up to so many of them, from either end
+pub record ReadsFrontStored {K V : Type 0} (front : Front) (layout : Layout K V) (params : Row) (stands : Row → Bool) (keep : V → Bool) (text : List ℕ) : Type 0 where
+  pub reads : ReadsFirst layout params keep front.most front.backwards text
+  pub tested : (row : Row) → reads.test row ≡ stands row
+  pub in_order : (r s : Row) → output_cmp (reading_first front.most layout.table.tree reads.tests reads.project reads.order) (reads.sorted_by r, r) (reads.sorted_by s, s) ≡ stored_cmp layout.table front.backwards r s
+
+-- and of one that shows a part of them, which may be all of it
+abbrev pub ReadsPartStored : {K V : Type 0} → Option Front → Layout K V → Row → (Row → Bool) → (V → Bool) → List ℕ → Type 0
+ReadsPartStored None layout params stands keep text = ReadsStored layout params stands keep text
+ReadsPartStored (Some front) layout params stands keep text = ReadsFrontStored front layout params stands keep text

@@ -109,6 +109,10 @@ fact = record {
 abbrev pub last_command : List ℕ
 last_command = codes "SELECT * FROM command ORDER BY number DESC LIMIT 1"
 
+-- the last command that gives a policy
+abbrev pub last_policy : List ℕ
+last_policy = codes "SELECT * FROM command WHERE kind = 'init' OR kind = 'migrate' ORDER BY number DESC LIMIT 1"
+
 -- the command that its sender calls so
 abbrev pub command_of_id : List ℕ
 command_of_id = codes "SELECT * FROM command WHERE id = ?1 ORDER BY number"
@@ -158,3 +162,7 @@ abbrev pub sales_since : Dim → List ℕ
 sales_since Product = codes "SELECT * FROM fact WHERE product_durable = ?1 AND day >= ?2 ORDER BY ticket, line"
 sales_since Store = codes "SELECT * FROM fact WHERE store_durable = ?1 AND day >= ?2 ORDER BY ticket, line"
 sales_since Customer = codes "SELECT * FROM fact WHERE customer_durable = ?1 AND day >= ?2 ORDER BY ticket, line"
+
+-- the first thousand facts after a line
+abbrev pub facts_after : List ℕ
+facts_after = codes "SELECT * FROM fact WHERE ticket >= ?1 AND (ticket > ?1 OR line > ?2) ORDER BY ticket, line LIMIT 1000"

@@ -23,10 +23,10 @@ use Rattle.wh_rows.specs.Meaning.{ReadsSome, CountsAll}
 use Rattle.std.specs.List.Sorted.{IsPermutation}
 use Rattle.std.proofs.lemmas.List.Sorted.{IsPermutation-refl, IsPermutation-sym, IsPermutation-trans}
 use Rattle.sqlite_trees.proofs.ListLemmas.{IsPermutation-filter}
-use Rattle.wh_rows.specs.Raw.{Stored, IsStored, HasDamage, HasDamageIn, RestsOn, LeavesStored, ReadsStored, AreRows, table_of, rows_in}
+use Rattle.wh_rows.specs.Raw.{Stored, IsStored, HasDamage, HasDamageIn, RestsOn, LeavesStored, ReadsStored, ReadsFrontStored, ReadsPartStored, AreRows, AreAsked, IsFrontOf, table_of, rows_in}
 use Rattle.sqlite_sql.specs.Aggregate.{count}
 use Rattle.sqlite_rules.specs.Lists.{Has as IsAmong}
-use Rattle.wh_rows.proofs.Raw.{has_again, no_damage, damage_again, shows_stored, shows_in_order}
+use Rattle.wh_rows.proofs.Raw.{has_again, no_damage, damage_again, shows_stored, shows_in_order, shows_front_again}
 use Rattle.wh_rows.proofs.Among.{part_among, sorted_among}
 use Rattle.wh_rows.proofs.Counts.{counts_stored}
 use Rattle.wh_rows.specs.Firsts.{Front, part, greatest, ReadsSorted, ReadsPart, ReadsGreatest}
@@ -35,7 +35,7 @@ use Rattle.wh_rows.proofs.Edits.{filter_all}
 use Rattle.wh_rows.proofs.Maps.{filter-get}
 use Rattle.wh_rows.proofs.Queries.{query_keeps, query_commits_nothing}
 use Rattle.wh_rows.proofs.OnTables.{answer_is, first_is, greatest_is, valid_answer, valid_first, valid_among, read_is}
-use Rattle.wh_sql.specs.Reads.{ReadsOnly, NamesDamage, SparesRows, IsServed, IsUndamaged, Shows, FailsToShow, FailsToCount, IsOfDamage, unasked}
+use Rattle.wh_sql.specs.Reads.{ReadsOnly, NamesDamage, SparesRows, IsServed, IsUndamaged, Shows, FailsToShow, FailsToCount, IsOfDamage, IsOfAskedDamage, unasked}
 use Rattle.wh_sql.specs.declared.fault.ReadFault.{ReadFault}
 use Rattle.wh_sql.specs.declared.fault.ReadFault.TheVariants.{Memory, Damaged, Store}
 
@@ -100,6 +100,26 @@ module _ {K V : Type 0} {layout : Layout K V} (name : Table) (named : table_of n
   finds_damage (Err (Damaged met)) fails = (fails.0, damage_again layout (filter stands (stored name)) fails.1 (answer_stored fails.1 fails.2) fails.3)
   finds_damage (Err (Store cause)) fails = tt
   finds_damage (Err Memory) fails = tt
+
+-- a text that means a part of the stored rows that pass a test, which may be all of it
+module _ {K V : Type 0} (layout : Layout K V) (name : Table) (named : table_of name ≡ layout.table) (stands : Row → Bool) (keep : V → Bool) (text : List ℕ) (params : Row) (old new : State) (stored : Stored) (is : IsStored stored old.now) where
+  part_stored : (front : Front) → ReadsFrontStored front layout params stands keep text → (answer : List Row) → Shown text params old new answer → IsFrontOf front layout.table (filter stands (stored name)) answer
+  part_stored front it answer shown =
+      shows_front_again front layout params stands keep text it old new answer is.schema shown (stored name) (subst (λ t. IsPermutation (rows_in t old.now.trees) (stored name)) named (is.rows name))
+
+  -- what is read is what is asked for, none damaged
+  pub asked_stored : (front : Option Front) → ReadsPartStored front layout params stands keep text → (result : Result (Vec V Global) ReadFault) → IfOk result (λ rows. Shows layout text params old new rows.items) → IfOk result (λ rows. AreAsked front layout (filter stands (stored name)) rows.items)
+  asked_stored None it result shows = reads_stored name named it old new stored is result shows
+  asked_stored (Some front) it (Err refusal) shows = tt
+  asked_stored (Some front) it (Ok rows) shows = (part_stored front it (map layout.encode rows.items) shows.1, shows.0)
+
+  -- or a row of it is damaged
+  pub asked_damage : {A : Type 0} (front : Option Front) → ReadsPartStored front layout params stands keep text → (result : Result A ReadFault) → IfErr result (FailsToShow layout name text params old new) → IfErr result (IsOfAskedDamage front layout name (filter stands (stored name)))
+  asked_damage None it result fails = finds_damage name named it old new stored is result fails
+  asked_damage (Some front) it (Ok x) fails = tt
+  asked_damage (Some front) it (Err (Damaged met)) fails = (fails.0, (fails.1, part_stored front it fails.1 fails.2, fails.3))
+  asked_damage (Some front) it (Err (Store cause)) fails = tt
+  asked_damage (Some front) it (Err Memory) fails = tt
 
 -- ---- which table is named
 

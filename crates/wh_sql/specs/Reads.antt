@@ -1,5 +1,5 @@
 -- What a call that reads the tables leaves, and what it says of them.
-use Rattle.std.specs.Prelude.{◌≡◌, ◌⊎◌, ℕ, ◌≤◌, List, [], Some, Result, IsTrue, IfErr, map, ⊤}
+use Rattle.std.specs.Prelude.{◌≡◌, ◌⊎◌, ℕ, ◌≤◌, List, [], Option, None, Some, Result, IsTrue, IfErr, map, ⊤}
 use Rattle.std.specs.List.{list_all}
 use Rattle.sqlite.specs.Order.{Row}
 use Rattle.sqlite.specs.State.{State, Shown, HasCleanDisk}
@@ -9,7 +9,8 @@ use Rattle.wh_rows.specs.declared.table.Table.{Table}
 use Rattle.wh_rows.specs.Holds.{Layout}
 use Rattle.wh_rows.specs.Tables.{Tables, Stores}
 use Rattle.wh_rows.specs.AtRest.{IsAtRest, Leaves}
-use Rattle.wh_rows.specs.Raw.{Stored, IsStored, HasDamage, HasDamageIn, RestsOn, LeavesStored}
+use Rattle.wh_rows.specs.Firsts.{Front}
+use Rattle.wh_rows.specs.Raw.{Stored, IsStored, HasDamage, HasAskedDamage, HasDamageIn, RestsOn, LeavesStored}
 use Rattle.wh_sql.specs.declared.fault.ReadFault.{ReadFault}
 use Rattle.wh_sql.specs.declared.fault.ReadFault.TheVariants.{Memory, Damaged, Store}
 use Rattle.wh_sql.specs.Refused.{IsCauseOfQuery}
@@ -88,11 +89,15 @@ FailsToShow layout table text params old new Memory = ⊤
 FailsToShow layout table text params old new (Damaged which) = (which ≡ table) × (answer : List Row) × Shown text params old new answer × HasDamage layout answer
 FailsToShow layout table text params old new (Store why) = IsCauseOfQuery text params old new why
 
--- Damaged names the table, and a row stored in it is out of its type
+-- Damaged names the table, and one of the stored rows that are asked for is out of its type
+abbrev pub IsOfAskedDamage : {K V : Type 0} → Option Front → Layout K V → Table → List Row → ReadFault → Type 0
+IsOfAskedDamage front layout table stored Memory = ⊤
+IsOfAskedDamage front layout table stored (Damaged which) = (which ≡ table) × HasAskedDamage front layout stored
+IsOfAskedDamage front layout table stored (Store why) = ⊤
+
+-- one of all of them
 abbrev pub IsOfDamage : {K V : Type 0} → Layout K V → Table → List Row → ReadFault → Type 0
-IsOfDamage layout table stored Memory = ⊤
-IsOfDamage layout table stored (Damaged which) = (which ≡ table) × HasDamage layout stored
-IsOfDamage layout table stored (Store why) = ⊤
+IsOfDamage = IsOfAskedDamage None
 
 -- the rows are more than the store counts; or it refused to count them
 abbrev pub FailsToCount : ℕ → List ℕ → State → State → ReadFault → Type 0

@@ -29,12 +29,13 @@ pub struct Greatest;
 
 impl Question<tables::Command> for Greatest {
     ghost use Rattle.std.specs.Prelude.{true, [], Some};
-    ghost use Rattle.wh_rows.proofs.Commands.{greatest};
+    ghost use Rattle.wh_rows.proofs.Commands.{greatest, greatest_stored};
+    ghost use Rattle.wh_rows.specs.Firsts.{last_one};
     ghost use Rattle.wh_rows.specs.Texts.{last_command};
 
     ghost keep = { λ q r. true };
 
-    ghost front = { Some (record { most = 1; backwards = true }) };
+    ghost front = { Some last_one };
 
     ghost bind = { λ q. [] };
 
@@ -54,18 +55,19 @@ impl Question<tables::Command> for Greatest {
 
     ghost reads = { λ q. greatest };
 
-    ghost reads_stored = { λ q. tt };
+    ghost reads_stored = { λ q. greatest_stored };
 }
 
 impl Question<tables::Product> for Greatest {
     ghost use Rattle.std.specs.Prelude.{true, [], Some};
-    ghost use Rattle.wh_rows.proofs.Products.{greatest};
+    ghost use Rattle.wh_rows.proofs.Products.{greatest, greatest_stored};
+    ghost use Rattle.wh_rows.specs.Firsts.{last_one};
     ghost use Rattle.wh_rows.specs.Texts.{last_row};
     ghost use Rattle.wh_policy.specs.declared.attribute.Dim.TheVariants.{Product};
 
     ghost keep = { λ q r. true };
 
-    ghost front = { Some (record { most = 1; backwards = true }) };
+    ghost front = { Some last_one };
 
     ghost bind = { λ q. [] };
 
@@ -85,18 +87,19 @@ impl Question<tables::Product> for Greatest {
 
     ghost reads = { λ q. greatest };
 
-    ghost reads_stored = { λ q. tt };
+    ghost reads_stored = { λ q. greatest_stored };
 }
 
 impl Question<tables::Store> for Greatest {
     ghost use Rattle.std.specs.Prelude.{true, [], Some};
-    ghost use Rattle.wh_rows.proofs.Stores.{greatest};
+    ghost use Rattle.wh_rows.proofs.Stores.{greatest, greatest_stored};
+    ghost use Rattle.wh_rows.specs.Firsts.{last_one};
     ghost use Rattle.wh_rows.specs.Texts.{last_row};
     ghost use Rattle.wh_policy.specs.declared.attribute.Dim.TheVariants.{Store};
 
     ghost keep = { λ q r. true };
 
-    ghost front = { Some (record { most = 1; backwards = true }) };
+    ghost front = { Some last_one };
 
     ghost bind = { λ q. [] };
 
@@ -116,18 +119,19 @@ impl Question<tables::Store> for Greatest {
 
     ghost reads = { λ q. greatest };
 
-    ghost reads_stored = { λ q. tt };
+    ghost reads_stored = { λ q. greatest_stored };
 }
 
 impl Question<tables::Customer> for Greatest {
     ghost use Rattle.std.specs.Prelude.{true, [], Some};
-    ghost use Rattle.wh_rows.proofs.Customers.{greatest};
+    ghost use Rattle.wh_rows.proofs.Customers.{greatest, greatest_stored};
+    ghost use Rattle.wh_rows.specs.Firsts.{last_one};
     ghost use Rattle.wh_rows.specs.Texts.{last_row};
     ghost use Rattle.wh_policy.specs.declared.attribute.Dim.TheVariants.{Customer};
 
     ghost keep = { λ q r. true };
 
-    ghost front = { Some (record { most = 1; backwards = true }) };
+    ghost front = { Some last_one };
 
     ghost bind = { λ q. [] };
 
@@ -147,17 +151,18 @@ impl Question<tables::Customer> for Greatest {
 
     ghost reads = { λ q. greatest };
 
-    ghost reads_stored = { λ q. tt };
+    ghost reads_stored = { λ q. greatest_stored };
 }
 
 impl Question<tables::Profile> for Greatest {
     ghost use Rattle.std.specs.Prelude.{true, [], Some};
-    ghost use Rattle.wh_rows.proofs.Profiles.{greatest};
+    ghost use Rattle.wh_rows.proofs.Profiles.{greatest, greatest_stored};
+    ghost use Rattle.wh_rows.specs.Firsts.{last_one};
     ghost use Rattle.wh_rows.specs.Texts.{last_profile};
 
     ghost keep = { λ q r. true };
 
-    ghost front = { Some (record { most = 1; backwards = true }) };
+    ghost front = { Some last_one };
 
     ghost bind = { λ q. [] };
 
@@ -177,7 +182,7 @@ impl Question<tables::Profile> for Greatest {
 
     ghost reads = { λ q. greatest };
 
-    ghost reads_stored = { λ q. tt };
+    ghost reads_stored = { λ q. greatest_stored };
 }
 
 /// The member of a dimension that has the greatest durable key.
@@ -191,12 +196,14 @@ impl Question<tables::Member> for GreatestOf {
     ghost use Rattle.std.specs.Ordering.{eq_by_cmp, nat_cmp};
     ghost use Rattle.sqlite_value.specs.declared.value.Value.TheVariants.{Int};
     ghost use Rattle.wh_rows.specs.Types.{dim_number};
-    ghost use Rattle.wh_rows.proofs.Members.{greatest};
+    ghost use Rattle.wh_rows.proofs.Members.{greatest, greatest_stored};
+    ghost use Rattle.wh_rows.specs.Questions.{is_of_dim};
+    ghost use Rattle.wh_rows.specs.Firsts.{last_one};
     ghost use Rattle.wh_rows.specs.Texts.{last_member};
 
     ghost keep = { λ q r. eq_by_cmp nat_cmp (dim_number q.dim) (dim_number r.dim) };
 
-    ghost front = { Some (record { most = 1; backwards = true }) };
+    ghost front = { Some last_one };
 
     ghost bind = { λ q. Int (pos (dim_number q.dim)) ∷ [] };
 
@@ -212,11 +219,11 @@ impl Question<tables::Member> for GreatestOf {
         dim_key(alloc, self.dim)
     }
 
-    ghost stands = { λ q r. true };
+    ghost stands = { λ q. is_of_dim q.dim };
 
     ghost reads = { λ q. greatest q.dim };
 
-    ghost reads_stored = { λ q. tt };
+    ghost reads_stored = { λ q. greatest_stored q.dim };
 }
 
 /// The greatest anchor of the dimension's records; 0 where it has none.

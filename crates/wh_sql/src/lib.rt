@@ -19,6 +19,9 @@ pub use greatest::{Greatest, GreatestOf, greatest_anchor};
 pub use keeps::{Keeps, Statements};
 pub use making::{create, has_tables, has_taken_name};
 pub use question::{Question, ask};
-pub use questions::{CommandOf, MemberOf, ProfileOf, RecordsOf, RecordsOn, RowsOf, SalesSince};
+pub use questions::{
+    CommandOf, FactsAfter, LastPolicy, MemberOf, ProfileOf, RecordsOf, RecordsOn, RowsOf,
+    SalesSince,
+};
 pub use read::{all, count, get};
 pub use write::{put, rekey, remove};

@@ -1,6 +1,6 @@
 //! Questions about one table, each with the rows that answer it.
 
-ghost use Rattle.std.specs.Prelude.{◌≡◌, ◌≢◌, ℕ, Bool, List, filter, Err, Option, None, Some, IfOk, IfErr};
+ghost use Rattle.std.specs.Prelude.{◌≡◌, ◌≢◌, ℕ, Bool, List, filter, Err, Option, IfOk, IfErr};
 ghost use Rattle.std.specs.FinMap.{values};
 ghost use Rattle.sqlite.specs.Held.{state};
 ghost use Rattle.sqlite.specs.Order.{Row as Columns};
@@ -8,8 +8,8 @@ ghost use Rattle.sqlite.specs.Values.{bound};
 ghost use Rattle.sqlite.specs.State.{HasCleanDisk};
 ghost use Rattle.wh_rows.specs.declared.cause.Cause.TheVariants.{Memory, Size};
 ghost use Rattle.wh_rows.specs.Firsts.{Front, part, ReadsPart};
-ghost use Rattle.wh_rows.specs.Raw.{AreRows, ReadsAllStored};
-ghost use Rattle.wh_sql.specs.Reads.{ReadsOnly, SaysOfTables, SaysOfStored, IsUndamaged, IsOfDamage, Shows, FailsToShow};
+ghost use Rattle.wh_rows.specs.Raw.{AreAsked, ReadsPartStored};
+ghost use Rattle.wh_sql.specs.Reads.{ReadsOnly, SaysOfTables, SaysOfStored, IsUndamaged, IsOfAskedDamage, Shows, FailsToShow};
 
 use crate::fault::ReadFault;
 use crate::keeps::Keeps;
@@ -47,7 +47,7 @@ pub trait Question<T: Keeps> {
     // What the text means.
     ghost reads: { (question : Self) → ReadsPart front T.layout (bind question) (keep question) (means question) };
 
-    ghost reads_stored: { (question : Self) → ReadsAllStored front T.layout (bind question) (stands question) (keep question) (means question) };
+    ghost reads_stored: { (question : Self) → ReadsPartStored front T.layout (bind question) (stands question) (keep question) (means question) };
 }
 
 /// The rows that answer the question, in the order of their keys.
@@ -59,9 +59,9 @@ pub fn ask<T: Keeps, Q: Question<T>, S: Alter>(
     ensures reads { ReadsOnly (state S.Store conn.old) (state S.Store conn.new) result }
     ensures rows { SaysOfTables (state S.Store conn.old) (state S.Store conn.new) (λ t. IfOk result (λ rows. rows.items ≡ part Q.front (filter (Q.keep question.now) (values (T.rows t))))) }
     ensures sound { SaysOfTables (state S.Store conn.old) (state S.Store conn.new) (λ _. IsUndamaged result) }
-    // The same of any rows, whoever wrote them, where all that answer are asked for.
-    ensures stored { Q.front ≡ None → SaysOfStored (state S.Store conn.old) (state S.Store conn.new) (λ stored. IfOk result (λ rows. AreRows T.layout (filter (Q.stands question.now) (stored T.name)) rows.items)) }
-    ensures damaged { Q.front ≡ None → SaysOfStored (state S.Store conn.old) (state S.Store conn.new) (λ stored. IfErr result (IsOfDamage T.layout T.name (filter (Q.stands question.now) (stored T.name)))) }
+    // The same of any rows, whoever wrote them: no other row keeps these from being read.
+    ensures stored { SaysOfStored (state S.Store conn.old) (state S.Store conn.new) (λ stored. IfOk result (λ rows. AreAsked Q.front T.layout (filter (Q.stands question.now) (stored T.name)) rows.items)) }
+    ensures damaged { SaysOfStored (state S.Store conn.old) (state S.Store conn.new) (λ stored. IfErr result (IsOfAskedDamage Q.front T.layout T.name (filter (Q.stands question.now) (stored T.name)))) }
     ensures shows { HasCleanDisk (state S.Store conn.new) → IfOk result (λ rows. Shows T.layout (Q.means question.now) (Q.bind question.now) (state S.Store conn.old) (state S.Store conn.new) rows.items) }
     ensures refused { HasCleanDisk (state S.Store conn.new) → Q.can_be_asked question.now → IfErr result (FailsToShow T.layout T.name (Q.means question.now) (Q.bind question.now) (state S.Store conn.old) (state S.Store conn.new)) }
 {

@@ -1,13 +1,13 @@
 //! The questions that are asked of the tables.
 
 use crate::dimension::Dimension;
-use crate::keys::{dim_and_number, dim_and_text, number_and_day, number_key, text_key};
+use crate::keys::{dim_and_number, dim_and_text, line_key, number_and_day, number_key, text_key};
 use crate::question::Question;
 use sqlite::types::ValueRef;
 use std::alloc::Global;
 use wh_day::{Day, Value, Values};
 use wh_policy::Dim;
-use wh_rows::{Cause, bound, tables};
+use wh_rows::{Cause, LineKey, bound, tables};
 
 /// The accepted records of one member, in order of acceptance.
 #[derive(Clone, Copy, Debug, PartialEq, Eq)]
@@ -168,6 +168,42 @@ impl<'q> Question<tables::Command> for CommandOf<'q> {
     ghost reads_stored = { λ q. of_id_stored q.id.now };
 }
 
+/// The last command that gives a policy: the making, or the last migration.
+#[derive(Clone, Copy, Debug, PartialEq, Eq)]
+pub struct LastPolicy;
+
+impl Question<tables::Command> for LastPolicy {
+    ghost use Rattle.std.specs.Prelude.{true, [], Some};
+    ghost use Rattle.wh_rows.proofs.Commands.{last_policy as reads_last, last_policy_stored};
+    ghost use Rattle.wh_rows.specs.Firsts.{last_one};
+    ghost use Rattle.wh_rows.specs.Texts.{last_policy};
+    ghost use Rattle.wh_rows.specs.Questions.{gives_policy, has_policy};
+
+    ghost keep = { λ q r. gives_policy r.kind };
+
+    ghost front = { Some last_one };
+
+    ghost bind = { λ q. [] };
+
+    ghost can_be_asked = { λ q. Unit {0} };
+
+    ghost means = { λ q. last_policy };
+
+    fn text(&self) -> &'static str {
+        "SELECT * FROM command WHERE kind = 'init' OR kind = 'migrate' ORDER BY number DESC LIMIT 1"
+    }
+
+    fn values<'a>(&'a self, alloc: Global) -> Result<Vec<ValueRef<'a>>, Cause> {
+        Ok(Vec::new(alloc))
+    }
+
+    ghost stands = { λ q. has_policy };
+
+    ghost reads = { λ q. reads_last };
+
+    ghost reads_stored = { λ q. last_policy_stored };
+}
+
 /// The member that its source calls so.
 #[derive(Clone, Copy, Debug)]
 pub struct MemberOf<'q> {
@@ -260,6 +296,45 @@ impl Question<tables::Fact> for SalesSince {
     ghost reads = { λ q. of_sales_since q.dim q.durable q.from };
 
     ghost reads_stored = { λ q. of_sales_since_stored q.dim q.durable q.from };
+}
+
+/// The first thousand facts after a line, in the order of their keys.
+#[derive(Clone, Copy, Debug)]
+pub struct FactsAfter<'q> {
+    pub line: &'q LineKey,
+}
+
+impl<'q> Question<tables::Fact> for FactsAfter<'q> {
+    ghost use Rattle.std.specs.Prelude.{Some};
+    ghost use Rattle.wh_rows.specs.Keys.{bind_line};
+    ghost use Rattle.wh_rows.proofs.Facts.{after, after_stored};
+    ghost use Rattle.wh_rows.specs.Firsts.{first_thousand};
+    ghost use Rattle.wh_rows.specs.Texts.{facts_after};
+    ghost use Rattle.wh_rows.specs.Questions.{is_after, stands_after};
+
+    ghost keep = { λ q. is_after q.line.now };
+
+    ghost front = { Some first_thousand };
+
+    ghost bind = { λ q. bind_line q.line.now };
+
+    ghost can_be_asked = { λ q. Unit {0} };
+
+    ghost means = { λ q. facts_after };
+
+    fn text(&self) -> &'static str {
+        "SELECT * FROM fact WHERE ticket >= ?1 AND (ticket > ?1 OR line > ?2) ORDER BY ticket, line LIMIT 1000"
+    }
+
+    fn values<'a>(&'a self, alloc: Global) -> Result<Vec<ValueRef<'a>>, Cause> {
+        line_key(alloc, self.line)
+    }
+
+    ghost stands = { λ q. stands_after q.line.now };
+
+    ghost reads = { λ q. after q.line.now };
+
+    ghost reads_stored = { λ q. after_stored q.line.now };
 }
 
 /// The profile of a combination of values.

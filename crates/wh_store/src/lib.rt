@@ -13,7 +13,7 @@ pub use reopen::{into_files, open_path, restart};
 pub use tables::Tables;
 pub use wh_rows::{Cause, Limits, Table};
 pub use wh_sql::{
-    CommandOf, Dimension, Greatest, GreatestOf, Keeps, MemberOf, ProfileOf, Question, ReadFault,
-    RecordsOf, RowsOf, SalesSince,
+    CommandOf, Dimension, FactsAfter, Greatest, GreatestOf, Keeps, LastPolicy, MemberOf, ProfileOf,
+    Question, ReadFault, RecordsOf, RowsOf, SalesSince,
 };
 pub use writing::Writing;

@@ -17,8 +17,8 @@ ghost use Rattle.wh_rows.specs.Tables.{Tables as TenTables};
 ghost use Rattle.std.specs.Ordering.{eq_by_cmp, nat_cmp};
 ghost use Rattle.wh_rows.specs.Types.{dim_number};
 ghost use Rattle.wh_rows.specs.Firsts.{part, greatest as greatest_of};
-ghost use Rattle.wh_rows.specs.Raw.{Stored, RestsOn, LeavesStored, AreRows, IsLastOf};
-ghost use Rattle.wh_sql.specs.Reads.{ReadsOnly, Spares, IsServed, IsOfDamage, FailsToShow, FailsToCount};
+ghost use Rattle.wh_rows.specs.Raw.{Stored, RestsOn, LeavesStored, AreRows, AreAsked, IsLastOf};
+ghost use Rattle.wh_sql.specs.Reads.{ReadsOnly, Spares, IsServed, IsOfDamage, IsOfAskedDamage, FailsToShow, FailsToCount};
 ghost use Rattle.wh_sql.specs.Refused.{IsCauseOfQuery, IsOneRefused};
 ghost use Rattle.wh_store.specs.Reads.{state_of, SaysAtRest, SaysAsStored};
 ghost use Rattle.wh_sql.specs.Present.{is_any_taken, are_all_there};
@@ -157,9 +157,9 @@ impl<S: Alter> Tables<S> {
     ) -> Result<Vec<T::Row>, ReadFault>
         ensures reads { ReadsOnly (state_of S.Store self.old) (state_of S.Store self.new) result }
         ensures rows { SaysAtRest (state_of S.Store self.old) (state_of S.Store self.new) (λ t. IfOk result (λ rows. rows.items ≡ part Q.front (filter (Q.keep question.now) (values (T.rows t))))) }
-        // The same of any rows, whoever wrote them, where all that answer are asked for.
-        ensures stored { Q.front ≡ None → SaysAsStored (state_of S.Store self.old) (state_of S.Store self.new) (λ stored. IfOk result (λ rows. AreRows T.layout (filter (Q.stands question.now) (stored T.name)) rows.items)) }
-        ensures damaged { Q.front ≡ None → SaysAsStored (state_of S.Store self.old) (state_of S.Store self.new) (λ stored. IfErr result (IsOfDamage T.layout T.name (filter (Q.stands question.now) (stored T.name)))) }
+        // The same of any rows, whoever wrote them: no other row keeps these from being read.
+        ensures stored { SaysAsStored (state_of S.Store self.old) (state_of S.Store self.new) (λ stored. IfOk result (λ rows. AreAsked Q.front T.layout (filter (Q.stands question.now) (stored T.name)) rows.items)) }
+        ensures damaged { SaysAsStored (state_of S.Store self.old) (state_of S.Store self.new) (λ stored. IfErr result (IsOfAskedDamage Q.front T.layout T.name (filter (Q.stands question.now) (stored T.name)))) }
         ensures refused { HasCleanDisk (state_of S.Store self.new) → Q.can_be_asked question.now → IfErr result (FailsToShow T.layout T.name (Q.means question.now) (Q.bind question.now) (state_of S.Store self.old) (state_of S.Store self.new)) }
     {
         ask::<T, Q, S>(alloc, &mut self.conn, question)

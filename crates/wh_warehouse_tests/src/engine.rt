@@ -8,10 +8,11 @@
 //! - `trial`: the tables of a warehouse under the policy of a trial, with no engine over them.
 //!
 //! A warehouse takes:
-//! - `send KIND ID`: the lines that it is handed are the batch, and what the engine answers is the answer;
+//! - `send KIND ID`: the lines that it is handed are the batch, or the policy or its name where KIND is `migrate`, and what the engine answers is the
+//!   answer;
 //! - `batch p1`: one of the batches of `batches`, by its id; `load p0 p8`: those from one to another, of which it answers those that aren't
 //!   accepted;
-//! - `plan KIND ID`: what a batch of the lines that it is handed would write, a line an edit; `writes`: how many keys the last command wrote;
+//! - `plan KIND ID`: what such a command would write, a line an edit; `writes`: how many keys the last command wrote;
 //! - `counts`; `policy`: the last year, and how many attributes a product has;
 //! - `table NAME`: the rows of a table; `command NUMBER`: the row of a command;
 //! - `mark`: remembers all ten tables; `same`: whether they are as they were then;
@@ -24,7 +25,7 @@
 //!   `init` or a `send`, and then the machine crashes. What is found is as before, or, where it was answered so, as after; the step sent again
 //!   leads to what it leads to with no stop; and an engine whose store refused a call answers nothing more.
 //!
-//! `redeliver POLICY KIND ID` stands alone: a warehouse is made in files, is sent a batch, the machine crashes, and the batch is sent again.
+//! `redeliver POLICY KIND ID` stands alone: a warehouse is made in files, is sent a command, the machine crashes, and the command is sent again.
 //! `planning` has what the tables with no engine take.
 
 mod asking;

@@ -2,6 +2,7 @@
 
 use crate::engine::batches::{batch, load};
 use crate::engine::plans::plan;
+use crate::engine::policies::policy;
 use crate::trouble::Trouble;
 use crate::words::push_number;
 use sqlite::Alter;
@@ -10,16 +11,19 @@ use std::alloc::{AllocError, Global};
 use std::fmt::Write;
 use wh_batch::Kind;
 use wh_day::Value;
-use wh_engine::{Command, Counts, Engine, Fault, InitFault, OpenFault, Receipt, Refused, Reply};
+use wh_engine::{
+    Command, CommandKind, Counts, Engine, Fault, InitFault, OpenFault, Receipt, Refused, Reply,
+};
 use wh_policy::{Dim, Policy};
 use wh_scenarios::parted;
 
-fn kind_of(word: &str) -> Result<Kind, Trouble> {
+fn kind_of(word: &str) -> Result<CommandKind, Trouble> {
     match word {
-        "product" => Ok(Kind::Dimension(Dim::Product)),
-        "store" => Ok(Kind::Dimension(Dim::Store)),
-        "customer" => Ok(Kind::Dimension(Dim::Customer)),
-        "sales" => Ok(Kind::Sales),
+        "migrate" => Ok(CommandKind::Migration),
+        "product" => Ok(CommandKind::Batch(Kind::Dimension(Dim::Product))),
+        "store" => Ok(CommandKind::Batch(Kind::Dimension(Dim::Store))),
+        "customer" => Ok(CommandKind::Batch(Kind::Dimension(Dim::Customer))),
+        "sales" => Ok(CommandKind::Batch(Kind::Sales)),
         _ => Err(Trouble),
     }
 }
@@ -27,7 +31,7 @@ fn kind_of(word: &str) -> Result<Kind, Trouble> {
 /// A command of these bytes.
 pub fn make_command(
     alloc: Global,
-    kind: Kind,
+    kind: CommandKind,
     id: &str,
     bytes: &str,
 ) -> Result<Command, AllocError> {
@@ -38,10 +42,14 @@ pub fn make_command(
     })
 }
 
-/// A command of these bytes: `KIND ID`.
-pub fn command_of(alloc: Global, words: &str, bytes: &str) -> Result<Command, Trouble> {
+/// A command: `KIND ID`, with the bytes of a batch, or with a policy or the name of one.
+pub fn command_of(alloc: Global, words: &str, handed: &str) -> Result<Command, Trouble> {
     let (kind, id) = parted(words, ' ');
-    Ok(make_command(alloc, kind_of(kind)?, id, bytes)?)
+    let kind = kind_of(kind)?;
+    let named = policy(parted(handed, '\n').0);
+    let is_named = matches!(kind, CommandKind::Migration) && !named.is_empty();
+    let bytes = if is_named { named } else { handed };
+    Ok(make_command(alloc, kind, id, bytes)?)
 }
 
 /// Sends a command, and writes the answer.
@@ -76,7 +84,7 @@ pub fn ask<S: Alter>(
     }
 }
 
-/// A batch of these bytes: `KIND ID`.
+/// A batch, or a policy, of these bytes: `KIND ID`.
 fn send<S: Alter>(
     alloc: Global,
     engine: &mut Engine<S>,

@@ -5,7 +5,7 @@ use crate::trouble::Trouble;
 use sqlite::Alter;
 use std::alloc::{AllocError, Global};
 use wh_batch::Kind;
-use wh_engine::Engine;
+use wh_engine::{CommandKind, Engine};
 use wh_policy::Dim;
 use wh_scenarios::{parted, push_line};
 
@@ -53,7 +53,8 @@ fn sent<S: Alter>(
     out: &mut String,
 ) -> Result<(), Trouble> {
     let text = text_of(alloc, records)?;
-    let command = make_command(alloc, Kind::Dimension(Dim::Product), id, text.as_str())?;
+    let kind = CommandKind::Batch(Kind::Dimension(Dim::Product));
+    let command = make_command(alloc, kind, id, text.as_str())?;
     push_applied(alloc, engine, &command, out)
 }
 

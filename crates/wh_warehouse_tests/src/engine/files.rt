@@ -409,7 +409,7 @@ fn has_stopped<D: Disk>(files: &mut Files<D>) -> bool {
     fails(&mut files.log) || fails(&mut files.db)
 }
 
-/// `POLICY KIND ID`: what a batch is answered that is sent again after a crash, and how much the warehouse holds then.
+/// `POLICY KIND ID`: what a command is answered that is sent again after a crash, and how much the warehouse holds then.
 pub fn redelivered(
     alloc: Global,
     words: &str,
@@ -444,7 +444,7 @@ fn over_a_crash<D: Crash + Drop>(
     }
 }
 
-/// The answer to a batch that was sent again, and the counts.
+/// The answer to a command that was sent again, and the counts.
 fn push_again<S: Alter + Drop>(
     alloc: Global,
     again: Result<(Result<Reply, Fault>, Engine<S>), OpenFault>,

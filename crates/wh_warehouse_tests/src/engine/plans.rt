@@ -140,7 +140,7 @@ fn push_edits(out: &mut String, edits: &Edits) -> Result<(), AllocError> {
     Ok(())
 }
 
-/// `KIND ID`: what a batch of these bytes would write.
+/// `KIND ID`: what a command of these bytes would write.
 pub fn plan<S: Alter>(
     alloc: Global,
     engine: &mut Engine<S>,

@@ -3,6 +3,7 @@
 mod bands;
 mod batches;
 mod limits;
+mod migrations;
 mod opening;
 mod parts;
 mod plans;

@@ -1,6 +1,6 @@
 //! What the words of a step mean over the lines and the status of an answer.
 //!
-//! - `load ID REPLY`: the answer to the load of a batch. A REPLY is `accepted NUMBER RECORDS PLACEHOLDERS`, `already` with the same, or
+//! - `load ID REPLY`: the answer to a command that is sent. A REPLY is `accepted NUMBER RECORDS PLACEHOLDERS`, `already` with the same, or
 //!   a FAULT.
 //! - `status FAULT`, `counts FORMAT COMMANDS CHANGES FACTS PRODUCTS STORES CUSTOMERS`: the answer to a count.
 //! - `made`, `making FAULT`: the answer to the making of a warehouse. `opening FAULT`: where none is opened.
@@ -15,7 +15,7 @@ use wh_batch::{BatchFault, FaultKind};
 use wh_engine::{Counts, Fault, InitFault, Limit, OpenFault, Receipt, Refused, Reply};
 use wh_policy::PolicyFault;
 use wh_program::{
-    Answer, load_answer, made, making_answer, opening_answer, room_for_receipt, status_answer,
+    Answer, made, making_answer, opening_answer, room_for_receipt, sent_answer, status_answer,
 };
 use wh_rows::{Cause, Table};
 use wh_scenarios::{Driver, NotMade, Step, parted, push_line};
@@ -64,7 +64,7 @@ fn loaded(alloc: Global, words: &str) -> Result<Result<Answer, AllocError>, Trou
     let (id, rest) = parted(words, ' ');
     let reply = reply(rest)?;
     let room = room_for_receipt(alloc, id)?;
-    Ok(load_answer(alloc, room, id, reply))
+    Ok(sent_answer(alloc, room, id, reply))
 }
 
 fn reply(words: &str) -> Result<Result<Reply, Fault>, Trouble> {
@@ -129,6 +129,8 @@ fn refused(word: &str, rest: &str) -> Result<Refused, Trouble> {
             kind: FaultKind::BadDay,
             number: record(rest)?,
         })),
+        "BadYears" => Ok(Refused::Policy(PolicyFault::BadYears)),
+        "Unfit" => Ok(Refused::Unfit),
         "LineThere" => Ok(Refused::LineThere(number(rest)?)),
         "Full" => Ok(Refused::Full(limit(rest)?)),
         _ => Err(Trouble),

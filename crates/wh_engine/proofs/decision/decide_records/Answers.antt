@@ -1,9 +1,9 @@
 use Rattle.std.proofs.Common.{◌≡◌, ◌∙◌, ℕ, sym, ap, subst, refl, Ok, Some, length}
 use Rattle.wh_policy.specs.Written.{IsSound}
 use Rattle.wh_history.specs.Accepted.{Describes}
-use Rattle.wh_engine.specs.Admission.{in_force, accepted_as, answer, number_for}
-use Rattle.wh_engine.specs.Decided.{Decides, records_told, row_of_batch}
-use Rattle.wh_engine.proofs.Decisions.{judged_ok, judged_err, number_refused, records_content, batch_accepted, list_accepted, own_row, policy_in_force, sound_in_force}
+use Rattle.wh_engine.specs.Admission.{in_force, accepted_as, answer, number_for, records_told}
+use Rattle.wh_engine.specs.Decided.{Decides, row_of_command}
+use Rattle.wh_engine.proofs.Decisions.{judged_ok, judged_err, number_refused, records_content, command_accepted, list_accepted, own_row, policy_in_force, sound_in_force}
 use Rattle.wh_engine.proofs.decision.decide_records.Goals as goal
 
 pub returns-clause-decided : goal.returns-clause-decided
@@ -22,10 +22,10 @@ returns-clause-decided g c clean commands t held rests kind good new =
     let numbered = judged_ok (λ number next. number ≡ next) number (number_for limits commands content) (c.in-Ok.ensures.number before commands t held.are held.accepted rests content refl (sym count)) in
     let room : number_for limits commands content ≡ Ok number = numbered.1 ∙ ap Ok (sym numbered.2) in
     let still = c.in-Ok.ensures.reads.same before t rests tt in
-    let stored = own_row limits commands command good new content read number room ∙ ap Some (sym (c.in_ok-row.ensures ∙ ap (row_of_batch command number) count)) in
+    let stored = own_row limits commands command good new content read number room ∙ ap Some (sym (c.in_ok-row.ensures ∙ ap (row_of_command command number) count)) in
     let edits = c.in_ok-edits.ensures.edits clean limits commands t held.are still (accepted_as command content) (list_accepted limits commands command good new content read number room held.accepted)
     (ap (Describes dim) (sym c.as_slice-3.ensures)) (policy_in_force commands held.accepted.governed ∙ ap Some (sym held.policy)) (subst IsSound (sym held.policy) (sound_in_force limits commands held.accepted)) stored in
-    rw (batch_accepted limits commands command good new content read number room, count) (refl, record { content = content; read = read; edits_are = edits })
+    rw (command_accepted limits commands command good new content read number room, count) (refl, record { content = content; read = read; edits_are = edits; newer_is = refl })
 
 pub returns-in-Err-clause-decided : goal.returns-in-Err-clause-decided
 returns-in-Err-clause-decided g c clean commands t held rests kind good new =

@@ -2,11 +2,11 @@ use Rattle.std.proofs.Common.{◌≡◌, ◌∙◌, ◌++◌, ◌∷◌, [], ℕ
 use Rattle.wh_policy.specs.Written.{IsSound}
 use Rattle.wh_history.specs.Accepted.{Sells, placeholders_by}
 use Rattle.wh_engine.specs.Admission.{accepted_as, answer, number_for}
-use Rattle.wh_engine.specs.Decided.{Decides, row_of_batch}
+use Rattle.wh_engine.specs.Decided.{Decides, row_of_command}
 use Rattle.wh_rows.specs.declared.rows.CommandRow.{CommandRow}
 use Rattle.wh_plan.specs.Edits.{Edits}
 use Rattle.wh_engine.specs.declared.command.Reply.TheVariants.{Accepted as Accepts}
-use Rattle.wh_engine.proofs.Decisions.{judged_ok, judged_err, number_refused, batch_accepted, next_number, lines_new, list_accepted, own_row, policy_in_force, sound_in_force}
+use Rattle.wh_engine.proofs.Decisions.{judged_ok, judged_err, number_refused, command_accepted, next_number, lines_new, list_accepted, own_row, policy_in_force, sound_in_force}
 use Rattle.wh_engine.proofs.SalesPremises.{members_counted}
 use Rattle.wh_engine.proofs.decision.decide_sold.Goals as goal
 
@@ -23,9 +23,9 @@ returns-clause-decided g c clean commands t held rests good new read =
     let accepted = list_accepted limits commands command good new content read number room held.accepted in
     let next = next_number limits commands command good new content read number room in
     let after = commands ++ accepted_as command content ∷ [] in
-    let row : c.in_ok-row.row ≡ row_of_batch command number (length c.args.sales.now) = c.in_ok-row.ensures in
+    let row : c.in_ok-row.row ≡ row_of_command command number (length c.args.sales.now) = c.in_ok-row.ensures in
     let stored = own_row limits commands command good new content read number room
-    ∙ ap (λ (n : ℕ). Some (record (row_of_batch command number (length c.args.sales.now)) { placeholders = placeholders_by after n content })) next
+    ∙ ap (λ (n : ℕ). Some (record (row_of_command command number (length c.args.sales.now)) { placeholders = placeholders_by after n content })) next
     ∙ ap (λ (r : CommandRow). Some (record r { placeholders = placeholders_by after (suc (length commands)) content })) (sym row) in
     let edits = c.in_ok-edits.ensures.edits clean limits commands t held.are still (accepted_as command content) accepted refl (policy_in_force commands held.accepted.governed ∙ ap Some (sym held.policy))
     (subst IsSound (sym held.policy) (sound_in_force limits commands held.accepted)) (lines_new limits commands command good new content read number room) stored in
@@ -33,8 +33,8 @@ returns-clause-decided g c clean commands t held rests good new read =
     let as_many = members_counted commands (accepted_as command content) c.args.sales.now c.in_ok-edits.edits refl edits in
     let same : placeholders_by after (suc (length commands)) content ≡ c.len.result = let len = c.len.ensures in omega arith in
     let counted : placeholders_by after number content ≡ c.len.result = ap (λ n. placeholders_by after n content) next ∙ same in
-    rw (batch_accepted limits commands command good new content read number room)
-    (ap (λ n. Accepts (record { number = number; records = length c.args.sales.now; placeholders = n })) counted, record { content = content; read = read; edits_are = edits })
+    rw (command_accepted limits commands command good new content read number room)
+    (ap (λ n. Accepts (record { number = number; records = length c.args.sales.now; placeholders = n })) counted, record { content = content; read = read; edits_are = edits; newer_is = refl })
 
 pub returns-in-Err-clause-decided : goal.returns-in-Err-clause-decided
 returns-in-Err-clause-decided g c clean commands t held rests good new read =

@@ -21,9 +21,9 @@ returns-in-Ok-clause-performed g c clean limits commands ready =
     let is_held = held limits commands command c.args.session.now old ready in
     let judged = rw c.in-Ok-Accept.field-0-is at (c.in-Ok-Accept.ensures.decided before commands ready.rests.tables is_held rests) in
     let still = c.in-Ok-Accept.ensures.reads.same before ready.rests.tables rests tt in
-    let may = may_write limits commands command c.args.session.now old ready c.in-Ok-Accept.receipt c.in-Ok-Accept.edits judged in
-    accept_performed limits commands command c.args.session.now old ready c.in-Ok-Accept.receipt c.in-Ok-Accept.edits judged new
-    (c.in-Ok.ensures.written clean ready.rests.tables still may)
+    let may = may_write limits commands command c.args.session.now old ready c.in-Ok-Accept.receipt c.in-Ok-Accept.edits c.in-Ok-Accept.newer judged in
+    rw c.govern.ensures (accept_performed limits commands command c.args.session.now old ready c.in-Ok-Accept.receipt c.in-Ok-Accept.edits c.in-Ok-Accept.newer judged new
+    (c.in-Ok.ensures.written clean ready.rests.tables still may))
 
 pub returns-in-Ok-clause-written : goal.returns-in-Ok-clause-written
 returns-in-Ok-clause-written g c clean limits commands ready =
@@ -32,7 +32,7 @@ returns-in-Ok-clause-written g c clean limits commands ready =
     let before = c.commit_edits.ensures.clean clean in
     let is_held = held limits commands command c.args.session.now old ready in
     let judged = rw c.in-Ok-Accept.field-0-is at (c.in-Ok-Accept.ensures.decided before commands ready.rests.tables is_held ready.rests.rests) in
-    writes_counted limits commands command c.args.session.now old ready c.in-Ok-Accept.receipt c.in-Ok-Accept.edits judged c.in-Ok.count c.in-Ok.ensures.counted
+    writes_counted limits commands command c.args.session.now old ready c.in-Ok-Accept.receipt c.in-Ok-Accept.edits c.in-Ok-Accept.newer judged c.in-Ok.count c.in-Ok.ensures.counted
 
 pub returns-in-Ok-Accept-clause-performed : goal.returns-in-Ok-Accept-clause-performed
 returns-in-Ok-Accept-clause-performed g c clean limits commands ready =
@@ -44,8 +44,8 @@ returns-in-Ok-Accept-clause-performed g c clean limits commands ready =
     let is_held = held limits commands command c.args.session.now old ready in
     let judged = rw c.in-Ok-Accept.field-0-is at (c.in-Ok-Accept.ensures.decided before commands ready.rests.tables is_held rests) in
     let still = c.in-Ok-Accept.ensures.reads.same before ready.rests.tables rests tt in
-    let may = may_write limits commands command c.args.session.now old ready c.in-Ok-Accept.receipt c.in-Ok-Accept.edits judged in
-    stop_performed limits commands command c.args.session.now old ready c.in-Ok-Accept.receipt c.in-Ok-Accept.edits judged new
+    let may = may_write limits commands command c.args.session.now old ready c.in-Ok-Accept.receipt c.in-Ok-Accept.edits c.in-Ok-Accept.newer judged in
+    stop_performed limits commands command c.args.session.now old ready c.in-Ok-Accept.receipt c.in-Ok-Accept.edits c.in-Ok-Accept.newer judged new
     (c.commit_edits.ensures.left clean ready.rests.tables still may)
 
 pub returns-clause-performed : goal.returns-clause-performed

@@ -1,7 +1,7 @@
 use Rattle.std.proofs.Common.{ap, refl}
 use Rattle.std.proofs.lemmas.Result.{err_from_is_err_and}
 use Rattle.wh_store.specs.Reads.{state_of}
-use Rattle.wh_engine.specs.Opened.{of_limits, of_making, making_in, session_in}
+use Rattle.wh_engine.specs.Opened.{of_limits, of_command, last_policy_in, session_in}
 use Rattle.wh_engine.proofs.OpenedTables.{fault_goes_on, limits_unread, policy_fault, session_is}
 use Rattle.wh_engine.proofs.OpenedStored.{unlimited_spares, limits_refused, policy_refused}
 use Rattle.wh_engine.proofs.opening.session_of.Goals as goal
@@ -24,7 +24,7 @@ returns-in-Err-clause-read g c clean t rests =
     let before = c.policy_in.ensures.reads.clean clean in
     let first = ap of_limits (c.in_ok-limits.ensures.limits before t rests) in
     let still = c.in_ok-limits.ensures.reads.same before t rests tt in
-    fault_goes_on c.in-Err.fault (of_making (making_in t)) (session_in t) t (state_of g.S.Store c.policy_in.new.tables) (λ e. policy_fault t c.in_ok-limits.limits e first) (c.in-Err.ensures.read clean t still)
+    fault_goes_on c.in-Err.fault (of_command (last_policy_in t)) (session_in t) t (state_of g.S.Store c.policy_in.new.tables) (λ e. policy_fault t c.in_ok-limits.limits e first) (c.in-Err.ensures.read clean t still)
 
 -- ---- whoever wrote the rows
 

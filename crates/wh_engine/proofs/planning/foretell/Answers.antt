@@ -19,10 +19,10 @@ returns-in-Ok-Accept-clause-foretold g c clean limits commands ready =
     let rests = ready.rests.rests in
     let is_held = held limits commands c.args.command.now c.args.session.now old ready in
     let judged = rw c.in-Ok-Accept.field-0-is at (c.in-Ok-Accept.ensures.decided clean commands ready.rests.tables is_held rests) in
-    accept_foreseen limits commands c.args.command.now c.args.session.now old ready c.in-Ok-Accept.field-0-0 c.in-Ok-Accept.edits judged new (c.in-Ok-Accept.ensures.reads.same clean ready.rests.tables rests tt)
+    accept_foreseen limits commands c.args.command.now c.args.session.now old ready c.in-Ok-Accept.field-0-0 c.in-Ok-Accept.edits c.in-Ok-Accept.field-0-2 judged new (c.in-Ok-Accept.ensures.reads.same clean ready.rests.tables rests tt)
 
-pub returns-in-Err-clause-foretold : goal.returns-in-Err-clause-foretold
-returns-in-Err-clause-foretold g c clean limits commands ready =
+pub returns-clause-foretold : goal.returns-clause-foretold
+returns-clause-foretold g c clean limits commands ready =
     let old = state g.S.Store c.args.tables.now.conn in
     let new = state g.S.Store c.decide.new.tables.conn in
     let rests = ready.rests.rests in

@@ -1,8 +1,15 @@
 use Rattle.std.proofs.Common.{ap, ◌≡◌, ◌∙◌, map}
-use Rattle.std.proofs.lemmas.Result.{IfErr-weaker}
-use Rattle.clap.specs.Words.{App, app_of, takes}
+use Rattle.std.proofs.lemmas.Result.{IfOk-weaker, IfErr-weaker}
+use Rattle.clap.specs.Words.{App, app_of, is_simple, subcommand_of, takes}
 use Rattle.wh_program.specs.CommandLine.{program_app}
+use Rattle.wh_program.proofs.CommandLineLemmas.{simple}
 use Rattle.wh_program.proofs.command.matches_of.Goals as goal
+
+pub returns-clause-ok : goal.returns-clause-ok
+returns-clause-ok g c =
+    let parse = c.try_get_matches_from in
+    let program-is : app_of c.in_ok-program_command.field-0 ≡ program_app = c.in_ok-program_command.ensures in
+    IfOk-weaker parse.result _ _ (λ matches h. (h (ap is_simple program-is ∙ simple)).1 ∙ ap (λ (a : App). subcommand_of a (map g.S.AsStr.text c.args.words.now)) program-is) parse.ensures.matches
 
 pub returns-clause-err : goal.returns-clause-err
 returns-clause-err g c = λ taken.

@@ -17,6 +17,10 @@ pub returns-in-Err-clause-load : goal.returns-in-Err-clause-load
 returns-in-Err-clause-load g c = λ file word id path kind content says names stood.
     (Err c.in-Err.field-0, c.in-Err.ensures.load file word id path kind content says names stood, rw c.code-in-Err.ensures at c.print-in-Err.ensures)
 
+pub returns-in-Err-clause-migrate : goal.returns-in-Err-clause-migrate
+returns-in-Err-clause-migrate g c = λ file id policy content says stood.
+    (Err c.in-Err.field-0, c.in-Err.ensures.migrate file id policy content says stood, rw c.code-in-Err.ensures at c.print-in-Err.ensures)
+
 pub returns-in-Err-clause-plan : goal.returns-in-Err-clause-plan
 returns-in-Err-clause-plan g c = λ file word id path kind content says names stood.
     (Err c.in-Err.field-0, c.in-Err.ensures.plan file word id path kind content says names stood, rw c.code-in-Err.ensures at c.print-in-Err.ensures)

@@ -1,9 +1,8 @@
 -- The text means the rows that answer the question.
-use Rattle.std.proofs.Common.{Err, ap, subst, ◌∙◌}
+use Rattle.std.proofs.Common.{Err, ap, ◌∙◌}
 use Rattle.std.proofs.lemmas.Result.{err_from_is_err_and}
 use Rattle.sqlite.specs.Held.{state}
-use Rattle.wh_rows.specs.Raw.{ReadsAllStored}
-use Rattle.wh_sql.proofs.Reading.{part_answered, rows_are, undamaged, part_named, nothing_asked, reads_stored, finds_damage}
+use Rattle.wh_sql.proofs.Reading.{part_answered, rows_are, undamaged, part_named, nothing_asked, asked_stored, asked_damage}
 use Rattle.wh_sql.proofs.question.ask.Goals as goal
 
 pub returns-clause-rows : goal.returns-clause-rows
@@ -40,17 +39,17 @@ returns-clause-reads g c =
 -- ---- whoever wrote the rows
 
 pub returns-clause-stored : goal.returns-clause-stored
-returns-clause-stored g c all clean stored is =
+returns-clause-stored g c clean stored is =
     let q = g.Q.Question in
     let of = c.args.question.now in
-    let means = subst (λ front. ReadsAllStored front g.T.StoredTable.layout (q.bind of) (q.stands of) (q.keep of) (q.means of)) all (g.met.Q.Question.reads_stored of) in
     let shows = rw (c.text.ensures, c.deref.ensures.value, c.in_ok-values.ensures.ok) at (c.rows_shown.ensures.shows clean) in
-    reads_stored g.T.Keeps.name g.met.T.Keeps.named means (state g.S.Store c.args.conn.now) (state g.S.Store c.rows_shown.new.conn) stored is c.rows_shown.result shows
+    asked_stored g.T.StoredTable.layout g.T.Keeps.name g.met.T.Keeps.named (q.stands of) (q.keep of) (q.means of) (q.bind of) (state g.S.Store c.args.conn.now) (state g.S.Store c.rows_shown.new.conn) stored is
+    q.front (g.met.Q.Question.reads_stored of) c.rows_shown.result shows
 
 pub returns-clause-damaged : goal.returns-clause-damaged
-returns-clause-damaged g c all clean stored is =
+returns-clause-damaged g c clean stored is =
     let q = g.Q.Question in
     let of = c.args.question.now in
-    let means = subst (λ front. ReadsAllStored front g.T.StoredTable.layout (q.bind of) (q.stands of) (q.keep of) (q.means of)) all (g.met.Q.Question.reads_stored of) in
     let refused = rw (c.text.ensures, c.deref.ensures.value, c.in_ok-values.ensures.ok) at (c.rows_shown.ensures.refused clean) in
-    finds_damage g.T.Keeps.name g.met.T.Keeps.named means (state g.S.Store c.args.conn.now) (state g.S.Store c.rows_shown.new.conn) stored is c.rows_shown.result refused
+    asked_damage g.T.StoredTable.layout g.T.Keeps.name g.met.T.Keeps.named (q.stands of) (q.keep of) (q.means of) (q.bind of) (state g.S.Store c.args.conn.now) (state g.S.Store c.rows_shown.new.conn) stored is
+    q.front (g.met.Q.Question.reads_stored of) c.rows_shown.result refused

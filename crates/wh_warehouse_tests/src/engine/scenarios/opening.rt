@@ -88,9 +88,17 @@ open
 make flat
 load p0 p1
 close
-sql UPDATE command SET id = 'Init' WHERE number = 1
+sql UPDATE command SET kind = 'product' WHERE number = 1
 open
 = Damaged(Command)
+
+# It is known by its kind, under whatever id.
+make flat
+load p0 p1
+close
+sql UPDATE command SET id = 'Init' WHERE number = 1
+open
+= opened
 
 # A making with no policy.
 make flat

@@ -1,6 +1,6 @@
 //! Files that stop at some call, and a crash after it: what is found is as before, or as after, and the same command again leads to what
 //! it leads to with no stop. A load is of a record of an earlier day of a product and of a new product, or of a sale of a product and to a
-//! customer that nothing mentioned.
+//! customer that nothing mentioned; a migration takes a row away, and moves a sale.
 
 use crate::engine::scenarios::check_engine;
 use std::test::Fail;
@@ -111,4 +111,50 @@ stops database send sales s2
 #[test]
 fn sales_database(rt: HostRuntime) -> Result<(), Fail> {
     check_engine(&rt, rt.alloc(), SALES_DATABASE)
+}
+
+const MIGRATIONS_LOG: &str = "\
+files
+init small
+= made
+send product p1
+> id,day,brand
+> P1,2024-02-01,Acme
+> P1,2024-03-01,Bolt
+= accepted 2: 2 records, 0 placeholders
+send sales s1
+> ticket,line,day,store,product,customer,quantity,amount,cost
+> T1,1,2024-03-05,S1,P1,,1,2.50,1.60
+= accepted 3: 1 records, 1 placeholders
+stops log send migrate m1
+> small-overwritten
+= before, or after
+";
+
+#[test]
+fn migrations_log(rt: HostRuntime) -> Result<(), Fail> {
+    check_engine(&rt, rt.alloc(), MIGRATIONS_LOG)
+}
+
+const MIGRATIONS_DATABASE: &str = "\
+files
+init small
+= made
+send product p1
+> id,day,brand
+> P1,2024-02-01,Acme
+> P1,2024-03-01,Bolt
+= accepted 2: 2 records, 0 placeholders
+send sales s1
+> ticket,line,day,store,product,customer,quantity,amount,cost
+> T1,1,2024-03-05,S1,P1,,1,2.50,1.60
+= accepted 3: 1 records, 1 placeholders
+stops database send migrate m1
+> small-overwritten
+= before, or after
+";
+
+#[test]
+fn migrations_database(rt: HostRuntime) -> Result<(), Fail> {
+    check_engine(&rt, rt.alloc(), MIGRATIONS_DATABASE)
 }

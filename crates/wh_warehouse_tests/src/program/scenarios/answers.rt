@@ -67,6 +67,14 @@ status Store Interrupted
 = failed: E9 store, interrupted
 = status 3
 
+# A policy.
+load m1 BadYears
+= refused: E4 policy, P10 bad years
+= status 2
+load m1 Unfit
+= refused: E5 policy does not fit
+= status 2
+
 # Failures.
 load p1 Damaged command
 = failed: E7 damaged, command

@@ -293,6 +293,72 @@ run status w
 = facts 0
 = members product 1 store 0 customer 0
 = status 0
+
+# A policy takes the place of another: the brand no longer begins a row.
+file overwritten.toml
+> first_year = 2023
+> last_year = 2026
+> product = [
+>     { name = "description", type = 1 },
+>     { name = "brand", type = 1 },
+>     { name = "category", type = 6 },
+>     { name = "department", type = 7 },
+>     { name = "launched", type = 0 },
+>     { name = "supplier", type = 3 },
+> ]
+> store = [{ name = "city", type = 2 }]
+> customer = [{ name = "tier", type = 2 }]
+> [[holiday]]
+> day = "2024-12-25"
+> name = "Christmas Day"
+file other.toml
+> first_year = 2023
+> last_year = 2026
+> product = [{ name = "brand", type = 1 }]
+> store = [{ name = "city", type = 2 }]
+> customer = [{ name = "tier", type = 2 }]
+bytes torn.toml first_year = 2023\nlast_year =\x20
+anew
+run init w flat.toml
+= accepted 1 init: 0 records, 0 placeholders
+= status 0
+run load w product p1 p1.csv
+= accepted 2 p1: 1 records, 0 placeholders
+= status 0
+run load w product p2 p2.csv
+= accepted 3 p2: 1 records, 0 placeholders
+= status 0
+run plan w migrate m1 overwritten.toml
+= put command 4
+= put product 1
+= remove product 3
+= edits 3
+= status 0
+run migrate w m1 overwritten.toml
+= accepted 4 m1: 0 records, 0 placeholders
+= status 0
+run migrate w m1 overwritten.toml
+= already 4 m1: 0 records, 0 placeholders
+= status 0
+run migrate w m2 torn.toml
+= refused: E4 policy, P1 not toml
+= status 2
+run migrate w m2 other.toml
+= refused: E5 policy does not fit
+= status 2
+run migrate w p2 flat.toml
+= refused: E2 id reused
+= status 2
+run migrate w m2 none.toml
+= failed: F1 file, none.toml
+= status 3
+run migrate w m2 flat.toml
+= accepted 5 m2: 0 records, 0 placeholders
+= status 0
+run plan w migrate m3 flat.toml
+= put command 6
+= edits 1
+= status 0
 "#;
 
 #[test]
@@ -303,6 +369,7 @@ fn loads(rt: HostRuntime) -> Result<(), Fail> {
 const OTHERS: &str = r#"
 policy flat.toml
 bytes cut.toml first_year = 2023\nlast_year =\x20
+bytes few.toml first_year = 2023\nlast_year = 2026\n[[product]]\nname = "brand"\ntype = 2\n[[store]]\nname = "city"\ntype = 2\n[[customer]]\nname = "tier"\ntype = 2\n
 bytes p1.csv id,day,description,brand,category,department,launched,supplier\nP1,2024-01-10,Cola 1l,Acme,Drinks,Grocery,2019,North
 file c.csv
 > id,day,tier
@@ -315,6 +382,17 @@ run init w cut.toml
 run init w flat.toml
 = accepted 1 init: 0 records, 0 placeholders
 = status 0
+
+# No migration to a bad policy, nor to one that loses attributes.
+run migrate w m1 cut.toml
+= refused: E4 policy, P1 not toml
+= status 2
+run plan w migrate m1 cut.toml
+= refused: E4 policy, P1 not toml
+= status 2
+run migrate w m1 few.toml
+= refused: E5 policy does not fit
+= status 2
 
 # Nothing is there, and nothing is left there by a name that was mistyped.
 anew

@@ -5,4 +5,4 @@ use Rattle.wh_engine.proofs.engine.Engine.apply.Goals as goal
 pub returns-clause-answered : goal.returns-clause-answered
 returns-clause-answered g c clean limits commands ready =
     let new = state g.S.Store c.perform-answer.new.tables.conn in
-    rw c.stops-self.ensures (answered limits commands c.args.command.now c.args.self.now.session new c.perform-answer.result (c.perform-answer.ensures.performed clean limits commands ready))
+    rw c.stops-self.ensures (answered limits commands c.args.command.now c.perform-answer.new.session new c.perform-answer.result (c.perform-answer.ensures.performed clean limits commands ready))

@@ -1,7 +1,7 @@
 use Rattle.wh_store.proofs.tables.Tables.ask.Goals as goal
 
 pub returns-clause-stored : goal.returns-clause-stored
-returns-clause-stored g c all clean stored at = c.ask.ensures.stored all clean stored at.now
+returns-clause-stored g c clean stored at = c.ask.ensures.stored clean stored at.now
 
 pub returns-clause-damaged : goal.returns-clause-damaged
-returns-clause-damaged g c all clean stored at = c.ask.ensures.damaged all clean stored at.now
+returns-clause-damaged g c clean stored at = c.ask.ensures.damaged clean stored at.now

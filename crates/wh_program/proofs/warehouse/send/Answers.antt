@@ -1,7 +1,7 @@
 use Rattle.wh_program.specs.Standing.{Rests}
-use Rattle.wh_program.specs.Warehouse.{Loads}
+use Rattle.wh_program.specs.Warehouse.{Sends}
 use Rattle.wh_program.proofs.WarehouseLemmas.{answered_with, same_left}
-use Rattle.wh_program.proofs.warehouse.load.Goals as goal
+use Rattle.wh_program.proofs.warehouse.send.Goals as goal
 
 pub returns : goal.returns
 returns g c = λ content stood.
@@ -9,5 +9,5 @@ returns g c = λ content stood.
     answered_with (g.H.Host.stores c.with_existing-visit.new.self c.args.file.now) content c.args.file.now c.with_existing-visit.result c.answered.result
     (same_left c.with_existing-visit.result (g.H.Host.stores c.args.host.now) (g.H.Host.stores c.with_existing-visit.new.self) c.args.file.now (Rests content) c.with_existing-visit.ensures.not_visited stood)
     c.answered.ensures.visited c.answered.ensures.not_visited
-    (g.H.Host.holds c.args.host.now) (Loads c.args.kind c.args.id.now) c.args.path.now sent.0 sent.1
+    (g.H.Host.holds c.args.host.now) (Sends c.args.kind c.args.id.now) c.args.path.now sent.0 sent.1
     (rw sent.2 at (c.with_existing-visit.ensures.visited content stood))

@@ -1,21 +1,19 @@
--- A batch's edits may be written.
-use Rattle.std.proofs.Common.{◌≡◌, inl, inr, ℕ, suc, ◌-◌, ◌≤◌, true, false, List, [], ◌∷◌, ◌++◌, length, Option, Some, None, refl, sym, ap, subst, ◌∙◌, arith, length-append}
+-- The edits of a command may be written.
+use Rattle.std.proofs.Common.{◌≡◌, inl, inr, ℕ, suc, ◌≤◌, true, List, [], ◌∷◌, ◌++◌, length, Option, Some, None, refl, sym, ap, subst, ◌∙◌, arith, length-append}
 use Rattle.std.specs.Prelude.{take, option_map}
-use Rattle.std.specs.List.{AllByRecursion, cons_option, range_with_len}
+use Rattle.std.specs.List.{AllByRecursion}
 use Rattle.std.specs.Option.{option_and_then}
 use Rattle.wh_policy.specs.declared.attribute.Dim.{Dim}
 use Rattle.wh_policy.specs.declared.attribute.Dim.TheVariants.{Product, Store, Customer}
 use Rattle.wh_policy.specs.declared.record.DimensionRecord.{DimensionRecord}
 use Rattle.wh_policy.specs.declared.record.SaleRecord.{SaleRecord}
-use Rattle.wh_history.specs.Accepted.{Accepted, Content, Governs, Describes, Sells, described, described_by, sold, members_after, profiles_of, records_by, placeholders_by}
+use Rattle.wh_history.specs.Accepted.{Accepted, Content, Governs, Describes, Sells, described, described_by, sold, members_after, records_by, placeholders_by}
 use Rattle.wh_history.specs.Tables.{Limits, change_row, change_row_in, change_row_of, dimension_row}
-use Rattle.wh_history.specs.Laws.{governs}
 use Rattle.wh_history.specs.Tables as history
 use Rattle.wh_history.specs.declared.facts.Fact.{Fact}
 use Rattle.wh_history.specs.declared.plan.Edit.TheVariants.{Put, Remove}
 use Rattle.wh_history.specs.declared.rows.DimRow.{DimRow}
 use Rattle.wh_history.proofs.Basics.{both_true, some_is}
-use Rattle.wh_history.proofs.Stays.{policy_last}
 use Rattle.wh_history.proofs.Batches.{same_dimension}
 use Rattle.wh_history.proofs.Untouched.{described-last}
 use Rattle.wh_rows.specs.declared.rows.CommandRow.{CommandRow}
@@ -28,8 +26,8 @@ use Rattle.wh_rows.specs.declared.key.LineKey.{LineKey}
 use Rattle.wh_rows.specs.Rows.{is_command, is_change, is_dimension, is_fact}
 use Rattle.wh_rows.specs.Rows as row
 use Rattle.wh_rows.specs.Tables.{Tables}
-use Rattle.wh_plan.specs.Defined.{command_at, member_at, change_at, profile_at, calendar_at, fact_at, day_at, AreOf}
-use Rattle.wh_plan.specs.Laws.{BatchesMayBeWritten}
+use Rattle.wh_plan.specs.Defined.{command_at, member_at, change_at, profile_at, calendar_at, fact_at, AreOf}
+use Rattle.wh_plan.specs.Laws.{CommandsMayBeWritten}
 use Rattle.wh_plan.specs.Edits.{Edits, AreEdits, NeedsFact, rows_of_dimension, edited_line}
 use Rattle.wh_plan.specs.Sound.{IsGoodRecord, IsAccepted}
 use Rattle.wh_store.specs.Edits.{IsValid, Puts}
@@ -40,10 +38,11 @@ use Rattle.wh_plan.proofs.Exact.{exact_all}
 use Rattle.wh_plan.proofs.Plans.{plan_puts}
 use Rattle.wh_plan.proofs.GrownCommands.{command_grows}
 use Rattle.wh_plan.proofs.GrownKeys.{at_last, all_at}
-use Rattle.wh_plan.proofs.GrownChanges.{all_apart, new_row, batch_grows}
+use Rattle.wh_plan.proofs.GrownChanges.{all_apart, new_row, changes_grow}
 use Rattle.wh_plan.proofs.GrownChanges as change
 use Rattle.wh_plan.proofs.SmallNumbers.{is_small, commands_few, described_few, members_few, sold_few}
 use Rattle.wh_plan.proofs.ValidTables.{made_of, dimension_valid, member_valid, change_made, profile_valid}
+use Rattle.wh_plan.proofs.ValidCalendar.{calendar_valid}
 use Rattle.wh_plan.proofs.ValidFacts.{fact_valid}
 use Rattle.wh_plan.proofs.Selling.{sold_more}
 
@@ -70,11 +69,11 @@ valid_parts : (r : CommandRow) → is_number r.number ≡ true → is_key 40 r.i
 valid_parts r number id kind records placeholders = rw (number, id, kind, records, placeholders) refl
 
 module _ (limits : Limits) (commands : List Accepted) (c : Accepted) (t : Tables) (edits : Edits)
-    (batch : governs c.content ≡ false) (ok : IsAccepted limits (commands ++ c ∷ [])) (of : AreOf limits commands t) (are : AreEdits commands (commands ++ c ∷ []) edits) where
+    (ok : IsAccepted limits (commands ++ c ∷ [])) (of : AreOf limits commands t) (are : AreEdits commands (commands ++ c ∷ []) edits) where
   abbrev after : List Accepted
   after = commands ++ c ∷ []
 
-  -- ---- the batch's records
+  -- ---- its records
 
   module _ (dim : Dim) (records : List DimensionRecord) (is : c.content ≡ Describes dim records) where
     in_batch : described dim after ≡ described dim commands ++ records
@@ -97,10 +96,10 @@ module _ (limits : Limits) (commands : List Accepted) (c : Accepted) (t : Tables
 
   -- ---- the command
 
-  few_by : (content : Content) → c.content ≡ content → governs content ≡ false → records_by content ≤ 1000000
-  few_by (Governs policy) is none = absurd cc
-  few_by (Describes dim records) is none = few_records dim records is
-  few_by (Sells sales) is none = few_sales sales is
+  few_by : (content : Content) → c.content ≡ content → records_by content ≤ 1000000
+  few_by (Governs policy) is = omega arith
+  few_by (Describes dim records) is = few_records dim records is
+  few_by (Sells sales) is = few_sales sales is
 
   few_placeholders : (content : Content) → placeholders_by after (length after) content ≤ 9999999
   few_placeholders (Governs policy) = omega arith
@@ -125,7 +124,7 @@ module _ (limits : Limits) (commands : List Accepted) (c : Accepted) (t : Tables
   unfolding made_command
   valid_command =
       let most = commands_few limits after ok in
-      let few = few_by c.content refl batch in
+      let few = few_by c.content refl in
       let new = few_placeholders c.content in
       let number = is_small (length after) (omega arith) in
       let id : is_key 40 c.id ≡ true = all_at (λ (d : Accepted). is_key 40 d.id ≡ true) (length after) after c ok.ids (at_last commands c) in
@@ -147,21 +146,24 @@ module _ (limits : Limits) (commands : List Accepted) (c : Accepted) (t : Tables
 
   -- ---- the changes
 
-  valid_change : (content : Content) → c.content ≡ content → governs content ≡ false → (n : ℕ) (v : ChangeRow) → change_at after (change.key_of commands c n) ≡ Some v → is_change v ≡ true
-  valid_change (Governs policy) is none n v here = absurd cc
-  valid_change (Describes dim records) is none n v here =
-      let made = made_of (λ (w : history.ChangeRow). record { command = length after; place = n; dim = w.dim; durable = w.durable; day = w.day; anchor = w.anchor; values = w.texts }) (change_row after (length after) n) v here in
-      ap is_change made.2 ∙ change_made limits after ok dim records (good_records dim records is) (few_records dim records is) (length after) n made.0 (omega arith) (sym (new_row commands c dim records is n) ∙ made.1)
-  valid_change (Sells sales) is none n v here =
-      let no_row : change_row after (length after) n ≡ None = ap (option_and_then (λ (d : Accepted). change_row_in after n d.content)) (at_last commands c) ∙ ap (change_row_in after n) is in
+  no_change : (n : ℕ) (v : ChangeRow) → change_row_in after n c.content ≡ None → change_at after (change.key_of commands c n) ≡ Some v → is_change v ≡ true
+  no_change n v none here =
+      let no_row : change_row after (length after) n ≡ None = ap (option_and_then (λ (d : Accepted). change_row_in after n d.content)) (at_last commands c) ∙ none in
       let made = made_of (λ (w : history.ChangeRow). record { command = length after; place = n; dim = w.dim; durable = w.durable; day = w.day; anchor = w.anchor; values = w.texts }) (change_row after (length after) n) v here in
       let there : None ≡ Some made.0 = sym no_row ∙ made.1 in
       absurd cc
 
+  valid_change : (content : Content) → c.content ≡ content → (n : ℕ) (v : ChangeRow) → change_at after (change.key_of commands c n) ≡ Some v → is_change v ≡ true
+  valid_change (Governs policy) is n v here = no_change n v (ap (change_row_in after n) is) here
+  valid_change (Describes dim records) is n v here =
+      let made = made_of (λ (w : history.ChangeRow). record { command = length after; place = n; dim = w.dim; durable = w.durable; day = w.day; anchor = w.anchor; values = w.texts }) (change_row after (length after) n) v here in
+      ap is_change made.2 ∙ change_made limits after ok dim records (good_records dim records is) (few_records dim records is) (length after) n made.0 (omega arith) (sym (new_row commands c dim records is n) ∙ made.1)
+  valid_change (Sells sales) is n v here = no_change n v (ap (change_row_in after n) is) here
+
   valid_change_put : (v : ChangeRow) → (change_at commands (row.change.key v) ≡ Some v → ⊥) → change_at after (row.change.key v) ≡ Some v → is_change v ≡ true
-  valid_change_put v new is = elim (batch_grows commands c c.content refl batch (row.change.key v)) [
+  valid_change_put v new is = elim (changes_grow commands c c.content refl (row.change.key v)) [
     | inl kept ↦ absurd (new (sym kept.same ∙ is))
-    | inr added ↦ valid_change c.content refl batch added.number v (ap (change_at after) (sym added.is) ∙ is)
+    | inr added ↦ valid_change c.content refl added.number v (ap (change_at after) (sym added.is) ∙ is)
   ]
 
   -- ---- the facts
@@ -203,11 +205,8 @@ module _ (limits : Limits) (commands : List Accepted) (c : Accepted) (t : Tables
   valid_rows : (other : Dim) → AllByRecursion (Puts (λ (r : DimRow). is_dimension other r ≡ true)) (rows_of_dimension other edits)
   valid_rows other = plan_puts row.product nat_cmp_total (λ (r : DimRow). is_dimension other r ≡ true) (dimension_row commands other) (dimension_row after other) (rows_of_dimension other edits) (are.rows other) (λ r _ is. dimension_valid limits after ok other r.surrogate r is)
 
-  no_day : (day : ℕ) → calendar_at after day ≡ calendar_at commands day
-  no_day day = ap (option_and_then (λ policy. day_at policy day)) (policy_last None commands c batch)
-
-  pub batch_may_be_written : MayBeWritten edits
-  batch_may_be_written = record {
+  pub may_be_written : MayBeWritten edits
+  may_be_written = record {
     commands = record {
       commands = plan_puts row.command nat_cmp_total (IsValid row.command) (command_at commands) (command_at after) edits.commands are.commands valid_put;
       members = plan_puts row.member member_cmp_total (IsValid row.member) (member_at commands) (member_at after) edits.members are.members (λ r _ is. member_valid limits after ok (row.member.key r) r is);
@@ -216,10 +215,10 @@ module _ (limits : Limits) (commands : List Accepted) (c : Accepted) (t : Tables
     dimensions = record { products = valid_rows Product; stores = valid_rows Store; customers = valid_rows Customer };
     facts = record {
       profiles = plan_puts row.profile nat_cmp_total (IsValid row.profile) (profile_at commands) (profile_at after) edits.profiles are.profiles (λ r _ is. profile_valid limits after ok r.number r is);
-      calendar = plan_puts row.calendar nat_cmp_total (IsValid row.calendar) (calendar_at commands) (calendar_at after) edits.calendar are.calendar (λ r new is. absurd (new (sym (no_day r.date_key) ∙ is)));
+      calendar = plan_puts row.calendar nat_cmp_total (IsValid row.calendar) (calendar_at commands) (calendar_at after) edits.calendar are.calendar (λ r _ is. calendar_valid limits after ok r.date_key r is);
       facts = exact_all row.fact.order line_cmp_total edited_line NeedsFact IsValidFactEdit (fact_at commands) (fact_at after) edits.facts are.facts valid_fact_edit;
     };
   }
 
-pub a_batch_may_be_written : BatchesMayBeWritten
-a_batch_may_be_written limits commands c t edits batch ok of are = batch_may_be_written limits commands c t edits batch ok of are
+pub a_command_may_be_written : CommandsMayBeWritten
+a_command_may_be_written limits commands c t edits ok of are = may_be_written limits commands c t edits ok of are

@@ -1,0 +1,69 @@
+use Rattle.std.proofs.Common.{◌≡◌, ◌∙◌, ℕ, sym, ap, subst, refl, Result, Ok, Err, Some}
+use Rattle.std.specs.Prelude.{IsErr, IsErrAnd}
+use Rattle.wh_policy.specs.Written.{IsSound}
+use Rattle.wh_policy.proofs.FileLaws.{policies_are_sound}
+use Rattle.wh_history.specs.Accepted.{Governs}
+use Rattle.wh_sql.specs.declared.fault.ReadFault.{ReadFault}
+use Rattle.wh_sql.specs.declared.fault.ReadFault.TheVariants as reading
+use Rattle.wh_store.specs.Reads.{SparesStore}
+use Rattle.wh_engine.specs.Admission.{in_force, accepted_as, answer, number_for, policy_told}
+use Rattle.wh_engine.specs.Decided.{Decides, row_of_command}
+use Rattle.wh_engine.specs.Faults.{of_reading, IsServed}
+use Rattle.wh_engine.specs.declared.decision.Decision.{Decision}
+use Rattle.wh_engine.specs.declared.fault.Fault.{Fault}
+use Rattle.wh_engine.proofs.Decisions.{judged_ok, judged_err, number_refused, policy_content, command_accepted, list_accepted, own_row, policy_in_force}
+use Rattle.wh_engine.proofs.Migrated.{policy_taken}
+use Rattle.wh_engine.proofs.decision.decide_migration.Goals as goal
+
+pub returns-clause-decided : goal.returns-clause-decided
+returns-clause-decided g c clean commands t held rests kind good new =
+    let limits = c.args.session.now.limits in
+    let command = c.args.command.now in
+    let newer = c.in_ok-newer.newer in
+    let number = c.in-Ok.number in
+    let content = Governs newer in
+    let before = c.plan_migration.ensures.reads.clean clean in
+    let found = judged_ok (λ newer told. newer ≡ told) newer (policy_told (in_force commands) command.bytes) (rw (held.policy, c.as_slice.ensures) at c.in_ok-newer.ensures.read) in
+    let told : policy_told (in_force commands) command.bytes ≡ Ok newer = found.1 ∙ ap Ok (sym found.2) in
+    let taken = policy_taken (in_force commands) command.bytes newer told in
+    let read = policy_content limits commands command good new kind newer told in
+    let numbered = judged_ok (λ number next. number ≡ next) number (number_for limits commands content) (c.in-Ok.ensures.number before commands t held.are held.accepted rests content refl refl) in
+    let room : number_for limits commands content ≡ Ok number = numbered.1 ∙ ap Ok (sym numbered.2) in
+    let still = c.in-Ok.ensures.reads.same before t rests tt in
+    let stored = own_row limits commands command good new content read number room ∙ ap Some (sym c.in_ok-row.ensures) in
+    let edits = c.in_ok-edits.ensures.edits clean limits commands t held.are still (accepted_as command content) (list_accepted limits commands command good new content read number room held.accepted)
+    refl (policy_in_force commands held.accepted.governed ∙ ap Some (sym held.policy)) (policies_are_sound command.bytes newer taken.written) (rw held.policy taken.fit) stored in
+    rw (command_accepted limits commands command good new content read number room) (refl, record { content = content; read = read; edits_are = edits; newer_is = refl })
+
+pub returns-in-Err-clause-decided : goal.returns-in-Err-clause-decided
+returns-in-Err-clause-decided g c clean commands t held rests kind good new =
+    let limits = c.args.session.now.limits in
+    let command = c.args.command.now in
+    let newer = c.in_ok-newer.newer in
+    let content = Governs newer in
+    let found = judged_ok (λ newer told. newer ≡ told) newer (policy_told (in_force commands) command.bytes) (rw (held.policy, c.as_slice.ensures) at c.in_ok-newer.ensures.read) in
+    let told : policy_told (in_force commands) command.bytes ≡ Ok newer = found.1 ∙ ap Ok (sym found.2) in
+    let read = policy_content limits commands command good new kind newer told in
+    let judged = c.in-Err.ensures.number clean commands t held.are held.accepted rests content refl refl in
+    judged_err (λ (number next : ℕ). number ≡ next) (Decides commands command) c.in-Err.fault (number_for limits commands content) (answer limits commands command) judged
+    (λ why none. number_refused limits commands command good new content why read none)
+
+still_served : {A : Type 0} (result : Result A Fault) (why : ReadFault) → IsErr result × IsErrAnd result (λ fault. fault ≡ of_reading why) → IsServed result → SparesStore why
+still_served (Ok x) why came served = let err = came.0 in absurd cc
+still_served (Err fault) reading.Memory came served = tt
+still_served (Err fault) (reading.Damaged table) came served = tt
+still_served (Err fault) (reading.Store cause) came served = subst (λ (f : Fault). IsServed {A = Decision} (Err f)) came.1 served
+
+pub returns-in_err-edits-clause-reads : goal.returns-in_err-edits-clause-reads
+returns-in_err-edits-clause-reads g c =
+    let first = c.in-Ok.ensures.reads in
+    let last = c.in_err-edits.ensures.reads in
+    let why = c.in_err-edits.field-0.0 in
+    let came = c.from_residual-in_err-edits in
+    record {
+      clean = λ clean. first.clean (last.clean clean);
+      same = λ clean t rests served. last.same clean t (first.same (last.clean clean) t rests tt) (still_served came.result why came.ensures served);
+      left = λ clean t rests. last.left clean t (first.same (last.clean clean) t rests tt);
+      rests = λ clean stored rests served. last.rests clean stored (first.rests (last.clean clean) stored rests tt) (still_served came.result why came.ensures served);
+      leaves = λ clean stored rests. last.leaves clean stored (first.rests (last.clean clean) stored rests tt);
+    }

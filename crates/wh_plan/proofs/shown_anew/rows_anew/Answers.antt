@@ -1,0 +1,14 @@
+use Rattle.wh_policy.specs.declared.attribute.Dim.TheVariants.{Product, Store, Customer}
+use Rattle.wh_plan.proofs.shown_anew.rows_anew.Goals as goal
+
+pub returns-clause-edits : goal.returns-clause-edits
+returns-clause-edits g c clean limits commands t are at after ends members known =
+    let second = c.in_ok-customers.ensures.reads.clean clean in
+    let first = c.in_ok-stores.ensures.reads.clean second in
+    let at_first = c.in_ok-products.ensures.reads.same first t at tt in
+    let at_second = c.in_ok-stores.ensures.reads.same second t at_first tt in
+    record {
+      products = c.in_ok-products.ensures.edits first limits commands t are at Product after ends members.products known;
+      stores = c.in_ok-stores.ensures.edits second limits commands t are at_first Store after ends members.stores known;
+      customers = c.in_ok-customers.ensures.edits clean limits commands t are at_second Customer after ends members.customers known;
+    }

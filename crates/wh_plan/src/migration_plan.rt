@@ -1,0 +1,56 @@
+//! What a policy that takes the place of the one in force writes: every member shown anew.
+
+ghost use Rattle.std.specs.Prelude.{◌≡◌, ◌++◌, ◌∷◌, [], suc, true, length, None, Some, IfOk};
+ghost use Rattle.wh_policy.specs.Names.{fits};
+ghost use Rattle.wh_policy.specs.Written.{IsSound};
+ghost use Rattle.wh_history.specs.Accepted.{Accepted, Governs, policy_after};
+ghost use Rattle.wh_plan.specs.Defined.{command_at};
+ghost use Rattle.wh_plan.specs.Edits.{AreEdits};
+ghost use Rattle.wh_plan.specs.Reads.{Finds};
+ghost use Rattle.wh_plan.specs.Sound.{IsAccepted};
+ghost use Rattle.wh_store.specs.Reads.{ReadsOnly, state_of};
+
+use crate::all_members::read_dimensions;
+use crate::calendar_plan::calendar_edits;
+use crate::edits::Edits;
+use crate::profile_plan::renumbered_profiles;
+use crate::shown_anew::{facts_anew, rows_anew};
+use sqlite::Alter;
+use std::alloc::Global;
+use wh_history::Edit;
+use wh_policy::Policy;
+use wh_rows::CommandRow;
+use wh_store::{ReadFault, Tables};
+
+/// What a migration writes: its own row, and the edits of each table whose rows are others under the new policy, which fits
+/// the one in force. All members and all facts are read.
+pub fn plan_migration<S: Alter>(
+    tables: &mut Tables<S>,
+    alloc: Global,
+    older: &Policy,
+    newer: &Policy,
+    command: CommandRow,
+) -> Result<Edits, ReadFault>
+    ensures reads { ReadsOnly (state_of S.Store tables.old) (state_of S.Store tables.new) result }
+    ensures edits { Finds (state_of S.Store tables.old) (state_of S.Store tables.new) (λ limits commands. (c : Accepted) → IsAccepted limits (commands ++ c ∷ []) → c.content ≡ Governs newer.now → policy_after None commands ≡ Some older.now → IsSound newer.now → fits older.now newer.now ≡ true
+        → command_at (commands ++ c ∷ []) (suc (length commands)) ≡ Some command → IfOk result (AreEdits commands (commands ++ c ∷ []))) }
+{
+    let read = read_dimensions(tables, alloc, newer)?;
+    let profiles = renumbered_profiles(tables, alloc, &read.customers.types)?;
+    let rows = rows_anew(tables, alloc, &read, &profiles.known)?;
+    let facts = facts_anew(tables, alloc, &read, &profiles.known)?;
+    let calendar = calendar_edits(alloc, older, newer)?;
+    let mut commands = Vec::new(alloc);
+    commands.push(Edit::Put(command))?;
+    Ok(Edits {
+        commands,
+        members: Vec::new(alloc),
+        changes: Vec::new(alloc),
+        products: rows.products,
+        stores: rows.stores,
+        customers: rows.customers,
+        profiles: profiles.edits,
+        calendar,
+        facts,
+    })
+}

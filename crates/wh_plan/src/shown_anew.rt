@@ -1,0 +1,279 @@
+//! The rows and the facts of a warehouse under a policy that takes the place of another.
+
+ghost use Rattle.std.specs.Prelude.{◌≡◌, ◌++◌, ◌∷◌, [], List, true, filter_map, IfOk};
+ghost use Rattle.wh_policy.specs.declared.attribute.Dim.{Dim};
+ghost use Rattle.wh_history.specs.Accepted.{Accepted, profiles_of};
+ghost use Rattle.wh_history.specs.Facts.{rekeyed_to};
+ghost use Rattle.std.specs.Option.{option_copied};
+ghost use Rattle.wh_history.specs.Keys.{at_place};
+ghost use Rattle.wh_history.specs.Known.{all_numbered};
+ghost use Rattle.wh_history.specs.Laws.{RecordsHaveDays, governs};
+ghost use Rattle.wh_history.specs.Picked.{first_rows};
+ghost use Rattle.wh_history.specs.Plan.{IsRowPlan};
+ghost use Rattle.wh_history.specs.Shapes.{shape_of, rendered_in};
+ghost use Rattle.wh_history.specs.Tables.{dimension_row, dimension_table};
+ghost use Rattle.wh_plan.specs.Defined.{fact_at};
+ghost use Rattle.wh_plan.specs.Edits.{IsFactPlan};
+ghost use Rattle.wh_plan.specs.Reads.{Finds};
+ghost use Rattle.wh_plan.specs.ShownAnew.{all_rows, keys_anew, keys_given, moved_anew, showing, AreMemberships, ArePlannedAnew, AreAllShown, AreShown, IsMembership, IsShownAnew};
+ghost use Rattle.wh_plan.specs.Sound.{IsAccepted};
+ghost use Rattle.wh_store.specs.Reads.{ReadsOnly, state_of};
+
+use crate::all_members::{Membership, Memberships};
+use crate::edits::FactEdit;
+use crate::fact_edits::fact_rekeys;
+use crate::new_rows::rows_of_members;
+use crate::sale_keys::rendered_members;
+use sqlite::Alter;
+use std::alloc::{AllocError, Global};
+use wh_day::Day;
+use wh_history::{
+    DimRow, Dimension, Edit, Fact, FactKeys, Member, MemberKeys, Profiles, Rendered, no_card_row,
+    plan_rows,
+};
+use wh_policy::{AttributeType, Dim};
+use wh_rows::tables;
+use wh_store::{ReadFault, Tables};
+
+/// The rows that a dimension's table has before the first key: that of sales without a card among the customers.
+fn first_rows(alloc: Global, dim: Dim, types: &[AttributeType]) -> Result<Vec<DimRow>, AllocError>
+    ensures { IfOk result (λ found. found.items ≡ first_rows dim types.now) }
+{
+    let mut found = Vec::new(alloc);
+    match dim {
+        Dim::Product | Dim::Store => {}
+        Dim::Customer => found.push(no_card_row(alloc, types)?)?,
+    }
+    Ok(found)
+}
+
+/// The rows of a dimension's table, by its members.
+fn all_rows(
+    alloc: Global,
+    dimension: &Dimension,
+    members: &[Member],
+) -> Result<Vec<DimRow>, AllocError>
+    ensures { IfOk result (λ found. found.items ≡ all_rows (shape_of dimension.now) members.now) }
+{
+    let mut found = first_rows(alloc, dimension.dim, dimension.types)?;
+    let mut rows = rows_of_members(alloc, dimension, members)?;
+    found.append(&mut rows)?;
+    Ok(found)
+}
+
+/// The rows of a dimension's table, as they are stored.
+fn stored_table<S: Alter>(
+    tables: &mut Tables<S>,
+    alloc: Global,
+    dim: Dim,
+) -> Result<Vec<DimRow>, ReadFault>
+    ensures reads { ReadsOnly (state_of S.Store tables.old) (state_of S.Store tables.new) result }
+    ensures rows { Finds (state_of S.Store tables.old) (state_of S.Store tables.new) (λ _ commands. IfOk result (λ rows. rows.items ≡ dimension_table commands dim)) }
+{
+    match dim {
+        Dim::Product => tables.all::<tables::Product>(alloc),
+        Dim::Store => tables.all::<tables::Store>(alloc),
+        Dim::Customer => tables.all::<tables::Customer>(alloc),
+    }
+}
+
+/// The edits that lead from the stored rows of a dimension to those that show all its members anew.
+fn row_edits<S: Alter>(
+    tables: &mut Tables<S>,
+    alloc: Global,
+    dimension: &Dimension,
+    members: &[Member],
+) -> Result<Vec<Edit<DimRow, u64>>, ReadFault>
+    ensures reads { ReadsOnly (state_of S.Store tables.old) (state_of S.Store tables.new) result }
+    ensures edits { Finds (state_of S.Store tables.old) (state_of S.Store tables.new) (λ _ commands. (after : List Accepted) → RecordsHaveDays after → IsShownAnew after dimension.now members.now
+        → IfOk result (λ edits. IsRowPlan (dimension_row commands dimension.now.dim) (dimension_row after dimension.now.dim) edits.items)) }
+{
+    let stored = stored_table(tables, alloc, dimension.dim)?;
+    let after = all_rows(alloc, dimension, members)?;
+    Ok(plan_rows(alloc, &stored, &after)?)
+}
+
+/// The edits of the rows of a dimension whose members were read.
+fn rows_of<S: Alter>(
+    tables: &mut Tables<S>,
+    alloc: Global,
+    read: &Membership,
+    profiles: &Profiles,
+) -> Result<Vec<Edit<DimRow, u64>>, ReadFault>
+    ensures reads { ReadsOnly (state_of S.Store tables.old) (state_of S.Store tables.new) result }
+    ensures edits { Finds (state_of S.Store tables.old) (state_of S.Store tables.new) (λ _ commands. (dim : Dim) (after : List Accepted) → RecordsHaveDays after → IsMembership dim after read.now → profiles.now ≡ all_numbered (profiles_of after)
+        → IfOk result (λ edits. IsRowPlan (dimension_row commands dim) (dimension_row after dim) edits.items)) }
+{
+    let dimension = Dimension {
+        dim: read.dim,
+        types: &read.types,
+        profiles,
+    };
+    row_edits(tables, alloc, &dimension, &read.members)
+}
+
+/// The edits of the rows of the three dimensions.
+#[derive(Drop)]
+pub(crate) struct RowsAnew {
+    pub(crate) products: Vec<Edit<DimRow, u64>>,
+    pub(crate) stores: Vec<Edit<DimRow, u64>>,
+    pub(crate) customers: Vec<Edit<DimRow, u64>>,
+}
+
+/// The edits of the rows of the three dimensions, whose members were read.
+pub(crate) fn rows_anew<S: Alter>(
+    tables: &mut Tables<S>,
+    alloc: Global,
+    read: &Memberships,
+    profiles: &Profiles,
+) -> Result<RowsAnew, ReadFault>
+    ensures reads { ReadsOnly (state_of S.Store tables.old) (state_of S.Store tables.new) result }
+    ensures edits { Finds (state_of S.Store tables.old) (state_of S.Store tables.new) (λ _ commands. (after : List Accepted) → RecordsHaveDays after → AreMemberships after read.now → profiles.now ≡ all_numbered (profiles_of after) → IfOk result (ArePlannedAnew commands after)) }
+{
+    let products = rows_of(tables, alloc, &read.products, profiles)?;
+    let stores = rows_of(tables, alloc, &read.stores, profiles)?;
+    let customers = rows_of(tables, alloc, &read.customers, profiles)?;
+    Ok(RowsAnew {
+        products,
+        stores,
+        customers,
+    })
+}
+
+/// A dimension with its members as it shows them, in order of their durable keys.
+#[derive(Drop)]
+struct ShownDimension<'a> {
+    dimension: Dimension<'a>,
+    members: Vec<Rendered<'a>>,
+}
+
+/// The member with a durable key among all of its dimension.
+fn member_at<'a, 'b>(members: &'b [Rendered<'a>], durable: u64) -> Option<&'b Rendered<'a>>
+    ensures { option_copied result ≡ at_place durable members.now }
+{
+    if durable == 0 {
+        return None;
+    }
+    members.get(durable as usize - 1)
+}
+
+impl ShownDimension<'_> {
+    /// What the member with a durable key gives a fact of a day. Where there is none all is 0.
+    fn keys_given(&self, alloc: Global, durable: u64, day: Day) -> Result<MemberKeys, AllocError>
+        ensures { IfOk result (λ keys. keys ≡ keys_given (showing self.now) durable day) }
+    {
+        match member_at(&self.members, durable) {
+            Some(member) => self.dimension.keys_on(alloc, member, day),
+            None => Ok(MemberKeys {
+                key: 0,
+                durable: 0,
+                profile: 0,
+            }),
+        }
+    }
+}
+
+/// The three dimensions with their members.
+#[derive(Drop)]
+struct ShownDimensions<'a> {
+    stores: ShownDimension<'a>,
+    products: ShownDimension<'a>,
+    customers: ShownDimension<'a>,
+}
+
+impl ShownDimensions<'_> {
+    /// The keys of a fact by its members.
+    fn keys_of(&self, alloc: Global, fact: &Fact) -> Result<FactKeys, AllocError>
+        ensures { IfOk result (λ keys. keys ≡ keys_anew self.now fact.now) }
+    {
+        let store = self.stores.keys_given(alloc, fact.store_durable, fact.day)?;
+        let product = self
+            .products
+            .keys_given(alloc, fact.product_durable, fact.day)?;
+        let customer = self
+            .customers
+            .keys_given(alloc, fact.customer_durable, fact.day)?;
+        Ok(FactKeys {
+            store_key: store.key,
+            product_key: product.key,
+            customer_key: customer.key,
+            profile: customer.profile,
+        })
+    }
+
+    /// A fact with its keys by its members, if they are others than it has.
+    fn moved_fact(&self, alloc: Global, fact: Fact) -> Result<Option<Fact>, AllocError>
+        ensures { IfOk result (λ moved. moved ≡ rekeyed_to fact (keys_anew self.now fact)) }
+    {
+        let keys = self.keys_of(alloc, &fact)?;
+        if keys == fact.keys {
+            return Ok(None);
+        }
+        Ok(Some(Fact { keys, ..fact }))
+    }
+
+    /// Of some facts those whose keys change, with the new ones.
+    fn moved_facts(&self, alloc: Global, facts: Vec<Fact>) -> Result<Vec<Fact>, AllocError>
+        ensures { IfOk result (λ moved. moved.items ≡ moved_anew self.now facts.items) }
+    {
+        let mut moved = Vec::new(alloc);
+        for fact in facts {
+            if let Some(fact) = self.moved_fact(alloc, fact)? {
+                moved.push(fact)?;
+            }
+        }
+        Ok(moved)
+    }
+}
+
+/// A dimension with its members as it shows them.
+fn shown_dimension<'a>(
+    alloc: Global,
+    read: &'a Membership,
+    profiles: &'a Profiles,
+) -> Result<ShownDimension<'a>, AllocError>
+    ensures { IfOk result (λ d. AreShown read.now profiles.now (showing d)) }
+{
+    let dimension = Dimension {
+        dim: read.dim,
+        types: &read.types,
+        profiles,
+    };
+    let members = rendered_members(alloc, &dimension, &read.members)?;
+    Ok(ShownDimension { dimension, members })
+}
+
+/// The three dimensions with their members.
+fn shown_dimensions<'a>(
+    alloc: Global,
+    read: &'a Memberships,
+    profiles: &'a Profiles,
+) -> Result<ShownDimensions<'a>, AllocError>
+    ensures { IfOk result (λ d. AreAllShown read.now profiles.now d) }
+{
+    let stores = shown_dimension(alloc, &read.stores, profiles)?;
+    let products = shown_dimension(alloc, &read.products, profiles)?;
+    let customers = shown_dimension(alloc, &read.customers, profiles)?;
+    Ok(ShownDimensions {
+        stores,
+        products,
+        customers,
+    })
+}
+
+/// The edits that give all stored facts the keys by their members, which were read.
+pub(crate) fn facts_anew<S: Alter>(
+    tables: &mut Tables<S>,
+    alloc: Global,
+    read: &Memberships,
+    profiles: &Profiles,
+) -> Result<Vec<FactEdit>, ReadFault>
+    ensures reads { ReadsOnly (state_of S.Store tables.old) (state_of S.Store tables.new) result }
+    ensures edits { Finds (state_of S.Store tables.old) (state_of S.Store tables.new) (λ _ commands. (c : Accepted) → governs c.content ≡ true → AreMemberships (commands ++ c ∷ []) read.now → profiles.now ≡ all_numbered (profiles_of (commands ++ c ∷ []))
+        → IfOk result (λ edits. IsFactPlan (fact_at commands) (fact_at (commands ++ c ∷ [])) edits.items)) }
+{
+    let shown = shown_dimensions(alloc, read, profiles)?;
+    let facts = tables.all::<tables::Fact>(alloc)?;
+    let moved = shown.moved_facts(alloc, facts)?;
+    Ok(fact_rekeys(alloc, moved)?)
+}
