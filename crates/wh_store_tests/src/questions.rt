@@ -12,8 +12,8 @@ use wh_rows::Table;
 use wh_rows::tables::{Change, Command, Customer, Fact, Member, Product, Profile, Store};
 use wh_scenarios::parted;
 use wh_sql::{
-    CommandOf, Dimension, FactsAfter, Greatest, GreatestOf, LastPolicy, MemberOf, ProfileOf,
-    Question, RecordsOf, RecordsOn, RowsOf, SalesSince,
+    CommandOf, Dimension, Greatest, GreatestOf, MemberOf, ProfileOf, Question, RecordsOf,
+    RecordsOn, RowsOf, SalesSince,
 };
 
 /// A step that only reads.
@@ -49,8 +49,6 @@ fn answer_more<H: Reads>(
         "records" => records(alloc, held, step.rest, out),
         "records_on" => records_on(alloc, held, step.rest, out),
         "sales" => sales(alloc, held, step.rest, out),
-        "after" => after(alloc, held, step.rest, out),
-        "policy" => told::<Command, LastPolicy, H>(alloc, held, &LastPolicy, out),
         _ => Err(Trouble::Unknown),
     }
 }
@@ -229,15 +227,4 @@ fn sales<H: Reads>(
         from: day(from)?,
     };
     told::<Fact, SalesSince, H>(alloc, held, &question, out)
-}
-
-/// `TICKET LINE`: the first thousand facts after that line.
-fn after<H: Reads>(
-    alloc: Global,
-    held: &mut H,
-    words: &str,
-    out: &mut String,
-) -> Result<(), Trouble> {
-    let line = Fact::key_of(alloc, words)?;
-    told::<Fact, FactsAfter<'_>, H>(alloc, held, &FactsAfter { line: &line }, out)
 }

@@ -48,9 +48,7 @@ const COMMANDS: &str = "
 empty BEGIN
 create
 greatest command
-policy
 put command 1, 'first', 'sales', x'00ff2c0a', 0, 2
-policy
 put command 3, 'third', 'sales', x'00ff2c0a', 0, 2
 put command 2, 'second', 'sales', x'00ff2c0a', 0, 2
 command third
@@ -58,26 +56,6 @@ command third
 command Third
 greatest command
 = command 3, 'third', 'sales', x'00ff2c0a', 0, 2
-
-# The last command of a kind that gives a policy.
-empty BEGIN
-create
-put command 4, 'init', 'sales', x'00', 0, 2
-put command 1, 'first', 'init', x'01', 0, 0
-policy
-= command 1, 'first', 'init', x'01', 0, 0
-put command 3, 'third', 'migrate', x'03', 0, 0
-put command 2, 'second', 'migrate', x'02', 0, 0
-policy
-= command 3, 'third', 'migrate', x'03', 0, 0
-
-# Only its own row can be damaged.
-sql UPDATE command SET bytes = 1 WHERE number = 1 OR number = 4
-policy
-= command 3, 'third', 'migrate', x'03', 0, 0
-sql UPDATE command SET bytes = 3 WHERE number = 3
-policy
-= damaged command
 ";
 
 #[test]
@@ -166,30 +144,6 @@ sales customer 1 20240612
 #[test]
 fn sales_of_members(rt: HostRuntime) -> Result<(), Fail> {
     check_store(&rt, rt.alloc(), SALES)
-}
-
-const AFTER: &str = "
-empty BEGIN
-create
-after T-1 1
-put fact 'T-2', 1, 20240611, 1, 9, 0, 1, 1, 1, 3, -9999, -999999999, 999999999
-put fact 'T-1', 10, 20240610, 1, 9, 0, 1, 1, 1, 3, -9999, -999999999, 999999999
-put fact 'T-1', 9, 20240609, 1, 9, 0, 1, 1, 1, 3, -9999, -999999999, 999999999
-after T-1 1
-= fact 'T-1', 9, 20240609, 1, 9, 0, 1, 1, 1, 3, -9999, -999999999, 999999999
-= fact 'T-1', 10, 20240610, 1, 9, 0, 1, 1, 1, 3, -9999, -999999999, 999999999
-= fact 'T-2', 1, 20240611, 1, 9, 0, 1, 1, 1, 3, -9999, -999999999, 999999999
-after T-1 9
-= fact 'T-1', 10, 20240610, 1, 9, 0, 1, 1, 1, 3, -9999, -999999999, 999999999
-= fact 'T-2', 1, 20240611, 1, 9, 0, 1, 1, 1, 3, -9999, -999999999, 999999999
-after T-1 10
-= fact 'T-2', 1, 20240611, 1, 9, 0, 1, 1, 1, 3, -9999, -999999999, 999999999
-after T-2 1
-";
-
-#[test]
-fn facts_after_a_line(rt: HostRuntime) -> Result<(), Fail> {
-    check_store(&rt, rt.alloc(), AFTER)
 }
 
 const PROFILES: &str = "
