@@ -2,6 +2,7 @@ pub mod BatchLemmas
 pub mod FieldLemmas
 pub mod GoodLemmas
 pub mod GrammarLemmas
+pub mod ManifestLemmas
 pub mod MoreLemmas
 pub mod NumberLemmas
 pub mod OnLiterals

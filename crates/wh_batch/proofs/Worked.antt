@@ -1,16 +1,24 @@
 -- The definitions at values that were worked out by hand.
 use Rattle.std.proofs.Common.{◌≡◌, ℕ, ◌++◌, pos, negsuc, List, [], ◌∷◌, codes, Some, None, Ok, Err, refl, replicate}
+use lib.Utf8.{encode}
+use Rattle.std.specs.Str.{is_utf8, chars}
 use Rattle.std.proofs.lemmas.Str.{is_utf8-from_IsUtf8}
 use Rattle.wh_day.proofs.KeyBytes.{key_is_text}
 use Rattle.wh_policy.specs.Policy.{trial_policy}
 use Rattle.wh_policy.specs.declared.attribute.Dim.TheVariants.{Product}
 use Rattle.wh_policy.specs.declared.record.SaleRecord.{SaleRecord}
 use Rattle.wh_batch.specs.declared.fault.FaultKind.TheVariants.{WrongHeader, WrongLength, BadKey, BadDay, BadValue, BadNumber, TwiceInBatch, OutsideCalendar}
+use Rattle.wh_batch.specs.declared.kind.CommandKind.{CommandKind}
+use Rattle.wh_batch.specs.declared.kind.CommandKind.TheVariants.{Batch, Migration}
 use Rattle.wh_batch.specs.declared.kind.Format.TheVariants.{One}
+use Rattle.wh_batch.specs.declared.kind.Kind.TheVariants.{Dimension, Sales}
+use Rattle.wh_batch.specs.declared.manifest.ManifestEntry.{ManifestEntry}
 use Rattle.wh_batch.specs.Batch.{at, records_after}
 use Rattle.wh_batch.specs.Fields.{key_at, customer_at, day_at, effective_day_at, value_at}
 use Rattle.wh_batch.specs.Numbers.{read_line, read_quantity, read_amount}
 use Rattle.wh_batch.specs.Layouts.{dimension_record, dimension_records, sale_record, sale_records, sales_layout}
+use Rattle.wh_batch.specs.Kind.{command_word, command_kind_of}
+use Rattle.wh_batch.specs.Manifest.{entry_of, manifest_of}
 use Rattle.wh_batch.proofs.OnLiterals.{batch_on_literals}
 
 -- amounts of money
@@ -151,3 +159,47 @@ both_and_a_mark = refl
 repeated_line : sale_records trial_policy One (two_sales (10 ∷ []) ++ codes "T1,01,2024-02-06,S1,P1,,2,5,3") ≡ Err (at 3 TwiceInBatch)
 unfolding batch_on_literals
 repeated_line = refl
+
+-- the words of commands
+words : (command_kind_of (codes "sales") ≡ Some (Batch Sales)) × (command_kind_of (codes "migrate") ≡ Some Migration) × (command_kind_of (codes "init") ≡ None) × (command_word (Batch (Dimension Product)) ≡ codes "product")
+words = (refl, refl, refl, refl)
+
+-- manifests, with the line end given
+abbrev night : List ℕ → List ℕ
+night end = codes "product,p1,p1.csv" ++ end ++ codes "sales,bad id,\"s,1.csv\"" ++ end ++ end ++ codes "migrate,,m1.toml"
+
+abbrev entry : CommandKind → List ℕ → List ℕ → ManifestEntry
+entry kind id path = record { kind = kind; id = id; path = path }
+
+abbrev three_commands : List ManifestEntry
+three_commands = entry (Batch (Dimension Product)) (codes "p1") (codes "p1.csv") ∷ entry (Batch Sales) (codes "bad id") (codes "s,1.csv") ∷ entry Migration [] (codes "m1.toml") ∷ []
+
+manifest_lines : manifest_of (night (10 ∷ [])) ≡ Ok three_commands
+unfolding batch_on_literals is_utf8 chars encode
+manifest_lines = refl
+
+manifest_mark : manifest_of (239 ∷ 187 ∷ 191 ∷ night (13 ∷ 10 ∷ [])) ≡ Ok three_commands
+unfolding batch_on_literals is_utf8 chars encode
+manifest_mark = refl
+
+no_commands : (manifest_of [] ≡ Ok []) × (manifest_of (10 ∷ 13 ∷ 10 ∷ []) ≡ Ok [])
+unfolding batch_on_literals
+no_commands = (refl, refl)
+
+-- two fields, four, and a word that names no kind
+two_fields : manifest_of (codes "product,p1,p1.csv" ++ 10 ∷ codes "product,p2" ++ 10 ∷ codes "produce,p3,p3.csv") ≡ Err (record { number = 2 })
+unfolding batch_on_literals is_utf8 chars encode
+two_fields = refl
+
+four_fields : manifest_of (codes "product,p1,p1.csv,") ≡ Err (record { number = 1 })
+unfolding batch_on_literals
+four_fields = refl
+
+no_kind : manifest_of (10 ∷ codes "product,p1,p1.csv" ++ 10 ∷ codes "init,p2,p2.csv") ≡ Err (record { number = 2 })
+unfolding batch_on_literals is_utf8 chars encode
+no_kind = refl
+
+-- a byte that is no text
+no_text : entry_of (codes "sales" ∷ (115 ∷ 195 ∷ []) ∷ codes "s1.csv" ∷ []) ≡ None
+unfolding batch_on_literals is_utf8 chars encode
+no_text = refl

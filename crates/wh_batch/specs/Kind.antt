@@ -1,8 +1,10 @@
--- The words for the kinds of batches, in commands.
+-- The words for the kinds of batches, and of commands.
 use Rattle.std.specs.Prelude.{ℕ, codes, List, Option, Some, option_map, if◌then◌else◌, bytes_eq}
 use Rattle.wh_policy.specs.Words.{word_of, dim_of_word}
 use Rattle.wh_batch.specs.declared.kind.Kind.{Kind}
 use Rattle.wh_batch.specs.declared.kind.Kind.TheVariants.{Dimension, Sales}
+use Rattle.wh_batch.specs.declared.kind.CommandKind.{CommandKind}
+use Rattle.wh_batch.specs.declared.kind.CommandKind.TheVariants.{Batch, Migration}
 
 -- the word for a kind
 abbrev pub kind_word : Kind → List ℕ
@@ -12,3 +14,12 @@ kind_word Sales = codes "sales"
 -- the kind of a word, if it is the word for one
 abbrev pub kind_of_word : List ℕ → Option Kind
 kind_of_word word = if bytes_eq word (codes "sales") then Some Sales else option_map Dimension (dim_of_word word)
+
+-- the word for what a command is
+abbrev pub command_word : CommandKind → List ℕ
+command_word (Batch kind) = kind_word kind
+command_word Migration = codes "migrate"
+
+-- the kind of a command by the word for it
+abbrev pub command_kind_of : List ℕ → Option CommandKind
+command_kind_of word = if bytes_eq word (codes "migrate") then Some Migration else option_map Batch (kind_of_word word)

@@ -5,5 +5,6 @@ pub mod Keys
 pub mod Kind
 pub mod Laws
 pub mod Layouts
+pub mod Manifest
 pub mod Numbers
 pub mod Rows

@@ -1,7 +1,7 @@
-//! What a batch is of.
+//! What a batch is of, and what a command is.
 
 ghost use Rattle.std.specs.Prelude.{◌≡◌};
-ghost use Rattle.wh_batch.specs.Kind.{kind_word, kind_of_word};
+ghost use Rattle.wh_batch.specs.Kind.{kind_word, kind_of_word, command_word, command_kind_of};
 
 use wh_policy::Dim;
 
@@ -32,6 +32,40 @@ impl Kind {
         }
         match Dim::from_word(word) {
             Some(dim) => Some(Kind::Dimension(dim)),
+            None => None,
+        }
+    }
+}
+
+/// What a command is.
+#[derive(Clone, Copy, Debug, PartialEq, Eq)]
+pub enum CommandKind {
+    /// A batch of records.
+    Batch(Kind),
+    /// A new policy, which is in force from then on.
+    Migration,
+}
+
+impl CommandKind {
+    /// The word for it, in commands and among those that are kept: that of the batch, or `migrate`.
+    pub fn word(self) -> &'static str
+        ensures { result.now ≡ command_word self }
+    {
+        match self {
+            CommandKind::Batch(kind) => kind.word(),
+            CommandKind::Migration => "migrate",
+        }
+    }
+
+    /// The kind of a word, if it is the word for one.
+    pub fn from_word(word: &str) -> Option<CommandKind>
+        ensures { result ≡ command_kind_of word.now }
+    {
+        if word == "migrate" {
+            return Some(CommandKind::Migration);
+        }
+        match Kind::from_word(word) {
+            Some(kind) => Some(CommandKind::Batch(kind)),
             None => None,
         }
     }

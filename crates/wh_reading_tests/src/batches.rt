@@ -10,8 +10,10 @@
 //! - `many KIND NUMBER TEXT`: to a batch of so many records and this text; of its records the number alone.
 //! - `long KIND LENGTH BYTES`: the answer to these bytes with line ends after them, in all so many bytes.
 //! - `made KIND`: a record that is made by hand.
+//! - `manifest BYTES`: the commands that a manifest of these bytes lists, one a line, or the number of the record that is none.
 
 mod dimensions;
+mod manifests;
 mod sales;
 
 use crate::check::check;
@@ -20,8 +22,8 @@ use std::alloc::{AllocError, Global};
 use std::fmt::Write;
 use std::test::Fail;
 use wh_batch::{
-    BatchFault, DimensionRecords, Format, Kind, Records, SaleRecords, dimension_records, read,
-    sale_records,
+    BatchFault, DimensionRecords, Format, Kind, Manifest, ManifestEntry, Records, SaleRecords,
+    dimension_records, read, sale_records,
 };
 use wh_day::{Day, NaturalKey, ReadError, Values};
 use wh_policy::{DimensionRecord, Policy, SaleRecord};
@@ -38,6 +40,11 @@ fn batches_for_dimensions(rt: HostRuntime) -> Result<(), Fail> {
 #[test]
 fn batches_of_sales(rt: HostRuntime) -> Result<(), Fail> {
     check(&rt, rt.alloc(), BatchDriver, sales::SCENARIO)
+}
+
+#[test]
+fn manifests_of_deliveries(rt: HostRuntime) -> Result<(), Fail> {
+    check(&rt, rt.alloc(), BatchDriver, manifests::SCENARIO)
 }
 
 impl Driver for BatchDriver {
@@ -63,6 +70,7 @@ fn batch_step(alloc: Global, words: &str, answer: &mut String) -> Result<(), All
         "many" => push_many(alloc, answer, word, text),
         "long" => push_long(alloc, answer, word, text),
         "made" => push_made(alloc, answer, word),
+        "manifest" => push_manifest(alloc, answer, &bytes_of(alloc, rest)?),
         _ => answer.push_str("no such step"),
     }
 }
@@ -274,4 +282,23 @@ fn push_made_sale(alloc: Global, answer: &mut String) -> Result<(), AllocError> 
         })?;
     }
     push_sales(answer, &records)
+}
+
+fn push_manifest(alloc: Global, answer: &mut String, text: &[u8]) -> Result<(), AllocError> {
+    match Manifest::read(alloc, text) {
+        Ok(manifest) => push_entries(answer, manifest.as_slice()),
+        Err(ReadError::Fault(fault)) => write!(answer, "{} is none", fault.number),
+        Err(ReadError::Memory) => Err(AllocError),
+    }
+}
+
+fn push_entries(answer: &mut String, entries: &[ManifestEntry]) -> Result<(), AllocError> {
+    if entries.is_empty() {
+        return answer.push_str("no command");
+    }
+    for entry in entries {
+        let (word, id, path) = (entry.kind.word(), entry.id.as_str(), entry.path.as_str());
+        write!(answer, "{word} {id} {path}\n")?;
+    }
+    Ok(())
 }
