@@ -37,3 +37,7 @@ pub mod OnLiterals
 pub mod Worked
 pub mod Firsts
 pub mod Among
+pub mod Parts
+pub mod Behind
+pub mod Once
+pub mod BehindStored

@@ -40,7 +40,7 @@ use Rattle.wh_rows.proofs.Keys.{equal-Int, equal-Text, equal_is}
 use Rattle.sqlite_value.proofs.OrderLemmas.{then-Equal, value_cmp-Int}
 
 -- of rows whose rowids rise at most one passes a test that no two of them pass
-at_most_one : (rows : List Row) (p : Row → Bool) → IsTable rows → ((x y : Row) → Has rows x → Has rows y → p x ≡ true → p y ≡ true → value_cmp (rowid x) (rowid y) ≡ Less → ⊥) → length (filter p rows) ≤ 1
+pub at_most_one : (rows : List Row) (p : Row → Bool) → IsTable rows → ((x y : Row) → Has rows x → Has rows y → p x ≡ true → p y ≡ true → value_cmp (rowid x) (rowid y) ≡ Less → ⊥) → length (filter p rows) ≤ 1
 at_most_one rows p table apart = go (filter p rows) (λ x h. has_filtered p rows x h) (ascending-filter (λ a b. value_cmp (rowid a) (rowid b) ≡ Less) p rows table)
   where
     go : (kept : List Row) → ((x : Row) → Has kept x → Has rows x × (p x ≡ true)) → IsTable kept → length kept ≤ 1
@@ -92,7 +92,7 @@ are_sameual v w k p q =
     let same : slice_cmp nat_cmp two.0 one.0 ≡ Equal = sym (nat_list_cmp_total.congr k two.0 one.0 second) ∙ first in
     ap₂ (λ v w. equal Binary v w) one.1 two.1 ∙ equal-Text one.0 two.0 ∙ ap is_eq same
 
-ids_differ : (v w : Value) → IsTrue (is_int v) → IsTrue (is_int w) → value_cmp v w ≡ Less → differ w v ≡ true
+pub ids_differ : (v w : Value) → IsTrue (is_int v) → IsTrue (is_int w) → value_cmp v w ≡ Less → differ w v ≡ true
 unfolding binary
 ids_differ (Int a) (Int b) iv iw less =
     let other : value_cmp (Int b) (Int a) ≡ Greater = value_cmp-Int b a ∙ int_cmp_total.antisymm b a ∙ ap ordering_reverse (sym (value_cmp-Int a b) ∙ less) in
@@ -106,11 +106,11 @@ ids_differ (Real x) w iv iw less = cc
 ids_differ (Text t) w iv iw less = cc
 ids_differ (Blob t) w iv iw less = cc
 
-not_true : (b : Bool) → not b ≡ true → b ≡ false
+pub not_true : (b : Bool) → not b ≡ true → b ≡ false
 not_true true h = sym h
 not_true false h = refl
 
-none_clashes : {X : Type 0} (p : X → Bool) (xs : List X) (x : X) → list_any p xs ≡ false → Has xs x → p x ≡ true → ⊥
+pub none_clashes : {X : Type 0} (p : X → Bool) (xs : List X) (x : X) → list_any p xs ≡ false → Has xs x → p x ≡ true → ⊥
 none_clashes p xs x none here hit = let never : true ≡ false = sym (some_from p xs x here hit) ∙ none in cc
 
 -- of meta

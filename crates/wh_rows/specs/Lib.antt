@@ -20,3 +20,4 @@ pub mod Cause
 pub mod AtRest
 pub mod Raw
 pub mod Rekey
+pub mod Parts

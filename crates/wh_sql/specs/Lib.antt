@@ -2,3 +2,4 @@ pub mod Refused
 pub mod Reads
 pub mod Present
 pub mod Asked
+pub mod Part

@@ -2,3 +2,5 @@ mod Transactions
 pub mod Looping
 mod Refusals
 mod Reopened
+pub mod Scanning
+pub mod ScanningStored

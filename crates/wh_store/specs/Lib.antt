@@ -6,3 +6,4 @@ pub mod Edits
 pub mod Beginning
 pub mod InFiles
 pub mod Raw
+pub mod Scan

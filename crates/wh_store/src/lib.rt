@@ -4,16 +4,18 @@
 mod fault;
 mod meta;
 mod reopen;
+mod scan;
 mod tables;
 mod transaction;
 mod writing;
 
 pub use fault::{MakeFault, OpenFault};
 pub use reopen::{into_files, open_path, restart};
+pub use scan::{Cursor, Scan, next_row};
 pub use tables::Tables;
 pub use wh_rows::{Cause, Limits, Table};
 pub use wh_sql::{
     CommandOf, Dimension, FactsAfter, Greatest, GreatestOf, Keeps, LastPolicy, MemberOf, ProfileOf,
-    Question, ReadFault, RecordsOf, RowsOf, SalesSince,
+    Question, ReadFault, RecordsOf, RowsOf, SalesSince, Scanned,
 };
 pub use writing::Writing;

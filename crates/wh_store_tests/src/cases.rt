@@ -9,6 +9,7 @@ mod opening;
 mod questions;
 mod reading;
 mod rows;
+mod scans;
 mod transactions;
 mod writing;
 

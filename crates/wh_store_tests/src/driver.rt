@@ -24,6 +24,7 @@
 //!   `edit 1 Cola` and `edits 1 Cola, 2` for products, of which those with no text go; `days FIRST PAST` for the days of a calendar;
 //!   `tries EDIT`, after whose refusal the others are still made.
 //! - `limits` tells them. `show` tells them and all rows.
+//! - `scan TABLE MOST` hands out up to so many rows of a table one at a time, tells their number and the last of them, and lets the scan go.
 //!
 //! On both, questions:
 //! - `all TABLE`, `get TABLE KEY`, `count TABLE`, `length TABLE`, the number of the rows that are read, and `nth TABLE PLACE`, from 0.

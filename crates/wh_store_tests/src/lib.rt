@@ -25,6 +25,8 @@ mod questions;
 #[cfg(test)]
 mod rows;
 #[cfg(test)]
+mod scans;
+#[cfg(test)]
 mod tables;
 #[cfg(test)]
 mod told;

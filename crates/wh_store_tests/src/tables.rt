@@ -2,6 +2,7 @@
 
 use crate::questions::answer;
 use crate::rows::on_table;
+use crate::scans::scan_table;
 use crate::trouble::Trouble;
 use crate::words::{Step, push_counts};
 use crate::writing::write;
@@ -20,6 +21,7 @@ pub fn on_tables<S: Alter>(
         "write" => write(alloc, tables, step.body, out),
         "limits" => limits(alloc, tables, out),
         "show" => show(alloc, tables, out),
+        "scan" => scan_table(alloc, tables, step, out),
         _ => answer(alloc, tables, step, out),
     }
 }

@@ -1,0 +1,50 @@
+//! The question after a part of a table.
+
+use crate::keeps::Keeps;
+use crate::question::Question;
+use crate::scanned::Scanned;
+use sqlite::types::ValueRef;
+use std::alloc::Global;
+use wh_rows::Cause;
+
+/// The part of a table that stands behind a key, or its first part: up to 256 rows in the order of their keys.
+#[derive(Debug, Drop)]
+pub struct Part<K> {
+    pub after: Option<K>,
+}
+
+impl<T: Scanned> Question<T> for Part<T::Key> {
+    ghost use Rattle.std.specs.Prelude.{Some};
+    ghost use Rattle.wh_rows.specs.Parts.{a_part, part_text, bind_part, is_behind, stands_behind};
+    ghost use Rattle.wh_sql.specs.Part.{HasKey};
+
+    ghost keep = { λ q. is_behind T.StoredTable.layout q.after };
+
+    ghost front = { Some a_part };
+
+    ghost bind = { λ q. bind_part T.Keeps.bind q.after };
+
+    ghost can_be_asked = { λ q. HasKey T.StoredTable.layout q.after };
+
+    ghost means = { λ q. part_text T.part_texts q.after };
+
+    fn text(&self) -> &'static str {
+        match self.after {
+            None => T::part_statements().first,
+            Some(_) => T::part_statements().after,
+        }
+    }
+
+    fn values<'a>(&'a self, alloc: Global) -> Result<Vec<ValueRef<'a>>, Cause> {
+        match &self.after {
+            None => Ok(Vec::new(alloc)),
+            Some(key) => T::key(alloc, key),
+        }
+    }
+
+    ghost stands = { λ q. stands_behind T.StoredTable.layout T.Keeps.bind q.after };
+
+    ghost reads = { λ q. (T.shows_parts q.after).reads };
+
+    ghost reads_stored = { λ q. T.shows_parts q.after };
+}

@@ -1,0 +1,37 @@
+//! Reading a table in the order of its keys, a part at a time.
+
+ghost use Rattle.std.specs.Prelude.{◌≡◌, IfOk};
+ghost use Rattle.wh_rows.specs.Parts.{PartTexts, ReadsParts, IsKeyed, StandsOnce};
+
+use crate::keeps::Keeps;
+use std::alloc::AllocError;
+
+/// So many rows are a part.
+pub const PART: usize = 256;
+
+/// The texts that show the first part of a table, and the part behind a key.
+#[derive(Drop)]
+pub struct PartStatements {
+    pub first: &'static str,
+    pub after: &'static str,
+}
+
+/// A table that can be read in the order of its keys, a part at a time.
+pub trait Scanned: Keeps {
+    ghost part_texts: { PartTexts };
+
+    fn part_statements() -> PartStatements
+        ensures { (result.first.now ≡ part_texts.first) × (result.after.now ≡ part_texts.after) };
+
+    /// The key at which the row stands.
+    fn key_of(row: &Self::Row) -> Result<Self::Key, AllocError>
+        ensures { IfOk result (λ key. key ≡ Self.StoredTable.layout.key row.now) };
+
+    // What the texts mean, whoever wrote the rows.
+    ghost shows_parts: { ReadsParts Self.StoredTable.layout Self.Keeps.bind part_texts };
+
+    // A key is the first columns of a row, and at a key at most one row is stored.
+    ghost keyed: { IsKeyed Self.StoredTable.layout Self.Keeps.bind Self.Keeps.stands_at };
+
+    ghost once: { StandsOnce Self.Keeps.stands_at Self.Keeps.name };
+}

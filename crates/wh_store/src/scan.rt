@@ -1,0 +1,157 @@
+//! The rows of a table, one at a time.
+
+ghost use Rattle.std.specs.Prelude.{◌≡◌, List, [], ◌-◌, false, Ok, None, Some, Option, option_map, slice_get, length, filter, IsTrue, IfOk, IfErr, OnErr};
+ghost use Rattle.std.specs.FinMap.{FinMap, values};
+ghost use Rattle.std.specs.Vec.Iter.{into_iter_items};
+ghost use Rattle.sqlite.specs.State.{HasCleanDisk};
+ghost use Rattle.wh_rows.specs.Holds.{Layout};
+ghost use Rattle.wh_rows.specs.Tables.{Tables as TenTables};
+ghost use Rattle.wh_rows.specs.Parts.{a_part, part_text, bind_part, stands_behind, IsArranged};
+ghost use Rattle.wh_rows.specs.Raw.{Stored};
+ghost use Rattle.sqlite.specs.Order.{Row as Columns};
+ghost use Rattle.wh_sql.specs.Part.{HasKey};
+ghost use Rattle.wh_sql.specs.Reads.{ReadsOnly, IsOfAskedDamage, FailsToShow};
+ghost use Rattle.wh_store.specs.Reads.{state_of, SaysAtRest, SaysAsStored};
+ghost use Rattle.wh_store.specs.Scan.{rows_left, HandsOut, IsOver, AreLeft, HandsOutOf};
+
+use crate::tables::Tables;
+use sqlite::Alter;
+use std::alloc::{AllocError, Global};
+use std::vec::IntoIter;
+use wh_sql::{PART, Part, ReadFault, Scanned};
+
+/// How far a scan of a table has come.
+#[derive(Drop)]
+pub struct Cursor<K, R> {
+    /// The rows that were read and are not handed out yet.
+    ahead: IntoIter<R>,
+    /// The part of the table behind them.
+    unread: Part<K>,
+    /// That part is empty, or a fault came.
+    is_over: bool,
+}
+
+impl<K: Drop, R: Drop> Cursor<K, R> {
+    /// Before the first row of a table.
+    pub fn new(alloc: Global) -> Cursor<K, R>
+        ensures none { into_iter_items result.ahead ≡ [] }
+        ensures all { result.unread.after ≡ None }
+        ensures more { result.is_over ≡ false }
+        ensures left { (layout : Layout K R) (rows : FinMap layout.order R) → rows_left layout rows result ≡ values rows }
+        ensures left_stored { (layout : Layout K R) (bind : K → Columns) (stored left : List Columns) → AreLeft layout bind stored result left → IsArranged layout.table stored left }
+    {
+        Cursor {
+            ahead: Vec::new(alloc).into_iter(),
+            unread: Part { after: None },
+            is_over: false,
+        }
+    }
+}
+
+/// The key of the last of these rows.
+fn last_key<T: Scanned>(rows: &[T::Row]) -> Result<Option<T::Key>, AllocError>
+    ensures { IfOk result (λ key. key ≡ option_map T.StoredTable.layout.key (slice_get rows.now (length rows.now - 1))) }
+{
+    match rows.last() {
+        Some(row) => Ok(Some(T::key_of(row)?)),
+        None => Ok(None),
+    }
+}
+
+/// Reads the next part of the table ahead.
+fn read_ahead<T: Scanned, S: Alter>(
+    tables: &mut Tables<S>,
+    alloc: Global,
+    cursor: &mut Cursor<T::Key, T::Row>,
+) -> Result<(), ReadFault>
+    ensures reads { ReadsOnly (state_of S.Store tables.old) (state_of S.Store tables.new) result }
+    ensures rows { SaysAtRest (state_of S.Store tables.old) (state_of S.Store tables.new) (λ t. IfOk result (λ _. cursor.old.is_over ≡ false → into_iter_items cursor.old.ahead ≡ [] → rows_left T.StoredTable.layout (T.StoredTable.rows t) cursor.new ≡ rows_left T.StoredTable.layout (T.StoredTable.rows t) cursor.old)) }
+    // Of any rows, whoever wrote them, none is missed and none comes twice.
+    ensures stored { SaysAsStored (state_of S.Store tables.old) (state_of S.Store tables.new) (λ stored. IfOk result (λ _. cursor.old.is_over ≡ false → into_iter_items cursor.old.ahead ≡ [] → (left : List Columns)
+        → AreLeft T.StoredTable.layout T.Keeps.bind (stored T.Keeps.name) cursor.new left → AreLeft T.StoredTable.layout T.Keeps.bind (stored T.Keeps.name) cursor.old left)) }
+    // A row of the part that is damaged is reported.
+    ensures damaged { SaysAsStored (state_of S.Store tables.old) (state_of S.Store tables.new) (λ stored. IfErr result (IsOfAskedDamage (Some a_part) T.StoredTable.layout T.Keeps.name (filter (stands_behind T.StoredTable.layout T.Keeps.bind cursor.old.unread.after) (stored T.Keeps.name)))) }
+    ensures refused { HasCleanDisk (state_of S.Store tables.new) → HasKey T.StoredTable.layout cursor.old.unread.after → IfErr result (FailsToShow T.StoredTable.layout T.Keeps.name (part_text T.part_texts cursor.old.unread.after) (bind_part T.Keeps.bind cursor.old.unread.after) (state_of S.Store tables.old) (state_of S.Store tables.new)) }
+    ensures keyed { SaysAsStored (state_of S.Store tables.old) (state_of S.Store tables.new) (λ _. IfOk result (λ _. HasKey T.StoredTable.layout cursor.new.unread.after)) }
+    // Nothing is read ahead only where nothing is left.
+    ensures short { IfOk result (λ _. into_iter_items cursor.new.ahead ≡ [] → IsTrue cursor.new.is_over) }
+    ensures ended { into_iter_items cursor.old.ahead ≡ [] → OnErr result (IsOver cursor.new) }
+{
+    cursor.is_over = true;
+    let rows = tables.ask::<T, Part<T::Key>>(alloc, &cursor.unread)?;
+    let after = last_key::<T>(&rows)?;
+    let is_over = rows.len() < PART;
+    cursor.ahead = rows.into_iter();
+    cursor.unread = Part { after };
+    cursor.is_over = is_over;
+    Ok(())
+}
+
+/// The next row of the table behind those that the cursor handed out. After a fault none comes.
+pub fn next_row<T: Scanned, S: Alter>(
+    tables: &mut Tables<S>,
+    alloc: Global,
+    cursor: &mut Cursor<T::Key, T::Row>,
+) -> Result<Option<T::Row>, ReadFault>
+    ensures reads { ReadsOnly (state_of S.Store tables.old) (state_of S.Store tables.new) result }
+    ensures rows { SaysAtRest (state_of S.Store tables.old) (state_of S.Store tables.new) (λ t. IfOk result (λ found. HandsOut (rows_left T.StoredTable.layout (T.StoredTable.rows t) cursor.old) found (rows_left T.StoredTable.layout (T.StoredTable.rows t) cursor.new))) }
+    // Of any rows, whoever wrote them, none is missed and none comes twice.
+    ensures stored { SaysAsStored (state_of S.Store tables.old) (state_of S.Store tables.new) (λ stored. IfOk result (λ found. HandsOutOf T.StoredTable.layout T.Keeps.bind (stored T.Keeps.name) cursor.old found cursor.new)) }
+    // A damaged row is reported with the part that it is in.
+    ensures damaged { SaysAsStored (state_of S.Store tables.old) (state_of S.Store tables.new) (λ stored. IfErr result (IsOfAskedDamage (Some a_part) T.StoredTable.layout T.Keeps.name (filter (stands_behind T.StoredTable.layout T.Keeps.bind cursor.old.unread.after) (stored T.Keeps.name)))) }
+    ensures refused { HasCleanDisk (state_of S.Store tables.new) → HasKey T.StoredTable.layout cursor.old.unread.after → IfErr result (FailsToShow T.StoredTable.layout T.Keeps.name (part_text T.part_texts cursor.old.unread.after) (bind_part T.Keeps.bind cursor.old.unread.after) (state_of S.Store tables.old) (state_of S.Store tables.new)) }
+    ensures keyed { SaysAsStored (state_of S.Store tables.old) (state_of S.Store tables.new) (λ _. HasKey T.StoredTable.layout cursor.old.unread.after → IfOk result (λ _. HasKey T.StoredTable.layout cursor.new.unread.after)) }
+    ensures ended { OnErr result (IsOver cursor.new) }
+    ensures over { IsOver cursor.old → (result ≡ Ok None) × (tables.new ≡ tables.old) × IsOver cursor.new }
+{
+    if let Some(row) = cursor.ahead.next() {
+        return Ok(Some(row));
+    }
+    if cursor.is_over {
+        return Ok(None);
+    }
+    read_ahead::<T, S>(tables, alloc, cursor)?;
+    Ok(cursor.ahead.next())
+}
+
+/// The rows of a table in the order of their keys, one at a time. The tables belong to it until it is dropped, and it leaves
+/// them as they are.
+#[derive(Drop)]
+pub struct Scan<'t, S: Alter, T: Scanned> {
+    tables: &'t mut Tables<S>,
+    cursor: Cursor<T::Key, T::Row>,
+}
+
+impl<'t, S: Alter, T: Scanned> Scan<'t, S, T> {
+    /// The next row. After a fault none comes.
+    pub fn next_row(&mut self, alloc: Global) -> Result<Option<T::Row>, ReadFault>
+        ensures same_reference { self.new.tables.ghost_name ≡ self.old.tables.ghost_name }
+        ensures reads { ReadsOnly (state_of S.Store self.old.tables.now) (state_of S.Store self.new.tables.now) result }
+        ensures rows { SaysAtRest (state_of S.Store self.old.tables.now) (state_of S.Store self.new.tables.now) (λ t. IfOk result (λ found. HandsOut (rows_left T.StoredTable.layout (T.StoredTable.rows t) self.old.cursor) found (rows_left T.StoredTable.layout (T.StoredTable.rows t) self.new.cursor))) }
+        // Of any rows, whoever wrote them, none is missed and none comes twice.
+        ensures stored { SaysAsStored (state_of S.Store self.old.tables.now) (state_of S.Store self.new.tables.now) (λ stored. IfOk result (λ found. HandsOutOf T.StoredTable.layout T.Keeps.bind (stored T.Keeps.name) self.old.cursor found self.new.cursor)) }
+        // A damaged row is reported with the part that it is in.
+        ensures damaged { SaysAsStored (state_of S.Store self.old.tables.now) (state_of S.Store self.new.tables.now) (λ stored. IfErr result (IsOfAskedDamage (Some a_part) T.StoredTable.layout T.Keeps.name (filter (stands_behind T.StoredTable.layout T.Keeps.bind self.old.cursor.unread.after) (stored T.Keeps.name)))) }
+        ensures refused { HasCleanDisk (state_of S.Store self.new.tables.now) → HasKey T.StoredTable.layout self.old.cursor.unread.after → IfErr result (FailsToShow T.StoredTable.layout T.Keeps.name (part_text T.part_texts self.old.cursor.unread.after) (bind_part T.Keeps.bind self.old.cursor.unread.after) (state_of S.Store self.old.tables.now) (state_of S.Store self.new.tables.now)) }
+        ensures keyed { SaysAsStored (state_of S.Store self.old.tables.now) (state_of S.Store self.new.tables.now) (λ _. HasKey T.StoredTable.layout self.old.cursor.unread.after → IfOk result (λ _. HasKey T.StoredTable.layout self.new.cursor.unread.after)) }
+        ensures ended { OnErr result (IsOver self.new.cursor) }
+        ensures over { IsOver self.old.cursor → (result ≡ Ok None) × (self.new.tables.now ≡ self.old.tables.now) × IsOver self.new.cursor }
+    {
+        next_row::<T, S>(self.tables, alloc, &mut self.cursor)
+    }
+}
+
+impl<S: Alter> Tables<S> {
+    /// The rows of a table in the order of their keys, one at a time.
+    pub fn scan<T: Scanned>(&mut self, alloc: Global) -> Scan<'_, S, T>
+        ensures same_reference { result.tables.ghost_name ≡ self.entry.ghost_name }
+        ensures same { result.tables.now ≡ self.old }
+        ensures left { (t : TenTables) → rows_left T.StoredTable.layout (T.StoredTable.rows t) result.cursor ≡ values (T.StoredTable.rows t) }
+        ensures left_stored { (stored : Stored) (left : List Columns) → AreLeft T.StoredTable.layout T.Keeps.bind (stored T.Keeps.name) result.cursor left → IsArranged T.StoredTable.layout.table (stored T.Keeps.name) left }
+    {
+        Scan {
+            tables: self,
+            cursor: Cursor::new(alloc),
+        }
+    }
+}
