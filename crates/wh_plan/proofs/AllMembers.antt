@@ -1,5 +1,5 @@
 -- All members of a dimension, by their durable keys.
-use Rattle.std.proofs.Common.{◌≡◌, ℕ, true, zero, suc, ◌+◌, ◌<◌, ◌≤◌, List, [], ◌∷◌, ◌++◌, map, take, length, Option, Some, None, refl, sym, ◌∙◌, ap, arith}
+use Rattle.std.proofs.Common.{◌≡◌, ℕ, true, zero, suc, ◌<◌, ◌≤◌, List, [], ◌∷◌, ◌++◌, map, take, length, Option, Some, None, refl, sym, ◌∙◌, ap, arith}
 use Rattle.std.specs.Prelude.{bytes_eq, option_map}
 use Rattle.std.specs.Option.{option_to_list}
 use Rattle.std.proofs.lemmas.Slice.Eq.{bytes_eq-Decides}
@@ -15,7 +15,7 @@ use Rattle.wh_history.proofs.Basics.{some_is}
 use Rattle.wh_history.proofs.Once.{once_distinct}
 use Rattle.wh_rows.specs.declared.rows.MemberRow.{MemberRow}
 use Rattle.wh_plan.specs.Defined.{member_at}
-use Rattle.wh_plan.specs.ShownAnew.{all_members}
+use Rattle.wh_plan.specs.Migrated.{all_members}
 use Rattle.wh_plan.proofs.FoundMembers.{key_of, natural_at, member_is}
 use Rattle.wh_plan.proofs.FoundPlaces.{place_given, place_at}
 use Rattle.wh_plan.proofs.GovernedLists.{members_governed, member_governed, policy_governed}

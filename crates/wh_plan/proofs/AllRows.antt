@@ -1,5 +1,5 @@
 -- The rows of all members are those of the dimension's table.
-use Rattle.std.proofs.Common.{◌≡◌, ℕ, zero, suc, ◌<◌, ◌==◌, true, false, cond, List, [], ◌∷◌, ◌++◌, map, length, Option, Some, None, refl, sym, ◌∙◌, ap, subst, inl, inr, arith}
+use Rattle.std.proofs.Common.{◌≡◌, ℕ, zero, suc, ◌==◌, true, false, cond, List, [], ◌∷◌, ◌++◌, map, length, Option, Some, None, refl, sym, ◌∙◌, ap, inl, inr, arith}
 use Rattle.std.specs.FinMap.{FinMap, values, get}
 use Rattle.std.specs.Ordering.{nat_cmp}
 use Rattle.std.specs.Prelude.{Result, IfOk, bytes_eq, filter, find, flat_map}
@@ -29,7 +29,7 @@ use Rattle.wh_history.proofs.Members.{row_of_member_now}
 use Rattle.wh_history.proofs.Owners.{all_distinct}
 use Rattle.wh_history.proofs.Places.{at_place-place}
 use Rattle.wh_plan.specs.NewRows.{rows_of_members}
-use Rattle.wh_plan.specs.ShownAnew.{all_members, all_rows, IsShownAnew}
+use Rattle.wh_plan.specs.Migrated.{all_members, all_rows, IsMigrated}
 use Rattle.wh_plan.proofs.FoundPlaces.{at_place_among}
 use Rattle.wh_plan.proofs.FoundRows.{row_key, row_past, table_listed, under_key, none_behind}
 use Rattle.wh_plan.proofs.GrownMembers.{all_mapped, opened_in_all}
@@ -110,20 +110,20 @@ module _ (dim : Dim) (kinds : List AttributeType) (combinations : List (List (Li
   each_shown (m ∷ ms) = rw (row_shown m, each_shown ms) refl
 
 -- all rows that are shown anew stand under their keys
-pub rows_anew : (dim : Dim) (commands : List Accepted) → RecordsHaveDays commands → (key : ℕ)
+pub migrated_rows : (dim : Dim) (commands : List Accepted) → RecordsHaveDays commands → (key : ℕ)
     → row_of key (all_rows (record { dim = dim; kinds = types_in dim commands; number = number_in (all_numbered (profiles_of commands)) }) (all_members dim commands)) ≡ dimension_row commands dim key
-rows_anew dim commands ends key =
+migrated_rows dim commands ends key =
     ap (λ rs. row_of key (first_rows dim (types_in dim commands) ++ rs))
     (each_shown dim (types_in dim commands) (profiles_of commands) (all_members dim commands) ∙ through (rows (types_in dim commands) (profiles_of commands)) (member_of dim commands) (members dim commands))
     ∙ rows_listed dim commands ends key
 
-pub shown_rows : (commands : List Accepted) → RecordsHaveDays commands → (d : Dimension) (ms : List Member) (found : List DimRow) → IsShownAnew commands d ms → found ≡ all_rows (shape_of d) ms → (key : ℕ) → row_of key found ≡ dimension_row commands d.dim key
+pub shown_rows : (commands : List Accepted) → RecordsHaveDays commands → (d : Dimension) (ms : List Member) (found : List DimRow) → IsMigrated commands d ms → found ≡ all_rows (shape_of d) ms → (key : ℕ) → row_of key found ≡ dimension_row commands d.dim key
 shown_rows commands ends d ms found anew is key =
     ap (row_of key) is
     ∙ ap (λ ks. row_of key (all_rows (record { dim = d.dim; kinds = ks; number = number_in d.profiles.now }) ms)) anew.types_are
     ∙ ap (λ known. row_of key (all_rows (record { dim = d.dim; kinds = types_in d.dim commands; number = number_in known }) ms)) anew.profiles_are
     ∙ ap (λ (xs : List Member). row_of key (all_rows (record { dim = d.dim; kinds = types_in d.dim commands; number = number_in (all_numbered (profiles_of commands)) }) xs)) anew.members_are
-    ∙ rows_anew d.dim commands ends key
+    ∙ migrated_rows d.dim commands ends key
 
 -- a plan between rows is one between what stands under the keys
 pub plan_by_keys : (old new : List DimRow) (before after : ℕ → Option DimRow) (edits : List (Edit DimRow ℕ)) → ((key : ℕ) → row_of key old ≡ before key) → ((key : ℕ) → row_of key new ≡ after key)

@@ -1,8 +1,8 @@
 -- The facts of a warehouse under a policy that takes the place of another.
-use Rattle.std.proofs.Common.{◌≡◌, ℕ, zero, suc, ◌+◌, ◌-◌, ◌<◌, ◌==◌, Bool, true, false, cond, ◌&&◌, List, [], ◌∷◌, ◌++◌, map, Option, Some, None, refl, sym, ◌∙◌, ap, subst, arith}
+use Rattle.std.proofs.Common.{◌≡◌, ℕ, ◌<◌, true, List, [], ◌∷◌, ◌++◌, map, Option, Some, None, refl, sym, ◌∙◌, ap}
 use Rattle.std.specs.Prelude.{◌≢◌, bytes_eq, find, filter, filter_map, option_map, unwrap_or}
-use Rattle.std.specs.FinMap.{values, get}
-use Rattle.std.specs.List.{AllByRecursion, cons_option}
+use Rattle.std.specs.FinMap.{values}
+use Rattle.std.specs.List.{cons_option}
 use Rattle.std.specs.Option.{option_or, option_and_then, option_to_list}
 use Rattle.std.proofs.lemmas.Slice.Eq.{bytes_eq-Decides}
 use Rattle.wh_policy.specs.declared.attribute.Dim.{Dim}
@@ -33,12 +33,12 @@ use Rattle.wh_rows.specs.Tables.{Tables}
 use Rattle.wh_rows.specs.declared.key.LineKey.{LineKey}
 use Rattle.wh_plan.specs.Defined.{AreOf, fact_at}
 use Rattle.wh_plan.specs.BatchRows.{AreFacts, AreRekeyed, has_line}
-use Rattle.wh_plan.specs.SoldMembers.{no_keys, keys_sold, fact_with}
-use Rattle.wh_plan.specs.ShownAnew.{all_members, Showing, showing, keys_given, keys_by, keys_anew, moved_anew, IsMembership, AreMemberships, AreShown, AreAllShown}
-use Rattle.wh_plan.specs.declared.all_members.Membership.{Membership}
-use Rattle.wh_plan.specs.declared.all_members.Memberships.{Memberships}
-use Rattle.wh_plan.specs.declared.shown_anew.ShownDimension.{ShownDimension}
-use Rattle.wh_plan.specs.declared.shown_anew.ShownDimensions.{ShownDimensions}
+use Rattle.wh_plan.specs.SoldMembers.{no_keys, keys_sold}
+use Rattle.wh_plan.specs.Migrated.{all_members, Showing, showing, keys_given, keys_by, keys_anew, moved_anew, AreDimensionMembers, AreWarehouseMembers, AreShown, AreAllShown}
+use Rattle.wh_plan.specs.declared.all_members.DimensionMembers.{DimensionMembers}
+use Rattle.wh_plan.specs.declared.all_members.WarehouseMembers.{WarehouseMembers}
+use Rattle.wh_plan.specs.declared.migrated.ShownDimension.{ShownDimension}
+use Rattle.wh_plan.specs.declared.migrated.ShownDimensions.{ShownDimensions}
 use Rattle.wh_plan.proofs.Following.{Named, all_named}
 use Rattle.wh_plan.proofs.FoundPlaces.{at_place-map}
 use Rattle.wh_plan.proofs.GovernedLists.{sold_governed, durable_governed}
@@ -222,7 +222,7 @@ module _ (commands : List Accepted) (c : Accepted) (is : governs c.content ≡ t
 
 -- ---- what a call shows
 
-shown_is : (dim : Dim) (commands : List Accepted) (read : Membership) (known : List Numbered) (s : Showing) → IsMembership dim commands read → known ≡ all_numbered (profiles_of commands) → AreShown read known s → s ≡ shown_all dim commands
+shown_is : (dim : Dim) (commands : List Accepted) (read : DimensionMembers) (known : List Numbered) (s : Showing) → AreDimensionMembers dim commands read → known ≡ all_numbered (profiles_of commands) → AreShown read known s → s ≡ shown_all dim commands
 shown_is dim commands read known s member known_is are =
     let shape_is : s.shape ≡ shape dim commands = are.shape_is ∙ rw (member.dim_is, member.types_are, known_is) refl in
     let list_is : s.list ≡ map (rendered_in (shape dim commands)) (all_members dim commands) = are.list_is ∙ ap (λ sh. map (rendered_in sh) read.members.items) shape_is ∙ ap (map (rendered_in (shape dim commands))) member.members_are in
@@ -230,7 +230,7 @@ shown_is dim commands read known s member known_is are =
     let made : make s.shape s.list ≡ make (shape dim commands) (map (rendered_in (shape dim commands)) (all_members dim commands)) = rw (shape_is, list_is) refl in
     made
 
-pub keys_shown : (commands : List Accepted) (read : Memberships) (known : List Numbered) (d : ShownDimensions) → AreMemberships commands read → known ≡ all_numbered (profiles_of commands) → AreAllShown read known d → (f : Fact) → keys_anew d f ≡ keys_all commands f
+pub keys_shown : (commands : List Accepted) (read : WarehouseMembers) (known : List Numbered) (d : ShownDimensions) → AreWarehouseMembers commands read → known ≡ all_numbered (profiles_of commands) → AreAllShown read known d → (f : Fact) → keys_anew d f ≡ keys_all commands f
 keys_shown commands read known d members known_is are f =
     let stores = shown_is Store commands read.stores known (showing d.stores) members.stores known_is are.stores in
     let products = shown_is Product commands read.products known (showing d.products) members.products known_is are.products in

@@ -1,9 +1,9 @@
 -- The rows that a batch brings are the exact edits of the tables.
-use Rattle.std.proofs.Common.{◌≡◌, ◌⊎◌, inl, inr, ℕ, suc, ◌-◌, ◌<◌, ◌≤◌, false, List, [], ◌∷◌, ◌++◌, length, map, Option, Some, None, refl, sym, ◌∙◌, ap, subst, arith}
+use Rattle.std.proofs.Common.{◌≡◌, ◌⊎◌, inl, inr, ℕ, suc, ◌-◌, ◌<◌, false, List, [], ◌∷◌, ◌++◌, length, map, None, refl, sym, ◌∙◌, ap, subst, arith}
 use Rattle.std.specs.Prelude.{filter_map}
 use Rattle.std.specs.Cmp.{nat_cmp_is}
 use Rattle.std.specs.FinMap.{nat_cmp-IsAntisymmetric}
-use Rattle.std.specs.List.{AllByRecursion, range_with_len}
+use Rattle.std.specs.List.{AllByRecursion}
 use Rattle.std.specs.Option.{option_and_then}
 use Rattle.std.specs.Ordering.{nat_cmp, ordering_then}
 use Rattle.std.specs.declared.cmp.Ordering.TheVariants.{Less, Equal}
@@ -22,9 +22,8 @@ use Rattle.wh_rows.proofs.Orders.{member_cmp_total, member_cmp-IsAntisymmetric, 
 use Rattle.wh_rows.specs.Rows as row
 use Rattle.wh_rows.specs.declared.rows.MemberRow.{MemberRow}
 use Rattle.wh_rows.specs.declared.key.MemberKey.{MemberKey}
-use Rattle.wh_rows.specs.declared.key.ChangeKey.{ChangeKey}
 use Rattle.wh_plan.specs.Defined.{command_at, member_at, change_at, profile_at, calendar_at, day_at}
-use Rattle.wh_plan.specs.BatchRows.{BatchRows, AreBatchRows, rows_brought, behind, members_behind, new_members}
+use Rattle.wh_plan.specs.BatchRows.{BatchRows, AreBatchRows, behind, members_behind, new_members}
 use Rattle.wh_plan.specs.Edits.{Edits, AreEdits, IsTablePlan, rows_of_dimension}
 use Rattle.wh_plan.proofs.WrittenRows.{AmongKeys, among_front, among_back, among_mapped, among_range}
 use Rattle.wh_plan.proofs.Plans.{added_plan, grown_plan, one_plan, empty_plan, AboveKey, AscendKeys, keys_ascend, all_in_range}

@@ -1,8 +1,8 @@
 -- Exact edits of facts.
-use Rattle.std.proofs.Common.{◌≡◌, inl, inr, ℕ, suc, ◌+◌, Bool, true, false, cond, List, [], ◌∷◌, map, Option, Some, None, refl, sym, ◌∙◌, ap, subst, arith}
+use Rattle.std.proofs.Common.{◌≡◌, inl, inr, suc, ◌+◌, Bool, true, false, cond, List, [], ◌∷◌, map, Option, Some, None, refl, sym, ◌∙◌, ap, subst, arith}
 use Rattle.std.specs.Prelude.{◌≢◌, find, option_map, slice_index_or}
 use Rattle.std.specs.Cmp.{eq_by_cmp_equiv, Equal-is}
-use Rattle.std.specs.FinMap.{FinMap, get, insert, get-insert}
+use Rattle.std.specs.FinMap.{FinMap, get, get-insert}
 use Rattle.std.specs.List.{AllByRecursion, IsDistinct}
 use Rattle.std.specs.List.Sorted.{IsPermutation, IsSorted}
 use Rattle.std.specs.Option.{option_or}
@@ -14,7 +14,6 @@ use Rattle.std.proofs.lemmas.List.Sorted.{All-permutation, IsPermutation-sym}
 use Rattle.std.proofs.lemmas.Map.Keys.{IsDistinct-IsPermutation}
 use Rattle.wh_history.specs.Plan.{Above, Ascends}
 use Rattle.wh_history.specs.declared.facts.Fact.{Fact}
-use Rattle.wh_history.specs.declared.plan.Edit.TheVariants.{Put, Remove}
 use Rattle.wh_history.proofs.Basics.{find_passes, some_is}
 use Rattle.wh_rows.proofs.Orders.{line_cmp_total, line_cmp-IsAntisymmetric}
 use Rattle.wh_rows.specs.Meaning.{moved_at}
@@ -28,7 +27,7 @@ use Rattle.wh_plan.specs.FactEdits.{by_line, put_of, rekey_of}
 use Rattle.wh_plan.specs.declared.edits.FactEdit.{FactEdit}
 use Rattle.wh_plan.specs.declared.edits.FactEdit.TheVariants.{Row, Rekey}
 use Rattle.wh_plan.proofs.Exact as exact
-use Rattle.wh_plan.proofs.GrownFacts.{own_line, line_is, line_tied, Once, found_each}
+use Rattle.wh_plan.proofs.GrownFacts.{line_is, line_tied, Once, found_each}
 use Rattle.wh_plan.proofs.MovedLists.{found_has}
 use Rattle.wh_plan.proofs.Plans as plans
 

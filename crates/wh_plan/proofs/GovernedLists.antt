@@ -1,15 +1,13 @@
 -- A command that gives a policy leaves what the list says of members and sales.
-use Rattle.std.proofs.Common.{◌≡◌, ℕ, true, Bool, List, [], ◌∷◌, ◌++◌, map, Some, None, refl, sym, ◌∙◌, ap, append-nil}
+use Rattle.std.proofs.Common.{◌≡◌, ℕ, true, List, [], ◌∷◌, ◌++◌, map, Some, refl, ◌∙◌, ap, append-nil}
 use Rattle.std.specs.Prelude.{bytes_eq, filter}
 use Rattle.std.proofs.lemmas.Grind.{flat_map-append}
 use Rattle.wh_policy.specs.declared.attribute.Dim.{Dim}
 use Rattle.wh_policy.specs.declared.policy.Policy.{Policy}
 use Rattle.wh_policy.specs.declared.record.DimensionRecord.{DimensionRecord}
-use Rattle.wh_policy.specs.Policy.{types_of}
 use Rattle.wh_history.specs.Keys.{distinct, place}
-use Rattle.wh_history.specs.Accepted.{Accepted, Anchor, Content, Governs, Describes, Sells, same_anchor, anchors_by, described_by, described, sold_by, sold, mentions, anchors, members, opening_of, day_of, durable_key, surrogate_key, change_of, changes_of, member_of, policy_after, types_in}
+use Rattle.wh_history.specs.Accepted.{Accepted, Anchor, Content, Governs, Describes, Sells, same_anchor, anchors_by, described_by, described, sold_by, sold, mentions, anchors, members, opening_of, day_of, durable_key, surrogate_key, change_of, changes_of, member_of, policy_after}
 use Rattle.wh_history.specs.Laws.{governs}
-use Rattle.wh_history.specs.declared.member.Member.{Member}
 use Rattle.wh_history.proofs.Untouched.{mentions-last, described-last}
 
 -- such a command describes nothing, mentions nothing and sells nothing

@@ -51,6 +51,8 @@ pub mod GovernedLists
 pub mod AllMembers
 pub mod AllRows
 pub mod AnewFacts
+mod ScannedFacts
+mod ScannedRecords
 pub mod MayBeWritten
 pub mod Selling
 pub mod Placeholders

@@ -1,5 +1,5 @@
 -- The edits of a command that gives a policy.
-use Rattle.std.proofs.Common.{◌≡◌, inl, inr, ℕ, suc, ◌<◌, true, List, [], ◌∷◌, ◌++◌, length, map, Option, Some, None, refl, sym, ◌∙◌, ap, subst, arith}
+use Rattle.std.proofs.Common.{◌≡◌, inl, inr, ℕ, suc, ◌<◌, List, [], ◌∷◌, ◌++◌, length, map, Option, Some, None, sym, ap, subst, arith}
 use Rattle.std.specs.Cmp.{nat_cmp_is}
 use Rattle.std.specs.FinMap.{nat_cmp-IsAntisymmetric}
 use Rattle.std.specs.Option.{option_and_then}
@@ -9,7 +9,7 @@ use Rattle.std.proofs.lemmas.Cmp.{nat_cmp_total}
 use Rattle.wh_policy.specs.declared.attribute.Dim.{Dim}
 use Rattle.wh_policy.specs.declared.attribute.Dim.TheVariants.{Product, Store, Customer}
 use Rattle.wh_policy.specs.declared.policy.Policy.{Policy}
-use Rattle.wh_history.specs.Accepted.{Accepted, Content, Governs, Describes, Sells, members, policy_after}
+use Rattle.wh_history.specs.Accepted.{Accepted, Governs, members, policy_after}
 use Rattle.wh_history.specs.Laws.{governs}
 use Rattle.wh_history.specs.Plan.{IsRowPlan}
 use Rattle.wh_history.specs.Tables.{dimension_row}
@@ -23,8 +23,8 @@ use Rattle.wh_rows.specs.declared.key.MemberKey.{MemberKey}
 use Rattle.wh_rows.specs.declared.rows.CommandRow.{CommandRow}
 use Rattle.wh_plan.specs.Defined.{command_at, member_at, change_at, profile_at, calendar_at, fact_at, day_at}
 use Rattle.wh_plan.specs.Edits.{Edits, AreEdits, IsTablePlan, IsFactPlan, rows_of_dimension}
-use Rattle.wh_plan.specs.ShownAnew.{ArePlannedAnew}
-use Rattle.wh_plan.specs.declared.shown_anew.RowsAnew.{RowsAnew}
+use Rattle.wh_plan.specs.Migrated.{ArePlannedAnew}
+use Rattle.wh_plan.specs.declared.migrated.MigratedRows.{MigratedRows}
 use Rattle.wh_plan.proofs.GovernedLists.{members_governed, policy_governed}
 use Rattle.wh_plan.proofs.GrownChanges.{changes_grow}
 use Rattle.wh_plan.proofs.GrownCommands.{command_keyed, command_grows}
@@ -65,7 +65,7 @@ module _ (commands : List Accepted) (c : Accepted) (policy : Policy) (is : c.con
     | inr added ↦ let above = added.above in let within = added.within in absurd (omega arith)
   ]
 
-  pub migration_edits : (older : Policy) (own : CommandRow) (rows : RowsAnew) (edits : Edits) → policy_after None commands ≡ Some older → command_at (commands ++ c ∷ []) (suc (length commands)) ≡ Some own
+  pub migration_edits : (older : Policy) (own : CommandRow) (rows : MigratedRows) (edits : Edits) → policy_after None commands ≡ Some older → command_at (commands ++ c ∷ []) (suc (length commands)) ≡ Some own
       → ArePlannedAnew commands (commands ++ c ∷ []) rows
       → IsTablePlan row.profile (profile_at commands) (profile_at (commands ++ c ∷ [])) edits.profiles
       → IsTablePlan row.calendar (day_at older) (day_at policy) edits.calendar

@@ -6,7 +6,7 @@ use Rattle.std.specs.FinMap.{FinMap, get, IsAntisymmetric, get-insert, get-remov
 use Rattle.std.specs.List.{AllByRecursion, list_any, cons_option, range_with_len}
 use Rattle.std.specs.Ordering.{eq_by_cmp}
 use Rattle.std.specs.declared.cmp.Ordering.TheVariants.{Less}
-use Rattle.wh_history.specs.Plan.{Needs, edited, Above, Ascends, IsPlan}
+use Rattle.wh_history.specs.Plan.{Needs, edited, Above, Ascends}
 use Rattle.wh_history.specs.declared.plan.Edit.{Edit}
 use Rattle.wh_history.specs.declared.plan.Edit.TheVariants.{Put, Remove}
 use Rattle.wh_history.proofs.Basics.{or_none, some_is}

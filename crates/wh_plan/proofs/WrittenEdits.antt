@@ -1,17 +1,14 @@
 -- What exact edits lead to.
-use Rattle.std.proofs.Common.{◌≡◌, List, refl}
+use Rattle.std.proofs.Common.{refl}
 use Rattle.std.proofs.lemmas.Cmp.{nat_cmp_total}
-use Rattle.std.specs.Cmp.Lexicographic.{nat_list_cmp_total}
 use Rattle.wh_policy.specs.declared.attribute.Dim.{Dim}
 use Rattle.wh_policy.specs.declared.attribute.Dim.TheVariants.{Product, Store, Customer}
-use Rattle.wh_history.specs.Accepted.{Accepted}
 use Rattle.wh_history.specs.Plan.{IsRowPlan}
-use Rattle.wh_history.specs.Tables.{Limits, dimension_row}
+use Rattle.wh_history.specs.Tables.{dimension_row}
 use Rattle.wh_rows.proofs.Orders.{member_cmp_total, change_cmp_total}
 use Rattle.wh_rows.specs.Rows as row
-use Rattle.wh_rows.specs.Tables.{Tables}
-use Rattle.wh_plan.specs.Defined.{command_at, member_at, change_at, profile_at, calendar_at, fact_at, AreOf}
-use Rattle.wh_plan.specs.Edits.{Edits, AreEdits, no_edits, rows_of_dimension, with_all_edits}
+use Rattle.wh_plan.specs.Defined.{command_at, member_at, change_at, profile_at, calendar_at, fact_at}
+use Rattle.wh_plan.specs.Edits.{no_edits, rows_of_dimension}
 use Rattle.wh_plan.specs.Laws.{EditsAreWritten, ExactEditsAreOne, NoEditsStay}
 use Rattle.wh_plan.proofs.FactPlans.{facts_lead, no_facts, one_fact_plan}
 use Rattle.wh_plan.proofs.Plans.{plan_leads, empty_plan, one_plan}

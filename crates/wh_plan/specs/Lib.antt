@@ -13,5 +13,5 @@ pub mod RecordPlan
 pub mod Profiles
 pub mod Laws
 pub mod MovedFacts
-pub mod ShownAnew
+pub mod Migrated
 pub mod SoldMembers

@@ -7,7 +7,7 @@ ghost use Rattle.wh_history.specs.Accepted.{Accepted, Governs, members, member_o
 ghost use Rattle.wh_history.specs.Keys.{at_place};
 ghost use Rattle.wh_plan.specs.Reading.{HaveNoEmptyValue};
 ghost use Rattle.wh_plan.specs.Reads.{Finds};
-ghost use Rattle.wh_plan.specs.ShownAnew.{all_members, IsMembership, AreMemberships};
+ghost use Rattle.wh_plan.specs.Migrated.{all_members, AreDimensionMembers, AreWarehouseMembers};
 ghost use Rattle.wh_plan.specs.Sound.{IsAccepted};
 ghost use Rattle.wh_store.specs.Reads.{ReadsOnly, state_of};
 
@@ -21,7 +21,7 @@ use wh_store::{ReadFault, Tables};
 
 /// All members of a dimension, in order of their durable keys, and the types of its slots.
 #[derive(Drop)]
-pub(crate) struct Membership {
+pub(crate) struct DimensionMembers {
     pub(crate) dim: Dim,
     pub(crate) types: Vec<AttributeType>,
     pub(crate) members: Vec<Member>,
@@ -29,10 +29,10 @@ pub(crate) struct Membership {
 
 /// Those of the three dimensions.
 #[derive(Drop)]
-pub(crate) struct Memberships {
-    pub(crate) products: Membership,
-    pub(crate) stores: Membership,
-    pub(crate) customers: Membership,
+pub(crate) struct WarehouseMembers {
+    pub(crate) products: DimensionMembers,
+    pub(crate) stores: DimensionMembers,
+    pub(crate) customers: DimensionMembers,
 }
 
 /// The member with a durable key, if there is one.
@@ -106,11 +106,11 @@ fn read_dimension<S: Alter>(
     alloc: Global,
     newer: &Policy,
     dim: Dim,
-) -> Result<Membership, ReadFault>
+) -> Result<DimensionMembers, ReadFault>
     ensures reads { ReadsOnly (state_of S.Store tables.old) (state_of S.Store tables.new) result }
-    ensures read { Finds (state_of S.Store tables.old) (state_of S.Store tables.new) (λ limits commands. (c : Accepted) → IsAccepted limits (commands ++ c ∷ []) → c.content ≡ Governs newer.now → IfOk result (IsMembership dim (commands ++ c ∷ []))) }
+    ensures read { Finds (state_of S.Store tables.old) (state_of S.Store tables.new) (λ limits commands. (c : Accepted) → IsAccepted limits (commands ++ c ∷ []) → c.content ≡ Governs newer.now → IfOk result (AreDimensionMembers dim (commands ++ c ∷ []))) }
 {
-    Ok(Membership {
+    Ok(DimensionMembers {
         dim,
         types: newer.types(alloc, dim)?,
         members: all_members(tables, alloc, dim)?,
@@ -122,14 +122,14 @@ pub(crate) fn read_dimensions<S: Alter>(
     tables: &mut Tables<S>,
     alloc: Global,
     newer: &Policy,
-) -> Result<Memberships, ReadFault>
+) -> Result<WarehouseMembers, ReadFault>
     ensures reads { ReadsOnly (state_of S.Store tables.old) (state_of S.Store tables.new) result }
-    ensures read { Finds (state_of S.Store tables.old) (state_of S.Store tables.new) (λ limits commands. (c : Accepted) → IsAccepted limits (commands ++ c ∷ []) → c.content ≡ Governs newer.now → IfOk result (AreMemberships (commands ++ c ∷ []))) }
+    ensures read { Finds (state_of S.Store tables.old) (state_of S.Store tables.new) (λ limits commands. (c : Accepted) → IsAccepted limits (commands ++ c ∷ []) → c.content ≡ Governs newer.now → IfOk result (AreWarehouseMembers (commands ++ c ∷ []))) }
 {
     let products = read_dimension(tables, alloc, newer, Dim::Product)?;
     let stores = read_dimension(tables, alloc, newer, Dim::Store)?;
     let customers = read_dimension(tables, alloc, newer, Dim::Customer)?;
-    Ok(Memberships {
+    Ok(WarehouseMembers {
         products,
         stores,
         customers,

@@ -10,6 +10,7 @@ mod edits;
 mod fact_edits;
 pub mod first_profiles;
 pub mod laws;
+mod migrated;
 mod migration_plan;
 mod moved_facts;
 mod naturals;
@@ -21,7 +22,6 @@ pub mod reading;
 mod record_plan;
 mod sale_keys;
 mod sale_plan;
-mod shown_anew;
 mod sold_dimension;
 mod touched;
 

@@ -13,8 +13,8 @@ ghost use Rattle.wh_store.specs.Reads.{ReadsOnly, state_of};
 use crate::all_members::read_dimensions;
 use crate::calendar_plan::calendar_edits;
 use crate::edits::Edits;
+use crate::migrated::{migrated_facts, migrated_rows};
 use crate::profile_plan::renumbered_profiles;
-use crate::shown_anew::{facts_anew, rows_anew};
 use sqlite::Alter;
 use std::alloc::Global;
 use wh_history::Edit;
@@ -37,8 +37,8 @@ pub fn plan_migration<S: Alter>(
 {
     let read = read_dimensions(tables, alloc, newer)?;
     let profiles = renumbered_profiles(tables, alloc, &read.customers.types)?;
-    let rows = rows_anew(tables, alloc, &read, &profiles.known)?;
-    let facts = facts_anew(tables, alloc, &read, &profiles.known)?;
+    let rows = migrated_rows(tables, alloc, &read, &profiles.known)?;
+    let facts = migrated_facts(tables, alloc, &read, &profiles.known)?;
     let calendar = calendar_edits(alloc, older, newer)?;
     let mut commands = Vec::new(alloc);
     commands.push(Edit::Put(command))?;

@@ -2,6 +2,7 @@
 //! that it brings.
 
 ghost use Rattle.std.specs.Prelude.{◌≡◌, ◌++◌, ◌∷◌, [], true, IfOk, OnOk, flat_map};
+ghost use Rattle.std.specs.FinMap.{values};
 ghost use Rattle.std.specs.Option.{option_copied};
 ghost use Rattle.wh_policy.specs.declared.attribute.Dim.TheVariants.{Customer};
 ghost use Rattle.wh_history.specs.Accepted.{Accepted, described};
@@ -12,7 +13,7 @@ ghost use Rattle.wh_store.specs.Reads.{ReadsOnly, state_of};
 ghost use Rattle.wh_plan.specs.Migration.{stored_by, profiles_shown, edit_of_profile, edits_of_profiles, IsRenumbered};
 ghost use Rattle.wh_plan.specs.Profiles.{with_combinations};
 ghost use Rattle.wh_plan.specs.Reading.{HaveNoEmptyValue};
-ghost use Rattle.wh_plan.specs.Reads.{Finds};
+ghost use Rattle.wh_plan.specs.Reads.{Finds, Tells};
 ghost use Rattle.wh_plan.specs.Sound.{AreTypes, IsAccepted};
 
 use crate::first_profiles::first_profiles;
@@ -23,8 +24,8 @@ use std::alloc::{AllocError, Global};
 use wh_day::Values;
 use wh_history::{Edit, Profiles, profile_texts};
 use wh_policy::{AttributeType, Dim};
-use wh_rows::{ChangeRow, ProfileRow, tables};
-use wh_store::{ReadFault, Tables};
+use wh_rows::{Cause, ChangeRow, ProfileRow, tables};
+use wh_store::{Cursor, ReadFault, Tables, next_row};
 
 /// The profiles under a new policy.
 #[derive(Drop)]
@@ -53,19 +54,25 @@ fn add_stored(
     }
 }
 
-/// The combinations of the stored records of customers, each once.
-fn combinations_stored(
+/// The combinations of the stored records of customers, each once. The records are read a part at a time. `Size`: they are more
+/// than can be counted.
+fn combinations_stored<S: Alter>(
+    tables: &mut Tables<S>,
     alloc: Global,
     types: &[AttributeType],
-    rows: &[ChangeRow],
-) -> Result<Vec<Values>, AllocError>
-    ensures { IfOk result (λ found. found.items ≡ with_combinations [] (flat_map (stored_by types.now) rows.now)) }
+) -> Result<Vec<Values>, ReadFault>
+    ensures reads { ReadsOnly (state_of S.Store tables.old) (state_of S.Store tables.new) result }
+    ensures stored { Tells (state_of S.Store tables.old) (state_of S.Store tables.new) result (λ t found. found.items ≡ with_combinations [] (flat_map (stored_by types.now) (values t.change))) }
 {
+    let mut cursor = Cursor::new(alloc);
     let mut found = Vec::new(alloc);
-    for row in rows {
-        add_stored(alloc, types, &mut found, row)?;
+    'records: for _ in 0..u64::MAX {
+        match next_row::<tables::Change, S>(tables, alloc, &mut cursor)? {
+            Some(row) => add_stored(alloc, types, &mut found, &row)?,
+            None => return Ok(found),
+        }
     }
-    Ok(found)
+    Err(ReadFault::Store(Cause::Size))
 }
 
 /// The combinations of all records of customers that were accepted, in order of acceptance, each once.
@@ -77,8 +84,8 @@ fn customer_combinations<S: Alter>(
     ensures reads { ReadsOnly (state_of S.Store tables.old) (state_of S.Store tables.new) result }
     ensures combinations { Finds (state_of S.Store tables.old) (state_of S.Store tables.new) (λ _ commands. HaveNoEmptyValue commands → IfOk result (λ found. found.items ≡ combinations_of types.now (described Customer commands))) }
 {
-    let rows = tables.all::<tables::Change>(alloc)?;
-    Ok(combinations_stored(alloc, types, &rows)?)
+    let combinations = combinations_stored(tables, alloc, types)?;
+    Ok(combinations)
 }
 
 /// The rows of the profiles: those that no record says, and the combinations, which get their numbers.

@@ -1,7 +1,7 @@
-use Rattle.std.proofs.Common.{◌≡◌, ℕ, length, map, take, ◌∙◌, ap, arith}
+use Rattle.std.proofs.Common.{◌≡◌, length, map, take, ◌∙◌, ap, arith}
 use Rattle.std.proofs.lemmas.Result.{IfOk-weaker}
 use Rattle.wh_history.specs.Accepted.{members, member_of}
-use Rattle.wh_plan.specs.ShownAnew.{all_members}
+use Rattle.wh_plan.specs.Migrated.{all_members}
 use Rattle.wh_plan.specs.declared.reading.LastMember.{LastMember}
 use Rattle.wh_plan.proofs.AllMembers.{taken_all}
 use Rattle.wh_plan.proofs.all_members.all_members.Goals as goal

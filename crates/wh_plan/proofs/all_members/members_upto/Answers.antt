@@ -1,4 +1,4 @@
-use Rattle.std.proofs.Common.{◌≡◌, ◌+◌, map, take, suc, ℕ, sym, ◌∙◌, ap, rules, arith}
+use Rattle.std.proofs.Common.{◌≡◌, ◌+◌, map, take, suc, sym, ◌∙◌, ap, rules, arith}
 use Rattle.std.specs.Prelude.{option_map}
 use Rattle.wh_history.specs.Accepted.{members, member_of}
 use Rattle.wh_history.specs.Keys.{at_place}

@@ -1,6 +1,6 @@
-use Rattle.std.proofs.Common.{◌≡◌, sym, ◌∙◌, Some, None}
+use Rattle.std.proofs.Common.{◌≡◌, sym, ◌∙◌, Some}
 use Rattle.wh_plan.specs.Defined.{member_at}
-use Rattle.wh_plan.proofs.AllMembers.{member_there, member_missing, number_given, number_is}
+use Rattle.wh_plan.proofs.AllMembers.{member_there, number_given, number_is}
 use Rattle.wh_plan.proofs.FoundMembers.{key_of}
 use Rattle.wh_plan.proofs.all_members.numbered_member.Goals as goal
 

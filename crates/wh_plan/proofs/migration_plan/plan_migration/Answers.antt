@@ -1,6 +1,5 @@
 use Rattle.std.proofs.Common.{List, [], ◌∷◌, ◌++◌, None, refl, ◌∙◌, ap}
 use Rattle.wh_policy.specs.declared.attribute.Dim.TheVariants.{Customer}
-use Rattle.wh_history.specs.Accepted.{Accepted}
 use Rattle.wh_history.specs.Laws.{governs}
 use Rattle.wh_history.specs.declared.plan.Edit.{Edit}
 use Rattle.wh_history.specs.declared.plan.Edit.TheVariants.{Put}

@@ -1,6 +1,5 @@
-use Rattle.std.proofs.Common.{◌≡◌, ◌++◌, ◌∷◌, [], List, length, map, None, refl, sym, ◌∙◌, ap, arith, subst}
+use Rattle.std.proofs.Common.{◌≡◌, ◌++◌, ◌∷◌, [], length, None, refl, sym, ◌∙◌, ap, arith, subst}
 use Rattle.std.specs.List.{AllByRecursion}
-use Rattle.wh_history.specs.Tables.{fact_of}
 use Rattle.wh_history.specs.declared.facts.Fact.{Fact}
 use Rattle.wh_rows.specs.Rows as row
 use Rattle.wh_plan.specs.BatchRows.{AreFacts}

@@ -2,8 +2,8 @@ use Rattle.std.proofs.Common.{ap, sym, subst, ◌∙◌, IfOk}
 use Rattle.wh_history.specs.Accepted.{types_in}
 use Rattle.wh_history.specs.Plan.{IsRowPlan}
 use Rattle.wh_history.specs.Tables.{dimension_row}
-use Rattle.wh_plan.specs.ShownAnew.{all_members}
-use Rattle.wh_plan.proofs.shown_anew.rows_of.Goals as goal
+use Rattle.wh_plan.specs.Migrated.{all_members}
+use Rattle.wh_plan.proofs.migrated.rows_of.Goals as goal
 
 pub returns-clause-edits : goal.returns-clause-edits
 returns-clause-edits g c clean limits commands t are at dim after ends member known =

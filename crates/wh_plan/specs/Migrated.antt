@@ -1,5 +1,5 @@
 -- The members of a warehouse, shown anew under a policy that takes the place of another.
-use Rattle.std.specs.Prelude.{◌≡◌, ℕ, List, map, option_map, unwrap_or, ◌∷◌, [], ◌++◌, flat_map, filter_map}
+use Rattle.std.specs.Prelude.{◌≡◌, ℕ, List, map, option_map, unwrap_or, ◌++◌, flat_map, filter_map}
 use Rattle.wh_policy.specs.declared.attribute.Dim.{Dim}
 use Rattle.wh_policy.specs.declared.attribute.Dim.TheVariants.{Product, Store, Customer}
 use Rattle.wh_history.specs.Accepted.{Accepted, types_in, members, member_of, profiles_of}
@@ -18,36 +18,36 @@ use Rattle.wh_history.specs.declared.member.Member.{Member}
 use Rattle.wh_history.specs.declared.profiles.Numbered.{Numbered}
 use Rattle.wh_history.specs.declared.rows.DimRow.{DimRow}
 use Rattle.wh_plan.specs.SoldMembers.{no_keys}
-use Rattle.wh_plan.specs.declared.all_members.Membership.{Membership}
-use Rattle.wh_plan.specs.declared.all_members.Memberships.{Memberships}
-use Rattle.wh_plan.specs.declared.shown_anew.RowsAnew.{RowsAnew}
-use Rattle.wh_plan.specs.declared.shown_anew.ShownDimension.{ShownDimension}
-use Rattle.wh_plan.specs.declared.shown_anew.ShownDimensions.{ShownDimensions}
+use Rattle.wh_plan.specs.declared.all_members.DimensionMembers.{DimensionMembers}
+use Rattle.wh_plan.specs.declared.all_members.WarehouseMembers.{WarehouseMembers}
+use Rattle.wh_plan.specs.declared.migrated.MigratedRows.{MigratedRows}
+use Rattle.wh_plan.specs.declared.migrated.ShownDimension.{ShownDimension}
+use Rattle.wh_plan.specs.declared.migrated.ShownDimensions.{ShownDimensions}
 
 -- all members of a dimension, in order of their durable keys
 abbrev pub all_members : Dim → List Accepted → List Member
 all_members dim commands = map (member_of dim commands) (members dim commands)
 
 -- what was read of a dimension are all its members, and the types of its slots under the policy in force
-pub record IsMembership (dim : Dim) (commands : List Accepted) (read : Membership) : Type 0 where
+pub record AreDimensionMembers (dim : Dim) (commands : List Accepted) (read : DimensionMembers) : Type 0 where
   pub dim_is : read.dim ≡ dim
   pub types_are : read.types.items ≡ types_in dim commands
   pub members_are : read.members.items ≡ all_members dim commands
 
 -- so it is of all three
-pub record AreMemberships (commands : List Accepted) (read : Memberships) : Type 0 where
-  pub products : IsMembership Product commands read.products
-  pub stores : IsMembership Store commands read.stores
-  pub customers : IsMembership Customer commands read.customers
+pub record AreWarehouseMembers (commands : List Accepted) (read : WarehouseMembers) : Type 0 where
+  pub products : AreDimensionMembers Product commands read.products
+  pub stores : AreDimensionMembers Store commands read.stores
+  pub customers : AreDimensionMembers Customer commands read.customers
 
 -- members are shown under the policy in force: all of a dimension, by the types of its slots and the numbers of all profiles
-pub record IsShownAnew (commands : List Accepted) (d : Dimension) (ms : List Member) : Type 0 where
+pub record IsMigrated (commands : List Accepted) (d : Dimension) (ms : List Member) : Type 0 where
   pub types_are : d.types.now ≡ types_in d.dim commands
   pub profiles_are : d.profiles.now ≡ all_numbered (profiles_of commands)
   pub members_are : ms ≡ all_members d.dim commands
 
 -- the edits lead from the rows of the dimensions under some commands to those under others
-pub record ArePlannedAnew (before after : List Accepted) (planned : RowsAnew) : Type 0 where
+pub record ArePlannedAnew (before after : List Accepted) (planned : MigratedRows) : Type 0 where
   pub products : IsRowPlan (dimension_row before Product) (dimension_row after Product) planned.products.items
   pub stores : IsRowPlan (dimension_row before Store) (dimension_row after Store) planned.stores.items
   pub customers : IsRowPlan (dimension_row before Customer) (dimension_row after Customer) planned.customers.items
@@ -65,12 +65,12 @@ abbrev pub showing : ShownDimension → Showing
 showing d = record { shape = shape_of d.dimension; list = map shown d.members.items }
 
 -- they are the members that were read, by the types of their slots and what is known of profiles
-pub record AreShown (read : Membership) (known : List Numbered) (s : Showing) : Type 0 where
+pub record AreShown (read : DimensionMembers) (known : List Numbered) (s : Showing) : Type 0 where
   pub shape_is : s.shape ≡ record { dim = read.dim; kinds = read.types.items; number = number_in known }
   pub list_is : s.list ≡ map (rendered_in s.shape) read.members.items
 
 -- so it is of all three
-pub record AreAllShown (read : Memberships) (known : List Numbered) (d : ShownDimensions) : Type 0 where
+pub record AreAllShown (read : WarehouseMembers) (known : List Numbered) (d : ShownDimensions) : Type 0 where
   pub products : AreShown read.products known (showing d.products)
   pub stores : AreShown read.stores known (showing d.stores)
   pub customers : AreShown read.customers known (showing d.customers)

@@ -3,7 +3,7 @@ use Rattle.wh_history.specs.Plan.{IsRowPlan, row_of}
 use Rattle.wh_history.specs.Tables.{dimension_row}
 use Rattle.wh_history.specs.declared.rows.DimRow.{DimRow}
 use Rattle.wh_plan.proofs.AllRows.{row_in_table, shown_rows, plan_by_keys}
-use Rattle.wh_plan.proofs.shown_anew.row_edits.Goals as goal
+use Rattle.wh_plan.proofs.migrated.row_edits.Goals as goal
 
 pub returns-clause-edits : goal.returns-clause-edits
 returns-clause-edits g c clean limits commands t are at after ends anew =

@@ -1,6 +1,7 @@
 //! The rows and the facts of a warehouse under a policy that takes the place of another.
 
-ghost use Rattle.std.specs.Prelude.{◌≡◌, ◌++◌, ◌∷◌, [], List, true, filter_map, IfOk};
+ghost use Rattle.std.specs.Prelude.{◌≡◌, ◌++◌, ◌∷◌, [], List, true, filter_map, IfOk, OnOk};
+ghost use Rattle.std.specs.FinMap.{values};
 ghost use Rattle.wh_policy.specs.declared.attribute.Dim.{Dim};
 ghost use Rattle.wh_history.specs.Accepted.{Accepted, profiles_of};
 ghost use Rattle.wh_history.specs.Facts.{rekeyed_to};
@@ -14,12 +15,12 @@ ghost use Rattle.wh_history.specs.Shapes.{shape_of, rendered_in};
 ghost use Rattle.wh_history.specs.Tables.{dimension_row, dimension_table};
 ghost use Rattle.wh_plan.specs.Defined.{fact_at};
 ghost use Rattle.wh_plan.specs.Edits.{IsFactPlan};
-ghost use Rattle.wh_plan.specs.Reads.{Finds};
-ghost use Rattle.wh_plan.specs.ShownAnew.{all_rows, keys_anew, keys_given, moved_anew, showing, AreMemberships, ArePlannedAnew, AreAllShown, AreShown, IsMembership, IsShownAnew};
+ghost use Rattle.wh_plan.specs.Reads.{Finds, Tells};
+ghost use Rattle.wh_plan.specs.Migrated.{all_rows, keys_anew, keys_given, moved_anew, showing, AreWarehouseMembers, ArePlannedAnew, AreAllShown, AreShown, AreDimensionMembers, IsMigrated};
 ghost use Rattle.wh_plan.specs.Sound.{IsAccepted};
 ghost use Rattle.wh_store.specs.Reads.{ReadsOnly, state_of};
 
-use crate::all_members::{Membership, Memberships};
+use crate::all_members::{DimensionMembers, WarehouseMembers};
 use crate::edits::FactEdit;
 use crate::fact_edits::fact_rekeys;
 use crate::new_rows::rows_of_members;
@@ -32,8 +33,8 @@ use wh_history::{
     plan_rows,
 };
 use wh_policy::{AttributeType, Dim};
-use wh_rows::tables;
-use wh_store::{ReadFault, Tables};
+use wh_rows::{Cause, tables};
+use wh_store::{Cursor, ReadFault, Tables, next_row};
 
 /// The rows that a dimension's table has before the first key: that of sales without a card among the customers.
 fn first_rows(alloc: Global, dim: Dim, types: &[AttributeType]) -> Result<Vec<DimRow>, AllocError>
@@ -85,7 +86,7 @@ fn row_edits<S: Alter>(
     members: &[Member],
 ) -> Result<Vec<Edit<DimRow, u64>>, ReadFault>
     ensures reads { ReadsOnly (state_of S.Store tables.old) (state_of S.Store tables.new) result }
-    ensures edits { Finds (state_of S.Store tables.old) (state_of S.Store tables.new) (λ _ commands. (after : List Accepted) → RecordsHaveDays after → IsShownAnew after dimension.now members.now
+    ensures edits { Finds (state_of S.Store tables.old) (state_of S.Store tables.new) (λ _ commands. (after : List Accepted) → RecordsHaveDays after → IsMigrated after dimension.now members.now
         → IfOk result (λ edits. IsRowPlan (dimension_row commands dimension.now.dim) (dimension_row after dimension.now.dim) edits.items)) }
 {
     let stored = stored_table(tables, alloc, dimension.dim)?;
@@ -97,11 +98,11 @@ fn row_edits<S: Alter>(
 fn rows_of<S: Alter>(
     tables: &mut Tables<S>,
     alloc: Global,
-    read: &Membership,
+    read: &DimensionMembers,
     profiles: &Profiles,
 ) -> Result<Vec<Edit<DimRow, u64>>, ReadFault>
     ensures reads { ReadsOnly (state_of S.Store tables.old) (state_of S.Store tables.new) result }
-    ensures edits { Finds (state_of S.Store tables.old) (state_of S.Store tables.new) (λ _ commands. (dim : Dim) (after : List Accepted) → RecordsHaveDays after → IsMembership dim after read.now → profiles.now ≡ all_numbered (profiles_of after)
+    ensures edits { Finds (state_of S.Store tables.old) (state_of S.Store tables.new) (λ _ commands. (dim : Dim) (after : List Accepted) → RecordsHaveDays after → AreDimensionMembers dim after read.now → profiles.now ≡ all_numbered (profiles_of after)
         → IfOk result (λ edits. IsRowPlan (dimension_row commands dim) (dimension_row after dim) edits.items)) }
 {
     let dimension = Dimension {
@@ -114,26 +115,26 @@ fn rows_of<S: Alter>(
 
 /// The edits of the rows of the three dimensions.
 #[derive(Drop)]
-pub(crate) struct RowsAnew {
+pub(crate) struct MigratedRows {
     pub(crate) products: Vec<Edit<DimRow, u64>>,
     pub(crate) stores: Vec<Edit<DimRow, u64>>,
     pub(crate) customers: Vec<Edit<DimRow, u64>>,
 }
 
 /// The edits of the rows of the three dimensions, whose members were read.
-pub(crate) fn rows_anew<S: Alter>(
+pub(crate) fn migrated_rows<S: Alter>(
     tables: &mut Tables<S>,
     alloc: Global,
-    read: &Memberships,
+    read: &WarehouseMembers,
     profiles: &Profiles,
-) -> Result<RowsAnew, ReadFault>
+) -> Result<MigratedRows, ReadFault>
     ensures reads { ReadsOnly (state_of S.Store tables.old) (state_of S.Store tables.new) result }
-    ensures edits { Finds (state_of S.Store tables.old) (state_of S.Store tables.new) (λ _ commands. (after : List Accepted) → RecordsHaveDays after → AreMemberships after read.now → profiles.now ≡ all_numbered (profiles_of after) → IfOk result (ArePlannedAnew commands after)) }
+    ensures edits { Finds (state_of S.Store tables.old) (state_of S.Store tables.new) (λ _ commands. (after : List Accepted) → RecordsHaveDays after → AreWarehouseMembers after read.now → profiles.now ≡ all_numbered (profiles_of after) → IfOk result (ArePlannedAnew commands after)) }
 {
     let products = rows_of(tables, alloc, &read.products, profiles)?;
     let stores = rows_of(tables, alloc, &read.stores, profiles)?;
     let customers = rows_of(tables, alloc, &read.customers, profiles)?;
-    Ok(RowsAnew {
+    Ok(MigratedRows {
         products,
         stores,
         customers,
@@ -212,24 +213,42 @@ impl ShownDimensions<'_> {
         Ok(Some(Fact { keys, ..fact }))
     }
 
-    /// Of some facts those whose keys change, with the new ones.
-    fn moved_facts(&self, alloc: Global, facts: Vec<Fact>) -> Result<Vec<Fact>, AllocError>
-        ensures { IfOk result (λ moved. moved.items ≡ moved_anew self.now facts.items) }
+    /// Adds a fact with its keys by its members, if they are others than it has.
+    fn add_moved(&self, alloc: Global, fact: Fact, moved: &mut Vec<Fact>) -> Result<(), AllocError>
+        ensures { OnOk result (moved.new.items ≡ moved.old.items ++ moved_anew self.now (fact ∷ [])) }
     {
+        if let Some(fact) = self.moved_fact(alloc, fact)? {
+            moved.push(fact)?;
+        }
+        Ok(())
+    }
+
+    /// Of the stored facts those whose keys change, with the new ones. The table is read a part at a time. `Size`: it has more
+    /// rows than can be counted.
+    fn moved_facts<S: Alter>(
+        &self,
+        tables: &mut Tables<S>,
+        alloc: Global,
+    ) -> Result<Vec<Fact>, ReadFault>
+        ensures reads { ReadsOnly (state_of S.Store tables.old) (state_of S.Store tables.new) result }
+        ensures moved { Tells (state_of S.Store tables.old) (state_of S.Store tables.new) result (λ t moved. moved.items ≡ moved_anew self.now (values t.fact)) }
+    {
+        let mut cursor = Cursor::new(alloc);
         let mut moved = Vec::new(alloc);
-        for fact in facts {
-            if let Some(fact) = self.moved_fact(alloc, fact)? {
-                moved.push(fact)?;
+        'facts: for _ in 0..u64::MAX {
+            match next_row::<tables::Fact, S>(tables, alloc, &mut cursor)? {
+                Some(fact) => self.add_moved(alloc, fact, &mut moved)?,
+                None => return Ok(moved),
             }
         }
-        Ok(moved)
+        Err(ReadFault::Store(Cause::Size))
     }
 }
 
 /// A dimension with its members as it shows them.
 fn shown_dimension<'a>(
     alloc: Global,
-    read: &'a Membership,
+    read: &'a DimensionMembers,
     profiles: &'a Profiles,
 ) -> Result<ShownDimension<'a>, AllocError>
     ensures { IfOk result (λ d. AreShown read.now profiles.now (showing d)) }
@@ -246,7 +265,7 @@ fn shown_dimension<'a>(
 /// The three dimensions with their members.
 fn shown_dimensions<'a>(
     alloc: Global,
-    read: &'a Memberships,
+    read: &'a WarehouseMembers,
     profiles: &'a Profiles,
 ) -> Result<ShownDimensions<'a>, AllocError>
     ensures { IfOk result (λ d. AreAllShown read.now profiles.now d) }
@@ -262,18 +281,17 @@ fn shown_dimensions<'a>(
 }
 
 /// The edits that give all stored facts the keys by their members, which were read.
-pub(crate) fn facts_anew<S: Alter>(
+pub(crate) fn migrated_facts<S: Alter>(
     tables: &mut Tables<S>,
     alloc: Global,
-    read: &Memberships,
+    read: &WarehouseMembers,
     profiles: &Profiles,
 ) -> Result<Vec<FactEdit>, ReadFault>
     ensures reads { ReadsOnly (state_of S.Store tables.old) (state_of S.Store tables.new) result }
-    ensures edits { Finds (state_of S.Store tables.old) (state_of S.Store tables.new) (λ _ commands. (c : Accepted) → governs c.content ≡ true → AreMemberships (commands ++ c ∷ []) read.now → profiles.now ≡ all_numbered (profiles_of (commands ++ c ∷ []))
+    ensures edits { Finds (state_of S.Store tables.old) (state_of S.Store tables.new) (λ _ commands. (c : Accepted) → governs c.content ≡ true → AreWarehouseMembers (commands ++ c ∷ []) read.now → profiles.now ≡ all_numbered (profiles_of (commands ++ c ∷ []))
         → IfOk result (λ edits. IsFactPlan (fact_at commands) (fact_at (commands ++ c ∷ [])) edits.items)) }
 {
     let shown = shown_dimensions(alloc, read, profiles)?;
-    let facts = tables.all::<tables::Fact>(alloc)?;
-    let moved = shown.moved_facts(alloc, facts)?;
+    let moved = shown.moved_facts(tables, alloc)?;
     Ok(fact_rekeys(alloc, moved)?)
 }

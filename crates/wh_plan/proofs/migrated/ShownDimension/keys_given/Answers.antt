@@ -3,9 +3,9 @@ use Rattle.std.proofs.lemmas.Result.{IfOk-weaker}
 use Rattle.wh_history.specs.Facts.{keys_on}
 use Rattle.wh_history.specs.Keys.{at_place}
 use Rattle.wh_history.specs.Shapes.{shape_of, shown}
-use Rattle.wh_plan.specs.ShownAnew.{keys_given, showing}
+use Rattle.wh_plan.specs.Migrated.{keys_given, showing}
 use Rattle.wh_plan.proofs.AnewFacts.{given_at, none_at}
-use Rattle.wh_plan.proofs.shown_anew.ShownDimension.keys_given.Goals as goal
+use Rattle.wh_plan.proofs.migrated.ShownDimension.keys_given.Goals as goal
 
 pub returns-in-Some : goal.returns-in-Some
 returns-in-Some c =

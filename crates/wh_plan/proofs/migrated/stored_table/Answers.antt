@@ -1,6 +1,6 @@
 use Rattle.wh_policy.specs.declared.attribute.Dim.TheVariants.{Product, Store, Customer}
 use Rattle.wh_plan.proofs.AllRows.{table_read}
-use Rattle.wh_plan.proofs.shown_anew.stored_table.Goals as goal
+use Rattle.wh_plan.proofs.migrated.stored_table.Goals as goal
 
 pub returns-in-Product-clause-rows : goal.returns-in-Product-clause-rows
 returns-in-Product-clause-rows g c clean limits commands t are at = table_read c.all.result (λ rows. rows.items) Product c.args.dim commands t.product are.product c.in-Product.is (c.all.ensures.rows clean t at)

@@ -1,5 +1,5 @@
 use Rattle.wh_policy.specs.declared.attribute.Dim.TheVariants.{Product, Store, Customer}
-use Rattle.wh_plan.proofs.shown_anew.rows_anew.Goals as goal
+use Rattle.wh_plan.proofs.migrated.migrated_rows.Goals as goal
 
 pub returns-clause-edits : goal.returns-clause-edits
 returns-clause-edits g c clean limits commands t are at after ends members known =
