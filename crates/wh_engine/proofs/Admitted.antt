@@ -1,5 +1,5 @@
 -- The lists of commands that were admitted from the making on.
-use Rattle.std.proofs.Common.{◌≡◌, ℕ, List, [], ◌∷◌, ◌++◌, Result, Ok, Err, refl, sym, ap, subst, ◌∙◌, append_assoc}
+use Rattle.std.proofs.Common.{◌≡◌, List, [], ◌∷◌, ◌++◌, Result, Ok, Err, refl, sym, ap, subst, ◌∙◌, append_assoc}
 use Rattle.wh_history.specs.Accepted.{Accepted, Content}
 use Rattle.wh_history.specs.Tables.{Limits}
 use Rattle.wh_plan.specs.FirstRows.{making_of}
@@ -37,6 +37,10 @@ admitted_after limits commands c it = record {
   sent = it.sent ++ c ∷ [];
   admitted = ap (λ (list : List Accepted). accepted_after limits list c) it.admitted ∙ sym (last_of_all limits (making_of it.policy it.bytes ∷ []) it.sent c);
 }
+
+pub admitted_after_all : (limits : Limits) (commands : List Accepted) (sent : List Command) → AreAdmitted limits commands → AreAdmitted limits (accepted_after_all limits commands sent)
+admitted_after_all limits commands [] it = it
+admitted_after_all limits commands (c ∷ sent) it = admitted_after_all limits (accepted_after limits commands c) sent (admitted_after limits commands c it)
 
 -- ---- what they say is what their bytes give
 

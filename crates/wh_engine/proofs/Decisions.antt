@@ -16,14 +16,15 @@ use Rattle.wh_history.specs.Tables.{Limits}
 use Rattle.wh_history.proofs.Basics.{some_is}
 use Rattle.wh_rows.specs.declared.rows.CommandRow.{CommandRow}
 use Rattle.wh_rows.specs.Types.{is_key}
-use Rattle.wh_engine.specs.Admission.{command_word, records_told, sales_told, policy_told, content_of, in_force, accepted_as, receipt_of, changes_in, first_line_there, number_past_lines, number_for, answer_with, when_read, by_id, answer, with_content, after_answer, accepted_after}
+use Rattle.wh_batch.specs.Kind.{command_word}
+use Rattle.wh_engine.specs.Admission.{records_told, sales_told, policy_told, content_of, in_force, accepted_as, receipt_of, changes_in, first_line_there, number_past_lines, number_for, answer_with, when_read, by_id, answer, with_content, after_answer, accepted_after}
 use Rattle.wh_engine.specs.Decided.{reply_to_known, IsNew}
 use Rattle.wh_plan.specs.Defined.{command_at}
 use Rattle.wh_engine.specs.Faults.{Judges}
 use Rattle.wh_plan.specs.Reading.{number_of, command_with}
 use Rattle.wh_plan.specs.Sound.{changes_kept, IsAccepted}
 use Rattle.wh_engine.specs.declared.command.Command.{Command}
-use Rattle.wh_engine.specs.declared.command.CommandKind.TheVariants.{Batch, Migration}
+use Rattle.wh_batch.specs.declared.kind.CommandKind.TheVariants.{Batch, Migration}
 use Rattle.wh_engine.specs.declared.fault.Fault.{Fault}
 use Rattle.wh_engine.specs.declared.fault.Fault.TheVariants as faults
 use Rattle.wh_engine.specs.declared.command.Receipt.{Receipt}

@@ -24,3 +24,8 @@ pub mod Redelivered
 pub mod MayWorked
 pub mod Migrated
 pub mod SalesPremises
+pub mod Delivering
+pub mod Known
+pub mod Nights
+pub mod DeliveredAgain
+pub mod Scanning

@@ -1,5 +1,5 @@
 -- What an engine reads of any rows when it opens a warehouse, whoever wrote them.
-use Rattle.std.proofs.Common.{◌≡◌, ◌≢◌, inl, inr, List, slice_get, Option, Some, None, Result, Ok, Err, IfOk, IfErr, refl, ap, ◌∙◌}
+use Rattle.std.proofs.Common.{◌≡◌, inl, inr, List, slice_get, Option, Some, None, Result, Ok, Err, IfOk, IfErr, ap, ◌∙◌}
 use Rattle.sqlite.specs.State.{State}
 use Rattle.wh_policy.specs.Policy.{policy_at}
 use Rattle.wh_policy.specs.declared.policy.Policy.{Policy}
@@ -8,7 +8,6 @@ use Rattle.wh_history.specs.Tables.{Limits}
 use Rattle.wh_rows.specs.Rows as row
 use Rattle.wh_rows.specs.Firsts.{last_one}
 use Rattle.wh_rows.specs.Raw.{Stored, AreAsked}
-use Rattle.wh_rows.specs.declared.cause.Cause.{Cause}
 use Rattle.wh_rows.specs.declared.table.Table.TheVariants as tables
 use Rattle.wh_rows.specs.declared.rows.CommandRow.{CommandRow}
 use Rattle.wh_store.specs.Reads.{ReadsOnly, Spares, IsOfAskedDamage, SparesStore as RefusesNothing}

@@ -11,7 +11,7 @@ use Rattle.wh_rows.specs.AtRest.{AreTrees, IsAtRest, Leaves}
 use Rattle.wh_rows.specs.Tables.{Tables}
 use Rattle.wh_engine.specs.Admission.{accepted_as, answer, accepted_after, in_force, AreAdmitted}
 use Rattle.wh_engine.specs.Answered.{AreTreesOf, LeavesOneOf, IsReady, IsAnswered, IsPerformed, IsWritten, IsForeseen, IsForetold}
-use Rattle.wh_engine.specs.Decided.{IsHeld, IsWorkOf, Decides}
+use Rattle.wh_engine.specs.Decided.{IsHeld, IsEffectOf, Decides}
 use Rattle.wh_plan.specs.Defined.{AreOf}
 use Rattle.wh_engine.specs.Faults.{IsServed, Judges, stops}
 use Rattle.wh_plan.specs.Edits.{Edits, AreEdits, no_edits, edit_count, with_all_edits}
@@ -96,7 +96,7 @@ module _ (limits : Limits) (commands : List Accepted) (c : Command) (session : S
     said : answer limits commands c ≡ Ok (Accepts receipt)
     said = ap (λ l. answer l commands c) (sym limits_are) ∙ decided.1 ∙ ap Ok decided.2.0
 
-    abbrev work : IsWorkOf commands c edits newer
+    abbrev work : IsEffectOf commands c edits newer
     work = decided.2.1
 
     abbrev added : Accepted

@@ -15,7 +15,7 @@ use Rattle.wh_engine.specs.declared.session.Session.{Session}
 use Rattle.wh_engine.proofs.Receipts.{told_again, refused_again}
 use Rattle.wh_engine.proofs.Repeats.{acts_once}
 
-left_of : (limits : Limits) (commands : List Accepted) (s : State) (trees : Trees) → Rests limits commands s → s.may_leave trees → AreTreesOf limits commands trees
+pub left_of : (limits : Limits) (commands : List Accepted) (s : State) (trees : Trees) → Rests limits commands s → s.may_leave trees → AreTreesOf limits commands trees
 left_of limits commands s trees rests may = record { tables = rests.tables; are = rests.are; trees_are = rests.rests.left.each trees may }
 
 both_are : {A : Type 0} → A ⊎ A → A

@@ -5,7 +5,8 @@ use Rattle.std.proofs.lemmas.Slice.Eq.{bytes_eq-Decides}
 use Rattle.wh_history.specs.Accepted.{Accepted, Content}
 use Rattle.wh_history.specs.Tables.{Limits}
 use Rattle.wh_rows.specs.Types.{is_key}
-use Rattle.wh_engine.specs.Admission.{command_word, content_of, in_force, accepted_as, already, by_id, answer, with_content, after_answer, accepted_after}
+use Rattle.wh_batch.specs.Kind.{command_word}
+use Rattle.wh_engine.specs.Admission.{content_of, in_force, accepted_as, already, by_id, answer, with_content, after_answer, accepted_after}
 use Rattle.wh_engine.specs.declared.command.Command.{Command}
 use Rattle.wh_engine.specs.declared.command.Receipt.{Receipt}
 use Rattle.wh_engine.specs.declared.command.Reply.{Reply}

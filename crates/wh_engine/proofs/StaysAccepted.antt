@@ -23,18 +23,19 @@ use Rattle.wh_history.proofs.Joins.{all_append}
 use Rattle.wh_history.proofs.Untouched.{described-last}
 use Rattle.wh_rows.specs.Questions.{gives_policy}
 use Rattle.wh_rows.specs.Types.{is_key, is_kind}
-use Rattle.wh_engine.specs.Admission.{command_word, of_batch, records_told, sales_told, policy_told, content_of, in_force, accepted_as, receipt_of, changes_in, first_line_there, number_past_lines, number_for, answer_with, when_read, answer, with_content, after_answer, accepted_after, AcceptedListsStaySound}
+use Rattle.wh_batch.specs.Kind.{command_word}
+use Rattle.wh_engine.specs.Admission.{of_batch, records_told, sales_told, policy_told, content_of, in_force, accepted_as, receipt_of, changes_in, first_line_there, number_past_lines, number_for, answer_with, when_read, answer, with_content, after_answer, accepted_after, AcceptedListsStaySound}
 use Rattle.wh_plan.specs.Sound.{IsGoodRecord, IsGoodSale, same_line, changes_kept, GivesPolicy, IsAccepted}
 use Rattle.wh_engine.specs.declared.command.Command.{Command}
-use Rattle.wh_engine.specs.declared.command.CommandKind.{CommandKind}
-use Rattle.wh_engine.specs.declared.command.CommandKind.TheVariants.{Batch, Migration}
+use Rattle.wh_batch.specs.declared.kind.CommandKind.{CommandKind}
+use Rattle.wh_batch.specs.declared.kind.CommandKind.TheVariants.{Batch, Migration}
 use Rattle.wh_engine.specs.declared.command.Receipt.{Receipt}
 use Rattle.wh_engine.specs.declared.command.Reply.{Reply}
 use Rattle.wh_engine.specs.declared.command.Reply.TheVariants.{Accepted as Accepts, Already}
 use Rattle.wh_engine.specs.declared.command.Refused.{Refused}
 use Rattle.wh_engine.specs.declared.command.Refused.TheVariants.{Full}
 use Rattle.wh_engine.specs.declared.command.Limit.TheVariants.{Commands, Changes, Facts}
-use Rattle.wh_engine.proofs.Migrated.{HasSix, IsTaken, policy_taken, policy_with, still_governed, still_six}
+use Rattle.wh_engine.proofs.Migrated.{HasSix, policy_taken, policy_with, still_governed, still_six}
 use Rattle.wh_engine.proofs.Repeats.{new_id}
 use Rattle.wh_engine.proofs.GoodRecords.{good_records, few_records}
 use Rattle.wh_engine.proofs.GoodSales.{good_sales, few_sales, sales_once}

@@ -1,5 +1,5 @@
 -- The answers to commands, at values that were worked out by hand.
-use Rattle.std.proofs.Common.{◌≡◌, ℕ, ◌++◌, List, [], ◌∷◌, codes, None, Ok, Err, refl}
+use Rattle.std.proofs.Common.{◌≡◌, ℕ, true, false, ◌++◌, List, [], ◌∷◌, codes, None, Ok, Err, refl}
 use Rattle.std.specs.Prelude.{pos}
 use Rattle.std.specs.Str.{is_utf8, chars}
 use lib.Utf8.{encode}
@@ -14,8 +14,10 @@ use Rattle.wh_batch.proofs.OnLiterals.{batch_on_literals}
 use Rattle.wh_history.specs.Accepted.{Accepted, Governs, Describes, Sells}
 use Rattle.wh_history.specs.Tables.{Limits}
 use Rattle.wh_engine.specs.Admission.{answer, accepted_after}
+use Rattle.wh_engine.specs.Delivered.{answers_to}
+use Rattle.wh_engine.specs.Nights.{after_night, before_any}
 use Rattle.wh_engine.specs.declared.command.Command.{Command}
-use Rattle.wh_engine.specs.declared.command.CommandKind.TheVariants.{Batch}
+use Rattle.wh_batch.specs.declared.kind.CommandKind.TheVariants.{Batch}
 use Rattle.wh_engine.specs.declared.command.Receipt.{Receipt}
 use Rattle.wh_engine.specs.declared.command.Reply.TheVariants.{Accepted as Accepts, Already}
 use Rattle.wh_engine.specs.declared.command.Refused.TheVariants.{BadId, Reused, Batch as BadBatch, LineThere, Full}
@@ -115,3 +117,23 @@ two_placeholders = refl
 line_there : answer (limits 9 9 9) (making ++ record { id = codes "s1"; kind = codes "sales"; bytes = sale_bytes; content = Sells (sale ∷ []) } ∷ []) (sent (codes "s2") Sales sale_bytes) ≡ Err (LineThere 1)
 unfolding batch_on_literals
 line_there = refl
+
+-- ---- a delivery: p0, a command without an id, and p0 again
+
+abbrev three : List Command
+three = p0 ∷ sent [] (Dimension Product) header ∷ p0 ∷ []
+
+each_answered : answers_to (limits 9 9 9) making three ≡ Ok (Accepts (receipt 2 0 0)) ∷ Err BadId ∷ Ok (Already (receipt 2 0 0)) ∷ []
+unfolding batch_on_literals
+each_answered = refl
+
+-- a night that acknowledges nothing and leaves p0; then two commands are acknowledged; then one from the list's start
+first_night : after_night (limits 9 9 9) three (before_any making) (record { from_start = false; acknowledged = 0; left_next = true }) ≡ record { acknowledged = 0; found = with_p0 }
+unfolding batch_on_literals
+first_night = refl
+
+second_night : after_night (limits 9 9 9) three (record { acknowledged = 0; found = with_p0 }) (record { from_start = false; acknowledged = 2; left_next = false }) ≡ record { acknowledged = 2; found = with_p0 }
+second_night = refl
+
+third_night : after_night (limits 9 9 9) three (record { acknowledged = 2; found = with_p0 }) (record { from_start = true; acknowledged = 1; left_next = false }) ≡ record { acknowledged = 2; found = with_p0 }
+third_night = refl

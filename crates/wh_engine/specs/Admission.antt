@@ -1,5 +1,5 @@
 -- The answer to a command, and the list of those that are accepted.
-use Rattle.std.specs.Prelude.{◌≡◌, ⊤, true, ℕ, suc, ◌+◌, ◌&&◌, nat_le, nat_lt, cond, codes, List, [], ◌∷◌, ◌++◌, length, map, find, Option, Some, None, unwrap_or, bytes_eq, Result, Ok, Err}
+use Rattle.std.specs.Prelude.{◌≡◌, ⊤, true, ℕ, suc, ◌+◌, ◌&&◌, nat_le, nat_lt, cond, List, [], ◌∷◌, ◌++◌, length, map, find, Option, Some, None, unwrap_or, bytes_eq, Result, Ok, Err}
 use Rattle.std.specs.List.{list_any}
 use Rattle.wh_day.specs.Reading.{◌>>=◌}
 use Rattle.wh_policy.specs.Names.{fits}
@@ -9,7 +9,7 @@ use Rattle.wh_policy.specs.declared.fault.PolicyFault.{PolicyFault}
 use Rattle.wh_policy.specs.declared.policy.Policy.{Policy}
 use Rattle.wh_policy.specs.declared.record.DimensionRecord.{DimensionRecord}
 use Rattle.wh_policy.specs.declared.record.SaleRecord.{SaleRecord}
-use Rattle.wh_batch.specs.Kind.{kind_word}
+use Rattle.wh_batch.specs.Kind.{command_word}
 use Rattle.wh_batch.specs.Layouts.{dimension_records, sale_records}
 use Rattle.wh_batch.specs.declared.kind.Kind.TheVariants.{Dimension, Sales}
 use Rattle.wh_batch.specs.declared.kind.Format.TheVariants.{One}
@@ -22,8 +22,8 @@ use Rattle.wh_rows.specs.Limits.{are_limits}
 use Rattle.wh_plan.specs.FirstRows.{making_of}
 use Rattle.wh_plan.specs.Sound.{IsAccepted, changes_kept, same_line}
 use Rattle.wh_engine.specs.declared.command.Command.{Command}
-use Rattle.wh_engine.specs.declared.command.CommandKind.{CommandKind}
-use Rattle.wh_engine.specs.declared.command.CommandKind.TheVariants.{Batch, Migration}
+use Rattle.wh_batch.specs.declared.kind.CommandKind.{CommandKind}
+use Rattle.wh_batch.specs.declared.kind.CommandKind.TheVariants.{Batch, Migration}
 use Rattle.wh_engine.specs.declared.command.Receipt.{Receipt}
 use Rattle.wh_engine.specs.declared.command.Reply.{Reply}
 use Rattle.wh_engine.specs.declared.command.Reply.TheVariants.{Accepted as Accepts, Already}
@@ -34,11 +34,6 @@ use Rattle.wh_engine.specs.declared.command.Limit.TheVariants.{Commands, Changes
 -- the policy in force; a list of accepted commands begins with a making, so it has one
 abbrev pub in_force : List Accepted → Policy
 in_force commands = unwrap_or (policy_after None commands) trial_policy
-
--- the word for what a command is
-abbrev pub command_word : CommandKind → List ℕ
-command_word (Batch kind) = kind_word kind
-command_word Migration = codes "migrate"
 
 -- what was read of a batch, or its first fault
 abbrev pub of_batch : {A : Type 0} → Result A BatchFault → Result A Refused
@@ -65,6 +60,11 @@ abbrev pub content_of : CommandKind → Policy → List ℕ → Result Content R
 content_of (Batch (Dimension dim)) policy bytes = records_told dim policy bytes >>= λ records. Ok (Describes dim records)
 content_of (Batch Sales) policy bytes = sales_told policy bytes >>= λ sales. Ok (Sells sales)
 content_of Migration policy bytes = policy_told policy bytes >>= λ newer. Ok (Governs newer)
+
+-- the policy that is in force once such a command is accepted: a batch leaves the one that is, a migration brings its own
+abbrev pub policy_brought : CommandKind → Policy → List ℕ → Result Policy Refused
+policy_brought (Batch kind) policy bytes = Ok policy
+policy_brought Migration policy bytes = policy_told policy bytes
 
 -- a command with what it says
 abbrev pub accepted_as : Command → Content → Accepted

@@ -3,11 +3,12 @@ use Rattle.std.specs.Prelude.{◌≡◌, ◌⊎◌, ℕ, false, List, length, So
 use Rattle.sqlite.specs.Tree.{Trees}
 use Rattle.sqlite.specs.State.{State}
 use Rattle.wh_policy.specs.declared.attribute.Dim.TheVariants.{Product, Store as Stores, Customer}
+use Rattle.wh_policy.specs.declared.policy.Policy.{Policy}
 use Rattle.wh_history.specs.Accepted.{Accepted, sold, members}
 use Rattle.wh_history.specs.Tables.{Limits}
 use Rattle.wh_rows.specs.AtRest.{AreTrees, IsAtRest}
 use Rattle.wh_rows.specs.Tables.{Tables}
-use Rattle.wh_engine.specs.Admission.{in_force, answer, accepted_after, AreAdmitted}
+use Rattle.wh_engine.specs.Admission.{in_force, policy_brought, answer, accepted_after, AreAdmitted}
 use Rattle.wh_plan.specs.Defined.{AreOf}
 use Rattle.wh_plan.specs.Edits.{Edits, AreEdits, edit_count}
 use Rattle.wh_plan.specs.Sound.{changes_kept}
@@ -88,11 +89,17 @@ IsNotAccepted (Ok (replies.Accepted receipt)) = ⊥
 IsNotAccepted (Ok (replies.Already receipt)) = ⊤
 IsNotAccepted (Err fault) = ⊤
 
--- A call that was worked on notes whether the store refused it. The limits stay, and so does the policy where nothing was accepted.
-pub record IsNoted (old new : Session) (result : Result Reply Fault) : Type 0 where
+-- the policy after an accepted command is the one that it brings
+abbrev pub IsGoverned : Policy → Policy → Command → Result Reply Fault → Type 0
+IsGoverned old new c (Ok (replies.Accepted receipt)) = policy_brought c.kind old c.bytes ≡ Ok new
+IsGoverned old new c (Ok (replies.Already receipt)) = new ≡ old
+IsGoverned old new c (Err fault) = new ≡ old
+
+-- A call that was worked on notes whether the store refused it. The limits stay, and the policy is what the command makes of it.
+pub record IsNoted (old new : Session) (c : Command) (result : Result Reply Fault) : Type 0 where
   pub flag : new.must_reopen ≡ stops result
   pub limits : new.limits ≡ old.limits
-  pub policy : IsNotAccepted result → new.policy ≡ old.policy
+  pub policy : IsGoverned old.policy new.policy c result
 
 -- as many keys are written as there are edits that lead from the tables of the commands to those of the list after the command; none where it isn't accepted
 abbrev pub IsWritten : Limits → List Accepted → Command → Result Reply Fault → ℕ → Type 0

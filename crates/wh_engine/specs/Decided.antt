@@ -1,9 +1,10 @@
 -- What is decided about a command, by what is read of the tables.
-use Rattle.std.specs.Prelude.{◌≡◌, ℕ, List, [], ◌∷◌, ◌++◌, find, Option, None, bytes_eq, Result, Ok}
+use Rattle.std.specs.Prelude.{◌≡◌, ℕ, List, [], ◌∷◌, ◌++◌, find, Option, None, unwrap_or, bytes_eq, Result, Ok, ⊤}
 use Rattle.wh_policy.specs.declared.policy.Policy.{Policy}
 use Rattle.wh_history.specs.Accepted.{Accepted, Content, governed}
 use Rattle.wh_rows.specs.declared.rows.CommandRow.{CommandRow}
-use Rattle.wh_engine.specs.Admission.{command_word, content_of, accepted_as, in_force, receipt_again, already}
+use Rattle.wh_batch.specs.Kind.{command_word}
+use Rattle.wh_engine.specs.Admission.{content_of, accepted_as, in_force, policy_brought, receipt_again, already}
 use Rattle.wh_rows.specs.Tables.{Tables}
 use Rattle.wh_plan.specs.Defined.{AreOf}
 use Rattle.wh_plan.specs.Edits.{Edits, AreEdits}
@@ -39,13 +40,18 @@ pub record IsHeld (session : Session) (commands : List Accepted) (tables : Table
   pub policy : session.policy ≡ in_force commands
 
 -- the edits are those of the command, which says this, and the newer policy is the one that it gives, if it gives one
-pub record IsWorkOf (commands : List Accepted) (c : Command) (edits : Edits) (newer : Option Policy) : Type 0 where
+pub record IsEffectOf (commands : List Accepted) (c : Command) (edits : Edits) (newer : Option Policy) : Type 0 where
   pub content : Content
   pub read : content_of c.kind (in_force commands) c.bytes ≡ Ok content
   pub edits_are : AreEdits commands (commands ++ accepted_as c content ∷ []) edits
   pub newer_is : newer ≡ governed None content
 
--- the decision is this reply, with the work of an accepted command
+-- the decision is this reply, with the effect of an accepted command
 abbrev pub Decides : List Accepted → Command → Decision → Reply → Type 0
 Decides commands c (Repeat receipt) reply = reply ≡ Already receipt
-Decides commands c (Accept receipt edits newer) reply = (reply ≡ Accepts receipt) × IsWorkOf commands c edits newer
+Decides commands c (Accept receipt edits newer) reply = (reply ≡ Accepts receipt) × IsEffectOf commands c edits newer
+
+-- the policy of the decision, if it has one, takes the place of the one in force, as the command says
+abbrev pub Brings : Policy → Command → Decision → Type 0
+Brings policy c (Repeat receipt) = ⊤
+Brings policy c (Accept receipt edits newer) = policy_brought c.kind policy c.bytes ≡ Ok (unwrap_or newer policy)

@@ -5,3 +5,6 @@ pub mod Answered
 pub mod Opened
 pub mod Redelivered
 pub mod Serving
+pub mod Delivered
+pub mod Nights
+pub mod Scanned

@@ -1,33 +1,9 @@
 //! Commands, and what is answered to them.
 
-ghost use Rattle.std.specs.Prelude.{◌≡◌};
-ghost use Rattle.wh_engine.specs.Admission.{command_word};
-
 use sqlite_value::value::Bytes;
-use wh_batch::{BatchFault, Kind};
+use wh_batch::{BatchFault, CommandKind};
 use wh_day::Value;
 use wh_policy::PolicyFault;
-
-/// What a command is.
-#[derive(Clone, Copy, Debug, PartialEq, Eq)]
-pub enum CommandKind {
-    /// A batch of records.
-    Batch(Kind),
-    /// A new policy, which is in force from then on.
-    Migration,
-}
-
-impl CommandKind {
-    /// The word for it, among the commands that are kept: that of the batch, or `migrate`.
-    pub fn word(self) -> &'static str
-        ensures { result.now ≡ command_word self }
-    {
-        match self {
-            CommandKind::Batch(kind) => kind.word(),
-            CommandKind::Migration => "migrate",
-        }
-    }
-}
 
 /// A batch or a policy as it is sent, under a name that its sender gives it.
 #[derive(Debug, Drop)]

@@ -3,12 +3,13 @@
 ghost use Rattle.std.specs.Prelude.{◌≡◌, ◌++◌, ◌∷◌, [], suc, true, List, length, None, Some, Ok, IfOk};
 ghost use Rattle.wh_batch.specs.declared.kind.Kind.TheVariants.{Dimension, Sales};
 ghost use Rattle.wh_policy.specs.Written.{IsSound};
+ghost use Rattle.wh_policy.specs.declared.policy.Policy.{Policy};
 ghost use Rattle.wh_history.specs.Accepted.{Accepted, Sells, placeholders_by, policy_after, sold};
 ghost use Rattle.wh_rows.specs.Raw.{Stored};
 ghost use Rattle.wh_rows.specs.Types.{is_key};
 ghost use Rattle.wh_engine.specs.Admission.{answer, content_of, first_line_there, in_force, policy_told, records_told, sales_told};
-ghost use Rattle.wh_engine.specs.Decided.{row_of_command, IsNew, reply_to_known, Decides};
-ghost use Rattle.wh_engine.specs.declared.command.CommandKind.TheVariants.{Batch, Migration};
+ghost use Rattle.wh_engine.specs.Decided.{row_of_command, IsNew, reply_to_known, Brings, Decides};
+ghost use Rattle.wh_batch.specs.declared.kind.CommandKind.TheVariants.{Batch, Migration};
 ghost use Rattle.wh_plan.specs.Defined.{command_at};
 ghost use Rattle.wh_engine.specs.Faults.{IsServed, BlamesDamage, IsWorkedOut, Judges};
 ghost use Rattle.wh_store.specs.Reads.{ReadsOnly, Spares, SaysAsStored, state_of};
@@ -18,13 +19,15 @@ ghost use Rattle.wh_plan.specs.Reads.{Finds};
 ghost use Rattle.wh_plan.specs.Sound.{IsAccepted};
 
 use crate::admission::{number_for_records, number_for_sales, receipt_of_known};
-use crate::command::{Command, CommandKind, Receipt, Refused};
+use crate::command::{Command, Receipt, Refused};
 use crate::fault::Fault;
 use crate::session::Session;
 use sqlite::Alter;
 use sqlite_value::value::Bytes;
 use std::alloc::{AllocError, Global};
-use wh_batch::{DimensionRecords, Format, Kind, SaleRecords, dimension_records, sale_records};
+use wh_batch::{
+    CommandKind, DimensionRecords, Format, Kind, SaleRecords, dimension_records, sale_records,
+};
 use wh_day::{ReadError, Value, is_key};
 use wh_plan::reading::command_of;
 use wh_plan::{Edits, plan_batch, plan_migration, plan_sales};
@@ -120,6 +123,7 @@ fn decide_records<S: Alter>(
     ensures blames { SaysAsStored (state_of S.Store tables.old) (state_of S.Store tables.new) (λ stored. BlamesDamage stored result) }
     ensures decided { Works (state_of S.Store tables.old) (state_of S.Store tables.new) session.now (λ commands. command.now.kind ≡ Batch (Dimension dim) → is_key 40 command.now.id ≡ true
         → IsNew commands command.now → Judges (Decides commands command.now) result (answer session.now.limits commands command.now)) }
+    ensures brings { command.now.kind ≡ Batch (Dimension dim) → IfOk result (Brings session.now.policy command.now) }
     ensures work { IsWorkedOut result }
 {
     let records = records_of(alloc, &session.policy, dim, command.bytes.as_slice())?;
@@ -169,6 +173,7 @@ fn decide_sold<S: Alter>(
     ensures decided { Works (state_of S.Store tables.old) (state_of S.Store tables.new) session.now (λ commands. is_key 40 command.now.id ≡ true → IsNew commands command.now
         → content_of command.now.kind (in_force commands) command.now.bytes ≡ Ok (Sells sales.now)
         → Judges (Decides commands command.now) result (answer session.now.limits commands command.now)) }
+    ensures brings { command.now.kind ≡ Batch Sales → IfOk result (Brings session.now.policy command.now) }
     ensures work { IsWorkedOut result }
 {
     let number = match number_for_sales(tables, alloc, session.limits, sales) {
@@ -196,6 +201,7 @@ fn decide_sales<S: Alter>(
     ensures blames { SaysAsStored (state_of S.Store tables.old) (state_of S.Store tables.new) (λ stored. BlamesDamage stored result) }
     ensures decided { Works (state_of S.Store tables.old) (state_of S.Store tables.new) session.now (λ commands. command.now.kind ≡ Batch Sales → is_key 40 command.now.id ≡ true → IsNew commands command.now
         → Judges (Decides commands command.now) result (answer session.now.limits commands command.now)) }
+    ensures brings { command.now.kind ≡ Batch Sales → IfOk result (Brings session.now.policy command.now) }
     ensures work { IsWorkedOut result }
 {
     let sales = sales_of(alloc, &session.policy, command.bytes.as_slice())?;
@@ -213,6 +219,7 @@ fn decide_migration<S: Alter>(
     ensures blames { SaysAsStored (state_of S.Store tables.old) (state_of S.Store tables.new) (λ stored. BlamesDamage stored result) }
     ensures decided { Works (state_of S.Store tables.old) (state_of S.Store tables.new) session.now (λ commands. command.now.kind ≡ Migration → is_key 40 command.now.id ≡ true → IsNew commands command.now
         → Judges (Decides commands command.now) result (answer session.now.limits commands command.now)) }
+    ensures brings { command.now.kind ≡ Migration → IfOk result (Brings session.now.policy command.now) }
     ensures work { IsWorkedOut result }
 {
     let newer = policy_of(alloc, &session.policy, command.bytes.as_slice())?;
@@ -241,6 +248,7 @@ fn decide_new<S: Alter>(
     ensures blames { SaysAsStored (state_of S.Store tables.old) (state_of S.Store tables.new) (λ stored. BlamesDamage stored result) }
     ensures decided { Works (state_of S.Store tables.old) (state_of S.Store tables.new) session.now (λ commands. is_key 40 command.now.id ≡ true → IsNew commands command.now
         → Judges (Decides commands command.now) result (answer session.now.limits commands command.now)) }
+    ensures brings { IfOk result (Brings session.now.policy command.now) }
     ensures work { IsWorkedOut result }
 {
     match command.kind {
@@ -255,6 +263,7 @@ fn decide_new<S: Alter>(
 /// What is to be done about a command whose id is that of an accepted one.
 fn decide_known(row: &CommandRow, command: &Command) -> Result<Decision, Fault>
     ensures work { IsWorkedOut result }
+    ensures brings { (policy : Policy) → IfOk result (Brings policy command.now) }
     ensures known { (commands : List Accepted) → Judges (Decides commands command.now) result (reply_to_known row.now command.now) }
     ensures blames { (stored : Stored) → BlamesDamage stored result }
 {
@@ -274,6 +283,7 @@ pub(crate) fn decide<S: Alter>(
     ensures reads { Spares (state_of S.Store tables.old) (state_of S.Store tables.new) (IsServed result) }
     ensures blames { SaysAsStored (state_of S.Store tables.old) (state_of S.Store tables.new) (λ stored. BlamesDamage stored result) }
     ensures decided { Works (state_of S.Store tables.old) (state_of S.Store tables.new) session.now (λ commands. Judges (Decides commands command.now) result (answer session.now.limits commands command.now)) }
+    ensures brings { IfOk result (Brings session.now.policy command.now) }
     ensures work { IsWorkedOut result }
 {
     if !is_key(40, command.id.as_str().as_bytes()) {

@@ -8,7 +8,7 @@ ghost use Rattle.wh_rows.specs.AtRest.{IsAtRest};
 ghost use Rattle.wh_rows.specs.Tables.{Tables as TenTables};
 ghost use Rattle.wh_rows.specs.Raw.{Stored, RestsOn};
 ghost use Rattle.wh_store.specs.Reads.{SaysAsStored, state_of};
-ghost use Rattle.wh_engine.specs.Answered.{IsReady, IsAnswered, IsPerformed, IsWritten, IsNotAccepted, IsNoted, KeepsNothing};
+ghost use Rattle.wh_engine.specs.Answered.{IsReady, IsAnswered, IsPerformed, IsWritten, IsGoverned, IsNotAccepted, IsNoted, KeepsNothing};
 ghost use Rattle.wh_engine.specs.Faults.{BlamesDamage, IsWorkedOut};
 
 use crate::command::{Command, Reply};
@@ -49,7 +49,7 @@ fn perform<S: Alter>(
         → IsWritten limits commands command.now result writes.new }
     ensures silent { IsNotAccepted result → writes.new ≡ 0 }
     ensures limits { session.new.limits ≡ session.old.limits }
-    ensures policy { IsNotAccepted result → session.new.policy ≡ session.old.policy }
+    ensures policy { IsGoverned session.old.policy session.new.policy command.now result }
 {
     *writes = 0;
     match decide(tables, alloc, session, command) {
@@ -101,8 +101,8 @@ impl<S: Alter> Engine<S> {
         ensures blames { SaysAsStored (state_of S.Store self.old.tables) (state_of S.Store self.new.tables) (λ stored. BlamesDamage stored result) }
         ensures reopen { IsTrue self.old.session.must_reopen → (result ≡ Err Fault.Reopen) × (self.new.tables ≡ self.old.tables) × (self.new.session ≡ self.old.session) }
         ensures only { result ≡ Err Fault.Reopen → IsTrue self.old.session.must_reopen }
-        // The limits stay, and the policy too, unless a command is accepted.
-        ensures noted { self.old.session.must_reopen ≡ false → IsNoted self.old.session self.new.session result }
+        // The limits stay, and so does the policy, but for that of an accepted migration.
+        ensures noted { self.old.session.must_reopen ≡ false → IsNoted self.old.session self.new.session command.now result }
         // As many keys are written as its exact edits are, and none by an answer that accepts nothing.
         ensures written { HasCleanDisk (state_of S.Store self.new.tables) → (limits : LimitCounts) (commands : List Accepted) → IsReady limits commands self.old.session (state_of S.Store self.old.tables)
             → IsWritten limits commands command.now result self.new.writes }

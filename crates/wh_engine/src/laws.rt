@@ -1,9 +1,10 @@
-//! Laws of admission. They speak of the definitions alone and do nothing.
+//! Laws of admission and of deliveries. They speak of the definitions alone and do nothing.
 
 ghost use Rattle.std.specs.Prelude.{◌≡◌, List};
 ghost use Rattle.wh_history.specs.Accepted.{Accepted};
 ghost use Rattle.wh_history.specs.Tables.{Limits};
 ghost use Rattle.wh_engine.specs.Admission.{accepted_after, AcceptedListsStaySound, AdmittedListsAreSound, ContentsAreRead};
+ghost use Rattle.wh_engine.specs.Nights.{DeliveriesJoin, RedeliveryEndsTheSame, ReopeningFindsABeginning};
 ghost use Rattle.wh_engine.specs.declared.command.Command.{Command};
 
 /// A command that is sent twice acts once.
@@ -24,4 +25,20 @@ pub fn admitted_lists_are_sound()
 /// In that list what each command after the making says is what its kind and bytes give.
 pub fn contents_are_read()
     ensures { ContentsAreRead }
+{}
+
+/// Commands that are delivered in two parts lead to what they lead to together.
+pub fn deliveries_join()
+    ensures { DeliveriesJoin }
+{}
+
+/// However many nights a delivery takes, delivering the commands that aren't acknowledged leads to what a delivery without a stop leads to;
+/// and so does delivering all of them again, where none of them is refused without a stop.
+pub fn redelivery()
+    ensures { RedeliveryEndsTheSame }
+{}
+
+/// What is found after each night is the list after the commands that are acknowledged, or after these and the next one.
+pub fn reopening()
+    ensures { ReopeningFindsABeginning }
 {}

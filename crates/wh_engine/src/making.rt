@@ -7,14 +7,15 @@ ghost use Rattle.wh_rows.specs.Tables.{Tables as TenTables};
 ghost use Rattle.wh_store.specs.Reads.{state_of};
 ghost use Rattle.wh_store.specs.Writes.{WritesOnly, Makes};
 ghost use Rattle.wh_plan.specs.Defined.{AreOf};
-ghost use Rattle.wh_plan.specs.FirstRows.{making_of, IsGoodPolicy, PoliciesAreGood, making_row, in_profile, profile_of, first_profiles, calendar_rows, with_first, MayBeFirst};
+ghost use Rattle.wh_plan.specs.FirstRows.{making_of, IsGoodPolicy, PoliciesAreGood, making_row, calendar_rows, with_first, MayBeFirst};
 
 use sqlite::Alter;
 use sqlite::types::Bytes;
 use std::alloc::{AllocError, Global};
-use wh_day::{DateRow, Day, Value, Values, date_row};
-use wh_history::{DimRow, fill_columns, no_card_row};
-use wh_policy::{AttributeType, Dim, Policy};
+use wh_day::{DateRow, Day, Value, date_row};
+use wh_history::{DimRow, no_card_row};
+use wh_plan::first_profiles::first_profiles;
+use wh_policy::{Dim, Policy};
 use wh_rows::{Cause, CommandRow, Limits, ProfileRow, tables};
 use wh_store::Writing;
 
@@ -30,47 +31,6 @@ fn making_row(alloc: Global, bytes: &[u8]) -> Result<CommandRow, AllocError>
         records: 0,
         placeholders: 0,
     })
-}
-
-/// A text in each slot of the profile.
-fn in_profile(alloc: Global, types: &[AttributeType], text: &Value) -> Result<Values, AllocError>
-    ensures { IfOk result (λ texts. texts ≡ in_profile text.now types.now) }
-{
-    let mut texts = Values::new(alloc);
-    for kind in types {
-        if kind.is_profile() {
-            texts.push(text.copy()?)?;
-        } else {
-            texts.push(Value::empty(alloc))?;
-        }
-    }
-    Ok(texts)
-}
-
-/// The profile with this number that shows one text.
-fn profile_of(
-    alloc: Global,
-    types: &[AttributeType],
-    number: u64,
-    text: &Value,
-) -> Result<ProfileRow, AllocError>
-    ensures { IfOk result (λ row. row ≡ profile_of number text.now types.now) }
-{
-    let mut values = in_profile(alloc, types, text)?;
-    fill_columns(alloc, &mut values)?;
-    Ok(ProfileRow { number, values })
-}
-
-/// The profiles that no record says: those of sales without a card, and of customers that no record describes.
-fn first_profiles(alloc: Global, types: &[AttributeType]) -> Result<Vec<ProfileRow>, AllocError>
-    ensures { IfOk result (λ rows. rows.items ≡ first_profiles types.now) }
-{
-    let no_card = Value::no_card(alloc)?;
-    let unknown = Value::unknown(alloc)?;
-    let mut rows = Vec::new(alloc);
-    rows.push(profile_of(alloc, types, 0, &no_card)?)?;
-    rows.push(profile_of(alloc, types, 1, &unknown)?)?;
-    Ok(rows)
 }
 
 /// The calendar's rows: one for each day of the policy's years, in their order.

@@ -1,15 +1,16 @@
 //! From one run to the next.
 
-ghost use Rattle.std.specs.Prelude.{◌≡◌, ◌⊎◌, List, IfOk};
+ghost use Rattle.std.specs.Prelude.{◌≡◌, ◌⊎◌, ◌++◌, List, IfOk};
 ghost use Rattle.sqlite.specs.Files.{file_state};
 ghost use Rattle.sqlite.specs.State.{HasCleanDisk};
 ghost use Rattle.wh_history.specs.Accepted.{Accepted};
 ghost use Rattle.wh_history.specs.Tables.{Limits as LimitCounts};
 ghost use Rattle.wh_engine.specs.Answered.{LeavesOneOf, IsReady};
-ghost use Rattle.wh_engine.specs.Redelivered.{IsRedelivered};
+ghost use Rattle.wh_engine.specs.Redelivered.{IsRedelivered, IsDeliveredAgain};
 ghost use Rattle.wh_engine.specs.Admission.{AreAdmitted};
 
 use crate::command::{Command, Reply};
+use crate::delivery::Replies;
 use crate::engine::Engine;
 use crate::fault::Fault;
 use sqlite::{FileStore, Options};
@@ -56,4 +57,27 @@ pub fn redeliver<D: Crash + Drop>(
     };
     let answer = again.apply(alloc, command);
     Ok((answer, again))
+}
+
+/// Delivers commands, stops the machine whatever was answered, opens the warehouse again and delivers those that weren't acknowledged. It
+/// hands out the answers before the stop, those after it, and the warehouse. Where nothing stops it then, the tables are those of a
+/// delivery without a stop, and each command has the receipt that it has there.
+pub fn deliver_again<D: Crash + Drop>(
+    alloc: Global,
+    mut engine: Engine<FileStore<D>>,
+    commands: &[Command],
+    options: Options,
+) -> Result<(Replies, Replies, Engine<FileStore<D>>), OpenFault>
+    ensures { (limits : LimitCounts) (accepted : List Accepted) → IsReady limits accepted engine.session (file_state engine.tables.conn)
+        → IfOk result (λ it. HasCleanDisk (file_state it.2.tables.conn)
+        → ∥ IsDeliveredAgain limits accepted commands.now (it.0.answers.items ++ it.1.answers.items) it.1.stop it.2.session (file_state it.2.tables.conn) ∥₁) }
+{
+    let first = engine.deliver(alloc, commands);
+    let mut again = match restart(alloc, engine, options) {
+        Ok(again) => again,
+        Err(fault) => return Err(fault),
+    };
+    let rest = &commands[first.answers.len()..];
+    let second = again.deliver(alloc, rest);
+    Ok((first, second, again))
 }

@@ -24,3 +24,6 @@ returns-in-None-clause-decided g c clean commands t held rests =
 
 pub returns-in-Some-clause-blames : goal.returns-in-Some-clause-blames
 returns-in-Some-clause-blames g c clean stored rests = c.decide_known.ensures.blames stored
+
+pub returns-in-Some-clause-brings : goal.returns-in-Some-clause-brings
+returns-in-Some-clause-brings g c = c.decide_known.ensures.brings c.args.session.now.policy

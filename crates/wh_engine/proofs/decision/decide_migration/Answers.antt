@@ -1,13 +1,12 @@
 use Rattle.std.proofs.Common.{◌≡◌, ◌∙◌, ℕ, sym, ap, subst, refl, Result, Ok, Err, Some}
 use Rattle.std.specs.Prelude.{IsErr, IsErrAnd}
-use Rattle.wh_policy.specs.Written.{IsSound}
 use Rattle.wh_policy.proofs.FileLaws.{policies_are_sound}
 use Rattle.wh_history.specs.Accepted.{Governs}
 use Rattle.wh_sql.specs.declared.fault.ReadFault.{ReadFault}
 use Rattle.wh_sql.specs.declared.fault.ReadFault.TheVariants as reading
 use Rattle.wh_store.specs.Reads.{SparesStore}
 use Rattle.wh_engine.specs.Admission.{in_force, accepted_as, answer, number_for, policy_told}
-use Rattle.wh_engine.specs.Decided.{Decides, row_of_command}
+use Rattle.wh_engine.specs.Decided.{Decides}
 use Rattle.wh_engine.specs.Faults.{of_reading, IsServed}
 use Rattle.wh_engine.specs.declared.decision.Decision.{Decision}
 use Rattle.wh_engine.specs.declared.fault.Fault.{Fault}

@@ -1,0 +1,44 @@
+-- What a scan leaves of a warehouse, and its faults.
+use Rattle.std.proofs.Common.{◌≡◌, Bool, true, false, ◌||◌, List, Result, Ok, Err, Some, IfErr, refl, ap, inl}
+use Rattle.sqlite.specs.State.{State}
+use Rattle.wh_history.specs.Accepted.{Accepted}
+use Rattle.wh_history.specs.Tables.{Limits}
+use Rattle.wh_rows.specs.AtRest.{IsAtRest, Leaves}
+use Rattle.wh_rows.specs.Tables.{Tables}
+use Rattle.wh_store.specs.Reads.{SparesRows}
+use Rattle.wh_sql.specs.declared.fault.ReadFault.{ReadFault}
+use Rattle.wh_sql.specs.declared.fault.ReadFault.TheVariants as reading
+use Rattle.wh_engine.specs.Answered.{IsReady}
+use Rattle.wh_engine.specs.Faults.{of_reading, IsServed}
+use Rattle.wh_engine.specs.Scanned.{IsWanting, IsServing, noting}
+use Rattle.wh_engine.specs.declared.fault.Fault.{Fault}
+use Rattle.wh_engine.specs.declared.fault.Fault.TheVariants as faults
+use Rattle.wh_engine.specs.declared.session.Session.{Session}
+
+-- ---- faults of a reading
+
+pub wanting : (fault : ReadFault) → SparesRows fault → IsWanting (of_reading fault)
+wanting reading.Memory spares = tt
+wanting (reading.Damaged table) spares = absurd spares
+wanting (reading.Store cause) spares = tt
+
+-- ---- a row that was handed out, or refused
+
+or_true : (b : Bool) → (b || true) ≡ true
+or_true true = refl
+or_true false = refl
+
+module _ (limits : Limits) (commands : List Accepted) (session : Session) (old new : State) (ready : IsReady limits commands session old) where
+  abbrev tables : Tables
+  tables = ready.rests.tables
+
+  ready_on : IsAtRest (Some tables) new → IsReady limits commands (record { limits = session.limits; policy = session.policy; must_reopen = session.must_reopen || false }) new
+  ready_on rests = record { admitted = ready.admitted; rests = record { tables = tables; are = ready.rests.are; rests = rests }; session_is = ap (λ (q : Session). record { limits = q.limits; policy = q.policy; must_reopen = q.must_reopen || false }) ready.session_is }
+
+  pub serving : {A : Type 0} (result : Result A Fault) → IfErr result IsWanting → (IsServed result → IsAtRest (Some tables) new) → Leaves (Some tables) new → IsServing limits commands result (noting session result) new
+  serving (Ok found) wants rests left = ready_on (rests tt)
+  serving (Err faults.Memory) wants rests left = ready_on (rests tt)
+  serving (Err (faults.Store cause)) wants rests left = record { flagged = or_true session.must_reopen; left = record { each = λ trees may. inl (record { tables = tables; are = ready.rests.are; trees_are = left.each trees may }) } }
+  serving (Err (faults.Refused why)) wants rests left = absurd wants
+  serving (Err (faults.Damaged table)) wants rests left = absurd wants
+  serving (Err faults.Reopen) wants rests left = absurd wants

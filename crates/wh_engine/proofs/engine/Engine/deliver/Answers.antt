@@ -1,0 +1,106 @@
+use Rattle.std.proofs.Common.{◌≡◌, ◌<◌, ◌++◌, ◌∷◌, [], ◌+◌, suc, take, length, Ok, sym, ap, ap₂, subst, ◌∙◌, arith}
+use Rattle.std.proofs.lemmas.Grind.{common_steps}
+use Rattle.std.proofs.lemmas.List.{take_more}
+use Rattle.sqlite.specs.Held.{state}
+use Rattle.wh_engine.specs.Admission.{accepted_after_all}
+use Rattle.wh_engine.specs.Answered.{IsReady, IsAnswered, KeepsNothing, IsNotAccepted, IsWritten}
+use Rattle.wh_engine.specs.Delivered.{answers_to, answer_or_stop, as_called, AcceptNothing, IsLastWritten}
+use Rattle.wh_engine.proofs.Delivering.{deliveries_join, answers_join, goes_on, not_stopped, keeps, keeps_at_stop, stop_is, stopped_at, nothing_before, called, last_written, policy_stays}
+use Rattle.wh_engine.proofs.engine.Engine.deliver.Goals as goal
+
+pub returns-in-Err-clause-delivered : goal.returns-in-Err-clause-delivered
+returns-in-Err-clause-delivered g c clean limits accepted ready =
+    let sent = c.args.commands.now in
+    let i = c.loop-command.command-index in
+    let answers = c.loop-command.answers.items in
+    let command = c.command-item.result in
+    let session = c.apply-answered.new.self.session in
+    let s = state g.S.Store c.apply-answered.new.self.tables.conn in
+    let was = c.loop-command.invariant.so_far (c.apply-answered.ensures.clean clean) limits accepted ready in
+    let count : length answers ≡ i = sym c.loop-command.answers.ok.0 ∙ c.loop-command.invariant.count in
+    let more : take (suc i) sent ≡ take i sent ++ command ∷ [] =
+    let on : suc i ≡ i + 1 = omega arith in
+    ap (λ n. take n sent) on ∙ take_more sent i command c.loop-command-test.true ∙ ap (λ x. take i sent ++ x ∷ []) (sym c.command-item.is) in
+    let within : length answers < length sent = let less = c.loop-command-test.true in omega (arith, count, less) in
+    let told = c.apply-answered.ensures.answered clean limits (accepted_after_all limits accepted (take i sent)) was.1 in
+    stopped_at limits accepted sent command answers c.apply-answered.result c.in-Err.fault session s
+    (was.0 ∙ ap (λ n. answers_to limits accepted (take n sent)) (sym count)) within (subst (λ n. take (suc n) sent ≡ take n sent ++ command ∷ []) (sym count) more)
+    (subst (λ n. IsAnswered limits (accepted_after_all limits accepted (take n sent)) command c.apply-answered.result session s) (sym count) told) (sym c.in-Err.ensures)
+
+pub returns-in-Err-clause-untouched : goal.returns-in-Err-clause-untouched
+returns-in-Err-clause-untouched g c clean t rests nothing off =
+    c.apply-answered.ensures.untouched clean t (c.loop-command.invariant.untouched (c.apply-answered.ensures.clean clean) t rests nothing)
+    (keeps_at_stop c.apply-answered.result c.in-Err.fault (sym c.in-Err.ensures) off)
+
+pub returns-in-Err-clause-untouched_stored : goal.returns-in-Err-clause-untouched_stored
+returns-in-Err-clause-untouched_stored g c clean stored rests nothing off =
+    c.apply-answered.ensures.untouched_stored clean stored (c.loop-command.invariant.untouched_stored (c.apply-answered.ensures.clean clean) stored rests nothing)
+    (keeps_at_stop c.apply-answered.result c.in-Err.fault (sym c.in-Err.ensures) off)
+
+pub returns-in-Err-clause-written : goal.returns-in-Err-clause-written
+returns-in-Err-clause-written g c clean limits accepted ready =
+    c.apply-answered.ensures.silent (subst IsNotAccepted (sym (stop_is c.apply-answered.result c.in-Err.fault (sym c.in-Err.ensures))) tt)
+
+pub returns-in-Err-clause-silent : goal.returns-in-Err-clause-silent
+returns-in-Err-clause-silent g c nothing =
+    c.apply-answered.ensures.silent (subst IsNotAccepted (sym (stop_is c.apply-answered.result c.in-Err.fault (sym c.in-Err.ensures))) tt)
+
+pub loop-command-preserved : goal.loop-command-preserved
+loop-command-preserved g c =
+    let kept = c.loop-command.invariant in
+    let sent = c.args.commands.now in
+    let i = c.loop-command.command-index in
+    let answers = c.loop-command.answers.items in
+    let command = c.command-item.result in
+    let answered = c.apply-answered.result in
+    let answer = c.in-Ok-answer_or_stop.answer in
+    let session = c.apply-answered.new.self.session in
+    let s = state g.S.Store c.apply-answered.new.self.tables.conn in
+    let e : answer_or_stop answered ≡ Ok answer = sym c.in-Ok-answer_or_stop.ensures in
+    let noted = c.apply-answered.ensures.noted kept.goes_on in
+    let more : take (i + 1) sent ≡ take i sent ++ command ∷ [] = take_more sent i command c.loop-command-test.true ∙ ap (λ x. take i sent ++ x ∷ []) (sym c.command-item.is) in
+    let split : AcceptNothing c.push_reserved.new.self.items → AcceptNothing answers × KeepsNothing answered × IsNotAccepted answered = λ nothing.
+    let both = nothing_before answers answer (subst AcceptNothing c.push_reserved.ensures.items nothing) in
+    let keeps_it = keeps answered answer e both.1 in
+    (both.0, keeps_it.0, keeps_it.1) in
+    record {
+      goes_on = noted.flag ∙ not_stopped answered answer e;
+      count = c.push_reserved.ensures.len ∙ ap (λ n. n + 1) kept.count;
+      room = c.push_reserved.ensures.capacity ∙ kept.room;
+      clean = λ clean. kept.clean (c.apply-answered.ensures.clean clean);
+      limits = noted.limits ∙ kept.limits;
+      policy = λ nothing. let parts = split nothing in policy_stays c.loop-command.self.session.policy session.policy command answered noted.policy parts.2 ∙ kept.policy parts.0;
+      so_far = λ clean limits accepted ready.
+          let was = kept.so_far (c.apply-answered.ensures.clean clean) limits accepted ready in
+          let before = accepted_after_all limits accepted (take i sent) in
+          let on = goes_on limits before command answered answer session s (c.apply-answered.ensures.answered clean limits before was.1) e in (
+            c.push_reserved.ensures.items ∙ ap₂ (λ xs x. xs ++ x ∷ []) was.0 on.0 ∙ sym (answers_join limits accepted (take i sent) (command ∷ [])) ∙ ap (answers_to limits accepted) (sym more),
+            subst (λ list. IsReady limits list session s) (sym (ap (accepted_after_all limits accepted) more ∙ deliveries_join limits accepted (take i sent) (command ∷ []))) on.1,
+          );
+      silent = λ nothing. c.apply-answered.ensures.silent (split nothing).2;
+      written = λ clean limits accepted ready.
+          let was = kept.so_far (c.apply-answered.ensures.clean clean) limits accepted ready in
+          let before = accepted_after_all limits accepted (take i sent) in
+          let on = goes_on limits before command answered answer session s (c.apply-answered.ensures.answered clean limits before was.1) e in
+          let writes = c.apply-answered.new.self.writes in
+          let wrote = subst (λ r. IsWritten limits before command r writes) (called answered answer e ∙ ap as_called on.0) (c.apply-answered.ensures.written clean limits before was.1) in
+          subst (λ list. IsLastWritten limits accepted list writes) (sym more) (last_written limits accepted (take i sent) command writes wrote);
+      untouched = λ clean t rests nothing.
+          let parts = split nothing in
+          c.apply-answered.ensures.untouched clean t (kept.untouched (c.apply-answered.ensures.clean clean) t rests parts.0) parts.1;
+      untouched_stored = λ clean stored rests nothing.
+          let parts = split nothing in
+          c.apply-answered.ensures.untouched_stored clean stored (kept.untouched_stored (c.apply-answered.ensures.clean clean) stored rests parts.0) parts.1;
+    }
+
+pub returns-clause-delivered : goal.returns-clause-delivered
+returns-clause-delivered g c clean limits accepted ready =
+    let was = c.loop-command.invariant.so_far clean limits accepted ready in
+    let whole : take c.loop-command.command-index c.args.commands.now ≡ c.args.commands.now = grind (arith, common_steps, c.loop-command-test.false) in
+    rw whole at was
+
+pub returns-clause-written : goal.returns-clause-written
+returns-clause-written g c clean limits accepted ready =
+    let was = c.loop-command.invariant.written clean limits accepted ready in
+    let whole : take c.loop-command.command-index c.args.commands.now ≡ c.args.commands.now = grind (arith, common_steps, c.loop-command-test.false) in
+    rw whole at was

@@ -1,0 +1,97 @@
+//! Commands that are delivered one after the other.
+
+ghost use Rattle.std.specs.Prelude.{◌≡◌, [], List, false, Some, IsTrue};
+ghost use Rattle.sqlite.specs.State.{HasCleanDisk};
+ghost use Rattle.wh_history.specs.Accepted.{Accepted};
+ghost use Rattle.wh_history.specs.Tables.{Limits as LimitCounts};
+ghost use Rattle.wh_rows.specs.AtRest.{IsAtRest};
+ghost use Rattle.wh_rows.specs.Tables.{Tables as TenTables};
+ghost use Rattle.wh_rows.specs.Raw.{Stored, RestsOn};
+ghost use Rattle.wh_store.specs.Reads.{SaysAsStored, state_of};
+ghost use Rattle.wh_engine.specs.Answered.{IsReady};
+ghost use Rattle.wh_engine.specs.Delivered.{answer_or_stop, is_of_the_store, AcceptNothing, AreAsMany, BlamesStored, IsDelivered, IsDeliveryNoted, IsDeliveryWritten, IsNoRefusal};
+
+use crate::command::{Command, Refused, Reply};
+use crate::engine::Engine;
+use crate::fault::Fault;
+use sqlite::Alter;
+use std::alloc::Global;
+
+/// The answers to commands that are delivered one after the other.
+#[derive(Debug, Drop)]
+pub struct Replies {
+    /// What was answered to each command, in order, up to the one that stopped the delivery.
+    pub answers: Vec<Result<Reply, Refused>>,
+    /// What stopped it: a fault that is no refusal of a command.
+    pub stop: Option<Fault>,
+}
+
+/// A reply and a refusal of the command are its answer; any other fault stops a delivery.
+fn answer_or_stop(answered: Result<Reply, Fault>) -> Result<Result<Reply, Refused>, Fault>
+    ensures { result ≡ answer_or_stop answered }
+{
+    match answered {
+        Ok(reply) => Ok(Ok(reply)),
+        Err(Fault::Refused(why)) => Ok(Err(why)),
+        Err(fault) => Err(fault),
+    }
+}
+
+impl<S: Alter> Engine<S> {
+    /// Answers commands in order. It goes on after a refusal of a command, and stops at any other fault. Room for all answers is taken
+    /// first: where that is refused, no command is begun. After a refusal of the store, in this call or an earlier one, the warehouse has
+    /// to be opened again.
+    pub fn deliver(&mut self, alloc: Global, commands: &[Command]) -> Replies
+        ensures clean { HasCleanDisk (state_of S.Store self.new.tables) → HasCleanDisk (state_of S.Store self.old.tables) }
+        ensures delivered { HasCleanDisk (state_of S.Store self.new.tables) → (limits : LimitCounts) (accepted : List Accepted) → IsReady limits accepted self.old.session (state_of S.Store self.old.tables)
+            → IsDelivered limits accepted commands.now result.answers.items result.stop self.new.session (state_of S.Store self.new.tables) }
+        // On any tables: how many are answered, and that no refusal of a command is a stop.
+        ensures many { AreAsMany commands.now result.answers.items result.stop }
+        ensures faults { IsNoRefusal result.stop }
+        // Any tables stay as they were, where nothing was accepted and the store refused no call, and any rows, whoever wrote them.
+        ensures untouched { HasCleanDisk (state_of S.Store self.new.tables) → (t : TenTables) → IsAtRest (Some t) (state_of S.Store self.old.tables) → AcceptNothing result.answers.items
+            → is_of_the_store result.stop ≡ false → IsAtRest (Some t) (state_of S.Store self.new.tables) }
+        ensures untouched_stored { HasCleanDisk (state_of S.Store self.new.tables) → (stored : Stored) → RestsOn stored (state_of S.Store self.old.tables) → AcceptNothing result.answers.items
+            → is_of_the_store result.stop ≡ false → RestsOn stored (state_of S.Store self.new.tables) }
+        // The table that is named as damaged stores a damaged row, whoever wrote it, where nothing was accepted before.
+        ensures blames { SaysAsStored (state_of S.Store self.old.tables) (state_of S.Store self.new.tables) (λ stored. AcceptNothing result.answers.items → BlamesStored stored result.stop) }
+        ensures reopen { IsTrue self.old.session.must_reopen → (result.answers.items ≡ []) × (result.stop ≡ Some Fault.Reopen) × (self.new.tables ≡ self.old.tables) × (self.new.session ≡ self.old.session) }
+        ensures only { result.stop ≡ Some Fault.Reopen → IsTrue self.old.session.must_reopen }
+        // As many keys are written as the last command writes, and none where the delivery was stopped or nothing was accepted.
+        ensures written { HasCleanDisk (state_of S.Store self.new.tables) → (limits : LimitCounts) (accepted : List Accepted) → IsReady limits accepted self.old.session (state_of S.Store self.old.tables)
+            → IsDeliveryWritten limits accepted commands.now result.stop self.new.writes }
+        ensures silent { AcceptNothing result.answers.items → self.new.writes ≡ 0 }
+        // The limits stay, and the policy too, unless a command is accepted.
+        ensures noted { self.old.session.must_reopen ≡ false → IsDeliveryNoted self.old.session self.new.session result.answers.items result.stop }
+    {
+        self.writes = 0;
+        if self.session.must_reopen {
+            return Replies {
+                answers: Vec::new(alloc),
+                stop: Some(Fault::Reopen),
+            };
+        }
+        let Ok(mut answers) = Vec::with_capacity(alloc, commands.len()) else {
+            return Replies {
+                answers: Vec::new(alloc),
+                stop: Some(Fault::Memory),
+            };
+        };
+        for command in commands {
+            let answered = self.apply(alloc, command);
+            match answer_or_stop(answered) {
+                Ok(answer) => answers.push_reserved(answer),
+                Err(fault) => {
+                    return Replies {
+                        answers,
+                        stop: Some(fault),
+                    };
+                }
+            }
+        }
+        Replies {
+            answers,
+            stop: None,
+        }
+    }
+}

@@ -1,0 +1,109 @@
+//! The rows of a warehouse's table, one at a time.
+
+ghost use Rattle.std.specs.Prelude.{◌≡◌, ◌||◌, List, false, Ok, None, IsTrue, IfOk, IfErr, OnErr, MatchResult};
+ghost use Rattle.std.specs.Borrow.{sem, RestsIfErr};
+ghost use Rattle.std.specs.FinMap.{values};
+ghost use Rattle.sqlite.specs.State.{HasCleanDisk};
+ghost use Rattle.wh_history.specs.Accepted.{Accepted};
+ghost use Rattle.wh_history.specs.Tables.{Limits};
+ghost use Rattle.sqlite.specs.Order.{Row as Columns};
+ghost use Rattle.wh_rows.specs.Parts.{IsArranged};
+ghost use Rattle.wh_rows.specs.Raw.{Stored};
+ghost use Rattle.wh_rows.specs.Tables.{Tables as TenTables};
+ghost use Rattle.wh_store.specs.Reads.{Spares, SaysAtRest, SaysAsStored, state_of};
+ghost use Rattle.wh_store.specs.Scan.{rows_left, HandsOut, IsOver, AreLeft, HandsOutOf};
+ghost use Rattle.wh_engine.specs.Answered.{IsReady};
+ghost use Rattle.wh_engine.specs.Faults.{IsServed, BlamesDamage, IsWorkedOut};
+ghost use Rattle.wh_engine.specs.Scanned.{IsWanting, IsServing, noting};
+
+use crate::engine::Engine;
+use crate::fault::{Fault, stops};
+use crate::session::Session;
+use sqlite::Alter;
+use std::alloc::Global;
+use wh_store::{Cursor, Scanned, Tables, next_row};
+
+/// The next row of a table. After a fault none comes.
+fn row_after<T: Scanned, S: Alter>(
+    tables: &mut Tables<S>,
+    alloc: Global,
+    cursor: &mut Cursor<T::Key, T::Row>,
+) -> Result<Option<T::Row>, Fault>
+    ensures reads { Spares (state_of S.Store tables.old) (state_of S.Store tables.new) (IsServed result) }
+    ensures rows { SaysAtRest (state_of S.Store tables.old) (state_of S.Store tables.new) (λ t. IfOk result (λ found. HandsOut (rows_left T.StoredTable.layout (T.StoredTable.rows t) cursor.old) found (rows_left T.StoredTable.layout (T.StoredTable.rows t) cursor.new))) }
+    // Of any rows, whoever wrote them, none is missed and none comes twice.
+    ensures stored { SaysAsStored (state_of S.Store tables.old) (state_of S.Store tables.new) (λ stored. IfOk result (λ found. HandsOutOf T.StoredTable.layout T.Keeps.bind (stored T.Keeps.name) cursor.old found cursor.new)) }
+    ensures sound { SaysAtRest (state_of S.Store tables.old) (state_of S.Store tables.new) (λ _. IfErr result IsWanting) }
+    ensures blames { SaysAsStored (state_of S.Store tables.old) (state_of S.Store tables.new) (λ stored. BlamesDamage stored result) }
+    ensures ended { OnErr result (IsOver cursor.new) }
+    ensures over { IsOver cursor.old → (result ≡ Ok None) × (tables.new ≡ tables.old) × IsOver cursor.new }
+    ensures work { IsWorkedOut result }
+{
+    let found = next_row::<T, S>(tables, alloc, cursor)?;
+    Ok(found)
+}
+
+/// Notes that the store refused a call, or leaves what was noted before.
+fn note(session: &mut Session, is_stopped: bool)
+    ensures { session.new ≡ record (session.old) { must_reopen = session.old.must_reopen || is_stopped } }
+{
+    if is_stopped {
+        session.must_reopen = true;
+    }
+}
+
+/// The rows of a table in the order of their keys, one at a time. The engine belongs to it until it is dropped, no transaction is
+/// open, and the tables stay as they are.
+#[derive(Drop)]
+pub struct Scan<'e, S: Alter, T: Scanned> {
+    engine: &'e mut Engine<S>,
+    cursor: Cursor<T::Key, T::Row>,
+}
+
+impl<'e, S: Alter, T: Scanned> Scan<'e, S, T> {
+    /// The next row. After a fault none comes; after a refusal of the store the engine has to be opened again.
+    pub fn next_row(&mut self, alloc: Global) -> Result<Option<T::Row>, Fault>
+        ensures same_reference { self.new.engine.ghost_name ≡ self.old.engine.ghost_name }
+        ensures reads { Spares (state_of S.Store self.old.engine.now.tables) (state_of S.Store self.new.engine.now.tables) (IsServed result) }
+        // The rows are those of any tables at rest, so of those of the accepted commands.
+        ensures rows { SaysAtRest (state_of S.Store self.old.engine.now.tables) (state_of S.Store self.new.engine.now.tables) (λ t. IfOk result (λ found. HandsOut (rows_left T.StoredTable.layout (T.StoredTable.rows t) self.old.cursor) found (rows_left T.StoredTable.layout (T.StoredTable.rows t) self.new.cursor))) }
+        // Of any rows, whoever wrote them, none is missed and none comes twice.
+        ensures stored { SaysAsStored (state_of S.Store self.old.engine.now.tables) (state_of S.Store self.new.engine.now.tables) (λ stored. IfOk result (λ found. HandsOutOf T.StoredTable.layout T.Keeps.bind (stored T.Keeps.name) self.old.cursor found self.new.cursor)) }
+        ensures serves { HasCleanDisk (state_of S.Store self.new.engine.now.tables) → (limits : Limits) (commands : List Accepted) → IsReady limits commands self.old.engine.now.session (state_of S.Store self.old.engine.now.tables)
+            → IsServing limits commands result self.new.engine.now.session (state_of S.Store self.new.engine.now.tables) }
+        // The table that is named as damaged stores a damaged row, whoever wrote it.
+        ensures blames { SaysAsStored (state_of S.Store self.old.engine.now.tables) (state_of S.Store self.new.engine.now.tables) (λ stored. BlamesDamage stored result) }
+        ensures ended { OnErr result (IsOver self.new.cursor) }
+        ensures over { IsOver self.old.cursor → (result ≡ Ok None) × (self.new.engine.now.tables ≡ self.old.engine.now.tables) × IsOver self.new.cursor }
+        ensures noted { self.new.engine.now.session ≡ noting self.old.engine.now.session result }
+        ensures writes { self.new.engine.now.writes ≡ self.old.engine.now.writes }
+        ensures work { IsWorkedOut result }
+    {
+        let found = row_after::<T, S>(&mut self.engine.tables, alloc, &mut self.cursor);
+        note(&mut self.engine.session, stops(&found));
+        found
+    }
+}
+
+impl<S: Alter> Engine<S> {
+    ghost use Rattle.wh_engine.specs.contracts.engine.Engine.{the_row};
+
+    /// The rows of a table in the order of their keys, one at a time. After a refusal of the store it answers `Reopen`.
+    pub fn scan<T: Scanned>(&mut self, alloc: Global) -> Result<Scan<'_, S, T>, Fault>
+        ensures* refused { sem 𝓛 (RestsIfErr (the_row S.row S.Store) self.entry (λ scan. scan.engine.ghost_name) result (λ last. (last.tables ≡ self.old.tables) × (last.session ≡ self.old.session) × (last.writes ≡ self.old.writes))) }
+        ensures same_reference { IfOk result (λ scan. scan.engine.ghost_name ≡ self.entry.ghost_name) }
+        ensures same { IfOk result (λ scan. scan.engine.now ≡ self.old) }
+        ensures left { IfOk result (λ scan. (t : TenTables) → rows_left T.StoredTable.layout (T.StoredTable.rows t) scan.cursor ≡ values (T.StoredTable.rows t)) }
+        ensures left_stored { IfOk result (λ scan. (stored : Stored) (left : List Columns) → AreLeft T.StoredTable.layout T.Keeps.bind (stored T.Keeps.name) scan.cursor left → IsArranged T.StoredTable.layout.table (stored T.Keeps.name) left) }
+        // It is refused exactly where the engine has to be opened again.
+        ensures reopen { MatchResult result (λ _. self.old.session.must_reopen ≡ false) (λ fault. (fault ≡ Fault.Reopen) × IsTrue self.old.session.must_reopen) }
+    {
+        if self.session.must_reopen {
+            return Err(Fault::Reopen);
+        }
+        Ok(Scan {
+            engine: self,
+            cursor: Cursor::new(alloc),
+        })
+    }
+}
