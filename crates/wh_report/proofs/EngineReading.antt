@@ -1,0 +1,92 @@
+-- Calls that read through an engine, one after another.
+use Rattle.std.proofs.Common.{◌≡◌, Bool, true, false, ◌||◌, Result, Ok, Err, IfErr, refl, sym, ap, ◌∙◌}
+use Rattle.sqlite.specs.State.{State}
+use Rattle.wh_engine.specs.Faults.{stops}
+use Rattle.wh_engine.specs.Scanned.{noting}
+use Rattle.wh_engine.specs.declared.fault.Fault.{Fault}
+use Rattle.wh_engine.specs.declared.fault.Fault.TheVariants as faults
+use Rattle.wh_engine.specs.declared.session.Session.{Session}
+use Rattle.wh_report.specs.EngineRead.{ReadsThrough}
+use Rattle.wh_report.specs.Output.{IsOfNoTable, of_warehouse}
+use Rattle.wh_report.specs.declared.output.ReportFault.{ReportFault}
+use Rattle.wh_report.specs.declared.output.ReportFault.TheVariants as report
+
+or_false : (b : Bool) → (b || false) ≡ b
+or_false true = refl
+or_false false = refl
+
+noted_twice : {A B : Type 0} (s : Session) (x : A) (result : Result B Fault) → noting (noting s (Ok x)) result ≡ noting s result
+noted_twice s x result = ap (λ (m : Bool). record { limits = s.limits; policy = s.policy; must_reopen = m || stops result }) (or_false s.must_reopen)
+
+-- nothing was read yet
+pub unread : {A : Type 0} (s : Session) (st : State) (x : A) → ReadsThrough s s st st (Ok x)
+unread s st x = record {
+  spares = record {
+    clean = λ clean. clean;
+    same = λ clean t at calm. at;
+    left = λ clean t at. at.left;
+    rests = λ clean stored on calm. on;
+    leaves = λ clean stored on. on.left;
+  };
+  serves = λ clean limits commands ready. ready;
+  blames = λ clean stored on. tt;
+  noted = sym (ap (λ (m : Bool). record { limits = s.limits; policy = s.policy; must_reopen = m }) (or_false s.must_reopen));
+}
+
+-- one call after another
+pub and_then : {A B : Type 0} (r s t : Session) (old mid new : State) (x : A) (result : Result B Fault) → ReadsThrough r s old mid (Ok x) → ReadsThrough s t mid new result → ReadsThrough r t old new result
+and_then r s t old mid new x result first second = record {
+  spares = record {
+    clean = λ clean. first.spares.clean (second.spares.clean clean);
+    same = λ clean tables at calm. second.spares.same clean tables (first.spares.same (second.spares.clean clean) tables at tt) calm;
+    left = λ clean tables at. second.spares.left clean tables (first.spares.same (second.spares.clean clean) tables at tt);
+    rests = λ clean stored on calm. second.spares.rests clean stored (first.spares.rests (second.spares.clean clean) stored on tt) calm;
+    leaves = λ clean stored on. second.spares.leaves clean stored (first.spares.rests (second.spares.clean clean) stored on tt);
+  };
+  serves = λ clean limits commands ready. second.serves clean limits commands (first.serves (second.spares.clean clean) limits commands ready);
+  blames = λ clean stored on. second.blames clean stored (first.spares.rests (second.spares.clean clean) stored on tt);
+  noted = second.noted ∙ ap (λ (q : Session). noting q result) first.noted ∙ noted_twice r x result;
+}
+
+-- what a call answered doesn't matter
+pub answered : {A B : Type 0} (r s : Session) (old new : State) (x : A) (y : B) → ReadsThrough r s old new (Ok x) → ReadsThrough r s old new (Ok y)
+answered r s old new x y reads = record { spares = reads.spares; serves = reads.serves; blames = reads.blames; noted = reads.noted }
+
+-- nor of which type
+pub faulted : {A B : Type 0} (r s : Session) (old new : State) (fault : Fault) → ReadsThrough {A = A} r s old new (Err fault) → ReadsThrough {A = B} r s old new (Err fault)
+faulted r s old new (faults.Refused why) reads = record { spares = reads.spares; serves = reads.serves; blames = reads.blames; noted = reads.noted }
+faulted r s old new (faults.Damaged table) reads = record { spares = reads.spares; serves = reads.serves; blames = reads.blames; noted = reads.noted }
+faulted r s old new faults.Memory reads = record { spares = reads.spares; serves = reads.serves; blames = reads.blames; noted = reads.noted }
+faulted r s old new (faults.Store cause) reads = record { spares = reads.spares; serves = reads.serves; blames = reads.blames; noted = reads.noted }
+faulted r s old new faults.Reopen reads = record { spares = reads.spares; serves = reads.serves; blames = reads.blames; noted = reads.noted }
+
+-- memory ran out then
+pub out_of_memory : {A B : Type 0} (r s : Session) (old new : State) (x : A) → ReadsThrough r s old new (Ok x) → ReadsThrough {A = B} r s old new (Err faults.Memory)
+out_of_memory r s old new x reads = record { spares = reads.spares; serves = reads.serves; blames = reads.blames; noted = reads.noted }
+
+-- or it was all, or the writer failed
+pub ended : {A : Type 0} (r s : Session) (old new : State) (x : A) (result : Result (Unit {0}) ReportFault) → IfErr result IsOfNoTable → ReadsThrough r s old new (Ok x) → ReadsThrough r s old new (of_warehouse result)
+ended r s old new x (Ok done) none reads = answered r s old new x done reads
+ended r s old new x (Err report.Write) none reads = answered r s old new x tt reads
+ended r s old new x (Err (report.Warehouse faults.Memory)) none reads = out_of_memory r s old new x reads
+ended r s old new x (Err (report.Warehouse (faults.Refused why))) none reads = absurd none
+ended r s old new x (Err (report.Warehouse (faults.Damaged table))) none reads = absurd none
+ended r s old new x (Err (report.Warehouse (faults.Store cause))) none reads = absurd none
+ended r s old new x (Err (report.Warehouse faults.Reopen)) none reads = absurd none
+
+-- a row was handed out
+pub handed_out : {A : Type 0} (r s t : Session) (old mid new : State) (x : Unit {0}) (row : A) → ReadsThrough r s old mid (Ok x) → ReadsThrough s t mid new (Ok row) → ReadsThrough {A = Unit {0}} r t old new (Ok tt)
+handed_out r s t old mid new x row first second = answered r t old new row tt (and_then r s t old mid new x (Ok row) first second)
+
+-- or refused
+pub refused : {A : Type 0} (r s t : Session) (old mid new : State) (x : Unit {0}) (fault : Fault) (result : Result (Unit {0}) ReportFault) → result ≡ Err (report.Warehouse fault) → ReadsThrough r s old mid (Ok x) → ReadsThrough {A = A} s t mid new (Err fault) → ReadsThrough r t old new (of_warehouse result)
+refused r s t old mid new x fault result is first second = rw is (faulted r t old new fault (and_then r s t old mid new x (Err fault) first second))
+
+-- nothing was read, since memory ran out or the writer failed
+pub unread_memory : (s : Session) (st : State) (result : Result (Unit {0}) ReportFault) → result ≡ Err (report.Warehouse faults.Memory) → ReadsThrough s s st st (of_warehouse result)
+unread_memory s st result is =
+    let done : Unit {0} = tt in
+    rw is (out_of_memory s s st st done (unread s st done))
+
+pub unread_unwritten : (s : Session) (st : State) (result : Result (Unit {0}) ReportFault) (fault : ReportFault) → result ≡ Err fault → fault ≡ report.Write → ReadsThrough s s st st (of_warehouse result)
+unread_unwritten s st result fault is write = rw (is, write) (unread s st tt)

@@ -1,0 +1,256 @@
+-- The label that a fact's key leads to is that of its sale.
+use Rattle.std.proofs.Common.{◌≡◌, ℕ, true, List, Option, Some, None, refl, sym, ◌∙◌, ap, subst}
+use Rattle.std.specs.Prelude.{slice_get, option_map, unwrap_or, filter_map}
+use Rattle.wh_day.specs.Day.{is_day, last_day}
+use Rattle.wh_day.specs.Value.{no_card_text}
+use Rattle.wh_policy.specs.Types.{is_profile}
+use Rattle.wh_policy.specs.declared.attribute.AttributeType.{AttributeType}
+use Rattle.wh_policy.specs.declared.attribute.AttributeType.TheVariants.{RetainOriginal, Overwrite, NewRow, NewAttribute, MiniDimension, MiniDimensionOutrigger, NewRowAndOverwrite, DualKeys}
+use Rattle.wh_policy.specs.declared.attribute.Dim.{Dim}
+use Rattle.wh_policy.specs.declared.attribute.Dim.TheVariants.{Product, Store, Customer}
+use Rattle.wh_policy.specs.declared.record.SaleRecord.{SaleRecord}
+use Rattle.wh_history.specs.Accepted.{Accepted, types_in, changes_of, durable_key, member_of_sale}
+use Rattle.wh_history.specs.Dated.{value_at, latest}
+use Rattle.wh_history.specs.Laws.{RecordsHaveDays, IsMember}
+use Rattle.wh_history.specs.Tables.{dimension_row, profile_row, key_at, profile_at, fact_of, no_card_row}
+use Rattle.wh_history.specs.declared.rows.DimRow.{DimRow}
+use Rattle.wh_history.proofs.Basics.{some_is}
+use Rattle.wh_history.proofs.Effective.{found_row, in_order}
+use Rattle.wh_plan.specs.Defined as defined
+use Rattle.wh_plan.proofs.FoundRows.{row_key}
+use Rattle.wh_plan.proofs.ValidTables.{then_of}
+use Rattle.wh_rows.specs.declared.rows.ProfileRow.{ProfileRow}
+use Rattle.wh_report.specs.Defined.{AreRowsOf, AreDefined}
+use Rattle.wh_report.specs.Joined.{slot_column, surrogate_in, durable_in, fact_key}
+use Rattle.wh_report.specs.Label.{shown, member_label}
+use Rattle.wh_report.specs.Labels.{LabelRows, labels_in, entry, first_text}
+use Rattle.wh_report.specs.Subject.{type_reading}
+use Rattle.wh_report.specs.declared.column.LabelColumn.{LabelColumn}
+use Rattle.wh_report.specs.declared.column.LabelColumn.TheVariants.{Main, Second, CurrentMain, FactProfile, CurrentProfile, CalendarMonth, CalendarHoliday}
+use Rattle.wh_report.specs.declared.mode.Mode.{Mode}
+use Rattle.wh_report.specs.declared.mode.Mode.TheVariants.{Was, Is, Prior}
+use Rattle.wh_report.specs.declared.subject.Reading.{Reading}
+use Rattle.wh_report.specs.declared.subject.Reading.TheVariants.{AtSaleDay, Latest, Original, PriorValue}
+use Rattle.wh_report.proofs.CurrentRows.{current_row, no_card_current, found_current}
+use Rattle.wh_report.proofs.DefinedTexts.{last_is_day, the_row, main_shows, second_shows, tracked_shows, latest_on_last_day, no_card_a, no_card_b}
+use Rattle.wh_report.proofs.FoundTexts.{found_by_key}
+use Rattle.wh_report.proofs.ProfileTexts.{profile_text, at_sale_day, no_card_profile, newest_profile}
+
+-- the key of a column for a sale of a day, to a member or without a card
+abbrev pub key_of : List Accepted → LabelColumn → ℕ → Option (List ℕ) → ℕ
+key_of commands (Main dim place) day o = unwrap_or (option_map (key_at commands dim day) o) 0
+key_of commands (Second dim place) day o = unwrap_or (option_map (key_at commands dim day) o) 0
+key_of commands (CurrentMain dim place) day o = unwrap_or (option_map (durable_key dim commands) o) 0
+key_of commands (FactProfile place) day o = unwrap_or (option_map (profile_at commands day) o) 0
+key_of commands (CurrentProfile place) day o = unwrap_or (option_map (durable_key Customer commands) o) 0
+key_of commands CalendarMonth day o = day
+key_of commands CalendarHoliday day o = day
+
+-- the text of a profile is found by its number
+profile_found : (commands : List Accepted) (profiles : List ProfileRow) (place number : ℕ) (text : List ℕ) → AreRowsOf (λ p. p.number) (defined.profile_at commands) profiles → profile_text commands place number ≡ Some text
+    → first_text number (filter_map (λ (p : ProfileRow). entry (Some p.number) (slice_get p.values place)) profiles) ≡ Some text
+profile_found commands profiles place number text are shows =
+    let there = then_of (λ (values : List (List ℕ)). slice_get values place) (profile_row commands number) text shows in
+    found_by_key (λ (p : ProfileRow). p.number) (defined.profile_at commands) (λ p. slice_get p.values place) profiles number (record { number = number; values = there.0 }) text are
+    (ap (option_map (λ (values : List (List ℕ)). record { number = number; values = values })) there.1) refl there.2
+
+-- what a mode shows is one reading
+shown_alone : (P : Reading → Type 0) (r which : Reading) → Some r ≡ Some which → P r → P which
+shown_alone P r which is here = subst P (some_is r which is) here
+
+for_customer : (P : Dim → Type 0) → P Customer → (dim : Dim) → dim ≡ Customer → P dim
+for_customer P here dim e = subst P (sym e) here
+
+module _ (commands : List Accepted) (t : LabelRows) (ends : RecordsHaveDays commands) (day place : ℕ) (within : is_day day ≡ true) where
+  -- of a sale to a member
+  abbrev Found : Dim → AttributeType → List ℕ → Reading → Type 0
+  Found dim kind natural which = AreDefined commands (slot_column dim place kind which) t
+      → first_text (key_of commands (slot_column dim place kind which) day (Some natural)) (labels_in (slot_column dim place kind which) t) ≡ Some (shown (changes_of dim commands natural) place day which)
+
+  module _ (dim : Dim) (kind : AttributeType) (natural : List ℕ) (member : IsMember dim commands natural) (is : slice_get (types_in dim commands) place ≡ Some kind) where
+    main_found : (text : List ℕ) → slice_get ((the_row commands dim natural day place kind ends member within is).0).a place ≡ Some text → AreRowsOf (λ r. r.surrogate) (dimension_row commands dim) t.rows
+        → first_text (key_at commands dim day natural) (labels_in (Main dim place) t) ≡ Some text
+    main_found text shows are =
+        let found = the_row commands dim natural day place kind ends member within is in
+        found_by_key (λ (r : DimRow). r.surrogate) (dimension_row commands dim) (λ r. slice_get r.a place) t.rows (key_at commands dim day natural) found.0 text are found.2 (row_key commands dim (key_at commands dim day natural) found.0 found.2) shows
+
+    second_found : (text : List ℕ) → slice_get ((the_row commands dim natural day place kind ends member within is).0).b place ≡ Some text → AreRowsOf (λ r. r.surrogate) (dimension_row commands dim) t.rows
+        → first_text (key_at commands dim day natural) (labels_in (Second dim place) t) ≡ Some text
+    second_found text shows are =
+        let found = the_row commands dim natural day place kind ends member within is in
+        found_by_key (λ (r : DimRow). r.surrogate) (dimension_row commands dim) (λ r. slice_get r.b place) t.rows (key_at commands dim day natural) found.0 text are found.2 (row_key commands dim (key_at commands dim day natural) found.0 found.2) shows
+
+    -- a tracked value that the current row shows is the latest
+    current_found : (slice_get (((the_row commands dim natural last_day place kind ends member last_is_day is).0).a) place ≡ Some (value_at last_day place (changes_of dim commands natural))) → AreRowsOf (λ r. r.surrogate) (dimension_row commands dim) t.rows
+        → first_text (durable_key dim commands natural) (labels_in (CurrentMain dim place) t) ≡ Some (latest place (changes_of dim commands natural))
+    unfolding the_row
+    current_found shows are =
+        found_current commands dim t.rows (λ (r : DimRow). slice_get r.a place) (durable_key dim commands natural) (found_row dim commands natural ends member last_day last_is_day).0 (latest place (changes_of dim commands natural)) are (current_row commands dim natural ends member)
+        (shows ∙ ap Some (latest_on_last_day place (changes_of dim commands natural) (in_order dim commands natural ends member)))
+
+  profile_of_day : (kind : AttributeType) (natural : List ℕ) → slice_get (types_in Customer commands) place ≡ Some kind → is_profile kind ≡ true → AreRowsOf (λ p. p.number) (defined.profile_at commands) t.profiles
+      → first_text (profile_at commands day natural) (labels_in (FactProfile place) t) ≡ Some (value_at day place (changes_of Customer commands natural))
+  profile_of_day kind natural is counts are = profile_found commands t.profiles place (profile_at commands day natural) _ are (at_sale_day commands place kind is counts natural day)
+
+  profile_of_now : (natural : List ℕ) → IsMember Customer commands natural → slice_get (types_in Customer commands) place ≡ Some MiniDimensionOutrigger → AreDefined commands (CurrentProfile place) t
+      → first_text (durable_key Customer commands natural) (labels_in (CurrentProfile place) t) ≡ Some (latest place (changes_of Customer commands natural))
+  profile_of_now natural member is are =
+      found_current commands Customer t.rows _ (durable_key Customer commands natural) (found_row Customer commands natural ends member last_day last_is_day).0 (latest place (changes_of Customer commands natural)) are.0 (current_row commands Customer natural ends member)
+      (profile_found commands t.profiles place _ _ are.1 (newest_profile commands place MiniDimensionOutrigger is refl natural ends member refl))
+
+  member_found : (dim : Dim) (kind : AttributeType) (mode : Mode) (which : Reading) (natural : List ℕ) → IsMember dim commands natural → slice_get (types_in dim commands) place ≡ Some kind → (is_profile kind ≡ true → dim ≡ Customer) → type_reading kind mode ≡ Some which → Found dim kind natural which
+  member_found dim RetainOriginal Was which natural member is customer reads =
+      shown_alone (Found dim RetainOriginal natural) Original which reads (main_found dim RetainOriginal natural member is _ (main_shows commands dim natural day place RetainOriginal ends member within is _ (λ start. refl)))
+  member_found dim RetainOriginal Is which natural member is customer reads =
+      shown_alone (Found dim RetainOriginal natural) Original which reads (main_found dim RetainOriginal natural member is _ (main_shows commands dim natural day place RetainOriginal ends member within is _ (λ start. refl)))
+  member_found dim RetainOriginal Prior which natural member is customer reads = absurd cc
+  member_found dim Overwrite Was which natural member is customer reads =
+      shown_alone (Found dim Overwrite natural) Latest which reads (main_found dim Overwrite natural member is _ (main_shows commands dim natural day place Overwrite ends member within is _ (λ start. refl)))
+  member_found dim Overwrite Is which natural member is customer reads =
+      shown_alone (Found dim Overwrite natural) Latest which reads (main_found dim Overwrite natural member is _ (main_shows commands dim natural day place Overwrite ends member within is _ (λ start. refl)))
+  member_found dim Overwrite Prior which natural member is customer reads = absurd cc
+  member_found dim NewRow Was which natural member is customer reads =
+      shown_alone (Found dim NewRow natural) AtSaleDay which reads (main_found dim NewRow natural member is _ (tracked_shows commands dim natural day place NewRow ends member within is refl))
+  member_found dim NewRow Is which natural member is customer reads = absurd cc
+  member_found dim NewRow Prior which natural member is customer reads = absurd cc
+  member_found dim NewAttribute Was which natural member is customer reads = absurd cc
+  member_found dim NewAttribute Is which natural member is customer reads =
+      shown_alone (Found dim NewAttribute natural) Latest which reads (main_found dim NewAttribute natural member is _ (main_shows commands dim natural day place NewAttribute ends member within is _ (λ start. refl)))
+  member_found dim NewAttribute Prior which natural member is customer reads =
+      shown_alone (Found dim NewAttribute natural) PriorValue which reads (second_found dim NewAttribute natural member is _ (second_shows commands dim natural day place NewAttribute ends member within is))
+  member_found dim MiniDimension Was which natural member is customer reads =
+      shown_alone (Found dim MiniDimension natural) AtSaleDay which reads (for_customer (λ d. slice_get (types_in d commands) place ≡ Some MiniDimension → Found d MiniDimension natural AtSaleDay) (λ here. profile_of_day MiniDimension natural here refl) dim (customer refl) is)
+  member_found dim MiniDimension Is which natural member is customer reads = absurd cc
+  member_found dim MiniDimension Prior which natural member is customer reads = absurd cc
+  member_found dim MiniDimensionOutrigger Was which natural member is customer reads =
+      shown_alone (Found dim MiniDimensionOutrigger natural) AtSaleDay which reads
+      (for_customer (λ d. slice_get (types_in d commands) place ≡ Some MiniDimensionOutrigger → Found d MiniDimensionOutrigger natural AtSaleDay) (λ here. profile_of_day MiniDimensionOutrigger natural here refl) dim (customer refl) is)
+  member_found dim MiniDimensionOutrigger Is which natural member is customer reads =
+      shown_alone (Found dim MiniDimensionOutrigger natural) Latest which reads
+      (for_customer (λ d. IsMember d commands natural → slice_get (types_in d commands) place ≡ Some MiniDimensionOutrigger → Found d MiniDimensionOutrigger natural Latest) (λ own here. profile_of_now natural own here) dim (customer refl) member is)
+  member_found dim MiniDimensionOutrigger Prior which natural member is customer reads = absurd cc
+  member_found dim NewRowAndOverwrite Was which natural member is customer reads =
+      shown_alone (Found dim NewRowAndOverwrite natural) AtSaleDay which reads (main_found dim NewRowAndOverwrite natural member is _ (tracked_shows commands dim natural day place NewRowAndOverwrite ends member within is refl))
+  member_found dim NewRowAndOverwrite Is which natural member is customer reads =
+      shown_alone (Found dim NewRowAndOverwrite natural) Latest which reads (second_found dim NewRowAndOverwrite natural member is _ (second_shows commands dim natural day place NewRowAndOverwrite ends member within is))
+  member_found dim NewRowAndOverwrite Prior which natural member is customer reads = absurd cc
+  member_found dim DualKeys Was which natural member is customer reads =
+      shown_alone (Found dim DualKeys natural) AtSaleDay which reads (main_found dim DualKeys natural member is _ (tracked_shows commands dim natural day place DualKeys ends member within is refl))
+  member_found dim DualKeys Is which natural member is customer reads =
+      shown_alone (Found dim DualKeys natural) Latest which reads (current_found dim DualKeys natural member is (tracked_shows commands dim natural last_day place DualKeys ends member last_is_day is refl))
+  member_found dim DualKeys Prior which natural member is customer reads = absurd cc
+
+  -- of a sale without a card
+  abbrev FoundNone : AttributeType → Reading → Type 0
+  FoundNone kind which = AreDefined commands (slot_column Customer place kind which) t
+      → first_text (key_of commands (slot_column Customer place kind which) day None) (labels_in (slot_column Customer place kind which) t) ≡ Some no_card_text
+
+  abbrev row_zero : DimRow
+  row_zero = no_card_row (types_in Customer commands)
+
+  none_in_main : AreRowsOf (λ r. r.surrogate) (dimension_row commands Customer) t.rows → slice_get row_zero.a place ≡ Some no_card_text → first_text 0 (labels_in (Main Customer place) t) ≡ Some no_card_text
+  none_in_main are shows = found_by_key (λ (r : DimRow). r.surrogate) (dimension_row commands Customer) (λ r. slice_get r.a place) t.rows 0 row_zero no_card_text are refl refl shows
+
+  none_in_second : AreRowsOf (λ r. r.surrogate) (dimension_row commands Customer) t.rows → slice_get row_zero.b place ≡ Some no_card_text → first_text 0 (labels_in (Second Customer place) t) ≡ Some no_card_text
+  none_in_second are shows = found_by_key (λ (r : DimRow). r.surrogate) (dimension_row commands Customer) (λ r. slice_get r.b place) t.rows 0 row_zero no_card_text are refl refl shows
+
+  none_in_profile : (kind : AttributeType) → slice_get (types_in Customer commands) place ≡ Some kind → is_profile kind ≡ true → AreRowsOf (λ p. p.number) (defined.profile_at commands) t.profiles → first_text 0 (labels_in (FactProfile place) t) ≡ Some no_card_text
+  none_in_profile kind is counts are = profile_found commands t.profiles place 0 no_card_text are (no_card_profile commands place kind is counts)
+
+  none_found : (kind : AttributeType) (mode : Mode) (which : Reading) → slice_get (types_in Customer commands) place ≡ Some kind → type_reading kind mode ≡ Some which → FoundNone kind which
+  none_found RetainOriginal Was which is reads = shown_alone (FoundNone RetainOriginal) Original which reads (λ are. none_in_main are (no_card_a (types_in Customer commands) place RetainOriginal is))
+  none_found RetainOriginal Is which is reads = shown_alone (FoundNone RetainOriginal) Original which reads (λ are. none_in_main are (no_card_a (types_in Customer commands) place RetainOriginal is))
+  none_found RetainOriginal Prior which is reads = absurd cc
+  none_found Overwrite Was which is reads = shown_alone (FoundNone Overwrite) Latest which reads (λ are. none_in_main are (no_card_a (types_in Customer commands) place Overwrite is))
+  none_found Overwrite Is which is reads = shown_alone (FoundNone Overwrite) Latest which reads (λ are. none_in_main are (no_card_a (types_in Customer commands) place Overwrite is))
+  none_found Overwrite Prior which is reads = absurd cc
+  none_found NewRow Was which is reads = shown_alone (FoundNone NewRow) AtSaleDay which reads (λ are. none_in_main are (no_card_a (types_in Customer commands) place NewRow is))
+  none_found NewRow Is which is reads = absurd cc
+  none_found NewRow Prior which is reads = absurd cc
+  none_found NewAttribute Was which is reads = absurd cc
+  none_found NewAttribute Is which is reads = shown_alone (FoundNone NewAttribute) Latest which reads (λ are. none_in_main are (no_card_a (types_in Customer commands) place NewAttribute is))
+  none_found NewAttribute Prior which is reads = shown_alone (FoundNone NewAttribute) PriorValue which reads (λ are. none_in_second are (no_card_b (types_in Customer commands) place NewAttribute is))
+  none_found MiniDimension Was which is reads = shown_alone (FoundNone MiniDimension) AtSaleDay which reads (none_in_profile MiniDimension is refl)
+  none_found MiniDimension Is which is reads = absurd cc
+  none_found MiniDimension Prior which is reads = absurd cc
+  none_found MiniDimensionOutrigger Was which is reads = shown_alone (FoundNone MiniDimensionOutrigger) AtSaleDay which reads (none_in_profile MiniDimensionOutrigger is refl)
+  none_found MiniDimensionOutrigger Is which is reads = shown_alone (FoundNone MiniDimensionOutrigger) Latest which reads (λ are. found_current commands Customer t.rows _ 0 row_zero no_card_text are.0 (no_card_current commands ends)
+      (profile_found commands t.profiles place 0 no_card_text are.1 (no_card_profile commands place MiniDimensionOutrigger is refl)))
+  none_found MiniDimensionOutrigger Prior which is reads = absurd cc
+  none_found NewRowAndOverwrite Was which is reads = shown_alone (FoundNone NewRowAndOverwrite) AtSaleDay which reads (λ are. none_in_main are (no_card_a (types_in Customer commands) place NewRowAndOverwrite is))
+  none_found NewRowAndOverwrite Is which is reads = shown_alone (FoundNone NewRowAndOverwrite) Latest which reads (λ are. none_in_second are (no_card_b (types_in Customer commands) place NewRowAndOverwrite is))
+  none_found NewRowAndOverwrite Prior which is reads = absurd cc
+  none_found DualKeys Was which is reads = shown_alone (FoundNone DualKeys) AtSaleDay which reads (λ are. none_in_main are (no_card_a (types_in Customer commands) place DualKeys is))
+  none_found DualKeys Is which is reads = shown_alone (FoundNone DualKeys) Latest which reads (λ are. found_current commands Customer t.rows (λ (r : DimRow). slice_get r.a place) 0 row_zero no_card_text are (no_card_current commands ends) (no_card_a (types_in Customer commands) place DualKeys is))
+  none_found DualKeys Prior which is reads = absurd cc
+
+-- ---- the keys of facts
+
+-- the column is one of the dimension
+abbrev IsOf : Dim → LabelColumn → Type 0
+IsOf dim (Main d place) = d ≡ dim
+IsOf dim (Second d place) = d ≡ dim
+IsOf dim (CurrentMain d place) = d ≡ dim
+IsOf dim (FactProfile place) = dim ≡ Customer
+IsOf dim (CurrentProfile place) = dim ≡ Customer
+IsOf dim CalendarMonth = Unit {0}
+IsOf dim CalendarHoliday = Unit {0}
+
+is_of : (dim : Dim) (place : ℕ) (kind : AttributeType) (which : Reading) → (is_profile kind ≡ true → dim ≡ Customer) → IsOf dim (slot_column dim place kind which)
+is_of dim place RetainOriginal which customer = refl
+is_of dim place Overwrite which customer = refl
+is_of dim place NewRow which customer = refl
+is_of dim place NewAttribute AtSaleDay customer = refl
+is_of dim place NewAttribute Latest customer = refl
+is_of dim place NewAttribute Original customer = refl
+is_of dim place NewAttribute PriorValue customer = refl
+is_of dim place MiniDimension which customer = customer refl
+is_of dim place MiniDimensionOutrigger AtSaleDay customer = customer refl
+is_of dim place MiniDimensionOutrigger Latest customer = customer refl
+is_of dim place MiniDimensionOutrigger Original customer = customer refl
+is_of dim place MiniDimensionOutrigger PriorValue customer = customer refl
+is_of dim place NewRowAndOverwrite AtSaleDay customer = refl
+is_of dim place NewRowAndOverwrite Latest customer = refl
+is_of dim place NewRowAndOverwrite Original customer = refl
+is_of dim place NewRowAndOverwrite PriorValue customer = refl
+is_of dim place DualKeys AtSaleDay customer = refl
+is_of dim place DualKeys Latest customer = refl
+is_of dim place DualKeys Original customer = refl
+is_of dim place DualKeys PriorValue customer = refl
+
+module _ (commands : List Accepted) (s : SaleRecord) where
+  surrogate_is : (dim : Dim) → surrogate_in dim (fact_of commands s) ≡ unwrap_or (option_map (key_at commands dim s.day) (member_of_sale dim s)) 0
+  surrogate_is Product = refl
+  surrogate_is Store = refl
+  surrogate_is Customer = refl
+
+  durable_is : (dim : Dim) → durable_in dim (fact_of commands s) ≡ unwrap_or (option_map (durable_key dim commands) (member_of_sale dim s)) 0
+  durable_is Product = refl
+  durable_is Store = refl
+  durable_is Customer = refl
+
+  key_is : (dim : Dim) (column : LabelColumn) → IsOf dim column → fact_key column (fact_of commands s) ≡ key_of commands column s.day (member_of_sale dim s)
+  key_is dim (Main d place) e = subst (λ x. surrogate_in d (fact_of commands s) ≡ unwrap_or (option_map (key_at commands d s.day) (member_of_sale x s)) 0) e (surrogate_is d)
+  key_is dim (Second d place) e = subst (λ x. surrogate_in d (fact_of commands s) ≡ unwrap_or (option_map (key_at commands d s.day) (member_of_sale x s)) 0) e (surrogate_is d)
+  key_is dim (CurrentMain d place) e = subst (λ x. durable_in d (fact_of commands s) ≡ unwrap_or (option_map (durable_key d commands) (member_of_sale x s)) 0) e (durable_is d)
+  key_is dim (FactProfile place) e = subst (λ x. unwrap_or (option_map (profile_at commands s.day) s.customer) 0 ≡ unwrap_or (option_map (profile_at commands s.day) (member_of_sale x s)) 0) (sym e) refl
+  key_is dim (CurrentProfile place) e = subst (λ x. unwrap_or (option_map (durable_key Customer commands) s.customer) 0 ≡ unwrap_or (option_map (durable_key Customer commands) (member_of_sale x s)) 0) (sym e) refl
+  key_is dim CalendarMonth e = refl
+  key_is dim CalendarHoliday e = refl
+
+  none_to_customer : (dim : Dim) → member_of_sale dim s ≡ None → dim ≡ Customer
+  none_to_customer Product none = absurd cc
+  none_to_customer Store none = absurd cc
+  none_to_customer Customer none = refl
+
+  -- the label of an attribute
+  pub attribute_found : (t : LabelRows) (dim : Dim) (place : ℕ) (kind : AttributeType) (mode : Mode) (which : Reading) → RecordsHaveDays commands → ((natural : List ℕ) → member_of_sale dim s ≡ Some natural → IsMember dim commands natural) → is_day s.day ≡ true
+      → slice_get (types_in dim commands) place ≡ Some kind → (is_profile kind ≡ true → dim ≡ Customer) → type_reading kind mode ≡ Some which → AreDefined commands (slot_column dim place kind which) t
+      → first_text (fact_key (slot_column dim place kind which) (fact_of commands s)) (labels_in (slot_column dim place kind which) t) ≡ Some (member_label commands dim place s.day which (member_of_sale dim s))
+  attribute_found t dim place kind mode which ends named within is customer reads are =
+      ap (λ key. first_text key (labels_in (slot_column dim place kind which) t)) (key_is dim (slot_column dim place kind which) (is_of dim place kind which customer))
+      ∙ elim (member_of_sale dim s) as (λ o. (member_of_sale dim s ≡ o) → first_text (key_of commands (slot_column dim place kind which) s.day o) (labels_in (slot_column dim place kind which) t) ≡ Some (member_label commands dim place s.day which o)) [
+        | None ↦ λ none. for_customer (λ d. slice_get (types_in d commands) place ≡ Some kind → AreDefined commands (slot_column d place kind which) t → first_text (key_of commands (slot_column d place kind which) s.day None) (labels_in (slot_column d place kind which) t) ≡ Some no_card_text)
+            (λ here given. none_found commands t ends s.day place within kind mode which here reads given) dim (none_to_customer dim none) is are
+        | Some natural ↦ λ own. member_found commands t ends s.day place within dim kind mode which natural (named natural own) is customer reads are
+      ] refl

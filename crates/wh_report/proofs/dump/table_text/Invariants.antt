@@ -1,0 +1,7 @@
+use Rattle.std.proofs.Common.{◌≡◌, take}
+use Rattle.wh_report.specs.Dump.{table_text}
+use Rattle.wh_report.proofs.dump.table_text.Given as goal
+
+-- the text of the rows so far
+abbrev pub invariant-loop-row : goal.invariant-loop-row
+invariant-loop-row g l = l.text.items ≡ table_text g.T.StoredTable.layout (take l.row-index l.rows)

@@ -1,0 +1,17 @@
+pub mod Words
+pub mod Sums
+pub mod Summary
+pub mod Maps
+pub mod Text
+pub mod Asked
+pub mod Subject
+pub mod Request
+pub mod Laws
+pub mod Label
+pub mod Joined
+pub mod Labels
+pub mod Counting
+pub mod Defined
+pub mod Dump
+pub mod Output
+pub mod EngineRead

@@ -1,0 +1,47 @@
+-- Which reports can be asked for.
+use Rattle.std.specs.Prelude.{ℕ, Bool, false, ◌&&◌, not, nat_le, nat_lt, is_some, if◌then◌else◌, List, Option, Some, None, Result, Ok, Err}
+use Rattle.wh_day.specs.Reading.{◌>>=◌}
+use Rattle.wh_day.specs.Day.{read_day}
+use Rattle.wh_policy.specs.declared.policy.Policy.{Policy}
+use Rattle.wh_report.specs.Asked.{Asked}
+use Rattle.wh_report.specs.Subject.{subject_in, reading_of}
+use Rattle.wh_report.specs.declared.mode.Mode.{Mode}
+use Rattle.wh_report.specs.declared.subject.Subject.{Subject}
+use Rattle.wh_report.specs.declared.subject.Subject.TheVariants.{Attribute, Month, Holiday}
+use Rattle.wh_report.specs.declared.request.RequestFault.{RequestFault}
+use Rattle.wh_report.specs.declared.request.RequestFault.TheVariants.{NoAttribute, NoReading, NoDateReading, BadRange}
+
+abbrev pub no_reading : Subject → Mode → RequestFault
+no_reading (Attribute a) mode = NoReading a.kind mode
+no_reading Month mode = NoDateReading mode
+no_reading Holiday mode = NoDateReading mode
+
+-- what is there, or else the fault
+abbrev pub or_fault : {A : Type 0} → RequestFault → Option A → Result A RequestFault
+or_fault fault (Some x) = Ok x
+or_fault fault None = Err fault
+
+-- the fault, unless something holds
+abbrev pub unless_fault : {A : Type 0} → Bool → RequestFault → Result A RequestFault → Result A RequestFault
+unless_fault holds fault read = if holds then read else Err fault
+
+-- the request that the words make, or the first fault: no attribute, no reading, no range
+unfoldable pub asked : Policy → List ℕ → Mode → List ℕ → List ℕ → Result Asked RequestFault
+asked policy words mode from to = do
+  subject ← or_fault NoAttribute (subject_in policy words)
+  unless_fault (is_some (reading_of subject mode)) (no_reading subject mode) (do
+    first ← or_fault BadRange (read_day from)
+    last ← or_fault BadRange (read_day to)
+    unless_fault (not (nat_lt last first)) BadRange (Ok (record { words = words; mode = mode; from = first; to = last })))
+
+abbrev pub subject_reads : Mode → Option Subject → Bool
+subject_reads mode None = false
+subject_reads mode (Some subject) = is_some (reading_of subject mode)
+
+-- whether the attribute has a reading in the mode under a policy
+abbrev pub has_reading : Policy → Asked → Bool
+has_reading policy r = subject_reads r.mode (subject_in policy r.words)
+
+-- whether the report counts the sales of a day
+abbrev pub is_asked_of : Asked → ℕ → Bool
+is_asked_of r day = nat_le r.from day && nat_le day r.to

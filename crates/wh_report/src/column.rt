@@ -1,0 +1,120 @@
+//! Where the labels of sales stand in the tables of the warehouse.
+
+ghost use Rattle.std.specs.Prelude.{◌≡◌};
+ghost use Rattle.wh_report.specs.Joined.{attribute_column, column_of, surrogate_in, durable_in, fact_key, table_of, table_of_dim};
+
+use crate::subject::{Reading, SlotAttribute, Subject};
+use wh_history::Fact;
+use wh_policy::{AttributeType, Dim};
+use wh_rows::Table;
+
+/// The column that has the labels, and by it the key of a fact that leads to its row. A slot's place is counted from 0.
+#[derive(Clone, Copy, Debug, PartialEq, Eq)]
+pub enum LabelColumn {
+    /// Column `a` of the row of the fact's surrogate key.
+    Main(Dim, usize),
+    /// Column `b` of that row.
+    Second(Dim, usize),
+    /// Column `a` of the current row of the fact's durable key.
+    CurrentMain(Dim, usize),
+    /// The value in the fact's profile.
+    FactProfile(usize),
+    /// The value in the profile that the current row of the customer's durable key names.
+    CurrentProfile(usize),
+    /// The month of the calendar's row of the day of sale.
+    CalendarMonth,
+    /// The holiday of that row.
+    CalendarHoliday,
+}
+
+/// Where the labels of a reading of a subject stand. A reading that the subject hasn't got stands nowhere, and some column
+/// is answered.
+pub fn column_of(subject: Subject, reading: Reading) -> LabelColumn
+    ensures { result ≡ column_of subject reading }
+{
+    match subject {
+        Subject::Attribute(attribute) => attribute_column(attribute, reading),
+        Subject::Month => LabelColumn::CalendarMonth,
+        Subject::Holiday => LabelColumn::CalendarHoliday,
+    }
+}
+
+fn attribute_column(attribute: SlotAttribute, reading: Reading) -> LabelColumn
+    ensures { result ≡ attribute_column attribute reading }
+{
+    let SlotAttribute { dim, place, kind } = attribute;
+    match (kind, reading) {
+        (AttributeType::NewAttribute, Reading::PriorValue)
+        | (AttributeType::NewRowAndOverwrite, Reading::Latest) => LabelColumn::Second(dim, place),
+        (AttributeType::DualKeys, Reading::Latest) => LabelColumn::CurrentMain(dim, place),
+        (AttributeType::MiniDimensionOutrigger, Reading::Latest) => {
+            LabelColumn::CurrentProfile(place)
+        }
+        (AttributeType::MiniDimension | AttributeType::MiniDimensionOutrigger, _) => {
+            LabelColumn::FactProfile(place)
+        }
+        _ => LabelColumn::Main(dim, place),
+    }
+}
+
+impl LabelColumn {
+    /// The table that has it. Where a fact's key leads to no label, a row of this table is wanting.
+    pub fn table(self) -> Table
+        ensures { result ≡ table_of self }
+    {
+        match self {
+            LabelColumn::Main(dim, _)
+            | LabelColumn::Second(dim, _)
+            | LabelColumn::CurrentMain(dim, _) => dimension_table(dim),
+            LabelColumn::FactProfile(_) => Table::Profile,
+            LabelColumn::CurrentProfile(_) => Table::Customer,
+            LabelColumn::CalendarMonth | LabelColumn::CalendarHoliday => Table::Calendar,
+        }
+    }
+
+    /// The key by which a fact names the row of its label.
+    pub fn key(self, fact: &Fact) -> u64
+        ensures { result ≡ fact_key self fact.now }
+    {
+        match self {
+            LabelColumn::Main(dim, _) | LabelColumn::Second(dim, _) => surrogate_key(dim, fact),
+            LabelColumn::CurrentMain(dim, _) => durable_key(dim, fact),
+            LabelColumn::FactProfile(_) => fact.keys.profile,
+            LabelColumn::CurrentProfile(_) => fact.customer_durable,
+            LabelColumn::CalendarMonth | LabelColumn::CalendarHoliday => u64::from(fact.day.key()),
+        }
+    }
+}
+
+/// The table of a dimension.
+fn dimension_table(dim: Dim) -> Table
+    ensures { result ≡ table_of_dim dim }
+{
+    match dim {
+        Dim::Product => Table::Product,
+        Dim::Store => Table::Store,
+        Dim::Customer => Table::Customer,
+    }
+}
+
+/// A fact's surrogate key in a dimension: that of the row which holds the day of sale.
+fn surrogate_key(dim: Dim, fact: &Fact) -> u64
+    ensures { result ≡ surrogate_in dim fact.now }
+{
+    match dim {
+        Dim::Product => fact.keys.product_key,
+        Dim::Store => fact.keys.store_key,
+        Dim::Customer => fact.keys.customer_key,
+    }
+}
+
+/// A fact's durable key in a dimension.
+fn durable_key(dim: Dim, fact: &Fact) -> u64
+    ensures { result ≡ durable_in dim fact.now }
+{
+    match dim {
+        Dim::Product => fact.product_durable,
+        Dim::Store => fact.store_durable,
+        Dim::Customer => fact.customer_durable,
+    }
+}

@@ -1,0 +1,36 @@
+//! What holds of every report. The laws speak of the definitions alone and do nothing.
+
+ghost use Rattle.std.specs.Prelude.{◌≡◌, ℕ, List, bytes_eq};
+ghost use Rattle.std.specs.List.{list_any};
+ghost use Rattle.std.specs.List.Sorted.{IsPermutation};
+ghost use Rattle.wh_report.specs.Summary.{Sold, labels, summed};
+ghost use Rattle.wh_report.specs.Laws.{Rise, TotalsAgree, LabelsByKeys, FactsAreCounted, AdmittedSalesAreDated};
+
+/// Over one range the line of the total is the same for every attribute and mode: it is made from the measures of the
+/// range's sales alone.
+pub fn total()
+    ensures { TotalsAgree }
+{}
+
+/// The labels of a report are those that a sale has, each once, in order of their bytes.
+pub fn labels_are_a_set()
+    ensures order { (sales : List Sold) → Rise (labels sales) }
+    ensures members { (sales : List Sold) (label : List ℕ) → list_any (bytes_eq label) (labels sales) ≡ list_any (λ s. bytes_eq label s.label) sales }
+{}
+
+/// The order of the sales doesn't matter.
+pub fn any_order()
+    ensures { (sales others : List Sold) → IsPermutation sales others → summed others ≡ summed sales }
+{}
+
+/// The text that a fact's surrogate keys, durable keys, profile number or day lead to is the label that the history gives
+/// its sale, for each attribute and each mode that has a reading. So the facts of a range come to what the report says.
+pub fn labels_by_keys()
+    ensures labels { LabelsByKeys }
+    ensures counted { FactsAreCounted }
+{}
+
+/// The calendar has the day of each sale of a list of commands that came about by admission.
+pub fn sales_are_dated()
+    ensures { AdmittedSalesAreDated }
+{}

@@ -1,0 +1,57 @@
+//! Writing a text out, and why a call that writes one fails.
+
+ghost use Rattle.std.specs.Prelude.{◌≡◌, IfErr};
+ghost use Rattle.wh_engine.specs.declared.fault.Fault.TheVariants as faults;
+ghost use Rattle.wh_report.specs.Output.{IsOutWhole};
+ghost use Rattle.wh_report.specs.declared.output.ReportFault.TheVariants as report;
+
+use std::alloc::AllocError;
+use std::io::Write;
+use thiserror::Error;
+use wh_engine::Fault;
+
+/// Why a text of a warehouse isn't written.
+#[derive(Clone, Copy, Debug, PartialEq, Eq, Error)]
+pub enum ReportFault {
+    /// The writer failed, or took nothing.
+    #[error("the text can't be written")]
+    Write,
+    #[error("the warehouse can't be read")]
+    Warehouse(Fault),
+}
+
+impl From<AllocError> for ReportFault {
+    ghost from_gives = { λ _ fault. fault ≡ report.Warehouse faults.Memory };
+
+    fn from(_error: AllocError) -> ReportFault {
+        ReportFault::Warehouse(Fault::Memory)
+    }
+}
+
+impl From<Fault> for ReportFault {
+    ghost from_gives = { λ cause fault. fault ≡ report.Warehouse cause };
+
+    fn from(cause: Fault) -> ReportFault {
+        ReportFault::Warehouse(cause)
+    }
+}
+
+/// Writes the text. After an `Err` what went out is a beginning of it.
+pub(crate) fn write_whole<W: Write>(out: &mut W, text: &[u8]) -> Result<(), ReportFault>
+    ensures out { IsOutWhole result (W.contents out.old) (W.contents out.new) text.now }
+    ensures only { IfErr result (λ fault. fault ≡ report.Write) }
+{
+    let mut written = 0;
+    'writes: while written < text.len() {
+        match out.write(&text[written..]) {
+            Ok(taken) => {
+                if taken == 0 {
+                    return Err(ReportFault::Write);
+                }
+                written += taken;
+            }
+            Err(_) => return Err(ReportFault::Write),
+        }
+    }
+    Ok(())
+}

@@ -1,0 +1,140 @@
+//! Which reports can be asked for.
+
+ghost use Rattle.std.specs.Prelude.{◌≡◌};
+ghost use Rattle.wh_day.specs.Reading.{Gives};
+ghost use Rattle.wh_report.specs.Request.{asked, is_asked_of, has_reading, no_reading};
+
+use crate::mode::Mode;
+use crate::subject::{Subject, reading_of, subject_in};
+use std::alloc::Global;
+use std::marker::Model;
+use thiserror::Error;
+use wh_day::{Day, ReadError};
+use wh_policy::{AttributeType, Policy};
+
+/// Why a report can't be asked for.
+#[derive(Clone, Copy, Debug, PartialEq, Eq, Error)]
+pub enum RequestFault {
+    /// The policy in force has no such attribute.
+    #[error("the policy in force has no such attribute")]
+    NoAttribute,
+    /// An attribute of this type has no value to show in this mode.
+    #[error("an attribute of this type has no reading in this mode")]
+    NoReading(AttributeType, Mode),
+    /// The day of sale has none.
+    #[error("the day of sale has no reading in this mode")]
+    NoDateReading(Mode),
+    /// One of the two is no day, or the first is after the last.
+    #[error("this is no range of days")]
+    BadRange,
+}
+
+/// A report that can be asked for.
+#[derive(Debug, Drop)]
+pub struct Request {
+    words: String,
+    mode: Mode,
+    from: Day,
+    to: Day,
+}
+
+impl Model for Request {
+    ghost use Rattle.std.specs.Prelude.{string_bytes};
+    ghost use Rattle.wh_report.specs.Asked.{Asked};
+
+    ghost Value = { Asked };
+
+    ghost view = { λ r. record { words = string_bytes r.words; mode = r.mode; from = r.from; to = r.to } };
+}
+
+impl Request {
+    /// The request for a report by the attribute of these words, in this mode, on the sales from one day to another, both
+    /// included; or the first fault.
+    #[tactic(auto, unfolding(crate::specs::Request::asked))]
+    pub fn read(
+        alloc: Global,
+        policy: &Policy,
+        attribute: &str,
+        mode: Mode,
+        from: &[u8],
+        to: &[u8],
+    ) -> Result<Request, ReadError<RequestFault>>
+        ensures { Gives (λ request. request) result (asked policy.now attribute.now mode from.now to.now) }
+    {
+        let Some(subject) = subject_in(policy, attribute) else {
+            return Err(ReadError::Fault(RequestFault::NoAttribute));
+        };
+        if reading_of(subject, mode).is_none() {
+            return Err(ReadError::Fault(no_reading(subject, mode)));
+        }
+        let Some(first) = Day::read(from) else {
+            return Err(ReadError::Fault(RequestFault::BadRange));
+        };
+        let Some(last) = Day::read(to) else {
+            return Err(ReadError::Fault(RequestFault::BadRange));
+        };
+        if last < first {
+            return Err(ReadError::Fault(RequestFault::BadRange));
+        }
+        Ok(Request {
+            words: String::from_str(alloc, attribute)?,
+            mode,
+            from: first,
+            to: last,
+        })
+    }
+
+    /// Whether the attribute has a reading in the mode under a policy, which may be newer than the one it was read under.
+    /// Takes no memory.
+    pub fn reads(&self, policy: &Policy) -> bool
+        ensures { result ≡ has_reading policy.now self.now }
+    {
+        match subject_in(policy, self.words.as_str()) {
+            Some(subject) => reading_of(subject, self.mode).is_some(),
+            None => false,
+        }
+    }
+
+    /// The words for the attribute, as they were given.
+    pub fn attribute(&self) -> &str
+        ensures { result.now ≡ self.now.words }
+    {
+        self.words.as_str()
+    }
+
+    pub fn mode(&self) -> Mode
+        ensures { result ≡ self.now.mode }
+    {
+        self.mode
+    }
+
+    /// The first day of the range.
+    pub fn from(&self) -> Day
+        ensures { result ≡ self.now.from }
+    {
+        self.from
+    }
+
+    /// The last day of the range.
+    pub fn to(&self) -> Day
+        ensures { result ≡ self.now.to }
+    {
+        self.to
+    }
+
+    /// Whether the report counts the sales of a day.
+    pub fn contains(&self, day: Day) -> bool
+        ensures { result ≡ is_asked_of self.now day }
+    {
+        self.from <= day && day <= self.to
+    }
+}
+
+fn no_reading(subject: Subject, mode: Mode) -> RequestFault
+    ensures { result ≡ no_reading subject mode }
+{
+    match subject {
+        Subject::Attribute(attribute) => RequestFault::NoReading(attribute.kind, mode),
+        Subject::Month | Subject::Holiday => RequestFault::NoDateReading(mode),
+    }
+}
