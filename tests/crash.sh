@@ -18,70 +18,11 @@ killed=$work/killed
 seconds=60
 kinds=(sales product store customer)
 
-fail() {
-    echo "$*"
-    exit 1
-}
-
-# a batch of this kind whose records depend on this number: 300 records of 100 members, on days of three years, or 300 sales to them
-batch() {
-    python3 - "$1" "$2" <<'PYTHON'
-import random
-import sys
-
-kind, number = sys.argv[1], int(sys.argv[2])
-chance = random.Random(number)
-
-
-def day():
-    return f"{chance.randrange(2023, 2026)}-{chance.randrange(1, 13):02}-{chance.randrange(1, 29):02}"
-
-
-if kind == "sales":
-    print("ticket,line,day,store,product,customer,quantity,amount,cost")
-    for place in range(300):
-        card = f"M{chance.randrange(100)}" if place % 2 else ""
-        print(f"T{number}-{place // 3},{place % 3 + 1},{day()},M{chance.randrange(100)},M{chance.randrange(100)},{card},{chance.randrange(9)},{chance.randrange(99)}.5,1.25")
-    sys.exit()
-header = {"product": "description,brand,category,department,launched,supplier", "store": "city", "customer": "tier"}[kind]
-print("id,day," + header)
-seen = set()
-while len(seen) < 300:
-    key = (chance.randrange(100), day())
-    if key not in seen:
-        seen.add(key)
-        values = ",".join(f"value {chance.randrange(5)}" for _ in header.split(","))
-        print(f"M{key[0]},{key[1]},{values}")
-PYTHON
-}
+. tests/warehouse.sh
 
 # file, number of the load
 load() {
     "$program" load "$1" "${kinds[$(($2 % 4))]}" "b$2" "$work/$2.csv"
-}
-
-# file, what is asked
-ask() {
-    if command -v sqlite3 > /dev/null; then
-        sqlite3 "$1" "$2"
-    else
-        python3 -c 'import sqlite3, sys
-for row in sqlite3.connect(sys.argv[1]).execute(sys.argv[2]): print(*row, sep="|")' "$1" "$2"
-    fi
-}
-
-# the rows of the ten tables
-rows() {
-    if command -v sqlite3 > /dev/null; then
-        sqlite3 "$1" ".dump meta command member change product store customer profile calendar fact"
-    else
-        python3 -c 'import sqlite3, sys
-for line in sqlite3.connect(sys.argv[1]).iterdump(): print(line)' "$1"
-    fi | LC_ALL=C sort
-}
-
-now() {
-    date +%s%N
 }
 
 for file in "$plain" "$killed"; do
@@ -111,7 +52,7 @@ while [ $number -lt $((loads + 3)) ] && [ $SECONDS -lt $seconds ]; do
 
     "$program" load "$killed" "${kinds[$((number % 4))]}" "b$number" "$work/$number.csv" > "$work/told" &
     process=$!
-    sleep "$(awk "BEGIN { print $took * $((RANDOM % 1000)) / 1000 / 1000000000 }")"
+    sleep "$(moment $took)"
     kill -9 $process 2> /dev/null || true
     wait $process 2> /dev/null || stopped=$((stopped + 1))
 

@@ -129,10 +129,17 @@ def is_of(answer, name):
     return words == name or (without != words and without[: len(name)] == name)
 
 
+def is_of_method(answer, name):
+    """Whether an answer is for the method, which is named behind its type, and the type behind the module that it stands in, not the method's own."""
+    words, name = answer.split("::"), name.split("::")
+    return len(name) > 1 and any(words[at : at + len(name)] == name for at in range(len(words)))
+
+
 def is_refused_among(crate, edit, said):
     module = "::".join([crate.name, *Path(edit.file).with_suffix("").parts[1:]])
+    name = edit.function.name
     answers = ANSWER.findall(said)
-    return any(is_of(name, f"{module}::{edit.function.name}") and is_refusal(it) for name, it in answers)
+    return any((is_of(it, f"{module}::{name}") or is_of_method(it, name)) and is_refusal(reason) for it, reason in answers)
 
 
 def try_together(crate, edits):

@@ -1,7 +1,7 @@
 #!/usr/bin/env bash
 # Refuses each growth of memory of a load in turn, and of one making, in the built program, and looks at what its file then holds.
 # Build the program first (`rt run` in crates/wh). growths.sh [STEP] [PROGRAM] [NAME]: every growth of a load of records, of a load of sales and of
-# a load of a late record that moves a sale, or one in STEP of them, and of the making, which has more, one in ten times as many; with NAME (making, load, sales, late) of that one alone.
+# a load of a late record that moves a sale, of a delivery of these three, or one in STEP of them, and of the making, which has more, one in ten times as many; with NAME (making, load, sales, late, delivery) of that one alone.
 #
 # A run is answered as with ample memory, with `failed: E8 memory`, or with `failed: E9 store, memory`. Behind E8 the file holds what it
 # held; the same words again are answered as accepted. Behind E9 they are answered as accepted or, of a load that was kept, as already
@@ -98,3 +98,40 @@ cp "$work/load.before" "$work/sales.before"
 cp "$work/sales.before" "$work/late.before"
 refuse_all sales 'already 4 s2: 1 records, 2 placeholders' "$step" load "$work/file" sales s2 "$work/unknown.csv"
 refuse_all late 'already 4 p2: 2 records, 0 placeholders' "$step" load "$work/file" product p2 "$work/second.csv"
+
+# The same of a delivery: what it prints is a beginning of what ample memory prints, and where it stopped the fault's line. The same manifest again gives
+# each command its receipt, accepted or already there.
+refuse_delivery() {
+    local step=$1 number=1 refused=0 short=0 stopped=0 answered
+    [ -z "$alone" ] || [ "$alone" = delivery ] || return 0
+    printf 'sales,s1,%s\nsales,s2,%s\nproduct,p2,%s\n' "$work/known.csv" "$work/unknown.csv" "$work/second.csv" > "$work/night.csv"
+    cp "$work/load.before" "$work/file"
+    "$program" deliver "$work/file" "$work/night.csv" > "$work/ample" || fail "delivery: $(cat "$work/ample")"
+    sed 's/^accepted //' "$work/ample" > "$work/receipts"
+    rows "$work/file" > "$work/rows"
+    while true; do
+        rm -f "$work/refused" "$work/file" "$work/file-wal"
+        cp "$work/load.before" "$work/file"
+        answered=0
+        LD_PRELOAD="$work/refuse.so" REFUSED_ALLOCATION=$number REFUSED_NOTE="$work/refused" "$program" deliver "$work/file" "$work/night.csv" > "$work/text" || answered=$?
+        [ -e "$work/refused" ] || break
+        grep -v '^failed: ' "$work/text" > "$work/told" || true
+        head -n "$(wc -l < "$work/told")" "$work/ample" | cmp -s - "$work/told" || fail "delivery, growth $number refused: $(cat "$work/text")"
+        case "$answered/$(grep '^failed: ' "$work/text" || true)" in
+            0/) cmp -s "$work/text" "$work/ample" || fail "delivery, growth $number refused: $(cat "$work/text")" ;;
+            "3/failed: E8 memory") short=$((short + 1)) ;;
+            "3/failed: E9 store, memory") stopped=$((stopped + 1)) ;;
+            *) fail "delivery, growth $number refused: status $answered and $(cat "$work/text")" ;;
+        esac
+        "$program" deliver "$work/file" "$work/night.csv" > "$work/again" || fail "delivery, growth $number refused: then $(cat "$work/again")"
+        sed 's/^accepted //; s/^already //' "$work/again" | cmp -s - "$work/receipts" || fail "delivery, growth $number refused: then $(cat "$work/again")"
+        rows "$work/file" > "$work/found"
+        cmp -s "$work/found" "$work/rows" || fail "delivery, growth $number refused: the rows differ"
+        refused=$((refused + 1))
+        number=$((number + step))
+    done
+    [ $refused -gt 0 ] || fail "delivery: no growth was refused"
+    echo "delivery: $refused growths refused, $short answered with E8, $stopped with E9, the others as with ample memory"
+}
+
+refuse_delivery "$step"

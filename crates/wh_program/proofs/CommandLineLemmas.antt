@@ -3,7 +3,7 @@ use Rattle.std.proofs.Common.{◌≡◌, [], ◌∷◌, refl, sym, true, false, 
 use Rattle.clap.specs.Words.{is_simple, takes, subcommand_of, Text}
 use Rattle.clap.specs.Lexer.{long_of, short_of}
 use Rattle.clap.proofs.OnLiterals.{clap_on_literals}
-use Rattle.wh_program.specs.CommandLine.{CommandLine, Trial, Init, Load, Migrate, Plan, Status, program_app, words_of, is_operand, has_operands, named}
+use Rattle.wh_program.specs.CommandLine.{CommandLine, Trial, Init, Load, Migrate, Deliver, Plan, Status, program_app, words_of, is_operand, has_operands, named}
 
 not-true : (b : Bool) → not b ≡ true → b ≡ false
 not-true true h = cc
@@ -69,6 +69,14 @@ migrate_named : (f i p : Text) → IsPlain f → IsPlain i → IsPlain p → nam
 unfolding clap_on_literals
 migrate_named f i p f-is i-is p-is = rw (f-is.no_end, f-is.no_long, f-is.no_short, i-is.no_end, i-is.no_long, i-is.no_short, p-is.no_end, p-is.no_long, p-is.no_short) (refl {a = Some (Migrate f i p)})
 
+deliver_taken : (f m : Text) → IsPlain f → IsPlain m → takes program_app (words_of (Deliver f m)) ≡ true
+unfolding clap_on_literals
+deliver_taken f m f-is m-is = rw (f-is.no_end, f-is.no_long, f-is.no_short, m-is.no_end, m-is.no_long, m-is.no_short) refl
+
+deliver_named : (f m : Text) → IsPlain f → IsPlain m → named (subcommand_of program_app (words_of (Deliver f m))) ≡ Some (Deliver f m)
+unfolding clap_on_literals
+deliver_named f m f-is m-is = rw (f-is.no_end, f-is.no_long, f-is.no_short, m-is.no_end, m-is.no_long, m-is.no_short) refl
+
 plan_taken : (f k i p : Text) → IsPlain f → IsPlain k → IsPlain i → IsPlain p → takes program_app (words_of (Plan f k i p)) ≡ true
 unfolding clap_on_literals
 plan_taken f k i p f-is k-is i-is p-is = rw (f-is.no_end, f-is.no_long, f-is.no_short, k-is.no_end, k-is.no_long, k-is.no_short, i-is.no_end, i-is.no_long, i-is.no_short, p-is.no_end, p-is.no_long, p-is.no_short) refl
@@ -105,6 +113,7 @@ taken (Migrate f i p) is =
     let f-is = both (is_operand f) _ is in
     let i-is = both (is_operand i) _ f-is.1 in
     migrate_taken f i p (plain f f-is.0) (plain i i-is.0) (plain p i-is.1)
+taken (Deliver f m) is = let f-is = both (is_operand f) _ is in deliver_taken f m (plain f f-is.0) (plain m f-is.1)
 taken (Plan f k i p) is =
     let f-is = both (is_operand f) _ is in
     let k-is = both (is_operand k) _ f-is.1 in
@@ -132,6 +141,7 @@ found (Migrate f i p) is =
     let f-is = both (is_operand f) _ is in
     let i-is = both (is_operand i) _ f-is.1 in
     migrate_named f i p (plain f f-is.0) (plain i i-is.0) (plain p i-is.1)
+found (Deliver f m) is = let f-is = both (is_operand f) _ is in deliver_named f m (plain f f-is.0) (plain m f-is.1)
 found (Plan f k i p) is =
     let f-is = both (is_operand f) _ is in
     let k-is = both (is_operand k) _ f-is.1 in

@@ -1,5 +1,5 @@
 -- What the words over a warehouse leave of what stood.
-use Rattle.std.proofs.Common.{◌≡◌, inl, inr, refl, sym, subst, ap, ◌∙◌, ℕ, List, [], ◌∷◌, Option, Some, None, Ok, Err, true, false}
+use Rattle.std.proofs.Common.{◌≡◌, ◌⊎◌, inl, inr, refl, sym, subst, ap, ◌∙◌, ℕ, List, [], ◌∷◌, Option, Some, None, Ok, Err, true, false}
 use Rattle.std.specs.Prelude.{Result, IfOk, IsOk, OnErr}
 use Rattle.std.proofs.lemmas.Result.{IfOk-weaker}
 use Rattle.std.specs.declared.alloc.AllocError.{AllocError}
@@ -33,7 +33,7 @@ use Rattle.wh_engine.specs.declared.session.Session.{Session}
 use Rattle.wh_program.specs.Answer.{done, failed, no_file_line}
 use Rattle.wh_program.specs.Reply.{sent_answer, plan_answer, opening_answer, status_answer, making_answer, made_line}
 use Rattle.wh_program.specs.Standing.{Content, Nothing, Holds, Standing, Rests, LeftAt, IsAt, Stands}
-use Rattle.wh_program.specs.Warehouse.{Told, Opens, IsReplied, IsForetold, IsCounted, Makes, AnswersWith, AnswersStatus}
+use Rattle.wh_program.specs.Warehouse.{Told, Opens, IsReplied, IsForetold, IsCounted, Makes, AnswersWith, IsTried, IsNotConnected}
 
 -- where no object is, the ten tables are not all there
 pub none_there : are_all_there no_schema ≡ false
@@ -193,11 +193,11 @@ module _ {E : Type 0} (stands : Standing → Type 0) (content : Content) (file :
       ] did same is other
 
   -- with none
-  pub status_answered : IfOk visit (λ output. (after : Standing) × Opens IsCounted content output after × stands after) → AnswersStatus stands content file told
-  status_answered did = elim visit as
-      (λ v. IfOk v (λ output. (after : Standing) × Opens IsCounted content output after × stands after) → OnErr v (stands (Rests content)) → IfOk v (λ output. told ≡ output) → OnErr v (IfOk told (λ a. a ≡ failed (no_file_line file)))
-      → AnswersStatus stands content file told) [
-        | Ok output ↦ λ did same is other. inl (record { after = did.0; then_stands = did.2; did = subst (λ t. Opens IsCounted content t did.0) (sym is) did.1 })
+  pub answered_alone : (does : Told → Standing → Type 0) → IfOk visit (λ output. (after : Standing) × does output after × stands after) → IsTried stands does told ⊎ IsNotConnected stands content file told
+  answered_alone does did = elim visit as
+      (λ v. IfOk v (λ output. (after : Standing) × does output after × stands after) → OnErr v (stands (Rests content)) → IfOk v (λ output. told ≡ output) → OnErr v (IfOk told (λ a. a ≡ failed (no_file_line file)))
+      → IsTried stands does told ⊎ IsNotConnected stands content file told) [
+        | Ok output ↦ λ did same is other. inl (record { after = did.0; then_stands = did.2; did = subst (λ t. does t did.0) (sym is) did.1 })
         | Err e ↦ λ did same is other. inr (record { same = same; tells = other })
       ] did same is other
 

@@ -1,10 +1,19 @@
--- The text of two plans and of none, by computation. Of a row its key alone is looked at.
-use Rattle.std.proofs.Common.{◌≡◌, ℕ, List, [], ◌∷◌, false, refl}
-use Rattle.std.specs.Prelude.{codes, pos}
+-- The text of plans and of deliveries, by computation. Of a row its key alone is looked at.
+use Rattle.std.proofs.Common.{◌≡◌, ℕ, List, [], ◌∷◌, false, Some, None, Ok, Err, refl}
+use Rattle.std.specs.Prelude.{codes, pos, Result}
 use Rattle.std.specs.Fmt.{digits}
 use Rattle.wh_policy.specs.declared.attribute.Dim.{Dim}
 use Rattle.wh_policy.specs.declared.attribute.Dim.TheVariants.{Product, Customer}
 use Rattle.wh_day.specs.declared.calendar.DateRow.{DateRow}
+use Rattle.wh_batch.specs.declared.kind.CommandKind.TheVariants.{Migration}
+use Rattle.wh_engine.specs.declared.command.Command.{Command}
+use Rattle.wh_engine.specs.declared.command.Receipt.{Receipt}
+use Rattle.wh_engine.specs.declared.command.Refused.{Refused}
+use Rattle.wh_engine.specs.declared.command.Refused.TheVariants.{BadId}
+use Rattle.wh_engine.specs.declared.command.Reply.{Reply}
+use Rattle.wh_engine.specs.declared.command.Reply.TheVariants.{Accepted, Already}
+use Rattle.wh_engine.specs.declared.fault.Fault.TheVariants.{Memory, Store}
+use Rattle.wh_rows.specs.declared.cause.Cause.TheVariants.{Disk}
 use Rattle.wh_history.specs.declared.plan.Edit.TheVariants.{Put, Remove}
 use Rattle.wh_history.specs.declared.rows.DimRow.{DimRow}
 use Rattle.wh_history.specs.declared.facts.Fact.{Fact}
@@ -15,6 +24,8 @@ use Rattle.wh_rows.specs.declared.rows.ChangeRow.{ChangeRow}
 use Rattle.wh_rows.specs.declared.rows.ProfileRow.{ProfileRow}
 use Rattle.wh_plan.specs.Edits.{Edits, no_edits}
 use Rattle.wh_plan.specs.declared.edits.FactEdit.TheVariants.{Row, Rekey}
+use Rattle.wh_program.specs.Answer.{done, refused, failed}
+use Rattle.wh_program.specs.Delivery.{delivery_answer, manifest_line}
 use Rattle.wh_program.specs.PlanText.{plan_text}
 
 abbrev command : ℕ → CommandRow
@@ -108,3 +119,37 @@ text_of_other_tables = refl
 text_of_none : plan_text no_edits ≡ codes "edits 0\n"
 unfolding digits
 text_of_none = refl
+
+-- a delivery of four commands; of a command its id alone is looked at
+abbrev sent : List ℕ → Command
+sent id = record { id = id; kind = Migration; bytes = [] }
+
+abbrev night : List Command
+night = sent (codes "p1") ∷ sent (codes "s1") ∷ sent (codes "s1") ∷ sent (codes "bad id") ∷ []
+
+abbrev receipt : ℕ → ℕ → ℕ → Receipt
+receipt number records placeholders = record { number = number; records = records; placeholders = placeholders }
+
+abbrev answers : List (Result Reply Refused)
+answers = Ok (Accepted (receipt 2 1 0)) ∷ Ok (Accepted (receipt 3 2 1)) ∷ Ok (Already (receipt 3 2 1)) ∷ Err BadId ∷ []
+
+text_of_a_delivery : delivery_answer night answers None
+    ≡ refused (codes "accepted 2 p1: 1 records, 0 placeholders\naccepted 3 s1: 2 records, 1 placeholders\nalready 3 s1: 2 records, 1 placeholders\nrefused: E1 bad id\n")
+unfolding digits
+text_of_a_delivery = refl
+
+-- one that stopped behind its first command, whatever was refused
+text_of_a_stop : delivery_answer night (Err BadId ∷ []) (Some (Store Disk)) ≡ failed (codes "refused: E1 bad id\nfailed: E9 store, disk\n")
+unfolding digits
+text_of_a_stop = refl
+
+text_of_no_memory : delivery_answer night [] (Some Memory) ≡ failed (codes "failed: E8 memory\n")
+unfolding digits
+text_of_no_memory = refl
+
+text_of_no_command : delivery_answer [] [] None ≡ done []
+text_of_no_command = refl
+
+line_of_a_bad_manifest : manifest_line (record { number = 12 }) ≡ codes "refused: M1 bad manifest, record 12\n"
+unfolding digits
+line_of_a_bad_manifest = refl

@@ -38,6 +38,9 @@ migration_app = with_rule (with_rule (new_app (codes "migrate")) (operand (codes
 abbrev pub migrate_app : App
 migrate_app = with_rule migration_app (operand (codes "POLICY"))
 
+abbrev pub deliver_app : App
+deliver_app = with_rule (with_rule (new_app (codes "deliver")) (operand (codes "FILE"))) (operand (codes "MANIFEST"))
+
 abbrev pub status_app : App
 status_app = with_rule (new_app (codes "status")) (operand (codes "FILE"))
 
@@ -50,9 +53,12 @@ first_app = with_subcommand (with_subcommand top_app trial_app.top) init_app.top
 abbrev pub second_app : App
 second_app = with_subcommand (with_subcommand first_app load_app.top) migrate_app.top
 
+abbrev pub third_app : App
+third_app = with_subcommand (with_subcommand second_app deliver_app.top) plan_app.top
+
 -- the whole program
 abbrev pub program_app : App
-program_app = with_subcommand (with_subcommand second_app plan_app.top) status_app.top
+program_app = with_subcommand third_app status_app.top
 
 -- the words of a trial, under its own policy or the one in a file
 abbrev pub trial_words : List ℕ → List ℕ → Option (List ℕ) → List (List ℕ)
@@ -74,6 +80,7 @@ pub data CommandLine : Type 0 where
   Init : (file policy : List ℕ) → CommandLine
   Load : (file kind id path : List ℕ) → CommandLine
   Migrate : (file id policy : List ℕ) → CommandLine
+  Deliver : (file manifest : List ℕ) → CommandLine
   Plan : (file kind id path : List ℕ) → CommandLine
   Status : (file : List ℕ) → CommandLine
 
@@ -83,6 +90,7 @@ words_of (Trial dimension path policy) = trial_words dimension path policy
 words_of (Init file policy) = codes "init" ∷ file ∷ policy ∷ []
 words_of (Load file kind id path) = codes "load" ∷ file ∷ kind ∷ id ∷ path ∷ []
 words_of (Migrate file id policy) = codes "migrate" ∷ file ∷ id ∷ policy ∷ []
+words_of (Deliver file manifest) = codes "deliver" ∷ file ∷ manifest ∷ []
 words_of (Plan file kind id path) = codes "plan" ∷ file ∷ kind ∷ id ∷ path ∷ []
 words_of (Status file) = codes "status" ∷ file ∷ []
 
@@ -92,6 +100,7 @@ has_operands (Trial dimension path policy) = is_operand dimension && (is_operand
 has_operands (Init file policy) = is_operand file && is_operand policy
 has_operands (Load file kind id path) = is_operand file && (is_operand kind && (is_operand id && is_operand path))
 has_operands (Migrate file id policy) = is_operand file && (is_operand id && is_operand policy)
+has_operands (Deliver file manifest) = is_operand file && is_operand manifest
 has_operands (Plan file kind id path) = is_operand file && (is_operand kind && (is_operand id && is_operand path))
 has_operands (Status file) = is_operand file
 
@@ -124,6 +133,9 @@ named_plan rows = option_map (λ s. Plan s.file s.kind s.id s.path) (named_sent 
 abbrev pub named_migrate : List Row → Option CommandLine
 named_migrate rows = option_and_then (λ f. option_and_then (λ i. option_map (λ p. Migrate f i p) (first_of (codes "POLICY") rows)) (first_of (codes "ID") rows)) (first_of (codes "FILE") rows)
 
+abbrev pub named_deliver : List Row → Option CommandLine
+named_deliver rows = option_and_then (λ f. option_map (λ m. Deliver f m) (first_of (codes "MANIFEST") rows)) (first_of (codes "FILE") rows)
+
 abbrev pub named_status : List Row → Option CommandLine
 named_status rows = option_map (λ f. Status f) (first_of (codes "FILE") rows)
 
@@ -134,6 +146,7 @@ named_by name rows =
     else if bytes_eq name (codes "init") then named_init rows
     else if bytes_eq name (codes "load") then named_load rows
     else if bytes_eq name (codes "migrate") then named_migrate rows
+    else if bytes_eq name (codes "deliver") then named_deliver rows
     else if bytes_eq name (codes "plan") then named_plan rows
     else if bytes_eq name (codes "status") then named_status rows
     else None

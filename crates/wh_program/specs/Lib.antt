@@ -7,4 +7,5 @@ pub mod Reply
 pub mod Run
 pub mod Standing
 pub mod Warehouse
+pub mod Delivery
 pub mod Files

@@ -1,24 +1,19 @@
 -- What the words of the command line ask for.
-use Rattle.std.specs.Prelude.{◌≡◌, ℕ, List, Option, Some, None, option_map, string_bytes, codes, if◌then◌else◌, bytes_eq}
+use Rattle.std.specs.Prelude.{◌≡◌, ℕ, List, Option, Some, None, option_map, string_bytes}
 use Rattle.std.specs.Borrow.{Bor}
 use Rattle.wh_policy.specs.declared.attribute.Dim.{Dim}
 use Rattle.wh_policy.specs.Words.{dim_of_word}
 use Rattle.wh_batch.specs.declared.kind.Kind.{Kind}
-use Rattle.wh_batch.specs.Kind.{kind_of_word}
-use Rattle.wh_engine.specs.declared.command.CommandKind.{CommandKind}
-use Rattle.wh_engine.specs.declared.command.CommandKind.TheVariants as kinds
+use Rattle.wh_batch.specs.Kind.{kind_of_word, command_kind_of}
+use Rattle.wh_batch.specs.declared.kind.CommandKind.{CommandKind}
 use Rattle.wh_program.specs.Answer.{no_dimension_line, no_kind_line, no_command_kind_line}
 use Rattle.wh_program.specs.CommandLine.{CommandLine, Sent}
 use Rattle.wh_program.specs.CommandLine as line
 use Rattle.wh_program.specs.declared.command.Operands.{Operands}
 use Rattle.wh_program.specs.declared.command.Operands.TheVariants as operands
 use Rattle.wh_program.specs.declared.command.Request.{Request}
-use Rattle.wh_program.specs.declared.command.Request.TheVariants.{Trial, Init, Load, Migrate, Plan, Status, Usage}
+use Rattle.wh_program.specs.declared.command.Request.TheVariants.{Trial, Init, Load, Migrate, Deliver, Plan, Status, Usage}
 use Rattle.wh_program.specs.declared.command.SentOperands.{SentOperands}
-
--- the kind of a command by the word for it
-abbrev pub command_kind_of : List ℕ → Option CommandKind
-command_kind_of word = if bytes_eq word (codes "migrate") then Some kinds.Migration else option_map kinds.Batch (kind_of_word word)
 
 -- what an option points to
 abbrev pub text_of : Option (Bor (List ℕ)) → Option (List ℕ)
@@ -34,6 +29,7 @@ line_of (operands.Trial dimension path policy) = line.Trial dimension.now path.n
 line_of (operands.Init file policy) = line.Init file.now policy.now
 line_of (operands.Load s) = line.Load s.file.now s.kind.now s.id.now s.path.now
 line_of (operands.Migrate file id policy) = line.Migrate file.now id.now policy.now
+line_of (operands.Deliver file manifest) = line.Deliver file.now manifest.now
 line_of (operands.Plan s) = line.Plan s.file.now s.kind.now s.id.now s.path.now
 line_of (operands.Status file) = line.Status file.now
 
@@ -64,6 +60,11 @@ abbrev pub AsksMigrate : List ℕ → List ℕ → List ℕ → Request → Type
 AsksMigrate file id policy (Migrate of called under) = (of.now ≡ file) × (called.now ≡ id) × (under.now ≡ policy)
 AsksMigrate file id policy _ = ⊥
 
+-- the delivery of a manifest's commands
+abbrev pub AsksDeliver : List ℕ → List ℕ → Request → Type 0
+AsksDeliver file manifest (Deliver of from) = (of.now ≡ file) × (from.now ≡ manifest)
+AsksDeliver file manifest _ = ⊥
+
 -- the plan of a command of that kind, or of a word that names none
 abbrev pub AsksPlan : List ℕ → Option CommandKind → List ℕ → List ℕ → Request → Type 0
 AsksPlan file (Some kind) id path (Plan of told called from) = (of.now ≡ file) × (told ≡ kind) × (called.now ≡ id) × (from.now ≡ path)
@@ -81,5 +82,6 @@ Asks (line.Trial dimension path policy) request = AsksTrial (dim_of_word dimensi
 Asks (line.Init file policy) request = AsksInit file policy request
 Asks (line.Load file kind id path) request = AsksLoad file (kind_of_word kind) id path request
 Asks (line.Migrate file id policy) request = AsksMigrate file id policy request
+Asks (line.Deliver file manifest) request = AsksDeliver file manifest request
 Asks (line.Plan file kind id path) request = AsksPlan file (command_kind_of kind) id path request
 Asks (line.Status file) request = AsksStatus file request

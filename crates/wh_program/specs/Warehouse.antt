@@ -12,7 +12,7 @@ use Rattle.wh_engine.specs.Admission.{answer, accepted_after}
 use Rattle.wh_engine.specs.Answered.{counts_of}
 use Rattle.wh_engine.specs.Opened.{IsNotMade}
 use Rattle.wh_engine.specs.declared.command.Command.{Command}
-use Rattle.wh_engine.specs.declared.command.CommandKind.{CommandKind}
+use Rattle.wh_batch.specs.declared.kind.CommandKind.{CommandKind}
 use Rattle.wh_engine.specs.declared.command.Reply.{Reply}
 use Rattle.wh_engine.specs.declared.counts.Counts.{Counts}
 use Rattle.wh_engine.specs.declared.fault.Fault.{Fault}

@@ -4,17 +4,16 @@ ghost use Rattle.std.specs.Prelude.{◌≡◌, ℕ, List, Option, IfOk, IfErr, I
 ghost use Rattle.clap.specs.Words.{app_of, first_of, found_of, rows_of, subcommand_rows_of, kind_of, takes, subcommand_of};
 ghost use Rattle.clap.specs.declared.builder.command.Command.TheViews.{out-Command};
 ghost use Rattle.clap.specs.declared.error.ErrorKind.TheVariants.{OutOfMemory};
-ghost use Rattle.wh_program.specs.Request.{command_kind_of, sent_of, line_of, IsUsage, AsksLoad, AsksPlan, Asks};
-ghost use Rattle.wh_batch.specs.Kind.{kind_of_word};
-ghost use Rattle.wh_program.specs.CommandLine.{CommandLine, first_app, program_app, operands_app, trial_app, init_app, kind_app, called_app, load_app, migration_app, migrate_app, plan_app, second_app, status_app, words_of, has_operands, named, named_trial, named_init, named_sent, named_load, named_migrate, named_plan, named_status};
+ghost use Rattle.wh_program.specs.Request.{sent_of, line_of, IsUsage, AsksLoad, AsksPlan, Asks};
+ghost use Rattle.wh_batch.specs.Kind.{kind_of_word, command_kind_of};
+ghost use Rattle.wh_program.specs.CommandLine.{CommandLine, first_app, program_app, operands_app, trial_app, init_app, kind_app, called_app, load_app, migration_app, migrate_app, deliver_app, plan_app, second_app, third_app, status_app, words_of, has_operands, named, named_trial, named_init, named_sent, named_load, named_migrate, named_deliver, named_plan, named_status};
 
 use crate::lines::{NO_COMMAND_KIND_LINE, NO_COMMAND_LINE, NO_DIMENSION_LINE, NO_KIND_LINE};
 use clap::error::ErrorKind;
 use clap::{Arg, ArgMatches, Command};
 use std::alloc::{AllocError, Global};
 use std::convert::AsStr;
-use wh_batch::Kind;
-use wh_engine::CommandKind;
+use wh_batch::{CommandKind, Kind};
 use wh_policy::Dim;
 
 /// What the words ask for.
@@ -43,6 +42,11 @@ pub enum Request<'a> {
         file: &'a str,
         id: &'a str,
         policy: &'a str,
+    },
+    /// The delivery of the commands that the file `manifest` lists to the warehouse in `file`.
+    Deliver {
+        file: &'a str,
+        manifest: &'a str,
     },
     /// What such a load, or such a migration, would write.
     Plan {
@@ -172,6 +176,23 @@ fn migrate_command<'a>(alloc: Global) -> Result<Command<'a>, AllocError>
     migration_command(alloc)?.arg(policy)
 }
 
+fn deliver_command<'a>(alloc: Global) -> Result<Command<'a>, AllocError>
+    ensures app { IfOk result (λ c. app_of c ≡ deliver_app) }
+    ensures local { IfOk result (λ c. (out-Command c).has_globals ≡ false) }
+{
+    let file = Arg::new(alloc, "FILE")
+        .required(true)
+        .help("the warehouse's file");
+    let manifest = Arg::new(alloc, "MANIFEST")
+        .required(true)
+        .help("the manifest's file: a line KIND,ID,INPUT a command");
+    Command::new(alloc, "deliver")
+        .about("Sends the commands of a manifest, in order")
+        .after_help("Example: wh deliver shop.wh examples/night.csv")
+        .arg(file)?
+        .arg(manifest)
+}
+
 fn plan_command<'a>(alloc: Global) -> Result<Command<'a>, AllocError>
     ensures app { IfOk result (λ c. app_of c ≡ plan_app) }
     ensures local { IfOk result (λ c. (out-Command c).has_globals ≡ false) }
@@ -221,12 +242,20 @@ fn second_command<'a>(alloc: Global) -> Result<Command<'a>, AllocError>
     first_command(alloc)?.subcommand(load)?.subcommand(migrate)
 }
 
+fn third_command<'a>(alloc: Global) -> Result<Command<'a>, AllocError>
+    ensures app { IfOk result (λ c. app_of c ≡ third_app) }
+    ensures local { IfOk result (λ c. (out-Command c).has_globals ≡ false) }
+{
+    let deliver = deliver_command(alloc)?;
+    let plan = plan_command(alloc)?;
+    second_command(alloc)?.subcommand(deliver)?.subcommand(plan)
+}
+
 fn program_command<'a>(alloc: Global) -> Result<Command<'a>, AllocError>
     ensures { IfOk result (λ c. app_of c ≡ program_app) }
 {
-    let plan = plan_command(alloc)?;
     let status = status_command(alloc)?;
-    second_command(alloc)?.subcommand(plan)?.subcommand(status)
+    third_command(alloc)?.subcommand(status)
 }
 
 /// What `clap` finds in the words. Where it takes them, it is refused memory alone.
@@ -263,6 +292,10 @@ enum Operands<'a> {
         file: &'a str,
         id: &'a str,
         policy: &'a str,
+    },
+    Deliver {
+        file: &'a str,
+        manifest: &'a str,
     },
     Plan(SentOperands<'a>),
     Status {
@@ -324,6 +357,15 @@ fn migrate_operands<'a>(inner: &ArgMatches<'a>) -> Option<Operands<'a>>
     })
 }
 
+fn deliver_operands<'a>(inner: &ArgMatches<'a>) -> Option<Operands<'a>>
+    ensures { option_map line_of result ≡ named_deliver (rows_of (found_of inner.now)) }
+{
+    Some(Operands::Deliver {
+        file: value_of(inner, "FILE")?,
+        manifest: value_of(inner, "MANIFEST")?,
+    })
+}
+
 fn plan_operands<'a>(inner: &ArgMatches<'a>) -> Option<Operands<'a>>
     ensures { option_map line_of result ≡ named_plan (rows_of (found_of inner.now)) }
 {
@@ -348,6 +390,7 @@ fn operands_of<'a>(matches: &ArgMatches<'a>) -> Option<Operands<'a>>
         "init" => init_operands(inner),
         "load" => load_operands(inner),
         "migrate" => migrate_operands(inner),
+        "deliver" => deliver_operands(inner),
         "plan" => plan_operands(inner),
         "status" => status_operands(inner),
         _ => None,
@@ -386,24 +429,11 @@ fn load_request<'a>(alloc: Global, sent: SentOperands<'a>) -> Result<Request<'a>
     }
 }
 
-/// The kind of a command by the word for it.
-fn command_kind_of(word: &str) -> Option<CommandKind>
-    ensures { result ≡ command_kind_of word.now }
-{
-    if word == "migrate" {
-        return Some(CommandKind::Migration);
-    }
-    match Kind::from_word(word) {
-        Some(kind) => Some(CommandKind::Batch(kind)),
-        None => None,
-    }
-}
-
 /// The plan of a command of a kind.
 fn plan_request<'a>(alloc: Global, sent: SentOperands<'a>) -> Result<Request<'a>, AllocError>
     ensures { IfOk result (AsksPlan sent.entry.file.now (command_kind_of sent.entry.kind.now) sent.entry.id.now sent.entry.path.now) }
 {
-    match command_kind_of(sent.kind) {
+    match CommandKind::from_word(sent.kind) {
         Some(kind) => Ok(Request::Plan {
             file: sent.file,
             kind,
@@ -430,6 +460,7 @@ fn requested<'a>(alloc: Global, operands: Operands<'a>) -> Result<Request<'a>, A
         Operands::Init { file, policy } => Ok(Request::Init { file, policy }),
         Operands::Load(sent) => load_request(alloc, sent),
         Operands::Migrate { file, id, policy } => Ok(Request::Migrate { file, id, policy }),
+        Operands::Deliver { file, manifest } => Ok(Request::Deliver { file, manifest }),
         Operands::Plan(sent) => plan_request(alloc, sent),
         Operands::Status { file } => Ok(Request::Status { file }),
     }

@@ -3,6 +3,8 @@
 
 mod answer;
 mod command;
+mod delivery;
+mod delivery_text;
 mod host;
 mod lines;
 mod one;
@@ -14,6 +16,7 @@ mod trial;
 mod warehouse;
 
 pub use answer::Answer;
+pub use delivery_text::delivery_answer;
 pub use host::{Host, HostError, Visitor};
 pub use lines::{
     made, making_answer, opening_answer, plan_answer, room_for_receipt, sent_answer, status_answer,

@@ -1,15 +1,17 @@
 //! The lines that a run can answer.
 
-ghost use Rattle.std.specs.Prelude.{◌≡◌, IfOk, string_bytes};
-ghost use Rattle.wh_program.specs.Answer.{status_code, done, refused, failed, no_file_line, batch_line, batch_fault_name, policy_line, policy_fault_name};
+ghost use Rattle.std.specs.Prelude.{◌≡◌, ◌++◌, IfOk, OnOk, codes, string_bytes};
+ghost use Rattle.std.specs.Fmt.{decimal};
+ghost use Rattle.wh_program.specs.Answer.{status_code, done, refused, failed, line, no_file_line, batch_line, batch_fault_name, policy_line, policy_fault_name};
+ghost use Rattle.wh_program.specs.Delivery.{manifest_line};
 ghost use Rattle.wh_program.specs.Reply.{receipt_line, reply_answer, limit_name, full_line, sale_there_line, refused_line, damaged_line, cause_name, store_line, fault_answer, sent_answer, plan_answer, made_line, making_answer, opening_answer, members_line, totals_text, counts_text, status_answer};
 
 use crate::answer::{Answer, Status};
-use crate::plan_text::plan_text;
+use crate::plan_text::{plan_text, push_number};
 use itoa::Buffer;
 use std::alloc::{AllocError, Global};
-use wh_batch::{BatchFault, FaultKind};
-use wh_engine::{Counts, Fault, InitFault, Limit, OpenFault, Receipt, Refused, Reply};
+use wh_batch::{BadManifest, BatchFault, FaultKind};
+use wh_engine::{Command, Counts, Fault, InitFault, Limit, OpenFault, Receipt, Refused, Reply};
 use wh_plan::Edits;
 use wh_policy::PolicyFault;
 use wh_rows::{Cause, Table};
@@ -36,6 +38,36 @@ pub const NO_COMMAND_LINE: &str = "error: no command was given\n";
 /// What is wrong with words of which one is no text.
 pub const NO_TEXT_LINE: &[u8] = b"error: an argument is no text\n";
 
+/// A line of two texts.
+fn push_named_line(text: &mut Vec<u8>, what: &str, name: &str) -> Result<(), AllocError>
+    ensures { OnOk result (text.new.items ≡ text.old.items ++ line (what.now ++ name.now)) }
+{
+    text.extend_from_slice(what.as_bytes())?;
+    text.extend_from_slice(name.as_bytes())?;
+    text.extend_from_slice(b"\n")
+}
+
+/// A line of a text and a number.
+fn push_numbered_line(text: &mut Vec<u8>, what: &str, number: u64) -> Result<(), AllocError>
+    ensures { OnOk result (text.new.items ≡ text.old.items ++ line (what.now ++ decimal number)) }
+{
+    push_named_line(text, what, Buffer::new().format(number))
+}
+
+/// A line of two texts and the number of a record.
+fn push_record_line(
+    text: &mut Vec<u8>,
+    what: &str,
+    name: &str,
+    number: u64,
+) -> Result<(), AllocError>
+    ensures { OnOk result (text.new.items ≡ text.old.items ++ line (what.now ++ name.now ++ codes ", record " ++ decimal number)) }
+{
+    text.extend_from_slice(what.as_bytes())?;
+    text.extend_from_slice(name.as_bytes())?;
+    push_numbered_line(text, ", record ", number)
+}
+
 fn batch_fault_name(kind: FaultKind) -> &'static str
     ensures { result.now ≡ batch_fault_name kind }
 {
@@ -52,13 +84,19 @@ fn batch_fault_name(kind: FaultKind) -> &'static str
     }
 }
 
+fn push_batch_line(text: &mut Vec<u8>, fault: BatchFault) -> Result<(), AllocError>
+    ensures { OnOk result (text.new.items ≡ text.old.items ++ batch_line fault) }
+{
+    let name = batch_fault_name(fault.kind);
+    push_record_line(text, "refused: E3 batch, ", name, u64::from(fault.number))
+}
+
 pub fn batch_line(alloc: Global, fault: BatchFault) -> Result<Vec<u8>, AllocError>
     ensures { IfOk result (λ line. line.items ≡ batch_line fault) }
 {
-    let name = batch_fault_name(fault.kind);
-    let number = fault.number;
-    let line = format!(in alloc; "refused: E3 batch, {name}, record {number}\n")?;
-    Ok(line.into_bytes())
+    let mut line = Vec::new(alloc);
+    push_batch_line(&mut line, fault)?;
+    Ok(line)
 }
 
 fn policy_fault_name(fault: PolicyFault) -> &'static str
@@ -79,12 +117,27 @@ fn policy_fault_name(fault: PolicyFault) -> &'static str
     }
 }
 
+fn push_policy_line(text: &mut Vec<u8>, fault: PolicyFault) -> Result<(), AllocError>
+    ensures { OnOk result (text.new.items ≡ text.old.items ++ policy_line fault) }
+{
+    push_named_line(text, "refused: E4 policy, ", policy_fault_name(fault))
+}
+
 pub fn policy_line(alloc: Global, fault: PolicyFault) -> Result<Vec<u8>, AllocError>
     ensures { IfOk result (λ line. line.items ≡ policy_line fault) }
 {
-    let name = policy_fault_name(fault);
-    let line = format!(in alloc; "refused: E4 policy, {name}\n")?;
-    Ok(line.into_bytes())
+    let mut line = Vec::new(alloc);
+    push_policy_line(&mut line, fault)?;
+    Ok(line)
+}
+
+/// The answer to a manifest that is a bad one.
+pub fn bad_manifest(alloc: Global, bad: BadManifest) -> Result<Answer, AllocError>
+    ensures { IfOk result (λ answer. answer ≡ refused (manifest_line bad)) }
+{
+    let mut line = Vec::new(alloc);
+    push_numbered_line(&mut line, "refused: M1 bad manifest, record ", bad.number)?;
+    Ok(Answer::new(Status::Refused, line))
 }
 
 /// The answer to a run that names a file that isn't there.
@@ -103,48 +156,63 @@ fn told(alloc: Global, status: Status, line: &str) -> Result<Answer, AllocError>
     Ok(Answer::new(status, text.into_bytes()))
 }
 
-/// The most bytes of a receipt's line, beside the id.
-const LONGEST_RECEIPT: usize = 128;
+/// The most bytes of the line of an answer to a command, beside the id.
+const LONGEST_LINE: usize = 128;
 
 /// Room for the line of any receipt after an id. It is taken before a command is sent, so that no memory is wanted once the
 /// command is kept.
 pub fn room_for_receipt(alloc: Global, id: &str) -> Result<Vec<u8>, AllocError> {
-    Vec::with_capacity(alloc, id.len().saturating_add(LONGEST_RECEIPT))
+    Vec::with_capacity(alloc, id.len().saturating_add(LONGEST_LINE))
 }
 
-/// What an accepted command is answered, after the word for how it was taken, in room that was taken for it.
-fn receipt_line(
-    mut line: Vec<u8>,
+/// Room for the line of any answer to each of the commands, and of what may stop their delivery, taken before the first is sent.
+pub fn room_for_delivery(alloc: Global, commands: &[Command]) -> Result<Vec<u8>, AllocError> {
+    let mut bytes = LONGEST_LINE;
+    for command in commands {
+        bytes = bytes.saturating_add(command.id.as_str().len().saturating_add(LONGEST_LINE));
+    }
+    Vec::with_capacity(alloc, bytes)
+}
+
+/// What an accepted command is answered, after the word for how it was taken.
+fn push_receipt(
+    text: &mut Vec<u8>,
     word: &str,
     id: &str,
-    receipt: Receipt,
-) -> Result<Vec<u8>, AllocError>
-    ensures { IfOk result (λ line. line.items ≡ receipt_line word.now id.now receipt) }
+    receipt: &Receipt,
+) -> Result<(), AllocError>
+    ensures { OnOk result (text.new.items ≡ text.old.items ++ receipt_line word.now id.now receipt.now) }
 {
-    let mut digits = Buffer::new();
-    line.clear();
-    line.extend_from_slice(word.as_bytes())?;
-    line.extend_from_slice(b" ")?;
-    line.extend_from_slice(digits.format(receipt.number).as_bytes())?;
-    line.extend_from_slice(b" ")?;
-    line.extend_from_slice(id.as_bytes())?;
-    line.extend_from_slice(b": ")?;
-    line.extend_from_slice(digits.format(receipt.records).as_bytes())?;
-    line.extend_from_slice(b" records, ")?;
-    line.extend_from_slice(digits.format(receipt.placeholders).as_bytes())?;
-    line.extend_from_slice(b" placeholders\n")?;
-    Ok(line)
+    text.extend_from_slice(word.as_bytes())?;
+    text.extend_from_slice(b" ")?;
+    push_number(text, receipt.number)?;
+    text.extend_from_slice(b" ")?;
+    text.extend_from_slice(id.as_bytes())?;
+    text.extend_from_slice(b": ")?;
+    push_number(text, receipt.records)?;
+    text.extend_from_slice(b" records, ")?;
+    push_number(text, receipt.placeholders)?;
+    text.extend_from_slice(b" placeholders\n")?;
+    Ok(())
 }
 
-/// The answer to a command that is kept.
-fn reply_answer(room: Vec<u8>, id: &str, reply: Reply) -> Result<Answer, AllocError>
-    ensures { IfOk result (λ answer. answer ≡ reply_answer id.now reply) }
+/// The line of a command that is kept.
+pub fn push_reply(text: &mut Vec<u8>, id: &str, reply: &Reply) -> Result<(), AllocError>
+    ensures { OnOk result (text.new.items ≡ text.old.items ++ (reply_answer id.now reply.now).text) }
 {
-    let line = match reply {
-        Reply::Accepted(receipt) => receipt_line(room, "accepted", id, receipt)?,
-        Reply::Already(receipt) => receipt_line(room, "already", id, receipt)?,
-    };
-    Ok(Answer::new(Status::Done, line))
+    match reply {
+        Reply::Accepted(receipt) => push_receipt(text, "accepted", id, receipt),
+        Reply::Already(receipt) => push_receipt(text, "already", id, receipt),
+    }
+}
+
+/// The answer to a command that is kept, in room that was taken for it.
+fn reply_answer(mut room: Vec<u8>, id: &str, reply: &Reply) -> Result<Answer, AllocError>
+    ensures { IfOk result (λ answer. answer ≡ reply_answer id.now reply.now) }
+{
+    room.clear();
+    push_reply(&mut room, id, reply)?;
+    Ok(Answer::new(Status::Done, room))
 }
 
 fn limit_name(limit: Limit) -> &'static str
@@ -157,44 +225,54 @@ fn limit_name(limit: Limit) -> &'static str
     }
 }
 
-fn full_line(alloc: Global, limit: Limit) -> Result<Vec<u8>, AllocError>
-    ensures { IfOk result (λ line. line.items ≡ full_line limit) }
+fn push_full_line(text: &mut Vec<u8>, limit: Limit) -> Result<(), AllocError>
+    ensures { OnOk result (text.new.items ≡ text.old.items ++ full_line limit) }
 {
-    let name = limit_name(limit);
-    let line = format!(in alloc; "refused: E6 full, {name}\n")?;
-    Ok(line.into_bytes())
+    push_named_line(text, "refused: E6 full, ", limit_name(limit))
 }
 
-fn sale_there_line(alloc: Global, number: u64) -> Result<Vec<u8>, AllocError>
-    ensures { IfOk result (λ line. line.items ≡ sale_there_line number) }
+fn push_sale_there_line(text: &mut Vec<u8>, number: u64) -> Result<(), AllocError>
+    ensures { OnOk result (text.new.items ≡ text.old.items ++ sale_there_line number) }
 {
-    let line = format!(in alloc; "refused: E6 line there, record {number}\n")?;
-    Ok(line.into_bytes())
+    push_numbered_line(text, "refused: E6 line there, record ", number)
+}
+
+/// The line of a command that isn't accepted.
+pub fn push_refused(text: &mut Vec<u8>, why: &Refused) -> Result<(), AllocError>
+    ensures { OnOk result (text.new.items ≡ text.old.items ++ refused_line why.now) }
+{
+    match why {
+        Refused::BadId => text.extend_from_slice(b"refused: E1 bad id\n"),
+        Refused::Reused => text.extend_from_slice(b"refused: E2 id reused\n"),
+        Refused::Batch(fault) => push_batch_line(text, *fault),
+        Refused::Policy(fault) => push_policy_line(text, *fault),
+        Refused::Unfit => text.extend_from_slice(b"refused: E5 policy does not fit\n"),
+        Refused::LineThere(number) => push_sale_there_line(text, *number),
+        Refused::Full(limit) => push_full_line(text, *limit),
+    }
 }
 
 /// The answer to a command that isn't accepted.
-fn refused_answer(alloc: Global, why: Refused) -> Result<Answer, AllocError>
-    ensures { IfOk result (λ answer. answer ≡ refused (refused_line why)) }
+fn refused_answer(alloc: Global, why: &Refused) -> Result<Answer, AllocError>
+    ensures { IfOk result (λ answer. answer ≡ refused (refused_line why.now)) }
 {
-    match why {
-        Refused::BadId => told(alloc, Status::Refused, "refused: E1 bad id\n"),
-        Refused::Reused => told(alloc, Status::Refused, "refused: E2 id reused\n"),
-        Refused::Batch(fault) => Ok(Answer::new(Status::Refused, batch_line(alloc, fault)?)),
-        Refused::Policy(fault) => Ok(Answer::new(Status::Refused, policy_line(alloc, fault)?)),
-        Refused::Unfit => told(alloc, Status::Refused, "refused: E5 policy does not fit\n"),
-        Refused::LineThere(number) => {
-            Ok(Answer::new(Status::Refused, sale_there_line(alloc, number)?))
-        }
-        Refused::Full(limit) => Ok(Answer::new(Status::Refused, full_line(alloc, limit)?)),
-    }
+    let mut line = Vec::new(alloc);
+    push_refused(&mut line, why)?;
+    Ok(Answer::new(Status::Refused, line))
+}
+
+fn push_damaged_line(text: &mut Vec<u8>, table: Table) -> Result<(), AllocError>
+    ensures { OnOk result (text.new.items ≡ text.old.items ++ damaged_line table) }
+{
+    push_named_line(text, "failed: E7 damaged, ", table.name())
 }
 
 fn damaged(alloc: Global, table: Table) -> Result<Answer, AllocError>
     ensures { IfOk result (λ answer. answer ≡ failed (damaged_line table)) }
 {
-    let name = table.name();
-    let line = format!(in alloc; "failed: E7 damaged, {name}\n")?;
-    Ok(Answer::new(Status::Failed, line.into_bytes()))
+    let mut line = Vec::new(alloc);
+    push_damaged_line(&mut line, table)?;
+    Ok(Answer::new(Status::Failed, line))
 }
 
 fn cause_name(cause: Cause) -> &'static str
@@ -208,12 +286,31 @@ fn cause_name(cause: Cause) -> &'static str
     }
 }
 
+fn push_store_line(text: &mut Vec<u8>, cause: Cause) -> Result<(), AllocError>
+    ensures { OnOk result (text.new.items ≡ text.old.items ++ store_line cause) }
+{
+    push_named_line(text, "failed: E9 store, ", cause_name(cause))
+}
+
 fn store_failed(alloc: Global, cause: Cause) -> Result<Answer, AllocError>
     ensures { IfOk result (λ answer. answer ≡ failed (store_line cause)) }
 {
-    let name = cause_name(cause);
-    let line = format!(in alloc; "failed: E9 store, {name}\n")?;
-    Ok(Answer::new(Status::Failed, line.into_bytes()))
+    let mut line = Vec::new(alloc);
+    push_store_line(&mut line, cause)?;
+    Ok(Answer::new(Status::Failed, line))
+}
+
+/// The line of a fault.
+pub fn push_fault(text: &mut Vec<u8>, fault: &Fault) -> Result<(), AllocError>
+    ensures { OnOk result (text.new.items ≡ text.old.items ++ (fault_answer fault.now).text) }
+{
+    match fault {
+        Fault::Refused(why) => push_refused(text, why),
+        Fault::Damaged(table) => push_damaged_line(text, *table),
+        Fault::Memory => text.extend_from_slice(MEMORY_LINE),
+        Fault::Store(cause) => push_store_line(text, *cause),
+        Fault::Reopen => text.extend_from_slice(b"failed: E10 reopen\n"),
+    }
 }
 
 /// The answer where a call on the tables of a warehouse isn't answered.
@@ -221,7 +318,7 @@ fn fault_answer(alloc: Global, fault: Fault) -> Result<Answer, AllocError>
     ensures { IfOk result (λ answer. answer ≡ fault_answer fault) }
 {
     match fault {
-        Fault::Refused(why) => refused_answer(alloc, why),
+        Fault::Refused(why) => refused_answer(alloc, &why),
         Fault::Damaged(table) => damaged(alloc, table),
         Fault::Memory => Err(AllocError),
         Fault::Store(cause) => store_failed(alloc, cause),
@@ -239,7 +336,7 @@ pub fn sent_answer(
     ensures { IfOk result (λ answer. answer ≡ sent_answer id.now reply) }
 {
     match reply {
-        Ok(reply) => reply_answer(room, id, reply),
+        Ok(reply) => reply_answer(room, id, &reply),
         Err(fault) => fault_answer(alloc, fault),
     }
 }

@@ -14,7 +14,7 @@ use wh_plan::{Edits, FactEdit};
 use wh_policy::Dim;
 use wh_rows::{ChangeKey, ChangeRow, CommandRow, LineKey, MemberKey, MemberRow, ProfileRow, Table};
 
-fn push_number(text: &mut Vec<u8>, number: u64) -> Result<(), AllocError>
+pub fn push_number(text: &mut Vec<u8>, number: u64) -> Result<(), AllocError>
     ensures { OnOk result (text.new.items ≡ text.old.items ++ decimal number) }
 {
     text.extend_from_slice(Buffer::new().format(number).as_bytes())

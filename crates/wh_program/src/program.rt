@@ -3,20 +3,22 @@
 ghost use Rattle.std.specs.Prelude.{◌≡◌, ◌≢◌, ◌⊎◌, ℕ, List, Option, Some, IfOk, map, true};
 ghost use Rattle.wh_program.specs.Answer.{Printed, AnswersTrial, wrong_words, no_text_line};
 ghost use Rattle.wh_program.specs.CommandLine.{trial_words, is_operand, is_operand_or_none};
-ghost use Rattle.wh_program.specs.CommandLine.{Init, Load, Migrate, Plan, Status as StatusLine};
-ghost use Rattle.wh_program.specs.Request.{AsksTrial, AsksInit, AsksLoad, AsksMigrate, AsksPlan, AsksStatus, command_kind_of};
+ghost use Rattle.wh_program.specs.CommandLine.{Init, Load, Migrate, Deliver, Plan, Status as StatusLine};
+ghost use Rattle.wh_program.specs.Delivery.{AnswersDelivery};
+ghost use Rattle.wh_program.specs.Request.{AsksTrial, AsksInit, AsksLoad, AsksMigrate, AsksDeliver, AsksPlan, AsksStatus};
 ghost use Rattle.wh_policy.specs.declared.attribute.Dim.{Dim};
 ghost use Rattle.wh_policy.specs.Words.{word_of};
-ghost use Rattle.wh_batch.specs.Kind.{kind_of_word};
+ghost use Rattle.wh_batch.specs.Kind.{kind_of_word, command_kind_of};
 ghost use Rattle.wh_program.specs.Run.{Prints, out_of_memory};
 ghost use Rattle.wh_program.specs.Standing.{Content, Rests};
 ghost use Rattle.wh_program.specs.Warehouse.{Told, Makes, Sends, Plans, AnswersWith, AnswersStatus, Says, printed};
 ghost use Rattle.wh_batch.specs.declared.kind.Kind.{Kind};
-ghost use Rattle.wh_engine.specs.declared.command.CommandKind.{CommandKind as KindOfCommand};
-ghost use Rattle.wh_engine.specs.declared.command.CommandKind.TheVariants.{Batch, Migration};
+ghost use Rattle.wh_batch.specs.declared.kind.CommandKind.{CommandKind as KindOfCommand};
+ghost use Rattle.wh_batch.specs.declared.kind.CommandKind.TheVariants.{Batch, Migration};
 
 use crate::answer::{Answer, Status};
 use crate::command::{Request, parse};
+use crate::delivery::deliver;
 use crate::host::Host;
 use crate::lines::{MEMORY_LINE, NO_TEXT_LINE, WRITE_LINE};
 use crate::output::write_whole;
@@ -26,7 +28,7 @@ use std::alloc::{AllocError, Global};
 use std::convert::AsStr;
 use std::io;
 use std::io::Write;
-use wh_engine::CommandKind;
+use wh_batch::CommandKind;
 
 /// Prints a text, and answers the status. Where the writer fails the status is that of a failure, and a line says so
 /// if it can still be written.
@@ -54,6 +56,8 @@ fn answer_request<H: Host>(
         → AnswersWith (H.holds host.old) (H.stores host.new file) (Sends (Batch kind) id) content file path result }
     ensures migrate { (file id policy : List ℕ) (content : Content) → AsksMigrate file id policy request.entry → H.stores host.old file (Rests content)
         → AnswersWith (H.holds host.old) (H.stores host.new file) (Sends Migration id) content file policy result }
+    ensures deliver { (file manifest : List ℕ) (content : Content) → AsksDeliver file manifest request.entry → H.stores host.old file (Rests content)
+        → AnswersDelivery (H.holds host.old) (H.stores host.new file) content file manifest result }
     ensures plan { (file : List ℕ) (kind : KindOfCommand) (id path : List ℕ) (content : Content) → AsksPlan file (Some kind) id path request.entry → H.stores host.old file (Rests content)
         → AnswersWith (H.holds host.old) (H.stores host.new file) (Plans kind id) content file path result }
     ensures status { (file : List ℕ) (content : Content) → AsksStatus file request.entry → H.stores host.old file (Rests content) → AnswersStatus (H.stores host.new file) content file result }
@@ -79,6 +83,7 @@ fn answer_request<H: Host>(
         Request::Migrate { file, id, policy } => {
             send(alloc, file, CommandKind::Migration, id, policy, host)
         }
+        Request::Deliver { file, manifest } => deliver(alloc, file, manifest, host),
         Request::Plan {
             file,
             kind,
@@ -106,6 +111,8 @@ fn answer_to<S: AsStr, H: Host>(
         → AnswersWith (H.holds host.old) (H.stores host.new file) (Sends (Batch kind) id) content file path result }
     ensures migrate { (file id policy : List ℕ) (content : Content) → Says (map S.text words.now) (Migrate file id policy) → H.stores host.old file (Rests content)
         → AnswersWith (H.holds host.old) (H.stores host.new file) (Sends Migration id) content file policy result }
+    ensures deliver { (file manifest : List ℕ) (content : Content) → Says (map S.text words.now) (Deliver file manifest) → H.stores host.old file (Rests content)
+        → AnswersDelivery (H.holds host.old) (H.stores host.new file) content file manifest result }
     ensures plan { (file word id path : List ℕ) (kind : KindOfCommand) (content : Content) → Says (map S.text words.now) (Plan file word id path) → command_kind_of word ≡ Some kind → H.stores host.old file (Rests content)
         → AnswersWith (H.holds host.old) (H.stores host.new file) (Plans kind id) content file path result }
     ensures status { (file : List ℕ) (content : Content) → Says (map S.text words.now) (StatusLine file) → H.stores host.old file (Rests content) → AnswersStatus (H.stores host.new file) content file result }
@@ -122,13 +129,15 @@ pub fn run<S: AsStr, H: Host, W: Write>(alloc: Global, words: &[S], host: &mut H
         ⊎ ((answer : Printed) × AnswersTrial (H.holds host.old) dim path policy answer
         × Prints (W.contents out.old) (W.contents out.new) result answer) }
 
-    // What a making, a load, a migration, a plan and a count print, and what they leave under the warehouse's name.
+    // What a making, a load, a migration, a delivery, a plan and a count print, and what they leave under the warehouse's name.
     ensures init { (file policy : List ℕ) (content : Content) → Says (map S.text words.now) (Init file policy) → H.stores host.old file (Rests content)
         → (told : Told) × AnswersWith (H.holds host.old) (H.stores host.new file) Makes content file policy told × Prints (W.contents out.old) (W.contents out.new) result (printed told) }
     ensures load { (file word id path : List ℕ) (kind : Kind) (content : Content) → Says (map S.text words.now) (Load file word id path) → kind_of_word word ≡ Some kind → H.stores host.old file (Rests content)
         → (told : Told) × AnswersWith (H.holds host.old) (H.stores host.new file) (Sends (Batch kind) id) content file path told × Prints (W.contents out.old) (W.contents out.new) result (printed told) }
     ensures migrate { (file id policy : List ℕ) (content : Content) → Says (map S.text words.now) (Migrate file id policy) → H.stores host.old file (Rests content)
         → (told : Told) × AnswersWith (H.holds host.old) (H.stores host.new file) (Sends Migration id) content file policy told × Prints (W.contents out.old) (W.contents out.new) result (printed told) }
+    ensures deliver { (file manifest : List ℕ) (content : Content) → Says (map S.text words.now) (Deliver file manifest) → H.stores host.old file (Rests content)
+        → (told : Told) × AnswersDelivery (H.holds host.old) (H.stores host.new file) content file manifest told × Prints (W.contents out.old) (W.contents out.new) result (printed told) }
     ensures plan { (file word id path : List ℕ) (kind : KindOfCommand) (content : Content) → Says (map S.text words.now) (Plan file word id path) → command_kind_of word ≡ Some kind → H.stores host.old file (Rests content)
         → (told : Told) × AnswersWith (H.holds host.old) (H.stores host.new file) (Plans kind id) content file path told × Prints (W.contents out.old) (W.contents out.new) result (printed told) }
     ensures status { (file : List ℕ) (content : Content) → Says (map S.text words.now) (StatusLine file) → H.stores host.old file (Rests content)

@@ -125,7 +125,7 @@ impl Visitor for Counting {
 }
 
 /// The answer of a visit, or that the file couldn't be connected.
-fn answered(
+pub fn answered(
     alloc: Global,
     file: &str,
     visit: Result<Result<Answer, AllocError>, HostError>,
@@ -158,7 +158,7 @@ pub fn init<H: Host>(
 }
 
 /// The command whose batch, or whose policy, is in a file, if the file is there.
-fn command_of<H: Host>(
+pub fn command_of<H: Host>(
     alloc: Global,
     kind: CommandKind,
     id: &str,

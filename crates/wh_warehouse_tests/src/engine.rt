@@ -10,6 +10,8 @@
 //! A warehouse takes:
 //! - `send KIND ID`: the lines that it is handed are the batch, or the policy or its name where KIND is `migrate`, and what the engine answers is the
 //!   answer;
+//! - `deliver`: the lines that it is handed are commands, each a line `KIND ID` and then what `send` is handed, with an empty line between two. The answers
+//!   are a line each, and what stopped it is another;
 //! - `batch p1`: one of the batches of `batches`, by its id; `load p0 p8`: those from one to another, of which it answers those that aren't
 //!   accepted;
 //! - `plan KIND ID`: what such a command would write, a line an edit; `writes`: how many keys the last command wrote;
@@ -22,15 +24,17 @@
 //!
 //! Files take what a warehouse does but `mark`, `same` and `close`, each step over a connection of its own, `init POLICY`, and
 //! - `stops log STEP`, `stops database STEP`: the disk of the log or of the database file stops at each call of the step in turn, which is an
-//!   `init` or a `send`, and then the machine crashes. What is found is as before, or, where it was answered so, as after; the step sent again
-//!   leads to what it leads to with no stop; and an engine whose store refused a call answers nothing more.
+//!   `init`, a `send` or a `deliver`, and then the machine crashes. What is found is as before, or, where it was answered so, as after, and between the two only for a delivery;
+//!   the step made again leads to what it leads to with no stop; and an engine whose store refused a call answers nothing more.
 //!
-//! `redeliver POLICY KIND ID` stands alone: a warehouse is made in files, is sent a command, the machine crashes, and the command is sent again.
+//! Two stand alone. For `redeliver POLICY KIND ID` a warehouse is made in files, is sent a command, the machine crashes, and the command is sent again.
+//! For `deliver_again POLICY` it is handed the commands of a delivery, the machine crashes after it, and what wasn't acknowledged is delivered.
 //! `planning` has what the tables with no engine take.
 
 mod asking;
 mod batches;
 mod columns;
+mod deliveries;
 mod files;
 mod planning;
 mod plans;
@@ -109,6 +113,10 @@ fn performed(
         "trial" => Ok(Place::Tables(planning::trial(alloc)?)),
         "redeliver" => {
             files::redelivered(alloc, rest, handed, out)?;
+            Ok(Place::Nothing)
+        }
+        "deliver_again" => {
+            files::delivered_again(alloc, rest, handed, out)?;
             Ok(Place::Nothing)
         }
         _ => on_place(alloc, place, step, marked, out),

@@ -1,6 +1,7 @@
 //! What is asked of an engine, and its answers as lines.
 
 use crate::engine::batches::{batch, load};
+use crate::engine::deliveries::deliver;
 use crate::engine::plans::plan;
 use crate::engine::policies::policy;
 use crate::trouble::Trouble;
@@ -74,6 +75,7 @@ pub fn ask<S: Alter>(
     let (verb, rest) = parted(words, ' ');
     match verb {
         "send" => send(alloc, engine, rest, handed, out),
+        "deliver" => deliver(alloc, engine, handed, out),
         "batch" => batch(alloc, engine, rest, out),
         "load" => load(alloc, engine, rest, out),
         "plan" => plan(alloc, engine, rest, handed, out),

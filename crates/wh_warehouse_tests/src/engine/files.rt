@@ -4,6 +4,7 @@
 //! a file store.
 
 use crate::engine::asking::{ask, command_of, counts, push_answer, push_fault};
+use crate::engine::deliveries::{commands_of, push_replies};
 use crate::engine::initiated;
 use crate::engine::tables::{Answer, all_over, look_over};
 use crate::trouble::Trouble;
@@ -11,7 +12,9 @@ use crate::words::push_number;
 use sqlite::{Alter, Connection, Files, Options};
 use sqlite_disk::{Crash, Disk, Fuse, Memory};
 use std::alloc::Global;
-use wh_engine::{Command, Engine, Fault, InitFault, OpenFault, Reply, redeliver};
+use wh_engine::{
+    Command, Engine, Fault, InitFault, OpenFault, Replies, Reply, deliver_again, redeliver,
+};
 use wh_rows::Limits;
 use wh_scenarios::{parted, push_line};
 
@@ -119,6 +122,7 @@ fn attempt_over<S: Alter + Drop>(
     match verb {
         "init" => try_making(alloc, conn, rest),
         "send" => try_sending(alloc, conn, rest, work.handed),
+        "deliver" => try_delivering(alloc, conn, work.handed),
         _ => (conn, Err(Trouble)),
     }
 }
@@ -155,6 +159,51 @@ fn tried<S: Alter>(alloc: Global, engine: &mut Engine<S>, words: &str, handed: &
     let command = command_of(alloc, words, handed)?;
     let answer = engine.apply(alloc, &command);
     word(alloc, word_of(alloc, engine, &command, answer))
+}
+
+fn try_delivering<S: Alter + Drop>(
+    alloc: Global,
+    conn: Connection<S>,
+    handed: &str,
+) -> (Connection<S>, Answer) {
+    match Engine::open(alloc, conn) {
+        Ok(mut engine) => {
+            let answer = delivered(alloc, &mut engine, handed);
+            (engine.close(), answer)
+        }
+        Err((_, conn)) => (conn, Err(Trouble)),
+    }
+}
+
+fn delivered<S: Alter>(alloc: Global, engine: &mut Engine<S>, handed: &str) -> Answer {
+    let commands = commands_of(alloc, handed)?;
+    let replies = engine.deliver(alloc, &commands);
+    word(alloc, word_of_stop(alloc, engine, &commands, replies.stop))
+}
+
+/// What a delivery came to. Where the store refused a call, the engine must answer `Reopen` from then on.
+fn word_of_stop<S: Alter>(
+    alloc: Global,
+    engine: &mut Engine<S>,
+    commands: &[Command],
+    stop: Option<Fault>,
+) -> &'static str {
+    match stop {
+        None => "done",
+        Some(Fault::Store(_)) => {
+            if counts_nothing(alloc, engine) && delivers_nothing(alloc, engine, commands) {
+                "stopped"
+            } else {
+                "served"
+            }
+        }
+        Some(_) => "refused",
+    }
+}
+
+fn delivers_nothing<S: Alter>(alloc: Global, engine: &mut Engine<S>, commands: &[Command]) -> bool {
+    let replies = engine.deliver(alloc, commands);
+    replies.answers.is_empty() && matches!(replies.stop, Some(Fault::Reopen))
 }
 
 fn must_reopen<T>(answer: &Result<T, Fault>) -> bool {
@@ -380,12 +429,15 @@ fn stopped<D: Crash + Drop>(alloc: Global, files: Files<D>, work: Work<'_>, run:
     if is_text(&answer, "served") {
         return Found::Wrong;
     }
-    found_of(&found, is_text(&answer, "done"), is_stopped)
+    let is_done = is_text(&answer, "done");
+    found_of(&found, is_done, is_stopped, work.words == "deliver")
 }
 
-fn found_of(found: &Answer, is_done: bool, is_stopped: bool) -> Found {
+/// After a delivery that stopped some of the commands may be there, and others not.
+fn found_of(found: &Answer, is_done: bool, is_stopped: bool, is_delivery: bool) -> Found {
     let is_after = is_text(found, "after");
-    if is_stopped && (is_after || is_text(found, "before") && !is_done) {
+    let is_earlier = is_text(found, "before") || is_delivery && is_text(found, "neither");
+    if is_stopped && (is_after || is_earlier && !is_done) {
         Found::Right
     } else if is_after && is_done {
         Found::Whole
@@ -453,6 +505,58 @@ fn push_again<S: Alter + Drop>(
     match again {
         Ok((answer, mut engine)) => {
             push_answer(out, answer)?;
+            counts(alloc, &mut engine, out)
+        }
+        Err(_) => Err(Trouble),
+    }
+}
+
+/// `POLICY`: what commands are answered that are delivered, and what those are that weren't acknowledged when they are delivered after a crash,
+/// and how much the warehouse holds then.
+pub fn delivered_again(
+    alloc: Global,
+    name: &str,
+    handed: &str,
+    out: &mut String,
+) -> Result<(), Trouble> {
+    let commands = commands_of(alloc, handed)?;
+    delivered_over_a_crash(alloc, blank(alloc), name, &commands, out)
+}
+
+fn delivered_over_a_crash<D: Crash + Drop>(
+    alloc: Global,
+    files: Files<D>,
+    name: &str,
+    commands: &[Command],
+    out: &mut String,
+) -> Result<(), Trouble> {
+    if !files.may_be_used() {
+        return Err(Trouble);
+    }
+    match Connection::open_files(alloc, files, Options::new(1)) {
+        Ok(conn) => match initiated(alloc, conn, name, Limits::greatest()) {
+            Ok(engine) => push_both(
+                alloc,
+                deliver_again(alloc, engine, commands, Options::new(1)),
+                out,
+            ),
+            Err(_) => Err(Trouble),
+        },
+        Err(_) => Err(Trouble),
+    }
+}
+
+/// The answers of both deliveries, and the counts.
+fn push_both<S: Alter + Drop>(
+    alloc: Global,
+    again: Result<(Replies, Replies, Engine<S>), OpenFault>,
+    out: &mut String,
+) -> Result<(), Trouble> {
+    match again {
+        Ok((first, second, mut engine)) => {
+            push_replies(out, &first)?;
+            push_line(out, "after the crash")?;
+            push_replies(out, &second)?;
             counts(alloc, &mut engine, out)
         }
         Err(_) => Err(Trouble),

@@ -2,6 +2,7 @@
 
 mod bands;
 mod batches;
+mod deliveries;
 mod limits;
 mod migrations;
 mod opening;

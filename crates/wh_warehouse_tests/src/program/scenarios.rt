@@ -1,6 +1,7 @@
 //! Scenarios of the program, by what they are about.
 
 mod answers;
+mod deliveries;
 mod trials;
 mod warehouses;
 

@@ -1,7 +1,7 @@
 use Rattle.std.proofs.Common.{◌≡◌, refl, Some, true}
 use Rattle.std.proofs.lemmas.Result.{IfOk-weaker}
 use Rattle.wh_policy.specs.declared.attribute.Dim.{Dim}
-use Rattle.wh_program.specs.CommandLine.{Trial, Init, Load, Migrate, Plan, Status, is_operand, has_operands}
+use Rattle.wh_program.specs.CommandLine.{Trial, Init, Load, Migrate, Deliver, Plan, Status, is_operand, has_operands}
 use Rattle.wh_policy.specs.Words.{word_of, dim_of_word}
 use Rattle.wh_program.proofs.program.answer_to.Goals as goal
 
@@ -26,6 +26,8 @@ returns g c = record {
       c.answer_request.ensures.load file kind id path content (rw names at (c.in_ok-parse.ensures (Load file word id path) says.words_are says.operands)) stood;
   migrate = λ file id policy content says stood.
       c.answer_request.ensures.migrate file id policy content (c.in_ok-parse.ensures (Migrate file id policy) says.words_are says.operands) stood;
+  deliver = λ file manifest content says stood.
+      c.answer_request.ensures.deliver file manifest content (c.in_ok-parse.ensures (Deliver file manifest) says.words_are says.operands) stood;
   plan = λ file word id path kind content says names stood.
       c.answer_request.ensures.plan file kind id path content (rw names at (c.in_ok-parse.ensures (Plan file word id path) says.words_are says.operands)) stood;
   status = λ file content says stood.

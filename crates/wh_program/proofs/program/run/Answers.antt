@@ -21,6 +21,10 @@ pub returns-in-Err-clause-migrate : goal.returns-in-Err-clause-migrate
 returns-in-Err-clause-migrate g c = λ file id policy content says stood.
     (Err c.in-Err.field-0, c.in-Err.ensures.migrate file id policy content says stood, rw c.code-in-Err.ensures at c.print-in-Err.ensures)
 
+pub returns-in-Err-clause-deliver : goal.returns-in-Err-clause-deliver
+returns-in-Err-clause-deliver g c = λ file manifest content says stood.
+    (Err c.in-Err.field-0, c.in-Err.ensures.deliver file manifest content says stood, rw c.code-in-Err.ensures at c.print-in-Err.ensures)
+
 pub returns-in-Err-clause-plan : goal.returns-in-Err-clause-plan
 returns-in-Err-clause-plan g c = λ file word id path kind content says names stood.
     (Err c.in-Err.field-0, c.in-Err.ensures.plan file word id path kind content says names stood, rw c.code-in-Err.ensures at c.print-in-Err.ensures)

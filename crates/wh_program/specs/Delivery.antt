@@ -1,0 +1,124 @@
+-- What a delivery answers and leaves.
+use Rattle.std.specs.Prelude.{◌≡◌, ◌⊎◌, ⊤, ℕ, suc, ◌<◌, List, [], ◌∷◌, ◌++◌, length, take, flat_map, codes, if◌then◌else◌, Option, Some, None, Result, Ok, Err, IfOk, is_err}
+use Rattle.std.specs.Borrow.{Bor}
+use Rattle.std.specs.Fmt.{decimal}
+use Rattle.std.specs.List.{AllZip, list_any, zip}
+use Rattle.wh_day.specs.declared.error.ReadError.{ReadError}
+use Rattle.wh_day.specs.declared.error.ReadError.TheVariants as errors
+use Rattle.wh_batch.specs.Manifest.{manifest_of}
+use Rattle.wh_batch.specs.declared.manifest.BadManifest.{BadManifest}
+use Rattle.wh_batch.specs.declared.manifest.ManifestEntry.{ManifestEntry}
+use Rattle.wh_history.specs.Accepted.{Accepted}
+use Rattle.wh_history.specs.Tables.{Limits}
+use Rattle.wh_engine.specs.Admission.{accepted_after_all}
+use Rattle.wh_engine.specs.Delivered.{answers_to, AreAnswers}
+use Rattle.wh_engine.specs.declared.command.Command.{Command}
+use Rattle.wh_engine.specs.declared.command.Refused.{Refused as Refusal}
+use Rattle.wh_engine.specs.declared.command.Reply.{Reply}
+use Rattle.wh_engine.specs.declared.fault.Fault.{Fault}
+use Rattle.wh_engine.specs.declared.fault.Fault.TheVariants as fault
+use Rattle.wh_program.specs.Answer.{Printed, refused, failed, line, no_file_line, status_code}
+use Rattle.wh_program.specs.Reply.{reply_answer, refused_line, fault_answer}
+use Rattle.wh_program.specs.Standing.{Content, Holds, Standing, Rests, LeftAt}
+use Rattle.wh_program.specs.Warehouse.{Told, Opens, IsTried, IsCommandOf, IsNotConnected}
+use Rattle.wh_program.specs.declared.answer.Status.{Status}
+use Rattle.wh_program.specs.declared.answer.Status.TheVariants.{Done, Refused, Failed}
+
+-- ---- the text
+
+-- the line of the answer to a command under an id
+abbrev pub answered_line : List ℕ → Result Reply Refusal → List ℕ
+answered_line id (Ok reply) = (reply_answer id reply).text
+answered_line id (Err why) = refused_line why
+
+-- a line for each answer, in order of the commands
+abbrev pub answered_lines : List Command → List (Result Reply Refusal) → List ℕ
+answered_lines sent answers = flat_map (λ (p : Command × Result Reply Refusal). answered_line p.0.id p.1) (zip sent answers)
+
+-- the line of what stopped a delivery, if something did
+abbrev pub stop_line : Option Fault → List ℕ
+stop_line None = []
+stop_line (Some why) = (fault_answer why).text
+
+-- the lines of the answers, and that of what stopped the delivery
+abbrev pub delivery_text : List Command → List (Result Reply Refusal) → Option Fault → List ℕ
+delivery_text sent answers stop = answered_lines sent answers ++ stop_line stop
+
+-- a delivery that stopped has failed; else it was refused where one command was
+abbrev pub delivery_status : List (Result Reply Refusal) → Option Fault → Status
+delivery_status answers (Some why) = Failed
+delivery_status answers None = if list_any is_err answers then Refused else Done
+
+abbrev pub delivery_answer : List Command → List (Result Reply Refusal) → Option Fault → Printed
+delivery_answer sent answers stop = record { status = status_code (delivery_status answers stop); text = delivery_text sent answers stop }
+
+abbrev pub manifest_line : BadManifest → List ℕ
+manifest_line bad = line (codes "refused: M1 bad manifest, record " ++ decimal bad.number)
+
+-- ---- what is left
+
+-- What a delivery of these commands leaves of a warehouse with those, by the answers and by what stopped it.
+abbrev pub LeavesDelivered : Limits → List Accepted → List Command → List (Result Reply Refusal) → Option Fault → Standing → Type 0
+LeavesDelivered limits commands sent answers None after =
+    (answers ≡ answers_to limits commands sent) × (after ≡ Rests (Holds limits (accepted_after_all limits commands sent)))
+LeavesDelivered limits commands sent answers (Some fault.Memory) after =
+    AreAnswers limits commands sent answers × (after ≡ Rests (Holds limits (accepted_after_all limits commands (take (length answers) sent))))
+LeavesDelivered limits commands sent answers (Some (fault.Store cause)) after =
+    AreAnswers limits commands sent answers × (length answers < length sent)
+    × (after ≡ LeftAt (Holds limits (accepted_after_all limits commands (take (length answers) sent))) (Holds limits (accepted_after_all limits commands (take (suc (length answers)) sent))))
+LeavesDelivered limits commands sent answers (Some why) after = ⊥
+
+-- the engine answered the commands, from the first on
+pub record IsDelivered (sent : List Command) (limits : Limits) (commands : List Accepted) (told : Told) (after : Standing) : Type 0 where
+  pub answers : List (Result Reply Refusal)
+  pub stop : Option Fault
+  pub leaves : LeavesDelivered limits commands sent answers stop after
+  pub tells : IfOk told (λ a. a ≡ delivery_answer sent answers stop)
+
+-- ---- the manifest and its inputs
+
+-- what a host holds under a path, if a file is there
+abbrev pub Files : Type 1
+Files = List ℕ → Option (List ℕ) → Type 0
+
+-- each entry's command, whose bytes its file holds
+abbrev pub AreCommandsOf : Files → List ManifestEntry → List Command → Type 0
+AreCommandsOf holds entries sent = AllZip (λ (e : ManifestEntry) c. IsCommandOf holds e.kind e.id e.path (Some c)) entries sent
+
+-- the path of the first entry whose file isn't there
+abbrev pub IsFirstMissing : Files → List ManifestEntry → List ℕ → Type 0
+IsFirstMissing holds [] path = ⊥
+IsFirstMissing holds (e ∷ entries) path = (holds e.path None × (path ≡ e.path)) ⊎ ((bytes : List ℕ) × holds e.path (Some bytes) × IsFirstMissing holds entries path)
+
+-- why the commands of entries weren't had
+abbrev pub LacksInput : Files → List ManifestEntry → ReadError (Bor (List ℕ)) → Type 0
+LacksInput holds entries errors.Memory = ⊤
+LacksInput holds entries (errors.Fault path) = IsFirstMissing holds entries path.now
+
+-- ---- the word
+
+-- nothing was sent, and why is told, or memory ran out before; nothing changed
+pub record IsNotSent (stands : Standing → Type 0) (content : Content) (told : Told) (Tells : Printed → Type 0) : Type 0 where
+  pub same : stands (Rests content)
+  pub tells : IfOk told Tells
+
+-- these commands were sent to the warehouse in a file, or that can't be connected
+abbrev pub AnswersSent : (Standing → Type 0) → Content → (file : List ℕ) → List Command → Told → Type 0
+AnswersSent stands content file sent told = IsTried stands (Opens (IsDelivered sent) content) told ⊎ IsNotConnected stands content file told
+
+-- all commands of these entries were, or an input isn't there
+abbrev pub AnswersListed : Files → (Standing → Type 0) → Content → (file : List ℕ) → List ManifestEntry → Told → Type 0
+AnswersListed holds stands content file entries told =
+    ((sent : List Command) × AreCommandsOf holds entries sent × AnswersSent stands content file sent told)
+    ⊎ IsNotSent stands content told (λ a. (path : List ℕ) × IsFirstMissing holds entries path × (a ≡ failed (no_file_line path)))
+
+-- those of a manifest that was read, or it is a bad one
+abbrev pub AnswersRead : Files → (Standing → Type 0) → Content → (file : List ℕ) → Result (List ManifestEntry) BadManifest → Told → Type 0
+AnswersRead holds stands content file (Ok entries) told = AnswersListed holds stands content file entries told
+AnswersRead holds stands content file (Err bad) told = IsNotSent stands content told (λ a. a ≡ refused (manifest_line bad))
+
+-- A delivery of the commands that the manifest in a file lists. It is read first, then its inputs in order, and then the warehouse is opened.
+abbrev pub AnswersDelivery : Files → (Standing → Type 0) → Content → (file manifest : List ℕ) → Told → Type 0
+AnswersDelivery holds stands content file manifest told =
+    ((bytes : List ℕ) × holds manifest (Some bytes) × AnswersRead holds stands content file (manifest_of bytes) told)
+    ⊎ IsNotSent stands content told (λ a. holds manifest None × (a ≡ failed (no_file_line manifest)))
