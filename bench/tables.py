@@ -93,7 +93,7 @@ WORDS = {
     "records": "1,000 of RecordsOf",
     "greatest": "1,000 of Greatest",
     "anchors": "10 of greatest_anchor",
-    "after": "all facts, a thousand at a time by FactsAfter",
+    "scan": "a scan of all facts",
     "open": "the open alone",
 }
 
