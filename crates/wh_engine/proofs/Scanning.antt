@@ -1,5 +1,5 @@
 -- What a scan leaves of a warehouse, and its faults.
-use Rattle.std.proofs.Common.{◌≡◌, Bool, true, false, ◌||◌, List, Result, Ok, Err, Some, IfErr, refl, ap, inl}
+use Rattle.std.proofs.Common.{◌≡◌, Bool, true, false, ◌||◌, List, Result, Ok, Err, Some, IfErr, IsTrue, refl, sym, ap, inl}
 use Rattle.sqlite.specs.State.{State}
 use Rattle.wh_history.specs.Accepted.{Accepted}
 use Rattle.wh_history.specs.Tables.{Limits}
@@ -10,7 +10,7 @@ use Rattle.wh_sql.specs.declared.fault.ReadFault.{ReadFault}
 use Rattle.wh_sql.specs.declared.fault.ReadFault.TheVariants as reading
 use Rattle.wh_engine.specs.Answered.{IsReady}
 use Rattle.wh_engine.specs.Faults.{of_reading, IsServed}
-use Rattle.wh_engine.specs.Scanned.{IsWanting, IsServing, noting}
+use Rattle.wh_engine.specs.Scanned.{IsWanting, IsServing, ReadsThrough, noting}
 use Rattle.wh_engine.specs.declared.fault.Fault.{Fault}
 use Rattle.wh_engine.specs.declared.fault.Fault.TheVariants as faults
 use Rattle.wh_engine.specs.declared.session.Session.{Session}
@@ -42,3 +42,23 @@ module _ (limits : Limits) (commands : List Accepted) (session : Session) (old n
   serving (Err (faults.Refused why)) wants rests left = absurd wants
   serving (Err (faults.Damaged table)) wants rests left = absurd wants
   serving (Err faults.Reopen) wants rests left = absurd wants
+
+-- ---- an engine that has to be opened again
+
+or_false : (b : Bool) → (b || false) ≡ b
+or_false true = refl
+or_false false = refl
+
+pub unserved : {A : Type 0} (s : Session) (st : State) → IsTrue s.must_reopen → ReadsThrough {A = A} s s st st (Err faults.Reopen)
+unserved s st flagged = record {
+  spares = record {
+    clean = λ clean. clean;
+    same = λ clean t at calm. at;
+    left = λ clean t at. at.left;
+    rests = λ clean stored on calm. on;
+    leaves = λ clean stored on. on.left;
+  };
+  serves = λ clean limits commands ready. absurd (cc (flagged, ap (λ (q : Session). q.must_reopen) ready.session_is));
+  blames = λ clean stored on. tt;
+  noted = sym (ap (λ (m : Bool). record { limits = s.limits; policy = s.policy; must_reopen = m }) (or_false s.must_reopen));
+}

@@ -1,20 +1,16 @@
 //! The rows of a warehouse's table, one at a time.
 
-ghost use Rattle.std.specs.Prelude.{◌≡◌, ◌||◌, List, false, Ok, None, IsTrue, IfOk, IfErr, OnErr, MatchResult};
+ghost use Rattle.std.specs.Prelude.{◌≡◌, ◌||◌, List, false, Ok, Err, None, IsTrue, IfOk, IfErr, OnErr, MatchResult};
 ghost use Rattle.std.specs.Borrow.{sem, RestsIfErr};
 ghost use Rattle.std.specs.FinMap.{values};
-ghost use Rattle.sqlite.specs.State.{HasCleanDisk};
-ghost use Rattle.wh_history.specs.Accepted.{Accepted};
-ghost use Rattle.wh_history.specs.Tables.{Limits};
 ghost use Rattle.sqlite.specs.Order.{Row as Columns};
 ghost use Rattle.wh_rows.specs.Parts.{IsArranged};
 ghost use Rattle.wh_rows.specs.Raw.{Stored};
 ghost use Rattle.wh_rows.specs.Tables.{Tables as TenTables};
 ghost use Rattle.wh_store.specs.Reads.{Spares, SaysAtRest, SaysAsStored, state_of};
 ghost use Rattle.wh_store.specs.Scan.{rows_left, HandsOut, IsOver, AreLeft, HandsOutOf};
-ghost use Rattle.wh_engine.specs.Answered.{IsReady};
 ghost use Rattle.wh_engine.specs.Faults.{IsServed, BlamesDamage, IsWorkedOut};
-ghost use Rattle.wh_engine.specs.Scanned.{IsWanting, IsServing, noting};
+ghost use Rattle.wh_engine.specs.Scanned.{IsWanting, ReadsThrough};
 
 use crate::engine::Engine;
 use crate::fault::{Fault, stops};
@@ -64,29 +60,66 @@ impl<'e, S: Alter, T: Scanned> Scan<'e, S, T> {
     /// The next row. After a fault none comes; after a refusal of the store the engine has to be opened again.
     pub fn next_row(&mut self, alloc: Global) -> Result<Option<T::Row>, Fault>
         ensures same_reference { self.new.engine.ghost_name ≡ self.old.engine.ghost_name }
-        ensures reads { Spares (state_of S.Store self.old.engine.now.tables) (state_of S.Store self.new.engine.now.tables) (IsServed result) }
+        ensures reads { ReadsThrough self.old.engine.now.session self.new.engine.now.session (state_of S.Store self.old.engine.now.tables) (state_of S.Store self.new.engine.now.tables) result }
         // The rows are those of any tables at rest, so of those of the accepted commands.
         ensures rows { SaysAtRest (state_of S.Store self.old.engine.now.tables) (state_of S.Store self.new.engine.now.tables) (λ t. IfOk result (λ found. HandsOut (rows_left T.StoredTable.layout (T.StoredTable.rows t) self.old.cursor) found (rows_left T.StoredTable.layout (T.StoredTable.rows t) self.new.cursor))) }
         // Of any rows, whoever wrote them, none is missed and none comes twice.
         ensures stored { SaysAsStored (state_of S.Store self.old.engine.now.tables) (state_of S.Store self.new.engine.now.tables) (λ stored. IfOk result (λ found. HandsOutOf T.StoredTable.layout T.Keeps.bind (stored T.Keeps.name) self.old.cursor found self.new.cursor)) }
-        ensures serves { HasCleanDisk (state_of S.Store self.new.engine.now.tables) → (limits : Limits) (commands : List Accepted) → IsReady limits commands self.old.engine.now.session (state_of S.Store self.old.engine.now.tables)
-            → IsServing limits commands result self.new.engine.now.session (state_of S.Store self.new.engine.now.tables) }
-        // The table that is named as damaged stores a damaged row, whoever wrote it.
-        ensures blames { SaysAsStored (state_of S.Store self.old.engine.now.tables) (state_of S.Store self.new.engine.now.tables) (λ stored. BlamesDamage stored result) }
         ensures ended { OnErr result (IsOver self.new.cursor) }
         ensures over { IsOver self.old.cursor → (result ≡ Ok None) × (self.new.engine.now.tables ≡ self.old.engine.now.tables) × IsOver self.new.cursor }
-        ensures noted { self.new.engine.now.session ≡ noting self.old.engine.now.session result }
         ensures writes { self.new.engine.now.writes ≡ self.old.engine.now.writes }
         ensures work { IsWorkedOut result }
     {
-        let found = row_after::<T, S>(&mut self.engine.tables, alloc, &mut self.cursor);
-        note(&mut self.engine.session, stops(&found));
-        found
+        self.engine.advance::<T>(alloc, &mut self.cursor)
     }
 }
 
 impl<S: Alter> Engine<S> {
     ghost use Rattle.wh_engine.specs.contracts.engine.Engine.{the_row};
+
+    /// The next row of a table. After a fault none comes, and after a refusal of the store the engine has to be opened again.
+    fn advance<T: Scanned>(
+        &mut self,
+        alloc: Global,
+        cursor: &mut Cursor<T::Key, T::Row>,
+    ) -> Result<Option<T::Row>, Fault>
+        ensures reads { ReadsThrough self.old.session self.new.session (state_of S.Store self.old.tables) (state_of S.Store self.new.tables) result }
+        ensures rows { SaysAtRest (state_of S.Store self.old.tables) (state_of S.Store self.new.tables) (λ t. IfOk result (λ found. HandsOut (rows_left T.StoredTable.layout (T.StoredTable.rows t) cursor.old) found (rows_left T.StoredTable.layout (T.StoredTable.rows t) cursor.new))) }
+        // Of any rows, whoever wrote them, none is missed and none comes twice.
+        ensures stored { SaysAsStored (state_of S.Store self.old.tables) (state_of S.Store self.new.tables) (λ stored. IfOk result (λ found. HandsOutOf T.StoredTable.layout T.Keeps.bind (stored T.Keeps.name) cursor.old found cursor.new)) }
+        ensures ended { OnErr result (IsOver cursor.new) }
+        ensures over { IsOver cursor.old → (result ≡ Ok None) × (self.new.tables ≡ self.old.tables) × IsOver cursor.new }
+        ensures writes { self.new.writes ≡ self.old.writes }
+        ensures work { IsWorkedOut result }
+    {
+        let found = row_after::<T, S>(&mut self.tables, alloc, cursor);
+        note(&mut self.session, stops(&found));
+        found
+    }
+
+    /// The next row of a table behind those that the cursor handed out; of a new cursor the first. It is for a reader that goes
+    /// through several tables, or hands the engine on between two rows. After a refusal of the store it answers `Reopen`, and
+    /// after another fault no row comes any more.
+    pub fn next_row<T: Scanned>(
+        &mut self,
+        alloc: Global,
+        cursor: &mut Cursor<T::Key, T::Row>,
+    ) -> Result<Option<T::Row>, Fault>
+        ensures reads { ReadsThrough self.old.session self.new.session (state_of S.Store self.old.tables) (state_of S.Store self.new.tables) result }
+        ensures rows { SaysAtRest (state_of S.Store self.old.tables) (state_of S.Store self.new.tables) (λ t. IfOk result (λ found. HandsOut (rows_left T.StoredTable.layout (T.StoredTable.rows t) cursor.old) found (rows_left T.StoredTable.layout (T.StoredTable.rows t) cursor.new))) }
+        // Of any rows, whoever wrote them, none is missed and none comes twice.
+        ensures stored { SaysAsStored (state_of S.Store self.old.tables) (state_of S.Store self.new.tables) (λ stored. IfOk result (λ found. HandsOutOf T.StoredTable.layout T.Keeps.bind (stored T.Keeps.name) cursor.old found cursor.new)) }
+        ensures reopen { IsTrue self.old.session.must_reopen → (result ≡ Err Fault.Reopen) × (self.new.tables ≡ self.old.tables) × (cursor.new ≡ cursor.old) }
+        ensures only { result ≡ Err Fault.Reopen → IsTrue self.old.session.must_reopen }
+        ensures ended { self.old.session.must_reopen ≡ false → OnErr result (IsOver cursor.new) }
+        ensures over { self.old.session.must_reopen ≡ false → IsOver cursor.old → (result ≡ Ok None) × (self.new.tables ≡ self.old.tables) × IsOver cursor.new }
+        ensures writes { self.new.writes ≡ self.old.writes }
+    {
+        if !self.session.must_reopen {
+            return self.advance::<T>(alloc, cursor);
+        }
+        Err(Fault::Reopen)
+    }
 
     /// The rows of a table in the order of their keys, one at a time. After a refusal of the store it answers `Reopen`.
     pub fn scan<T: Scanned>(&mut self, alloc: Global) -> Result<Scan<'_, S, T>, Fault>

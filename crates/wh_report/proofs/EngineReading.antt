@@ -2,12 +2,11 @@
 use Rattle.std.proofs.Common.{◌≡◌, Bool, true, false, ◌||◌, Result, Ok, Err, IfErr, refl, sym, ap, ◌∙◌}
 use Rattle.sqlite.specs.State.{State}
 use Rattle.wh_engine.specs.Faults.{stops}
-use Rattle.wh_engine.specs.Scanned.{noting}
+use Rattle.wh_engine.specs.Scanned.{ReadsThrough, noting}
 use Rattle.wh_engine.specs.declared.fault.Fault.{Fault}
 use Rattle.wh_engine.specs.declared.fault.Fault.TheVariants as faults
 use Rattle.wh_engine.specs.declared.session.Session.{Session}
-use Rattle.wh_report.specs.EngineRead.{ReadsThrough}
-use Rattle.wh_report.specs.Output.{IsOfNoTable, of_warehouse}
+use Rattle.wh_report.specs.Output.{IsOfNoTable, IsOfCount, of_warehouse}
 use Rattle.wh_report.specs.declared.output.ReportFault.{ReportFault}
 use Rattle.wh_report.specs.declared.output.ReportFault.TheVariants as report
 
@@ -65,28 +64,36 @@ pub out_of_memory : {A B : Type 0} (r s : Session) (old new : State) (x : A) →
 out_of_memory r s old new x reads = record { spares = reads.spares; serves = reads.serves; blames = reads.blames; noted = reads.noted }
 
 -- or it was all, or the writer failed
-pub ended : {A : Type 0} (r s : Session) (old new : State) (x : A) (result : Result (Unit {0}) ReportFault) → IfErr result IsOfNoTable → ReadsThrough r s old new (Ok x) → ReadsThrough r s old new (of_warehouse result)
-ended r s old new x (Ok done) none reads = answered r s old new x done reads
+pub ended : {A B : Type 0} (r s : Session) (old new : State) (x : A) (result : Result B ReportFault) → IfErr result IsOfNoTable → ReadsThrough r s old new (Ok x) → ReadsThrough r s old new (of_warehouse result)
+ended r s old new x (Ok done) none reads = answered r s old new x tt reads
 ended r s old new x (Err report.Write) none reads = answered r s old new x tt reads
 ended r s old new x (Err (report.Warehouse faults.Memory)) none reads = out_of_memory r s old new x reads
 ended r s old new x (Err (report.Warehouse (faults.Refused why))) none reads = absurd none
 ended r s old new x (Err (report.Warehouse (faults.Damaged table))) none reads = absurd none
 ended r s old new x (Err (report.Warehouse (faults.Store cause))) none reads = absurd none
 ended r s old new x (Err (report.Warehouse faults.Reopen)) none reads = absurd none
+ended r s old new x (Err (report.Inconsistent table)) none reads = absurd none
+
+-- or the tables don't fit together
+pub counted_out : {A B : Type 0} (r s : Session) (old new : State) (x : A) (result : Result B ReportFault) → IfErr result IsOfCount → ReadsThrough r s old new (Ok x) → ReadsThrough r s old new (of_warehouse result)
+counted_out r s old new x (Ok done) none reads = answered r s old new x tt reads
+counted_out r s old new x (Err report.Write) none reads = absurd none
+counted_out r s old new x (Err (report.Warehouse faults.Memory)) none reads = out_of_memory r s old new x reads
+counted_out r s old new x (Err (report.Warehouse (faults.Refused why))) none reads = absurd none
+counted_out r s old new x (Err (report.Warehouse (faults.Damaged table))) none reads = absurd none
+counted_out r s old new x (Err (report.Warehouse (faults.Store cause))) none reads = absurd none
+counted_out r s old new x (Err (report.Warehouse faults.Reopen)) none reads = absurd none
+counted_out r s old new x (Err (report.Inconsistent table)) none reads = answered r s old new x tt reads
 
 -- a row was handed out
 pub handed_out : {A : Type 0} (r s t : Session) (old mid new : State) (x : Unit {0}) (row : A) → ReadsThrough r s old mid (Ok x) → ReadsThrough s t mid new (Ok row) → ReadsThrough {A = Unit {0}} r t old new (Ok tt)
 handed_out r s t old mid new x row first second = answered r t old new row tt (and_then r s t old mid new x (Ok row) first second)
 
--- or refused
-pub refused : {A : Type 0} (r s t : Session) (old mid new : State) (x : Unit {0}) (fault : Fault) (result : Result (Unit {0}) ReportFault) → result ≡ Err (report.Warehouse fault) → ReadsThrough r s old mid (Ok x) → ReadsThrough {A = A} s t mid new (Err fault) → ReadsThrough r t old new (of_warehouse result)
-refused r s t old mid new x fault result is first second = rw is (faulted r t old new fault (and_then r s t old mid new x (Err fault) first second))
-
 -- nothing was read, since memory ran out or the writer failed
-pub unread_memory : (s : Session) (st : State) (result : Result (Unit {0}) ReportFault) → result ≡ Err (report.Warehouse faults.Memory) → ReadsThrough s s st st (of_warehouse result)
+pub unread_memory : {B : Type 0} (s : Session) (st : State) (result : Result B ReportFault) → result ≡ Err (report.Warehouse faults.Memory) → ReadsThrough s s st st (of_warehouse result)
 unread_memory s st result is =
     let done : Unit {0} = tt in
     rw is (out_of_memory s s st st done (unread s st done))
 
-pub unread_unwritten : (s : Session) (st : State) (result : Result (Unit {0}) ReportFault) (fault : ReportFault) → result ≡ Err fault → fault ≡ report.Write → ReadsThrough s s st st (of_warehouse result)
+pub unread_unwritten : {B : Type 0} (s : Session) (st : State) (result : Result B ReportFault) (fault : ReportFault) → result ≡ Err fault → fault ≡ report.Write → ReadsThrough s s st st (of_warehouse result)
 unread_unwritten s st result fault is write = rw (is, write) (unread s st tt)

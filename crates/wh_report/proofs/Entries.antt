@@ -6,7 +6,7 @@ use Rattle.std.specs.List.{cons_option}
 use Rattle.std.proofs.lemmas.List.{append-nil}
 use Rattle.std.proofs.lemmas.List.Elements.{filter_map-append}
 use Rattle.wh_history.specs.declared.rows.DimRow.{DimRow}
-use Rattle.wh_report.specs.Labels.{entry, first_text, with_text, text_of, row_key, row_text, row_labels, profile_labels, labels_in, LabelRows, AreLabels}
+use Rattle.wh_report.specs.Labels.{entry, first_text, with_text, text_of, row_key, row_text, row_labels, AreLabels}
 use Rattle.wh_report.specs.declared.column.LabelColumn.{LabelColumn}
 use Rattle.wh_report.specs.declared.column.LabelColumn.TheVariants.{Main, Second, CurrentMain, FactProfile, CurrentProfile, CalendarMonth, CalendarHoliday}
 
@@ -56,7 +56,7 @@ rows_same column p q same (r ∷ rows) =
     ap (λ o. cons_option (entry (row_key column r) o) (row_labels column p rows)) (row_labels_same column p q same r)
     ∙ ap (cons_option (entry (row_key column r) (row_text column q r))) (rows_same column p q same rows)
 
--- the labels that the calls made of the profiles, and by them of the customers, are those of the column
-pub labels_by_profiles : (place : ℕ) (t : LabelRows) (profiles labels : List (ℕ × List ℕ)) → AreLabels profiles (profile_labels (CurrentProfile place) t.profiles) → AreLabels labels (row_labels (CurrentProfile place) (text_of profiles) t.rows) → AreLabels labels (labels_in (CurrentProfile place) t)
-labels_by_profiles place t profiles labels are of =
-    subst (AreLabels labels) (rows_same (CurrentProfile place) (text_of profiles) (λ number. first_text number (profile_labels (CurrentProfile place) t.profiles)) are.found t.rows) of
+-- the labels that were made of the profiles, and by them of the rows, are those of the entries of the profiles
+pub labels_through : (column : LabelColumn) (rows : List DimRow) (entries profiles labels : List (ℕ × List ℕ)) → AreLabels profiles entries → AreLabels labels (row_labels column (text_of profiles) rows) → AreLabels labels (row_labels column (λ number. first_text number entries) rows)
+labels_through column rows entries profiles labels are of =
+    subst (AreLabels labels) (rows_same column (text_of profiles) (λ number. first_text number entries) are.found rows) of

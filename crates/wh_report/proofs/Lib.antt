@@ -17,3 +17,8 @@ pub mod Reports
 pub mod Worked
 pub mod Outputs
 pub mod EngineReading
+pub mod HandedRows
+pub mod SummedFacts
+pub mod ReadReports
+pub mod MappedRows
+pub mod ReportedHistory

@@ -7,7 +7,7 @@ use Rattle.wh_engine.specs.declared.fault.Fault.{Fault}
 use Rattle.wh_store.specs.Scan.{HandsOut}
 use Rattle.wh_report.specs.Output.{IsOutBut, IsOutWhole, IsOutInPieces}
 use Rattle.wh_report.specs.declared.output.ReportFault.{ReportFault}
-use Rattle.wh_report.specs.declared.output.ReportFault.TheVariants.{Write, Warehouse}
+use Rattle.wh_report.specs.declared.output.ReportFault.TheVariants.{Write, Warehouse, Inconsistent}
 
 pub kept : (a b : Option (List ℕ)) → Keeps a b → Appends a b []
 kept None b keeps = tt
@@ -55,6 +55,7 @@ all_out a b text rest none out = subst (Appends a b) (sym (out.whole ∙ ap (λ 
 pub further : (a b c : Option (List ℕ)) (text piece more : List ℕ) (fault : ReportFault) → IsOutBut (piece ++ more) a b text → IsOutInPieces (Err fault) b c piece → IsOutInPieces (Err fault) a c text
 further a b c text piece more Write before out = (out.0, out.1 ++ more, joined a b c text piece more (out.0 ∷ out.1) before out.2)
 further a b c text piece more (Warehouse fault) before out = (out.0 ++ more, joined a b c text piece more out.0 before out.1)
+further a b c text piece more (Inconsistent table) before out = absurd out
 
 -- the last piece, or a beginning of it
 pub closing : (a b c : Option (List ℕ)) (text piece : List ℕ) (result : Result (Unit {0}) ReportFault) → IsOutBut piece a b text → IsOutInPieces result b c piece → IsOutInPieces result a c text
@@ -69,6 +70,7 @@ table_out a b c header rows result went out = closing a b c (header ++ rows) row
 pub header_cut : (a b : Option (List ℕ)) (header rows : List ℕ) (fault : ReportFault) → IsOutWhole (Err fault) a b header → IsOutInPieces (Err fault) a b (header ++ rows)
 header_cut a b header rows Write out = (out.0, out.1 ++ rows, joined a a b (header ++ rows) header rows (out.0 ∷ out.1) (none_out a (header ++ rows)) out.2)
 header_cut a b header rows (Warehouse fault) out = (header ++ rows, subst (λ n. IsOutBut (header ++ rows) a n (header ++ rows)) (sym out) (none_out a (header ++ rows)))
+header_cut a b header rows (Inconsistent table) out = absurd out
 
 -- ---- a line a row
 

@@ -31,7 +31,7 @@ use Rattle.wh_report.specs.Defined.{AreDefined}
 use Rattle.wh_report.specs.Joined.{column_of, fact_key}
 use Rattle.wh_report.specs.Label.{label, holidays_in, month_text, sold_as_asked, report}
 use Rattle.wh_report.specs.Labels.{LabelRows, labels_in, first_text, date_text, text_of}
-use Rattle.wh_report.specs.Laws.{EndsWith, total_line, TotalsAgree, Reads, LabelsByKeys, FactsAreCounted}
+use Rattle.wh_report.specs.Laws.{EndsWith, total_line, TotalsAgree, Reads, LabelsByKeys, SalesAreDated, FactsAreCounted}
 use Rattle.wh_report.specs.Request.{is_asked_of}
 use Rattle.wh_report.specs.Summary.{Sold}
 use Rattle.wh_report.specs.Sums.{Measured}
@@ -65,7 +65,7 @@ all_at P [] x k all within at = absurd (omega arith)
 all_at P (y ∷ xs) x zero all within at = subst P at all.0
 all_at P (y ∷ xs) x (suc k) all within at = all_at P xs x k all.1 (omega arith) at
 
-each_of : {X : Type 0} (P : X → Type 0) (xs : List X) (x : X) → AllByRecursion P xs → Contains xs x → P x
+pub each_of : {X : Type 0} (P : X → Type 0) (xs : List X) (x : X) → AllByRecursion P xs → Contains xs x → P x
 each_of P xs x all there = all_at P xs x there.0 all there.1 there.2
 
 -- the row of a day in the calendar
@@ -114,7 +114,7 @@ labels_by_keys limits commands words mode subject which s t ok reads there dated
 abbrev sold_with : List ℕ → SaleRecord → Sold
 sold_with label s = record { label = label; measures = record { quantity = s.quantity; amount = s.amount; cost = s.cost } }
 
-counted_as : (commands : List Accepted) (subject : Subject) (which : Reading) (r : Asked) (labels : ℕ → Option (List ℕ)) (sales : List SaleRecord) → AllByRecursion (λ s. labels (fact_key (column_of subject which) (fact_of commands s)) ≡ Some (label commands subject which s)) sales
+pub counted_as : (commands : List Accepted) (subject : Subject) (which : Reading) (r : Asked) (labels : ℕ → Option (List ℕ)) (sales : List SaleRecord) → AllByRecursion (λ s. labels (fact_key (column_of subject which) (fact_of commands s)) ≡ Some (label commands subject which s)) sales
     → filter_map (counted r (column_of subject which) labels) (map (fact_of commands) sales) ≡ map (λ s. sold_with (label commands subject which s) s) (filter (λ s. is_asked_of r s.day) sales)
 counted_as commands subject which r labels [] all = refl
 counted_as commands subject which r labels (s ∷ sales) all =
@@ -129,9 +129,17 @@ all_three : {X : Type 0} (P Q R : X → Type 0) (xs : List X) → AllByRecursion
 all_three P Q R [] ps qs rs = tt
 all_three P Q R (x ∷ xs) ps qs rs = ((ps.0, qs.0, rs.0), all_three P Q R xs ps.1 qs.1 rs.1)
 
+-- each sale has its label, by the key of its fact
+pub sales_labelled : (limits : Limits) (commands : List Accepted) (words : List ℕ) (mode : Mode) (subject : Subject) (which : Reading) (t : LabelRows) → IsAccepted limits commands → SalesAreDated commands → Reads commands words mode subject which → AreDefined commands (column_of subject which) t
+    → AllByRecursion (λ s. first_text (fact_key (column_of subject which) (fact_of commands s)) (labels_in (column_of subject which) t) ≡ Some (label commands subject which s)) (sold commands)
+sales_labelled limits commands words mode subject which t ok dated reads are =
+    all_weaker (λ s. IsGoodSale s × Named commands s × IsSome (calendar_at commands s.day)) (λ s. first_text (fact_key (column_of subject which) (fact_of commands s)) (labels_in (column_of subject which) t) ≡ Some (label commands subject which s))
+    (λ s h. labelled limits commands ok words mode t s h.0 h.1 h.2 subject which reads are)
+    (sold commands) (all_three IsGoodSale (Named commands) (λ s. IsSome (calendar_at commands s.day)) (sold commands) ok.sales (all_named commands) dated)
+
 pub facts_are_counted : FactsAreCounted
 facts_are_counted limits commands subject which r t labels ok dated reads are holds =
     counted_as commands subject which r (text_of labels) (sold commands)
-    (all_weaker (λ s. IsGoodSale s × Named commands s × IsSome (calendar_at commands s.day)) (λ s. text_of labels (fact_key (column_of subject which) (fact_of commands s)) ≡ Some (label commands subject which s))
-    (λ s h. holds.found (fact_key (column_of subject which) (fact_of commands s)) ∙ labelled limits commands ok r.words r.mode t s h.0 h.1 h.2 subject which reads are)
-    (sold commands) (all_three IsGoodSale (Named commands) (λ s. IsSome (calendar_at commands s.day)) (sold commands) ok.sales (all_named commands) dated))
+    (all_weaker (λ s. first_text (fact_key (column_of subject which) (fact_of commands s)) (labels_in (column_of subject which) t) ≡ Some (label commands subject which s)) (λ s. text_of labels (fact_key (column_of subject which) (fact_of commands s)) ≡ Some (label commands subject which s))
+    (λ s has. holds.found (fact_key (column_of subject which) (fact_of commands s)) ∙ has)
+    (sold commands) (sales_labelled limits commands r.words r.mode subject which t ok dated reads are))

@@ -1,5 +1,6 @@
 -- The text of a table, as a dump writes it.
 use Rattle.std.specs.Prelude.{ℕ, List, [], map, flat_map, ◌++◌}
+use Rattle.std.specs.FinMap.{values}
 use Rattle.std.specs.Fmt.{signed_decimal}
 use Rattle.csv.specs.Writing.{default_writer, row_text}
 use Rattle.hex.specs.Hex.{encode_lower}
@@ -7,7 +8,10 @@ use Rattle.sqlite_value.specs.declared.value.Value.{Value}
 use Rattle.sqlite_value.specs.declared.value.Value.TheVariants.{Int, Text, Blob}
 use Rattle.wh_history.specs.declared.rows.DimRow.{DimRow}
 use Rattle.wh_rows.specs.Holds.{Layout}
-use Rattle.wh_rows.specs.Rows.{product}
+use Rattle.wh_rows.specs.Rows as row
+use Rattle.wh_rows.specs.Tables.{Tables}
+use Rattle.wh_rows.specs.declared.table.Table.{Table}
+use Rattle.wh_rows.specs.declared.table.Table.TheVariants.{Meta, Command, Member, Change, Product, Store, Customer, Profile, Calendar, Fact}
 
 -- what stands in a column: a number in decimal, a text as it is, and two hexadecimal digits for each of some bytes. No row has another value
 abbrev pub value_field : Value → List ℕ
@@ -39,4 +43,17 @@ module _ {K R : Type 0} (layout : Layout K R) where
 
 -- the text of product, store or customer, which have the same columns
 abbrev pub dimension_text : List DimRow → List ℕ
-dimension_text = table_text product
+dimension_text = table_text row.product
+
+-- the text of a table among the ten
+abbrev pub text_of_table : Table → Tables → List ℕ
+text_of_table Meta t = table_text row.meta (values t.meta)
+text_of_table Command t = table_text row.command (values t.command)
+text_of_table Member t = table_text row.member (values t.member)
+text_of_table Change t = table_text row.change (values t.change)
+text_of_table Product t = table_text row.product (values t.product)
+text_of_table Store t = table_text row.store (values t.store)
+text_of_table Customer t = table_text row.customer (values t.customer)
+text_of_table Profile t = table_text row.profile (values t.profile)
+text_of_table Calendar t = table_text row.calendar (values t.calendar)
+text_of_table Fact t = table_text row.fact (values t.fact)

@@ -14,4 +14,4 @@ pub mod Counting
 pub mod Defined
 pub mod Dump
 pub mod Output
-pub mod EngineRead
+pub mod Reported

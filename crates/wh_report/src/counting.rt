@@ -60,7 +60,7 @@ impl Summary {
             → OnOk result (self.new ≡ summed (filter_map (counted request.now column (text_of labels.now)) (facts ++ fact.now ∷ []))) }
         // No sale of the range is passed over for want of a label.
         ensures labelled { OnOk result (is_asked_of request.now fact.now.day ≡ true → IsSome (text_of labels.now (fact_key column fact.now))) }
-        ensures no_label { IfErr result (λ e. e ≡ NoLabel → text_of labels.now (fact_key column fact.now) ≡ None) }
+        ensures no_label { IfErr result (λ e. e ≡ NoLabel → (is_asked_of request.now fact.now.day ≡ true) × (text_of labels.now (fact_key column fact.now) ≡ None)) }
         ensures damaged { (facts : List Fact) → self.old ≡ summed (filter_map (counted request.now column (text_of labels.now)) facts)
             → IfErr result (λ e. e ≡ Damaged → IsMeasured (measures_of fact.now) → 4_294_967_295 ≤ length (filter_map (counted request.now column (text_of labels.now)) facts)) }
     {

@@ -1,20 +1,20 @@
 //! Writing the text of a table out, as its rows are handed out.
 
 ghost use Rattle.std.specs.Prelude.{◌≡◌, IfErr, flat_map};
-ghost use Rattle.wh_engine.specs.Faults.{IsWorkedOut};
+ghost use Rattle.std.specs.FinMap.{values};
+ghost use Rattle.wh_engine.specs.Scanned.{ReadsThrough};
 ghost use Rattle.wh_store.specs.Reads.{SaysAtRest, state_of};
-ghost use Rattle.wh_store.specs.Scan.{rows_left};
-ghost use Rattle.wh_report.specs.Dump.{row_line, table_text};
-ghost use Rattle.wh_report.specs.EngineRead.{ReadsThrough};
-ghost use Rattle.wh_report.specs.Output.{IsOutInPieces, IsOfNoTable, of_warehouse};
+ghost use Rattle.wh_report.specs.Dump.{row_line, table_text, text_of_table};
+ghost use Rattle.wh_report.specs.Output.{IsOutInPieces, IsOfDump, IsOfNoTable, of_warehouse};
 
-use crate::dump::{DumpedTable, header_line, row_line};
+use crate::dumped::{DumpedTable, header_line, row_line};
 use crate::output::{ReportFault, write_whole};
 use sqlite::Alter;
 use std::alloc::Global;
 use std::io::Write;
-use wh_engine::{Fault, Scan};
-use wh_store::Scanned;
+use wh_engine::{Engine, Fault};
+use wh_rows::{Table, tables};
+use wh_store::{Cursor, Scanned};
 
 /// Writes the line of a row.
 #[tactic(auto, using(crate::proofs::Outputs::unwritten))]
@@ -30,20 +30,20 @@ fn write_row<T: DumpedTable, W: Write>(
     write_whole(out, &line)
 }
 
-/// Writes the lines of the rows that are left. `Memory`: also where they are more than can be counted.
+/// Writes the lines of all rows. `Memory`: also where they are more than can be counted.
 fn write_rows<T: DumpedTable + Scanned, S: Alter, W: Write>(
     alloc: Global,
-    scan: &mut Scan<'_, S, T>,
+    engine: &mut Engine<S>,
     out: &mut W,
 ) -> Result<(), ReportFault>
-    ensures same_reference { scan.new.engine.ghost_name ≡ scan.old.engine.ghost_name }
-    ensures reads { ReadsThrough scan.old.engine.now.session scan.new.engine.now.session (state_of S.Store scan.old.engine.now.tables) (state_of S.Store scan.new.engine.now.tables) (of_warehouse result) }
-    ensures writes { scan.new.engine.now.writes ≡ scan.old.engine.now.writes }
-    ensures out { SaysAtRest (state_of S.Store scan.old.engine.now.tables) (state_of S.Store scan.new.engine.now.tables) (λ t. IsOutInPieces result (W.contents out.old) (W.contents out.new) (flat_map (row_line T.StoredTable.layout) (rows_left T.StoredTable.layout (T.StoredTable.rows t) scan.old.cursor))) }
-    ensures work { IsWorkedOut (of_warehouse result) }
+    ensures reads { ReadsThrough engine.old.session engine.new.session (state_of S.Store engine.old.tables) (state_of S.Store engine.new.tables) (of_warehouse result) }
+    ensures writes { engine.new.writes ≡ engine.old.writes }
+    ensures out { SaysAtRest (state_of S.Store engine.old.tables) (state_of S.Store engine.new.tables) (λ t. IsOutInPieces result (W.contents out.old) (W.contents out.new) (flat_map (row_line T.StoredTable.layout) (values (T.StoredTable.rows t)))) }
+    ensures only { IfErr result IsOfDump }
 {
+    let mut cursor = Cursor::new(alloc);
     'rows: for _ in 0..u64::MAX {
-        match scan.next_row(alloc)? {
+        match engine.next_row::<T>(alloc, &mut cursor)? {
             Some(row) => write_row::<T, W>(alloc, &row, out)?,
             None => return Ok(()),
         }
@@ -51,21 +51,46 @@ fn write_rows<T: DumpedTable + Scanned, S: Alter, W: Write>(
     Err(ReportFault::Warehouse(Fault::Memory))
 }
 
-/// Writes the line of the columns' names and those of the rows that the scan has left: over a new scan the whole text of the table.
-/// Each line goes out as its row is handed out, and after an `Err` what went out is a beginning of the text.
+/// Writes the text of a table. Each line goes out as its row is handed out, and after an `Err` what went out is a beginning of
+/// the text.
 #[tactic(auto, using(crate::proofs::Outputs::unwritten, crate::proofs::Outputs::table_out, crate::proofs::EngineReading::unread_memory, crate::proofs::EngineReading::unread_unwritten))]
 pub fn write_table<T: DumpedTable + Scanned, S: Alter, W: Write>(
     alloc: Global,
-    scan: &mut Scan<'_, S, T>,
+    engine: &mut Engine<S>,
     out: &mut W,
 ) -> Result<(), ReportFault>
-    ensures same_reference { scan.new.engine.ghost_name ≡ scan.old.engine.ghost_name }
-    ensures reads { ReadsThrough scan.old.engine.now.session scan.new.engine.now.session (state_of S.Store scan.old.engine.now.tables) (state_of S.Store scan.new.engine.now.tables) (of_warehouse result) }
-    ensures writes { scan.new.engine.now.writes ≡ scan.old.engine.now.writes }
-    ensures out { SaysAtRest (state_of S.Store scan.old.engine.now.tables) (state_of S.Store scan.new.engine.now.tables) (λ t. IsOutInPieces result (W.contents out.old) (W.contents out.new) (table_text T.StoredTable.layout (rows_left T.StoredTable.layout (T.StoredTable.rows t) scan.old.cursor))) }
-    ensures work { IsWorkedOut (of_warehouse result) }
+    ensures reads { ReadsThrough engine.old.session engine.new.session (state_of S.Store engine.old.tables) (state_of S.Store engine.new.tables) (of_warehouse result) }
+    ensures writes { engine.new.writes ≡ engine.old.writes }
+    ensures out { SaysAtRest (state_of S.Store engine.old.tables) (state_of S.Store engine.new.tables) (λ t. IsOutInPieces result (W.contents out.old) (W.contents out.new) (table_text T.StoredTable.layout (values (T.StoredTable.rows t)))) }
+    ensures only { IfErr result IsOfDump }
 {
     let header = header_line::<T>(alloc)?;
     write_whole(out, &header)?;
-    write_rows::<T, S, W>(alloc, scan, out)
+    write_rows::<T, S, W>(alloc, engine, out)
+}
+
+/// Writes the text of any of the ten tables, as `write_table` does.
+pub fn dump<S: Alter, W: Write>(
+    alloc: Global,
+    engine: &mut Engine<S>,
+    table: Table,
+    out: &mut W,
+) -> Result<(), ReportFault>
+    ensures reads { ReadsThrough engine.old.session engine.new.session (state_of S.Store engine.old.tables) (state_of S.Store engine.new.tables) (of_warehouse result) }
+    ensures writes { engine.new.writes ≡ engine.old.writes }
+    ensures out { SaysAtRest (state_of S.Store engine.old.tables) (state_of S.Store engine.new.tables) (λ t. IsOutInPieces result (W.contents out.old) (W.contents out.new) (text_of_table table t)) }
+    ensures only { IfErr result IsOfDump }
+{
+    match table {
+        Table::Meta => write_table::<tables::Meta, S, W>(alloc, engine, out),
+        Table::Command => write_table::<tables::Command, S, W>(alloc, engine, out),
+        Table::Member => write_table::<tables::Member, S, W>(alloc, engine, out),
+        Table::Change => write_table::<tables::Change, S, W>(alloc, engine, out),
+        Table::Product => write_table::<tables::Product, S, W>(alloc, engine, out),
+        Table::Store => write_table::<tables::Store, S, W>(alloc, engine, out),
+        Table::Customer => write_table::<tables::Customer, S, W>(alloc, engine, out),
+        Table::Profile => write_table::<tables::Profile, S, W>(alloc, engine, out),
+        Table::Calendar => write_table::<tables::Calendar, S, W>(alloc, engine, out),
+        Table::Fact => write_table::<tables::Fact, S, W>(alloc, engine, out),
+    }
 }

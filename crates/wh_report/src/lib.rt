@@ -3,25 +3,29 @@
 
 mod column;
 mod counting;
-mod dump;
+mod dumped;
 mod dumping;
+mod labelling;
 mod labels;
 pub mod laws;
 mod mode;
 mod output;
+mod reporting;
 mod request;
 mod subject;
 mod summary;
+mod summing;
 mod text;
 mod totals;
 
 pub use column::{LabelColumn, column_of};
 pub use counting::FactFault;
-pub use dump::{DumpedTable, dimension_text, header_line, row_line, table_text};
-pub use dumping::write_table;
+pub use dumped::{DumpedTable, dimension_text, header_line, row_line, table_text};
+pub use dumping::{dump, write_table};
 pub use labels::Labels;
 pub use mode::Mode;
 pub use output::ReportFault;
+pub use reporting::report;
 pub use request::{Request, RequestFault};
 pub use subject::{Reading, SlotAttribute, Subject, reading_of, subject_in};
 pub use summary::{AddError, Summary};

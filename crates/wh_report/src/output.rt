@@ -9,6 +9,7 @@ use std::alloc::AllocError;
 use std::io::Write;
 use thiserror::Error;
 use wh_engine::Fault;
+use wh_rows::Table;
 
 /// Why a text of a warehouse isn't written.
 #[derive(Clone, Copy, Debug, PartialEq, Eq, Error)]
@@ -18,6 +19,10 @@ pub enum ReportFault {
     Write,
     #[error("the warehouse can't be read")]
     Warehouse(Fault),
+    /// A row that a fact names is missing in this table, or it has more facts than can be counted. Each row that is stored
+    /// has values of its types.
+    #[error("the warehouse's tables don't fit together")]
+    Inconsistent(Table),
 }
 
 impl From<AllocError> for ReportFault {

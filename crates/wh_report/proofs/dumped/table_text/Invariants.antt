@@ -1,6 +1,6 @@
 use Rattle.std.proofs.Common.{◌≡◌, take}
 use Rattle.wh_report.specs.Dump.{table_text}
-use Rattle.wh_report.proofs.dump.table_text.Given as goal
+use Rattle.wh_report.proofs.dumped.table_text.Given as goal
 
 -- the text of the rows so far
 abbrev pub invariant-loop-row : goal.invariant-loop-row

@@ -1,0 +1,121 @@
+-- What a report reads of a warehouse, and what it says.
+use Rattle.std.specs.Prelude.{◌≡◌, ◌≤◌, ◌⊎◌, ℕ, true, List, [], Option, None, Result, Ok, Err, option_map, unwrap_or, filter_map, length, Contains, ⊤}
+use Rattle.std.specs.Option.{option_and_then}
+use Rattle.std.specs.FinMap.{values}
+use Rattle.std.specs.declared.alloc.Global.{Global}
+use Rattle.std.specs.declared.vec.Vec.{Vec}
+use Rattle.wh_policy.specs.declared.attribute.Dim.{Dim}
+use Rattle.wh_policy.specs.declared.attribute.Dim.TheVariants.{Product, Store, Customer}
+use Rattle.wh_policy.specs.declared.policy.Policy.{Policy}
+use Rattle.wh_history.specs.Accepted.{Accepted}
+use Rattle.wh_history.specs.declared.facts.Fact.{Fact}
+use Rattle.wh_history.specs.declared.rows.DimRow.{DimRow}
+use Rattle.wh_rows.specs.Rows as row
+use Rattle.wh_rows.specs.Tables.{Tables}
+use Rattle.wh_rows.specs.declared.table.Table.{Table}
+use Rattle.wh_rows.specs.declared.table.Table.TheVariants as table
+use Rattle.wh_store.specs.Scan.{rows_left}
+use Rattle.wh_store.specs.declared.scan.Cursor.{Cursor}
+use Rattle.wh_engine.specs.Admission.{in_force}
+use Rattle.wh_engine.specs.Scanned.{IsWanting}
+use Rattle.wh_engine.specs.declared.fault.Fault.TheVariants as faults
+use Rattle.wh_report.specs.Asked.{Asked}
+use Rattle.wh_report.specs.Counting.{counted}
+use Rattle.wh_report.specs.Joined.{column_of, fact_key, table_of}
+use Rattle.wh_report.specs.Label.{report, text_asked}
+use Rattle.wh_report.specs.Labels.{LabelRows, labels_in, first_text}
+use Rattle.wh_report.specs.Request.{is_asked_of}
+use Rattle.wh_report.specs.Subject.{subject_in, reading_of}
+use Rattle.wh_report.specs.Summary.{Sold, Summed, summed}
+use Rattle.wh_report.specs.declared.column.LabelColumn.{LabelColumn}
+use Rattle.wh_report.specs.declared.column.LabelColumn.TheVariants.{Main, Second, CurrentMain, FactProfile, CurrentProfile, CalendarMonth, CalendarHoliday}
+use Rattle.wh_report.specs.declared.counting.FactFault.{FactFault}
+use Rattle.wh_report.specs.declared.counting.FactFault.TheVariants as uncountable
+use Rattle.wh_report.specs.declared.output.ReportFault.{ReportFault}
+use Rattle.wh_report.specs.declared.output.ReportFault.TheVariants.{Write, Warehouse, Inconsistent}
+
+-- ---- of any tables
+
+-- the rows of a dimension
+abbrev pub rows_of_dim : Dim → Tables → List DimRow
+rows_of_dim Product t = values t.product
+rows_of_dim Store t = values t.store
+rows_of_dim Customer t = values t.customer
+
+-- those of them that are left to hand out
+abbrev pub left_of_dim : Dim → Tables → Cursor ℕ DimRow → List DimRow
+left_of_dim Product t cursor = rows_left row.product t.product cursor
+left_of_dim Store t cursor = rows_left row.store t.store cursor
+left_of_dim Customer t cursor = rows_left row.customer t.customer cursor
+
+-- the rows of the dimension in which a column stands
+abbrev pub rows_for : LabelColumn → Tables → List DimRow
+rows_for (Main dim place) t = rows_of_dim dim t
+rows_for (Second dim place) t = rows_of_dim dim t
+rows_for (CurrentMain dim place) t = rows_of_dim dim t
+rows_for (FactProfile place) t = []
+rows_for (CurrentProfile place) t = values t.customer
+rows_for CalendarMonth t = []
+rows_for CalendarHoliday t = []
+
+abbrev pub label_rows : LabelColumn → Tables → LabelRows
+label_rows column t = record { rows = rows_for column t; profiles = values t.profile; days = values t.calendar }
+
+-- the text that a key leads to
+abbrev pub text_at : LabelColumn → Tables → ℕ → Option (List ℕ)
+text_at column t key = first_text key (labels_in column (label_rows column t))
+
+-- the facts of the range, each with the label that its key leads to
+abbrev pub sold_by_keys : Asked → LabelColumn → Tables → List Sold
+sold_by_keys r column t = filter_map (counted r column (text_at column t)) (values t.fact)
+
+-- a fact of the range whose key leads to no label
+pub record LacksLabel (r : Asked) (column : LabelColumn) (labels : ℕ → Option (List ℕ)) (facts : List Fact) : Type 0 where
+  pub fact : Fact
+  pub there : Contains facts fact
+  pub asked : is_asked_of r fact.day ≡ true
+  pub none : labels (fact_key column fact) ≡ None
+
+-- a row that a fact of the range names is missing in the table that is found; or that is the facts', and it has more than can be counted
+abbrev pub IsInconsistent : Asked → LabelColumn → (ℕ → Option (List ℕ)) → List Fact → Table → Type 0
+IsInconsistent r column labels facts found = ((found ≡ table_of column) × LacksLabel r column labels facts) ⊎ ((found ≡ table.Fact) × (4_294_967_295 ≤ length facts))
+
+-- what the facts come to, or that they can't be counted
+abbrev pub IsSummed : Asked → LabelColumn → (ℕ → Option (List ℕ)) → List Fact → Result Summed ReportFault → Type 0
+IsSummed r column labels facts (Ok sums) = sums ≡ summed (filter_map (counted r column labels) facts)
+IsSummed r column labels facts (Err (Inconsistent found)) = IsInconsistent r column labels facts found
+IsSummed r column labels facts (Err fault) = ⊤
+
+-- why a fact isn't counted behind others: its key leads to no label, or they are as many as can be counted
+abbrev pub IsUncounted : Asked → LabelColumn → (ℕ → Option (List ℕ)) → List Fact → Fact → ReportFault → Type 0
+IsUncounted r column labels before f (Inconsistent found) = ((found ≡ table_of column) × (is_asked_of r f.day ≡ true) × (labels (fact_key column f) ≡ None)) ⊎ ((found ≡ table.Fact) × (4_294_967_295 ≤ length before))
+IsUncounted r column labels before f fault = ⊤
+
+-- why a fact isn't counted, as a fault of the report
+abbrev pub uncounted : LabelColumn → FactFault → ReportFault
+uncounted column uncountable.Memory = Warehouse faults.Memory
+uncounted column uncountable.NoLabel = Inconsistent (table_of column)
+uncounted column uncountable.Damaged = Inconsistent table.Fact
+
+-- what a report of any tables says
+abbrev pub ReportsTables : Asked → LabelColumn → Tables → Result (Vec ℕ Global) ReportFault → Type 0
+ReportsTables r column t (Ok text) = text.items ≡ text_asked r (sold_by_keys r column t)
+ReportsTables r column t (Err (Inconsistent found)) = IsInconsistent r column (text_at column t) (values t.fact) found
+ReportsTables r column t (Err fault) = ⊤
+
+-- the column that is asked for under a policy
+abbrev pub column_asked : Policy → Asked → Option LabelColumn
+column_asked policy r = option_and_then (λ subject. option_map (column_of subject) (reading_of subject r.mode)) (subject_in policy r.words)
+
+-- ---- of the accepted commands
+
+-- The report that is asked for: what the sales come to, each under the label that the history gives it.
+abbrev pub report_of : List Accepted → Asked → List ℕ
+report_of commands r = unwrap_or (option_and_then (λ subject. option_map (λ which. report commands subject which r) (reading_of subject r.mode)) (subject_in (in_force commands) r.words)) []
+
+-- It is given, or memory ran out or the store refused a call. Nothing else comes.
+abbrev pub Reports : List Accepted → Asked → Result (Vec ℕ Global) ReportFault → Type 0
+Reports commands r (Ok text) = text.items ≡ report_of commands r
+Reports commands r (Err (Warehouse fault)) = IsWanting fault
+Reports commands r (Err (Inconsistent found)) = ⊥
+Reports commands r (Err Write) = ⊥
