@@ -120,4 +120,5 @@ def main():
             print(f"the same one by one: {total:.1f} s of processor time")
 
 
-main()
+if __name__ == "__main__":
+    main()

@@ -1,7 +1,8 @@
 #!/usr/bin/env bash
 # Refuses each growth of memory of a load in turn, and of one making, in the built program, and looks at what its file then holds.
 # Build the program first (`rt run` in crates/wh). growths.sh [STEP] [PROGRAM] [NAME]: every growth of a load of records, of a load of sales and of
-# a load of a late record that moves a sale, of a delivery of these three, or one in STEP of them, and of the making, which has more, one in ten times as many; with NAME (making, load, sales, late, delivery) of that one alone.
+# a load of a late record that moves a sale, of a delivery of these three, of a report and of a dump, or one in STEP of them, and of the making, which has more, one in ten times as many; with NAME (making, load, sales, late, delivery,
+# report, dump) of that one alone.
 #
 # A run is answered as with ample memory, with `failed: E8 memory`, or with `failed: E9 store, memory`. Behind E8 the file holds what it
 # held; the same words again are answered as accepted. Behind E9 they are answered as accepted or, of a load that was kept, as already
@@ -135,3 +136,39 @@ refuse_delivery() {
 }
 
 refuse_delivery "$step"
+
+# The same of words that read: what is printed is that of ample memory, or a beginning of it and the fault's line, of a report that line alone; the file
+# keeps its rows.
+refuse_reading() {
+    local name=$1 step=$2 number=1 refused=0 short=0 stopped=0 answered
+    shift 2
+    [ -z "$alone" ] || [ "$alone" = "$name" ] || return 0
+    cp "$work/late.before" "$work/file"
+    rm -f "$work/file-wal"
+    "$program" "$name" "$work/file" "$@" > "$work/ample" || fail "$name: $(cat "$work/ample")"
+    rows "$work/file" > "$work/rows"
+    while true; do
+        rm -f "$work/refused"
+        answered=0
+        LD_PRELOAD="$work/refuse.so" REFUSED_ALLOCATION=$number REFUSED_NOTE="$work/refused" "$program" "$name" "$work/file" "$@" > "$work/text" || answered=$?
+        [ -e "$work/refused" ] || break
+        grep -v '^failed: ' "$work/text" > "$work/told" || true
+        head -n "$(wc -l < "$work/told")" "$work/ample" | cmp -s - "$work/told" || fail "$name, growth $number refused: $(cat "$work/text")"
+        case "$answered/$(grep '^failed: ' "$work/text" || true)" in
+            0/) cmp -s "$work/text" "$work/ample" || fail "$name, growth $number refused: $(cat "$work/text")" ;;
+            "3/failed: E8 memory") short=$((short + 1)) ;;
+            "3/failed: E9 store, memory") stopped=$((stopped + 1)) ;;
+            *) fail "$name, growth $number refused: status $answered and $(cat "$work/text")" ;;
+        esac
+        [ "$name" != report ] || [ $answered = 0 ] || [ ! -s "$work/told" ] || fail "$name, growth $number refused: $(cat "$work/text")"
+        rows "$work/file" > "$work/found"
+        cmp -s "$work/found" "$work/rows" || fail "$name, growth $number refused: the rows differ"
+        refused=$((refused + 1))
+        number=$((number + step))
+    done
+    [ $refused -gt 0 ] || fail "$name: no growth was refused"
+    echo "$name: $refused growths refused, $short answered with E8, $stopped with E9, the others as with ample memory"
+}
+
+refuse_reading report "$step" product.brand was 2024-01-01 2024-12-31
+refuse_reading dump "$step" product

@@ -9,7 +9,7 @@ use std::alloc::Global;
 use std::fs::{self, File};
 use std::hash::{BuildHasher, RandomState};
 use std::io;
-use std::io::Read;
+use std::io::{Read, Write};
 use wh_program::{Host, HostError, Visitor};
 
 /// How many bytes a page of a new file has.
@@ -106,24 +106,26 @@ fn connect(
 }
 
 /// What a visitor answers over a connection, which is then closed.
-fn visited<D: Disk + Drop, V: Visitor>(
+fn visited<D: Disk + Drop, V: Visitor, W: Write>(
     alloc: Global,
     connection: Connection<FileStore<D>>,
     visitor: V,
+    out: &mut W,
 ) -> V::Output {
-    let (output, connection) = visitor.visit(alloc, connection);
+    let (output, connection) = visitor.visit(alloc, connection, out);
     // What was committed is in the files already, so a failure here loses nothing.
     let _ = connection.close();
     output
 }
 
 /// What a visitor answers over a connection that nothing keeps.
-fn visited_once<S: Alter + Drop, V: Visitor>(
+fn visited_once<S: Alter + Drop, V: Visitor, W: Write>(
     alloc: Global,
     connection: Connection<S>,
     visitor: V,
+    out: &mut W,
 ) -> V::Output {
-    let (output, _) = visitor.visit(alloc, connection);
+    let (output, _) = visitor.visit(alloc, connection, out);
     output
 }
 
@@ -151,29 +153,31 @@ impl Host for SystemHost<'_> {
         }
     }
 
-    fn with_connection<V: Visitor>(
+    fn with_connection<V: Visitor, W: Write>(
         &mut self,
         alloc: Global,
         name: &str,
         visitor: V,
+        out: &mut W,
     ) -> Result<V::Output, HostError> {
         match connect(self.runtime, name) {
-            Ok(connection) => Ok(visited(alloc, connection, visitor)),
+            Ok(connection) => Ok(visited(alloc, connection, visitor, out)),
             Err(error) => Err(error),
         }
     }
 
-    fn with_existing<V: Visitor>(
+    fn with_existing<V: Visitor, W: Write>(
         &mut self,
         alloc: Global,
         name: &str,
         visitor: V,
+        out: &mut W,
     ) -> Result<V::Output, HostError> {
         if !is_missing(self.runtime, name) {
-            return self.with_connection(alloc, name, visitor);
+            return self.with_connection(alloc, name, visitor, out);
         }
         match Connection::open_in_memory(alloc) {
-            Ok(connection) => Ok(visited_once(alloc, connection, visitor)),
+            Ok(connection) => Ok(visited_once(alloc, connection, visitor, out)),
             Err(_) => Err(HostError::Memory),
         }
     }

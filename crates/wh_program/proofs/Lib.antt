@@ -1,7 +1,10 @@
 pub mod CommandLineLemmas
 pub mod RunLemmas
 pub mod LineLemmas
+pub mod OutputLemmas
+pub mod ReadingLemmas
 pub mod WarehouseLemmas
 pub mod DeliveryLemmas
 pub mod OneLemmas
+pub mod TableNames
 pub mod Worked

@@ -1,43 +1,64 @@
--- The status of a run.
-use Rattle.std.proofs.Common.{◌∙◌, ◌≢◌, ◌⊎◌, inl, inr, ℕ, List, Option, Some, None, Ok, Err, sym, ap, arith}
-use Rattle.std.specs.Prelude.{Result}
-use Rattle.wh_policy.specs.Policy.{trial_policy, policy_at}
-use Rattle.wh_policy.specs.declared.attribute.Dim.{Dim}
-use Rattle.wh_policy.specs.declared.fault.PolicyFault.{PolicyFault}
-use Rattle.wh_policy.specs.declared.policy.Policy.{Policy}
-use Rattle.wh_batch.specs.declared.fault.BatchFault.{BatchFault}
-use Rattle.wh_history.specs.declared.rows.DimRow.{DimRow}
-use Rattle.wh_program.specs.Answer.{Printed, trial_answer, trial_answer_under, answer_under, table_answer, trial_rows, AnswersTrial}
-use Rattle.wh_program.specs.Run.{Prints, out_of_memory}
+-- What goes out of a run, and how it ends.
+use Rattle.std.proofs.Common.{◌≡◌, ◌≢◌, ◌∙◌, inl, inr, ℕ, ◌+◌, List, ◌∷◌, ◌++◌, length, take, append_assoc, Option, Err, subst, sym, ap, arith}
+use Rattle.std.specs.Io.KnownBytes.{Appends}
+use Rattle.std.specs.declared.alloc.AllocError.{AllocError}
+use Rattle.std.proofs.KnownBytes.{Appends-trans}
+use Rattle.std.proofs.Math.Seq.{take-append-add, take-append_seam}
+use Rattle.std.proofs.lemmas.List.{length-append}
+use Rattle.wh_program.specs.Answer.{Printed, done, status_code, write_line}
+use Rattle.wh_program.specs.Delivery.{Files}
+use Rattle.wh_program.specs.Readings.{behind}
+use Rattle.wh_program.specs.Run.{Prints}
+use Rattle.wh_program.specs.Task.{Task, Trial, Init, Load, Migrate, Deliver, Plan, Report, Dump, Status}
+use Rattle.wh_program.specs.Tasks.{Stores, Runs}
+use Rattle.wh_program.specs.Warehouse.{Told}
+use Rattle.wh_program.specs.declared.answer.Status.{Status as Ending}
+use Rattle.wh_program.specs.declared.answer.Status.TheVariants.{Done, Refused, Failed}
 
-table_is_no_usage : (table : Result (List DimRow) BatchFault) → (table_answer table).status ≢ 4
-table_is_no_usage (Ok rows) = λ e. absurd (omega arith)
-table_is_no_usage (Err fault) = λ e. absurd (omega arith)
+-- no command ends as wrong words do
+pub is_no_usage : (s : Ending) → status_code s ≢ 4
+is_no_usage Done = λ e. absurd (omega arith)
+is_no_usage Refused = λ e. absurd (omega arith)
+is_no_usage Failed = λ e. absurd (omega arith)
 
-trial_is_no_usage : (dim : Dim) (policy : Policy) (path : List ℕ) (file : Option (List ℕ)) → (trial_answer dim policy path file).status ≢ 4
-trial_is_no_usage dim policy path None = λ e. absurd (omega arith)
-trial_is_no_usage dim policy path (Some batch) = table_is_no_usage (trial_rows dim policy batch)
+-- what is printed behind a part of it
+pub prints-behind : (old mid new : Option (List ℕ)) (code : ℕ) (part : List ℕ) (a : Printed) → Appends old mid part → Prints mid new code a → Prints old new code (behind part a)
+prints-behind old mid new code part a went (inl whole) = inl (record { status = whole.status; text = Appends-trans old mid new part a.text went whole.text })
+prints-behind old mid new code part a went (inr cut) =
+    let line = take cut.told write_line in
+    let same : part ++ (take cut.kept a.text ++ line) ≡ take (length part + cut.kept) (part ++ a.text) ++ line =
+    sym (append_assoc part (take cut.kept a.text) line) ∙ ap (λ (t : List ℕ). t ++ line) (sym (take-append-add part a.text cut.kept)) in
+    inr (record {
+      kept = length part + cut.kept;
+      told = cut.told;
+      cut = omega (arith, length-append part a.text, cut.cut);
+      status = cut.status;
+      text = subst (Appends old new) same (Appends-trans old mid new part (take cut.kept a.text ++ line) went cut.text);
+    })
 
-under_is_no_usage : (dim : Dim) (batch : List ℕ) (policy : Result Policy PolicyFault) → (answer_under dim batch policy).status ≢ 4
-under_is_no_usage dim batch (Ok policy) = table_is_no_usage (trial_rows dim policy batch)
-under_is_no_usage dim batch (Err fault) = λ e. absurd (omega arith)
+-- the writer failed behind a part of a text that wants at least a byte
+pub prints-cut : (old mid new : Option (List ℕ)) (code : ℕ) (text part : List ℕ) (byte : ℕ) (rest : List ℕ) (told : ℕ) → text ≡ part ++ byte ∷ rest → Appends old mid part
+    → code ≡ 3 → Appends mid new (take told write_line) → Prints old new code (done text)
+prints-cut old mid new code text part byte rest told whole went failed said =
+    let line = take told write_line in
+    let same : part ++ line ≡ take (length part) text ++ line = ap (λ (t : List ℕ). t ++ line) (sym (ap (take (length part)) whole ∙ take-append_seam part (byte ∷ rest))) in
+    let longer : length text ≡ length part + length (byte ∷ rest) = ap length whole ∙ length-append part (byte ∷ rest) in
+    inr (record {
+      kept = length part;
+      told = told;
+      cut = omega arith;
+      status = failed;
+      text = subst (Appends old new) same (Appends-trans old mid new part line went said);
+    })
 
-trial_under_is_no_usage : (dim : Dim) (policy_path : List ℕ) (policy_file : Option (List ℕ)) (path : List ℕ) (file : Option (List ℕ)) → (trial_answer_under dim policy_path policy_file path file).status ≢ 4
-trial_under_is_no_usage dim policy_path None path file = λ e. absurd (omega arith)
-trial_under_is_no_usage dim policy_path (Some text) path None = λ e. absurd (omega arith)
-trial_under_is_no_usage dim policy_path (Some text) path (Some batch) = under_is_no_usage dim batch (policy_at text)
-
--- no trial is answered as wrong words are
-answer_is_no_usage : (holds : List ℕ → Option (List ℕ) → Type 0) (dim : Dim) (path : List ℕ) (policy : Option (List ℕ)) (answer : Printed) → AnswersTrial holds dim path policy answer → answer.status ≢ 4
-answer_is_no_usage holds dim path None answer (file, held, is) = λ e. trial_is_no_usage dim trial_policy path file (sym (ap (λ (a : Printed). a.status) is) ∙ e)
-answer_is_no_usage holds dim path (Some policy_path) answer (policy_file, file, policy-held, held, is) = λ e. trial_under_is_no_usage dim policy_path policy_file path file (sym (ap (λ (a : Printed). a.status) is) ∙ e)
-
-printed_is_no_usage : (old new : Option (List ℕ)) (code : ℕ) (answer : Printed) → answer.status ≢ 4 → Prints old new code answer → code ≢ 4
-printed_is_no_usage old new code answer other (inl whole) = λ e. other (sym whole.status ∙ e)
-printed_is_no_usage old new code answer other (inr cut) = λ e. let s = cut.status in absurd (omega arith)
-
--- no trial of a file ends as wrong words do
-pub run_is_no_usage : (holds : List ℕ → Option (List ℕ) → Type 0) (old new : Option (List ℕ)) (code : ℕ) (dim : Dim) (path : List ℕ) (policy : Option (List ℕ))
-    → Prints old new code out_of_memory ⊎ ((answer : Printed) × AnswersTrial holds dim path policy answer × Prints old new code answer) → code ≢ 4
-run_is_no_usage holds old new code dim path policy (inl short) = printed_is_no_usage old new code out_of_memory (λ e. absurd (omega arith)) short
-run_is_no_usage holds old new code dim path policy (inr (answer, answers, prints)) = printed_is_no_usage old new code answer (answer_is_no_usage holds dim path policy answer answers) prints
+-- memory ran out before anything was done
+pub not_run : (holds : Files) (before : Stores) (prints : Told → Type 0) (e : AllocError) (task : Task) → prints (Err e) → Runs holds before before prints task
+not_run holds before prints e (Trial dim path policy) p = (Err e, tt, p)
+not_run holds before prints e (Init file policy) p = λ content stood. (Err e, inr (record { same = stood; tells = tt }), p)
+not_run holds before prints e (Load file kind id path) p = λ content stood. (Err e, inr (record { same = stood; tells = tt }), p)
+not_run holds before prints e (Migrate file id policy) p = λ content stood. (Err e, inr (record { same = stood; tells = tt }), p)
+not_run holds before prints e (Deliver file manifest) p = λ content stood. (Err e, inr (record { same = stood; tells = tt }), p)
+not_run holds before prints e (Plan file kind id path) p = λ content stood. (Err e, inr (record { same = stood; tells = tt }), p)
+not_run holds before prints e (Report file words) p = λ content stood. (Err e, inr (record { same = stood; tells = tt }), p)
+not_run holds before prints e (Dump file table) p = λ content stood. (Err e, inr (record { same = stood; tells = tt }), p)
+not_run holds before prints e (Status file) p = λ content stood. (Err e, inr (record { same = stood; tells = tt }), p)

@@ -16,7 +16,7 @@ use Rattle.wh_history.specs.Tables.{dimension_table, trial_commands}
 use Rattle.wh_history.specs.declared.rows.DimRow.{DimRow}
 use Rattle.wh_program.specs.Table.{table_text}
 use Rattle.wh_program.specs.declared.answer.Status.{Status}
-use Rattle.wh_program.specs.declared.answer.Status.TheVariants.{Done, Refused, Failed, Usage}
+use Rattle.wh_program.specs.declared.answer.Status.TheVariants.{Done, Refused, Failed}
 
 pub record Printed : Type 0 where
   pub status : ℕ
@@ -26,7 +26,6 @@ abbrev pub status_code : Status → ℕ
 status_code Done = 0
 status_code Refused = 2
 status_code Failed = 3
-status_code Usage = 4
 
 abbrev pub done : List ℕ → Printed
 done text = record { status = 0; text = text }
@@ -93,6 +92,12 @@ no_kind_line = line (codes "error: KIND is none of product, store, customer and 
 
 abbrev pub no_command_kind_line : List ℕ
 no_command_kind_line = line (codes "error: KIND is none of product, store, customer, sales and migrate")
+
+abbrev pub no_mode_line : List ℕ
+no_mode_line = line (codes "error: MODE is none of was, is and prior")
+
+abbrev pub no_table_line : List ℕ
+no_table_line = line (codes "error: TABLE is none of meta, command, member, change, product, store, customer, profile, calendar and fact")
 
 abbrev pub no_text_line : List ℕ
 no_text_line = line (codes "error: an argument is no text")

@@ -1,5 +1,5 @@
 -- The words that the program takes.
-use Rattle.std.specs.Prelude.{ℕ, List, [], ◌∷◌, codes, Bool, true, not, ◌==◌, ◌&&◌, Option, Some, None, option_map, option_and_then, if◌then◌else◌, bytes_eq}
+use Rattle.std.specs.Prelude.{◌≡◌, ℕ, List, [], ◌∷◌, codes, Bool, true, not, ◌==◌, ◌&&◌, Option, Some, None, option_map, option_and_then, if◌then◌else◌, bytes_eq}
 use Rattle.clap.specs.Words.{App, Row, Rule, Text, first_of, new_app, new_rule, with_rule, with_subcommand}
 
 -- an operand that a command can't do without
@@ -41,6 +41,19 @@ migrate_app = with_rule migration_app (operand (codes "POLICY"))
 abbrev pub deliver_app : App
 deliver_app = with_rule (with_rule (new_app (codes "deliver")) (operand (codes "FILE"))) (operand (codes "MANIFEST"))
 
+-- a report, without its mode and its days
+abbrev pub asking_app : App
+asking_app = with_rule (with_rule (new_app (codes "report")) (operand (codes "FILE"))) (operand (codes "ATTRIBUTE"))
+
+abbrev pub mode_app : App
+mode_app = with_rule asking_app (operand (codes "MODE"))
+
+abbrev pub report_app : App
+report_app = with_rule (with_rule mode_app (operand (codes "FROM"))) (operand (codes "TO"))
+
+abbrev pub dump_app : App
+dump_app = with_rule (with_rule (new_app (codes "dump")) (operand (codes "FILE"))) (operand (codes "TABLE"))
+
 abbrev pub status_app : App
 status_app = with_rule (new_app (codes "status")) (operand (codes "FILE"))
 
@@ -56,9 +69,12 @@ second_app = with_subcommand (with_subcommand first_app load_app.top) migrate_ap
 abbrev pub third_app : App
 third_app = with_subcommand (with_subcommand second_app deliver_app.top) plan_app.top
 
+abbrev pub fourth_app : App
+fourth_app = with_subcommand (with_subcommand third_app report_app.top) dump_app.top
+
 -- the whole program
 abbrev pub program_app : App
-program_app = with_subcommand third_app status_app.top
+program_app = with_subcommand fourth_app status_app.top
 
 -- the words of a trial, under its own policy or the one in a file
 abbrev pub trial_words : List ℕ → List ℕ → Option (List ℕ) → List (List ℕ)
@@ -82,6 +98,8 @@ pub data CommandLine : Type 0 where
   Migrate : (file id policy : List ℕ) → CommandLine
   Deliver : (file manifest : List ℕ) → CommandLine
   Plan : (file kind id path : List ℕ) → CommandLine
+  Report : (file attribute mode from to : List ℕ) → CommandLine
+  Dump : (file table : List ℕ) → CommandLine
   Status : (file : List ℕ) → CommandLine
 
 -- the words of a command
@@ -92,6 +110,8 @@ words_of (Load file kind id path) = codes "load" ∷ file ∷ kind ∷ id ∷ pa
 words_of (Migrate file id policy) = codes "migrate" ∷ file ∷ id ∷ policy ∷ []
 words_of (Deliver file manifest) = codes "deliver" ∷ file ∷ manifest ∷ []
 words_of (Plan file kind id path) = codes "plan" ∷ file ∷ kind ∷ id ∷ path ∷ []
+words_of (Report file attribute mode from to) = codes "report" ∷ file ∷ attribute ∷ mode ∷ from ∷ to ∷ []
+words_of (Dump file table) = codes "dump" ∷ file ∷ table ∷ []
 words_of (Status file) = codes "status" ∷ file ∷ []
 
 -- no operand is an option
@@ -102,7 +122,14 @@ has_operands (Load file kind id path) = is_operand file && (is_operand kind && (
 has_operands (Migrate file id policy) = is_operand file && (is_operand id && is_operand policy)
 has_operands (Deliver file manifest) = is_operand file && is_operand manifest
 has_operands (Plan file kind id path) = is_operand file && (is_operand kind && (is_operand id && is_operand path))
+has_operands (Report file attribute mode from to) = is_operand file && (is_operand attribute && (is_operand mode && (is_operand from && is_operand to)))
+has_operands (Dump file table) = is_operand file && is_operand table
 has_operands (Status file) = is_operand file
+
+-- the words are those of a command, and none of its operands is an option
+pub record Says (words : List (List ℕ)) (line : CommandLine) : Type 0 where
+  pub words_are : words ≡ words_of line
+  pub operands : has_operands line ≡ true
 
 -- what the rows of a subcommand name
 abbrev pub named_trial : List Row → Option CommandLine
@@ -136,6 +163,16 @@ named_migrate rows = option_and_then (λ f. option_and_then (λ i. option_map (�
 abbrev pub named_deliver : List Row → Option CommandLine
 named_deliver rows = option_and_then (λ f. option_map (λ m. Deliver f m) (first_of (codes "MANIFEST") rows)) (first_of (codes "FILE") rows)
 
+-- a report, of which the words for its days are still to come
+abbrev pub named_days : (file attribute mode : List ℕ) → List Row → Option CommandLine
+named_days file attribute mode rows = option_and_then (λ from. option_map (λ to. Report file attribute mode from to) (first_of (codes "TO") rows)) (first_of (codes "FROM") rows)
+
+abbrev pub named_report : List Row → Option CommandLine
+named_report rows = option_and_then (λ f. option_and_then (λ a. option_and_then (λ m. named_days f a m rows) (first_of (codes "MODE") rows)) (first_of (codes "ATTRIBUTE") rows)) (first_of (codes "FILE") rows)
+
+abbrev pub named_dump : List Row → Option CommandLine
+named_dump rows = option_and_then (λ f. option_map (λ t. Dump f t) (first_of (codes "TABLE") rows)) (first_of (codes "FILE") rows)
+
 abbrev pub named_status : List Row → Option CommandLine
 named_status rows = option_map (λ f. Status f) (first_of (codes "FILE") rows)
 
@@ -148,6 +185,8 @@ named_by name rows =
     else if bytes_eq name (codes "migrate") then named_migrate rows
     else if bytes_eq name (codes "deliver") then named_deliver rows
     else if bytes_eq name (codes "plan") then named_plan rows
+    else if bytes_eq name (codes "report") then named_report rows
+    else if bytes_eq name (codes "dump") then named_dump rows
     else if bytes_eq name (codes "status") then named_status rows
     else None
 

@@ -1,4 +1,5 @@
 pub mod CommandLine
+pub mod Task
 pub mod Request
 pub mod Table
 pub mod Answer
@@ -8,4 +9,6 @@ pub mod Run
 pub mod Standing
 pub mod Warehouse
 pub mod Delivery
+pub mod Readings
+pub mod Tasks
 pub mod Files

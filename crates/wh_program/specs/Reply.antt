@@ -1,6 +1,10 @@
 -- What the commands on a warehouse answer.
 use Rattle.std.specs.Prelude.{ℕ, List, ◌++◌, codes, Result, Ok, Err}
 use Rattle.std.specs.Fmt.{decimal}
+use Rattle.std.specs.declared.alloc.Global.{Global}
+use Rattle.std.specs.declared.vec.Vec.{Vec}
+use Rattle.wh_policy.specs.declared.attribute.AttributeType.{AttributeType}
+use Rattle.wh_policy.specs.Types.{type_number}
 use Rattle.wh_engine.specs.declared.command.Receipt.{Receipt}
 use Rattle.wh_engine.specs.declared.command.Reply.{Reply}
 use Rattle.wh_engine.specs.declared.command.Reply.TheVariants.{Accepted, Already}
@@ -20,7 +24,13 @@ use Rattle.wh_rows.specs.declared.table.Table.{Table}
 use Rattle.wh_rows.specs.declared.cause.Cause.{Cause}
 use Rattle.wh_rows.specs.declared.cause.Cause.TheVariants as cause
 use Rattle.wh_plan.specs.Edits.{Edits}
-use Rattle.wh_program.specs.Answer.{Printed, done, refused, failed, line, batch_line, policy_line, memory_line}
+use Rattle.wh_report.specs.declared.mode.Mode.{Mode}
+use Rattle.wh_report.specs.declared.output.ReportFault.{ReportFault}
+use Rattle.wh_report.specs.declared.output.ReportFault.TheVariants as report
+use Rattle.wh_report.specs.declared.request.RequestFault.{RequestFault}
+use Rattle.wh_report.specs.declared.request.RequestFault.TheVariants as request
+use Rattle.wh_report.specs.Words.{mode_word}
+use Rattle.wh_program.specs.Answer.{Printed, done, refused, failed, line, batch_line, policy_line, memory_line, write_line}
 use Rattle.wh_program.specs.PlanText.{plan_text}
 
 -- what an accepted command is answered, after the word for how it was taken
@@ -79,6 +89,31 @@ sent_answer id (Err fault) = fault_answer fault
 abbrev pub plan_answer : Result Edits Fault → Printed
 plan_answer (Ok edits) = done (plan_text edits)
 plan_answer (Err fault) = fault_answer fault
+
+-- ---- reports
+
+-- an attribute of this type has nothing to show in the mode
+abbrev pub no_reading_line : AttributeType → Mode → List ℕ
+no_reading_line kind mode = line (codes "refused: G2 no reading, type " ++ decimal (type_number kind) ++ codes " " ++ mode_word mode)
+
+-- what is wrong with a report that was asked for
+abbrev pub request_line : RequestFault → List ℕ
+request_line request.NoAttribute = line (codes "refused: G1 no attribute")
+request_line (request.NoReading kind mode) = no_reading_line kind mode
+request_line (request.NoDateReading mode) = line (codes "refused: G2 no reading, date " ++ mode_word mode)
+request_line request.BadRange = line (codes "refused: G3 bad range")
+
+-- the answer where the text of a report, or of a table, isn't had
+abbrev pub report_fault_answer : ReportFault → Printed
+report_fault_answer report.Write = failed write_line
+report_fault_answer (report.Warehouse fault) = fault_answer fault
+report_fault_answer (report.Inconsistent table) = failed (damaged_line table)
+
+abbrev pub report_answer : Result (Vec ℕ Global) ReportFault → Printed
+report_answer (Ok text) = done text.items
+report_answer (Err fault) = report_fault_answer fault
+
+-- ---- making and opening
 
 abbrev pub made_line : List ℕ
 made_line = line (codes "accepted 1 init: 0 records, 0 placeholders")

@@ -22,7 +22,6 @@ use Rattle.wh_engine.specs.declared.opening.InitFault.TheVariants as making
 use Rattle.wh_store.specs.declared.fault.OpenFault.{OpenFault}
 use Rattle.wh_store.specs.declared.fault.OpenFault.TheVariants as opening
 use Rattle.wh_program.specs.Answer.{Printed, done, failed, no_file_line}
-use Rattle.wh_program.specs.CommandLine.{CommandLine, words_of, has_operands}
 use Rattle.wh_program.specs.Reply.{sent_answer, plan_answer, opening_answer, status_answer, making_answer, made_line}
 use Rattle.wh_program.specs.Run.{out_of_memory}
 use Rattle.wh_program.specs.Standing.{Content, Nothing, Holds, Standing, Rests, LeftAt}
@@ -176,8 +175,3 @@ Plans kind id bytes = Opens (IsForetold (record { id = id; kind = kind; bytes = 
 
 abbrev pub AnswersStatus : (Standing → Type 0) → Content → (file : List ℕ) → Told → Type 0
 AnswersStatus stands content file told = IsTried stands (Opens IsCounted content) told ⊎ IsNotConnected stands content file told
-
--- the words are those of a command, and none of its operands is an option
-pub record Says (words : List (List ℕ)) (line : CommandLine) : Type 0 where
-  pub words_are : words ≡ words_of line
-  pub operands : has_operands line ≡ true

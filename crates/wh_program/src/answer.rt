@@ -5,13 +5,12 @@ ghost use Rattle.wh_program.specs.Answer.{status_code};
 
 use std::marker::Model;
 
-/// How a run ends.
+/// How a run ends whose words are those of a command.
 #[derive(Clone, Copy, Debug, PartialEq, Eq)]
 pub enum Status {
     Done,
     Refused,
     Failed,
-    Usage,
 }
 
 impl Status {
@@ -22,7 +21,6 @@ impl Status {
             Status::Done => 0,
             Status::Refused => 2,
             Status::Failed => 3,
-            Status::Usage => 4,
         }
     }
 }
@@ -49,10 +47,10 @@ impl Answer {
         Answer { status, text }
     }
 
-    pub fn code(&self) -> u8
-        ensures { result ≡ self.now.status }
+    pub fn status(&self) -> Status
+        ensures { status_code result ≡ self.now.status }
     {
-        self.status.code()
+        self.status
     }
 
     pub fn text(&self) -> &[u8]

@@ -1,24 +1,30 @@
-//! The words of the command line.
+//! What the words of the command line ask for.
 
-ghost use Rattle.std.specs.Prelude.{◌≡◌, ℕ, List, Option, IfOk, IfErr, IsErr, Some, map, option_map, codes, true, false};
-ghost use Rattle.clap.specs.Words.{app_of, first_of, found_of, rows_of, subcommand_rows_of, kind_of, takes, subcommand_of};
-ghost use Rattle.clap.specs.declared.builder.command.Command.TheViews.{out-Command};
+ghost use Rattle.std.specs.Prelude.{◌≡◌, IfOk, IfErr, IsErr, Some, Ok, Err, map, option_map, true};
+ghost use Rattle.clap.specs.Words.{first_of, found_of, rows_of, subcommand_rows_of, kind_of, takes, subcommand_of};
 ghost use Rattle.clap.specs.declared.error.ErrorKind.TheVariants.{OutOfMemory};
-ghost use Rattle.wh_program.specs.Request.{sent_of, line_of, IsUsage, AsksLoad, AsksPlan, Asks};
-ghost use Rattle.wh_batch.specs.Kind.{kind_of_word, command_kind_of};
-ghost use Rattle.wh_program.specs.CommandLine.{CommandLine, first_app, program_app, operands_app, trial_app, init_app, kind_app, called_app, load_app, migration_app, migrate_app, deliver_app, plan_app, second_app, third_app, status_app, words_of, has_operands, named, named_trial, named_init, named_sent, named_load, named_migrate, named_deliver, named_plan, named_status};
+ghost use Rattle.wh_rows.specs.Names.{table_named};
+ghost use Rattle.wh_program.specs.CommandLine.{CommandLine, program_app, words_of, has_operands, named, named_trial, named_init, named_sent, named_load, named_migrate, named_deliver, named_plan, named_report, named_dump, named_status};
+ghost use Rattle.wh_program.specs.Request.{text_of, sent_of, line_of, asked_in, Asks};
+ghost use Rattle.wh_program.specs.Task.{trial_asked, load_asked, plan_asked, report_asked, dump_asked};
 
-use crate::lines::{NO_COMMAND_KIND_LINE, NO_COMMAND_LINE, NO_DIMENSION_LINE, NO_KIND_LINE};
+use crate::lines::{
+    NO_COMMAND_KIND_LINE, NO_COMMAND_LINE, NO_DIMENSION_LINE, NO_KIND_LINE, NO_MODE_LINE,
+    NO_TABLE_LINE,
+};
+use crate::words::program_command;
+use clap::ArgMatches;
 use clap::error::ErrorKind;
-use clap::{Arg, ArgMatches, Command};
 use std::alloc::{AllocError, Global};
 use std::convert::AsStr;
 use wh_batch::{CommandKind, Kind};
 use wh_policy::Dim;
+use wh_report::Mode;
+use wh_rows::Table;
 
-/// What the words ask for.
+/// What a command is to do.
 #[derive(Debug, Drop)]
-pub enum Request<'a> {
+pub enum Task<'a> {
     /// A dimension's table as the batch in the file `path` makes it, under the policy in a file or the trial's own.
     Trial {
         dim: Dim,
@@ -55,207 +61,39 @@ pub enum Request<'a> {
         id: &'a str,
         path: &'a str,
     },
+    /// What was sold, by an attribute of the warehouse in `file`.
+    Report {
+        file: &'a str,
+        asked: AskedReport<'a>,
+    },
+    /// A table of the warehouse in `file`.
+    Dump {
+        file: &'a str,
+        table: Table,
+    },
     /// How much the warehouse in `file` holds.
     Status {
         file: &'a str,
     },
+}
+
+/// The words of a report, of which only the one for the mode was looked at.
+#[derive(Clone, Copy, Debug, Drop)]
+pub struct AskedReport<'a> {
+    pub attribute: &'a str,
+    pub mode: Mode,
+    pub from: &'a str,
+    pub to: &'a str,
+}
+
+/// What the words ask for.
+#[derive(Debug, Drop)]
+pub enum Request<'a> {
+    Task(Task<'a>),
     /// Help that was asked for.
     Help(String),
     /// What is wrong with the words.
     Usage(String),
-}
-
-fn operands_command<'a>(alloc: Global) -> Result<Command<'a>, AllocError>
-    ensures app { IfOk result (λ c. app_of c ≡ operands_app) }
-    ensures local { IfOk result (λ c. (out-Command c).has_globals ≡ false) }
-{
-    let dimension = Arg::new(alloc, "DIMENSION")
-        .required(true)
-        .help("product, store or customer");
-    let batch = Arg::new(alloc, "CSV")
-        .required(true)
-        .help("the batch's file");
-    Command::new(alloc, "trial")
-        .about("Prints a dimension's table as one batch makes it")
-        .after_help("Example: wh trial product examples/products.csv")
-        .arg(dimension)?
-        .arg(batch)
-}
-
-fn trial_command<'a>(alloc: Global) -> Result<Command<'a>, AllocError>
-    ensures app { IfOk result (λ c. app_of c ≡ trial_app) }
-    ensures local { IfOk result (λ c. (out-Command c).has_globals ≡ false) }
-{
-    let policy = Arg::new(alloc, "POLICY").long("policy").help(
-        "the policy's file; without it a policy of a few attributes",
-    );
-    operands_command(alloc)?.arg(policy)
-}
-
-fn init_command<'a>(alloc: Global) -> Result<Command<'a>, AllocError>
-    ensures app { IfOk result (λ c. app_of c ≡ init_app) }
-    ensures local { IfOk result (λ c. (out-Command c).has_globals ≡ false) }
-{
-    let file = Arg::new(alloc, "FILE")
-        .required(true)
-        .help("the warehouse's file");
-    let policy = Arg::new(alloc, "POLICY")
-        .required(true)
-        .help("the policy's file");
-    Command::new(alloc, "init")
-        .about("Makes a warehouse")
-        .after_help("Example: wh init shop.wh examples/flat.toml")
-        .arg(file)?
-        .arg(policy)
-}
-
-fn kind_command<'a>(alloc: Global, name: &'a str, kinds: &'a str) -> Result<Command<'a>, AllocError>
-    ensures app { IfOk result (λ c. app_of c ≡ kind_app name.now) }
-    ensures local { IfOk result (λ c. (out-Command c).has_globals ≡ false) }
-{
-    let file = Arg::new(alloc, "FILE")
-        .required(true)
-        .help("the warehouse's file");
-    let kind = Arg::new(alloc, "KIND").required(true).help(kinds);
-    Command::new(alloc, name).arg(file)?.arg(kind)
-}
-
-/// A command that takes what is called by an id.
-fn called_command<'a>(
-    alloc: Global,
-    name: &'a str,
-    kinds: &'a str,
-) -> Result<Command<'a>, AllocError>
-    ensures app { IfOk result (λ c. app_of c ≡ called_app name.now) }
-    ensures local { IfOk result (λ c. (out-Command c).has_globals ≡ false) }
-{
-    let id = Arg::new(alloc, "ID")
-        .required(true)
-        .help("what the command is called, once");
-    kind_command(alloc, name, kinds)?.arg(id)
-}
-
-fn load_command<'a>(alloc: Global) -> Result<Command<'a>, AllocError>
-    ensures app { IfOk result (λ c. app_of c ≡ load_app) }
-    ensures local { IfOk result (λ c. (out-Command c).has_globals ≡ false) }
-{
-    let batch = Arg::new(alloc, "CSV")
-        .required(true)
-        .help("the batch's file");
-    called_command(alloc, "load", "product, store, customer or sales")?
-        .about("Loads a batch into a warehouse")
-        .after_help("Example: wh load shop.wh product p1 examples/late.csv")
-        .arg(batch)
-}
-
-/// A migration, without its policy.
-fn migration_command<'a>(alloc: Global) -> Result<Command<'a>, AllocError>
-    ensures app { IfOk result (λ c. app_of c ≡ migration_app) }
-    ensures local { IfOk result (λ c. (out-Command c).has_globals ≡ false) }
-{
-    let file = Arg::new(alloc, "FILE")
-        .required(true)
-        .help("the warehouse's file");
-    let id = Arg::new(alloc, "ID")
-        .required(true)
-        .help("what the migration is called, once");
-    Command::new(alloc, "migrate")
-        .about("Puts a newer policy in force")
-        .after_help("Example: wh migrate shop.wh m1 newer.toml")
-        .arg(file)?
-        .arg(id)
-}
-
-fn migrate_command<'a>(alloc: Global) -> Result<Command<'a>, AllocError>
-    ensures app { IfOk result (λ c. app_of c ≡ migrate_app) }
-    ensures local { IfOk result (λ c. (out-Command c).has_globals ≡ false) }
-{
-    let policy = Arg::new(alloc, "POLICY")
-        .required(true)
-        .help("the newer policy's file");
-    migration_command(alloc)?.arg(policy)
-}
-
-fn deliver_command<'a>(alloc: Global) -> Result<Command<'a>, AllocError>
-    ensures app { IfOk result (λ c. app_of c ≡ deliver_app) }
-    ensures local { IfOk result (λ c. (out-Command c).has_globals ≡ false) }
-{
-    let file = Arg::new(alloc, "FILE")
-        .required(true)
-        .help("the warehouse's file");
-    let manifest = Arg::new(alloc, "MANIFEST")
-        .required(true)
-        .help("the manifest's file: a line KIND,ID,INPUT a command");
-    Command::new(alloc, "deliver")
-        .about("Sends the commands of a manifest, in order")
-        .after_help("Example: wh deliver shop.wh examples/night.csv")
-        .arg(file)?
-        .arg(manifest)
-}
-
-fn plan_command<'a>(alloc: Global) -> Result<Command<'a>, AllocError>
-    ensures app { IfOk result (λ c. app_of c ≡ plan_app) }
-    ensures local { IfOk result (λ c. (out-Command c).has_globals ≡ false) }
-{
-    let input = Arg::new(alloc, "INPUT")
-        .required(true)
-        .help("the batch's file, or the newer policy's");
-    called_command(alloc, "plan", "product, store, customer, sales or migrate")?
-        .about("Prints what a load or a migration would write, and writes nothing")
-        .after_help("Example: wh plan shop.wh product p1 examples/late.csv")
-        .arg(input)
-}
-
-fn status_command<'a>(alloc: Global) -> Result<Command<'a>, AllocError>
-    ensures app { IfOk result (λ c. app_of c ≡ status_app) }
-    ensures local { IfOk result (λ c. (out-Command c).has_globals ≡ false) }
-{
-    let file = Arg::new(alloc, "FILE")
-        .required(true)
-        .help("the warehouse's file");
-    Command::new(alloc, "status")
-        .about("Prints how much a warehouse holds")
-        .after_help("Example: wh status shop.wh")
-        .arg(file)
-}
-
-fn first_command<'a>(alloc: Global) -> Result<Command<'a>, AllocError>
-    ensures app { IfOk result (λ c. app_of c ≡ first_app) }
-    ensures local { IfOk result (λ c. (out-Command c).has_globals ≡ false) }
-{
-    let trial = trial_command(alloc)?;
-    let init = init_command(alloc)?;
-    Command::new(alloc, "wh")
-        .bin_name("wh")?
-        .no_binary_name(true)
-        .subcommand_required(true)
-        .subcommand(trial)?
-        .subcommand(init)
-}
-
-fn second_command<'a>(alloc: Global) -> Result<Command<'a>, AllocError>
-    ensures app { IfOk result (λ c. app_of c ≡ second_app) }
-    ensures local { IfOk result (λ c. (out-Command c).has_globals ≡ false) }
-{
-    let load = load_command(alloc)?;
-    let migrate = migrate_command(alloc)?;
-    first_command(alloc)?.subcommand(load)?.subcommand(migrate)
-}
-
-fn third_command<'a>(alloc: Global) -> Result<Command<'a>, AllocError>
-    ensures app { IfOk result (λ c. app_of c ≡ third_app) }
-    ensures local { IfOk result (λ c. (out-Command c).has_globals ≡ false) }
-{
-    let deliver = deliver_command(alloc)?;
-    let plan = plan_command(alloc)?;
-    second_command(alloc)?.subcommand(deliver)?.subcommand(plan)
-}
-
-fn program_command<'a>(alloc: Global) -> Result<Command<'a>, AllocError>
-    ensures { IfOk result (λ c. app_of c ≡ program_app) }
-{
-    let status = status_command(alloc)?;
-    third_command(alloc)?.subcommand(status)
 }
 
 /// What `clap` finds in the words. Where it takes them, it is refused memory alone.
@@ -273,6 +111,16 @@ struct SentOperands<'a> {
     kind: &'a str,
     id: &'a str,
     path: &'a str,
+}
+
+/// The operands of a report.
+#[derive(Clone, Copy, Debug, Drop)]
+struct ReportOperands<'a> {
+    file: &'a str,
+    attribute: &'a str,
+    mode: &'a str,
+    from: &'a str,
+    to: &'a str,
 }
 
 /// A subcommand with its operands.
@@ -298,6 +146,11 @@ enum Operands<'a> {
         manifest: &'a str,
     },
     Plan(SentOperands<'a>),
+    Report(ReportOperands<'a>),
+    Dump {
+        file: &'a str,
+        table: &'a str,
+    },
     Status {
         file: &'a str,
     },
@@ -372,6 +225,27 @@ fn plan_operands<'a>(inner: &ArgMatches<'a>) -> Option<Operands<'a>>
     Some(Operands::Plan(sent_operands(inner, "INPUT")?))
 }
 
+fn report_operands<'a>(inner: &ArgMatches<'a>) -> Option<Operands<'a>>
+    ensures { option_map line_of result ≡ named_report (rows_of (found_of inner.now)) }
+{
+    Some(Operands::Report(ReportOperands {
+        file: value_of(inner, "FILE")?,
+        attribute: value_of(inner, "ATTRIBUTE")?,
+        mode: value_of(inner, "MODE")?,
+        from: value_of(inner, "FROM")?,
+        to: value_of(inner, "TO")?,
+    }))
+}
+
+fn dump_operands<'a>(inner: &ArgMatches<'a>) -> Option<Operands<'a>>
+    ensures { option_map line_of result ≡ named_dump (rows_of (found_of inner.now)) }
+{
+    Some(Operands::Dump {
+        file: value_of(inner, "FILE")?,
+        table: value_of(inner, "TABLE")?,
+    })
+}
+
 fn status_operands<'a>(inner: &ArgMatches<'a>) -> Option<Operands<'a>>
     ensures { option_map line_of result ≡ named_status (rows_of (found_of inner.now)) }
 {
@@ -392,6 +266,8 @@ fn operands_of<'a>(matches: &ArgMatches<'a>) -> Option<Operands<'a>>
         "migrate" => migrate_operands(inner),
         "deliver" => deliver_operands(inner),
         "plan" => plan_operands(inner),
+        "report" => report_operands(inner),
+        "dump" => dump_operands(inner),
         "status" => status_operands(inner),
         _ => None,
     }
@@ -409,38 +285,88 @@ fn declined<'a>(alloc: Global, error: &clap::Error) -> Result<Request<'a>, Alloc
 }
 
 fn mistake<'a>(alloc: Global, line: &str) -> Result<Request<'a>, AllocError>
-    ensures { IfOk result (IsUsage line.now) }
+    ensures { IfOk result (λ request. asked_in request ≡ Some (Err line.now)) }
 {
     Ok(Request::Usage(String::from_str(alloc, line)?))
 }
 
+/// The trial of a batch of a dimension.
+fn trial_request<'a>(
+    alloc: Global,
+    dimension: &str,
+    path: &'a str,
+    policy: Option<&'a str>,
+) -> Result<Request<'a>, AllocError>
+    ensures { IfOk result (λ request. asked_in request ≡ Some (trial_asked dimension.now path.now (text_of policy.entry))) }
+{
+    match Dim::from_word(dimension) {
+        Some(dim) => Ok(Request::Task(Task::Trial { dim, path, policy })),
+        None => mistake(alloc, NO_DIMENSION_LINE),
+    }
+}
+
 /// The load of a batch of a kind.
 fn load_request<'a>(alloc: Global, sent: SentOperands<'a>) -> Result<Request<'a>, AllocError>
-    ensures { IfOk result (AsksLoad sent.entry.file.now (kind_of_word sent.entry.kind.now) sent.entry.id.now sent.entry.path.now) }
+    ensures { IfOk result (λ request. asked_in request ≡ Some (load_asked sent.entry.file.now sent.entry.kind.now sent.entry.id.now sent.entry.path.now)) }
 {
     match Kind::from_word(sent.kind) {
-        Some(kind) => Ok(Request::Load {
+        Some(kind) => Ok(Request::Task(Task::Load {
             file: sent.file,
             kind,
             id: sent.id,
             path: sent.path,
-        }),
+        })),
         None => mistake(alloc, NO_KIND_LINE),
     }
 }
 
 /// The plan of a command of a kind.
 fn plan_request<'a>(alloc: Global, sent: SentOperands<'a>) -> Result<Request<'a>, AllocError>
-    ensures { IfOk result (AsksPlan sent.entry.file.now (command_kind_of sent.entry.kind.now) sent.entry.id.now sent.entry.path.now) }
+    ensures { IfOk result (λ request. asked_in request ≡ Some (plan_asked sent.entry.file.now sent.entry.kind.now sent.entry.id.now sent.entry.path.now)) }
 {
     match CommandKind::from_word(sent.kind) {
-        Some(kind) => Ok(Request::Plan {
+        Some(kind) => Ok(Request::Task(Task::Plan {
             file: sent.file,
             kind,
             id: sent.id,
             path: sent.path,
-        }),
+        })),
         None => mistake(alloc, NO_COMMAND_KIND_LINE),
+    }
+}
+
+/// The report in a mode.
+fn report_request<'a>(alloc: Global, words: ReportOperands<'a>) -> Result<Request<'a>, AllocError>
+    ensures { IfOk result (λ request. asked_in request ≡ Some (report_asked words.entry.file.now words.entry.attribute.now words.entry.mode.now words.entry.from.now words.entry.to.now)) }
+{
+    match Mode::from_word(words.mode) {
+        Some(mode) => Ok(Request::Task(Task::Report {
+            file: words.file,
+            asked: AskedReport {
+                attribute: words.attribute,
+                mode,
+                from: words.from,
+                to: words.to,
+            },
+        })),
+        None => mistake(alloc, NO_MODE_LINE),
+    }
+}
+
+/// The table of a name.
+fn table_of_word(name: &str) -> Option<Table>
+    ensures { result ≡ table_named name.now }
+{
+    Table::from_name(name)
+}
+
+/// The dump of a table.
+fn dump_request<'a>(alloc: Global, file: &'a str, table: &str) -> Result<Request<'a>, AllocError>
+    ensures { IfOk result (λ request. asked_in request ≡ Some (dump_asked file.now table.now)) }
+{
+    match table_of_word(table) {
+        Some(table) => Ok(Request::Task(Task::Dump { file, table })),
+        None => mistake(alloc, NO_TABLE_LINE),
     }
 }
 
@@ -453,16 +379,19 @@ fn requested<'a>(alloc: Global, operands: Operands<'a>) -> Result<Request<'a>, A
             dimension,
             path,
             policy,
-        } => match Dim::from_word(dimension) {
-            Some(dim) => Ok(Request::Trial { dim, path, policy }),
-            None => mistake(alloc, NO_DIMENSION_LINE),
-        },
-        Operands::Init { file, policy } => Ok(Request::Init { file, policy }),
+        } => trial_request(alloc, dimension, path, policy),
+        Operands::Init { file, policy } => Ok(Request::Task(Task::Init { file, policy })),
         Operands::Load(sent) => load_request(alloc, sent),
-        Operands::Migrate { file, id, policy } => Ok(Request::Migrate { file, id, policy }),
-        Operands::Deliver { file, manifest } => Ok(Request::Deliver { file, manifest }),
+        Operands::Migrate { file, id, policy } => {
+            Ok(Request::Task(Task::Migrate { file, id, policy }))
+        }
+        Operands::Deliver { file, manifest } => {
+            Ok(Request::Task(Task::Deliver { file, manifest }))
+        }
         Operands::Plan(sent) => plan_request(alloc, sent),
-        Operands::Status { file } => Ok(Request::Status { file }),
+        Operands::Report(words) => report_request(alloc, words),
+        Operands::Dump { file, table } => dump_request(alloc, file, table),
+        Operands::Status { file } => Ok(Request::Task(Task::Status { file })),
     }
 }
 

@@ -12,6 +12,8 @@ use crate::lines::{bad_manifest, no_file, opening_answer, room_for_delivery};
 use crate::warehouse::{answered, command_of};
 use sqlite::{Alter, Connection};
 use std::alloc::{AllocError, Global};
+use std::io;
+use std::io::Write;
 use wh_batch::{FilePath, Manifest, ManifestEntry};
 use wh_day::ReadError;
 use wh_engine::{Command, Engine};
@@ -27,12 +29,13 @@ struct Delivering {
 impl Visitor for Delivering {
     type Output = Result<Answer, AllocError>;
 
-    ghost promises = { λ delivering content told after. Opens (IsDelivered delivering.commands.items) content told after };
+    ghost promises = { λ delivering content told old new after. Opens (IsDelivered delivering.commands.items) content told after };
 
-    fn visit<T: Alter + Drop>(
+    fn visit<T: Alter + Drop, W: Write>(
         self,
         alloc: Global,
         connection: Connection<T>,
+        _out: &mut W,
     ) -> (Result<Answer, AllocError>, Connection<T>) {
         match Engine::open(alloc, connection) {
             Ok(mut engine) => {
@@ -80,7 +83,7 @@ fn deliver_commands<H: Host>(
     ensures { (content : Content) → H.stores host.old file.now (Rests content) → AnswersSent (H.stores host.new file.now) content file.now commands.items result }
 {
     let room = room_for_delivery(alloc, &commands)?;
-    let visit = host.with_existing(alloc, file, Delivering { commands, room });
+    let visit = host.with_existing(alloc, file, Delivering { commands, room }, &mut io::sink());
     answered(alloc, file, visit)
 }
 

@@ -8,6 +8,7 @@ ghost use Rattle.wh_program.specs.declared.host.HostError.TheVariants.{NoFile};
 
 use sqlite::{Alter, Connection};
 use std::alloc::{AllocError, Global};
+use std::io::Write;
 use thiserror::Error;
 
 /// Why a host gives no file, or lends no connection.
@@ -21,21 +22,22 @@ pub enum HostError {
     Memory,
 }
 
-/// What is done with the connection of a warehouse, over any store.
+/// What is done with the connection of a warehouse, over any store, and may be printed.
 pub trait Visitor: Drop {
     type Output;
 
-    /// Over what the connection holds at rest, what is answered and what then stands.
-    ghost promises: { Self → Content → Self.Output → Standing → Type 0 };
+    /// Over what the connection holds at rest, what is answered, what the writer holds before and after, and what then stands.
+    ghost promises: { Self → Content → Self.Output → Option (List ℕ) → Option (List ℕ) → Standing → Type 0 };
 
     /// Works on the connection, and hands it back.
-    fn visit<T: Alter + Drop>(
+    fn visit<T: Alter + Drop, W: Write>(
         self,
         alloc: Global,
         connection: Connection<T>,
+        out: &mut W,
     ) -> (Self::Output, Connection<T>)
         ensures { HasCleanDisk (state T.Store result.1) → (content : Content) → Stands (Rests content) (state T.Store connection)
-            → (after : Standing) × promises self content result.0 after × Stands after (state T.Store result.1) };
+            → (after : Standing) × promises self content result.0 (W.contents out.old) (W.contents out.new) after × Stands after (state T.Store result.1) };
 }
 
 /// The files that a run can name.
@@ -51,29 +53,33 @@ pub trait Host {
         ensures ok { IfOk result (λ bytes. holds self.now path.now (Some bytes.items)) }
         ensures err { IfErr result (λ e. e ≡ NoFile → holds self.now path.now None) };
 
-    /// Lends a visitor the connection of the warehouse under a name, and takes it back. Where no file has the name, the
+    /// Lends a visitor the connection of the warehouse under a name, with a writer, and takes it back. Where no file has the name, the
     /// connection is that of a new one.
-    fn with_connection<V: Visitor>(
+    fn with_connection<V: Visitor, W: Write>(
         &mut self,
         alloc: Global,
         name: &str,
         visitor: V,
+        out: &mut W,
     ) -> Result<V::Output, HostError>
         ensures visited { (content : Content) → stores self.old name.now (Rests content)
-            → IfOk result (λ output. (after : Standing) × V.promises visitor content output after × stores self.new name.now after) }
+            → IfOk result (λ output. (after : Standing) × V.promises visitor content output (W.contents out.old) (W.contents out.new) after × stores self.new name.now after) }
+        ensures not_printed { OnErr result (W.contents out.new ≡ W.contents out.old) }
         ensures not_visited { OnErr result ((any : List ℕ) (standing : Standing) → stores self.old any standing → stores self.new any standing) }
         ensures others { (other : List ℕ) (standing : Standing) → other ≢ name.now → stores self.old other standing → stores self.new other standing };
 
     /// The same for a visitor that makes no warehouse. Where no file has the name, the connection is that of an empty database in
     /// memory, and no file is made.
-    fn with_existing<V: Visitor>(
+    fn with_existing<V: Visitor, W: Write>(
         &mut self,
         alloc: Global,
         name: &str,
         visitor: V,
+        out: &mut W,
     ) -> Result<V::Output, HostError>
         ensures visited { (content : Content) → stores self.old name.now (Rests content)
-            → IfOk result (λ output. (after : Standing) × V.promises visitor content output after × stores self.new name.now after) }
+            → IfOk result (λ output. (after : Standing) × V.promises visitor content output (W.contents out.old) (W.contents out.new) after × stores self.new name.now after) }
+        ensures not_printed { OnErr result (W.contents out.new ≡ W.contents out.old) }
         ensures not_visited { OnErr result ((any : List ℕ) (standing : Standing) → stores self.old any standing → stores self.new any standing) }
         ensures others { (other : List ℕ) (standing : Standing) → other ≢ name.now → stores self.old other standing → stores self.new other standing };
 }

@@ -5,15 +5,18 @@ mod answer;
 mod command;
 mod delivery;
 mod delivery_text;
+mod dump;
 mod host;
 mod lines;
 mod one;
 mod output;
 mod plan_text;
 mod program;
+mod report;
 mod table;
 mod trial;
 mod warehouse;
+mod words;
 
 pub use answer::Answer;
 pub use delivery_text::delivery_answer;

@@ -32,6 +32,13 @@ pub const NO_KIND_LINE: &str = "error: KIND is none of product, store, customer 
 pub const NO_COMMAND_KIND_LINE: &str =
     "error: KIND is none of product, store, customer, sales and migrate\n";
 
+/// What is wrong with the words of a report.
+pub const NO_MODE_LINE: &str = "error: MODE is none of was, is and prior\n";
+
+/// What is wrong with the words of a dump.
+pub const NO_TABLE_LINE: &str =
+    "error: TABLE is none of meta, command, member, change, product, store, customer, profile, calendar and fact\n";
+
 /// What is wrong with words of which none names a command.
 pub const NO_COMMAND_LINE: &str = "error: no command was given\n";
 
@@ -149,7 +156,7 @@ pub fn no_file(alloc: Global, path: &str) -> Result<Answer, AllocError>
 }
 
 /// A line that is the same each time.
-fn told(alloc: Global, status: Status, line: &str) -> Result<Answer, AllocError>
+pub fn told(alloc: Global, status: Status, line: &str) -> Result<Answer, AllocError>
     ensures { IfOk result (λ answer. answer ≡ record { status = status_code status; text = line.now }) }
 {
     let text = String::from_str(alloc, line)?;
@@ -267,7 +274,7 @@ fn push_damaged_line(text: &mut Vec<u8>, table: Table) -> Result<(), AllocError>
     push_named_line(text, "failed: E7 damaged, ", table.name())
 }
 
-fn damaged(alloc: Global, table: Table) -> Result<Answer, AllocError>
+pub fn damaged(alloc: Global, table: Table) -> Result<Answer, AllocError>
     ensures { IfOk result (λ answer. answer ≡ failed (damaged_line table)) }
 {
     let mut line = Vec::new(alloc);
@@ -314,7 +321,7 @@ pub fn push_fault(text: &mut Vec<u8>, fault: &Fault) -> Result<(), AllocError>
 }
 
 /// The answer where a call on the tables of a warehouse isn't answered.
-fn fault_answer(alloc: Global, fault: Fault) -> Result<Answer, AllocError>
+pub fn fault_answer(alloc: Global, fault: Fault) -> Result<Answer, AllocError>
     ensures { IfOk result (λ answer. answer ≡ fault_answer fault) }
 {
     match fault {

@@ -9,6 +9,7 @@ ghost use Rattle.sqlite.specs.Steps.{over_memory};
 use crate::host::{Host, HostError, Visitor};
 use sqlite::{Connection, MemStore};
 use std::alloc::Global;
+use std::io::Write;
 
 /// A host of named files in memory, of which the first of a name counts, and of one warehouse in memory under a name of its own,
 /// which stays between runs.
@@ -74,11 +75,12 @@ impl Host for OneHost<'_> {
         }
     }
 
-    fn with_connection<V: Visitor>(
+    fn with_connection<V: Visitor, W: Write>(
         &mut self,
         alloc: Global,
         name: &str,
         visitor: V,
+        out: &mut W,
     ) -> Result<V::Output, HostError> {
         if name != self.name {
             return Err(HostError::NoFile);
@@ -90,18 +92,19 @@ impl Host for OneHost<'_> {
                 Err(_) => return Err(HostError::Memory),
             },
         };
-        let (output, connection) = visitor.visit(alloc, connection);
+        let (output, connection) = visitor.visit(alloc, connection, out);
         self.connection = Some(connection);
         Ok(output)
     }
 
     // A connection in memory is no file, whoever asks for it.
-    fn with_existing<V: Visitor>(
+    fn with_existing<V: Visitor, W: Write>(
         &mut self,
         alloc: Global,
         name: &str,
         visitor: V,
+        out: &mut W,
     ) -> Result<V::Output, HostError> {
-        self.with_connection(alloc, name, visitor)
+        self.with_connection(alloc, name, visitor, out)
     }
 }

@@ -1,9 +1,19 @@
-//! Writing a text out whole.
+//! Writing texts out, and what a run answers once they are.
 
-ghost use Rattle.std.specs.Prelude.{ℕ, ◌<◌, OnOk, OnErr, length, take};
+ghost use Rattle.std.specs.Prelude.{◌≡◌, ℕ, ◌<◌, OnOk, OnErr, length, take};
 ghost use Rattle.std.specs.Io.KnownBytes.{Appends};
+ghost use Rattle.wh_program.specs.Answer.{status_code, wrong_words, write_line};
+ghost use Rattle.wh_program.specs.Run.{Prints};
+ghost use Rattle.wh_program.specs.Warehouse.{printed};
+ghost use Rattle.wh_program.specs.declared.answer.Status.TheVariants.{Failed};
 
+use crate::answer::{Answer, Status};
+use crate::lines::{MEMORY_LINE, WRITE_LINE};
+use std::alloc::AllocError;
 use std::io::Write;
+
+/// How a run ends whose words aren't those of a command.
+const USAGE: u8 = 4;
 
 /// The writer failed, or took nothing.
 #[derive(Clone, Copy, Debug, PartialEq, Eq)]
@@ -23,4 +33,43 @@ pub fn write_whole<W: Write>(out: &mut W, text: &[u8]) -> Result<(), WriteFailed
         }
     }
     Ok(())
+}
+
+/// The writer failed: a line says so, as far as it can still be written.
+pub fn write_failed<W: Write>(out: &mut W) -> Status
+    ensures status { result ≡ Failed }
+    ensures told { (told : ℕ) × Appends (W.contents out.old) (W.contents out.new) (take told write_line) }
+{
+    let _ = write_whole(out, WRITE_LINE);
+    Status::Failed
+}
+
+/// Prints a text, and answers the status. Where the writer fails the status is that of a failure.
+pub fn print<W: Write>(out: &mut W, status: Status, text: &[u8]) -> Status
+    ensures { Prints (W.contents out.old) (W.contents out.new) (status_code result) (record { status = status_code status; text = text.now }) }
+{
+    if write_whole(out, text).is_ok() {
+        return status;
+    }
+    write_failed(out)
+}
+
+/// Prints an answer, or that memory ran out.
+pub fn print_told<W: Write>(out: &mut W, told: Result<Answer, AllocError>) -> Status
+    ensures { Prints (W.contents out.old) (W.contents out.new) (status_code result) (printed told) }
+{
+    match told {
+        Ok(answer) => print(out, answer.status(), answer.text()),
+        Err(_) => print(out, Status::Failed, MEMORY_LINE),
+    }
+}
+
+/// Prints what is wrong with the words.
+pub fn print_usage<W: Write>(out: &mut W, text: &[u8]) -> u8
+    ensures { Prints (W.contents out.old) (W.contents out.new) result (wrong_words text.now) }
+{
+    if write_whole(out, text).is_ok() {
+        return USAGE;
+    }
+    write_failed(out).code()
 }

@@ -1,156 +1,93 @@
 //! One run of the program.
 
-ghost use Rattle.std.specs.Prelude.{◌≡◌, ◌≢◌, ◌⊎◌, ℕ, List, Option, Some, IfOk, map, true};
-ghost use Rattle.wh_program.specs.Answer.{Printed, AnswersTrial, wrong_words, no_text_line};
-ghost use Rattle.wh_program.specs.CommandLine.{trial_words, is_operand, is_operand_or_none};
-ghost use Rattle.wh_program.specs.CommandLine.{Init, Load, Migrate, Deliver, Plan, Status as StatusLine};
-ghost use Rattle.wh_program.specs.Delivery.{AnswersDelivery};
-ghost use Rattle.wh_program.specs.Request.{AsksTrial, AsksInit, AsksLoad, AsksMigrate, AsksDeliver, AsksPlan, AsksStatus};
-ghost use Rattle.wh_policy.specs.declared.attribute.Dim.{Dim};
-ghost use Rattle.wh_policy.specs.Words.{word_of};
-ghost use Rattle.wh_batch.specs.Kind.{kind_of_word, command_kind_of};
+ghost use Rattle.std.specs.Prelude.{◌≡◌, ◌≢◌, ◌⊎◌, ℕ, List, Some, Ok, Err, map};
+ghost use Rattle.wh_program.specs.Answer.{status_code, wrong_words, no_text_line};
+ghost use Rattle.wh_program.specs.CommandLine.{CommandLine, Says};
+ghost use Rattle.wh_program.specs.Request.{asked_in, task_in};
 ghost use Rattle.wh_program.specs.Run.{Prints, out_of_memory};
-ghost use Rattle.wh_program.specs.Standing.{Content, Rests};
-ghost use Rattle.wh_program.specs.Warehouse.{Told, Makes, Sends, Plans, AnswersWith, AnswersStatus, Says, printed};
-ghost use Rattle.wh_batch.specs.declared.kind.Kind.{Kind};
-ghost use Rattle.wh_batch.specs.declared.kind.CommandKind.{CommandKind as KindOfCommand};
-ghost use Rattle.wh_batch.specs.declared.kind.CommandKind.TheVariants.{Batch, Migration};
+ghost use Rattle.wh_program.specs.Task.{Task as TaskAsked, task_of};
+ghost use Rattle.wh_program.specs.Tasks.{Runs};
+ghost use Rattle.wh_program.specs.Warehouse.{printed};
 
-use crate::answer::{Answer, Status};
-use crate::command::{Request, parse};
+use crate::answer::Status;
+use crate::command::{Request, Task, parse};
 use crate::delivery::deliver;
+use crate::dump::print_dump;
 use crate::host::Host;
-use crate::lines::{MEMORY_LINE, NO_TEXT_LINE, WRITE_LINE};
-use crate::output::write_whole;
-use crate::trial::{plain_trial, trial_under};
+use crate::lines::{MEMORY_LINE, NO_TEXT_LINE};
+use crate::output::{print, print_told, print_usage};
+use crate::report::told_report;
+use crate::trial::trial;
 use crate::warehouse::{init, plan, send, status};
-use std::alloc::{AllocError, Global};
+use std::alloc::Global;
 use std::convert::AsStr;
 use std::io;
 use std::io::Write;
 use wh_batch::CommandKind;
 
-/// Prints a text, and answers the status. Where the writer fails the status is that of a failure, and a line says so
-/// if it can still be written.
-fn print<W: Write>(out: &mut W, status: u8, text: &[u8]) -> u8
-    ensures { Prints (W.contents out.old) (W.contents out.new) result (record { status = status; text = text.now }) }
+/// Does what the words of a command ask for, and prints what is told of it.
+fn run_task<H: Host, W: Write>(alloc: Global, task: Task, host: &mut H, out: &mut W) -> Status
+    ensures { Runs (H.holds host.old) (H.stores host.old) (H.stores host.new) (λ told. Prints (W.contents out.old) (W.contents out.new) (status_code result) (printed told)) (task_in task.entry) }
 {
-    if write_whole(out, text).is_ok() {
-        return status;
+    match task {
+        Task::Trial { dim, path, policy } => {
+            print_told(out, trial(alloc, dim, path, policy, host))
+        }
+        Task::Init { file, policy } => print_told(out, init(alloc, file, policy, host)),
+        Task::Load {
+            file,
+            kind,
+            id,
+            path,
+        } => {
+            let kind = CommandKind::Batch(kind);
+            print_told(out, send(alloc, file, kind, id, path, host))
+        }
+        Task::Migrate { file, id, policy } => {
+            let kind = CommandKind::Migration;
+            print_told(out, send(alloc, file, kind, id, policy, host))
+        }
+        Task::Deliver { file, manifest } => print_told(out, deliver(alloc, file, manifest, host)),
+        Task::Plan {
+            file,
+            kind,
+            id,
+            path,
+        } => print_told(out, plan(alloc, file, kind, id, path, host)),
+        Task::Report { file, asked } => print_told(out, told_report(alloc, file, asked, host)),
+        Task::Dump { file, table } => print_dump(alloc, file, table, host, out),
+        Task::Status { file } => print_told(out, status(alloc, file, host)),
     }
-    let _ = write_whole(out, WRITE_LINE);
-    Status::Failed.code()
 }
 
-/// The answer to a request.
-fn answer_request<H: Host>(
-    alloc: Global,
-    request: Request,
-    host: &mut H,
-) -> Result<Answer, AllocError>
-    ensures trial { IfOk result (λ answer. (dim : Dim) (path : List ℕ) (policy : Option (List ℕ)) → AsksTrial (Some dim) path policy request.entry
-        → AnswersTrial (H.holds host.old) dim path policy answer) }
-    ensures init { (file policy : List ℕ) (content : Content) → AsksInit file policy request.entry → H.stores host.old file (Rests content)
-        → AnswersWith (H.holds host.old) (H.stores host.new file) Makes content file policy result }
-    ensures load { (file : List ℕ) (kind : Kind) (id path : List ℕ) (content : Content) → AsksLoad file (Some kind) id path request.entry → H.stores host.old file (Rests content)
-        → AnswersWith (H.holds host.old) (H.stores host.new file) (Sends (Batch kind) id) content file path result }
-    ensures migrate { (file id policy : List ℕ) (content : Content) → AsksMigrate file id policy request.entry → H.stores host.old file (Rests content)
-        → AnswersWith (H.holds host.old) (H.stores host.new file) (Sends Migration id) content file policy result }
-    ensures deliver { (file manifest : List ℕ) (content : Content) → AsksDeliver file manifest request.entry → H.stores host.old file (Rests content)
-        → AnswersDelivery (H.holds host.old) (H.stores host.new file) content file manifest result }
-    ensures plan { (file : List ℕ) (kind : KindOfCommand) (id path : List ℕ) (content : Content) → AsksPlan file (Some kind) id path request.entry → H.stores host.old file (Rests content)
-        → AnswersWith (H.holds host.old) (H.stores host.new file) (Plans kind id) content file path result }
-    ensures status { (file : List ℕ) (content : Content) → AsksStatus file request.entry → H.stores host.old file (Rests content) → AnswersStatus (H.stores host.new file) content file result }
+/// Answers a request.
+fn run_request<H: Host, W: Write>(alloc: Global, request: Request, host: &mut H, out: &mut W) -> u8
+    ensures runs { (task : TaskAsked) → asked_in request.entry ≡ Some (Ok task)
+        → Runs (H.holds host.old) (H.stores host.old) (H.stores host.new) (λ told. Prints (W.contents out.old) (W.contents out.new) result (printed told)) task }
+    ensures right_words { (task : TaskAsked) → asked_in request.entry ≡ Some (Ok task) → result ≢ 4 }
+    ensures wrong_words { (line : List ℕ) → asked_in request.entry ≡ Some (Err line) → Prints (W.contents out.old) (W.contents out.new) result (wrong_words line) }
 {
     match request {
-        Request::Trial {
-            dim,
-            path,
-            policy: None,
-        } => plain_trial(alloc, dim, path, host),
-        Request::Trial {
-            dim,
-            path,
-            policy: Some(policy),
-        } => trial_under(alloc, dim, path, policy, host),
-        Request::Init { file, policy } => init(alloc, file, policy, host),
-        Request::Load {
-            file,
-            kind,
-            id,
-            path,
-        } => send(alloc, file, CommandKind::Batch(kind), id, path, host),
-        Request::Migrate { file, id, policy } => {
-            send(alloc, file, CommandKind::Migration, id, policy, host)
-        }
-        Request::Deliver { file, manifest } => deliver(alloc, file, manifest, host),
-        Request::Plan {
-            file,
-            kind,
-            id,
-            path,
-        } => plan(alloc, file, kind, id, path, host),
-        Request::Status { file } => status(alloc, file, host),
-        Request::Help(text) => Ok(Answer::new(Status::Done, text.into_bytes())),
-        Request::Usage(text) => Ok(Answer::new(Status::Usage, text.into_bytes())),
+        Request::Task(task) => run_task(alloc, task, host, out).code(),
+        Request::Help(text) => print(out, Status::Done, text.as_bytes()).code(),
+        Request::Usage(text) => print_usage(out, text.as_bytes()),
     }
-}
-
-/// The answer to the words after the program's name.
-fn answer_to<S: AsStr, H: Host>(
-    alloc: Global,
-    words: &[S],
-    host: &mut H,
-) -> Result<Answer, AllocError>
-    ensures trial { IfOk result (λ answer. (dim : Dim) (path : List ℕ) (policy : Option (List ℕ))
-        → map S.text words.now ≡ trial_words (word_of dim) path policy → is_operand path ≡ true → is_operand_or_none policy ≡ true
-        → AnswersTrial (H.holds host.old) dim path policy answer) }
-    ensures init { (file policy : List ℕ) (content : Content) → Says (map S.text words.now) (Init file policy) → H.stores host.old file (Rests content)
-        → AnswersWith (H.holds host.old) (H.stores host.new file) Makes content file policy result }
-    ensures load { (file word id path : List ℕ) (kind : Kind) (content : Content) → Says (map S.text words.now) (Load file word id path) → kind_of_word word ≡ Some kind → H.stores host.old file (Rests content)
-        → AnswersWith (H.holds host.old) (H.stores host.new file) (Sends (Batch kind) id) content file path result }
-    ensures migrate { (file id policy : List ℕ) (content : Content) → Says (map S.text words.now) (Migrate file id policy) → H.stores host.old file (Rests content)
-        → AnswersWith (H.holds host.old) (H.stores host.new file) (Sends Migration id) content file policy result }
-    ensures deliver { (file manifest : List ℕ) (content : Content) → Says (map S.text words.now) (Deliver file manifest) → H.stores host.old file (Rests content)
-        → AnswersDelivery (H.holds host.old) (H.stores host.new file) content file manifest result }
-    ensures plan { (file word id path : List ℕ) (kind : KindOfCommand) (content : Content) → Says (map S.text words.now) (Plan file word id path) → command_kind_of word ≡ Some kind → H.stores host.old file (Rests content)
-        → AnswersWith (H.holds host.old) (H.stores host.new file) (Plans kind id) content file path result }
-    ensures status { (file : List ℕ) (content : Content) → Says (map S.text words.now) (StatusLine file) → H.stores host.old file (Rests content) → AnswersStatus (H.stores host.new file) content file result }
-{
-    answer_request(alloc, parse(alloc, words)?, host)
 }
 
 /// One run of the program: answers the words after its name, and gives the status to exit with.
 pub fn run<S: AsStr, H: Host, W: Write>(alloc: Global, words: &[S], host: &mut H, out: &mut W) -> u8
-    // What a trial of a dimension prints, with its status, under its own policy or the one in a file.
-    ensures trial { (dim : Dim) (path : List ℕ) (policy : Option (List ℕ))
-        → map S.text words.now ≡ trial_words (word_of dim) path policy → is_operand path ≡ true → is_operand_or_none policy ≡ true
-        → Prints (W.contents out.old) (W.contents out.new) result out_of_memory
-        ⊎ ((answer : Printed) × AnswersTrial (H.holds host.old) dim path policy answer
-        × Prints (W.contents out.old) (W.contents out.new) result answer) }
-
-    // What a making, a load, a migration, a delivery, a plan and a count print, and what they leave under the warehouse's name.
-    ensures init { (file policy : List ℕ) (content : Content) → Says (map S.text words.now) (Init file policy) → H.stores host.old file (Rests content)
-        → (told : Told) × AnswersWith (H.holds host.old) (H.stores host.new file) Makes content file policy told × Prints (W.contents out.old) (W.contents out.new) result (printed told) }
-    ensures load { (file word id path : List ℕ) (kind : Kind) (content : Content) → Says (map S.text words.now) (Load file word id path) → kind_of_word word ≡ Some kind → H.stores host.old file (Rests content)
-        → (told : Told) × AnswersWith (H.holds host.old) (H.stores host.new file) (Sends (Batch kind) id) content file path told × Prints (W.contents out.old) (W.contents out.new) result (printed told) }
-    ensures migrate { (file id policy : List ℕ) (content : Content) → Says (map S.text words.now) (Migrate file id policy) → H.stores host.old file (Rests content)
-        → (told : Told) × AnswersWith (H.holds host.old) (H.stores host.new file) (Sends Migration id) content file policy told × Prints (W.contents out.old) (W.contents out.new) result (printed told) }
-    ensures deliver { (file manifest : List ℕ) (content : Content) → Says (map S.text words.now) (Deliver file manifest) → H.stores host.old file (Rests content)
-        → (told : Told) × AnswersDelivery (H.holds host.old) (H.stores host.new file) content file manifest told × Prints (W.contents out.old) (W.contents out.new) result (printed told) }
-    ensures plan { (file word id path : List ℕ) (kind : KindOfCommand) (content : Content) → Says (map S.text words.now) (Plan file word id path) → command_kind_of word ≡ Some kind → H.stores host.old file (Rests content)
-        → (told : Told) × AnswersWith (H.holds host.old) (H.stores host.new file) (Plans kind id) content file path told × Prints (W.contents out.old) (W.contents out.new) result (printed told) }
-    ensures status { (file : List ℕ) (content : Content) → Says (map S.text words.now) (StatusLine file) → H.stores host.old file (Rests content)
-        → (told : Told) × AnswersStatus (H.stores host.new file) content file told × Prints (W.contents out.old) (W.contents out.new) result (printed told) }
-
-    // Such words are right.
-    ensures right_words { (dim : Dim) (path : List ℕ) (policy : Option (List ℕ))
-        → map S.text words.now ≡ trial_words (word_of dim) path policy → is_operand path ≡ true → is_operand_or_none policy ≡ true
-        → result ≢ 4 }
+    // What each command prints, with its status, and what it leaves under the name of a warehouse.
+    ensures runs { (line : CommandLine) (task : TaskAsked) → Says (map S.text words.now) line → task_of line ≡ Ok task
+        → Runs (H.holds host.old) (H.stores host.old) (H.stores host.new) (λ told. Prints (W.contents out.old) (W.contents out.new) result (printed told)) task }
+    // Its words are right, and no run of it ends as wrong words do.
+    ensures right_words { (line : CommandLine) (task : TaskAsked) → Says (map S.text words.now) line → task_of line ≡ Ok task → result ≢ 4 }
+    // Where one of its words is none of those that are listed, the line that says so is printed.
+    ensures wrong_words { (line : CommandLine) (wrong : List ℕ) → Says (map S.text words.now) line → task_of line ≡ Err wrong
+        → Prints (W.contents out.old) (W.contents out.new) result (wrong_words wrong) ⊎ Prints (W.contents out.old) (W.contents out.new) result out_of_memory }
 {
-    match answer_to(alloc, words, host) {
-        Ok(answer) => print(out, answer.code(), answer.text()),
-        Err(_) => print(out, Status::Failed.code(), MEMORY_LINE),
+    match parse(alloc, words) {
+        Ok(request) => run_request(alloc, request, host, out),
+        Err(_) => print(out, Status::Failed, MEMORY_LINE).code(),
     }
 }
 
@@ -159,7 +96,7 @@ pub fn run_without_words<W: Write>(error: &io::Error, out: &mut W) -> u8
     ensures { Prints (W.contents out.old) (W.contents out.new) result out_of_memory ⊎ Prints (W.contents out.old) (W.contents out.new) result (wrong_words no_text_line) }
 {
     match error.kind() {
-        io::ErrorKind::OutOfMemory => print(out, Status::Failed.code(), MEMORY_LINE),
-        _ => print(out, Status::Usage.code(), NO_TEXT_LINE),
+        io::ErrorKind::OutOfMemory => print(out, Status::Failed, MEMORY_LINE).code(),
+        _ => print_usage(out, NO_TEXT_LINE),
     }
 }

@@ -3,6 +3,7 @@
 ghost use Rattle.std.specs.Prelude.{◌≡◌, Some, None, IfOk};
 ghost use Rattle.wh_policy.specs.Policy.{policy_at};
 ghost use Rattle.wh_program.specs.Answer.{table_answer, trial_rows, answer_under, AnswersTrial};
+ghost use Rattle.wh_program.specs.Request.{text_of};
 
 use crate::answer::{Answer, Status};
 use crate::host::{Host, file_of};
@@ -50,12 +51,7 @@ fn answer_under(alloc: Global, dim: Dim, policy: &[u8], batch: &[u8]) -> Result<
 }
 
 /// A trial of the batch in a file, under the trial's own policy.
-pub fn plain_trial<H: Host>(
-    alloc: Global,
-    dim: Dim,
-    path: &str,
-    host: &H,
-) -> Result<Answer, AllocError>
+fn plain_trial<H: Host>(alloc: Global, dim: Dim, path: &str, host: &H) -> Result<Answer, AllocError>
     ensures { IfOk result (AnswersTrial (H.holds host.now) dim path.now None) }
 {
     let Some(batch) = file_of(alloc, path, host)? else {
@@ -66,7 +62,7 @@ pub fn plain_trial<H: Host>(
 }
 
 /// A trial of the batch in a file, under the policy in another, which is read first.
-pub fn trial_under<H: Host>(
+fn trial_under<H: Host>(
     alloc: Global,
     dim: Dim,
     path: &str,
@@ -82,4 +78,20 @@ pub fn trial_under<H: Host>(
         return no_file(alloc, path);
     };
     answer_under(alloc, dim, &text, &batch)
+}
+
+/// A trial of the batch in a file, under the trial's own policy or the one in another file.
+pub fn trial<H: Host>(
+    alloc: Global,
+    dim: Dim,
+    path: &str,
+    policy: Option<&str>,
+    host: &H,
+) -> Result<Answer, AllocError>
+    ensures { IfOk result (AnswersTrial (H.holds host.now) dim path.now (text_of policy.entry)) }
+{
+    match policy {
+        Some(policy) => trial_under(alloc, dim, path, policy, host),
+        None => plain_trial(alloc, dim, path, host),
+    }
 }

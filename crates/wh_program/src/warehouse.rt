@@ -14,6 +14,8 @@ use crate::lines::{
 use sqlite::{Alter, Connection};
 use sqlite_value::value::Bytes;
 use std::alloc::{AllocError, Global};
+use std::io;
+use std::io::Write;
 use wh_day::Value;
 use wh_engine::{Command, CommandKind, Engine};
 use wh_rows::Limits;
@@ -27,12 +29,13 @@ struct Making {
 impl Visitor for Making {
     type Output = Result<Answer, AllocError>;
 
-    ghost promises = { λ making content told after. Makes making.policy.items content told after };
+    ghost promises = { λ making content told old new after. Makes making.policy.items content told after };
 
-    fn visit<T: Alter + Drop>(
+    fn visit<T: Alter + Drop, W: Write>(
         self,
         alloc: Global,
         connection: Connection<T>,
+        _out: &mut W,
     ) -> (Result<Answer, AllocError>, Connection<T>) {
         // The line is there before anything is written, so that no memory is wanted once the warehouse is made.
         let Ok(answer) = made(alloc) else {
@@ -56,12 +59,13 @@ struct Sending {
 impl Visitor for Sending {
     type Output = Result<Answer, AllocError>;
 
-    ghost promises = { λ sending content told after. Opens (IsReplied sending.command) content told after };
+    ghost promises = { λ sending content told old new after. Opens (IsReplied sending.command) content told after };
 
-    fn visit<T: Alter + Drop>(
+    fn visit<T: Alter + Drop, W: Write>(
         self,
         alloc: Global,
         connection: Connection<T>,
+        _out: &mut W,
     ) -> (Result<Answer, AllocError>, Connection<T>) {
         match Engine::open(alloc, connection) {
             Ok(mut engine) => {
@@ -83,12 +87,13 @@ struct Planning {
 impl Visitor for Planning {
     type Output = Result<Answer, AllocError>;
 
-    ghost promises = { λ planning content told after. Opens (IsForetold planning.command) content told after };
+    ghost promises = { λ planning content told old new after. Opens (IsForetold planning.command) content told after };
 
-    fn visit<T: Alter + Drop>(
+    fn visit<T: Alter + Drop, W: Write>(
         self,
         alloc: Global,
         connection: Connection<T>,
+        _out: &mut W,
     ) -> (Result<Answer, AllocError>, Connection<T>) {
         match Engine::open(alloc, connection) {
             Ok(mut engine) => {
@@ -107,12 +112,13 @@ struct Counting;
 impl Visitor for Counting {
     type Output = Result<Answer, AllocError>;
 
-    ghost promises = { λ _ content told after. Opens IsCounted content told after };
+    ghost promises = { λ _ content told old new after. Opens IsCounted content told after };
 
-    fn visit<T: Alter + Drop>(
+    fn visit<T: Alter + Drop, W: Write>(
         self,
         alloc: Global,
         connection: Connection<T>,
+        _out: &mut W,
     ) -> (Result<Answer, AllocError>, Connection<T>) {
         match Engine::open(alloc, connection) {
             Ok(mut engine) => {
@@ -153,7 +159,7 @@ pub fn init<H: Host>(
     let Some(text) = file_of(alloc, policy, host)? else {
         return no_file(alloc, policy);
     };
-    let visit = host.with_connection(alloc, file, Making { policy: text });
+    let visit = host.with_connection(alloc, file, Making { policy: text }, &mut io::sink());
     answered(alloc, file, visit)
 }
 
@@ -194,7 +200,7 @@ pub fn send<H: Host>(
         return no_file(alloc, path);
     };
     let room = room_for_receipt(alloc, id)?;
-    let visit = host.with_existing(alloc, file, Sending { command, room });
+    let visit = host.with_existing(alloc, file, Sending { command, room }, &mut io::sink());
     answered(alloc, file, visit)
 }
 
@@ -213,7 +219,7 @@ pub fn plan<H: Host>(
     let Some(command) = command_of(alloc, kind, id, path, host)? else {
         return no_file(alloc, path);
     };
-    let visit = host.with_existing(alloc, file, Planning { command });
+    let visit = host.with_existing(alloc, file, Planning { command }, &mut io::sink());
     answered(alloc, file, visit)
 }
 
@@ -221,6 +227,6 @@ pub fn plan<H: Host>(
 pub fn status<H: Host>(alloc: Global, file: &str, host: &mut H) -> Result<Answer, AllocError>
     ensures { (content : Content) → H.stores host.old file.now (Rests content) → AnswersStatus (H.stores host.new file.now) content file.now result }
 {
-    let visit = host.with_existing(alloc, file, Counting);
+    let visit = host.with_existing(alloc, file, Counting, &mut io::sink());
     answered(alloc, file, visit)
 }

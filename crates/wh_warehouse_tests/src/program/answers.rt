@@ -41,7 +41,7 @@ fn push_answer(out: &mut String, answer: Result<Answer, AllocError>) -> Result<(
     match answer {
         Ok(answer) => {
             push_printed(out, answer.text())?;
-            push_status(out, answer.code())
+            push_status(out, answer.status().code())
         }
         Err(AllocError) => push_line(out, "no answer"),
     }

@@ -5,6 +5,8 @@ ghost use Rattle.std.specs.Prelude.{⊤};
 use crate::trouble::Trouble;
 use sqlite::{Alter, Connection, MemStore};
 use std::alloc::{AllocError, Global};
+use std::io;
+use std::io::Write;
 use wh_program::{Host, HostError, Visitor};
 
 /// A named file.
@@ -143,11 +145,12 @@ impl Host for MemoryHost {
     }
 
     /// A file that is no warehouse isn't connected.
-    fn with_connection<V: Visitor>(
+    fn with_connection<V: Visitor, W: Write>(
         &mut self,
         alloc: Global,
         name: &str,
         visitor: V,
+        out: &mut W,
     ) -> Result<V::Output, HostError> {
         if file_named(self.files.as_slice(), name).is_some() {
             return Err(HostError::NoFile);
@@ -156,23 +159,24 @@ impl Host for MemoryHost {
             Ok(connection) => connection,
             Err(_) => return Err(HostError::Memory),
         };
-        let (output, connection) = visitor.visit(alloc, connection);
+        let (output, connection) = visitor.visit(alloc, connection, out);
         keep(&mut self.kept, name, connection);
         Ok(output)
     }
 
-    fn with_existing<V: Visitor>(
+    fn with_existing<V: Visitor, W: Write>(
         &mut self,
         alloc: Global,
         name: &str,
         visitor: V,
+        out: &mut W,
     ) -> Result<V::Output, HostError> {
         if self.stands(name) || file_named(self.files.as_slice(), name).is_some() {
-            return self.with_connection(alloc, name, visitor);
+            return self.with_connection(alloc, name, visitor, out);
         }
         match Connection::open_in_memory(alloc) {
             Ok(connection) => {
-                let (output, _) = visitor.visit(alloc, connection);
+                let (output, _) = visitor.visit(alloc, connection, out);
                 Ok(output)
             }
             Err(_) => Err(HostError::Memory),
@@ -189,12 +193,13 @@ struct Altering<'a> {
 impl Visitor for Altering<'_> {
     type Output = bool;
 
-    ghost promises = { λ _ _ _ _. ⊤ };
+    ghost promises = { λ _ _ _ _ _ _. ⊤ };
 
-    fn visit<T: Alter + Drop>(
+    fn visit<T: Alter + Drop, W: Write>(
         self,
         _alloc: Global,
         mut connection: Connection<T>,
+        _out: &mut W,
     ) -> (bool, Connection<T>) {
         let is_done = connection.execute_batch(self.text).is_ok();
         (is_done, connection)
@@ -203,7 +208,7 @@ impl Visitor for Altering<'_> {
 
 /// Runs a text on what stands under a name.
 pub fn alter(alloc: Global, host: &mut MemoryHost, name: &str, text: &str) -> Result<(), Trouble> {
-    match host.with_connection(alloc, name, Altering { text }) {
+    match host.with_connection(alloc, name, Altering { text }, &mut io::sink()) {
         Ok(true) => Ok(()),
         _ => Err(Trouble),
     }

@@ -2,6 +2,7 @@
 
 mod answers;
 mod deliveries;
+mod reports;
 mod trials;
 mod warehouses;
 

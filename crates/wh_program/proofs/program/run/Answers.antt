@@ -1,34 +1,25 @@
-use Rattle.std.proofs.Common.{inl, Err}
-use Rattle.wh_program.proofs.RunLemmas.{run_is_no_usage}
+use Rattle.std.proofs.Common.{◌∙◌, inl, inr, Some, ap, sym}
+use Rattle.wh_program.specs.Run.{Prints}
+use Rattle.wh_program.specs.Warehouse.{printed}
+use Rattle.wh_program.proofs.RunLemmas.{is_no_usage, not_run}
 use Rattle.wh_program.proofs.program.run.Goals as goal
 
-pub returns-in-Err-clause-trial : goal.returns-in-Err-clause-trial
-returns-in-Err-clause-trial g c = λ dim path policy words-are path-is policy-is. inl (rw c.code-in-Err.ensures at c.print-in-Err.ensures)
+pub returns-in-Ok-clause-runs : goal.returns-in-Ok-clause-runs
+returns-in-Ok-clause-runs g c = λ line task says is. c.run_request.ensures.runs task (c.in-Ok.ensures line says.words_are says.operands ∙ ap Some is)
+
+pub returns-in-Ok-clause-right_words : goal.returns-in-Ok-clause-right_words
+returns-in-Ok-clause-right_words g c = λ line task says is. c.run_request.ensures.right_words task (c.in-Ok.ensures line says.words_are says.operands ∙ ap Some is)
+
+pub returns-in-Ok-clause-wrong_words : goal.returns-in-Ok-clause-wrong_words
+returns-in-Ok-clause-wrong_words g c = λ line wrong says is. inl (c.run_request.ensures.wrong_words wrong (c.in-Ok.ensures line says.words_are says.operands ∙ ap Some is))
+
+pub returns-in-Err-clause-runs : goal.returns-in-Err-clause-runs
+returns-in-Err-clause-runs g c = λ line task says is.
+    not_run (g.H.Host.holds c.args.host.now) (g.H.Host.stores c.args.host.now)
+    (λ told. Prints (g.W.Write.contents c.args.out.now) (g.W.Write.contents c.print.new.out) c.code.result (printed told)) c.in-Err.field-0 task (rw (← c.code.ensures) at c.print.ensures)
 
 pub returns-in-Err-clause-right_words : goal.returns-in-Err-clause-right_words
-returns-in-Err-clause-right_words g c = λ dim path policy words-are path-is policy-is.
-    run_is_no_usage (g.H.Host.holds c.args.host.now) _ _ _ dim path policy (inl (rw c.code-in-Err.ensures at c.print-in-Err.ensures))
+returns-in-Err-clause-right_words g c = λ line task says is e. is_no_usage c.print.result (sym c.code.ensures ∙ e)
 
-pub returns-in-Err-clause-init : goal.returns-in-Err-clause-init
-returns-in-Err-clause-init g c = λ file policy content says stood.
-    (Err c.in-Err.field-0, c.in-Err.ensures.init file policy content says stood, rw c.code-in-Err.ensures at c.print-in-Err.ensures)
-
-pub returns-in-Err-clause-load : goal.returns-in-Err-clause-load
-returns-in-Err-clause-load g c = λ file word id path kind content says names stood.
-    (Err c.in-Err.field-0, c.in-Err.ensures.load file word id path kind content says names stood, rw c.code-in-Err.ensures at c.print-in-Err.ensures)
-
-pub returns-in-Err-clause-migrate : goal.returns-in-Err-clause-migrate
-returns-in-Err-clause-migrate g c = λ file id policy content says stood.
-    (Err c.in-Err.field-0, c.in-Err.ensures.migrate file id policy content says stood, rw c.code-in-Err.ensures at c.print-in-Err.ensures)
-
-pub returns-in-Err-clause-deliver : goal.returns-in-Err-clause-deliver
-returns-in-Err-clause-deliver g c = λ file manifest content says stood.
-    (Err c.in-Err.field-0, c.in-Err.ensures.deliver file manifest content says stood, rw c.code-in-Err.ensures at c.print-in-Err.ensures)
-
-pub returns-in-Err-clause-plan : goal.returns-in-Err-clause-plan
-returns-in-Err-clause-plan g c = λ file word id path kind content says names stood.
-    (Err c.in-Err.field-0, c.in-Err.ensures.plan file word id path kind content says names stood, rw c.code-in-Err.ensures at c.print-in-Err.ensures)
-
-pub returns-in-Err-clause-status : goal.returns-in-Err-clause-status
-returns-in-Err-clause-status g c = λ file content says stood.
-    (Err c.in-Err.field-0, c.in-Err.ensures.status file content says stood, rw c.code-in-Err.ensures at c.print-in-Err.ensures)
+pub returns-in-Err-clause-wrong_words : goal.returns-in-Err-clause-wrong_words
+returns-in-Err-clause-wrong_words g c = λ line wrong says is. inr (rw (← c.code.ensures) at c.print.ensures)

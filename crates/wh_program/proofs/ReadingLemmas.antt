@@ -1,0 +1,136 @@
+-- What reports and dumps answer, and what they leave of what stood.
+use Rattle.std.proofs.Common.{◌≡◌, ◌∙◌, inl, refl, sym, ap, ℕ, List, Bool, true, false, Option, Some, None, Ok, Err}
+use Rattle.std.specs.Prelude.{Result, IfOk, not, nat_lt}
+use Rattle.std.specs.declared.alloc.AllocError.{AllocError}
+use Rattle.std.specs.declared.alloc.Global.{Global}
+use Rattle.std.specs.declared.vec.Vec.{Vec}
+use Rattle.std.proofs.lemmas.Result.{IfOk-weaker}
+use Rattle.sqlite.specs.State.{State}
+use Rattle.wh_day.specs.Day.{read_day}
+use Rattle.wh_day.specs.Reading.{◌>>=◌}
+use Rattle.wh_policy.specs.declared.policy.Policy.{Policy}
+use Rattle.wh_history.specs.Accepted.{Accepted}
+use Rattle.wh_history.specs.Tables.{Limits}
+use Rattle.wh_rows.specs.AtRest.{IsAtRest}
+use Rattle.wh_engine.specs.Admission.{in_force, AreAdmitted}
+use Rattle.wh_engine.specs.Answered as engine
+use Rattle.wh_engine.specs.Answered.{IsReady}
+use Rattle.wh_engine.specs.Scanned.{IsServing}
+use Rattle.wh_engine.specs.declared.fault.Fault.{Fault}
+use Rattle.wh_engine.specs.declared.fault.Fault.TheVariants as fault
+use Rattle.wh_engine.specs.declared.session.Session.{Session}
+use Rattle.wh_report.specs.Asked.{Asked}
+use Rattle.wh_report.specs.Output.{IsOutInPieces, IsOfDump, of_warehouse}
+use Rattle.wh_report.specs.Reported.{Reports}
+use Rattle.wh_report.specs.Request.{asked, or_fault, unless_fault, subject_reads, has_reading, no_reading}
+use Rattle.wh_report.specs.Subject.{subject_in}
+use Rattle.wh_report.specs.declared.mode.Mode.{Mode}
+use Rattle.wh_report.specs.declared.output.ReportFault.{ReportFault}
+use Rattle.wh_report.specs.declared.output.ReportFault.TheVariants as report
+use Rattle.wh_report.specs.declared.request.RequestFault.{RequestFault}
+use Rattle.wh_report.specs.declared.request.RequestFault.TheVariants.{NoAttribute, BadRange}
+use Rattle.wh_report.specs.declared.subject.Subject.{Subject}
+use Rattle.wh_program.specs.Answer.{done, refused}
+use Rattle.wh_program.specs.Reply.{request_line, report_answer}
+use Rattle.wh_program.specs.Readings.{LeavesRead, asked_under, asked_answer, IsReported, behind, TellsText, SaysStop}
+use Rattle.wh_program.specs.Run.{Prints}
+use Rattle.wh_program.specs.Standing.{Content, Nothing, Holds, Standing, Rests, LeftAt, IsAt, Stands}
+use Rattle.wh_program.specs.Task.{ReportWords}
+use Rattle.wh_program.specs.Warehouse.{Told, printed, Opens}
+use Rattle.wh_program.proofs.RunLemmas.{prints-behind, prints-cut}
+
+-- ---- what is left
+
+-- what a call that reads through an engine leaves, as what stands
+pub left : (limits : Limits) (commands : List Accepted) (read : Result (Unit {0}) Fault) (session : Session) (s : State) → IsServing limits commands read session s
+    → (after : Standing) × LeavesRead limits commands read after × Stands after s
+left limits commands (Ok read) session s ready = (Rests (Holds limits commands), refl, (ready.admitted, ready.rests))
+left limits commands (Err (fault.Refused why)) session s none = absurd none
+left limits commands (Err (fault.Damaged table)) session s none = absurd none
+left limits commands (Err fault.Memory) session s ready = (Rests (Holds limits commands), refl, (ready.admitted, ready.rests))
+left limits commands (Err (fault.Store cause)) session s stopped = (LeftAt (Holds limits commands) (Holds limits commands), refl, record { each = stopped.left.each })
+left limits commands (Err fault.Reopen) session s none = absurd none
+
+-- a warehouse that is opened, and what is done then and printed
+pub opened-printing : (does : Limits → List Accepted → Told → Standing → Type 0) (prints : Told → Type 0) (content : Content) (first : Session) (s0 s1 s2 : State)
+    → ((limits : Limits) (commands : List Accepted) → AreAdmitted limits commands → engine.Rests limits commands s0 → IsReady limits commands first s1)
+    → ((limits : Limits) (commands : List Accepted) → IsReady limits commands first s1 → (after : Standing) × ((told : Told) × does limits commands told after × prints told) × Stands after s2)
+    → (IsAtRest None s0 → ⊥)
+    → IsAt content s0 → (after : Standing) × ((told : Told) × Opens does content told after × prints told) × Stands after s2
+opened-printing does prints content first s0 s1 s2 opens works missing at = elim content as (λ what. IsAt what s0 → (after : Standing) × ((told : Told) × Opens does what told after × prints told) × Stands after s2) [
+  | Nothing ↦ λ at. absurd (missing at)
+  | Holds limits commands ↦ λ at. let worked = works limits commands (opens limits commands at.0 at.1) in (worked.0, (worked.1.0, inl worked.1.1, worked.1.2), worked.2)
+] at
+
+-- ---- what is asked
+
+range_asked : (holds : Bool) (made request : Asked) → unless_fault holds BadRange (Ok made) ≡ Ok request → request ≡ made
+range_asked true made request is = cc
+range_asked false made request is = absurd (cc)
+
+days_asked : (words : List ℕ) (mode : Mode) (from to : Option ℕ) (request : Asked)
+    → (or_fault BadRange from >>= λ first. or_fault BadRange to >>= λ last. unless_fault (not (nat_lt last first)) BadRange (Ok (record { words = words; mode = mode; from = first; to = last }))) ≡ Ok request
+    → (request.words ≡ words) × (request.mode ≡ mode)
+days_asked words mode None to request is = absurd (cc)
+days_asked words mode (Some first) None request is = absurd (cc)
+days_asked words mode (Some first) (Some last) request is =
+    let made = range_asked (not (nat_lt last first)) (record { words = words; mode = mode; from = first; to = last }) request is in
+    (ap (λ (r : Asked). r.words) made, ap (λ (r : Asked). r.mode) made)
+
+-- where something was given, the test before it held
+past_test : (holds : Bool) (why : RequestFault) (read : Result Asked RequestFault) (request : Asked) → unless_fault holds why read ≡ Ok request → (holds ≡ true) × (read ≡ Ok request)
+past_test true why read request is = (refl, is)
+past_test false why read request is = absurd (cc)
+
+subject_asked : (found : Option Subject) (mode : Mode) (read : Subject → Result Asked RequestFault) (request : Asked)
+    → (or_fault NoAttribute found >>= λ subject. unless_fault (subject_reads mode (Some subject)) (no_reading subject mode) (read subject)) ≡ Ok request
+    → (subject_reads mode found ≡ true) × ((subject : Subject) × (read subject ≡ Ok request))
+subject_asked None mode read request is = absurd (cc)
+subject_asked (Some subject) mode read request is = let past = past_test (subject_reads mode (Some subject)) (no_reading subject mode) (read subject) request is in (past.0, (subject, past.1))
+
+-- a request that is given has a reading
+pub given-reads : (policy : Policy) (words : List ℕ) (mode : Mode) (from to : List ℕ) (request : Asked) → asked policy words mode from to ≡ Ok request → has_reading policy request ≡ true
+unfolding asked
+given-reads policy words mode from to request is =
+    let found = subject_asked (subject_in policy words) mode (λ subject. or_fault BadRange (read_day from) >>= λ first. or_fault BadRange (read_day to) >>= λ last.
+    unless_fault (not (nat_lt last first)) BadRange (Ok (record { words = words; mode = mode; from = first; to = last }))) request is in
+    let same = days_asked words mode (read_day from) (read_day to) request found.1.1 in
+    rw (same.0, same.1) found.0
+
+-- ---- report
+
+module _ (words : ReportWords) (limits : Limits) (commands : List Accepted) (told : Told) (session : Session) (s : State) where
+  -- a report that was worked out
+  pub reported : (request : Asked) (worked : Result (Vec ℕ Global) ReportFault) → asked_under (in_force commands) words ≡ Ok request → Reports commands request worked
+      → IfOk told (λ a. a ≡ report_answer worked) → IsServing limits commands (of_warehouse worked) session s
+      → (after : Standing) × IsReported words limits commands told after × Stands after s
+  reported request (Ok text) is reports tells serving =
+      let l = left limits commands (Ok tt) session s serving in
+      (l.0, record { read = Ok tt; leaves = l.1; tells = IfOk-weaker told _ _ (λ a e. e ∙ ap done reports ∙ sym (ap (asked_answer commands) is)) tells }, l.2)
+  reported request (Err report.Write) is none tells serving = absurd none
+  reported request (Err (report.Warehouse why)) is wanting tells serving = let l = left limits commands (Err why) session s serving in (l.0, record { read = Err why; leaves = l.1; tells = tells }, l.2)
+  reported request (Err (report.Inconsistent table)) is none tells serving = absurd none
+
+  -- or one that can't be asked for
+  pub not_asked : (why : RequestFault) → asked_under (in_force commands) words ≡ Err why → IfOk told (λ a. a ≡ refused (request_line why)) → IsReady limits commands session s
+      → (after : Standing) × IsReported words limits commands told after × Stands after s
+  not_asked why is tells ready =
+      (Rests (Holds limits commands), record { read = Ok tt; leaves = refl; tells = IfOk-weaker told _ _ (λ a e. e ∙ sym (ap (asked_answer commands) is)) tells }, (ready.admitted, ready.rests))
+
+-- no memory for what is asked
+pub not_read : (words : ReportWords) (limits : Limits) (commands : List Accepted) (e : AllocError) (session : Session) (s : State) → IsReady limits commands session s
+    → (after : Standing) × IsReported words limits commands (Err e) after × Stands after s
+not_read words limits commands e session s ready = (Rests (Holds limits commands), record { read = Ok tt; leaves = refl; tells = tt }, (ready.admitted, ready.rests))
+
+-- ---- dump
+
+-- what is told where a dump was stopped, by what went out of it and what was said behind that
+pub stopped-dump : (text : List ℕ) (why : ReportFault) (old mid new : Option (List ℕ)) (code : ℕ) → IsOfDump why → IsOutInPieces (Err why) old mid text → SaysStop why mid new code
+    → (told : Told) × TellsText text (of_warehouse {A = Unit {0}} (Err why)) told × Prints old new code (printed told)
+stopped-dump text report.Write old mid new code of (byte, rest, but) (failed, (told, said)) = (Ok (done text), refl, prints-cut old mid new code text but.part byte rest told but.whole but.went failed said)
+stopped-dump text (report.Warehouse why) old mid new code of (rest, but) (line, tells, prints) = (
+  Ok (behind but.part (printed line)),
+  record { part = but.part; rest = rest; begins = but.whole; line = line; tells = tells; told_is = refl },
+  prints-behind old mid new code but.part (printed line) but.went prints,
+)
+stopped-dump text (report.Inconsistent table) old mid new code none out says = absurd none

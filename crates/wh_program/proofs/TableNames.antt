@@ -1,0 +1,34 @@
+-- The table of a name.
+use Rattle.std.proofs.Common.{◌≡◌, ◌∙◌, refl, sym, ap, Bool, true, false, List, [], ◌∷◌, ℕ, Option, Some, None}
+use Rattle.std.specs.Prelude.{find, bytes_eq, IfSome}
+use Rattle.std.proofs.lemmas.Slice.Eq.{bytes_eq-Decides}
+use Rattle.wh_rows.specs.Names.{table_name, table_named, every_table}
+use Rattle.wh_rows.specs.declared.table.Table.{Table}
+use Rattle.wh_rows.specs.declared.table.Table.TheVariants.{Meta, Command, Member, Change, Product, Store, Customer, Profile, Calendar, Fact}
+
+named_back : (t : Table) → table_named (table_name t) ≡ Some t
+named_back Meta = refl
+named_back Command = refl
+named_back Member = refl
+named_back Change = refl
+named_back Product = refl
+named_back Store = refl
+named_back Customer = refl
+named_back Profile = refl
+named_back Calendar = refl
+named_back Fact = refl
+
+no_match : (b : Bool) → (b ≡ true → ⊥) → b ≡ false
+no_match true other = absurd (other refl)
+no_match false other = refl
+
+-- nothing is found where no table has the name
+none_found : (w : List ℕ) (tables : List Table) → ((t : Table) → table_name t ≡ w → ⊥) → find (λ t. bytes_eq w (table_name t)) tables ≡ None
+none_found w [] none = refl
+none_found w (t ∷ tables) none =
+    let other : bytes_eq w (table_name t) ≡ false = no_match (bytes_eq w (table_name t)) (λ is. none t (sym ((bytes_eq-Decides w (table_name t)).0 is))) in
+    rw other (none_found w tables none)
+
+pub named_by_both : (w : List ℕ) (found : Option Table) → IfSome found (λ t. table_name t ≡ w) → ((t : Table) → table_name t ≡ w → found ≡ Some t) → found ≡ table_named w
+named_by_both w (Some t) is only = sym (ap table_named (sym is) ∙ named_back t)
+named_by_both w None is only = sym (none_found w every_table (λ t e. let taken = only t e in absurd (cc taken)))

@@ -1,0 +1,93 @@
+-- What a report and a dump of a warehouse answer and leave.
+use Rattle.std.specs.Prelude.{◌≡◌, ◌⊎◌, ◌++◌, ℕ, List, Option, Result, Ok, Err, IfOk, take}
+use Rattle.std.specs.Io.KnownBytes.{Appends}
+use Rattle.wh_policy.specs.declared.policy.Policy.{Policy}
+use Rattle.wh_history.specs.Accepted.{Accepted}
+use Rattle.wh_history.specs.Tables.{Limits}
+use Rattle.wh_rows.specs.Tables.{Tables}
+use Rattle.wh_rows.specs.declared.table.Table.{Table}
+use Rattle.wh_plan.specs.Defined.{AreOf}
+use Rattle.wh_engine.specs.Admission.{in_force}
+use Rattle.wh_engine.specs.declared.fault.Fault.{Fault}
+use Rattle.wh_engine.specs.declared.fault.Fault.TheVariants as fault
+use Rattle.wh_report.specs.Asked.{Asked}
+use Rattle.wh_report.specs.Dump.{text_of_table}
+use Rattle.wh_report.specs.Reported.{report_of}
+use Rattle.wh_report.specs.Request.{asked}
+use Rattle.wh_report.specs.declared.output.ReportFault.{ReportFault}
+use Rattle.wh_report.specs.declared.output.ReportFault.TheVariants as report
+use Rattle.wh_report.specs.declared.request.RequestFault.{RequestFault}
+use Rattle.wh_program.specs.Answer.{Printed, done, refused, write_line}
+use Rattle.wh_program.specs.Reply.{fault_answer, request_line, report_fault_answer}
+use Rattle.wh_program.specs.Run.{Prints}
+use Rattle.wh_program.specs.Standing.{Content, Holds, Standing, Rests, LeftAt}
+use Rattle.wh_program.specs.Task.{ReportWords}
+use Rattle.wh_program.specs.Warehouse.{Told, printed, Opens, IsTried, IsNotConnected}
+
+-- What a call that only reads leaves of a warehouse with these commands.
+abbrev pub LeavesRead : Limits → List Accepted → Result (Unit {0}) Fault → Standing → Type 0
+LeavesRead limits commands (Ok read) after = after ≡ Rests (Holds limits commands)
+LeavesRead limits commands (Err fault.Memory) after = after ≡ Rests (Holds limits commands)
+LeavesRead limits commands (Err (fault.Store cause)) after = after ≡ LeftAt (Holds limits commands) (Holds limits commands)
+LeavesRead limits commands (Err _) after = ⊥
+
+-- ---- report
+
+-- what the words ask for under a policy, or the first fault
+abbrev pub asked_under : Policy → ReportWords → Result Asked RequestFault
+asked_under policy words = asked policy words.attribute words.mode words.from words.to
+
+-- the report that is asked for, or what is wrong with the words
+abbrev pub asked_answer : List Accepted → Result Asked RequestFault → Printed
+asked_answer commands (Ok request) = done (report_of commands request)
+asked_answer commands (Err fault) = refused (request_line fault)
+
+-- an answer, where the warehouse was read for it
+abbrev pub read_answer : Result (Unit {0}) Fault → Printed → Printed
+read_answer (Ok read) answer = answer
+read_answer (Err fault) answer = fault_answer fault
+
+pub record IsReported (words : ReportWords) (limits : Limits) (commands : List Accepted) (told : Told) (after : Standing) : Type 0 where
+  pub read : Result (Unit {0}) Fault
+  pub leaves : LeavesRead limits commands read after
+  pub tells : IfOk told (λ a. a ≡ read_answer read (asked_answer commands (asked_under (in_force commands) words)))
+
+abbrev pub AnswersReport : (Standing → Type 0) → Content → (file : List ℕ) → ReportWords → Told → Type 0
+AnswersReport stands content file words told = IsTried stands (Opens (IsReported words) content) told ⊎ IsNotConnected stands content file told
+
+-- ---- dump
+
+-- an answer behind what was printed before it
+abbrev pub behind : List ℕ → Printed → Printed
+behind part answer = record { status = answer.status; text = part ++ answer.text }
+
+-- a beginning of the text, and then the line of the fault, or of the lack of memory for that
+pub record IsCutShort (text : List ℕ) (fault : Fault) (told : Told) : Type 0 where
+  pub part : List ℕ
+  pub rest : List ℕ
+  pub begins : text ≡ part ++ rest
+  pub line : Told
+  pub tells : IfOk line (λ a. a ≡ fault_answer fault)
+  pub told_is : told ≡ Ok (behind part (printed line))
+
+-- the whole text, where the table was read
+abbrev pub TellsText : List ℕ → Result (Unit {0}) Fault → Told → Type 0
+TellsText text (Ok read) told = told ≡ Ok (done text)
+TellsText text (Err fault) told = IsCutShort text fault told
+
+-- the text is that of the table of the accepted commands
+pub record IsDumped (table : Table) (limits : Limits) (commands : List Accepted) (told : Told) (after : Standing) : Type 0 where
+  pub tables : Tables
+  pub are : AreOf limits commands tables
+  pub read : Result (Unit {0}) Fault
+  pub leaves : LeavesRead limits commands read after
+  pub tells : TellsText (text_of_table table tables) read told
+
+abbrev pub AnswersDump : (Standing → Type 0) → Content → (file : List ℕ) → Table → Told → Type 0
+AnswersDump stands content file table told = IsTried stands (Opens (IsDumped table) content) told ⊎ IsNotConnected stands content file told
+
+-- what ended a dump is said behind what went out of it: that the writer failed, as far as it could still be written, or the line of the fault
+abbrev pub SaysStop : ReportFault → Option (List ℕ) → Option (List ℕ) → ℕ → Type 0
+SaysStop report.Write old new code = (code ≡ 3) × ((told : ℕ) × Appends old new (take told write_line))
+SaysStop (report.Warehouse why) old new code = (line : Told) × IfOk line (λ a. a ≡ fault_answer why) × Prints old new code (printed line)
+SaysStop (report.Inconsistent table) old new code = (line : Told) × IfOk line (λ a. a ≡ report_fault_answer (report.Inconsistent table)) × Prints old new code (printed line)

@@ -1,0 +1,64 @@
+-- What the words of a command are to do.
+use Rattle.std.specs.Prelude.{ℕ, List, Option, Some, None, option_map, Result, Ok, Err}
+use Rattle.wh_policy.specs.declared.attribute.Dim.{Dim}
+use Rattle.wh_policy.specs.Words.{dim_of_word}
+use Rattle.wh_batch.specs.declared.kind.Kind.{Kind}
+use Rattle.wh_batch.specs.declared.kind.CommandKind.{CommandKind}
+use Rattle.wh_batch.specs.Kind.{kind_of_word, command_kind_of}
+use Rattle.wh_report.specs.declared.mode.Mode.{Mode}
+use Rattle.wh_report.specs.Words.{mode_of_word}
+use Rattle.wh_rows.specs.declared.table.Table.{Table}
+use Rattle.wh_rows.specs.Names.{table_named}
+use Rattle.wh_program.specs.Answer.{no_dimension_line, no_kind_line, no_command_kind_line, no_mode_line, no_table_line}
+use Rattle.wh_program.specs.CommandLine.{CommandLine}
+use Rattle.wh_program.specs.CommandLine as line
+
+-- the words of a report: the attribute, the mode, and the first and the last day, as they were given
+pub record ReportWords : Type 0 where
+  pub attribute : List ℕ
+  pub mode : Mode
+  pub from : List ℕ
+  pub to : List ℕ
+
+pub data Task : Type 0 where
+  Trial : Dim → (path : List ℕ) → (policy : Option (List ℕ)) → Task
+  Init : (file policy : List ℕ) → Task
+  Load : (file : List ℕ) → Kind → (id path : List ℕ) → Task
+  Migrate : (file id policy : List ℕ) → Task
+  Deliver : (file manifest : List ℕ) → Task
+  Plan : (file : List ℕ) → CommandKind → (id path : List ℕ) → Task
+  Report : (file : List ℕ) → ReportWords → Task
+  Dump : (file : List ℕ) → Table → Task
+  Status : (file : List ℕ) → Task
+
+-- what is there, or else the line that says what is wrong
+abbrev pub or_line : {A : Type 0} → List ℕ → Option A → Result A (List ℕ)
+or_line line (Some x) = Ok x
+or_line line None = Err line
+
+abbrev pub trial_asked : (dimension path : List ℕ) → (policy : Option (List ℕ)) → Result Task (List ℕ)
+trial_asked dimension path policy = or_line no_dimension_line (option_map (λ dim. Trial dim path policy) (dim_of_word dimension))
+
+abbrev pub load_asked : (file kind id path : List ℕ) → Result Task (List ℕ)
+load_asked file kind id path = or_line no_kind_line (option_map (λ k. Load file k id path) (kind_of_word kind))
+
+abbrev pub plan_asked : (file kind id path : List ℕ) → Result Task (List ℕ)
+plan_asked file kind id path = or_line no_command_kind_line (option_map (λ k. Plan file k id path) (command_kind_of kind))
+
+abbrev pub report_asked : (file attribute mode from to : List ℕ) → Result Task (List ℕ)
+report_asked file attribute mode from to = or_line no_mode_line (option_map (λ m. Report file (record { attribute = attribute; mode = m; from = from; to = to })) (mode_of_word mode))
+
+abbrev pub dump_asked : (file table : List ℕ) → Result Task (List ℕ)
+dump_asked file table = or_line no_table_line (option_map (λ t. Dump file t) (table_named table))
+
+-- what the words of a command ask for, or the line that says which of them is none of those that are listed
+abbrev pub task_of : CommandLine → Result Task (List ℕ)
+task_of (line.Trial dimension path policy) = trial_asked dimension path policy
+task_of (line.Init file policy) = Ok (Init file policy)
+task_of (line.Load file kind id path) = load_asked file kind id path
+task_of (line.Migrate file id policy) = Ok (Migrate file id policy)
+task_of (line.Deliver file manifest) = Ok (Deliver file manifest)
+task_of (line.Plan file kind id path) = plan_asked file kind id path
+task_of (line.Report file attribute mode from to) = report_asked file attribute mode from to
+task_of (line.Dump file table) = dump_asked file table
+task_of (line.Status file) = Ok (Status file)
