@@ -5,6 +5,7 @@ pub mod OutputLemmas
 pub mod ReadingLemmas
 pub mod WarehouseLemmas
 pub mod DeliveryLemmas
-pub mod OneLemmas
+pub mod NamedLemmas
+pub mod MemoryLemmas
 pub mod TableNames
 pub mod Worked

@@ -11,4 +11,5 @@ pub mod Warehouse
 pub mod Delivery
 pub mod Readings
 pub mod Tasks
-pub mod Files
+pub mod Named
+pub mod Memory

@@ -8,7 +8,8 @@ mod delivery_text;
 mod dump;
 mod host;
 mod lines;
-mod one;
+mod memory;
+mod named;
 mod output;
 mod plan_text;
 mod program;
@@ -24,5 +25,5 @@ pub use host::{Host, HostError, Visitor};
 pub use lines::{
     made, making_answer, opening_answer, plan_answer, room_for_receipt, sent_answer, status_answer,
 };
-pub use one::OneHost;
+pub use memory::MemoryHost;
 pub use program::{run, run_without_words};

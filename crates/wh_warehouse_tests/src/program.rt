@@ -10,7 +10,6 @@
 //!   the status, and whether anything was printed.
 //! - `breaks BYTES WORDS` makes the run again and again, on a page that takes so many bytes a call and fails from a call on, or at a call
 //!   alone. It answers how many calls there are, and what was written.
-//! - `alone NAME` runs the lines that it is handed over a host of this one warehouse, which is gone after it.
 //!
 //! `sql NAME TEXT` alters what stands under a name, `stands NAME` answers whether anything does, and `anew` forgets all warehouses.
 
@@ -23,10 +22,11 @@ mod runs;
 mod scenarios;
 
 use crate::program::files::{add_file, add_large_file};
-use crate::program::host::{MemoryHost, alter};
-use crate::program::runs::{breaks, ended, lines, run_alone, run_step};
+use crate::program::host::alter;
+use crate::program::runs::{breaks, ended, lines, run_step};
 use crate::trouble::Trouble;
 use std::alloc::Global;
+use wh_program::MemoryHost;
 use wh_scenarios::{Driver, NotMade, Step, parted, push_line};
 
 /// Makes the steps of scenarios of the program.
@@ -69,7 +69,6 @@ fn perform(
         "lines" => lines(alloc, host, rest, handed, out),
         "ended" => ended(alloc, host, rest, handed, out),
         "breaks" => breaks(alloc, host, rest, out),
-        "alone" => run_alone(alloc, host.files(), rest, handed, out),
         "stands" => push_standing(host, rest, out),
         _ => prepare(alloc, host, step),
     }

@@ -1,9 +1,9 @@
 //! The files of scenarios.
 
-use crate::program::host::MemoryHost;
 use crate::trouble::Trouble;
 use crate::words::{number, push_number};
 use std::alloc::{AllocError, Global};
+use wh_program::MemoryHost;
 use wh_scenarios::{Step, bytes_of, changed_flat, parted};
 
 /// `file NAME`, `bytes NAME TEXT` or `policy NAME CHANGES`.

@@ -1,12 +1,12 @@
 //! Runs of which a call for memory may be refused. The steps of a scenario call for memory themselves, so these are plain tests, on a page
 //! that calls for none.
 
-use crate::program::host::MemoryHost;
 use crate::program::page::{Page, ROOM};
 use crate::program::runs::on_page;
 use std::alloc::{AllocError, Global};
 use std::process::Abort;
 use std::test::Fail;
+use wh_program::MemoryHost;
 use wh_scenarios::FLAT;
 
 const COLA: &str =

@@ -1,11 +1,10 @@
 //! Runs of the program, and what they print.
 
-use crate::program::host::{File, MemoryHost};
 use crate::program::page::{Page, ROOM};
 use crate::trouble::Trouble;
 use crate::words::{number, push_number};
 use std::alloc::{AllocError, Global};
-use wh_program::{Host, OneHost, run};
+use wh_program::{MemoryHost, run};
 use wh_scenarios::{parted, push_line};
 
 /// Adds the words before and between such signs.
@@ -43,7 +42,7 @@ pub fn push_status(out: &mut String, status: u8) -> Result<(), AllocError> {
 }
 
 /// The status of a run over a host, and what it printed. This and `on_page` alone call `run`, so that no other proof carries its clauses.
-fn run_on<H: Host>(alloc: Global, host: &mut H, words: &[&str]) -> (u8, Vec<u8>) {
+fn run_on(alloc: Global, host: &mut MemoryHost, words: &[&str]) -> (u8, Vec<u8>) {
     let mut printed = Vec::new(alloc);
     let status = run(alloc, words, host, &mut printed);
     (status, printed)
@@ -55,9 +54,9 @@ pub fn on_page(alloc: Global, host: &mut MemoryHost, words: &[&str], page: &mut 
 }
 
 /// `run WORDS`.
-pub fn run_step<H: Host>(
+pub fn run_step(
     alloc: Global,
-    host: &mut H,
+    host: &mut MemoryHost,
     line: &str,
     handed: &str,
     out: &mut String,
@@ -66,34 +65,6 @@ pub fn run_step<H: Host>(
     let (status, printed) = run_on(alloc, host, &words);
     push_printed(out, &printed)?;
     Ok(push_status(out, status)?)
-}
-
-/// `alone NAME`: runs over a host of one warehouse.
-pub fn run_alone(
-    alloc: Global,
-    files: &[File],
-    name: &str,
-    runs: &str,
-    out: &mut String,
-) -> Result<(), Trouble> {
-    let mut named = Vec::new(alloc);
-    for file in files {
-        named.push((file.name.as_str(), file.bytes.as_slice()))?;
-    }
-    let mut host = OneHost::new(&named, name);
-    run_lines(alloc, &mut host, runs, out)
-}
-
-fn run_lines<H: Host>(
-    alloc: Global,
-    host: &mut H,
-    runs: &str,
-    out: &mut String,
-) -> Result<(), Trouble> {
-    for line in runs.lines() {
-        run_step(alloc, host, line, "", out)?;
-    }
-    Ok(())
 }
 
 /// `lines WORDS`.

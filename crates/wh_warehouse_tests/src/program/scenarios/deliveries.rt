@@ -119,16 +119,16 @@ run status w
 = members product 1 store 0 customer 0
 = status 0
 
-# On one warehouse alone.
-alone w
-> init w flat.toml
-> deliver w good.csv
-> deliver w good.csv
+# All are accepted, and then all are there.
+anew
+run init w flat.toml
 = accepted 1 init: 0 records, 0 placeholders
 = status 0
+run deliver w good.csv
 = accepted 2 p1: 1 records, 0 placeholders
 = accepted 3 s1: 2 records, 1 placeholders
 = status 0
+run deliver w good.csv
 = already 2 p1: 1 records, 0 placeholders
 = already 3 s1: 2 records, 1 placeholders
 = status 0

@@ -1278,24 +1278,23 @@ run report w date.month is 2024-01-01 2024-12-31
 =        4          5           7.95           4.51           3.44  total
 = status 0
 
-# On one warehouse alone.
-alone u
-> init u small.toml
-> load u store k1 k1.csv
-> dump u store
-> report u store.city is 2024-01-01 2024-12-31
-> report u store.town is 2024-01-01 2024-12-31
+# Another warehouse, under another name.
+run init u small.toml
 = accepted 1 init: 0 records, 0 placeholders
 = status 0
+run load u store k1 k1.csv
 = accepted 2 k1: 1 records, 0 placeholders
 = status 0
+run dump u store
 = surrogate,durable,natural,from_day,to_day,is_current,a1,a2,a3,a4,a5,a6,b1,b2,b3,b4,b5,b6,profile_now
 = 1,1,S1,19000101,99991231,1,Bern,,,,,,,,,,,,0
 = status 0
+run report u store.city is 2024-01-01 2024-12-31
 = report store.city is 2024-01-01 2024-12-31
 =    lines   quantity         amount           cost         margin  label
 =        0          0           0.00           0.00           0.00  total
 = status 0
+run report u store.town is 2024-01-01 2024-12-31
 = refused: G1 no attribute
 = status 2
 

@@ -40,17 +40,12 @@ file s3.csv
 > T2,1,2024-07-02,S1,P1,,1,2.50,1.60
 
 # A warehouse is made once under a name, and others under other names.
-alone w
-> init w flat.toml
-> init w flat.toml
-= accepted 1 init: 0 records, 0 placeholders
-= status 0
-= refused: E11 not empty
-= status 2
-anew
 run init w flat.toml
 = accepted 1 init: 0 records, 0 placeholders
 = status 0
+run init w flat.toml
+= refused: E11 not empty
+= status 2
 run init v flat.toml
 = accepted 1 init: 0 records, 0 placeholders
 = status 0

@@ -41,7 +41,3 @@ content_of (LeftAt first second) = first
 pub is_empty : (content : Content) (kept : Option (Held MemStore)) (c : Held MemStore) → kept ≡ None → IsKept (Rests content) kept → IsEmpty (state over_memory c) → IsAt content (state over_memory c)
 is_empty content kept c none stood empty =
     subst (λ x. IsAt x (state over_memory c)) (sym (ap content_of (subst (IsKept (Rests content)) none stood))) (empty_rests c empty)
-
--- what is lent where it was kept
-pub is_kept : (content : Content) (kept : Option (Held MemStore)) (c : Held MemStore) → kept ≡ Some c → IsKept (Rests content) kept → IsAt content (state over_memory c)
-is_kept content kept c some stood = subst (IsKept (Rests content)) some stood
