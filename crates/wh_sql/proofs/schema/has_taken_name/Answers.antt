@@ -1,6 +1,6 @@
 use Rattle.std.proofs.Common.{ap, ◌∙◌}
 use Rattle.wh_sql.specs.Present.{is_any_taken}
-use Rattle.wh_sql.proofs.making.has_taken_name.Goals as goal
+use Rattle.wh_sql.proofs.schema.has_taken_name.Goals as goal
 
 pub returns : goal.returns
 unfolding is_any_taken

@@ -1,6 +1,6 @@
 use Rattle.std.proofs.Common.{ap, ◌∙◌}
 use Rattle.wh_sql.specs.Present.{are_all_there}
-use Rattle.wh_sql.proofs.making.has_tables.Goals as goal
+use Rattle.wh_sql.proofs.schema.has_tables.Goals as goal
 
 pub returns : goal.returns
 unfolding are_all_there

@@ -1,4 +1,4 @@
-//! Making the tables, and whether they are there.
+//! The schema: making its tables, and whether they are there.
 
 ghost use Rattle.std.specs.Prelude.{◌≡◌, ◌≤◌, [], false, map, Some, None, Err, IsTrue, IfErr, OnOk};
 ghost use Rattle.std.specs.List.{list_all, list_any};

@@ -2,7 +2,7 @@ use Rattle.std.proofs.Common.{Bor, List, ℕ, map, rules, arith}
 use Rattle.wh_rows.specs.AtRest.{IsCauseOf}
 use Rattle.wh_sql.specs.Refused.{IsOneRefused, bare}
 use Rattle.wh_sql.proofs.Creating.{next_extends, is_among}
-use Rattle.wh_sql.proofs.making.create_all.Goals as goal
+use Rattle.wh_sql.proofs.schema.create_all.Goals as goal
 
 pub returns-in_err-create_one-clause-left : goal.returns-in_err-create_one-clause-left
 returns-in_err-create_one-clause-left g c clean from to leads at =

@@ -4,7 +4,7 @@ use Rattle.sqlite.specs.Schema.{Schema}
 use Rattle.sqlite.specs.State.{HasCleanDisk}
 use Rattle.wh_rows.specs.Making.{Leads}
 use Rattle.wh_sql.specs.Present.{IsMaking}
-use Rattle.wh_sql.proofs.making.create_all.Given as goal
+use Rattle.wh_sql.proofs.schema.create_all.Given as goal
 
 abbrev pub invariant-loop-text : goal.invariant-loop-text
 invariant-loop-text g l =

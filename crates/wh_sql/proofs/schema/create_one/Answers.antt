@@ -1,6 +1,6 @@
 use Rattle.sqlite.specs.Held.{state}
 use Rattle.wh_sql.proofs.Creating.{leaves_none, makes_on}
-use Rattle.wh_sql.proofs.making.create_one.Goals as goal
+use Rattle.wh_sql.proofs.schema.create_one.Goals as goal
 
 pub returns-in_err-execute-clause-left : goal.returns-in_err-execute-clause-left
 returns-in_err-execute-clause-left g c clean from to extends at = leaves_none from c.args.text.now to extends (state g.S.Store c.args.conn.now) (state g.S.Store c.execute.new.self) clean c.execute.ensures.survives at
