@@ -47,7 +47,6 @@ fn answer_more<H: Reads>(
         "member" => member(alloc, held, step.rest, out),
         "profile" => profile(alloc, held, step.rest, out),
         "records" => records(alloc, held, step.rest, out),
-        "records_on" => records_on(alloc, held, step.rest, out),
         "sales" => sales(alloc, held, step.rest, out),
         _ => Err(Trouble::Unknown),
     }

@@ -1,9 +1,6 @@
-//! The policies of scenarios, and their limits.
+//! The policies of scenarios of the engine, by name.
 
-use crate::trouble::Trouble;
-use crate::words::number;
-use wh_rows::Limits;
-use wh_scenarios::{FLAT, parted};
+use crate::FLAT;
 
 /// The policy of this name; any other text is none.
 pub fn policy(name: &str) -> &'static str {
@@ -23,16 +20,6 @@ pub fn policy(name: &str) -> &'static str {
         "bad-type" => BAD_TYPE,
         _ => "",
     }
-}
-
-/// `COMMANDS CHANGES FACTS`, or nothing for the greatest limits.
-pub fn limits_of(words: &str) -> Result<Limits, Trouble> {
-    if words.is_empty() {
-        return Ok(Limits::greatest());
-    }
-    let (commands, rest) = parted(words, ' ');
-    let (changes, facts) = parted(rest, ' ');
-    Limits::new(number(commands)?, number(changes)?, number(facts)?).ok_or(Trouble)
 }
 
 /// [`FLAT`] with demographic bands of customers, where a customer's rows name the latest profile.
