@@ -28,8 +28,3 @@ fn sales_of_members(rt: HostRuntime) -> Result<(), Fail> {
 fn profiles(rt: HostRuntime) -> Result<(), Fail> {
     check_store(&rt, rt.alloc(), questions::PROFILES)
 }
-
-#[test]
-fn greatest_rows(rt: HostRuntime) -> Result<(), Fail> {
-    check_store(&rt, rt.alloc(), questions::GREATEST)
-}
