@@ -94,6 +94,8 @@ send customer c3
 > id,day,tier,age_band,spend_band
 > C9,2024-07-01,Gold,40-49,high
 = accepted 19: 1 records, 0 placeholders
+writes
+= written 2
 send customer c4
 > id,day,tier,age_band,spend_band
 > C8,2024-07-01,V,,
@@ -130,6 +132,20 @@ table profile
 send migrate m5
 > bands-of-rows
 = accepted 22: 0 records, 0 placeholders
+table product
+= 1,1,P1,19000101,20240119,0,Cola 1 l,Acme,Drinks,Grocery,2019,South,,,Soft drinks,,,East,0
+= 3,1,P1,20240201,20240331,0,Cola 1 l,Cask,Drinks,Grocery,2019,South,,,Soft drinks,,,East,0
+= 4,1,P1,20240120,20240131,0,Cola 1 l,Bolt,Drinks,Grocery,2019,South,,,Soft drinks,,,East,0
+= 6,1,P1,20240401,99991231,1,Cola 1 l,Cask,Soft drinks,Grocery,2019,South,,,Soft drinks,,,East,0
+= 9,2,P9,19000101,99991231,1,Tea 50,Leaf,Drinks,Grocery,2024,North,,,Drinks,,,(none),0
+table store
+= 1,1,S1,19000101,99991231,1,(unknown),,,,,,,,,,,,0
+table member
+= 1,1,P1,1
+= 1,2,P9,9
+= 2,1,S1,1
+= 3,1,C9,1
+= 3,2,C8,4
 table customer
 = 0,0,(no card),19000101,99991231,1,(no card),,,,,,,,,,,,0
 = 1,1,C9,19000101,99991231,1,Gold,,,,,,,,,,,,3
@@ -211,6 +227,11 @@ plan migrate m1
 = put command 2
 = put calendar 20241225
 = put calendar 20241226
+send migrate m1
+> holiday-moved
+= accepted 2: 0 records, 0 placeholders
+writes
+= written 3
 
 # One more attribute of each dimension, and other years.
 make small
@@ -228,6 +249,15 @@ send sales s1
 = accepted 4: 1 records, 1 placeholders
 send migrate m1
 > later-years
+= refused: Unfit
+
+# Another name in the slot.
+send migrate m1
+> first_year = 2024
+> last_year = 2024
+> product = [{ name = "label", type = 2 }]
+> store = [{ name = "city", type = 2 }]
+> customer = [{ name = "tier", type = 2 }]
 = refused: Unfit
 plan migrate m1
 > one-more-each
@@ -253,6 +283,37 @@ table product
 = 3,1,P1,20240215,99991231,1,Acme,North,,,,,,,,,,,0
 table fact
 = T1,1,20240301,1,3,1,1,1,1,2,1,250,160
+
+# A sale whose product and customer both move has one edit.
+make small
+send product p1
+> id,day,brand
+> P1,2024-02-01,Acme
+> P1,2024-03-01,Bolt
+= accepted 2: 2 records, 0 placeholders
+send customer c1
+> id,day,tier
+> C1,2024-02-01,Gold
+> C1,2024-03-01,Silver
+= accepted 3: 2 records, 0 placeholders
+send sales s1
+> ticket,line,day,store,product,customer,quantity,amount,cost
+> T1,1,2024-03-05,S1,P1,C1,1,2.50,1.60
+= accepted 4: 1 records, 1 placeholders
+table fact
+= T1,1,20240305,1,3,3,1,1,1,2,1,250,160
+plan migrate m1
+> first_year = 2024
+> last_year = 2024
+> product = [{ name = "brand", type = 1 }]
+> store = [{ name = "city", type = 2 }]
+> customer = [{ name = "tier", type = 1 }]
+= put command 5
+= put product 1
+= remove product 3
+= put customer 1
+= remove customer 3
+= rekey fact T1 1
 
 make flat
 load p0 p2
