@@ -23,8 +23,8 @@ use Rattle.wh_rows.specs.Rows as row
 use Rattle.wh_rows.specs.Texts as texts
 use Rattle.wh_rows.specs.Keys.{bind_change, stands_at_change}
 use Rattle.wh_rows.specs.Meaning.{PutsOne, RemovesOne, ReadsSome, CountsAll}
-use Rattle.wh_rows.specs.Raw.{ReadsStored}
-use Rattle.wh_rows.specs.Questions.{is_of_member, is_of_anchor}
+use Rattle.wh_rows.specs.Raw.{ReadsStored, ReadsGreatestStored}
+use Rattle.wh_rows.specs.Questions.{is_of_member, is_of_anchor, is_record_of, anchor_column}
 use Rattle.wh_rows.specs.Firsts.{ReadsGreatest}
 use Rattle.wh_rows.proofs.Cast.{cast_row_own}
 use Rattle.wh_rows.proofs.Keys.{and-true, equal-Nat, sorted-Nat, then_eq, trimmed_and}
@@ -190,6 +190,10 @@ of_member_stored dim durable = record { reads = of_member dim durable; tested = 
 pub of_anchor_stored : (dim : Dim) (anchor : ℕ) → ReadsStored row.change (Int (pos (dim_number dim)) ∷ Int (pos anchor) ∷ []) (is_of_anchor dim anchor) (λ r. eq_by_cmp nat_cmp (dim_number dim) (dim_number r.dim) && eq_by_cmp nat_cmp anchor r.anchor) texts.changes_of_anchor
 unfolding of_anchor
 of_anchor_stored dim anchor = record { reads = of_anchor dim anchor; tested = λ r. refl }
+
+pub greatest_anchor_stored : (dim : Dim) → ReadsGreatestStored anchor_column row.change (Int (pos (dim_number dim)) ∷ []) (is_record_of dim) (λ r. eq_by_cmp nat_cmp (dim_number dim) (dim_number r.dim)) (λ r. r.anchor) texts.greatest_anchor
+unfolding greatest_anchor
+greatest_anchor_stored dim = record { reads = greatest_anchor dim; tested = λ r. refl; in_order = λ r s. then-Equal _ }
 
 -- ---- count
 
