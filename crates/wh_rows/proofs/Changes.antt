@@ -23,8 +23,8 @@ use Rattle.wh_rows.specs.Rows as row
 use Rattle.wh_rows.specs.Texts as texts
 use Rattle.wh_rows.specs.Keys.{bind_change, stands_at_change}
 use Rattle.wh_rows.specs.Meaning.{PutsOne, RemovesOne, ReadsSome, CountsAll}
-use Rattle.wh_rows.specs.Raw.{ReadsStored}
-use Rattle.wh_rows.specs.Questions.{is_of_member}
+use Rattle.wh_rows.specs.Raw.{ReadsStored, ReadsGreatestStored}
+use Rattle.wh_rows.specs.Questions.{is_of_member, is_record_of, anchor_column}
 use Rattle.wh_rows.specs.Firsts.{ReadsGreatest}
 use Rattle.wh_rows.proofs.Cast.{cast_row_own}
 use Rattle.wh_rows.proofs.Keys.{and-true, equal-Nat, sorted-Nat, then_eq, trimmed_and}
@@ -167,6 +167,10 @@ get_stored k = record { reads = get k; tested = λ r. refl }
 pub of_member_stored : (dim : Dim) (durable : ℕ) → ReadsStored row.change (Int (pos (dim_number dim)) ∷ Int (pos durable) ∷ []) (is_of_member dim durable) (λ r. eq_by_cmp nat_cmp (dim_number dim) (dim_number r.dim) && eq_by_cmp nat_cmp durable r.durable) texts.changes_of_member
 unfolding of_member
 of_member_stored dim durable = record { reads = of_member dim durable; tested = λ r. refl }
+
+pub greatest_anchor_stored : (dim : Dim) → ReadsGreatestStored anchor_column row.change (Int (pos (dim_number dim)) ∷ []) (is_record_of dim) (λ r. eq_by_cmp nat_cmp (dim_number dim) (dim_number r.dim)) (λ r. r.anchor) texts.greatest_anchor
+unfolding greatest_anchor
+greatest_anchor_stored dim = record { reads = greatest_anchor dim; tested = λ r. refl; in_order = λ r s. then-Equal _ }
 
 -- ---- count
 

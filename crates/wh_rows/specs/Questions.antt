@@ -43,6 +43,14 @@ has_natural dim natural r = equal Binary (column r 0) (Int (pos (dim_number dim)
 abbrev pub is_of_member : Dim → ℕ → Row → Bool
 is_of_member dim durable r = equal Binary (column r 2) (Int (pos (dim_number dim))) && (equal Binary (column r 3) (Int (pos durable)) && true)
 
+-- a record of this dimension
+abbrev pub is_record_of : Dim → Row → Bool
+is_record_of dim r = equal Binary (column r 2) (Int (pos (dim_number dim))) && true
+
+-- in which column a record has its anchor
+abbrev pub anchor_column : ℕ
+anchor_column = 5
+
 -- a row of a member
 abbrev pub has_durable : ℕ → Row → Bool
 has_durable durable r = equal Binary (column r 1) (Int (pos durable)) && true

@@ -11,7 +11,9 @@ ghost use Rattle.wh_rows.specs.Types.{dim_number};
 ghost use Rattle.wh_rows.specs.Rows.{change};
 ghost use Rattle.wh_rows.specs.Texts as texts;
 ghost use Rattle.wh_rows.specs.Firsts.{greatest as greatest_of};
-ghost use Rattle.wh_sql.specs.Reads.{ReadsOnly, SaysOfTables, IsUndamaged, FailsToShow};
+ghost use Rattle.wh_rows.specs.Questions.{is_record_of};
+ghost use Rattle.wh_rows.specs.Raw.{IsGreatestAnchor};
+ghost use Rattle.wh_sql.specs.Reads.{ReadsOnly, SaysOfTables, SaysOfStored, IsUndamaged, IsOfGreatestDamage, FailsToShow};
 
 use crate::fault::ReadFault;
 use crate::keys::dim_key;
@@ -99,7 +101,8 @@ impl Question<tables::Member> for GreatestOf {
     ghost reads_stored = { λ q. greatest_stored q.dim };
 }
 
-/// The greatest anchor of the dimension's records; 0 where it has none.
+/// The greatest anchor of the dimension's records; 0 where it has none. It is no `Question`, whose rows are one list: records of a member and day share
+/// their anchor, and any of them may be shown.
 pub fn greatest_anchor<S: Alter>(
     alloc: Global,
     conn: &mut Connection<S>,
@@ -108,6 +111,9 @@ pub fn greatest_anchor<S: Alter>(
     ensures reads { ReadsOnly (state S.Store conn.old) (state S.Store conn.new) result }
     ensures anchor { SaysOfTables (state S.Store conn.old) (state S.Store conn.new) (λ t. IfOk result (λ anchor. anchor ≡ greatest_of (map (λ r. r.anchor) (filter (λ r. eq_by_cmp nat_cmp (dim_number dim) (dim_number r.dim)) (values t.change))))) }
     ensures sound { SaysOfTables (state S.Store conn.old) (state S.Store conn.new) (λ _. IsUndamaged result) }
+    // The same of any rows, whoever wrote them: none of the dimension's has a greater anchor.
+    ensures stored { SaysOfStored (state S.Store conn.old) (state S.Store conn.new) (λ stored. IfOk result (IsGreatestAnchor (filter (is_record_of dim) (stored OfChange)))) }
+    ensures damaged { SaysOfStored (state S.Store conn.old) (state S.Store conn.new) (λ stored. IfErr result (IsOfGreatestDamage (filter (is_record_of dim) (stored OfChange)))) }
     ensures refused { HasCleanDisk (state S.Store conn.new) → IfErr result (FailsToShow change OfChange texts.greatest_anchor (Number (pos (dim_number dim)) ∷ []) (state S.Store conn.old) (state S.Store conn.new)) }
 {
     let text = "SELECT * FROM change WHERE dim = ?1 ORDER BY anchor DESC LIMIT 1";
