@@ -1,5 +1,5 @@
 -- The statements on fact.
-use Rattle.std.proofs.Common.{Bool, ◌≡◌, ℕ, List, [], ◌∷◌, codes, map, pos, true, false, ◌&&◌, ◌||◌, refl, sym, ap₂, ◌∙◌, drop, ap}
+use Rattle.std.proofs.Common.{Bool, ◌≡◌, ℕ, List, [], ◌∷◌, codes, map, pos, true, ◌&&◌, refl, sym, ap₂, ◌∙◌, drop, ap}
 use Rattle.std.specs.Prelude.{IsTrue}
 use Rattle.std.proofs.lemmas.Bool.{and_parts}
 use Rattle.std.specs.Ordering.{is_ge, eq_by_cmp, nat_cmp, ordering_then}
@@ -8,15 +8,15 @@ use Rattle.sqlite_value.specs.declared.value.Value.TheVariants.{Null, Int, Text}
 use Rattle.sqlite_value.specs.declared.keys.Key.{Key}
 use Rattle.sqlite_value.specs.Keys.{first_key, ascending}
 use Rattle.sqlite_value.proofs.OrderLemmas.{then-Equal, value_cmp-Text}
-use Rattle.sqlite_sql.specs.declared.ops.BinaryOp.TheVariants.{Compare, Or}
-use Rattle.sqlite_sql.specs.declared.ops.CompareOp.TheVariants.{Eq, Ge, Gt}
+use Rattle.sqlite_sql.specs.declared.ops.BinaryOp.TheVariants.{Compare}
+use Rattle.sqlite_sql.specs.declared.ops.CompareOp.TheVariants.{Eq, Ge}
 use Rattle.sqlite_sql.specs.declared.ops.UnaryOp.TheVariants.{ToNumeric}
 use Rattle.sqlite_sql.specs.Ops.{unary}
 use Rattle.sqlite_schema.specs.Rules.{equal}
 use Rattle.sqlite_rules.specs.Edit.{next_rowid}
 use Rattle.sqlite_tied.specs.Compute.{everything}
 use Rattle.sqlite.specs.Collation.TheVariants.{Binary}
-use Rattle.sqlite.specs.Order.{Row, column}
+use Rattle.sqlite.specs.Order.{column}
 use Rattle.sqlite.specs.Term.{Term, lit, col, op1, op2}
 use Rattle.sqlite.specs.Listing.{understood}
 use Rattle.wh_rows.specs.Rows.{LineKey, is_fact}
@@ -24,17 +24,15 @@ use Rattle.wh_rows.specs.Types.{is_key, is_line, is_number, is_measure}
 use Rattle.wh_rows.specs.Rows as row
 use Rattle.wh_rows.specs.Texts as texts
 use Rattle.wh_rows.specs.Keys.{bind_line, stands_at_line}
-use Rattle.wh_rows.specs.Questions.{at_least, durable_of, is_after, is_sale_since, stands_after}
+use Rattle.wh_rows.specs.Questions.{at_least, durable_of, is_sale_since}
 use Rattle.wh_policy.specs.declared.attribute.Dim.{Dim}
 use Rattle.wh_policy.specs.declared.attribute.Dim.TheVariants.{Product, Store, Customer}
 use Rattle.wh_rows.specs.Meaning.{PutsOne, MovesOne, RemovesOne, ReadsSome, CountsAll}
-use Rattle.wh_rows.specs.Firsts.{first_thousand, ReadsFirst}
-use Rattle.wh_rows.specs.Holds.{values_of}
-use Rattle.wh_rows.specs.Raw.{ReadsStored, ReadsFrontStored}
+use Rattle.wh_rows.specs.Raw.{ReadsStored}
 use Rattle.wh_rows.specs.Rekey.{Rekey, rekey_text, bind_rekey, are_keys, with_keys}
 use Rattle.wh_rows.proofs.Cast.{cast_row_own}
 use Rattle.wh_rows.proofs.ColumnLemmas.{both}
-use Rattle.wh_rows.proofs.Keys.{and-true, equal-Nat, equal-Text, sorted-Nat, at_least-Nat, at_least-Text, greater-Nat, greater-Text, or_true, then_after, then_eq, trimmed_and}
+use Rattle.wh_rows.proofs.Keys.{and-true, equal-Nat, equal-Text, sorted-Nat, at_least-Nat, then_eq, trimmed_and}
 use Rattle.wh_history.specs.declared.facts.Fact.{Fact}
 use Rattle.wh_day.specs.Day.{is_day}
 
@@ -235,27 +233,6 @@ of_sales_since Product durable from = of_product_since durable from
 of_sales_since Store durable from = of_store_since durable from
 of_sales_since Customer durable from = of_customer_since durable from
 
--- the first facts after a line
-pub after : (line : LineKey) → ReadsFirst row.fact (bind_line line) (is_after line) 1000 false texts.facts_after
-unfolding understood everything unary
-after line = record {
-  tests = op2 (Compare Ge Binary) (col 1 1) (col 0 0) ∷ op2 Or (op2 (Compare Gt Binary) (col 1 1) (col 0 0)) (op2 (Compare Gt Binary) (col 1 2) (op1 ToNumeric (col 0 1))) ∷ [];
-  project = shown;
-  order = by_key;
-  names = map (λ c. c.name) row.fact.table.columns;
-  command = refl;
-  plain = (refl, refl);
-  unlisted = refl;
-  test = stands_after line;
-  hits = λ r. ap (λ b. at_least (column (values_of row.fact.table r) 0) (Text line.ticket) && (b && true)) (or_true _ _);
-  agree = λ w.
-      ap₂ ◌&&◌ (at_least-Text w.ticket line.ticket) (ap (λ b. b && true) (ap₂ ◌||◌ (greater-Text w.ticket line.ticket) (greater-Nat w.line line.line)))
-      ∙ then_after (slice_cmp nat_cmp w.ticket line.ticket) (nat_cmp w.line line.line);
-  sorted_by = λ r. column r 0 ∷ column r 1 ∷ [];
-  shows = λ r. refl;
-  in_order = λ v w. ap₂ ordering_then (value_cmp-Text v.ticket w.ticket) (then-Equal _ ∙ sorted-Nat v.line w.line);
-}
-
 -- ---- read, whoever wrote the rows
 
 pub all_stored : ReadsStored row.fact [] (λ r. true) (λ r. true) texts.fact.all
@@ -271,10 +248,6 @@ unfolding of_sales_since of_product_since of_store_since of_customer_since
 of_sales_since_stored Product durable from = record { reads = of_product_since durable from; tested = λ r. refl }
 of_sales_since_stored Store durable from = record { reads = of_store_since durable from; tested = λ r. refl }
 of_sales_since_stored Customer durable from = record { reads = of_customer_since durable from; tested = λ r. refl }
-
-pub after_stored : (line : LineKey) → ReadsFrontStored first_thousand row.fact (bind_line line) (stands_after line) (is_after line) texts.facts_after
-unfolding after
-after_stored line = record { reads = after line; tested = λ r. refl; in_order = λ r s. refl }
 
 -- ---- count
 

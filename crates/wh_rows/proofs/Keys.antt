@@ -73,10 +73,6 @@ sorted-Nat a b = value_cmp-Int (pos a) (pos b) ∙ cmp-pos a b
 pub equal-Nat : (a b : ℕ) → equal Binary (Int (pos a)) (Int (pos b)) ≡ eq_by_cmp nat_cmp b a
 equal-Nat a b = equal-Int (pos a) (pos b) ∙ ap is_eq (cmp-pos b a)
 
-pub greater-Nat : (a b : ℕ) → greater (Int (pos a)) (Int (pos b)) ≡ is_gt (nat_cmp a b)
-unfolding binary
-greater-Nat a b = truth_is (is_gt (value_cmp (Int (pos a)) (Int (pos b)))) ∙ ap is_gt (sorted-Nat a b)
-
 pub greater-Text : (s t : List ℕ) → greater (Text s) (Text t) ≡ is_gt (slice_cmp nat_cmp s t)
 unfolding binary
 greater-Text s t = truth_is (is_gt (value_cmp (Text s) (Text t))) ∙ ap is_gt (value_cmp-Text s t)

@@ -32,10 +32,6 @@ pub record Front : Type 0 where
 abbrev pub last_one : Front
 last_one = record { most = 1; backwards = true }
 
--- the first thousand rows
-abbrev pub first_thousand : Front
-first_thousand = record { most = 1000; backwards = false }
-
 -- the part of an answer that is asked for, which may be all of it
 abbrev pub part : {X : Type 0} → Option Front → List X → List X
 part None xs = xs

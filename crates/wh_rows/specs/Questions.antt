@@ -1,6 +1,5 @@
 -- Which stored rows answer a question, whoever wrote them.
 use Rattle.std.specs.Prelude.{ℕ, List, [], ◌∷◌, Bool, true, ◌&&◌, ◌||◌, pos, slice_index_or, bytes_eq, codes}
-use Rattle.std.specs.Ordering.{is_gt}
 use Rattle.sqlite_value.specs.declared.value.Value.{Value}
 use Rattle.sqlite_value.specs.declared.value.Value.TheVariants.{Int, Text}
 use Rattle.sqlite_sql.specs.Ops.{binary, is_true}
@@ -13,7 +12,6 @@ use Rattle.wh_policy.specs.declared.attribute.Dim.{Dim}
 use Rattle.wh_policy.specs.declared.attribute.Dim.TheVariants.{Product, Store, Customer}
 use Rattle.wh_history.specs.declared.facts.Fact.{Fact}
 use Rattle.wh_rows.specs.Types.{dim_number}
-use Rattle.wh_rows.specs.Rows.{LineKey, line_cmp}
 
 -- whether SQL's >= is true of two values
 abbrev pub at_least : Value → Value → Bool
@@ -69,10 +67,6 @@ durable_column Customer = 8
 abbrev pub is_sale_since : Dim → ℕ → ℕ → Row → Bool
 is_sale_since dim durable from r = equal Binary (column r (durable_column dim)) (Int (pos durable)) && (at_least (column r 2) (Int (pos from)) && true)
 
--- a fact after a line
-abbrev pub stands_after : LineKey → Row → Bool
-stands_after line r = at_least (column r 0) (Text line.ticket) && ((greater (column r 0) (Text line.ticket) || greater (column r 1) (Int (pos line.line))) && true)
-
 -- ---- by the row that they are of
 
 -- the kind of a command that gives a policy: a making or a migration
@@ -84,7 +78,3 @@ abbrev pub durable_of : Dim → Fact → ℕ
 durable_of Product fact = fact.product_durable
 durable_of Store fact = fact.store_durable
 durable_of Customer fact = fact.customer_durable
-
--- the fact is after the line, in the order of keys
-abbrev pub is_after : LineKey → Fact → Bool
-is_after line fact = is_gt (line_cmp (record { ticket = fact.ticket; line = fact.line }) line)

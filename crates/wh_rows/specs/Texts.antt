@@ -162,7 +162,3 @@ abbrev pub sales_since : Dim → List ℕ
 sales_since Product = codes "SELECT * FROM fact WHERE product_durable = ?1 AND day >= ?2 ORDER BY ticket, line"
 sales_since Store = codes "SELECT * FROM fact WHERE store_durable = ?1 AND day >= ?2 ORDER BY ticket, line"
 sales_since Customer = codes "SELECT * FROM fact WHERE customer_durable = ?1 AND day >= ?2 ORDER BY ticket, line"
-
--- the first thousand facts after a line
-abbrev pub facts_after : List ℕ
-facts_after = codes "SELECT * FROM fact WHERE ticket >= ?1 AND (ticket > ?1 OR line > ?2) ORDER BY ticket, line LIMIT 1000"

@@ -24,8 +24,7 @@ pub use making::{create, has_tables, has_taken_name};
 pub use part::Part;
 pub use question::{Question, ask};
 pub use questions::{
-    CommandOf, FactsAfter, LastPolicy, MemberOf, ProfileOf, RecordsOf, RecordsOn, RowsOf,
-    SalesSince,
+    CommandOf, LastPolicy, MemberOf, ProfileOf, RecordsOf, RecordsOn, RowsOf, SalesSince,
 };
 pub use read::{all, count, get};
 pub use scanned::{PART, PartStatements, Scanned};

@@ -1,13 +1,13 @@
 //! The questions that are asked of the tables.
 
 use crate::dimension::Dimension;
-use crate::keys::{dim_and_number, dim_and_text, line_key, number_and_day, number_key, text_key};
+use crate::keys::{dim_and_number, dim_and_text, number_and_day, number_key, text_key};
 use crate::question::Question;
 use sqlite::types::ValueRef;
 use std::alloc::Global;
 use wh_day::{Day, Value, Values};
 use wh_policy::Dim;
-use wh_rows::{Cause, LineKey, bound, tables};
+use wh_rows::{Cause, bound, tables};
 
 /// The accepted records of one member, in order of acceptance.
 #[derive(Clone, Copy, Debug, PartialEq, Eq)]
@@ -296,45 +296,6 @@ impl Question<tables::Fact> for SalesSince {
     ghost reads = { λ q. of_sales_since q.dim q.durable q.from };
 
     ghost reads_stored = { λ q. of_sales_since_stored q.dim q.durable q.from };
-}
-
-/// The first thousand facts after a line, in the order of their keys.
-#[derive(Clone, Copy, Debug)]
-pub struct FactsAfter<'q> {
-    pub line: &'q LineKey,
-}
-
-impl<'q> Question<tables::Fact> for FactsAfter<'q> {
-    ghost use Rattle.std.specs.Prelude.{Some};
-    ghost use Rattle.wh_rows.specs.Keys.{bind_line};
-    ghost use Rattle.wh_rows.proofs.Facts.{after, after_stored};
-    ghost use Rattle.wh_rows.specs.Firsts.{first_thousand};
-    ghost use Rattle.wh_rows.specs.Texts.{facts_after};
-    ghost use Rattle.wh_rows.specs.Questions.{is_after, stands_after};
-
-    ghost keep = { λ q. is_after q.line.now };
-
-    ghost front = { Some first_thousand };
-
-    ghost bind = { λ q. bind_line q.line.now };
-
-    ghost can_be_asked = { λ q. Unit {0} };
-
-    ghost means = { λ q. facts_after };
-
-    fn text(&self) -> &'static str {
-        "SELECT * FROM fact WHERE ticket >= ?1 AND (ticket > ?1 OR line > ?2) ORDER BY ticket, line LIMIT 1000"
-    }
-
-    fn values<'a>(&'a self, alloc: Global) -> Result<Vec<ValueRef<'a>>, Cause> {
-        line_key(alloc, self.line)
-    }
-
-    ghost stands = { λ q. stands_after q.line.now };
-
-    ghost reads = { λ q. after q.line.now };
-
-    ghost reads_stored = { λ q. after_stored q.line.now };
 }
 
 /// The profile of a combination of values.
