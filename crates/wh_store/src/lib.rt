@@ -10,7 +10,7 @@ mod transaction;
 mod writing;
 
 pub use fault::{MakeFault, OpenFault};
-pub use reopen::{into_files, open_path, restart};
+pub use reopen::{into_files, open_fresh, open_path, restart};
 pub use scan::{Cursor, Scan, next_row};
 pub use tables::Tables;
 pub use wh_rows::{Cause, Limits, Table};
