@@ -14,7 +14,7 @@ use Rattle.wh_batch.specs.declared.fault.FaultKind.{FaultKind}
 use Rattle.wh_batch.specs.declared.fault.FaultKind.TheVariants.{TooLarge, WrongHeader, WrongLength, BadKey, BadDay, BadValue, BadNumber, TwiceInBatch, OutsideCalendar}
 use Rattle.wh_history.specs.Tables.{dimension_table, trial_commands}
 use Rattle.wh_history.specs.declared.rows.DimRow.{DimRow}
-use Rattle.wh_program.specs.Table.{table_text}
+use Rattle.wh_report.specs.Dump.{dimension_text}
 use Rattle.wh_program.specs.declared.answer.Status.{Status}
 use Rattle.wh_program.specs.declared.answer.Status.TheVariants.{Done, Refused, Failed}
 
@@ -110,7 +110,7 @@ trial_rows dim policy batch = dimension_records dim policy One batch >>= λ reco
 
 -- the table, or the fault of the batch
 abbrev pub table_answer : Result (List DimRow) BatchFault → Printed
-table_answer (Ok rows) = done (table_text rows)
+table_answer (Ok rows) = done (dimension_text rows)
 table_answer (Err fault) = refused (batch_line fault)
 
 -- the answer to a trial of a file, which may not be there

@@ -1,7 +1,6 @@
 pub mod CommandLine
 pub mod Task
 pub mod Request
-pub mod Table
 pub mod Answer
 pub mod PlanText
 pub mod Reply

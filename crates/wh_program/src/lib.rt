@@ -13,7 +13,6 @@ mod output;
 mod plan_text;
 mod program;
 mod report;
-mod table;
 mod trial;
 mod warehouse;
 mod words;

@@ -8,12 +8,12 @@ ghost use Rattle.wh_program.specs.Request.{text_of};
 use crate::answer::{Answer, Status};
 use crate::host::{Host, file_of};
 use crate::lines::{batch_line, no_file, policy_line};
-use crate::table::table_text;
 use std::alloc::{AllocError, Global};
 use wh_batch::{Format, dimension_records};
 use wh_day::ReadError;
 use wh_history::trial_table;
 use wh_policy::{Dim, Policy};
+use wh_report::dimension_text;
 
 /// The table of a dimension after a making under the policy and this one batch, or the batch's first fault.
 fn table_answer(
@@ -27,7 +27,7 @@ fn table_answer(
     match dimension_records(alloc, dim, policy, Format::One, batch) {
         Ok(records) => {
             let rows = trial_table(alloc, policy, dim, records.as_slice())?;
-            let table = table_text(alloc, &rows)?;
+            let table = dimension_text(alloc, &rows)?;
             Ok(Answer::new(Status::Done, table))
         }
         Err(ReadError::Fault(fault)) => {
