@@ -25,9 +25,9 @@ unfolding IsDistinct
 distinct_after same [] ys once = once
 distinct_after same (x ∷ xs) ys once = distinct_after same xs ys once.1
 
-all_after : {X : Type 0} {P : X → Type 0} (xs ys : List X) → AllByRecursion P (xs ++ ys) → AllByRecursion P ys
-all_after [] ys all = all
-all_after (x ∷ xs) ys all = all_after xs ys all.1
+all_after : {X : Type 0} (P : X → Type 0) (xs ys : List X) → AllByRecursion P (xs ++ ys) → AllByRecursion P ys
+all_after P [] ys all = all
+all_after P (x ∷ xs) ys all = all_after P xs ys all.1
 
 none_of_more : {X : Type 0} (same : X → X → Bool) (x : X) (xs ys : List X) → AllByRecursion (λ y. same x y ≡ false) ys → AllByRecursion (λ y. list_any (λ t. same t y) xs ≡ false) ys
     → AllByRecursion (λ y. list_any (λ t. same t y) (x ∷ xs) ≡ false) ys
@@ -41,7 +41,7 @@ none_of_none same (y ∷ ys) = (refl, none_of_none same ys)
 none_before : {X : Type 0} (same : X → X → Bool) (xs ys : List X) → IsDistinct same (xs ++ ys) → AllByRecursion (λ y. list_any (λ t. same t y) xs ≡ false) ys
 unfolding IsDistinct
 none_before same [] ys once = none_of_none same ys
-none_before same (x ∷ xs) ys once = none_of_more same x xs ys (all_after xs ys once.0) (none_before same xs ys once.1)
+none_before same (x ∷ xs) ys once = none_of_more same x xs ys (all_after (λ y. same x y ≡ false) xs ys once.0) (none_before same xs ys once.1)
 
 -- ---- a line that no sale has stands in no fact
 
