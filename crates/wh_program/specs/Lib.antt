@@ -2,12 +2,14 @@ pub mod CommandLine
 pub mod Task
 pub mod Request
 pub mod Table
+pub mod Inputs
 pub mod Answer
 pub mod PlanText
 pub mod Reply
 pub mod Run
 pub mod Standing
 pub mod Warehouse
+pub mod Room
 pub mod Delivery
 pub mod Readings
 pub mod Tasks
