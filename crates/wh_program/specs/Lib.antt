@@ -13,4 +13,5 @@ pub mod Room
 pub mod Delivery
 pub mod Readings
 pub mod Tasks
+pub mod Laws
 pub mod Files

@@ -7,6 +7,7 @@ mod delivery;
 mod delivery_text;
 mod dump;
 mod host;
+pub mod laws;
 mod limits;
 mod lines;
 mod one;
