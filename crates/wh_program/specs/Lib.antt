@@ -1,13 +1,16 @@
 pub mod CommandLine
 pub mod Task
 pub mod Request
+pub mod Inputs
 pub mod Answer
 pub mod PlanText
 pub mod Reply
 pub mod Run
 pub mod Standing
 pub mod Warehouse
+pub mod Room
 pub mod Delivery
 pub mod Readings
 pub mod Tasks
+pub mod Laws
 pub mod Files

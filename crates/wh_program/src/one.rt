@@ -6,7 +6,7 @@ ghost use Rattle.wh_program.specs.Standing.{IsKept, Nothing, Rests, Standing, St
 ghost use Rattle.sqlite.specs.Held.{state};
 ghost use Rattle.sqlite.specs.Steps.{over_memory};
 
-use crate::host::{Host, HostError, Visitor};
+use crate::host::{Host, HostError, Visitor, beginning_of};
 use sqlite::{Connection, MemStore};
 use std::alloc::Global;
 use std::io::Write;
@@ -65,11 +65,11 @@ impl Host for OneHost<'_> {
 
     ghost stores = { λ host name standing. (name ≡ host.name.now) × IsKept standing host.connection };
 
-    fn read(&self, alloc: Global, path: &str) -> Result<Vec<u8>, HostError> {
+    fn read(&self, alloc: Global, path: &str, most: usize) -> Result<Vec<u8>, HostError> {
         let Some(bytes) = file_named(self.files, path) else {
             return Err(HostError::NoFile);
         };
-        match bytes.to_vec(alloc) {
+        match beginning_of(bytes, most).to_vec(alloc) {
             Ok(bytes) => Ok(bytes),
             Err(_) => Err(HostError::Memory),
         }

@@ -85,7 +85,8 @@ status Reopen
 = failed: E10 reopen
 = status 3
 load p1 Memory
-= no answer
+= failed: E8 memory
+= status 3
 
 # No making.
 making BadYears
@@ -98,7 +99,8 @@ making Store Disk
 = failed: E9 store, disk
 = status 3
 making Memory
-= no answer
+= failed: E8 memory
+= status 3
 
 # No opening.
 opening NotAWarehouse

@@ -7,7 +7,7 @@ use sqlite::{Alter, Connection, MemStore};
 use std::alloc::{AllocError, Global};
 use std::io;
 use std::io::Write;
-use wh_program::{Host, HostError, Visitor};
+use wh_program::{Host, HostError, Visitor, beginning_of};
 
 /// A named file.
 #[derive(Drop)]
@@ -134,11 +134,11 @@ fn keep(kept: &mut Vec<Kept>, name: &str, connection: Connection<MemStore>) {
 }
 
 impl Host for MemoryHost {
-    fn read(&self, alloc: Global, path: &str) -> Result<Vec<u8>, HostError> {
+    fn read(&self, alloc: Global, path: &str, most: usize) -> Result<Vec<u8>, HostError> {
         let Some(bytes) = file_named(self.files.as_slice(), path) else {
             return Err(HostError::NoFile);
         };
-        match bytes.to_vec(alloc) {
+        match beginning_of(bytes, most).to_vec(alloc) {
             Ok(bytes) => Ok(bytes),
             Err(_) => Err(HostError::Memory),
         }
