@@ -1,11 +1,11 @@
 #!/usr/bin/env bash
 # Refuses each growth of memory of a load in turn, and of one making, in the built program, and looks at what its file then holds.
 # Build the program first (`rt run` in crates/wh). growths.sh [STEP] [PROGRAM] [NAME]: every growth of a load of records, of a load of sales and of
-# a load of a late record that moves a sale, of a delivery of these three, of a report and of a dump, or one in STEP of them, and of the making, which has more, one in ten times as many; with NAME (making, load, sales, late, delivery,
-# report, dump) of that one alone.
+# a load of a late record that moves a sale, of a migration, of a delivery of these three, of a report and of a dump, or one in STEP of them, and of the making, which has more, one in ten times as many; with NAME (making, load, sales, late,
+# migration, delivery, report, dump) of that one alone.
 #
-# A run is answered as with ample memory, with `failed: E8 memory`, or with `failed: E9 store, memory`. Behind E8 the file holds what it
-# held; the same words again are answered as accepted. Behind E9 they are answered as accepted or, of a load that was kept, as already
+# A run is answered as with ample memory, with `failed: E8 memory`, or with `failed: E9 store, memory`. After E8 the file holds what it
+# held; the same words again are answered as accepted. After E9 they are answered as accepted or, of a load that was kept, as already
 # accepted, of a making that was kept, as not empty. In the end the file holds the rows that it holds without a refusal.
 set -eu
 cd "$(dirname "$0")/.."
@@ -99,6 +99,11 @@ cp "$work/load.before" "$work/sales.before"
 cp "$work/sales.before" "$work/late.before"
 refuse_all sales 'already 4 s2: 1 records, 2 placeholders' "$step" load "$work/file" sales s2 "$work/unknown.csv"
 refuse_all late 'already 4 p2: 2 records, 0 placeholders' "$step" load "$work/file" product p2 "$work/second.csv"
+
+sed 's/type = 2/type = 1/' "$work/policy.toml" > "$work/newer.toml"
+cp "$work/late.before" "$work/migration.before"
+"$program" load "$work/migration.before" product p2 "$work/second.csv" > "$work/told" || fail "$(cat "$work/told")"
+refuse_all migration 'already 5 m1: 0 records, 0 placeholders' "$step" migrate "$work/file" m1 "$work/newer.toml"
 
 # The same of a delivery: what it prints is a beginning of what ample memory prints, and where it stopped the fault's line. The same manifest again gives
 # each command its receipt, accepted or already there.

@@ -1,6 +1,6 @@
 //! The files of the system, and the connections to those that are warehouses.
 
-ghost use Rattle.std.specs.Prelude.{IsTrue};
+ghost use Rattle.std.specs.Prelude.{IsTrue, IfOk, length, ◌≤◌};
 
 use sqlite::{Alter, Connection, Error, ErrorCode, FileStore, Files, Options, Unknown};
 use sqlite_disk::Disk;
@@ -137,17 +137,21 @@ fn is_missing(runtime: &HostRuntime, name: &str) -> bool {
     }
 }
 
-/// All bytes of a file.
-fn bytes_of(runtime: &HostRuntime, alloc: Global, path: &str) -> io::Result<Vec<u8>> {
-    let mut file = File::open(runtime, path)?;
+/// The bytes of a file, or as many of the first.
+fn bytes_of(runtime: &HostRuntime, alloc: Global, path: &str, wanted: usize) -> io::Result<Vec<u8>>
+    ensures { IfOk result (λ bytes. length bytes.items ≤ wanted) }
+{
+    let mut file = File::open(runtime, path)?.take(wanted as u64);
     let mut bytes = Vec::new(alloc);
     file.read_to_end(&mut bytes)?;
+    // No clause says that no more were read.
+    bytes.truncate(wanted);
     Ok(bytes)
 }
 
 impl Host for SystemHost<'_> {
-    fn read(&self, alloc: Global, path: &str) -> Result<Vec<u8>, HostError> {
-        match bytes_of(self.runtime, alloc, path) {
+    fn read(&self, alloc: Global, path: &str, most: usize) -> Result<Vec<u8>, HostError> {
+        match bytes_of(self.runtime, alloc, path, most.saturating_add(1)) {
             Ok(bytes) => Ok(bytes),
             Err(error) => Err(of_io(error)),
         }

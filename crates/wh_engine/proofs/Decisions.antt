@@ -144,10 +144,6 @@ module _ (limits : Limits) (commands : List Accepted) (c : Command) where
       pub next_number : next ≡ suc (length commands)
       next_number = (had_number limits commands content next room).1
 
-      -- no line of it is there
-      pub lines_new : first_line_there (sold commands) 1 (sold_by content) ≡ None
-      lines_new = (had_number limits commands content next room).0.lines_new
-
       pub list_accepted : IsAccepted limits commands → IsAccepted limits (commands ++ accepted_as c content ∷ [])
       list_accepted accepted = subst (IsAccepted limits) (ap (after_answer commands c) command_accepted ∙ ap (with_content commands c) read) (stays_accepted limits commands c accepted)
 

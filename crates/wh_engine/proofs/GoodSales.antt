@@ -26,7 +26,7 @@ use Rattle.wh_history.proofs.Basics.{some_is}
 use Rattle.wh_rows.specs.Types.{is_key, is_line, is_measure}
 use Rattle.wh_plan.specs.Sound.{IsGoodSale, same_line}
 use Rattle.wh_engine.proofs.GoodRecords.{read_ok, good_key, all_read}
-use Rattle.wh_engine.proofs.SameLines.{same_either}
+use Rattle.wh_plan.proofs.SameLines.{same_either}
 
 -- ---- the numbers
 

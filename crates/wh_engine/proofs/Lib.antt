@@ -23,7 +23,6 @@ pub mod Receipts
 pub mod Redelivered
 pub mod MayWorked
 pub mod Migrated
-pub mod SalesPremises
 pub mod Delivering
 pub mod Known
 pub mod Nights

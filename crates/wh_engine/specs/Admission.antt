@@ -1,5 +1,5 @@
 -- The answer to a command, and the list of those that are accepted.
-use Rattle.std.specs.Prelude.{◌≡◌, ⊤, true, ℕ, suc, ◌+◌, ◌&&◌, nat_le, nat_lt, cond, List, [], ◌∷◌, ◌++◌, length, map, find, Option, Some, None, unwrap_or, bytes_eq, Result, Ok, Err}
+use Rattle.std.specs.Prelude.{◌≡◌, ⊤, true, ℕ, suc, ◌+◌, ◌&&◌, nat_le, nat_lt, if◌then◌else◌, List, [], ◌∷◌, ◌++◌, length, map, find, Option, Some, None, unwrap_or, bytes_eq, Result, Ok, Err}
 use Rattle.std.specs.List.{list_any}
 use Rattle.wh_day.specs.Reading.{◌>>=◌}
 use Rattle.wh_policy.specs.Names.{fits}
@@ -53,7 +53,7 @@ of_file (Err fault) = Err (BadPolicy fault)
 
 -- the policy that takes the place of another: the one that the bytes write, where it fits
 abbrev pub policy_told : Policy → List ℕ → Result Policy Refused
-policy_told older bytes = of_file (policy_at bytes) >>= λ newer. cond (fits older newer) (Ok newer) (Err Unfit)
+policy_told older bytes = of_file (policy_at bytes) >>= λ newer. if fits older newer then Ok newer else Err Unfit
 
 -- what the bytes of a command say under a policy, or why they are refused
 abbrev pub content_of : CommandKind → Policy → List ℕ → Result Content Refused
@@ -78,7 +78,7 @@ receipt_of commands number content = record { number = number; records = records
 abbrev pub first_line_there : List SaleRecord → ℕ → List SaleRecord → Option ℕ
 first_line_there before number [] = None
 first_line_there before number (s ∷ sales) =
-    cond (list_any (λ t. same_line t s) before) (Some number) (first_line_there before (suc number) sales)
+    if list_any (λ t. same_line t s) before then Some number else first_line_there before (suc number) sales
 
 -- how many dimension records a content holds
 abbrev pub changes_in : Content → ℕ
@@ -90,13 +90,14 @@ changes_in (Sells sales) = 0
 abbrev pub number_past_lines : Limits → List Accepted → Content → Option ℕ → Result ℕ Refused
 number_past_lines limits commands content (Some number) = Err (LineThere number)
 number_past_lines limits commands content None =
-    cond (nat_lt limits.changes (changes_kept commands + changes_in content)) (Err (Full Changes))
-    (cond (nat_lt limits.facts (length (sold commands) + length (sold_by content))) (Err (Full Facts)) (Ok (suc (length commands))))
+    if nat_lt limits.changes (changes_kept commands + changes_in content) then Err (Full Changes)
+    else if nat_lt limits.facts (length (sold commands) + length (sold_by content)) then Err (Full Facts)
+    else Ok (suc (length commands))
 
 -- the number of the next command where there is room for it and for this content, and no line of it is there
 abbrev pub number_for : Limits → List Accepted → Content → Result ℕ Refused
 number_for limits commands content =
-    cond (nat_le limits.commands (length commands)) (Err (Full Commands)) (number_past_lines limits commands content (first_line_there (sold commands) 1 (sold_by content)))
+    if nat_le limits.commands (length commands) then Err (Full Commands) else number_past_lines limits commands content (first_line_there (sold commands) 1 (sold_by content))
 
 -- the answer with its number, or why there is none
 abbrev pub answer_with : List Accepted → Command → Content → Result ℕ Refused → Result Reply Refused
@@ -109,7 +110,7 @@ when_read limits commands c (Ok content) = answer_with commands c content (numbe
 
 -- a command whose id is known comes again where kind and bytes are the same too, and has the receipt that was kept
 abbrev pub receipt_again : (kind bytes : List ℕ) → Command → Receipt → Result Receipt Refused
-receipt_again kind bytes c kept = cond (bytes_eq kind (command_word c.kind) && bytes_eq bytes c.bytes) (Ok kept) (Err Reused)
+receipt_again kind bytes c kept = if bytes_eq kind (command_word c.kind) && bytes_eq bytes c.bytes then Ok kept else Err Reused
 
 -- and the answer with it
 abbrev pub already : Result Receipt Refused → Result Reply Refused
@@ -125,7 +126,7 @@ by_id limits commands c None = when_read limits commands c (content_of c.kind (i
 
 -- the first case that applies
 abbrev pub answer : Limits → List Accepted → Command → Result Reply Refused
-answer limits commands c = cond (is_key 40 c.id) (by_id limits commands c (find (λ (a : Accepted). bytes_eq a.id c.id) commands)) (Err BadId)
+answer limits commands c = if is_key 40 c.id then by_id limits commands c (find (λ (a : Accepted). bytes_eq a.id c.id) commands) else Err BadId
 
 -- the list with what was read of a command
 abbrev pub with_content : List Accepted → Command → Result Content Refused → List Accepted

@@ -1,6 +1,7 @@
 //! Commands, and what is answered to them.
 
 use sqlite_value::value::Bytes;
+use thiserror::Error;
 use wh_batch::{BatchFault, CommandKind};
 use wh_day::Value;
 use wh_policy::PolicyFault;
@@ -42,20 +43,27 @@ pub enum Limit {
 }
 
 /// Why a command isn't accepted. It isn't kept, and may be sent again.
-#[derive(Clone, Copy, Debug, PartialEq, Eq)]
+#[derive(Clone, Copy, Debug, PartialEq, Eq, Error)]
 pub enum Refused {
     /// The id isn't 1 to 40 letters, digits, `-`, `_` or `.`.
+    #[error("the id is a bad one")]
     BadId,
     /// Another accepted command has this id.
+    #[error("another command has the id")]
     Reused,
     /// The batch has this fault.
+    #[error("the batch has a fault")]
     Batch(BatchFault),
     /// The policy has this fault.
+    #[error("the policy has a fault")]
     Policy(PolicyFault),
     /// The policy doesn't fit the one in force: a name or a year is lost, or a name stands in another slot.
+    #[error("the policy does not fit the one in force")]
     Unfit,
     /// The first sale, from 1, whose ticket and line are those of a stored fact.
+    #[error("a fact of the ticket and line is there")]
     LineThere(u64),
     /// A limit of the warehouse is reached, or would be passed.
+    #[error("a limit of the warehouse is reached")]
     Full(Limit),
 }

@@ -1,22 +1,17 @@
 //! What is to be done about a command: the reads, and nothing written.
 
-ghost use Rattle.std.specs.Prelude.{◌≡◌, ◌++◌, ◌∷◌, [], suc, true, List, length, None, Some, Ok, IfOk};
+ghost use Rattle.std.specs.Prelude.{◌≡◌, true, List, None, Some, Ok, IfOk};
 ghost use Rattle.wh_batch.specs.declared.kind.Kind.TheVariants.{Dimension, Sales};
-ghost use Rattle.wh_policy.specs.Written.{IsSound};
 ghost use Rattle.wh_policy.specs.declared.policy.Policy.{Policy};
-ghost use Rattle.wh_history.specs.Accepted.{Accepted, Sells, placeholders_by, policy_after, sold};
+ghost use Rattle.wh_history.specs.Accepted.{Accepted, Sells};
 ghost use Rattle.wh_rows.specs.Raw.{Stored};
 ghost use Rattle.wh_rows.specs.Types.{is_key};
-ghost use Rattle.wh_engine.specs.Admission.{answer, content_of, first_line_there, in_force, policy_told, records_told, sales_told};
+ghost use Rattle.wh_engine.specs.Admission.{answer, content_of, in_force, policy_told, records_told, sales_told};
 ghost use Rattle.wh_engine.specs.Decided.{row_of_command, IsNew, reply_to_known, Brings, Decides};
 ghost use Rattle.wh_batch.specs.declared.kind.CommandKind.TheVariants.{Batch, Migration};
-ghost use Rattle.wh_plan.specs.Defined.{command_at};
 ghost use Rattle.wh_engine.specs.Faults.{IsServed, BlamesDamage, IsWorkedOut, Judges};
-ghost use Rattle.wh_store.specs.Reads.{ReadsOnly, Spares, SaysAsStored, state_of};
+ghost use Rattle.wh_store.specs.Reads.{Spares, SaysAsStored, state_of};
 ghost use Rattle.wh_engine.specs.Serving.{Works};
-ghost use Rattle.wh_plan.specs.Edits.{AreEdits};
-ghost use Rattle.wh_plan.specs.Reads.{Finds};
-ghost use Rattle.wh_plan.specs.Sound.{IsAccepted};
 
 use crate::admission::{number_for_records, number_for_sales, receipt_of_known};
 use crate::command::{Command, Receipt, Refused};
@@ -33,7 +28,7 @@ use wh_plan::reading::command_of;
 use wh_plan::{Edits, plan_batch, plan_migration, plan_sales};
 use wh_policy::{Dim, Policy, SaleRecord};
 use wh_rows::CommandRow;
-use wh_store::{ReadFault, Tables};
+use wh_store::Tables;
 
 /// What is to be done about a command.
 #[derive(Debug, Drop)]
@@ -142,24 +137,6 @@ fn decide_records<S: Alter>(
     Ok(Decision::Accept(receipt, edits, None))
 }
 
-/// What an accepted batch of sales writes, under its number.
-fn accept_sales<S: Alter>(
-    tables: &mut Tables<S>,
-    alloc: Global,
-    policy: &Policy,
-    row: CommandRow,
-    sales: &[SaleRecord],
-) -> Result<Edits, ReadFault>
-    ensures reads { ReadsOnly (state_of S.Store tables.old) (state_of S.Store tables.new) result }
-    ensures edits { Finds (state_of S.Store tables.old) (state_of S.Store tables.new) (λ limits commands. (c : Accepted) → IsAccepted limits (commands ++ c ∷ []) → c.content ≡ Sells sales.now
-        → policy_after None commands ≡ Some policy.now → IsSound policy.now → first_line_there (sold commands) 1 sales.now ≡ None
-        → command_at (commands ++ c ∷ []) (suc (length commands)) ≡ Some (record row { placeholders = placeholders_by (commands ++ c ∷ []) (suc (length commands)) c.content })
-        → IfOk result (AreEdits commands (commands ++ c ∷ []))) }
-{
-    let edits = plan_sales(tables, alloc, policy, row, sales)?;
-    Ok(edits)
-}
-
 /// What is to be done about sales whose batch has a new id.
 fn decide_sold<S: Alter>(
     tables: &mut Tables<S>,
@@ -181,7 +158,7 @@ fn decide_sold<S: Alter>(
         Err(fault) => return Err(fault),
     };
     let row = command_row(alloc, command, number, sales.len() as u64)?;
-    let edits = accept_sales(tables, alloc, &session.policy, row, sales)?;
+    let edits = plan_sales(tables, alloc, &session.policy, row, sales)?;
     let receipt = Receipt {
         number,
         records: sales.len() as u64,

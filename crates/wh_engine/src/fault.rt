@@ -6,21 +6,27 @@ ghost use Rattle.wh_engine.specs.declared.fault.Fault.TheVariants as faults;
 
 use crate::command::Refused;
 use std::alloc::AllocError;
+use thiserror::Error;
 use wh_rows::{Cause, Table};
 use wh_store::ReadFault;
 
 /// Why a call on the tables of a warehouse isn't answered.
-#[derive(Clone, Copy, Debug, PartialEq, Eq)]
+#[derive(Clone, Copy, Debug, PartialEq, Eq, Error)]
 pub enum Fault {
     /// The command isn't accepted. It isn't kept, and nothing changed.
+    #[error("the command is not accepted")]
     Refused(Refused),
     /// A row of this table is out of its type. Nothing changed.
+    #[error("a row of a table is out of its type")]
     Damaged(Table),
     /// A growth was refused before anything was written. Nothing changed.
+    #[error("memory ran out")]
     Memory,
     /// The store refused a call, or a growth was refused inside a transaction. What is left is found by opening again.
+    #[error("the store refused a call")]
     Store(Cause),
     /// The store refused an earlier call: the warehouse has to be opened again. Nothing changed.
+    #[error("the warehouse has to be opened again")]
     Reopen,
 }
 

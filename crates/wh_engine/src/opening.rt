@@ -24,21 +24,26 @@ use crate::making::write_making;
 use crate::session::Session;
 use sqlite::{Alter, Connection};
 use std::alloc::Global;
+use thiserror::Error;
 use wh_day::ReadError;
 use wh_policy::{Policy, PolicyFault};
 use wh_rows::{Cause, CommandRow, Limits, Table, tables};
 use wh_store::{LastPolicy, MakeFault, OpenFault, Tables};
 
 /// Why no warehouse was made.
-#[derive(Clone, Copy, Debug, PartialEq, Eq)]
+#[derive(Clone, Copy, Debug, PartialEq, Eq, Error)]
 pub enum InitFault {
     /// The policy has this fault.
+    #[error("the policy has a fault")]
     Policy(PolicyFault),
     /// A table, an index or a view has the name of one of the ten tables.
+    #[error("a name of the ten tables is taken")]
     NotEmpty,
     /// A growth was refused before anything was written.
+    #[error("memory ran out")]
     Memory,
     /// The store refused a call, or a growth was refused inside the transaction.
+    #[error("the store refused a call")]
     Store(Cause),
 }
 

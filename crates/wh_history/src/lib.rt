@@ -24,4 +24,4 @@ pub use profiles::{Numbered, Profiles, profile_texts};
 pub use rows::{DimRow, GREATEST_NUMBER, row_at};
 pub use slots::{fill_columns, six_texts};
 pub use touched::{Stored, Touched, anchor_of_day, give_numbers, touch_all};
-pub use trial::{no_card_row, trial_table};
+pub use trial::{first_rows, no_card_row, trial_table};

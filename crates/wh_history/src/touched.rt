@@ -46,20 +46,6 @@ impl Model for Touched {
 }
 
 impl Touched {
-    /// How many members have durable keys.
-    pub fn members(&self) -> u64
-        ensures { result ≡ self.now.members }
-    {
-        self.members
-    }
-
-    /// How many anchors have surrogate keys.
-    pub fn anchors(&self) -> u64
-        ensures { result ≡ self.now.anchors }
-    {
-        self.anchors
-    }
-
     /// For each anchor that the batch gave a surrogate key, in their order, the durable key of its member.
     pub fn owners(&self) -> &[u64]
         ensures { result.now ≡ self.now.owners }

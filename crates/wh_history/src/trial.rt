@@ -137,7 +137,11 @@ pub fn no_card_row(alloc: Global, types: &[AttributeType]) -> Result<DimRow, All
 }
 
 /// The rows that a dimension's table has before the first key: that of sales without a card among the customers.
-fn first_rows(alloc: Global, dim: Dim, types: &[AttributeType]) -> Result<Vec<DimRow>, AllocError>
+pub fn first_rows(
+    alloc: Global,
+    dim: Dim,
+    types: &[AttributeType],
+) -> Result<Vec<DimRow>, AllocError>
     ensures { IfOk result (λ found. found.items ≡ first_rows dim types.now) }
 {
     let mut found = Vec::new(alloc);

@@ -73,3 +73,5 @@ pub mod PlanCalendar
 pub mod MigrationPlans
 pub mod FoundCombinations
 pub mod PlanRenumbered
+pub mod SameLines
+pub mod SalePremises

@@ -9,7 +9,6 @@ ghost use Rattle.std.specs.Option.{option_copied};
 ghost use Rattle.wh_history.specs.Keys.{at_place};
 ghost use Rattle.wh_history.specs.Known.{all_numbered};
 ghost use Rattle.wh_history.specs.Laws.{RecordsHaveDays, governs};
-ghost use Rattle.wh_history.specs.Picked.{first_rows};
 ghost use Rattle.wh_history.specs.Plan.{IsRowPlan};
 ghost use Rattle.wh_history.specs.Shapes.{shape_of, rendered_in};
 ghost use Rattle.wh_history.specs.Tables.{dimension_row, dimension_table};
@@ -29,24 +28,12 @@ use sqlite::Alter;
 use std::alloc::{AllocError, Global};
 use wh_day::Day;
 use wh_history::{
-    DimRow, Dimension, Edit, Fact, FactKeys, Member, MemberKeys, Profiles, Rendered, no_card_row,
+    DimRow, Dimension, Edit, Fact, FactKeys, Member, MemberKeys, Profiles, Rendered, first_rows,
     plan_rows,
 };
-use wh_policy::{AttributeType, Dim};
+use wh_policy::Dim;
 use wh_rows::{Cause, tables};
 use wh_store::{Cursor, ReadFault, Tables, next_row};
-
-/// The rows that a dimension's table has before the first key: that of sales without a card among the customers.
-fn first_rows(alloc: Global, dim: Dim, types: &[AttributeType]) -> Result<Vec<DimRow>, AllocError>
-    ensures { IfOk result (λ found. found.items ≡ first_rows dim types.now) }
-{
-    let mut found = Vec::new(alloc);
-    match dim {
-        Dim::Product | Dim::Store => {}
-        Dim::Customer => found.push(no_card_row(alloc, types)?)?,
-    }
-    Ok(found)
-}
 
 /// The rows of a dimension's table, by its members.
 fn all_rows(

@@ -1,15 +1,12 @@
 //! What a batch of sales writes, by reads of what it mentions.
 
-ghost use Rattle.std.specs.Prelude.{◌≡◌, ◌≤◌, ◌++◌, ◌∷◌, [], suc, ℕ, List, length, None, Some, IfOk};
+ghost use Rattle.std.specs.Prelude.{◌≡◌, ◌++◌, ◌∷◌, [], suc, List, length, None, Some, IfOk};
 ghost use Rattle.std.specs.List.{AllByRecursion, IsDistinct};
 ghost use Rattle.wh_policy.specs.Written.{IsSound};
-ghost use Rattle.wh_policy.specs.declared.attribute.Dim.{Dim as Dimension};
 ghost use Rattle.wh_policy.specs.declared.attribute.Dim.TheVariants.{Product, Store, Customer};
-ghost use Rattle.wh_history.specs.Accepted.{Accepted, Sells, anchors, members, placeholders_by, policy_after};
-ghost use Rattle.wh_history.specs.Keys.{greatest_number};
+ghost use Rattle.wh_history.specs.Accepted.{Accepted, Sells, placeholders_by, policy_after};
 ghost use Rattle.wh_plan.specs.Defined.{command_at, fact_at};
-ghost use Rattle.wh_plan.specs.Reading.{HaveNoEmptyValue};
-ghost use Rattle.wh_plan.specs.Sound.{same_line};
+ghost use Rattle.wh_plan.specs.Sound.{IsAccepted, same_line};
 ghost use Rattle.wh_plan.specs.SoldMembers.{IsSoldDimension};
 ghost use Rattle.wh_plan.specs.BatchRows.{AreBatchRows};
 ghost use Rattle.wh_plan.specs.Edits.{AreEdits};
@@ -76,7 +73,8 @@ pub fn plan_sales<S: Alter>(
     sales: &[SaleRecord],
 ) -> Result<Edits, ReadFault>
     ensures reads { ReadsOnly (state_of S.Store tables.old) (state_of S.Store tables.new) result }
-    ensures edits { Finds (state_of S.Store tables.old) (state_of S.Store tables.new) (λ _ commands. (c : Accepted) → HaveNoEmptyValue commands → ((dim : Dimension) → (length (members dim (commands ++ c ∷ [])) ≤ greatest_number) × (length (anchors dim (commands ++ c ∷ [])) ≤ greatest_number)) → c.content ≡ Sells sales.now → policy_after None commands ≡ Some policy.now → IsSound policy.now → AllByRecursion (λ s. fact_at commands (record { ticket = s.ticket; line = s.line }) ≡ None) sales.now → IsDistinct same_line sales.now → command_at (commands ++ c ∷ []) (suc (length commands)) ≡ Some (record command { placeholders = placeholders_by (commands ++ c ∷ []) (suc (length commands)) c.content }) → IfOk result (AreEdits commands (commands ++ c ∷ []))) }
+    ensures edits { Finds (state_of S.Store tables.old) (state_of S.Store tables.new) (λ limits commands. (c : Accepted) → IsAccepted limits (commands ++ c ∷ []) → c.content ≡ Sells sales.now → policy_after None commands ≡ Some policy.now → IsSound policy.now
+        → command_at (commands ++ c ∷ []) (suc (length commands)) ≡ Some (record command { placeholders = placeholders_by (commands ++ c ∷ []) (suc (length commands)) c.content }) → IfOk result (AreEdits commands (commands ++ c ∷ []))) }
 {
     let products = read_sold_dimension(tables, alloc, policy, Dim::Product, sales)?;
     let stores = read_sold_dimension(tables, alloc, policy, Dim::Store, sales)?;

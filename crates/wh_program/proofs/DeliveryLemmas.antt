@@ -1,6 +1,6 @@
 -- What a delivery answers and leaves.
 use Rattle.std.proofs.Common.{◌≡◌, inl, inr, refl, sym, subst, ap, ◌∙◌, arith, min, ℕ, zero, suc, ◌+◌, ◌<◌, ◌≤◌, List, [], ◌∷◌, ◌++◌, length, take, drop, get_or, append_assoc, append-nil, Option, Some, None}
-use Rattle.std.specs.Prelude.{Result, IfOk}
+use Rattle.std.specs.Prelude.{Result}
 use Rattle.std.proofs.lemmas.List.{drop_more, drop_all}
 use Rattle.sqlite.specs.State.{State}
 use Rattle.wh_batch.specs.declared.manifest.ManifestEntry.{ManifestEntry}
@@ -14,9 +14,10 @@ use Rattle.wh_engine.specs.declared.command.Reply.{Reply}
 use Rattle.wh_engine.specs.declared.fault.Fault.{Fault}
 use Rattle.wh_engine.specs.declared.fault.Fault.TheVariants as fault
 use Rattle.wh_engine.specs.declared.session.Session.{Session}
-use Rattle.wh_program.specs.Delivery.{answered_lines, delivery_answer, IsDelivered, Files, AreCommandsOf, IsFirstMissing}
+use Rattle.wh_program.specs.Delivery.{answered_lines, delivery_answer, IsDelivered, AreCommandsOf, IsFirstMissing}
+use Rattle.wh_program.specs.Inputs.{Files}
 use Rattle.wh_program.specs.Standing.{Holds, Standing, Rests, LeftAt, Stands}
-use Rattle.wh_program.specs.Warehouse.{Told, IsCommandOf}
+use Rattle.wh_program.specs.Warehouse.{Told, printed, IsCommandOf}
 
 -- ---- the text
 
@@ -33,22 +34,22 @@ lines-past (c ∷ sent) (a ∷ answers) (suc i) past = lines-past sent answers i
 
 -- ---- what is left
 
--- what the engine's answers say of the store, as what stands
-pub delivered : (sent : List Command) (limits : Limits) (commands : List Accepted) (told : Told) (answers : List (Result Reply Refused)) (stop : Option Fault) (session : Session) (s : State)
-    → IfOk told (λ a. a ≡ delivery_answer sent answers stop) → EngineDelivered limits commands sent answers stop session s
-    → (after : Standing) × IsDelivered sent limits commands told after × Stands after s
-delivered sent limits commands told answers None session s tells (are, ready) =
-    (Rests (Holds limits (accepted_after_all limits commands sent)), record { answers = answers; stop = None; leaves = (are, refl); tells = tells }, (ready.admitted, ready.rests))
-delivered sent limits commands told answers (Some (fault.Refused why)) session s tells none = absurd none
-delivered sent limits commands told answers (Some (fault.Damaged table)) session s tells none = absurd none
-delivered sent limits commands told answers (Some fault.Memory) session s tells (are, ready) =
-    (Rests (Holds limits (accepted_after_all limits commands (take (length answers) sent))), record { answers = answers; stop = Some fault.Memory; leaves = (are, refl); tells = tells }, (ready.admitted, ready.rests))
-delivered sent limits commands told answers (Some (fault.Store cause)) session s tells (are, few, stopped) = (
+-- what the engine's answers say of the store, as what stands, where there is room to print them
+pub delivered : (room : Type 0) (sent : List Command) (limits : Limits) (commands : List Accepted) (told : Told) (answers : List (Result Reply Refused)) (stop : Option Fault) (session : Session) (s : State)
+    → (room → printed told ≡ delivery_answer sent answers stop) → EngineDelivered limits commands sent answers stop session s
+    → (after : Standing) × (room → IsDelivered sent limits commands told after) × Stands after s
+delivered room sent limits commands told answers None session s tells (are, ready) =
+    (Rests (Holds limits (accepted_after_all limits commands sent)), λ has. record { answers = answers; stop = None; leaves = (are, refl); tells = tells has }, (ready.admitted, ready.rests))
+delivered room sent limits commands told answers (Some (fault.Refused why)) session s tells none = absurd none
+delivered room sent limits commands told answers (Some (fault.Damaged table)) session s tells none = absurd none
+delivered room sent limits commands told answers (Some fault.Memory) session s tells (are, ready) =
+    (Rests (Holds limits (accepted_after_all limits commands (take (length answers) sent))), λ has. record { answers = answers; stop = Some fault.Memory; leaves = (are, refl); tells = tells has }, (ready.admitted, ready.rests))
+delivered room sent limits commands told answers (Some (fault.Store cause)) session s tells (are, few, stopped) = (
   LeftAt (Holds limits (accepted_after_all limits commands (take (length answers) sent))) (Holds limits (accepted_after_all limits commands (take (suc (length answers)) sent))),
-  record { answers = answers; stop = Some (fault.Store cause); leaves = (are, few, refl); tells = tells },
+  λ has. record { answers = answers; stop = Some (fault.Store cause); leaves = (are, few, refl); tells = tells has },
   record { each = stopped.left.each },
 )
-delivered sent limits commands told answers (Some fault.Reopen) session s tells none = absurd none
+delivered room sent limits commands told answers (Some fault.Reopen) session s tells none = absurd none
 
 -- ---- the inputs
 
@@ -69,7 +70,7 @@ module _ (holds : Files) (entries : List ManifestEntry) where
       let first = rw here at so in
       record {
         all = λ more are. rw append_assoc (first.all (c ∷ more) (is, are));
-        missing = λ path later. first.missing path (inr (is.0, is.1, later));
+        missing = λ path later. first.missing path (inr (is.1.0, is.1.1, later));
       }
 
   -- the file of the next isn't there

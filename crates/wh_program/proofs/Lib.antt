@@ -1,6 +1,8 @@
 pub mod CommandLineLemmas
 pub mod RunLemmas
 pub mod LineLemmas
+pub mod RoomLemmas
+pub mod InputLemmas
 pub mod OutputLemmas
 pub mod ReadingLemmas
 pub mod WarehouseLemmas

@@ -6,7 +6,7 @@ use Rattle.std.proofs.KnownBytes.{Appends-trans}
 use Rattle.std.proofs.Math.Seq.{take-append-add, take-append_seam}
 use Rattle.std.proofs.lemmas.List.{length-append}
 use Rattle.wh_program.specs.Answer.{Printed, done, status_code, write_line}
-use Rattle.wh_program.specs.Delivery.{Files}
+use Rattle.wh_program.specs.Inputs.{Files}
 use Rattle.wh_program.specs.Readings.{behind}
 use Rattle.wh_program.specs.Run.{Prints}
 use Rattle.wh_program.specs.Task.{Task, Trial, Init, Load, Migrate, Deliver, Plan, Report, Dump, Status}

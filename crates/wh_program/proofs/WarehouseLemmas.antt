@@ -31,9 +31,10 @@ use Rattle.wh_store.specs.declared.fault.OpenFault.{OpenFault}
 use Rattle.wh_store.specs.declared.fault.OpenFault.TheVariants as opening
 use Rattle.wh_engine.specs.declared.session.Session.{Session}
 use Rattle.wh_program.specs.Answer.{done, failed, no_file_line}
+use Rattle.wh_program.specs.Inputs.{Files}
 use Rattle.wh_program.specs.Reply.{sent_answer, plan_answer, opening_answer, status_answer, making_answer, made_line}
 use Rattle.wh_program.specs.Standing.{Content, Nothing, Holds, Standing, Rests, LeftAt, IsAt, Stands}
-use Rattle.wh_program.specs.Warehouse.{Told, Opens, IsReplied, IsForetold, IsCounted, Makes, AnswersWith, IsTried, IsNotConnected}
+use Rattle.wh_program.specs.Warehouse.{Told, printed, Opens, IsReplied, IsForetold, IsCounted, Makes, AnswersWith, IsTried, IsNotConnected}
 
 -- where no object is, the ten tables are not all there
 pub none_there : are_all_there no_schema ≡ false
@@ -78,20 +79,20 @@ module _ (does : Limits → List Accepted → Told → Standing → Type 0) (con
 
 -- ---- load
 
--- what the engine's reply says of the store, as what stands
-pub replied : (c : Command) (limits : Limits) (commands : List Accepted) (told : Told) (reply : Result Reply Fault) (session : Session) (s : State)
-    → IfOk told (λ a. a ≡ sent_answer c.id reply) → IsAnswered limits commands c reply session s
-    → (after : Standing) × IsReplied c limits commands told after × Stands after s
-replied c limits commands told (Ok reply) session s tells (is, ready) =
-    (Rests (Holds limits (accepted_after limits commands c)), record { reply = Ok reply; leaves = (is, refl); tells = tells }, (ready.admitted, ready.rests))
-replied c limits commands told (Err (fault.Refused why)) session s tells (is, ready) =
-    (Rests (Holds limits commands), record { reply = Err (fault.Refused why); leaves = (is, refl); tells = tells }, (ready.admitted, ready.rests))
-replied c limits commands told (Err (fault.Damaged table)) session s tells none = absurd none
-replied c limits commands told (Err fault.Memory) session s tells ready =
-    (Rests (Holds limits commands), record { reply = Err fault.Memory; leaves = refl; tells = tells }, (ready.admitted, ready.rests))
-replied c limits commands told (Err (fault.Store cause)) session s tells stopped =
-    (LeftAt (Holds limits commands) (Holds limits (accepted_after limits commands c)), record { reply = Err (fault.Store cause); leaves = refl; tells = tells }, record { each = stopped.left.each })
-replied c limits commands told (Err fault.Reopen) session s tells none = absurd none
+-- what the engine's reply says of the store, as what stands, where there is room to print it
+pub replied : (room : Type 0) (c : Command) (limits : Limits) (commands : List Accepted) (told : Told) (reply : Result Reply Fault) (session : Session) (s : State)
+    → (room → printed told ≡ sent_answer c.id reply) → IsAnswered limits commands c reply session s
+    → (after : Standing) × (room → IsReplied c limits commands told after) × Stands after s
+replied room c limits commands told (Ok reply) session s tells (is, ready) =
+    (Rests (Holds limits (accepted_after limits commands c)), λ has. record { reply = Ok reply; leaves = (is, refl); tells = tells has }, (ready.admitted, ready.rests))
+replied room c limits commands told (Err (fault.Refused why)) session s tells (is, ready) =
+    (Rests (Holds limits commands), λ has. record { reply = Err (fault.Refused why); leaves = (is, refl); tells = tells has }, (ready.admitted, ready.rests))
+replied room c limits commands told (Err (fault.Damaged table)) session s tells none = absurd none
+replied room c limits commands told (Err fault.Memory) session s tells ready =
+    (Rests (Holds limits commands), λ has. record { reply = Err fault.Memory; leaves = refl; tells = tells has }, (ready.admitted, ready.rests))
+replied room c limits commands told (Err (fault.Store cause)) session s tells stopped =
+    (LeftAt (Holds limits commands) (Holds limits (accepted_after limits commands c)), λ has. record { reply = Err (fault.Store cause); leaves = refl; tells = tells has }, record { each = stopped.left.each })
+replied room c limits commands told (Err fault.Reopen) session s tells none = absurd none
 
 -- ---- plan
 
@@ -154,7 +155,7 @@ unmade_store bytes told why s1 (Err fault) e ok says left = absurd (cc ok)
 
 unmade_nothing : (bytes : List ℕ) (told : Told) (why : InitFault) (s1 : State)
     → IsNotMade bytes false why → (NothingIsWritten why → IsAtRest None s1) → LeavesMade greatest_limits bytes s1
-    → IfOk told (λ a. a ≡ making_answer why) → (after : Standing) × Makes bytes Nothing told after × Stands after s1
+    → printed told ≡ making_answer why → (after : Standing) × Makes bytes Nothing told after × Stands after s1
 unmade_nothing bytes told (making.Policy fault) s1 refused same left tells = (Rests Nothing, inr (record { why = making.Policy fault; leaves = (refused, refl); tells = tells }), same tt)
 unmade_nothing bytes told making.NotEmpty s1 refused same left tells = absurd (cc refused.1)
 unmade_nothing bytes told making.Memory s1 refused same left tells = (Rests Nothing, inr (record { why = making.Memory; leaves = (tt, refl); tells = tells }), same tt)
@@ -164,7 +165,7 @@ unmade_nothing bytes told (making.Store cause) s1 refused same left tells =
 pub unmade : (content : Content) (bytes : List ℕ) (told : Told) (why : InitFault) (limits : Limits) (s0 s1 : State)
     → limits ≡ greatest_limits → IsNotMade bytes (is_any_taken s0.now.schema) why → (NothingIsWritten why → IsAtRest None s0 → IsAtRest None s1) → (IsAtRest None s0 → LeavesMade limits bytes s1)
     → (is_any_taken s0.now.schema ≡ true → (c : Content) → IsAt c s0 → IsAt c s1)
-    → IfOk told (λ a. a ≡ making_answer why) → IsAt content s0 → (after : Standing) × Makes bytes content told after × Stands after s1
+    → printed told ≡ making_answer why → IsAt content s0 → (after : Standing) × Makes bytes content told after × Stands after s1
 unmade Nothing bytes told why limits s0 s1 most refused same left kept tells at =
     let free : is_any_taken s0.now.schema ≡ false = ap is_any_taken at.now.schema ∙ taken_in_none in
     unmade_nothing bytes told why s1 (subst (λ taken. IsNotMade bytes taken why) free refused) (λ w. same w at) (subst (λ l. LeavesMade l bytes s1) most (left at)) tells
@@ -174,15 +175,15 @@ unmade (Holds l cs) bytes told why limits s0 s1 most refused same left kept tell
 
 -- no memory for the line
 pub not_begun : (content : Content) (bytes : List ℕ) (e : AllocError) (s : State) → IsAt content s → (after : Standing) × Makes bytes content (Err e) after × Stands after s
-not_begun Nothing bytes e s at = (Rests Nothing, inr (record { why = making.Memory; leaves = (tt, refl); tells = tt }), at)
-not_begun (Holds l cs) bytes e s at = (Rests (Holds l cs), record { why = making.Memory; refused = tt; same = refl; tells = tt }, at)
+not_begun Nothing bytes e s at = (Rests Nothing, inr (record { why = making.Memory; leaves = (tt, refl); tells = refl }), at)
+not_begun (Holds l cs) bytes e s at = (Rests (Holds l cs), record { why = making.Memory; refused = tt; same = refl; tells = refl }, at)
 
 -- ---- a visit
 
 module _ {E : Type 0} (stands : Standing → Type 0) (content : Content) (file : List ℕ) (visit : Result Told E) (told : Told)
     (same : OnErr visit (stands (Rests content))) (is : IfOk visit (λ output. told ≡ output)) (other : OnErr visit (IfOk told (λ a. a ≡ failed (no_file_line file)))) where
   -- with the bytes of an input
-  pub answered_with : (holds : List ℕ → Option (List ℕ) → Type 0) (does : List ℕ → Content → Told → Standing → Type 0) (path bytes : List ℕ) → holds path (Some bytes)
+  pub answered_with : (holds : Files) (does : List ℕ → Content → Told → Standing → Type 0) (path bytes : List ℕ) → holds path (Some bytes)
       → IfOk visit (λ output. (after : Standing) × does bytes content output after × stands after)
       → AnswersWith holds stands does content file path told
   answered_with holds does path bytes held did = elim visit as

@@ -14,7 +14,8 @@ use Rattle.wh_batch.specs.declared.fault.FaultKind.{FaultKind}
 use Rattle.wh_batch.specs.declared.fault.FaultKind.TheVariants.{TooLarge, WrongHeader, WrongLength, BadKey, BadDay, BadValue, BadNumber, TwiceInBatch, OutsideCalendar}
 use Rattle.wh_history.specs.Tables.{dimension_table, trial_commands}
 use Rattle.wh_history.specs.declared.rows.DimRow.{DimRow}
-use Rattle.wh_program.specs.Table.{table_text}
+use Rattle.wh_report.specs.Dump.{dimension_text}
+use Rattle.wh_program.specs.Inputs.{Files, up_to, batch_limit, policy_limit}
 use Rattle.wh_program.specs.declared.answer.Status.{Status}
 use Rattle.wh_program.specs.declared.answer.Status.TheVariants.{Done, Refused, Failed}
 
@@ -110,7 +111,7 @@ trial_rows dim policy batch = dimension_records dim policy One batch >>= λ reco
 
 -- the table, or the fault of the batch
 abbrev pub table_answer : Result (List DimRow) BatchFault → Printed
-table_answer (Ok rows) = done (table_text rows)
+table_answer (Ok rows) = done (dimension_text rows)
 table_answer (Err fault) = refused (batch_line fault)
 
 -- the answer to a trial of a file, which may not be there
@@ -129,9 +130,9 @@ trial_answer_under dim policy_path None path file = failed (no_file_line policy_
 trial_answer_under dim policy_path (Some text) path None = failed (no_file_line path)
 trial_answer_under dim policy_path (Some text) path (Some batch) = answer_under dim batch (policy_at text)
 
--- the files that a trial names hold what it answers; where the policy's isn't there, the batch's isn't looked for
-abbrev pub AnswersTrial : (List ℕ → Option (List ℕ) → Type 0) → Dim → List ℕ → Option (List ℕ) → Printed → Type 0
+-- the files that a trial names hold what it answers, as far as they are read; where the policy's isn't there, the batch's isn't looked for
+abbrev pub AnswersTrial : Files → Dim → List ℕ → Option (List ℕ) → Printed → Type 0
 AnswersTrial holds dim path None answer =
-    (file : Option (List ℕ)) × holds path file × (answer ≡ trial_answer dim trial_policy path file)
+    (file : Option (List ℕ)) × up_to batch_limit holds path file × (answer ≡ trial_answer dim trial_policy path file)
 AnswersTrial holds dim path (Some policy_path) answer =
-    (policy_file file : Option (List ℕ)) × holds policy_path policy_file × (IsSome policy_file → holds path file) × (answer ≡ trial_answer_under dim policy_path policy_file path file)
+    (policy_file file : Option (List ℕ)) × up_to policy_limit holds policy_path policy_file × (IsSome policy_file → up_to batch_limit holds path file) × (answer ≡ trial_answer_under dim policy_path policy_file path file)

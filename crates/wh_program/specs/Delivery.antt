@@ -18,9 +18,10 @@ use Rattle.wh_engine.specs.declared.command.Reply.{Reply}
 use Rattle.wh_engine.specs.declared.fault.Fault.{Fault}
 use Rattle.wh_engine.specs.declared.fault.Fault.TheVariants as fault
 use Rattle.wh_program.specs.Answer.{Printed, refused, failed, line, no_file_line, status_code}
+use Rattle.wh_program.specs.Inputs.{Files}
 use Rattle.wh_program.specs.Reply.{reply_answer, refused_line, fault_answer}
 use Rattle.wh_program.specs.Standing.{Content, Holds, Standing, Rests, LeftAt}
-use Rattle.wh_program.specs.Warehouse.{Told, Opens, IsTried, IsCommandOf, IsNotConnected}
+use Rattle.wh_program.specs.Warehouse.{Told, printed, Opens, IsTried, IsCommandOf, IsNotConnected}
 use Rattle.wh_program.specs.declared.answer.Status.{Status}
 use Rattle.wh_program.specs.declared.answer.Status.TheVariants.{Done, Refused, Failed}
 
@@ -68,20 +69,16 @@ LeavesDelivered limits commands sent answers (Some (fault.Store cause)) after =
     × (after ≡ LeftAt (Holds limits (accepted_after_all limits commands (take (length answers) sent))) (Holds limits (accepted_after_all limits commands (take (suc (length answers)) sent))))
 LeavesDelivered limits commands sent answers (Some why) after = ⊥
 
--- the engine answered the commands, from the first on
+-- the engine answered the commands, from the first on, and just that is printed
 pub record IsDelivered (sent : List Command) (limits : Limits) (commands : List Accepted) (told : Told) (after : Standing) : Type 0 where
   pub answers : List (Result Reply Refusal)
   pub stop : Option Fault
   pub leaves : LeavesDelivered limits commands sent answers stop after
-  pub tells : IfOk told (λ a. a ≡ delivery_answer sent answers stop)
+  pub tells : printed told ≡ delivery_answer sent answers stop
 
 -- ---- the manifest and its inputs
 
--- what a host holds under a path, if a file is there
-abbrev pub Files : Type 1
-Files = List ℕ → Option (List ℕ) → Type 0
-
--- each entry's command, whose bytes its file holds
+-- each entry's command, whose bytes its file holds, as far as it is read
 abbrev pub AreCommandsOf : Files → List ManifestEntry → List Command → Type 0
 AreCommandsOf holds entries sent = AllZip (λ (e : ManifestEntry) c. IsCommandOf holds e.kind e.id e.path (Some c)) entries sent
 

@@ -22,6 +22,7 @@ use Rattle.wh_engine.specs.declared.opening.InitFault.TheVariants as making
 use Rattle.wh_store.specs.declared.fault.OpenFault.{OpenFault}
 use Rattle.wh_store.specs.declared.fault.OpenFault.TheVariants as opening
 use Rattle.wh_program.specs.Answer.{Printed, done, failed, no_file_line}
+use Rattle.wh_program.specs.Inputs.{Files, up_to, input_limit}
 use Rattle.wh_program.specs.Reply.{sent_answer, plan_answer, opening_answer, status_answer, making_answer, made_line}
 use Rattle.wh_program.specs.Run.{out_of_memory}
 use Rattle.wh_program.specs.Standing.{Content, Nothing, Holds, Standing, Rests, LeftAt}
@@ -63,11 +64,11 @@ LeavesReplied limits commands c (Err fault.Memory) after = after ≡ Rests (Hold
 LeavesReplied limits commands c (Err (fault.Store cause)) after = after ≡ LeftAt (Holds limits commands) (Holds limits (accepted_after limits commands c))
 LeavesReplied limits commands c (Err _) after = ⊥
 
--- the engine replied to the command
+-- The engine replied to the command, and just that is printed: the line of memory only where it replied so, and kept nothing.
 pub record IsReplied (c : Command) (limits : Limits) (commands : List Accepted) (told : Told) (after : Standing) : Type 0 where
   pub reply : Result Reply Fault
   pub leaves : LeavesReplied limits commands c reply after
-  pub tells : IfOk told (λ a. a ≡ sent_answer c.id reply)
+  pub tells : printed told ≡ sent_answer c.id reply
 
 -- ---- plan
 
@@ -118,14 +119,14 @@ LeavesUnmade bytes why after = IsNotMade bytes false why × (after ≡ Rests Not
 pub record IsUnmade (bytes : List ℕ) (told : Told) (after : Standing) : Type 0 where
   pub why : InitFault
   pub leaves : LeavesUnmade bytes why after
-  pub tells : IfOk told (λ a. a ≡ making_answer why)
+  pub tells : printed told ≡ making_answer why
 
 -- a warehouse is there, so none is made, and nothing changed
 pub record IsNotEmpty (bytes : List ℕ) (content : Content) (told : Told) (after : Standing) : Type 0 where
   pub why : InitFault
   pub refused : IsNotMade bytes true why
   pub same : after ≡ Rests content
-  pub tells : IfOk told (λ a. a ≡ making_answer why)
+  pub tells : printed told ≡ making_answer why
 
 -- a making in what stands
 abbrev pub Makes : List ℕ → Content → Told → Standing → Type 0
@@ -140,19 +141,19 @@ pub record IsTried (stands : Standing → Type 0) (does : Told → Standing → 
   pub then_stands : stands after
   pub did : does told after
 
--- the command whose bytes a file holds, if the file is there
-abbrev pub IsCommandOf : (List ℕ → Option (List ℕ) → Type 0) → CommandKind → (id path : List ℕ) → Option Command → Type 0
+-- the command whose bytes a file holds, as far as it is read, if the file is there
+abbrev pub IsCommandOf : Files → CommandKind → (id path : List ℕ) → Option Command → Type 0
 IsCommandOf holds kind id path None = holds path None
-IsCommandOf holds kind id path (Some c) = (bytes : List ℕ) × holds path (Some bytes) × (c ≡ record { id = id; kind = kind; bytes = bytes })
+IsCommandOf holds kind id path (Some c) = (bytes : List ℕ) × up_to (input_limit kind) holds path (Some bytes) × (c ≡ record { id = id; kind = kind; bytes = bytes })
 
 -- with the bytes of its input
-pub record IsTriedWith (holds : List ℕ → Option (List ℕ) → Type 0) (stands : Standing → Type 0) (does : List ℕ → Told → Standing → Type 0) (path : List ℕ) (told : Told) : Type 0 where
+pub record IsTriedWith (holds : Files) (stands : Standing → Type 0) (does : List ℕ → Told → Standing → Type 0) (path : List ℕ) (told : Told) : Type 0 where
   pub bytes : List ℕ
   pub held : holds path (Some bytes)
   pub tried : IsTried stands (does bytes) told
 
 -- its input isn't there, or the warehouse's file can't be connected, or memory ran out before; nothing changed
-pub record IsNotTried (holds : List ℕ → Option (List ℕ) → Type 0) (stands : Standing → Type 0) (content : Content) (file path : List ℕ) (told : Told) : Type 0 where
+pub record IsNotTried (holds : Files) (stands : Standing → Type 0) (content : Content) (file path : List ℕ) (told : Told) : Type 0 where
   pub same : stands (Rests content)
   pub tells : IfOk told (λ a. (holds path None × (a ≡ failed (no_file_line path))) ⊎ (a ≡ failed (no_file_line file)))
 
@@ -162,7 +163,7 @@ pub record IsNotConnected (stands : Standing → Type 0) (content : Content) (fi
   pub tells : IfOk told (λ a. a ≡ failed (no_file_line file))
 
 -- what a word with an input answers and leaves
-abbrev pub AnswersWith : (List ℕ → Option (List ℕ) → Type 0) → (Standing → Type 0) → (List ℕ → Content → Told → Standing → Type 0) → Content → (file path : List ℕ) → Told → Type 0
+abbrev pub AnswersWith : Files → (Standing → Type 0) → (List ℕ → Content → Told → Standing → Type 0) → Content → (file path : List ℕ) → Told → Type 0
 AnswersWith holds stands does content file path told = IsTriedWith holds stands (λ bytes. does bytes content) path told ⊎ IsNotTried holds stands content file path told
 
 -- a load of the batch of a file, or a migration to its policy

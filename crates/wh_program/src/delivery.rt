@@ -1,13 +1,14 @@
 //! Deliveries: the commands that a manifest lists, sent in order.
 
-ghost use Rattle.std.specs.Prelude.{IfOk, IfErr};
+ghost use Rattle.std.specs.Prelude.{◌≤◌, IfOk, IfErr, vec_capacity};
 ghost use Rattle.wh_program.specs.Delivery.{AreCommandsOf, IsDelivered, LacksInput, AnswersListed, AnswersSent, AnswersDelivery};
+ghost use Rattle.wh_program.specs.Room.{longest_delivery};
 ghost use Rattle.wh_program.specs.Standing.{Content, Rests};
 ghost use Rattle.wh_program.specs.Warehouse.{Opens};
 
 use crate::answer::Answer;
 use crate::delivery_text::delivery_answer;
-use crate::host::{Host, Visitor, file_of};
+use crate::host::{Host, Visitor, whole_file_of};
 use crate::lines::{bad_manifest, no_file, opening_answer, room_for_delivery};
 use crate::warehouse::{answered, command_of};
 use sqlite::{Alter, Connection};
@@ -29,7 +30,8 @@ struct Delivering {
 impl Visitor for Delivering {
     type Output = Result<Answer, AllocError>;
 
-    ghost promises = { λ delivering content told old new after. Opens (IsDelivered delivering.commands.items) content told after };
+    // Of one with room for all lines.
+    ghost promises = { λ delivering content told old new after. longest_delivery delivering.commands.items ≤ vec_capacity delivering.room → Opens (IsDelivered delivering.commands.items) content told after };
 
     fn visit<T: Alter + Drop, W: Write>(
         self,
@@ -114,7 +116,7 @@ pub fn deliver<H: Host>(
     ensures { (content : Content) → H.stores host.old file.now (Rests content)
         → AnswersDelivery (H.holds host.old) (H.stores host.new file.now) content file.now manifest.now result }
 {
-    let Some(text) = file_of(alloc, manifest, host)? else {
+    let Some(text) = whole_file_of(alloc, manifest, host)? else {
         return no_file(alloc, manifest);
     };
     match Manifest::read(alloc, &text) {

@@ -1,8 +1,9 @@
 //! The text of a delivery: a line a command, and one of what stopped it.
 
-ghost use Rattle.std.specs.Prelude.{◌≡◌, ◌++◌, IfOk, OnOk, is_err};
+ghost use Rattle.std.specs.Prelude.{◌≡◌, ◌++◌, OnOk, is_err};
 ghost use Rattle.std.specs.List.{list_any};
 ghost use Rattle.wh_program.specs.Delivery.{answered_line, answered_lines, stop_line, delivery_status, delivery_answer};
+ghost use Rattle.wh_program.specs.Room.{Fits, TellsIn, longest_line, longest_answer, longest_answers, longest_delivery};
 
 use crate::answer::{Answer, Status};
 use crate::lines::{push_fault, push_refused, push_reply};
@@ -15,7 +16,8 @@ fn push_answered(
     id: &str,
     answered: &Result<Reply, Refused>,
 ) -> Result<(), AllocError>
-    ensures { OnOk result (text.new.items ≡ text.old.items ++ answered_line id.now answered.now) }
+    ensures added { OnOk result (text.new.items ≡ text.old.items ++ answered_line id.now answered.now) }
+    ensures fits { Fits (longest_answer id.now) result text.old text.new }
 {
     match answered {
         Ok(reply) => push_reply(text, id, reply),
@@ -29,7 +31,8 @@ fn push_answers(
     commands: &[Command],
     answers: &[Result<Reply, Refused>],
 ) -> Result<(), AllocError>
-    ensures { OnOk result (text.new.items ≡ text.old.items ++ answered_lines commands.now answers.now) }
+    ensures added { OnOk result (text.new.items ≡ text.old.items ++ answered_lines commands.now answers.now) }
+    ensures fits { Fits (longest_answers commands.now) result text.old text.new }
 {
     let count = commands.len().min(answers.len());
     for place in 0..count {
@@ -40,7 +43,8 @@ fn push_answers(
 
 /// The line of what stopped a delivery, if something did.
 fn push_stop(text: &mut Vec<u8>, stop: &Option<Fault>) -> Result<(), AllocError>
-    ensures { OnOk result (text.new.items ≡ text.old.items ++ stop_line stop.now) }
+    ensures added { OnOk result (text.new.items ≡ text.old.items ++ stop_line stop.now) }
+    ensures fits { Fits longest_line result text.old text.new }
 {
     match stop {
         Some(why) => push_fault(text, why),
@@ -71,7 +75,7 @@ pub fn delivery_answer(
     commands: &[Command],
     replies: &Replies,
 ) -> Result<Answer, AllocError>
-    ensures { IfOk result (λ answer. answer ≡ delivery_answer commands.now replies.now.answers.items replies.now.stop) }
+    ensures { TellsIn (longest_delivery commands.now) room result (delivery_answer commands.now replies.now.answers.items replies.now.stop) }
 {
     room.clear();
     push_answers(&mut room, commands, &replies.answers)?;

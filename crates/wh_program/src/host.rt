@@ -1,8 +1,9 @@
 //! The files that a run can name, and the connections to those that are warehouses.
 
-ghost use Rattle.std.specs.Prelude.{◌≡◌, ◌≢◌, ℕ, List, Option, Some, None, ⊤, IfOk, IfErr, OnErr, option_map};
+ghost use Rattle.std.specs.Prelude.{◌≡◌, ◌≢◌, ℕ, suc, List, take, Option, Some, None, ⊤, IfOk, IfErr, OnErr, option_map};
 ghost use Rattle.sqlite.specs.Held.{state};
 ghost use Rattle.sqlite.specs.State.{HasCleanDisk};
+ghost use Rattle.wh_program.specs.Inputs.{up_to};
 ghost use Rattle.wh_program.specs.Standing.{Content, Standing, Rests, Stands};
 ghost use Rattle.wh_program.specs.declared.host.HostError.TheVariants.{NoFile};
 
@@ -48,9 +49,9 @@ pub trait Host {
     /// What stands under a name as a warehouse. A host that says nothing of it knows of nothing that stands.
     ghost stores: { Self → List ℕ → Standing → Type 0 } = { λ _ _ _. ⊥ };
 
-    /// Reads a file whole.
-    fn read(&self, alloc: Global, path: &str) -> Result<Vec<u8>, HostError>
-        ensures ok { IfOk result (λ bytes. holds self.now path.now (Some bytes.items)) }
+    /// Reads a file of which no more than `most` bytes are wanted: a longer one is read a byte further, and no more.
+    fn read(&self, alloc: Global, path: &str, most: usize) -> Result<Vec<u8>, HostError>
+        ensures ok { IfOk result (λ bytes. up_to most (holds self.now) path.now (Some bytes.items)) }
         ensures err { IfErr result (λ e. e ≡ NoFile → holds self.now path.now None) };
 
     /// Lends a visitor the connection of the warehouse under a name, with a writer, and takes it back. Where no file has the name, the
@@ -84,13 +85,39 @@ pub trait Host {
         ensures others { (other : List ℕ) (standing : Standing) → other ≢ name.now → stores self.old other standing → stores self.new other standing };
 }
 
-/// The bytes of a file, if it is there.
-pub fn file_of<H: Host>(alloc: Global, path: &str, host: &H) -> Result<Option<Vec<u8>>, AllocError>
-    ensures { IfOk result (λ file. H.holds host.now path.now (option_map (λ bytes. bytes.items) file)) }
+/// The bytes of a file of which no more than `most` are wanted, and one more where it is longer.
+pub fn beginning_of(bytes: &[u8], most: usize) -> &[u8]
+    ensures { result.now ≡ take (suc most) bytes.now }
 {
-    match host.read(alloc, path) {
+    if bytes.len() <= most {
+        return bytes;
+    }
+    &bytes[..most + 1]
+}
+
+/// The bytes of a file, if it is there, as far as they are read.
+pub fn file_of<H: Host>(
+    alloc: Global,
+    path: &str,
+    most: usize,
+    host: &H,
+) -> Result<Option<Vec<u8>>, AllocError>
+    ensures { IfOk result (λ file. up_to most (H.holds host.now) path.now (option_map (λ bytes. bytes.items) file)) }
+{
+    match host.read(alloc, path, most) {
         Ok(bytes) => Ok(Some(bytes)),
         Err(HostError::NoFile) => Ok(None),
         Err(HostError::Memory) => Err(AllocError),
     }
+}
+
+/// All bytes of a file, if it is there.
+pub fn whole_file_of<H: Host>(
+    alloc: Global,
+    path: &str,
+    host: &H,
+) -> Result<Option<Vec<u8>>, AllocError>
+    ensures { IfOk result (λ file. H.holds host.now path.now (option_map (λ bytes. bytes.items) file)) }
+{
+    file_of(alloc, path, usize::MAX, host)
 }

@@ -7,6 +7,8 @@ mod delivery;
 mod delivery_text;
 mod dump;
 mod host;
+pub mod laws;
+mod limits;
 mod lines;
 mod memory;
 mod named;
@@ -14,16 +16,16 @@ mod output;
 mod plan_text;
 mod program;
 mod report;
-mod table;
 mod trial;
 mod warehouse;
 mod words;
 
 pub use answer::Answer;
 pub use delivery_text::delivery_answer;
-pub use host::{Host, HostError, Visitor};
+pub use host::{Host, HostError, Visitor, beginning_of};
 pub use lines::{
-    made, making_answer, opening_answer, plan_answer, room_for_receipt, sent_answer, status_answer,
+    made, making_answer, opening_answer, plan_answer, room_for_line, room_for_receipt, sent_answer,
+    status_answer,
 };
 pub use memory::MemoryHost;
 pub use program::{run, run_without_words};

@@ -1,9 +1,10 @@
 //! The lines that a run can answer.
 
-ghost use Rattle.std.specs.Prelude.{◌≡◌, ◌++◌, IfOk, OnOk, codes, string_bytes};
+ghost use Rattle.std.specs.Prelude.{◌≡◌, ◌+◌, ◌≤◌, ◌++◌, IfOk, OnOk, codes, length, string_bytes, vec_capacity};
 ghost use Rattle.std.specs.Fmt.{decimal};
 ghost use Rattle.wh_program.specs.Answer.{status_code, done, refused, failed, line, no_file_line, batch_line, batch_fault_name, policy_line, policy_fault_name};
 ghost use Rattle.wh_program.specs.Delivery.{manifest_line};
+ghost use Rattle.wh_program.specs.Room.{Fits, TellsIn, longest_line, longest_answer, longest_delivery};
 ghost use Rattle.wh_program.specs.Reply.{receipt_line, reply_answer, limit_name, full_line, sale_there_line, refused_line, damaged_line, cause_name, store_line, fault_answer, sent_answer, plan_answer, made_line, making_answer, opening_answer, members_line, totals_text, counts_text, status_answer};
 
 use crate::answer::{Answer, Status};
@@ -47,7 +48,8 @@ pub const NO_TEXT_LINE: &[u8] = b"error: an argument is no text\n";
 
 /// A line of two texts.
 fn push_named_line(text: &mut Vec<u8>, what: &str, name: &str) -> Result<(), AllocError>
-    ensures { OnOk result (text.new.items ≡ text.old.items ++ line (what.now ++ name.now)) }
+    ensures added { OnOk result (text.new.items ≡ text.old.items ++ line (what.now ++ name.now)) }
+    ensures fits { Fits (length what.now + length name.now + 1) result text.old text.new }
 {
     text.extend_from_slice(what.as_bytes())?;
     text.extend_from_slice(name.as_bytes())?;
@@ -56,7 +58,8 @@ fn push_named_line(text: &mut Vec<u8>, what: &str, name: &str) -> Result<(), All
 
 /// A line of a text and a number.
 fn push_numbered_line(text: &mut Vec<u8>, what: &str, number: u64) -> Result<(), AllocError>
-    ensures { OnOk result (text.new.items ≡ text.old.items ++ line (what.now ++ decimal number)) }
+    ensures added { OnOk result (text.new.items ≡ text.old.items ++ line (what.now ++ decimal number)) }
+    ensures fits { Fits (length what.now + 21) result text.old text.new }
 {
     push_named_line(text, what, Buffer::new().format(number))
 }
@@ -68,7 +71,8 @@ fn push_record_line(
     name: &str,
     number: u64,
 ) -> Result<(), AllocError>
-    ensures { OnOk result (text.new.items ≡ text.old.items ++ line (what.now ++ name.now ++ codes ", record " ++ decimal number)) }
+    ensures added { OnOk result (text.new.items ≡ text.old.items ++ line (what.now ++ name.now ++ codes ", record " ++ decimal number)) }
+    ensures fits { Fits (length what.now + length name.now + 30) result text.old text.new }
 {
     text.extend_from_slice(what.as_bytes())?;
     text.extend_from_slice(name.as_bytes())?;
@@ -76,7 +80,8 @@ fn push_record_line(
 }
 
 fn batch_fault_name(kind: FaultKind) -> &'static str
-    ensures { result.now ≡ batch_fault_name kind }
+    ensures name { result.now ≡ batch_fault_name kind }
+    ensures short { length result.now ≤ 32 }
 {
     match kind {
         FaultKind::TooLarge => "B1 too large",
@@ -92,7 +97,8 @@ fn batch_fault_name(kind: FaultKind) -> &'static str
 }
 
 fn push_batch_line(text: &mut Vec<u8>, fault: BatchFault) -> Result<(), AllocError>
-    ensures { OnOk result (text.new.items ≡ text.old.items ++ batch_line fault) }
+    ensures added { OnOk result (text.new.items ≡ text.old.items ++ batch_line fault) }
+    ensures fits { Fits longest_line result text.old text.new }
 {
     let name = batch_fault_name(fault.kind);
     push_record_line(text, "refused: E3 batch, ", name, u64::from(fault.number))
@@ -107,7 +113,8 @@ pub fn batch_line(alloc: Global, fault: BatchFault) -> Result<Vec<u8>, AllocErro
 }
 
 fn policy_fault_name(fault: PolicyFault) -> &'static str
-    ensures { result.now ≡ policy_fault_name fault }
+    ensures name { result.now ≡ policy_fault_name fault }
+    ensures short { length result.now ≤ 32 }
 {
     match fault {
         PolicyFault::NotToml => "P1 not toml",
@@ -125,7 +132,8 @@ fn policy_fault_name(fault: PolicyFault) -> &'static str
 }
 
 fn push_policy_line(text: &mut Vec<u8>, fault: PolicyFault) -> Result<(), AllocError>
-    ensures { OnOk result (text.new.items ≡ text.old.items ++ policy_line fault) }
+    ensures added { OnOk result (text.new.items ≡ text.old.items ++ policy_line fault) }
+    ensures fits { Fits longest_line result text.old text.new }
 {
     push_named_line(text, "refused: E4 policy, ", policy_fault_name(fault))
 }
@@ -163,20 +171,34 @@ pub fn told(alloc: Global, status: Status, line: &str) -> Result<Answer, AllocEr
     Ok(Answer::new(status, text.into_bytes()))
 }
 
-/// The most bytes of the line of an answer to a command, beside the id.
+/// The most bytes of a line, beside an id.
 const LONGEST_LINE: usize = 128;
 
-/// Room for the line of any receipt after an id. It is taken before a command is sent, so that no memory is wanted once the
-/// command is kept.
-pub fn room_for_receipt(alloc: Global, id: &str) -> Result<Vec<u8>, AllocError> {
-    Vec::with_capacity(alloc, id.len().saturating_add(LONGEST_LINE))
+/// Room for any line with no id. It is taken before a warehouse is made, so that no memory is wanted once it is.
+pub fn room_for_line(alloc: Global) -> Result<Vec<u8>, AllocError>
+    ensures { IfOk result (λ room. longest_line ≤ vec_capacity room) }
+{
+    Vec::with_capacity(alloc, LONGEST_LINE)
+}
+
+/// Room for the line of any answer to a command under an id. It is taken before the command is sent, so that no memory is wanted
+/// once the command is kept.
+pub fn room_for_receipt(alloc: Global, id: &str) -> Result<Vec<u8>, AllocError>
+    ensures { IfOk result (λ room. longest_answer id.now ≤ vec_capacity room) }
+{
+    Vec::with_capacity(alloc, id.len() + LONGEST_LINE)
 }
 
 /// Room for the line of any answer to each of the commands, and of what may stop their delivery, taken before the first is sent.
-pub fn room_for_delivery(alloc: Global, commands: &[Command]) -> Result<Vec<u8>, AllocError> {
+pub fn room_for_delivery(alloc: Global, commands: &[Command]) -> Result<Vec<u8>, AllocError>
+    ensures { IfOk result (λ room. longest_delivery commands.now ≤ vec_capacity room) }
+{
     let mut bytes = LONGEST_LINE;
     for command in commands {
-        bytes = bytes.saturating_add(command.id.as_str().len().saturating_add(LONGEST_LINE));
+        match bytes.checked_add(command.id.as_str().len() + LONGEST_LINE) {
+            Some(more) => bytes = more,
+            None => return Err(AllocError),
+        }
     }
     Vec::with_capacity(alloc, bytes)
 }
@@ -188,7 +210,8 @@ fn push_receipt(
     id: &str,
     receipt: &Receipt,
 ) -> Result<(), AllocError>
-    ensures { OnOk result (text.new.items ≡ text.old.items ++ receipt_line word.now id.now receipt.now) }
+    ensures added { OnOk result (text.new.items ≡ text.old.items ++ receipt_line word.now id.now receipt.now) }
+    ensures fits { Fits (length word.now + length id.now + 88) result text.old text.new }
 {
     text.extend_from_slice(word.as_bytes())?;
     text.extend_from_slice(b" ")?;
@@ -205,7 +228,8 @@ fn push_receipt(
 
 /// The line of a command that is kept.
 pub fn push_reply(text: &mut Vec<u8>, id: &str, reply: &Reply) -> Result<(), AllocError>
-    ensures { OnOk result (text.new.items ≡ text.old.items ++ (reply_answer id.now reply.now).text) }
+    ensures added { OnOk result (text.new.items ≡ text.old.items ++ (reply_answer id.now reply.now).text) }
+    ensures fits { Fits (longest_answer id.now) result text.old text.new }
 {
     match reply {
         Reply::Accepted(receipt) => push_receipt(text, "accepted", id, receipt),
@@ -215,7 +239,7 @@ pub fn push_reply(text: &mut Vec<u8>, id: &str, reply: &Reply) -> Result<(), All
 
 /// The answer to a command that is kept, in room that was taken for it.
 fn reply_answer(mut room: Vec<u8>, id: &str, reply: &Reply) -> Result<Answer, AllocError>
-    ensures { IfOk result (λ answer. answer ≡ reply_answer id.now reply.now) }
+    ensures { TellsIn (longest_answer id.now) room result (reply_answer id.now reply.now) }
 {
     room.clear();
     push_reply(&mut room, id, reply)?;
@@ -223,7 +247,8 @@ fn reply_answer(mut room: Vec<u8>, id: &str, reply: &Reply) -> Result<Answer, Al
 }
 
 fn limit_name(limit: Limit) -> &'static str
-    ensures { result.now ≡ limit_name limit }
+    ensures name { result.now ≡ limit_name limit }
+    ensures short { length result.now ≤ 32 }
 {
     match limit {
         Limit::Commands => "commands",
@@ -233,20 +258,23 @@ fn limit_name(limit: Limit) -> &'static str
 }
 
 fn push_full_line(text: &mut Vec<u8>, limit: Limit) -> Result<(), AllocError>
-    ensures { OnOk result (text.new.items ≡ text.old.items ++ full_line limit) }
+    ensures added { OnOk result (text.new.items ≡ text.old.items ++ full_line limit) }
+    ensures fits { Fits longest_line result text.old text.new }
 {
     push_named_line(text, "refused: E6 full, ", limit_name(limit))
 }
 
 fn push_sale_there_line(text: &mut Vec<u8>, number: u64) -> Result<(), AllocError>
-    ensures { OnOk result (text.new.items ≡ text.old.items ++ sale_there_line number) }
+    ensures added { OnOk result (text.new.items ≡ text.old.items ++ sale_there_line number) }
+    ensures fits { Fits longest_line result text.old text.new }
 {
     push_numbered_line(text, "refused: E6 line there, record ", number)
 }
 
 /// The line of a command that isn't accepted.
 pub fn push_refused(text: &mut Vec<u8>, why: &Refused) -> Result<(), AllocError>
-    ensures { OnOk result (text.new.items ≡ text.old.items ++ refused_line why.now) }
+    ensures added { OnOk result (text.new.items ≡ text.old.items ++ refused_line why.now) }
+    ensures fits { Fits longest_line result text.old text.new }
 {
     match why {
         Refused::BadId => text.extend_from_slice(b"refused: E1 bad id\n"),
@@ -259,17 +287,9 @@ pub fn push_refused(text: &mut Vec<u8>, why: &Refused) -> Result<(), AllocError>
     }
 }
 
-/// The answer to a command that isn't accepted.
-fn refused_answer(alloc: Global, why: &Refused) -> Result<Answer, AllocError>
-    ensures { IfOk result (λ answer. answer ≡ refused (refused_line why.now)) }
-{
-    let mut line = Vec::new(alloc);
-    push_refused(&mut line, why)?;
-    Ok(Answer::new(Status::Refused, line))
-}
-
 fn push_damaged_line(text: &mut Vec<u8>, table: Table) -> Result<(), AllocError>
-    ensures { OnOk result (text.new.items ≡ text.old.items ++ damaged_line table) }
+    ensures added { OnOk result (text.new.items ≡ text.old.items ++ damaged_line table) }
+    ensures fits { Fits longest_line result text.old text.new }
 {
     push_named_line(text, "failed: E7 damaged, ", table.name())
 }
@@ -283,7 +303,8 @@ pub fn damaged(alloc: Global, table: Table) -> Result<Answer, AllocError>
 }
 
 fn cause_name(cause: Cause) -> &'static str
-    ensures { result.now ≡ cause_name cause }
+    ensures name { result.now ≡ cause_name cause }
+    ensures short { length result.now ≤ 32 }
 {
     match cause {
         Cause::Memory => "memory",
@@ -294,7 +315,8 @@ fn cause_name(cause: Cause) -> &'static str
 }
 
 fn push_store_line(text: &mut Vec<u8>, cause: Cause) -> Result<(), AllocError>
-    ensures { OnOk result (text.new.items ≡ text.old.items ++ store_line cause) }
+    ensures added { OnOk result (text.new.items ≡ text.old.items ++ store_line cause) }
+    ensures fits { Fits longest_line result text.old text.new }
 {
     push_named_line(text, "failed: E9 store, ", cause_name(cause))
 }
@@ -309,7 +331,8 @@ fn store_failed(alloc: Global, cause: Cause) -> Result<Answer, AllocError>
 
 /// The line of a fault.
 pub fn push_fault(text: &mut Vec<u8>, fault: &Fault) -> Result<(), AllocError>
-    ensures { OnOk result (text.new.items ≡ text.old.items ++ (fault_answer fault.now).text) }
+    ensures added { OnOk result (text.new.items ≡ text.old.items ++ (fault_answer fault.now).text) }
+    ensures fits { Fits longest_line result text.old text.new }
 {
     match fault {
         Fault::Refused(why) => push_refused(text, why),
@@ -320,31 +343,43 @@ pub fn push_fault(text: &mut Vec<u8>, fault: &Fault) -> Result<(), AllocError>
     }
 }
 
-/// The answer where a call on the tables of a warehouse isn't answered.
-pub fn fault_answer(alloc: Global, fault: Fault) -> Result<Answer, AllocError>
-    ensures { IfOk result (λ answer. answer ≡ fault_answer fault) }
+/// How a fault ends a run.
+fn fault_status(fault: &Fault) -> Status
+    ensures { status_code result ≡ (fault_answer fault.now).status }
 {
     match fault {
-        Fault::Refused(why) => refused_answer(alloc, &why),
-        Fault::Damaged(table) => damaged(alloc, table),
-        Fault::Memory => Err(AllocError),
-        Fault::Store(cause) => store_failed(alloc, cause),
-        Fault::Reopen => told(alloc, Status::Failed, "failed: E10 reopen\n"),
+        Fault::Refused(_) => Status::Refused,
+        _ => Status::Failed,
     }
 }
 
-/// The answer to a command that is sent under an id, with room for a receipt's line.
+/// The answer where a call on the tables of a warehouse isn't answered, in room that was taken for it.
+fn fault_answer_in(mut room: Vec<u8>, fault: &Fault) -> Result<Answer, AllocError>
+    ensures { TellsIn longest_line room result (fault_answer fault.now) }
+{
+    room.clear();
+    push_fault(&mut room, fault)?;
+    Ok(Answer::new(fault_status(fault), room))
+}
+
+/// The same, with what memory there is.
+pub fn fault_answer(alloc: Global, fault: Fault) -> Result<Answer, AllocError>
+    ensures { IfOk result (λ answer. answer ≡ fault_answer fault) }
+{
+    fault_answer_in(Vec::new(alloc), &fault)
+}
+
+/// The answer to a command that is sent under an id, in room that was taken for it.
 pub fn sent_answer(
-    alloc: Global,
     room: Vec<u8>,
     id: &str,
-    reply: Result<Reply, Fault>,
+    reply: &Result<Reply, Fault>,
 ) -> Result<Answer, AllocError>
-    ensures { IfOk result (λ answer. answer ≡ sent_answer id.now reply) }
+    ensures { TellsIn (longest_answer id.now) room result (sent_answer id.now reply.now) }
 {
     match reply {
-        Ok(reply) => reply_answer(room, id, &reply),
-        Err(fault) => fault_answer(alloc, fault),
+        Ok(reply) => reply_answer(room, id, reply),
+        Err(fault) => fault_answer_in(room, fault),
     }
 }
 
@@ -358,27 +393,45 @@ pub fn plan_answer(alloc: Global, edits: Result<Edits, Fault>) -> Result<Answer,
     }
 }
 
-/// The answer to the making of a warehouse.
-pub fn made(alloc: Global) -> Result<Answer, AllocError>
-    ensures { IfOk result (λ answer. answer ≡ done made_line) }
+/// The answer to the making of a warehouse, in room that was taken for it.
+pub fn made(mut room: Vec<u8>) -> Result<Answer, AllocError>
+    ensures { TellsIn longest_line room result (done made_line) }
 {
-    told(
-        alloc,
-        Status::Done,
-        "accepted 1 init: 0 records, 0 placeholders\n",
-    )
+    room.clear();
+    room.extend_from_slice(b"accepted 1 init: 0 records, 0 placeholders\n")?;
+    Ok(Answer::new(Status::Done, room))
 }
 
-/// The answer where no warehouse was made.
-pub fn making_answer(alloc: Global, fault: InitFault) -> Result<Answer, AllocError>
-    ensures { IfOk result (λ answer. answer ≡ making_answer fault) }
+/// The line where no warehouse was made.
+fn push_making_fault(text: &mut Vec<u8>, fault: &InitFault) -> Result<(), AllocError>
+    ensures added { OnOk result (text.new.items ≡ text.old.items ++ (making_answer fault.now).text) }
+    ensures fits { Fits longest_line result text.old text.new }
 {
     match fault {
-        InitFault::Policy(fault) => Ok(Answer::new(Status::Refused, policy_line(alloc, fault)?)),
-        InitFault::NotEmpty => told(alloc, Status::Refused, "refused: E11 not empty\n"),
-        InitFault::Memory => Err(AllocError),
-        InitFault::Store(cause) => store_failed(alloc, cause),
+        InitFault::Policy(fault) => push_policy_line(text, *fault),
+        InitFault::NotEmpty => text.extend_from_slice(b"refused: E11 not empty\n"),
+        InitFault::Memory => text.extend_from_slice(MEMORY_LINE),
+        InitFault::Store(cause) => push_store_line(text, *cause),
     }
+}
+
+/// How a making ends where no warehouse was made.
+fn making_status(fault: &InitFault) -> Status
+    ensures { status_code result ≡ (making_answer fault.now).status }
+{
+    match fault {
+        InitFault::Policy(_) | InitFault::NotEmpty => Status::Refused,
+        InitFault::Memory | InitFault::Store(_) => Status::Failed,
+    }
+}
+
+/// The answer where no warehouse was made, in room that was taken for it.
+pub fn making_answer(mut room: Vec<u8>, fault: &InitFault) -> Result<Answer, AllocError>
+    ensures { TellsIn longest_line room result (making_answer fault.now) }
+{
+    room.clear();
+    push_making_fault(&mut room, fault)?;
+    Ok(Answer::new(making_status(fault), room))
 }
 
 /// The answer where a file isn't opened as a warehouse.

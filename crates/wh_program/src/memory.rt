@@ -8,7 +8,7 @@ ghost use Rattle.wh_program.specs.Standing.{Content, IsAt, IsKept, Nothing, Rest
 ghost use Rattle.sqlite.specs.Held.{state};
 ghost use Rattle.sqlite.specs.Steps.{over_memory};
 
-use crate::host::{Host, HostError, Visitor};
+use crate::host::{Host, HostError, Visitor, beginning_of};
 use crate::named::{Named, add, find, put, replace};
 use sqlite::{Connection, MemStore};
 use std::alloc::{AllocError, Global};
@@ -169,9 +169,9 @@ impl Host for MemoryHost {
 
     ghost stores = { λ host name standing. (file_named host.files.items name ≡ None) × IsKept standing (kept_named host.kept.items name) };
 
-    fn read(&self, alloc: Global, path: &str) -> Result<Vec<u8>, HostError> {
+    fn read(&self, alloc: Global, path: &str, most: usize) -> Result<Vec<u8>, HostError> {
         match find(&self.files, path) {
-            Some(bytes) => copied(alloc, bytes.as_slice()),
+            Some(bytes) => copied(alloc, beginning_of(bytes.as_slice(), most)),
             None => Err(HostError::NoFile),
         }
     }

@@ -4,6 +4,7 @@ ghost use Rattle.std.specs.Prelude.{◌≡◌, ◌++◌, ℕ, List, IfOk, OnOk, 
 ghost use Rattle.std.specs.Fmt.{decimal};
 ghost use Rattle.wh_rows.specs.Types.{dim_number};
 ghost use Rattle.wh_program.specs.PlanText.{member_words, change_words, line_words, key_line, edit_line, fact_line, commands_text, dimensions_text, facts_text, count_line, plan_text};
+ghost use Rattle.wh_program.specs.Room.{Fits};
 ghost use Rattle.wh_plan.specs.Edits.{edit_count};
 
 use itoa::Buffer;
@@ -15,7 +16,8 @@ use wh_policy::Dim;
 use wh_rows::{ChangeKey, ChangeRow, CommandRow, LineKey, MemberKey, MemberRow, ProfileRow, Table};
 
 pub fn push_number(text: &mut Vec<u8>, number: u64) -> Result<(), AllocError>
-    ensures { OnOk result (text.new.items ≡ text.old.items ++ decimal number) }
+    ensures added { OnOk result (text.new.items ≡ text.old.items ++ decimal number) }
+    ensures fits { Fits 20 result text.old text.new }
 {
     text.extend_from_slice(Buffer::new().format(number).as_bytes())
 }

@@ -7,13 +7,14 @@ ghost use Rattle.wh_program.specs.Request.{text_of};
 
 use crate::answer::{Answer, Status};
 use crate::host::{Host, file_of};
+use crate::limits::{BATCH_LIMIT, POLICY_LIMIT};
 use crate::lines::{batch_line, no_file, policy_line};
-use crate::table::table_text;
 use std::alloc::{AllocError, Global};
 use wh_batch::{Format, dimension_records};
 use wh_day::ReadError;
 use wh_history::trial_table;
 use wh_policy::{Dim, Policy};
+use wh_report::dimension_text;
 
 /// The table of a dimension after a making under the policy and this one batch, or the batch's first fault.
 fn table_answer(
@@ -27,7 +28,7 @@ fn table_answer(
     match dimension_records(alloc, dim, policy, Format::One, batch) {
         Ok(records) => {
             let rows = trial_table(alloc, policy, dim, records.as_slice())?;
-            let table = table_text(alloc, &rows)?;
+            let table = dimension_text(alloc, &rows)?;
             Ok(Answer::new(Status::Done, table))
         }
         Err(ReadError::Fault(fault)) => {
@@ -54,7 +55,7 @@ fn answer_under(alloc: Global, dim: Dim, policy: &[u8], batch: &[u8]) -> Result<
 fn plain_trial<H: Host>(alloc: Global, dim: Dim, path: &str, host: &H) -> Result<Answer, AllocError>
     ensures { IfOk result (AnswersTrial (H.holds host.now) dim path.now None) }
 {
-    let Some(batch) = file_of(alloc, path, host)? else {
+    let Some(batch) = file_of(alloc, path, BATCH_LIMIT, host)? else {
         return no_file(alloc, path);
     };
     let policy = Policy::trial(alloc)?;
@@ -71,10 +72,10 @@ fn trial_under<H: Host>(
 ) -> Result<Answer, AllocError>
     ensures { IfOk result (AnswersTrial (H.holds host.now) dim path.now (Some policy.now)) }
 {
-    let Some(text) = file_of(alloc, policy, host)? else {
+    let Some(text) = file_of(alloc, policy, POLICY_LIMIT, host)? else {
         return no_file(alloc, policy);
     };
-    let Some(batch) = file_of(alloc, path, host)? else {
+    let Some(batch) = file_of(alloc, path, BATCH_LIMIT, host)? else {
         return no_file(alloc, path);
     };
     answer_under(alloc, dim, &text, &batch)

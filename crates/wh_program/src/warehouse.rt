@@ -1,15 +1,18 @@
 //! The commands on a warehouse in a file.
 
-ghost use Rattle.std.specs.Prelude.{◌≡◌, ⊤, IfOk, OnErr};
+ghost use Rattle.std.specs.Prelude.{◌≡◌, ◌≤◌, IfOk, OnErr, vec_capacity};
 ghost use Rattle.wh_program.specs.Answer.{failed, no_file_line};
+ghost use Rattle.wh_program.specs.Inputs.{up_to, policy_limit, input_limit};
+ghost use Rattle.wh_program.specs.Room.{longest_answer};
 ghost use Rattle.wh_program.specs.Standing.{Content, Standing, Rests};
 ghost use Rattle.wh_program.specs.Warehouse.{Opens, IsReplied, IsForetold, IsCounted, IsCommandOf, Makes, Sends, Plans, AnswersWith, AnswersStatus};
 
 use crate::answer::Answer;
 use crate::host::{Host, HostError, Visitor, file_of};
+use crate::limits::{POLICY_LIMIT, input_limit};
 use crate::lines::{
-    made, making_answer, no_file, opening_answer, plan_answer, room_for_receipt, sent_answer,
-    status_answer,
+    made, making_answer, no_file, opening_answer, plan_answer, room_for_line, room_for_receipt,
+    sent_answer, status_answer,
 };
 use sqlite::{Alter, Connection};
 use sqlite_value::value::Bytes;
@@ -37,13 +40,13 @@ impl Visitor for Making {
         connection: Connection<T>,
         _out: &mut W,
     ) -> (Result<Answer, AllocError>, Connection<T>) {
-        // The line is there before anything is written, so that no memory is wanted once the warehouse is made.
-        let Ok(answer) = made(alloc) else {
+        // The room is there before anything is written, so that no memory is wanted once the warehouse is made.
+        let Ok(room) = room_for_line(alloc) else {
             return (Err(AllocError), connection);
         };
         match Engine::init(alloc, connection, &self.policy, Limits::greatest()) {
-            Ok(engine) => (Ok(answer), engine.close()),
-            Err((fault, connection)) => (making_answer(alloc, fault), connection),
+            Ok(engine) => (made(room), engine.close()),
+            Err((fault, connection)) => (making_answer(room, &fault), connection),
         }
     }
 }
@@ -52,14 +55,15 @@ impl Visitor for Making {
 #[derive(Drop)]
 struct Sending {
     command: Command,
-    /// Room for the line of its receipt.
+    /// Room for the line of its answer.
     room: Vec<u8>,
 }
 
 impl Visitor for Sending {
     type Output = Result<Answer, AllocError>;
 
-    ghost promises = { λ sending content told old new after. Opens (IsReplied sending.command) content told after };
+    // Of one with room for that line.
+    ghost promises = { λ sending content told old new after. longest_answer sending.command.id ≤ vec_capacity sending.room → Opens (IsReplied sending.command) content told after };
 
     fn visit<T: Alter + Drop, W: Write>(
         self,
@@ -70,7 +74,7 @@ impl Visitor for Sending {
         match Engine::open(alloc, connection) {
             Ok(mut engine) => {
                 let reply = engine.apply(alloc, &self.command);
-                let answer = sent_answer(alloc, self.room, self.command.id.as_str(), reply);
+                let answer = sent_answer(self.room, self.command.id.as_str(), &reply);
                 (answer, engine.close())
             }
             Err((fault, connection)) => (opening_answer(alloc, fault), connection),
@@ -154,16 +158,16 @@ pub fn init<H: Host>(
     host: &mut H,
 ) -> Result<Answer, AllocError>
     ensures { (content : Content) → H.stores host.old file.now (Rests content)
-        → AnswersWith (H.holds host.old) (H.stores host.new file.now) Makes content file.now policy.now result }
+        → AnswersWith (up_to policy_limit (H.holds host.old)) (H.stores host.new file.now) Makes content file.now policy.now result }
 {
-    let Some(text) = file_of(alloc, policy, host)? else {
+    let Some(text) = file_of(alloc, policy, POLICY_LIMIT, host)? else {
         return no_file(alloc, policy);
     };
     let visit = host.with_connection(alloc, file, Making { policy: text }, &mut io::sink());
     answered(alloc, file, visit)
 }
 
-/// The command whose batch, or whose policy, is in a file, if the file is there.
+/// The command whose batch, or whose policy, is in a file, if the file is there. It is read as far as it has to be.
 pub fn command_of<H: Host>(
     alloc: Global,
     kind: CommandKind,
@@ -173,7 +177,7 @@ pub fn command_of<H: Host>(
 ) -> Result<Option<Command>, AllocError>
     ensures { IfOk result (IsCommandOf (H.holds host.now) kind id.now path.now) }
 {
-    let Some(text) = file_of(alloc, path, host)? else {
+    let Some(text) = file_of(alloc, path, input_limit(kind), host)? else {
         return Ok(None);
     };
     Ok(Some(Command {
@@ -194,7 +198,7 @@ pub fn send<H: Host>(
     host: &mut H,
 ) -> Result<Answer, AllocError>
     ensures { (content : Content) → H.stores host.old file.now (Rests content)
-        → AnswersWith (H.holds host.old) (H.stores host.new file.now) (Sends kind id.now) content file.now path.now result }
+        → AnswersWith (up_to (input_limit kind) (H.holds host.old)) (H.stores host.new file.now) (Sends kind id.now) content file.now path.now result }
 {
     let Some(command) = command_of(alloc, kind, id, path, host)? else {
         return no_file(alloc, path);
@@ -214,7 +218,7 @@ pub fn plan<H: Host>(
     host: &mut H,
 ) -> Result<Answer, AllocError>
     ensures { (content : Content) → H.stores host.old file.now (Rests content)
-        → AnswersWith (H.holds host.old) (H.stores host.new file.now) (Plans kind id.now) content file.now path.now result }
+        → AnswersWith (up_to (input_limit kind) (H.holds host.old)) (H.stores host.new file.now) (Plans kind id.now) content file.now path.now result }
 {
     let Some(command) = command_of(alloc, kind, id, path, host)? else {
         return no_file(alloc, path);

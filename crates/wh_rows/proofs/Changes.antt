@@ -1,5 +1,5 @@
 -- The statements on change.
-use Rattle.std.proofs.Common.{Bool, ℕ, List, [], ◌∷◌, codes, map, pos, true, ◌&&◌, refl, sym, ap₂, ◌∙◌, drop, ap}
+use Rattle.std.proofs.Common.{ℕ, List, [], ◌∷◌, codes, map, pos, true, ◌&&◌, refl, sym, ap₂, ◌∙◌, drop, ap}
 use Rattle.std.specs.Ordering.{eq_by_cmp, nat_cmp, ordering_then}
 use Rattle.sqlite_value.specs.declared.value.Value.TheVariants.{Null, Int}
 use Rattle.sqlite_value.specs.declared.keys.Key.{Key}
@@ -13,7 +13,7 @@ use Rattle.sqlite_schema.specs.Rules.{equal}
 use Rattle.sqlite_rules.specs.Edit.{next_rowid}
 use Rattle.sqlite_tied.specs.Compute.{everything}
 use Rattle.sqlite.specs.Collation.TheVariants.{Binary}
-use Rattle.sqlite.specs.Order.{Row, column}
+use Rattle.sqlite.specs.Order.{column}
 use Rattle.sqlite.specs.Term.{Term, lit, col, op1, op2}
 use Rattle.sqlite.specs.Listing.{understood}
 use Rattle.wh_policy.specs.declared.attribute.Dim.{Dim}
@@ -23,8 +23,8 @@ use Rattle.wh_rows.specs.Rows as row
 use Rattle.wh_rows.specs.Texts as texts
 use Rattle.wh_rows.specs.Keys.{bind_change, stands_at_change}
 use Rattle.wh_rows.specs.Meaning.{PutsOne, RemovesOne, ReadsSome, CountsAll}
-use Rattle.wh_rows.specs.Raw.{ReadsStored}
-use Rattle.wh_rows.specs.Questions.{is_of_member, is_of_anchor}
+use Rattle.wh_rows.specs.Raw.{ReadsStored, ReadsGreatestStored}
+use Rattle.wh_rows.specs.Questions.{is_of_member, is_record_of, anchor_column}
 use Rattle.wh_rows.specs.Firsts.{ReadsGreatest}
 use Rattle.wh_rows.proofs.Cast.{cast_row_own}
 use Rattle.wh_rows.proofs.Keys.{and-true, equal-Nat, sorted-Nat, then_eq, trimmed_and}
@@ -135,25 +135,6 @@ of_member dim durable = record {
   in_order = λ v w. ap₂ ordering_then (sorted-Nat v.command w.command) (then-Equal _ ∙ sorted-Nat v.place w.place);
 }
 
--- the records of a member on a day
-pub of_anchor : (dim : Dim) (anchor : ℕ) → ReadsSome row.change (Int (pos (dim_number dim)) ∷ Int (pos anchor) ∷ []) (λ r. eq_by_cmp nat_cmp (dim_number dim) (dim_number r.dim) && eq_by_cmp nat_cmp anchor r.anchor) texts.changes_of_anchor
-unfolding understood everything unary
-of_anchor dim anchor = record {
-  tests = op2 (Compare Eq Binary) (col 1 3) (op1 ToNumeric (col 0 0)) ∷ op2 (Compare Eq Binary) (col 1 6) (op1 ToNumeric (col 0 1)) ∷ [];
-  project = shown;
-  order = by_key;
-  names = map (λ c. c.name) row.change.table.columns;
-  command = refl;
-  plain = (refl, refl);
-  unlisted = refl;
-  test = λ r. equal Binary (column r 2) (Int (pos (dim_number dim))) && (equal Binary (column r 5) (Int (pos anchor)) && true);
-  hits = λ r. refl;
-  agree = λ w. ap₂ ◌&&◌ (equal-Nat (dim_number w.dim) (dim_number dim)) (and-true _ ∙ equal-Nat w.anchor anchor);
-  sorted_by = λ r. column r 0 ∷ column r 1 ∷ [];
-  shows = λ r. refl;
-  in_order = λ v w. ap₂ ordering_then (sorted-Nat v.command w.command) (then-Equal _ ∙ sorted-Nat v.place w.place);
-}
-
 -- a record of a dimension with the greatest anchor
 pub greatest_anchor : (dim : Dim) → ReadsGreatest row.change (Int (pos (dim_number dim)) ∷ []) (λ r. eq_by_cmp nat_cmp (dim_number dim) (dim_number r.dim)) (λ r. r.anchor) texts.greatest_anchor
 unfolding understood everything unary
@@ -187,9 +168,9 @@ pub of_member_stored : (dim : Dim) (durable : ℕ) → ReadsStored row.change (I
 unfolding of_member
 of_member_stored dim durable = record { reads = of_member dim durable; tested = λ r. refl }
 
-pub of_anchor_stored : (dim : Dim) (anchor : ℕ) → ReadsStored row.change (Int (pos (dim_number dim)) ∷ Int (pos anchor) ∷ []) (is_of_anchor dim anchor) (λ r. eq_by_cmp nat_cmp (dim_number dim) (dim_number r.dim) && eq_by_cmp nat_cmp anchor r.anchor) texts.changes_of_anchor
-unfolding of_anchor
-of_anchor_stored dim anchor = record { reads = of_anchor dim anchor; tested = λ r. refl }
+pub greatest_anchor_stored : (dim : Dim) → ReadsGreatestStored anchor_column row.change (Int (pos (dim_number dim)) ∷ []) (is_record_of dim) (λ r. eq_by_cmp nat_cmp (dim_number dim) (dim_number r.dim)) (λ r. r.anchor) texts.greatest_anchor
+unfolding greatest_anchor
+greatest_anchor_stored dim = record { reads = greatest_anchor dim; tested = λ r. refl; in_order = λ r s. then-Equal _ }
 
 -- ---- count
 

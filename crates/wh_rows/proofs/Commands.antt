@@ -1,5 +1,5 @@
 -- The statements on command.
-use Rattle.std.proofs.Common.{Bool, ℕ, List, [], ◌∷◌, codes, map, drop, pos, true, ◌&&◌, ◌||◌, refl, sym, ap, ap₂, ◌∙◌, inl, inr}
+use Rattle.std.proofs.Common.{ℕ, List, [], ◌∷◌, codes, map, drop, pos, true, ◌&&◌, ◌||◌, refl, sym, ap, ap₂, ◌∙◌, inl, inr}
 use Rattle.std.specs.Ordering.{is_eq, eq_by_cmp, nat_cmp}
 use Rattle.std.specs.Cmp.Lexicographic.{slice_cmp}
 use Rattle.sqlite_value.specs.declared.value.Value.TheVariants.{Null, Int, Text}
@@ -11,7 +11,7 @@ use Rattle.sqlite_sql.specs.declared.ops.CompareOp.TheVariants.{Eq}
 use Rattle.sqlite_schema.specs.Rules.{equal}
 use Rattle.sqlite_tied.specs.Compute.{everything}
 use Rattle.sqlite.specs.Collation.TheVariants.{Binary}
-use Rattle.sqlite.specs.Order.{Row, column}
+use Rattle.sqlite.specs.Order.{column}
 use Rattle.sqlite.specs.Term.{Term, lit, col, op2}
 use Rattle.sqlite.specs.Listing.{understood}
 use Rattle.wh_rows.specs.Rows as row
@@ -146,25 +146,6 @@ of_id id = record {
   in_order = λ v w. then-Equal _ ∙ sorted-Nat v.number w.number;
 }
 
--- the row of the greatest key
-pub greatest : ReadsFirst row.command ([]) (λ r. true) 1 true texts.last_command
-unfolding understood everything
-greatest = record {
-  tests = [];
-  project = shown;
-  order = (col 1 0, record { collation = Binary; descending = true }) ∷ [];
-  names = map (λ c. c.name) row.command.table.columns;
-  command = refl;
-  plain = (refl, refl);
-  unlisted = refl;
-  test = λ r. true;
-  hits = λ r. refl;
-  agree = λ w. refl;
-  sorted_by = λ r. column r 0 ∷ [];
-  shows = λ r. refl;
-  in_order = λ v w. then-Equal _ ∙ sorted-Nat w.number v.number;
-}
-
 -- the last that gives a policy
 pub last_policy : ReadsFirst row.command ([]) (λ r. gives_policy r.kind) 1 true texts.last_policy
 unfolding understood everything
@@ -197,10 +178,6 @@ get_stored k = record { reads = get k; tested = λ r. refl }
 pub of_id_stored : (id : List ℕ) → ReadsStored row.command (Text id ∷ []) (has_id id) (λ r. eq_by_cmp (slice_cmp nat_cmp) id r.id) texts.command_of_id
 unfolding of_id
 of_id_stored id = record { reads = of_id id; tested = λ r. refl }
-
-pub greatest_stored : ReadsFrontStored last_one row.command [] (λ r. true) (λ r. true) texts.last_command
-unfolding greatest
-greatest_stored = record { reads = greatest; tested = λ r. refl; in_order = λ r s. refl }
 
 pub last_policy_stored : ReadsFrontStored last_one row.command [] has_policy (λ r. gives_policy r.kind) texts.last_policy
 unfolding last_policy

@@ -1,5 +1,5 @@
 -- The statements on customer.
-use Rattle.std.proofs.Common.{Bool, ℕ, List, [], ◌∷◌, codes, map, drop, pos, true, ◌&&◌, refl, ◌∙◌, sym, ap}
+use Rattle.std.proofs.Common.{ℕ, List, [], ◌∷◌, codes, map, drop, pos, true, ◌&&◌, refl, ◌∙◌, sym, ap}
 use Rattle.std.specs.Ordering.{eq_by_cmp, nat_cmp}
 use Rattle.sqlite_value.specs.declared.value.Value.TheVariants.{Null, Int}
 use Rattle.sqlite_value.specs.declared.keys.Key.{Key}
@@ -12,7 +12,7 @@ use Rattle.sqlite_sql.specs.Ops.{unary}
 use Rattle.sqlite_schema.specs.Rules.{equal}
 use Rattle.sqlite_tied.specs.Compute.{everything}
 use Rattle.sqlite.specs.Collation.TheVariants.{Binary}
-use Rattle.sqlite.specs.Order.{Row, column}
+use Rattle.sqlite.specs.Order.{column}
 use Rattle.sqlite.specs.Term.{Term, lit, col, op1, op2}
 use Rattle.sqlite.specs.Listing.{understood}
 use Rattle.wh_rows.specs.Rows as row
@@ -20,9 +20,8 @@ use Rattle.wh_rows.specs.Texts as texts
 use Rattle.wh_rows.specs.Keys.{bind_number, stands_at_number}
 use Rattle.wh_policy.specs.declared.attribute.Dim.TheVariants.{Customer}
 use Rattle.wh_rows.specs.Meaning.{PutsOne, RemovesOne, ReadsSome, CountsAll}
-use Rattle.wh_rows.specs.Raw.{ReadsStored, ReadsFrontStored}
+use Rattle.wh_rows.specs.Raw.{ReadsStored}
 use Rattle.wh_rows.specs.Questions.{has_durable}
-use Rattle.wh_rows.specs.Firsts.{last_one, ReadsFirst}
 use Rattle.wh_rows.proofs.Cast.{cast_row_own}
 use Rattle.wh_rows.proofs.Keys.{and-true, trimmed, equal-Nat, sorted-Nat}
 
@@ -135,25 +134,6 @@ of_durable durable = record {
   in_order = λ v w. then-Equal _ ∙ sorted-Nat v.surrogate w.surrogate;
 }
 
--- the row of the greatest key
-pub greatest : ReadsFirst row.customer ([]) (λ r. true) 1 true (texts.last_row Customer)
-unfolding understood everything
-greatest = record {
-  tests = [];
-  project = shown;
-  order = (col 1 0, record { collation = Binary; descending = true }) ∷ [];
-  names = map (λ c. c.name) row.customer.table.columns;
-  command = refl;
-  plain = (refl, refl);
-  unlisted = refl;
-  test = λ r. true;
-  hits = λ r. refl;
-  agree = λ w. refl;
-  sorted_by = λ r. column r 0 ∷ [];
-  shows = λ r. refl;
-  in_order = λ v w. then-Equal _ ∙ sorted-Nat w.surrogate v.surrogate;
-}
-
 -- ---- read, whoever wrote the rows
 
 pub all_stored : ReadsStored row.customer [] (λ r. true) (λ r. true) texts.customer.all
@@ -167,10 +147,6 @@ get_stored k = record { reads = get k; tested = λ r. refl }
 pub of_durable_stored : (durable : ℕ) → ReadsStored row.customer (Int (pos durable) ∷ []) (has_durable durable) (λ r. eq_by_cmp nat_cmp durable r.durable) (texts.rows_of_member Customer)
 unfolding of_durable
 of_durable_stored durable = record { reads = of_durable durable; tested = λ r. refl }
-
-pub greatest_stored : ReadsFrontStored last_one row.customer [] (λ r. true) (λ r. true) (texts.last_row Customer)
-unfolding greatest
-greatest_stored = record { reads = greatest; tested = λ r. refl; in_order = λ r s. refl }
 
 -- ---- count
 

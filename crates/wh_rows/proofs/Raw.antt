@@ -1,17 +1,20 @@
 -- The stored rows of a table, whoever wrote them.
 use Rattle.std.proofs.Common.{Option, None, Some, IsSome, ◌++◌, ◌↔◌, add-one, Result, Ok, Err, ◌⊎◌, ◌≡◌, ℕ, zero, suc, ◌+◌, ◌<◌, List, [], ◌∷◌, map, filter, take, length, Bool, true, false, inl, inr, refl, sym, ap, subst, subst₂, ◌∙◌, arith, Ordering, Less, Equal, Greater, is_lt}
-use Rattle.std.specs.Prelude.{IsTrue}
+use Rattle.std.specs.Prelude.{IsTrue, slice_get, unwrap_or, option_map}
 use Rattle.std.specs.List.{AllByRecursion, list_all}
 use Rattle.std.specs.List.Sorted.{IsPermutation, IsSorted}
 use Rattle.std.specs.Cmp.{IsTotalOrder, on_total}
-use Rattle.std.specs.Ordering.{ordering_reverse}
+use Rattle.std.specs.Ordering.{is_gt, nat_cmp, ordering_reverse}
 use Rattle.std.specs.Option.{option_to_list}
 use Rattle.std.specs.FinMap.{FinMap, entries, values, entries_sorted}
+use Rattle.std.proofs.lemmas.Cmp.{tied_itself, back_total}
 use Rattle.std.proofs.lemmas.List.{get_or-map, length-map}
 use Rattle.std.proofs.lemmas.List.Sorted.{IsPermutation-map, IsPermutation-sym, IsPermutation-trans}
 use Rattle.sqlite_trees.proofs.ListLemmas.{all-permutation, IsPermutation-filter, pull_back}
-use Rattle.sqlite_exec.proofs.PartitionLemmas.{IsSorted-from_map}
-use Rattle.sqlite_value.specs.Order.{Row}
+use Rattle.sqlite_exec.proofs.PartitionLemmas.{IsSorted-from_map, ascending_from_sorted}
+use Rattle.sqlite_value.specs.Order.{Row, value_cmp}
+use Rattle.sqlite_value.proofs.OrderLemmas.{value_cmp_total}
+use Rattle.sqlite.specs.Order.{column}
 use Rattle.sqlite_trees.specs.Tree.{Trees, IsAscending}
 use Rattle.sqlite_trees.proofs.ListLemmas.{filter-map}
 use Rattle.sqlite_rules.specs.Lists.{Has}
@@ -24,11 +27,14 @@ use Rattle.wh_rows.specs.Schema.{warehouse}
 use Rattle.wh_rows.specs.Statements.{reading}
 use Rattle.wh_rows.specs.Holds.{Layout, values_of, Holds}
 use Rattle.wh_rows.specs.Meaning.{passes}
-use Rattle.wh_rows.specs.Firsts.{Front, reading_first}
-use Rattle.wh_rows.specs.Raw.{HasDamage, AreRows, IsLastOf, IsFrontOf, ReadsStored, ReadsFrontStored, rows_in}
+use Rattle.wh_rows.specs.Firsts.{Front, reading_first, keys_cmp, ReadsSorted}
+use Rattle.wh_rows.specs.Raw.{HasDamage, AreRows, IsLastOf, IsFrontOf, stored_cmp, IsGreatestIn, IsGreatestAnchor, HasGreatestDamaged, ReadsStored, ReadsFrontStored, ReadsGreatestStored, rows_in}
+use Rattle.wh_rows.specs.Questions.{anchor_column}
+use Rattle.wh_rows.specs.Rows as row
 use Rattle.wh_rows.proofs.Firsts.{is_read_first}
 use Rattle.std.proofs.lemmas.Bool.{and_parts}
 use Rattle.wh_rows.specs.declared.columns.Damaged.{Damaged}
+use Rattle.wh_rows.specs.declared.rows.ChangeRow.{ChangeRow}
 use Rattle.wh_rows.proofs.ColumnLemmas.{both}
 use Rattle.wh_rows.proofs.Answers.{IsRead, is_read, map-map}
 use Rattle.wh_rows.proofs.Edits.{filter_same}
@@ -167,31 +173,92 @@ module _ {K V : Type 0} (layout : Layout K V) (params : Row) (stands : Row → B
 
 -- ---- what a query shows that asks for some of them
 
-module _ {K V : Type 0} (front : Front) (layout : Layout K V) (params : Row) (stands : Row → Bool) (keep : V → Bool) (text : List ℕ) (it : ReadsFrontStored front layout params stands keep text) (old new : State) (answer : List Row)
-    (is : old.now.schema ≡ warehouse) (shown : Shown text params old new answer) where
+-- these are up to so many of the stored rows, sorted by this comparison
+pub record AreFirstStored (most : ℕ) (cmp : Row → Row → Ordering) (stored shown : List Row) : Type 0 where
+  pub ordered : List Row
+  pub same : IsPermutation stored ordered
+  pub sorted : IsSorted cmp ordered
+  pub first : shown ≡ take most ordered
+
+module _ {K V : Type 0} (layout : Layout K V) (params : Row) (stands : Row → Bool) (keep : V → Bool) (most : ℕ) (by : V → V → Ordering) (text : List ℕ) (it : ReadsSorted layout params keep most by text) (tested : (row : Row) → it.test row ≡ stands row)
+    (cmp : Row → Row → Ordering) (in_order : (r s : Row) → output_cmp (reading_first most layout.table.tree it.tests it.project it.order) (it.sorted_by r, r) (it.sorted_by s, s) ≡ cmp r s)
+    (old new : State) (answer : List Row) (is : old.now.schema ≡ warehouse) (shown : Shown text params old new answer) where
   -- the answer is the first of the stored rows that stand
-  pub shows_front : IsFrontOf front layout.table (filter stands (rows_in layout.table old.now.trees)) answer
-  shows_front =
-      let q = reading_first front.most layout.table.tree it.reads.tests it.reads.project it.reads.order in
-      let read = reads_as text params old new warehouse is _ it.reads.command it.reads.plain it.reads.unlisted answer shown in
-      let found = is_read_first old.now.trees params front.most layout.table.tree it.reads.tests it.reads.project it.reads.order answer read.answer in
+  shows_first : AreFirstStored most cmp (filter stands (rows_in layout.table old.now.trees)) answer
+  shows_first =
+      let q = reading_first most layout.table.tree it.tests it.project it.order in
+      let read = reads_as text params old new warehouse is _ it.command it.plain it.unlisted answer shown in
+      let found = is_read_first old.now.trees params most layout.table.tree it.tests it.project it.order answer read.answer in
       let db = old.now.trees layout.table.tree in
-      let show : Row → Output = λ values. (it.reads.sorted_by values, values) in
+      let show : Row → Output = λ values. (it.sorted_by values, values) in
       let some = filter stands (rows_in layout.table old.now.trees) in
-      let kept : some ≡ map (values_of layout.table) (filter (passes params it.reads.tests) db) =
-      filter-map stands (values_of layout.table) db ∙ ap (map (values_of layout.table)) (filter_same (λ r. stands (values_of layout.table r)) (passes params it.reads.tests) db (λ r here. sym (it.reads.hits r ∙ it.tested (values_of layout.table r)))) in
-      let outputs : map (λ row. output q (params ∷ row ∷ [])) (filter (passes params it.reads.tests) db) ≡ map show some =
-      ap (λ f. map f (filter (passes params it.reads.tests) db)) (λ i r. it.reads.shows r i) ∙ sym (map-map show (values_of layout.table) _) ∙ ap (map show) (sym kept) in
+      let kept : some ≡ map (values_of layout.table) (filter (passes params it.tests) db) =
+      filter-map stands (values_of layout.table) db ∙ ap (map (values_of layout.table)) (filter_same (λ r. stands (values_of layout.table r)) (passes params it.tests) db (λ r here. sym (it.hits r ∙ tested (values_of layout.table r)))) in
+      let outputs : map (λ row. output q (params ∷ row ∷ [])) (filter (passes params it.tests) db) ≡ map show some =
+      ap (λ f. map f (filter (passes params it.tests) db)) (λ i r. it.shows r i) ∙ sym (map-map show (values_of layout.table) _) ∙ ap (map show) (sym kept) in
       let back = pull_back show _ found.ordered (subst (λ l. IsPermutation l found.ordered) outputs found.same) some refl in
       record {
         ordered = back.0;
         same = back.1;
-        sorted = subst (λ (R : Row → Row → Ordering). IsSorted R back.0) (λ i r s. it.in_order r s i) (IsSorted-from_map (output_cmp q) show back.0 (subst (IsSorted (output_cmp q)) back.2 found.sorted));
-        first = found.shown ∙ ap (take front.most) (ap (map (λ (o : Output). o.1)) back.2 ∙ map-map (λ (o : Output). o.1) show back.0 ∙ map_same (λ values. values) back.0 (all_from _ back.0 (λ x h. refl)));
+        sorted = subst (λ (R : Row → Row → Ordering). IsSorted R back.0) (λ i r s. in_order r s i) (IsSorted-from_map (output_cmp q) show back.0 (subst (IsSorted (output_cmp q)) back.2 found.sorted));
+        first = found.shown ∙ ap (take most) (ap (map (λ (o : Output). o.1)) back.2 ∙ map-map (λ (o : Output). o.1) show back.0 ∙ map_same (λ values. values) back.0 (all_from _ back.0 (λ x h. refl)));
       }
 
   -- so it is of the same rows in any order
-  pub shows_front_again : (stored : List Row) → IsPermutation (rows_in layout.table old.now.trees) stored → IsFrontOf front layout.table (filter stands stored) answer
-  shows_front_again stored same =
-      let first = shows_front in
+  shows_first_again : (stored : List Row) → IsPermutation (rows_in layout.table old.now.trees) stored → AreFirstStored most cmp (filter stands stored) answer
+  shows_first_again stored same =
+      let first = shows_first in
       record { ordered = first.ordered; same = IsPermutation-trans _ _ _ (IsPermutation-sym _ _ (IsPermutation-filter stands _ _ same)) first.same; sorted = first.sorted; first = first.first }
+
+-- from either end of a table
+pub shows_front_again : {K V : Type 0} (front : Front) (layout : Layout K V) (params : Row) (stands : Row → Bool) (keep : V → Bool) (text : List ℕ) → ReadsFrontStored front layout params stands keep text → (old new : State) (answer : List Row)
+    → old.now.schema ≡ warehouse → Shown text params old new answer → (stored : List Row) → IsPermutation (rows_in layout.table old.now.trees) stored → IsFrontOf front layout.table (filter stands stored) answer
+shows_front_again front layout params stands keep text it old new answer is shown stored same =
+    let first = shows_first_again layout params stands keep front.most (keys_cmp layout front.backwards) text it.reads it.tested (stored_cmp layout.table front.backwards) it.in_order old new answer is shown stored same in
+    record { ordered = first.ordered; same = first.same; sorted = first.sorted; first = first.first }
+
+-- ---- what a query shows that asks for the row of a greatest value
+
+-- nothing where none is stored; or a row that has the greatest
+abbrev pub ShowsGreatest : ℕ → List Row → List Row → Type 0
+ShowsGreatest place stored [] = stored ≡ []
+ShowsGreatest place stored (shown ∷ more) = IsGreatestIn place stored shown × (more ≡ [])
+
+none_from : (stored : List Row) → IsPermutation stored [] → stored ≡ []
+none_from [] same = refl
+none_from (r ∷ stored) same = let none = all-permutation (λ s. ⊥) [] (r ∷ stored) (IsPermutation-sym _ _ same) tt in absurd none.0
+
+module _ (place : ℕ) where
+  abbrev falling : Row → Row → Ordering
+  falling r s = value_cmp (column s place) (column r place)
+
+  first_has_greatest : (stored shown : List Row) → AreFirstStored 1 falling stored shown → ShowsGreatest place stored shown
+  first_has_greatest stored shown answer = subst (ShowsGreatest place stored) (sym answer.first) (go answer.ordered answer.same answer.sorted)
+    where
+      go : (ordered : List Row) → IsPermutation stored ordered → IsSorted falling ordered → ShowsGreatest place stored (take 1 ordered)
+      go [] same sorted = none_from stored same
+      go (r ∷ ordered) same sorted =
+          let up = ascending_from_sorted falling (on_total (λ s. column s place) (back_total value_cmp_total)) (r ∷ ordered) sorted in
+          let back = IsPermutation-sym _ _ same in (
+            record {
+              among = has_again stored (r ∷ ordered) r same (inl refl);
+              none_greater = all-permutation (λ s. is_gt (value_cmp (column s place) (column r place)) ≡ false) (r ∷ ordered) stored back (ap is_gt (tied_itself value_cmp_total (column r place)), up.0);
+            },
+            refl,
+          )
+
+pub shows_greatest : {K V : Type 0} (place : ℕ) (layout : Layout K V) (params : Row) (stands : Row → Bool) (keep : V → Bool) (measure : V → ℕ) (text : List ℕ) → ReadsGreatestStored place layout params stands keep measure text → (old new : State) (answer : List Row)
+    → old.now.schema ≡ warehouse → Shown text params old new answer → (stored : List Row) → IsPermutation (rows_in layout.table old.now.trees) stored → ShowsGreatest place (filter stands stored) answer
+shows_greatest place layout params stands keep measure text it old new answer is shown stored same =
+    first_has_greatest place (filter stands stored) answer (shows_first_again layout params stands keep 1 (λ v w. nat_cmp (measure w) (measure v)) text it.reads it.tested (falling place) it.in_order old new answer is shown stored same)
+
+-- of records, the anchor of the row that is shown is the greatest
+pub anchor_shown : (stored : List Row) (rows : List ChangeRow) → list_all row.change.is_valid rows ≡ true → ShowsGreatest anchor_column stored (map row.change.encode rows) → IsGreatestAnchor stored (unwrap_or (option_map (λ r. r.anchor) (slice_get rows 0)) 0)
+anchor_shown stored [] valid shows = inl (shows, refl)
+anchor_shown stored (r ∷ rows) valid shows = inr (r, (and_parts _ _ valid).0, shows.0, refl)
+
+-- or that row is damaged
+pub anchor_damaged : (stored answer : List Row) → ShowsGreatest anchor_column stored answer → HasDamage row.change answer → HasGreatestDamaged stored
+anchor_damaged stored [] shows damage = absurd damage.1
+anchor_damaged stored (shown ∷ more) shows (damaged, inl same, why) = (damaged, subst (IsGreatestIn anchor_column stored) (sym same) shows.0, why)
+anchor_damaged stored (shown ∷ more) shows (damaged, inr later, why) = absurd (subst (λ rows. Has rows damaged) shows.1 later)

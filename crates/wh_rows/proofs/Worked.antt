@@ -1,7 +1,9 @@
 -- The definitions on stored rows whose readings are known: each lemma computes.
 use Rattle.std.specs.Prelude.{true, false, pos, negsuc, codes, replicate, [], ◌∷◌, Ok, Some, None}
-use Rattle.std.proofs.Common.{◌≡◌, refl}
+use Rattle.std.proofs.Common.{◌≡◌, inl, inr, refl}
+use Rattle.sqlite_value.specs.declared.value.Value.{Value}
 use Rattle.sqlite_value.specs.declared.value.Value.TheVariants.{Null, Int, Text, Blob}
+use Rattle.sqlite_value.specs.Order.{Row, value_cmp}
 use Rattle.wh_policy.specs.declared.attribute.Dim.TheVariants.{Product, Store, Customer}
 use Rattle.wh_rows.specs.Names.{table_named}
 use Rattle.wh_rows.specs.declared.table.Table.TheVariants.{Fact as FactTable}
@@ -9,6 +11,8 @@ use Rattle.wh_rows.specs.Limits.{limits_of, greatest_limits}
 use Rattle.wh_rows.specs.Types.{is_key, is_kind}
 use Rattle.wh_rows.specs.Columns.{damaged, integer_of, number_of, line_of, measure_of, day_of, flag_of, dim_of, blob_of, text_of, slot_of}
 use Rattle.wh_rows.specs.Stored.{meta_of, command_of, member_of, change_of, dimension_of, profile_of, date_of, fact_of}
+use Rattle.wh_rows.specs.Questions.{anchor_column}
+use Rattle.wh_rows.specs.Raw.{IsGreatestIn, IsGreatestAnchor}
 use Rattle.wh_rows.proofs.OnLiterals.{rows_on_literals}
 
 -- ---- names and limits
@@ -324,3 +328,28 @@ line_10000 = refl
 quantity_10000 : fact_of (Text (codes "T2") ∷ Int (pos 1) ∷ Int (pos 20240610) ∷ Int (pos 1) ∷ Int (pos 9) ∷ Int (pos 1) ∷ Int (pos 1) ∷ Int (pos 2) ∷ Int (pos 1) ∷ Int (pos 1) ∷ Int (pos 10000) ∷ Int (pos 1000) ∷ Int (pos 700) ∷ []) ≡ damaged
 unfolding rows_on_literals
 quantity_10000 = refl
+
+-- ---- the greatest anchor of stored records
+
+recorded : Value → Row
+recorded anchor = Int (pos 6) ∷ Int (pos 1) ∷ Int (pos 1) ∷ Int (pos 1) ∷ Int (pos 20240120) ∷ anchor ∷ Text (codes "Cola 1l") ∷ Text (codes "Bolt") ∷ Text [] ∷ Text [] ∷ Text [] ∷ Text [] ∷ []
+
+greatest_of_two_numbers : IsGreatestIn anchor_column (recorded (Int (pos 4)) ∷ recorded (Int (pos 9)) ∷ []) (recorded (Int (pos 9)))
+unfolding recorded value_cmp lib.Ieee.is_nan lib.Ieee.lt
+greatest_of_two_numbers = record { among = inr (inl refl); none_greater = (refl, (refl, tt)) }
+
+not_the_lesser : ¬ IsGreatestIn anchor_column (recorded (Int (pos 4)) ∷ recorded (Int (pos 9)) ∷ []) (recorded (Int (pos 4)))
+unfolding recorded value_cmp lib.Ieee.is_nan lib.Ieee.lt
+not_the_lesser is = let never : true ≡ false = is.none_greater.1.0 in cc
+
+-- any text is greater than a number, and any number than NULL
+a_text_is_greatest : IsGreatestIn anchor_column (recorded (Text (codes "4")) ∷ recorded (Int (pos 9)) ∷ recorded Null ∷ []) (recorded (Text (codes "4")))
+unfolding recorded value_cmp lib.Ieee.is_nan lib.Ieee.lt
+a_text_is_greatest = record { among = inl refl; none_greater = (refl, (refl, (refl, tt))) }
+
+beside_a_null : IsGreatestAnchor (recorded Null ∷ recorded (Int (pos 9)) ∷ []) 9
+unfolding recorded value_cmp lib.Ieee.is_nan lib.Ieee.lt rows_on_literals
+beside_a_null = inr (record { command = 6; place = 1; dim = Product; durable = 1; day = 20240120; anchor = 9; values = codes "Cola 1l" ∷ codes "Bolt" ∷ [] ∷ [] ∷ [] ∷ [] ∷ [] }, refl, record { among = inr (inl refl); none_greater = (refl, (refl, tt)) }, refl)
+
+none_stored : IsGreatestAnchor [] 0
+none_stored = inl (refl, refl)

@@ -1,5 +1,5 @@
 -- Which stored rows answer a question, whoever wrote them.
-use Rattle.std.specs.Prelude.{ℕ, List, [], ◌∷◌, Bool, true, ◌&&◌, ◌||◌, pos, slice_index_or, bytes_eq, codes}
+use Rattle.std.specs.Prelude.{ℕ, List, [], Bool, true, ◌&&◌, ◌||◌, pos, slice_index_or, bytes_eq, codes}
 use Rattle.sqlite_value.specs.declared.value.Value.{Value}
 use Rattle.sqlite_value.specs.declared.value.Value.TheVariants.{Int, Text}
 use Rattle.sqlite_sql.specs.Ops.{binary, is_true}
@@ -43,9 +43,13 @@ has_natural dim natural r = equal Binary (column r 0) (Int (pos (dim_number dim)
 abbrev pub is_of_member : Dim → ℕ → Row → Bool
 is_of_member dim durable r = equal Binary (column r 2) (Int (pos (dim_number dim))) && (equal Binary (column r 3) (Int (pos durable)) && true)
 
--- a record under a surrogate key
-abbrev pub is_of_anchor : Dim → ℕ → Row → Bool
-is_of_anchor dim anchor r = equal Binary (column r 2) (Int (pos (dim_number dim))) && (equal Binary (column r 5) (Int (pos anchor)) && true)
+-- a record of this dimension
+abbrev pub is_record_of : Dim → Row → Bool
+is_record_of dim r = equal Binary (column r 2) (Int (pos (dim_number dim))) && true
+
+-- in which column a record has its anchor
+abbrev pub anchor_column : ℕ
+anchor_column = 5
 
 -- a row of a member
 abbrev pub has_durable : ℕ → Row → Bool

@@ -1,10 +1,12 @@
 -- What is stored in the tables, whoever wrote it: rows of values of their types, and rows that are damaged.
-use Rattle.std.specs.Prelude.{◌≡◌, ◌≢◌, ℕ, Bool, false, List, [], ◌∷◌, ◌++◌, map, take, Option, None, Some, IsTrue}
+use Rattle.std.specs.Prelude.{◌≡◌, ◌≢◌, ◌⊎◌, ℕ, Bool, false, List, [], ◌∷◌, ◌++◌, map, take, Option, None, Some, IsTrue}
 use Rattle.std.specs.declared.cmp.Ordering.{Ordering}
+use Rattle.std.specs.Ordering.{is_gt}
 use Rattle.std.specs.List.{AllByRecursion, list_all}
 use Rattle.std.specs.List.Sorted.{IsPermutation, IsSorted}
 use Rattle.std.specs.FinMap.{FinMap, entries, values}
-use Rattle.sqlite.specs.Order.{Row}
+use Rattle.sqlite_value.specs.Order.{value_cmp}
+use Rattle.sqlite.specs.Order.{Row, column}
 use Rattle.sqlite.specs.Collation.TheVariants.{Binary}
 use Rattle.sqlite.specs.Query.{key_cmp, output_cmp}
 use Rattle.sqlite.specs.Tree.{Trees}
@@ -13,6 +15,7 @@ use Rattle.sqlite.specs.Effect.{Database, IsDatabase}
 use Rattle.sqlite.specs.State.{State}
 use Rattle.sqlite_rules.specs.Lists.{Has}
 use Rattle.wh_rows.specs.declared.table.Table.{Table}
+use Rattle.wh_rows.specs.declared.rows.ChangeRow.{ChangeRow}
 use Rattle.wh_rows.specs.declared.table.Table.TheVariants.{Meta, Command, Member, Change, Product, Store, Customer, Profile, Calendar, Fact}
 use Rattle.wh_rows.specs.Schema.{warehouse}
 use Rattle.wh_rows.specs.Schema as schema
@@ -20,7 +23,8 @@ use Rattle.wh_rows.specs.Holds.{Layout, values_of, IsRising}
 use Rattle.wh_rows.specs.Rows as row
 use Rattle.wh_rows.specs.Tables.{Tables}
 use Rattle.wh_rows.specs.Meaning.{ReadsSome}
-use Rattle.wh_rows.specs.Firsts.{Front, reading_first, ReadsFirst}
+use Rattle.wh_rows.specs.Firsts.{Front, reading_first, ReadsFirst, ReadsGreatest}
+use Rattle.wh_rows.specs.Questions.{anchor_column}
 
 -- ---- the stored rows of one table
 
@@ -63,6 +67,19 @@ AreAsked (Some front) layout stored rows = IsFrontOf front layout.table stored (
 abbrev pub HasAskedDamage : {K V : Type 0} → Option Front → Layout K V → List Row → Type 0
 HasAskedDamage None layout stored = HasDamage layout stored
 HasAskedDamage (Some front) layout stored = (shown : List Row) × IsFrontOf front layout.table stored shown × HasDamage layout shown
+
+-- the row is one of those that are stored, and none of them has a greater value in this column, by SQL's order of all values
+pub record IsGreatestIn (place : ℕ) (stored : List Row) (greatest : Row) : Type 0 where
+  pub among : Has stored greatest
+  pub none_greater : AllByRecursion (λ row. is_gt (value_cmp (column row place) (column greatest place)) ≡ false) stored
+
+-- the anchor is that of a record which has the greatest of these, and which isn't damaged; 0 where none is stored
+abbrev pub IsGreatestAnchor : List Row → ℕ → Type 0
+IsGreatestAnchor stored anchor = ((stored ≡ []) × (anchor ≡ 0)) ⊎ ((found : ChangeRow) × IsTrue (row.change.is_valid found) × IsGreatestIn anchor_column stored (row.change.encode found) × (anchor ≡ found.anchor))
+
+-- a record that has the greatest anchor of these is damaged
+abbrev pub HasGreatestDamaged : List Row → Type 0
+HasGreatestDamaged stored = (damaged : Row) × IsGreatestIn anchor_column stored damaged × IsDamaged row.change damaged
 
 -- ---- the stored rows of the ten tables
 
@@ -163,6 +180,12 @@ pub record ReadsFrontStored {K V : Type 0} (front : Front) (layout : Layout K V)
   pub reads : ReadsFirst layout params keep front.most front.backwards text
   pub tested : (row : Row) → reads.test row ≡ stands row
   pub in_order : (r s : Row) → output_cmp (reading_first front.most layout.table.tree reads.tests reads.project reads.order) (reads.sorted_by r, r) (reads.sorted_by s, s) ≡ stored_cmp layout.table front.backwards r s
+
+-- and of one that shows one of them, with the greatest value in this column
+pub record ReadsGreatestStored {K V : Type 0} (place : ℕ) (layout : Layout K V) (params : Row) (stands : Row → Bool) (keep : V → Bool) (measure : V → ℕ) (text : List ℕ) : Type 0 where
+  pub reads : ReadsGreatest layout params keep measure text
+  pub tested : (row : Row) → reads.test row ≡ stands row
+  pub in_order : (r s : Row) → output_cmp (reading_first 1 layout.table.tree reads.tests reads.project reads.order) (reads.sorted_by r, r) (reads.sorted_by s, s) ≡ value_cmp (column s place) (column r place)
 
 -- and of one that shows a part of them, which may be all of it
 abbrev pub ReadsPartStored : {K V : Type 0} → Option Front → Layout K V → Row → (Row → Bool) → (V → Bool) → List ℕ → Type 0

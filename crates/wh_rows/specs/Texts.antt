@@ -105,10 +105,6 @@ fact = record {
 
 -- ---- what else is asked
 
--- the last command
-abbrev pub last_command : List ℕ
-last_command = codes "SELECT * FROM command ORDER BY number DESC LIMIT 1"
-
 -- the last command that gives a policy
 abbrev pub last_policy : List ℕ
 last_policy = codes "SELECT * FROM command WHERE kind = 'init' OR kind = 'migrate' ORDER BY number DESC LIMIT 1"
@@ -129,19 +125,9 @@ member_of_natural = codes "SELECT * FROM member WHERE dim = ?1 AND natural = ?2 
 abbrev pub changes_of_member : List ℕ
 changes_of_member = codes "SELECT * FROM change WHERE dim = ?1 AND durable = ?2 ORDER BY command, record"
 
--- the records under a surrogate key
-abbrev pub changes_of_anchor : List ℕ
-changes_of_anchor = codes "SELECT * FROM change WHERE dim = ?1 AND anchor = ?2 ORDER BY command, record"
-
 -- a record of a dimension under its greatest surrogate key
 abbrev pub greatest_anchor : List ℕ
 greatest_anchor = codes "SELECT * FROM change WHERE dim = ?1 ORDER BY anchor DESC LIMIT 1"
-
--- the last row of a dimension
-abbrev pub last_row : Dim → List ℕ
-last_row Product = codes "SELECT * FROM product ORDER BY surrogate DESC LIMIT 1"
-last_row Store = codes "SELECT * FROM store ORDER BY surrogate DESC LIMIT 1"
-last_row Customer = codes "SELECT * FROM customer ORDER BY surrogate DESC LIMIT 1"
 
 -- the rows of a member of this dimension
 abbrev pub rows_of_member : Dim → List ℕ

@@ -9,13 +9,17 @@
 //!     = accepted 2: 1 records, 0 placeholders
 //!
 //! What the words mean is a [`Driver`]'s to say, and [`difference`] tells the first line that it answers otherwise. So a further case is
-//! a few lines more. Beside them stands what the words of several drivers are written in: bytes that a line can't have, and a policy
-//! with changes.
+//! a few lines more. The scenarios stand here too, in `store`, `engine` and `program`, and the crates with their drivers run each as a
+//! test: a text costs less in a library than in a crate with tests. Beside them stands what the words of several drivers are written in:
+//! bytes that a line can't have, and a policy with changes.
 #![tactic(auto)]
 
 mod bytes;
+pub mod engine;
 mod policy;
+pub mod program;
 mod scenario;
+pub mod store;
 
 pub use bytes::bytes_of;
 pub use policy::{FLAT, changed_flat};

@@ -23,19 +23,23 @@ use Rattle.wh_rows.specs.Meaning.{ReadsSome, CountsAll}
 use Rattle.std.specs.List.Sorted.{IsPermutation}
 use Rattle.std.proofs.lemmas.List.Sorted.{IsPermutation-refl, IsPermutation-sym, IsPermutation-trans}
 use Rattle.sqlite_trees.proofs.ListLemmas.{IsPermutation-filter}
-use Rattle.wh_rows.specs.Raw.{Stored, IsStored, HasDamage, HasDamageIn, RestsOn, LeavesStored, ReadsStored, ReadsFrontStored, ReadsPartStored, AreRows, AreAsked, IsFrontOf, table_of, rows_in}
+use Rattle.wh_rows.specs.Raw.{Stored, IsStored, HasDamage, HasDamageIn, RestsOn, LeavesStored, ReadsStored, ReadsFrontStored, ReadsPartStored, ReadsGreatestStored, IsGreatestAnchor, AreRows, AreAsked, IsFrontOf, table_of, rows_in}
 use Rattle.sqlite_sql.specs.Aggregate.{count}
 use Rattle.sqlite_rules.specs.Lists.{Has as IsAmong}
-use Rattle.wh_rows.proofs.Raw.{has_again, no_damage, damage_again, shows_stored, shows_in_order, shows_front_again}
+use Rattle.wh_rows.proofs.Raw.{has_again, no_damage, damage_again, shows_stored, shows_in_order, shows_front_again, ShowsGreatest, shows_greatest, anchor_shown, anchor_damaged}
 use Rattle.wh_rows.proofs.Among.{part_among, sorted_among}
 use Rattle.wh_rows.proofs.Counts.{counts_stored}
 use Rattle.wh_rows.specs.Firsts.{Front, part, greatest, ReadsSorted, ReadsPart, ReadsGreatest}
 use Rattle.wh_rows.specs.declared.table.Table.{Table}
+use Rattle.wh_rows.specs.declared.table.Table.TheVariants.{Change}
+use Rattle.wh_rows.specs.declared.rows.ChangeRow.{ChangeRow}
+use Rattle.wh_rows.specs.Questions.{anchor_column}
+use Rattle.wh_rows.specs.Rows as row
 use Rattle.wh_rows.proofs.Edits.{filter_all}
 use Rattle.wh_rows.proofs.Maps.{filter-get}
 use Rattle.wh_rows.proofs.Queries.{query_keeps, query_commits_nothing}
 use Rattle.wh_rows.proofs.OnTables.{answer_is, first_is, greatest_is, valid_answer, valid_first, valid_among, read_is}
-use Rattle.wh_sql.specs.Reads.{ReadsOnly, NamesDamage, SparesRows, IsServed, IsUndamaged, Shows, FailsToShow, FailsToCount, IsOfDamage, IsOfAskedDamage, unasked}
+use Rattle.wh_sql.specs.Reads.{ReadsOnly, NamesDamage, SparesRows, IsServed, IsUndamaged, Shows, FailsToShow, FailsToCount, IsOfDamage, IsOfAskedDamage, IsOfGreatestDamage, unasked}
 use Rattle.wh_sql.specs.declared.fault.ReadFault.{ReadFault}
 use Rattle.wh_sql.specs.declared.fault.ReadFault.TheVariants.{Memory, Damaged, Store}
 
@@ -120,6 +124,22 @@ module _ {K V : Type 0} (layout : Layout K V) (name : Table) (named : table_of n
   asked_damage (Some front) it (Err (Damaged met)) fails = (fails.0, (fails.1, part_stored front it fails.1 fails.2, fails.3))
   asked_damage (Some front) it (Err (Store cause)) fails = tt
   asked_damage (Some front) it (Err Memory) fails = tt
+
+-- a text that means the record of the greatest anchor, of those that pass a test
+module _ (stands : Row → Bool) {keep : ChangeRow → Bool} {text : List ℕ} {params : Row} (it : ReadsGreatestStored anchor_column row.change params stands keep (λ r. r.anchor) text) (old new : State) (stored : Stored) (is : IsStored stored old.now) where
+  greatest_stored : (answer : List Row) → Shown text params old new answer → ShowsGreatest anchor_column (filter stands (stored Change)) answer
+  greatest_stored answer shown = shows_greatest anchor_column row.change params stands keep (λ r. r.anchor) text it old new answer is.schema shown (stored Change) (is.rows Change)
+
+  -- the anchor of what is read is the greatest
+  pub anchor_stored : (rows : List ChangeRow) → Shows row.change text params old new rows → IsGreatestAnchor (filter stands (stored Change)) (unwrap_or (option_map (λ r. r.anchor) (slice_get rows 0)) 0)
+  anchor_stored rows shows = anchor_shown (filter stands (stored Change)) rows shows.0 (greatest_stored (map row.change.encode rows) shows.1)
+
+  -- or the record that has it is damaged
+  pub anchor_damage : {A : Type 0} (result : Result A ReadFault) → IfErr result (FailsToShow row.change Change text params old new) → IfErr result (IsOfGreatestDamage (filter stands (stored Change)))
+  anchor_damage (Ok x) fails = tt
+  anchor_damage (Err (Damaged met)) fails = (fails.0, anchor_damaged (filter stands (stored Change)) fails.1 (greatest_stored fails.1 fails.2) fails.3)
+  anchor_damage (Err (Store cause)) fails = tt
+  anchor_damage (Err Memory) fails = tt
 
 -- ---- which table is named
 

@@ -6,11 +6,12 @@ use Rattle.sqlite.specs.State.{State, Shown, HasCleanDisk}
 use Rattle.wh_rows.specs.declared.cause.Cause.{Cause}
 use Rattle.wh_rows.specs.declared.cause.Cause.TheVariants as cause
 use Rattle.wh_rows.specs.declared.table.Table.{Table}
+use Rattle.wh_rows.specs.declared.table.Table.TheVariants.{Change}
 use Rattle.wh_rows.specs.Holds.{Layout}
 use Rattle.wh_rows.specs.Tables.{Tables, Stores}
 use Rattle.wh_rows.specs.AtRest.{IsAtRest, Leaves}
 use Rattle.wh_rows.specs.Firsts.{Front}
-use Rattle.wh_rows.specs.Raw.{Stored, IsStored, HasDamage, HasAskedDamage, HasDamageIn, RestsOn, LeavesStored}
+use Rattle.wh_rows.specs.Raw.{Stored, IsStored, HasDamage, HasAskedDamage, HasGreatestDamaged, HasDamageIn, RestsOn, LeavesStored}
 use Rattle.wh_sql.specs.declared.fault.ReadFault.{ReadFault}
 use Rattle.wh_sql.specs.declared.fault.ReadFault.TheVariants.{Memory, Damaged, Store}
 use Rattle.wh_sql.specs.Refused.{IsCauseOfQuery}
@@ -98,6 +99,12 @@ IsOfAskedDamage front layout table stored (Store why) = ⊤
 -- one of all of them
 abbrev pub IsOfDamage : {K V : Type 0} → Layout K V → Table → List Row → ReadFault → Type 0
 IsOfDamage = IsOfAskedDamage None
+
+-- Damaged names the records, and one of the greatest anchor of these is out of its type
+abbrev pub IsOfGreatestDamage : List Row → ReadFault → Type 0
+IsOfGreatestDamage stored Memory = ⊤
+IsOfGreatestDamage stored (Damaged which) = (which ≡ Change) × HasGreatestDamaged stored
+IsOfGreatestDamage stored (Store why) = ⊤
 
 -- the rows are more than the store counts; or it refused to count them
 abbrev pub FailsToCount : ℕ → List ℕ → State → State → ReadFault → Type 0

@@ -5,16 +5,19 @@ ghost use Rattle.wh_sql.specs.Reads.{unasked};
 ghost use Rattle.wh_sql.specs.declared.fault.ReadFault.TheVariants.{Memory};
 
 use std::alloc::{AllocError, AllocFailed};
+use thiserror::Error;
 use wh_rows::{Cause, Table};
 
 /// Why the rows of a table weren't read.
-#[derive(Clone, Copy, Debug, PartialEq, Eq)]
+#[derive(Clone, Copy, Debug, PartialEq, Eq, Error)]
 pub enum ReadFault {
     /// A growth was refused outside the store, and the store refused nothing.
+    #[error("memory ran out")]
     Memory,
     /// A row of this table is out of its type.
+    #[error("a row of a table is out of its type")]
     Damaged(Table),
-    /// The store refused the statement.
+    #[error("the store refused the statement")]
     Store(Cause),
 }
 

@@ -11,7 +11,9 @@ ghost use Rattle.wh_rows.specs.Types.{dim_number};
 ghost use Rattle.wh_rows.specs.Rows.{change};
 ghost use Rattle.wh_rows.specs.Texts as texts;
 ghost use Rattle.wh_rows.specs.Firsts.{greatest as greatest_of};
-ghost use Rattle.wh_sql.specs.Reads.{ReadsOnly, SaysOfTables, IsUndamaged, FailsToShow};
+ghost use Rattle.wh_rows.specs.Questions.{is_record_of};
+ghost use Rattle.wh_rows.specs.Raw.{IsGreatestAnchor};
+ghost use Rattle.wh_sql.specs.Reads.{ReadsOnly, SaysOfTables, SaysOfStored, IsUndamaged, IsOfGreatestDamage, FailsToShow};
 
 use crate::fault::ReadFault;
 use crate::keys::dim_key;
@@ -23,136 +25,9 @@ use std::alloc::Global;
 use wh_policy::Dim;
 use wh_rows::{Cause, ChangeRow, bound, tables};
 
-/// The row of the greatest key, of a table whose key is a number.
+/// The profile of the greatest number.
 #[derive(Clone, Copy, Debug, PartialEq, Eq)]
 pub struct Greatest;
-
-impl Question<tables::Command> for Greatest {
-    ghost use Rattle.std.specs.Prelude.{true, [], Some};
-    ghost use Rattle.wh_rows.proofs.Commands.{greatest, greatest_stored};
-    ghost use Rattle.wh_rows.specs.Firsts.{last_one};
-    ghost use Rattle.wh_rows.specs.Texts.{last_command};
-
-    ghost keep = { λ q r. true };
-
-    ghost front = { Some last_one };
-
-    ghost bind = { λ q. [] };
-
-    ghost can_be_asked = { λ q. Unit {0} };
-
-    ghost means = { λ q. last_command };
-
-    fn text(&self) -> &'static str {
-        "SELECT * FROM command ORDER BY number DESC LIMIT 1"
-    }
-
-    fn values<'a>(&'a self, alloc: Global) -> Result<Vec<ValueRef<'a>>, Cause> {
-        Ok(Vec::new(alloc))
-    }
-
-    ghost stands = { λ q r. true };
-
-    ghost reads = { λ q. greatest };
-
-    ghost reads_stored = { λ q. greatest_stored };
-}
-
-impl Question<tables::Product> for Greatest {
-    ghost use Rattle.std.specs.Prelude.{true, [], Some};
-    ghost use Rattle.wh_rows.proofs.Products.{greatest, greatest_stored};
-    ghost use Rattle.wh_rows.specs.Firsts.{last_one};
-    ghost use Rattle.wh_rows.specs.Texts.{last_row};
-    ghost use Rattle.wh_policy.specs.declared.attribute.Dim.TheVariants.{Product};
-
-    ghost keep = { λ q r. true };
-
-    ghost front = { Some last_one };
-
-    ghost bind = { λ q. [] };
-
-    ghost can_be_asked = { λ q. Unit {0} };
-
-    ghost means = { λ q. last_row Product };
-
-    fn text(&self) -> &'static str {
-        "SELECT * FROM product ORDER BY surrogate DESC LIMIT 1"
-    }
-
-    fn values<'a>(&'a self, alloc: Global) -> Result<Vec<ValueRef<'a>>, Cause> {
-        Ok(Vec::new(alloc))
-    }
-
-    ghost stands = { λ q r. true };
-
-    ghost reads = { λ q. greatest };
-
-    ghost reads_stored = { λ q. greatest_stored };
-}
-
-impl Question<tables::Store> for Greatest {
-    ghost use Rattle.std.specs.Prelude.{true, [], Some};
-    ghost use Rattle.wh_rows.proofs.Stores.{greatest, greatest_stored};
-    ghost use Rattle.wh_rows.specs.Firsts.{last_one};
-    ghost use Rattle.wh_rows.specs.Texts.{last_row};
-    ghost use Rattle.wh_policy.specs.declared.attribute.Dim.TheVariants.{Store};
-
-    ghost keep = { λ q r. true };
-
-    ghost front = { Some last_one };
-
-    ghost bind = { λ q. [] };
-
-    ghost can_be_asked = { λ q. Unit {0} };
-
-    ghost means = { λ q. last_row Store };
-
-    fn text(&self) -> &'static str {
-        "SELECT * FROM store ORDER BY surrogate DESC LIMIT 1"
-    }
-
-    fn values<'a>(&'a self, alloc: Global) -> Result<Vec<ValueRef<'a>>, Cause> {
-        Ok(Vec::new(alloc))
-    }
-
-    ghost stands = { λ q r. true };
-
-    ghost reads = { λ q. greatest };
-
-    ghost reads_stored = { λ q. greatest_stored };
-}
-
-impl Question<tables::Customer> for Greatest {
-    ghost use Rattle.std.specs.Prelude.{true, [], Some};
-    ghost use Rattle.wh_rows.proofs.Customers.{greatest, greatest_stored};
-    ghost use Rattle.wh_rows.specs.Firsts.{last_one};
-    ghost use Rattle.wh_rows.specs.Texts.{last_row};
-    ghost use Rattle.wh_policy.specs.declared.attribute.Dim.TheVariants.{Customer};
-
-    ghost keep = { λ q r. true };
-
-    ghost front = { Some last_one };
-
-    ghost bind = { λ q. [] };
-
-    ghost can_be_asked = { λ q. Unit {0} };
-
-    ghost means = { λ q. last_row Customer };
-
-    fn text(&self) -> &'static str {
-        "SELECT * FROM customer ORDER BY surrogate DESC LIMIT 1"
-    }
-
-    fn values<'a>(&'a self, alloc: Global) -> Result<Vec<ValueRef<'a>>, Cause> {
-        Ok(Vec::new(alloc))
-    }
-
-    ghost stands = { λ q r. true };
-
-    ghost reads = { λ q. greatest };
-
-    ghost reads_stored = { λ q. greatest_stored };
-}
 
 impl Question<tables::Profile> for Greatest {
     ghost use Rattle.std.specs.Prelude.{true, [], Some};
@@ -226,7 +101,8 @@ impl Question<tables::Member> for GreatestOf {
     ghost reads_stored = { λ q. greatest_stored q.dim };
 }
 
-/// The greatest anchor of the dimension's records; 0 where it has none.
+/// The greatest anchor of the dimension's records; 0 where it has none. It is no `Question`, whose rows are one list: records of a member and day share
+/// their anchor, and any of them may be shown.
 pub fn greatest_anchor<S: Alter>(
     alloc: Global,
     conn: &mut Connection<S>,
@@ -235,6 +111,9 @@ pub fn greatest_anchor<S: Alter>(
     ensures reads { ReadsOnly (state S.Store conn.old) (state S.Store conn.new) result }
     ensures anchor { SaysOfTables (state S.Store conn.old) (state S.Store conn.new) (λ t. IfOk result (λ anchor. anchor ≡ greatest_of (map (λ r. r.anchor) (filter (λ r. eq_by_cmp nat_cmp (dim_number dim) (dim_number r.dim)) (values t.change))))) }
     ensures sound { SaysOfTables (state S.Store conn.old) (state S.Store conn.new) (λ _. IsUndamaged result) }
+    // The same of any rows, whoever wrote them: none of the dimension's has a greater anchor.
+    ensures stored { SaysOfStored (state S.Store conn.old) (state S.Store conn.new) (λ stored. IfOk result (IsGreatestAnchor (filter (is_record_of dim) (stored OfChange)))) }
+    ensures damaged { SaysOfStored (state S.Store conn.old) (state S.Store conn.new) (λ stored. IfErr result (IsOfGreatestDamage (filter (is_record_of dim) (stored OfChange)))) }
     ensures refused { HasCleanDisk (state S.Store conn.new) → IfErr result (FailsToShow change OfChange texts.greatest_anchor (Number (pos (dim_number dim)) ∷ []) (state S.Store conn.old) (state S.Store conn.new)) }
 {
     let text = "SELECT * FROM change WHERE dim = ?1 ORDER BY anchor DESC LIMIT 1";

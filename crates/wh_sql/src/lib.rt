@@ -6,13 +6,13 @@ mod fault;
 mod greatest;
 mod keeps;
 mod keys;
-mod making;
 mod part;
 mod parts;
 mod question;
 mod questions;
 mod read;
 mod scanned;
+mod schema;
 mod tables;
 mod write;
 
@@ -20,12 +20,10 @@ pub use dimension::Dimension;
 pub use fault::ReadFault;
 pub use greatest::{Greatest, GreatestOf, greatest_anchor};
 pub use keeps::{Keeps, Statements};
-pub use making::{create, has_tables, has_taken_name};
 pub use part::Part;
 pub use question::{Question, ask};
-pub use questions::{
-    CommandOf, LastPolicy, MemberOf, ProfileOf, RecordsOf, RecordsOn, RowsOf, SalesSince,
-};
+pub use questions::{CommandOf, LastPolicy, MemberOf, ProfileOf, RecordsOf, RowsOf, SalesSince};
 pub use read::{all, count, get};
 pub use scanned::{PART, PartStatements, Scanned};
+pub use schema::{create, has_tables, has_taken_name};
 pub use write::{put, rekey, remove};

@@ -88,47 +88,6 @@ impl<D: Dimension> Question<D> for RowsOf {
     ghost reads_stored = { λ q. D.finds_rows_stored q.durable };
 }
 
-/// The accepted records of one member and day, which share a surrogate key, in order of acceptance.
-#[derive(Clone, Copy, Debug, PartialEq, Eq)]
-pub struct RecordsOn {
-    pub dim: Dim,
-    pub anchor: u64,
-}
-
-impl Question<tables::Change> for RecordsOn {
-    ghost use Rattle.std.specs.Prelude.{◌≡◌, true, [], ◌∷◌, pos, None, ◌&&◌};
-    ghost use Rattle.std.specs.Ordering.{eq_by_cmp, nat_cmp};
-    ghost use Rattle.sqlite_value.specs.declared.value.Value.TheVariants.{Int};
-    ghost use Rattle.wh_rows.specs.Types.{is_number, dim_number};
-    ghost use Rattle.wh_rows.proofs.Changes.{of_anchor, of_anchor_stored};
-    ghost use Rattle.wh_rows.specs.Texts.{changes_of_anchor};
-    ghost use Rattle.wh_rows.specs.Questions.{is_of_anchor};
-
-    ghost keep = { λ q r. eq_by_cmp nat_cmp (dim_number q.dim) (dim_number r.dim) && eq_by_cmp nat_cmp q.anchor r.anchor };
-
-    ghost front = { None };
-
-    ghost bind = { λ q. Int (pos (dim_number q.dim)) ∷ Int (pos q.anchor) ∷ [] };
-
-    ghost can_be_asked = { λ q. is_number q.anchor ≡ true };
-
-    ghost means = { λ q. changes_of_anchor };
-
-    fn text(&self) -> &'static str {
-        "SELECT * FROM change WHERE dim = ?1 AND anchor = ?2 ORDER BY command, record"
-    }
-
-    fn values<'a>(&'a self, alloc: Global) -> Result<Vec<ValueRef<'a>>, Cause> {
-        dim_and_number(alloc, self.dim, self.anchor)
-    }
-
-    ghost stands = { λ q. is_of_anchor q.dim q.anchor };
-
-    ghost reads = { λ q. of_anchor q.dim q.anchor };
-
-    ghost reads_stored = { λ q. of_anchor_stored q.dim q.anchor };
-}
-
 /// The command of an id.
 #[derive(Clone, Copy, Debug)]
 pub struct CommandOf<'q> {

@@ -2,5 +2,6 @@ mod Transactions
 pub mod Looping
 mod Refusals
 mod Reopened
+pub mod Opened
 pub mod Scanning
 pub mod ScanningStored

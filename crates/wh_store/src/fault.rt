@@ -5,32 +5,40 @@ ghost use Rattle.wh_store.specs.Opening.{unread};
 ghost use Rattle.wh_store.specs.declared.fault.OpenFault.TheVariants.{Memory};
 
 use std::alloc::{AllocError, AllocFailed};
+use thiserror::Error;
 use wh_rows::{Cause, Table};
 use wh_sql::ReadFault;
 
 /// Why no tables can be made.
-#[derive(Clone, Copy, Debug, PartialEq, Eq)]
+#[derive(Clone, Copy, Debug, PartialEq, Eq, Error)]
 pub enum MakeFault {
     /// A table, an index or a view has the name of one of the ten tables.
+    #[error("a name of the ten tables is taken")]
     NotEmpty,
     /// The connection is inside a transaction.
+    #[error("the connection is inside a transaction")]
     Store(Cause),
 }
 
 /// Why a database isn't taken for a warehouse.
-#[derive(Clone, Copy, Debug, PartialEq, Eq)]
+#[derive(Clone, Copy, Debug, PartialEq, Eq, Error)]
 pub enum OpenFault {
     /// One of the ten tables or of their columns is missing, or meta has no row `format`.
+    #[error("this is no warehouse")]
     NotAWarehouse,
     /// The format is below 1.
+    #[error("the format is older than any that is known")]
     OldFormat,
     /// The format is above 1, which is the newest that this program knows.
+    #[error("the format is newer than any that is known")]
     NewFormat,
     /// A row that is needed isn't there, or has a value out of its type.
+    #[error("a row that is needed is missing, or out of its type")]
     Damaged(Table),
     /// A growth was refused outside the store, and the store refused nothing.
+    #[error("memory ran out")]
     Memory,
-    /// The store refused a statement.
+    #[error("the store refused a statement")]
     Store(Cause),
 }
 

@@ -10,12 +10,12 @@ mod transaction;
 mod writing;
 
 pub use fault::{MakeFault, OpenFault};
-pub use reopen::{into_files, open_path, restart};
+pub use reopen::{into_files, open_fresh, open_path, restart};
 pub use scan::{Cursor, Scan, next_row};
 pub use tables::Tables;
 pub use wh_rows::{Cause, Limits, Table};
 pub use wh_sql::{
-    CommandOf, Dimension, Greatest, GreatestOf, Keeps, LastPolicy, MemberOf, ProfileOf,
-    Question, ReadFault, RecordsOf, RowsOf, SalesSince, Scanned,
+    CommandOf, Dimension, Greatest, GreatestOf, Keeps, LastPolicy, MemberOf, ProfileOf, Question,
+    ReadFault, RecordsOf, RowsOf, SalesSince, Scanned,
 };
 pub use writing::Writing;

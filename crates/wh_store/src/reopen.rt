@@ -1,17 +1,27 @@
-//! From one run to the next.
+//! Connections to a new database, and from one run to the next.
 
-ghost use Rattle.std.specs.Prelude.{IfOk, Option};
+ghost use Rattle.std.specs.Prelude.{IfOk, Option, None};
 ghost use Rattle.sqlite_wal.specs.Files.{outcomes, image_at};
 ghost use Rattle.sqlite_wal.specs.Reads.{AreClean};
-ghost use Rattle.sqlite.specs.Files.{file_state};
+ghost use Rattle.sqlite.specs.Files.{file_state, IsNothing};
+ghost use Rattle.sqlite.specs.Held.{state};
 ghost use Rattle.sqlite.specs.State.{HasCleanDisk};
+ghost use Rattle.sqlite.specs.Steps.{over_memory};
 ghost use Rattle.wh_rows.specs.AtRest.{IsAtRest};
+ghost use Rattle.wh_rows.specs.Raw.{Stored, RestsOn};
 ghost use Rattle.wh_rows.specs.Tables.{Tables};
-ghost use Rattle.wh_store.specs.InFiles.{AreInFiles, HoldsOneOf, IsReopened};
+ghost use Rattle.wh_store.specs.InFiles.{AreInFiles, AreStoredIn, HoldsOneOf, IsReopened};
 
-use sqlite::{Connection, Error, FileFrom, FileStore, Files, Options, Start};
+use sqlite::{Connection, Error, FileFrom, FileStore, Files, MemStore, Options, Start};
 use sqlite_disk::{Crash, Disk};
-use std::alloc::Global;
+use std::alloc::{AllocError, Global};
+
+/// A database in memory in which nothing is yet. `Tables::make` takes it.
+pub fn open_fresh(alloc: Global) -> Result<Connection<MemStore>, AllocError>
+    ensures { IfOk result (λ conn. IsAtRest None (state over_memory conn)) }
+{
+    Connection::open_in_memory(alloc)
+}
 
 /// Ends the run with no more work on the files. Whatever a crash may leave of them holds one of what it could leave of the connection.
 pub fn into_files<D: Disk + Drop>(conn: Connection<FileStore<D>>) -> Files<D>
@@ -20,13 +30,16 @@ pub fn into_files<D: Disk + Drop>(conn: Connection<FileStore<D>>) -> Files<D>
     conn.into_store().close()
 }
 
-/// Opens the files at a path. What they held, the connection holds.
+/// Opens the files at a path, or makes them. What they held, or nothing where there was no database, the connection holds.
 pub fn open_path<S: Start>(
     rt: &HostRuntime,
     path: &str,
     start: S,
 ) -> Result<Connection<FileStore<FileFrom<S>>>, Error>
-    ensures { (held : Option Tables) → AreInFiles held (image_at S.Start) → IfOk result (λ conn. HasCleanDisk (file_state conn) → ∥ IsAtRest held (file_state conn) ∥₁) }
+    ensures held { (held : Option Tables) → AreInFiles held (image_at S.Start) → IfOk result (λ conn. HasCleanDisk (file_state conn) → ∥ IsAtRest held (file_state conn) ∥₁) }
+    // The same of any rows, whoever wrote them.
+    ensures stored { (stored : Stored) → AreStoredIn stored (image_at S.Start) → IfOk result (λ conn. HasCleanDisk (file_state conn) → ∥ RestsOn stored (file_state conn) ∥₁) }
+    ensures nothing { IsNothing (image_at S.Start) → IfOk result (λ conn. HasCleanDisk (file_state conn) → IsAtRest None (file_state conn)) }
 {
     match Connection::open_from(rt, path, false, start) {
         Ok(conn) => Ok(conn),

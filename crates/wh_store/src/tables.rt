@@ -17,8 +17,9 @@ ghost use Rattle.wh_rows.specs.Tables.{Tables as TenTables};
 ghost use Rattle.std.specs.Ordering.{eq_by_cmp, nat_cmp};
 ghost use Rattle.wh_rows.specs.Types.{dim_number};
 ghost use Rattle.wh_rows.specs.Firsts.{part, greatest as greatest_of};
-ghost use Rattle.wh_rows.specs.Raw.{Stored, RestsOn, LeavesStored, AreRows, AreAsked, IsLastOf};
-ghost use Rattle.wh_sql.specs.Reads.{ReadsOnly, Spares, IsServed, IsOfDamage, IsOfAskedDamage, FailsToShow, FailsToCount};
+ghost use Rattle.wh_rows.specs.Questions.{is_record_of};
+ghost use Rattle.wh_rows.specs.Raw.{Stored, RestsOn, LeavesStored, AreRows, AreAsked, IsLastOf, IsGreatestAnchor};
+ghost use Rattle.wh_sql.specs.Reads.{ReadsOnly, Spares, IsServed, IsOfDamage, IsOfAskedDamage, IsOfGreatestDamage, FailsToShow, FailsToCount};
 ghost use Rattle.wh_sql.specs.Refused.{IsCauseOfQuery, IsOneRefused};
 ghost use Rattle.wh_store.specs.Reads.{state_of, SaysAtRest, SaysAsStored};
 ghost use Rattle.wh_sql.specs.Present.{is_any_taken, are_all_there};
@@ -77,6 +78,7 @@ impl<S: Alter> Tables<S> {
         // The same of any rows, whoever wrote them: by those of the format.
         ensures taken_stored { SaysAsStored (state S.Store conn) (state S.Store (connection_after result)) (λ stored. OnOk result (FormatIs stored (Ok tt))) }
         ensures refused_stored { SaysAsStored (state S.Store conn) (state S.Store (connection_after result)) (λ stored. are_all_there (state S.Store conn).now.schema ≡ true → IfErr result (λ e. IsRefusedOn stored e.0)) }
+        ensures within { IsTrue conn.in_transaction → result ≡ Err (OpenFault.Store Cause.Disk, conn) }
         ensures missing { conn.in_transaction ≡ false → are_all_there (state S.Store conn).now.schema ≡ false → result ≡ Err (OpenFault.NotAWarehouse, conn) }
     {
         if !conn.is_autocommit() {
@@ -169,6 +171,9 @@ impl<S: Alter> Tables<S> {
     pub fn greatest_anchor(&mut self, alloc: Global, dim: Dim) -> Result<u64, ReadFault>
         ensures reads { ReadsOnly (state_of S.Store self.old) (state_of S.Store self.new) result }
         ensures anchor { SaysAtRest (state_of S.Store self.old) (state_of S.Store self.new) (λ t. IfOk result (λ anchor. anchor ≡ greatest_of (map (λ r. r.anchor) (filter (λ r. eq_by_cmp nat_cmp (dim_number dim) (dim_number r.dim)) (values t.change))))) }
+        // The same of any rows, whoever wrote them: none of the dimension's has a greater anchor.
+        ensures stored { SaysAsStored (state_of S.Store self.old) (state_of S.Store self.new) (λ stored. IfOk result (IsGreatestAnchor (filter (is_record_of dim) (stored OfChange)))) }
+        ensures damaged { SaysAsStored (state_of S.Store self.old) (state_of S.Store self.new) (λ stored. IfErr result (IsOfGreatestDamage (filter (is_record_of dim) (stored OfChange)))) }
         ensures refused { HasCleanDisk (state_of S.Store self.new) → IfErr result (FailsToShow change OfChange texts.greatest_anchor (Number (pos (dim_number dim)) ∷ []) (state_of S.Store self.old) (state_of S.Store self.new)) }
     {
         greatest_anchor(alloc, &mut self.conn, dim)

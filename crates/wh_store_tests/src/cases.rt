@@ -1,4 +1,4 @@
-//! The scenarios, each with its test.
+//! The scenarios of `wh_scenarios::store`, each with its test.
 
 mod calendar;
 mod columns;

@@ -12,8 +12,8 @@ use wh_rows::Table;
 use wh_rows::tables::{Change, Command, Customer, Fact, Member, Product, Profile, Store};
 use wh_scenarios::parted;
 use wh_sql::{
-    CommandOf, Dimension, Greatest, GreatestOf, MemberOf, ProfileOf, Question, RecordsOf,
-    RecordsOn, RowsOf, SalesSince,
+    CommandOf, Dimension, Greatest, GreatestOf, MemberOf, ProfileOf, Question, RecordsOf, RowsOf,
+    SalesSince,
 };
 
 /// A step that only reads.
@@ -47,7 +47,6 @@ fn answer_more<H: Reads>(
         "member" => member(alloc, held, step.rest, out),
         "profile" => profile(alloc, held, step.rest, out),
         "records" => records(alloc, held, step.rest, out),
-        "records_on" => records_on(alloc, held, step.rest, out),
         "sales" => sales(alloc, held, step.rest, out),
         _ => Err(Trouble::Unknown),
     }
@@ -95,7 +94,7 @@ fn dim_of(name: &str) -> Result<&'static str, Trouble> {
     }
 }
 
-/// `TABLE`, or `member DIMENSION`: the row with the greatest key.
+/// `profile`, or `member DIMENSION`: the row with the greatest key.
 fn greatest<H: Reads>(
     alloc: Global,
     held: &mut H,
@@ -104,10 +103,6 @@ fn greatest<H: Reads>(
 ) -> Result<(), Trouble> {
     let (name, rest) = parted(words, ' ');
     match Table::from_name(name) {
-        Some(Table::Command) => told::<Command, Greatest, H>(alloc, held, &Greatest, out),
-        Some(Table::Product) => told::<Product, Greatest, H>(alloc, held, &Greatest, out),
-        Some(Table::Store) => told::<Store, Greatest, H>(alloc, held, &Greatest, out),
-        Some(Table::Customer) => told::<Customer, Greatest, H>(alloc, held, &Greatest, out),
         Some(Table::Profile) => told::<Profile, Greatest, H>(alloc, held, &Greatest, out),
         Some(Table::Member) => greatest_member(alloc, held, rest, out),
         _ => Err(Trouble::Unknown),
@@ -195,21 +190,6 @@ fn records<H: Reads>(
         durable: number(durable)?,
     };
     told::<Change, RecordsOf, H>(alloc, held, &question, out)
-}
-
-/// `DIMENSION ANCHOR`: the records that share a surrogate key.
-fn records_on<H: Reads>(
-    alloc: Global,
-    held: &mut H,
-    words: &str,
-    out: &mut String,
-) -> Result<(), Trouble> {
-    let (name, anchor) = parted(words, ' ');
-    let question = RecordsOn {
-        dim: dim(name)?,
-        anchor: number(anchor)?,
-    };
-    told::<Change, RecordsOn, H>(alloc, held, &question, out)
 }
 
 /// `DIMENSION DURABLE DAY`: the facts of a member since a day.

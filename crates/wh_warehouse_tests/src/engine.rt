@@ -1,8 +1,8 @@
 //! What the words of a step mean over the engine.
 //!
 //! A scenario begins, and begins again, with one of these:
-//! - `make POLICY`, `make POLICY COMMANDS CHANGES FACTS`: a warehouse in memory under a policy of `policies`, with the greatest limits or
-//!   with these;
+//! - `make POLICY`, `make POLICY COMMANDS CHANGES FACTS`: a warehouse in memory under a policy of
+//!   `wh_scenarios::engine::policies`, with the greatest limits or with these;
 //! - `empty`: an empty database in memory;
 //! - `files`: a database file and its log, both empty, over disks in memory;
 //! - `trial`: the tables of a warehouse under the policy of a trial, with no engine over them.
@@ -38,19 +38,19 @@ mod deliveries;
 mod files;
 mod planning;
 mod plans;
-mod policies;
 mod scenarios;
 mod tables;
 
 use crate::engine::asking::{ask, push_fault, push_opening};
-use crate::engine::policies::{limits_of, policy};
 use crate::engine::tables::{all_over, look_over};
 use crate::trouble::Trouble;
+use crate::words::number;
 use sqlite::{Alter, Connection, Files, MemStore};
 use sqlite_disk::Memory;
 use std::alloc::Global;
 use wh_engine::{Engine, InitFault};
 use wh_rows::Limits;
+use wh_scenarios::engine::policies::policy;
 use wh_scenarios::{Driver, NotMade, Step, parted, push_line};
 use wh_store::Tables;
 
@@ -144,6 +144,16 @@ fn on_place(
             Ok(Place::Files(files))
         }
     }
+}
+
+/// `COMMANDS CHANGES FACTS`, or nothing for the greatest limits.
+pub fn limits_of(words: &str) -> Result<Limits, Trouble> {
+    if words.is_empty() {
+        return Ok(Limits::greatest());
+    }
+    let (commands, rest) = parted(words, ' ');
+    let (changes, facts) = parted(rest, ' ');
+    Limits::new(number(commands)?, number(changes)?, number(facts)?).ok_or(Trouble)
 }
 
 /// A warehouse in memory: `POLICY`, or `POLICY COMMANDS CHANGES FACTS`.

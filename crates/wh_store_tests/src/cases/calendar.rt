@@ -2,33 +2,9 @@
 
 use crate::cases::check_store;
 use std::test::Fail;
-
-const DAYS: &str = "
-warehouse
-write
-> days 20230101 20270101
-> commit
-= 1461 written
-count calendar
-= 1461
-nth calendar 0
-= calendar 20230101, '2023-01-01', 2023, 1, 1, 1, 1, 7, 'Sunday', 1, '(none)'
-nth calendar 424
-= calendar 20240229, '2024-02-29', 2024, 1, 2, 29, 60, 4, 'Thursday', 0, '(none)'
-nth calendar 1460
-= calendar 20261231, '2026-12-31', 2026, 4, 12, 31, 365, 4, 'Thursday', 0, '(none)'
-nth calendar 1461
-length calendar
-= 1461
-
-get calendar 20240229
-= calendar 20240229, '2024-02-29', 2024, 1, 2, 29, 60, 4, 'Thursday', 0, '(none)'
-get calendar 20241225
-= calendar 20241225, '2024-12-25', 2024, 4, 12, 25, 360, 3, 'Wednesday', 0, 'Christmas Day'
-get calendar 20270101
-";
+use wh_scenarios::store::calendar;
 
 #[test]
 fn days_of_four_years(rt: HostRuntime) -> Result<(), Fail> {
-    check_store(&rt, rt.alloc(), DAYS)
+    check_store(&rt, rt.alloc(), calendar::DAYS)
 }

@@ -3,190 +3,32 @@
 use crate::cases::check_store;
 use crate::files::at_path;
 use std::test::Fail;
-
-const MAKING_LOG: &str = "
-files
-show
-= empty, and then
-= limits 10, 200, 3000
-= meta 'changes_max', 200
-= meta 'commands_max', 10
-= meta 'facts_max', 3000
-= meta 'format', 1
-stops log
-= at each call what was there, or all
-= limits 10, 200, 3000
-= meta 'changes_max', 200
-= meta 'commands_max', 10
-= meta 'facts_max', 3000
-= meta 'format', 1
-";
+use wh_scenarios::store::files;
 
 #[test]
 fn making_over_a_log_that_stops(rt: HostRuntime) -> Result<(), Fail> {
-    check_store(&rt, rt.alloc(), MAKING_LOG)
+    check_store(&rt, rt.alloc(), files::MAKING_LOG)
 }
-
-const EDITS_LOG: &str = "
-files
-make
-write
-> row product 1 Cola 1l
-> put fact 'T1', 1, 20240610, 1, 1, 0, 1, 1, 0, 0, 1, 150, 100
-> commit
-= 2 written
-show
-= limits 10, 200, 3000
-= meta 'changes_max', 200
-= meta 'commands_max', 10
-= meta 'facts_max', 3000
-= meta 'format', 1
-= product 1, 1, 'M1', 19000101, 99991231, 1, 'Cola 1l', '', '', '', '', '', '', '', '', '', '', '', 0
-= fact 'T1', 1, 20240610, 1, 1, 0, 1, 1, 0, 0, 1, 150, 100
-stops log
-> row product 1 Cola 1.0l
-> row product 2 Tea
-> row product 3 Milk
-> row store 1 Bern
-> put fact 'T2', 1, 20240610, 1, 1, 0, 1, 1, 0, 0, 1, 150, 100
-> remove fact T1 1
-> commit
-= at each call what was there, or all
-= limits 10, 200, 3000
-= meta 'changes_max', 200
-= meta 'commands_max', 10
-= meta 'facts_max', 3000
-= meta 'format', 1
-= product 1, 1, 'M1', 19000101, 99991231, 1, 'Cola 1.0l', '', '', '', '', '', '', '', '', '', '', '', 0
-= product 2, 2, 'M2', 19000101, 99991231, 1, 'Tea', '', '', '', '', '', '', '', '', '', '', '', 0
-= product 3, 3, 'M3', 19000101, 99991231, 1, 'Milk', '', '', '', '', '', '', '', '', '', '', '', 0
-= store 1, 1, 'M1', 19000101, 99991231, 1, 'Bern', '', '', '', '', '', '', '', '', '', '', '', 0
-= fact 'T2', 1, 20240610, 1, 1, 0, 1, 1, 0, 0, 1, 150, 100
-";
 
 #[test]
 fn edits_over_a_log_that_stops(rt: HostRuntime) -> Result<(), Fail> {
-    check_store(&rt, rt.alloc(), EDITS_LOG)
+    check_store(&rt, rt.alloc(), files::EDITS_LOG)
 }
-
-const MAKING_DATABASE: &str = "
-files
-show
-= empty, and then
-= limits 10, 200, 3000
-= meta 'changes_max', 200
-= meta 'commands_max', 10
-= meta 'facts_max', 3000
-= meta 'format', 1
-stops database
-= at each call what was there, or all
-= limits 10, 200, 3000
-= meta 'changes_max', 200
-= meta 'commands_max', 10
-= meta 'facts_max', 3000
-= meta 'format', 1
-";
 
 #[test]
 fn making_over_a_database_that_stops(rt: HostRuntime) -> Result<(), Fail> {
-    check_store(&rt, rt.alloc(), MAKING_DATABASE)
+    check_store(&rt, rt.alloc(), files::MAKING_DATABASE)
 }
-
-const EDITS_DATABASE: &str = "
-files
-make
-write
-> row product 1 Cola 1l
-> put fact 'T1', 1, 20240610, 1, 1, 0, 1, 1, 0, 0, 1, 150, 100
-> commit
-= 2 written
-show
-= limits 10, 200, 3000
-= meta 'changes_max', 200
-= meta 'commands_max', 10
-= meta 'facts_max', 3000
-= meta 'format', 1
-= product 1, 1, 'M1', 19000101, 99991231, 1, 'Cola 1l', '', '', '', '', '', '', '', '', '', '', '', 0
-= fact 'T1', 1, 20240610, 1, 1, 0, 1, 1, 0, 0, 1, 150, 100
-stops database
-> row product 1 Cola 1.0l
-> row product 2 Tea
-> row product 3 Milk
-> row store 1 Bern
-> put fact 'T2', 1, 20240610, 1, 1, 0, 1, 1, 0, 0, 1, 150, 100
-> remove fact T1 1
-> commit
-= at each call what was there, or all
-= limits 10, 200, 3000
-= meta 'changes_max', 200
-= meta 'commands_max', 10
-= meta 'facts_max', 3000
-= meta 'format', 1
-= product 1, 1, 'M1', 19000101, 99991231, 1, 'Cola 1.0l', '', '', '', '', '', '', '', '', '', '', '', 0
-= product 2, 2, 'M2', 19000101, 99991231, 1, 'Tea', '', '', '', '', '', '', '', '', '', '', '', 0
-= product 3, 3, 'M3', 19000101, 99991231, 1, 'Milk', '', '', '', '', '', '', '', '', '', '', '', 0
-= store 1, 1, 'M1', 19000101, 99991231, 1, 'Bern', '', '', '', '', '', '', '', '', '', '', '', 0
-= fact 'T2', 1, 20240610, 1, 1, 0, 1, 1, 0, 0, 1, 150, 100
-";
 
 #[test]
 fn edits_over_a_database_that_stops(rt: HostRuntime) -> Result<(), Fail> {
-    check_store(&rt, rt.alloc(), EDITS_DATABASE)
+    check_store(&rt, rt.alloc(), files::EDITS_DATABASE)
 }
-
-const RUNS: &str = "
-# The files of a run that ends without a close hold what was committed.
-files
-make left
-write left
-> row store 1 Leeds
-> commit
-= 1 written
-show
-= limits 10, 200, 3000
-= meta 'changes_max', 200
-= meta 'commands_max', 10
-= meta 'facts_max', 3000
-= meta 'format', 1
-= store 1, 1, 'M1', 19000101, 99991231, 1, 'Leeds', '', '', '', '', '', '', '', '', '', '', '', 0
-ask left
-> get store 1
-> count store
-= store 1, 1, 'M1', 19000101, 99991231, 1, 'Leeds', '', '', '', '', '', '', '', '', '', '', '', 0
-= 1
-
-# A row that isn't committed is gone after a restart, and the one that is stays.
-restart
-> BEGIN; DELETE FROM store
-show
-= limits 10, 200, 3000
-= meta 'changes_max', 200
-= meta 'commands_max', 10
-= meta 'facts_max', 3000
-= meta 'format', 1
-= store 1, 1, 'M1', 19000101, 99991231, 1, 'Leeds', '', '', '', '', '', '', '', '', '', '', '', 0
-ask
-> get store 1
-> count store
-= store 1, 1, 'M1', 19000101, 99991231, 1, 'Leeds', '', '', '', '', '', '', '', '', '', '', '', 0
-= 1
-";
 
 #[test]
 fn the_next_run_finds_what_was_committed(rt: HostRuntime) -> Result<(), Fail> {
-    check_store(&rt, rt.alloc(), RUNS)
+    check_store(&rt, rt.alloc(), files::RUNS)
 }
-
-const AT_PATH: &str = "1 written
-limits 10, 200, 3000
-meta 'changes_max', 200
-meta 'commands_max', 10
-meta 'facts_max', 3000
-meta 'format', 1
-store 1, 1, 'M1', 19000101, 99991231, 1, 'Leeds', '', '', '', '', '', '', '', '', '', '', '', 0
-store 1, 1, 'M1', 19000101, 99991231, 1, 'Leeds', '', '', '', '', '', '', '', '', '', '', '', 0
-1
-";
 
 #[test]
 fn a_path_is_opened_again(rt: HostRuntime) -> Result<(), Fail> {
@@ -196,6 +38,6 @@ fn a_path_is_opened_again(rt: HostRuntime) -> Result<(), Fail> {
         "show\nget store 1\ncount store",
     );
     let told = told.ok().ok_or("a path")?;
-    assert!(rt; told.as_str() == AT_PATH, "{told}");
+    assert!(rt; told.as_str() == files::AT_PATH, "{told}");
     Ok(())
 }

@@ -2,79 +2,9 @@
 
 use crate::cases::check_store;
 use std::test::Fail;
-
-const OPENING: &str = "
-# The format.
-opens UPDATE meta SET value = 1 WHERE name = 'format'
-= opened
-opens UPDATE meta SET value = 0 WHERE name = 'format'
-= old format
-opens UPDATE meta SET value = -1 WHERE name = 'format'
-= old format
-opens UPDATE meta SET value = -9223372036854775808 WHERE name = 'format'
-= old format
-opens UPDATE meta SET value = 2 WHERE name = 'format'
-= new format
-opens UPDATE meta SET value = 9223372036854775807 WHERE name = 'format'
-= new format
-opens UPDATE meta SET value = 'one' WHERE name = 'format'
-= damaged meta
-opens UPDATE meta SET value = 1.5 WHERE name = 'format'
-= damaged meta
-opens UPDATE meta SET value = x'01' WHERE name = 'format'
-= damaged meta
-opens DELETE FROM meta WHERE name = 'format'
-= no warehouse
-opens UPDATE meta SET name = 'Format' WHERE name = 'format'
-= no warehouse
-
-# Inside a transaction.
-opens BEGIN
-= refused disk
-
-# An empty database.
-empty
-open
-= no warehouse
-
-# Other tables beside the ten.
-opens CREATE TABLE notes (x); CREATE INDEX a ON fact (day)
-= opened
-
-# The connection that is handed back is as it was.
-opens DROP TABLE fact
-= no warehouse
-number SELECT sum(value) FROM meta
-= 3211
-
-# Each table is missed.
-opens DROP TABLE meta
-= no warehouse
-opens DROP TABLE command
-= no warehouse
-opens DROP TABLE member
-= no warehouse
-opens DROP TABLE change
-= no warehouse
-opens DROP TABLE product
-= no warehouse
-opens DROP TABLE store
-= no warehouse
-opens DROP TABLE customer
-= no warehouse
-opens DROP TABLE profile
-= no warehouse
-opens DROP TABLE calendar
-= no warehouse
-opens DROP TABLE fact
-= no warehouse
-
-# A view is no table.
-opens DROP TABLE profile; CREATE TABLE other (number, v1, v2, v3, v4, v5, v6); CREATE VIEW profile AS SELECT * FROM other
-= no warehouse
-";
+use wh_scenarios::store::opening;
 
 #[test]
 fn which_databases_are_warehouses(rt: HostRuntime) -> Result<(), Fail> {
-    check_store(&rt, rt.alloc(), OPENING)
+    check_store(&rt, rt.alloc(), opening::OPENING)
 }

@@ -2,192 +2,29 @@
 
 use crate::cases::check_store;
 use std::test::Fail;
-
-const RECORDS: &str = "
-empty BEGIN
-create
-anchor store
-= 0
-# Records of the stores, not in order of acceptance: two of the member 5 at the key 8, one at 9, and one of the member 6.
-put change 7, 3, 2, 5, 20240229, 8, 'Bern', '(none)', '', '', '', '(unknown)'
-put change 6, 4, 2, 5, 20240229, 8, 'Bern', '(none)', '', '', '', '(unknown)'
-put change 6, 5, 2, 5, 20240229, 9, 'Bern', '(none)', '', '', '', '(unknown)'
-put change 8, 1, 2, 6, 20240229, 10, 'Bern', '(none)', '', '', '', '(unknown)'
-
-# Those of one member.
-records store 5
-= change 6, 4, 2, 5, 20240229, 8, 'Bern', '(none)', '', '', '', '(unknown)'
-= change 6, 5, 2, 5, 20240229, 9, 'Bern', '(none)', '', '', '', '(unknown)'
-= change 7, 3, 2, 5, 20240229, 8, 'Bern', '(none)', '', '', '', '(unknown)'
-records store 6
-= change 8, 1, 2, 6, 20240229, 10, 'Bern', '(none)', '', '', '', '(unknown)'
-records product 5
-records store 7
-
-# Those of one day.
-records_on store 8
-= change 6, 4, 2, 5, 20240229, 8, 'Bern', '(none)', '', '', '', '(unknown)'
-= change 7, 3, 2, 5, 20240229, 8, 'Bern', '(none)', '', '', '', '(unknown)'
-records_on store 9
-= change 6, 5, 2, 5, 20240229, 9, 'Bern', '(none)', '', '', '', '(unknown)'
-records_on customer 8
-
-# The greatest keys that records stand at.
-anchor store
-= 10
-anchor product
-= 0
-";
+use wh_scenarios::store::questions;
 
 #[test]
 fn records_of_members_and_days(rt: HostRuntime) -> Result<(), Fail> {
-    check_store(&rt, rt.alloc(), RECORDS)
+    check_store(&rt, rt.alloc(), questions::RECORDS)
 }
-
-const COMMANDS: &str = "
-empty BEGIN
-create
-greatest command
-put command 1, 'first', 'sales', x'00ff2c0a', 0, 2
-put command 3, 'third', 'sales', x'00ff2c0a', 0, 2
-put command 2, 'second', 'sales', x'00ff2c0a', 0, 2
-command third
-= command 3, 'third', 'sales', x'00ff2c0a', 0, 2
-command Third
-greatest command
-= command 3, 'third', 'sales', x'00ff2c0a', 0, 2
-";
 
 #[test]
 fn commands(rt: HostRuntime) -> Result<(), Fail> {
-    check_store(&rt, rt.alloc(), COMMANDS)
+    check_store(&rt, rt.alloc(), questions::COMMANDS)
 }
-
-const MEMBERS: &str = "
-empty BEGIN
-create
-put member 2, 2, 'S2', 1
-put member 2, 1, 'M1', 1
-put member 1, 7, 'M1', 1
-member store M1
-= member 2, 1, 'M1', 1
-member product M1
-= member 1, 7, 'M1', 1
-member product S2
-member customer M1
-greatest member store
-= member 2, 2, 'S2', 1
-greatest member product
-= member 1, 7, 'M1', 1
-greatest member customer
-";
 
 #[test]
 fn members(rt: HostRuntime) -> Result<(), Fail> {
-    check_store(&rt, rt.alloc(), MEMBERS)
+    check_store(&rt, rt.alloc(), questions::MEMBERS)
 }
-
-const SALES: &str = "
-empty BEGIN
-create
-put fact 'T-1', 30, 20240610, 1, 9, 0, 2, 1, 3, 3, -9999, -999999999, 999999999
-put fact 'T-1', 2, 20240610, 1, 9, 0, 3, 1, 2, 3, -9999, -999999999, 999999999
-put fact 'T-1', 10, 20240610, 1, 9, 0, 1, 2, 3, 3, -9999, -999999999, 999999999
-sales product 1 20240610
-= fact 'T-1', 2, 20240610, 1, 9, 0, 3, 1, 2, 3, -9999, -999999999, 999999999
-= fact 'T-1', 30, 20240610, 1, 9, 0, 2, 1, 3, 3, -9999, -999999999, 999999999
-sales store 1 20240610
-= fact 'T-1', 10, 20240610, 1, 9, 0, 1, 2, 3, 3, -9999, -999999999, 999999999
-sales customer 3 20240610
-= fact 'T-1', 10, 20240610, 1, 9, 0, 1, 2, 3, 3, -9999, -999999999, 999999999
-= fact 'T-1', 30, 20240610, 1, 9, 0, 2, 1, 3, 3, -9999, -999999999, 999999999
-sales customer 1 20240610
-
-# Facts of one product, store and customer on the day before, on the day and on the day after.
-empty BEGIN
-create
-put fact 'T-1', 3, 20240611, 1, 9, 0, 1, 1, 1, 3, -9999, -999999999, 999999999
-put fact 'T-1', 2, 20240610, 1, 9, 0, 1, 1, 1, 3, -9999, -999999999, 999999999
-put fact 'T-1', 1, 20240609, 1, 9, 0, 1, 1, 1, 3, -9999, -999999999, 999999999
-sales product 1 20240609
-= fact 'T-1', 1, 20240609, 1, 9, 0, 1, 1, 1, 3, -9999, -999999999, 999999999
-= fact 'T-1', 2, 20240610, 1, 9, 0, 1, 1, 1, 3, -9999, -999999999, 999999999
-= fact 'T-1', 3, 20240611, 1, 9, 0, 1, 1, 1, 3, -9999, -999999999, 999999999
-sales product 1 20240610
-= fact 'T-1', 2, 20240610, 1, 9, 0, 1, 1, 1, 3, -9999, -999999999, 999999999
-= fact 'T-1', 3, 20240611, 1, 9, 0, 1, 1, 1, 3, -9999, -999999999, 999999999
-sales product 1 20240611
-= fact 'T-1', 3, 20240611, 1, 9, 0, 1, 1, 1, 3, -9999, -999999999, 999999999
-sales product 1 20240612
-sales store 1 20240609
-= fact 'T-1', 1, 20240609, 1, 9, 0, 1, 1, 1, 3, -9999, -999999999, 999999999
-= fact 'T-1', 2, 20240610, 1, 9, 0, 1, 1, 1, 3, -9999, -999999999, 999999999
-= fact 'T-1', 3, 20240611, 1, 9, 0, 1, 1, 1, 3, -9999, -999999999, 999999999
-sales store 1 20240610
-= fact 'T-1', 2, 20240610, 1, 9, 0, 1, 1, 1, 3, -9999, -999999999, 999999999
-= fact 'T-1', 3, 20240611, 1, 9, 0, 1, 1, 1, 3, -9999, -999999999, 999999999
-sales store 1 20240611
-= fact 'T-1', 3, 20240611, 1, 9, 0, 1, 1, 1, 3, -9999, -999999999, 999999999
-sales store 1 20240612
-sales customer 1 20240609
-= fact 'T-1', 1, 20240609, 1, 9, 0, 1, 1, 1, 3, -9999, -999999999, 999999999
-= fact 'T-1', 2, 20240610, 1, 9, 0, 1, 1, 1, 3, -9999, -999999999, 999999999
-= fact 'T-1', 3, 20240611, 1, 9, 0, 1, 1, 1, 3, -9999, -999999999, 999999999
-sales customer 1 20240610
-= fact 'T-1', 2, 20240610, 1, 9, 0, 1, 1, 1, 3, -9999, -999999999, 999999999
-= fact 'T-1', 3, 20240611, 1, 9, 0, 1, 1, 1, 3, -9999, -999999999, 999999999
-sales customer 1 20240611
-= fact 'T-1', 3, 20240611, 1, 9, 0, 1, 1, 1, 3, -9999, -999999999, 999999999
-sales customer 1 20240612
-";
 
 #[test]
 fn sales_of_members(rt: HostRuntime) -> Result<(), Fail> {
-    check_store(&rt, rt.alloc(), SALES)
+    check_store(&rt, rt.alloc(), questions::SALES)
 }
-
-const PROFILES: &str = "
-empty BEGIN
-create
-greatest profile
-put profile 2, '', '30-39', 'high', '', '', ''
-put profile 1, '', '30-39', 'low', '', '', ''
-profile ,30-39,low,,,
-= profile 1, '', '30-39', 'low', '', '', ''
-profile ,30-39,high,,,x
-greatest profile
-= profile 2, '', '30-39', 'high', '', '', ''
-";
 
 #[test]
 fn profiles(rt: HostRuntime) -> Result<(), Fail> {
-    check_store(&rt, rt.alloc(), PROFILES)
-}
-
-const GREATEST: &str = "
-empty BEGIN
-create
-greatest product
-put product 3, 1, 'M1', 19000101, 99991231, 1, 'a', '', '', '', '', '', '', '', '', '(none)', '', '', 0
-put product 12, 1, 'M1', 19000101, 99991231, 1, 'a', '', '', '', '', '', '', '', '', '(none)', '', '', 0
-put product 9, 1, 'M1', 19000101, 99991231, 1, 'a', '', '', '', '', '', '', '', '', '(none)', '', '', 0
-greatest product
-= product 12, 1, 'M1', 19000101, 99991231, 1, 'a', '', '', '', '', '', '', '', '', '(none)', '', '', 0
-greatest store
-put store 3, 1, 'M1', 19000101, 99991231, 1, 'a', '', '', '', '', '', '', '', '', '(none)', '', '', 0
-put store 12, 1, 'M1', 19000101, 99991231, 1, 'a', '', '', '', '', '', '', '', '', '(none)', '', '', 0
-put store 9, 1, 'M1', 19000101, 99991231, 1, 'a', '', '', '', '', '', '', '', '', '(none)', '', '', 0
-greatest store
-= store 12, 1, 'M1', 19000101, 99991231, 1, 'a', '', '', '', '', '', '', '', '', '(none)', '', '', 0
-greatest customer
-put customer 3, 1, 'M1', 19000101, 99991231, 1, 'a', '', '', '', '', '', '', '', '', '(none)', '', '', 0
-put customer 12, 1, 'M1', 19000101, 99991231, 1, 'a', '', '', '', '', '', '', '', '', '(none)', '', '', 0
-put customer 9, 1, 'M1', 19000101, 99991231, 1, 'a', '', '', '', '', '', '', '', '', '(none)', '', '', 0
-greatest customer
-= customer 12, 1, 'M1', 19000101, 99991231, 1, 'a', '', '', '', '', '', '', '', '', '(none)', '', '', 0
-";
-
-#[test]
-fn greatest_rows(rt: HostRuntime) -> Result<(), Fail> {
-    check_store(&rt, rt.alloc(), GREATEST)
+    check_store(&rt, rt.alloc(), questions::PROFILES)
 }

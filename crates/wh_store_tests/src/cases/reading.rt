@@ -2,83 +2,14 @@
 
 use crate::cases::check_store;
 use std::test::Fail;
-
-const READING: &str = "
-empty
-read meta 'format', -1
-= meta 'format', -1
-read meta 'format', '1'
-= damaged meta
-read command 5, 's1', 'sales', x'00ff', 2, 1
-= command 5, 's1', 'sales', x'00ff', 2, 1
-read command 5, 's 1', 'sales', x'00', 2, 1
-= damaged command
-read command 5, 's1', 'void', x'00', 2, 1
-= damaged command
-read member 3, 1, 'C9', 1
-= member 3, 1, 'C9', 1
-read member 4, 1, 'C9', 1
-= damaged member
-read change 6, 1, 1, 1, 20240120, 4, 'Cola', 'Bolt', '', '', '', ''
-= change 6, 1, 1, 1, 20240120, 4, 'Cola', 'Bolt', '', '', '', ''
-read change 6, 1, 1, 1, 20240132, 4, 'Cola', 'Bolt', '', '', '', ''
-= damaged change
-read customer 0, 0, '(no card)', 19000101, 99991231, 1, '(no card)', '', '', '', '', '', '', '', '', '', '', '', 0
-= customer 0, 0, '(no card)', 19000101, 99991231, 1, '(no card)', '', '', '', '', '', '', '', '', '', '', '', 0
-read store 0, 0, '(no card)', 19000101, 99991231, 1, '(no card)', '', '', '', '', '', '', '', '', '', '', '', 0
-= damaged store
-read product 3, 1, 'P1', 20240201, 99991231, 2, '', '', '', '', '', '', '', '', '', '', '', '', 0
-= damaged product
-read profile 2, '', '30-39', 'high', '', '', ''
-= profile 2, '', '30-39', 'high', '', '', ''
-read profile 2, '', '(other)', 'high', '', '', ''
-= damaged profile
-read calendar 20241225, '2024-12-25', 2024, 4, 12, 25, 360, 3, 'Wednesday', 0, 'Christmas Day'
-= calendar 20241225, '2024-12-25', 2024, 4, 12, 25, 360, 3, 'Wednesday', 0, 'Christmas Day'
-read calendar 20241225, '2024-12-25', 2024, 4, 12, 25, 360, 3, 'Wednesday', 3, ''
-= damaged calendar
-read fact 'T2', 1, 20240610, 1, 9, 1, 1, 2, 1, 1, -1, 1000, 700
-= fact 'T2', 1, 20240610, 1, 9, 1, 1, 2, 1, 1, -1, 1000, 700
-read fact 'T2', 10000, 20240610, 1, 9, 1, 1, 2, 1, 1, -1, 1000, 700
-= damaged fact
-
-# A fact goes through its columns.
-empty BEGIN
-create
-put fact 'T2', 1, 20240610, 1, 9, 1, 1, 2, 1, 1, -1, 1000, 700
-get fact T2 1
-= fact 'T2', 1, 20240610, 1, 9, 1, 1, 2, 1, 1, -1, 1000, 700
-";
+use wh_scenarios::store::reading;
 
 #[test]
 fn rows_are_read(rt: HostRuntime) -> Result<(), Fail> {
-    check_store(&rt, rt.alloc(), READING)
+    check_store(&rt, rt.alloc(), reading::READING)
 }
-
-const NAMES_AND_LIMITS: &str = "
-# Tables by name.
-empty
-table calendar
-= calendar
-table Calendar
-= no such step
-table change
-= change
-
-# Limits at their edges.
-limits_of 100000 1000000 1000000
-= limits 100000, 1000000, 1000000
-limits_of greatest
-= limits 100000, 1000000, 1000000
-limits_of 1 1 1
-= limits 1, 1, 1
-limits_of 0 1 1
-= no limits
-limits_of 1 1 1000001
-= no limits
-";
 
 #[test]
 fn names_and_limits(rt: HostRuntime) -> Result<(), Fail> {
-    check_store(&rt, rt.alloc(), NAMES_AND_LIMITS)
+    check_store(&rt, rt.alloc(), reading::NAMES_AND_LIMITS)
 }

@@ -2,181 +2,19 @@
 
 use crate::cases::check_store;
 use std::test::Fail;
-
-const PARTS: &str = "
-warehouse
-scan calendar 9999
-= 0
-
-# One row, a part but one, a part, a part and one.
-write
-> days 20230101 20230102
-> commit
-= 1 written
-scan calendar 9999
-= 1
-= calendar 20230101, '2023-01-01', 2023, 1, 1, 1, 1, 7, 'Sunday', 1, '(none)'
-write
-> days 20230102 20230913
-> commit
-= 254 written
-scan calendar 9999
-= 255
-= calendar 20230912, '2023-09-12', 2023, 3, 9, 12, 255, 2, 'Tuesday', 0, '(none)'
-write
-> days 20230913 20230914
-> commit
-= 1 written
-scan calendar 9999
-= 256
-= calendar 20230913, '2023-09-13', 2023, 3, 9, 13, 256, 3, 'Wednesday', 0, '(none)'
-write
-> days 20230914 20230915
-> commit
-= 1 written
-scan calendar 9999
-= 257
-= calendar 20230914, '2023-09-14', 2023, 3, 9, 14, 257, 4, 'Thursday', 0, '(none)'
-
-# Two parts and more.
-write
-> days 20230915 20240823
-> commit
-= 343 written
-scan calendar 9999
-= 600
-= calendar 20240822, '2024-08-22', 2024, 3, 8, 22, 235, 4, 'Thursday', 0, '(none)'
-
-# A scan that is let go early.
-scan calendar 0
-= 0
-scan calendar 1
-= 1
-= calendar 20230101, '2023-01-01', 2023, 1, 1, 1, 1, 7, 'Sunday', 1, '(none)'
-scan calendar 256
-= 256
-= calendar 20230913, '2023-09-13', 2023, 3, 9, 13, 256, 3, 'Wednesday', 0, '(none)'
-scan calendar 257
-= 257
-= calendar 20230914, '2023-09-14', 2023, 3, 9, 14, 257, 4, 'Thursday', 0, '(none)'
-count calendar
-= 600
-scan meta 9999
-= 4
-= meta 'format', 1
-";
+use wh_scenarios::store::scans;
 
 #[test]
 fn parts_of_a_calendar(rt: HostRuntime) -> Result<(), Fail> {
-    check_store(&rt, rt.alloc(), PARTS)
+    check_store(&rt, rt.alloc(), scans::PARTS)
 }
-
-const EVERY_TABLE: &str = "
-warehouse
-write
-> days 20230101 20240701
-> commit
-= 547 written
-close
-# 365 rows and 182 more in every table, by the days of two years.
-sql INSERT INTO meta SELECT iso, year FROM calendar
-sql INSERT INTO command SELECT date_key - 20230000, iso, 'sales', x'00', 0, 0 FROM calendar WHERE year = 2023
-sql INSERT INTO member SELECT year - 2022, day_of_year, iso, 1 FROM calendar
-sql INSERT INTO change SELECT year - 2022, day_of_year, 1, 1, date_key, 1, '', '', '', '', '', '' FROM calendar
-sql INSERT INTO product SELECT date_key - 20230000, 1, iso, 19000101, 99991231, 1, '', '', '', '', '', '', '', '', '', '', '', '', 0 FROM calendar
-sql INSERT INTO store SELECT date_key - 20230000, 1, iso, 19000101, 99991231, 1, '', '', '', '', '', '', '', '', '', '', '', '', 0 FROM calendar
-sql INSERT INTO customer SELECT date_key - 20230000, 1, iso, 19000101, 99991231, 1, '', '', '', '', '', '', '', '', '', '', '', '', 0 FROM calendar
-sql INSERT INTO profile SELECT date_key - 20230000, '', '', '', '', '', '' FROM calendar
-sql INSERT INTO fact SELECT 'T2', day_of_year, date_key, 1, 1, 0, 1, 1, 0, 0, 1, 100, 50 FROM calendar WHERE year = 2023
-sql INSERT INTO fact SELECT 'T10', day_of_year, date_key, 1, 1, 0, 1, 1, 0, 0, 1, 100, 50 FROM calendar WHERE year = 2024
-open
-= opened
-
-scan meta 9999
-= 551
-= meta 'format', 1
-scan command 9999
-= 365
-= command 1231, '2023-12-31', 'sales', x'00', 0, 0
-scan member 9999
-= 547
-= member 2, 182, '2024-06-30', 1
-scan change 9999
-= 547
-= change 2, 182, 1, 1, 20240630, 1, '', '', '', '', '', ''
-scan product 9999
-= 547
-= product 10630, 1, '2024-06-30', 19000101, 99991231, 1, '', '', '', '', '', '', '', '', '', '', '', '', 0
-scan store 9999
-= 547
-= store 10630, 1, '2024-06-30', 19000101, 99991231, 1, '', '', '', '', '', '', '', '', '', '', '', '', 0
-scan customer 9999
-= 547
-= customer 10630, 1, '2024-06-30', 19000101, 99991231, 1, '', '', '', '', '', '', '', '', '', '', '', '', 0
-scan profile 9999
-= 547
-= profile 10630, '', '', '', '', '', ''
-scan calendar 9999
-= 547
-= calendar 20240630, '2024-06-30', 2024, 2, 6, 30, 182, 7, 'Sunday', 1, '(none)'
-# T10 is before T2, and both edges of the parts fall into T2.
-scan fact 9999
-= 547
-= fact 'T2', 365, 20231231, 1, 1, 0, 1, 1, 0, 0, 1, 100, 50
-scan fact 257
-= 257
-= fact 'T2', 75, 20230316, 1, 1, 0, 1, 1, 0, 0, 1, 100, 50
-";
 
 #[test]
 fn parts_of_every_table(rt: HostRuntime) -> Result<(), Fail> {
-    check_store(&rt, rt.alloc(), EVERY_TABLE)
+    check_store(&rt, rt.alloc(), scans::EVERY_TABLE)
 }
-
-const DAMAGED: &str = "
-warehouse
-write
-> days 20230101 20240823
-> commit
-= 600 written
-close
-# A row of the second part, of the parts that are handed out before it nothing is kept back.
-sql UPDATE calendar SET year = 'x' WHERE date_key = 20231027
-open
-= opened
-scan calendar 9999
-= 256
-= calendar 20230913, '2023-09-13', 2023, 3, 9, 13, 256, 3, 'Wednesday', 0, '(none)'
-= damaged calendar
-# No other part is read.
-scan calendar 256
-= 256
-= calendar 20230913, '2023-09-13', 2023, 3, 9, 13, 256, 3, 'Wednesday', 0, '(none)'
-scan meta 9999
-= 4
-= meta 'format', 1
-close
-# A key that is out of its type comes first.
-sql UPDATE calendar SET year = 2023 WHERE date_key = 20231027
-sql INSERT INTO calendar VALUES (-1, '', 0, 0, 0, 0, 0, 0, '', 0, '')
-open
-= opened
-scan calendar 9999
-= 0
-= damaged calendar
-close
-# Or last.
-sql DELETE FROM calendar WHERE date_key = -1
-sql INSERT INTO calendar VALUES (99999999, '', 0, 0, 0, 0, 0, 0, '', 0, '')
-open
-= opened
-scan calendar 9999
-= 512
-= calendar 20240526, '2024-05-26', 2024, 2, 5, 26, 147, 7, 'Sunday', 1, '(none)'
-= damaged calendar
-";
 
 #[test]
 fn damaged_rows_of_a_part(rt: HostRuntime) -> Result<(), Fail> {
-    check_store(&rt, rt.alloc(), DAMAGED)
+    check_store(&rt, rt.alloc(), scans::DAMAGED)
 }

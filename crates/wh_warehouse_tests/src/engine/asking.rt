@@ -3,7 +3,6 @@
 use crate::engine::batches::{batch, load};
 use crate::engine::deliveries::deliver;
 use crate::engine::plans::plan;
-use crate::engine::policies::policy;
 use crate::trouble::Trouble;
 use crate::words::push_number;
 use sqlite::Alter;
@@ -16,6 +15,7 @@ use wh_engine::{
     Command, CommandKind, Counts, Engine, Fault, InitFault, OpenFault, Receipt, Refused, Reply,
 };
 use wh_policy::{Dim, Policy};
+use wh_scenarios::engine::policies::policy;
 use wh_scenarios::parted;
 
 fn kind_of(word: &str) -> Result<CommandKind, Trouble> {

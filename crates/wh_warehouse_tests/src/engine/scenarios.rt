@@ -1,4 +1,4 @@
-//! Scenarios of the engine, by what they are about.
+//! The scenarios of `wh_scenarios::engine`, each with its test.
 
 mod bands;
 mod batches;

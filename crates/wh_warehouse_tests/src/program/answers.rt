@@ -15,7 +15,8 @@ use wh_batch::{BatchFault, FaultKind};
 use wh_engine::{Counts, Fault, InitFault, Limit, OpenFault, Receipt, Refused, Reply};
 use wh_policy::PolicyFault;
 use wh_program::{
-    Answer, made, making_answer, opening_answer, room_for_receipt, sent_answer, status_answer,
+    Answer, made, making_answer, opening_answer, room_for_line, room_for_receipt, sent_answer,
+    status_answer,
 };
 use wh_rows::{Cause, Table};
 use wh_scenarios::{Driver, NotMade, Step, parted, push_line};
@@ -51,8 +52,8 @@ fn answered(alloc: Global, words: &str) -> Result<Result<Answer, AllocError>, Tr
     let (verb, rest) = parted(words, ' ');
     match verb {
         "load" => loaded(alloc, rest),
-        "made" => Ok(made(alloc)),
-        "making" => Ok(making_answer(alloc, making_fault(rest)?)),
+        "made" => Ok(made(room_for_line(alloc)?)),
+        "making" => Ok(making_answer(room_for_line(alloc)?, &making_fault(rest)?)),
         "opening" => Ok(opening_answer(alloc, opening_fault(rest)?)),
         "status" => Ok(status_answer(alloc, Err(fault(rest)?))),
         "counts" => Ok(status_answer(alloc, Ok(counts(rest)?))),
@@ -64,7 +65,7 @@ fn loaded(alloc: Global, words: &str) -> Result<Result<Answer, AllocError>, Trou
     let (id, rest) = parted(words, ' ');
     let reply = reply(rest)?;
     let room = room_for_receipt(alloc, id)?;
-    Ok(sent_answer(alloc, room, id, reply))
+    Ok(sent_answer(room, id, &reply))
 }
 
 fn reply(words: &str) -> Result<Result<Reply, Fault>, Trouble> {

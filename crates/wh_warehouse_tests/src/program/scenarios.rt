@@ -1,4 +1,4 @@
-//! Scenarios of the program, by what they are about.
+//! The scenarios of `wh_scenarios::program`, each with its test.
 
 mod answers;
 mod deliveries;

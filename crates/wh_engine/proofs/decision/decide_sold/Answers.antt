@@ -6,8 +6,8 @@ use Rattle.wh_engine.specs.Decided.{Decides, row_of_command}
 use Rattle.wh_rows.specs.declared.rows.CommandRow.{CommandRow}
 use Rattle.wh_plan.specs.Edits.{Edits}
 use Rattle.wh_engine.specs.declared.command.Reply.TheVariants.{Accepted as Accepts}
-use Rattle.wh_engine.proofs.Decisions.{judged_ok, judged_err, number_refused, command_accepted, next_number, lines_new, list_accepted, own_row, policy_in_force, sound_in_force}
-use Rattle.wh_engine.proofs.SalesPremises.{members_counted}
+use Rattle.wh_engine.proofs.Decisions.{judged_ok, judged_err, number_refused, command_accepted, next_number, list_accepted, own_row, policy_in_force, sound_in_force}
+use Rattle.wh_plan.proofs.SalePremises.{members_counted}
 use Rattle.wh_engine.proofs.decision.decide_sold.Goals as goal
 
 pub returns-clause-decided : goal.returns-clause-decided
@@ -28,7 +28,7 @@ returns-clause-decided g c clean commands t held rests good new read =
     ∙ ap (λ (n : ℕ). Some (record (row_of_command command number (length c.args.sales.now)) { placeholders = placeholders_by after n content })) next
     ∙ ap (λ (r : CommandRow). Some (record r { placeholders = placeholders_by after (suc (length commands)) content })) (sym row) in
     let edits = c.in_ok-edits.ensures.edits clean limits commands t held.are still (accepted_as command content) accepted refl (policy_in_force commands held.accepted.governed ∙ ap Some (sym held.policy))
-    (subst IsSound (sym held.policy) (sound_in_force limits commands held.accepted)) (lines_new limits commands command good new content read number room) stored in
+    (subst IsSound (sym held.policy) (sound_in_force limits commands held.accepted)) stored in
     let shown = ap (λ (e : Edits). length e.members) c.edits.view_is in
     let as_many = members_counted commands (accepted_as command content) c.args.sales.now c.in_ok-edits.edits refl edits in
     let same : placeholders_by after (suc (length commands)) content ≡ c.len.result = let len = c.len.ensures in omega arith in

@@ -1,5 +1,5 @@
 -- The text means a record of the dimension with the greatest anchor.
-use Rattle.std.proofs.Common.{ℕ, [], ◌∷◌, filter, pos, Err, Ok, refl, sym, ap, ◌∙◌}
+use Rattle.std.proofs.Common.{ℕ, [], ◌∷◌, filter, pos, Err, Ok, refl, sym, ap, subst, ◌∙◌}
 use Rattle.std.specs.Prelude.{slice_get, unwrap_or, option_map}
 use Rattle.std.specs.FinMap.{values}
 use Rattle.std.specs.Ordering.{eq_by_cmp, nat_cmp}
@@ -12,9 +12,11 @@ use Rattle.wh_rows.specs.Types.{dim_number}
 use Rattle.wh_rows.specs.Rows as row
 use Rattle.wh_rows.specs.declared.table.Table.TheVariants.{Change}
 use Rattle.wh_rows.specs.Texts as texts
-use Rattle.wh_rows.proofs.Changes.{greatest_anchor}
+use Rattle.wh_rows.specs.Raw.{IsGreatestAnchor}
+use Rattle.wh_rows.specs.Questions.{is_record_of}
+use Rattle.wh_rows.proofs.Changes.{greatest_anchor, greatest_anchor_stored}
 use Rattle.wh_rows.proofs.Places.{change}
-use Rattle.wh_sql.proofs.Reading.{IsAnswered, IsLedByGreatest, greatest_answered, rows_are, undamaged, sorted_named, said_again}
+use Rattle.wh_sql.proofs.Reading.{IsAnswered, IsLedByGreatest, greatest_answered, rows_are, undamaged, sorted_named, said_again, anchor_stored, anchor_damage}
 use Rattle.wh_sql.proofs.greatest.greatest_anchor.Goals as goal
 
 asked : (dim : Dim) (old new : State)
@@ -54,3 +56,18 @@ returns-clause-reads g c =
     let it = asked c.args.dim (state g.S.Store c.args.conn.now) (state g.S.Store c.rows_shown.new.conn) in
     let here = c.in_ok-rows.ensures.reads it.plain (λ clean t at. tt) (λ clean stored at. tt) in
     record { clean = here.clean; sound = λ clean t at. tt; same = here.same; left = here.left; rests = here.rests; leaves = here.leaves; named = λ clean stored at. tt }
+
+-- ---- whoever wrote the rows
+
+pub returns-clause-stored : goal.returns-clause-stored
+returns-clause-stored g c clean stored is =
+    let shows = rw c.dim.ensures at (c.in_ok-rows.ensures.shows clean) in
+    let first = anchor_stored (is_record_of c.args.dim) (greatest_anchor_stored c.args.dim) (state g.S.Store c.args.conn.now) (state g.S.Store c.rows_shown.new.conn) stored is c.in_ok-rows.rows.items shows in
+    let same = c.first_anchor.ensures ∙ ap (λ rows. unwrap_or (option_map (λ r. r.anchor) (slice_get rows 0)) 0) c.deref.ensures.value in
+    subst (IsGreatestAnchor (filter (is_record_of c.args.dim) (stored Change))) (sym same) first
+
+pub returns-in_err-rows-clause-damaged : goal.returns-in_err-rows-clause-damaged
+returns-in_err-rows-clause-damaged g c clean stored is =
+    let p = err_from_is_err_and c.from_residual.result c.from_residual.ensures.1 in
+    let refused = rw c.dim.ensures at (c.in_err-rows.ensures.refused clean) in
+    rw (p.1, p.2) (anchor_damage (is_record_of c.args.dim) (greatest_anchor_stored c.args.dim) (state g.S.Store c.args.conn.now) (state g.S.Store c.rows_shown.new.conn) stored is {A = ℕ} (Err c.in_err-rows.field-0.0) refused)

@@ -10,7 +10,7 @@ use Rattle.sqlite_wal.specs.Reads.{AreClean}
 use Rattle.sqlite_pool.proofs.StateLemmas.{clean_is, may_leave_is}
 use Rattle.sqlite.specs.Files.{file_state, image_of}
 use Rattle.sqlite.proofs.Theorems.{opens_again}
-use Rattle.wh_store.proofs.Reopened.{opened_rests}
+use Rattle.wh_store.proofs.Reopened.{opened_rests, opened_rests_on}
 use Rattle.wh_store.proofs.reopen.restart.Goals as goal
 
 both_earlier : (a b x y : Bool) → (IsTrue a → IsTrue x) → (IsTrue b → IsTrue y) → IsTrue (a && b) → IsTrue (x && y)
@@ -38,6 +38,7 @@ returns-in-Ok-clause-found g c clean =
       trees = it.0;
       left = c.into_store.ensures.quiet.outcomes it.0 it.1;
       rests = λ held are. opened_rests held (file_state again) it.0 are opened.0 opened.1 (found.holds it.0 it.2) settled;
+      rests_stored = λ stored are. opened_rests_on stored (file_state again) it.0 are opened.0 opened.1 (found.holds it.0 it.2) settled;
     })
 
 pub returns-in-Ok-clause-clean : goal.returns-in-Ok-clause-clean

@@ -4,157 +4,44 @@
 
 use crate::engine::scenarios::check_engine;
 use std::test::Fail;
-
-const MAKING_LOG: &str = "\
-files
-stops log init small
-= before, or after
-";
+use wh_scenarios::engine::stops;
 
 #[test]
 fn making_log(rt: HostRuntime) -> Result<(), Fail> {
-    check_engine(&rt, rt.alloc(), MAKING_LOG)
+    check_engine(&rt, rt.alloc(), stops::MAKING_LOG)
 }
-
-const MAKING_DATABASE: &str = "\
-files
-stops database init small
-= before, or after
-";
 
 #[test]
 fn making_database(rt: HostRuntime) -> Result<(), Fail> {
-    check_engine(&rt, rt.alloc(), MAKING_DATABASE)
+    check_engine(&rt, rt.alloc(), stops::MAKING_DATABASE)
 }
-
-const PRODUCTS_LOG: &str = "\
-files
-init small
-= made
-send product p1
-> id,day,brand
-> P1,2024-02-01,Acme
-= accepted 2: 1 records, 0 placeholders
-stops log send product p2
-> id,day,brand
-> P1,2024-01-20,Bolt
-> P2,2024-01-10,Cask
-= before, or after
-";
 
 #[test]
 fn products_log(rt: HostRuntime) -> Result<(), Fail> {
-    check_engine(&rt, rt.alloc(), PRODUCTS_LOG)
+    check_engine(&rt, rt.alloc(), stops::PRODUCTS_LOG)
 }
-
-const PRODUCTS_DATABASE: &str = "\
-files
-init small
-= made
-send product p1
-> id,day,brand
-> P1,2024-02-01,Acme
-= accepted 2: 1 records, 0 placeholders
-stops database send product p2
-> id,day,brand
-> P1,2024-01-20,Bolt
-> P2,2024-01-10,Cask
-= before, or after
-";
 
 #[test]
 fn products_database(rt: HostRuntime) -> Result<(), Fail> {
-    check_engine(&rt, rt.alloc(), PRODUCTS_DATABASE)
+    check_engine(&rt, rt.alloc(), stops::PRODUCTS_DATABASE)
 }
-
-const SALES_LOG: &str = "\
-files
-init small
-= made
-send product p1
-> id,day,brand
-> P1,2024-02-01,Acme
-= accepted 2: 1 records, 0 placeholders
-send sales s1
-> ticket,line,day,store,product,customer,quantity,amount,cost
-> T1,1,2024-02-05,S1,P1,,2,5.00,3.20
-= accepted 3: 1 records, 1 placeholders
-stops log send sales s2
-> ticket,line,day,store,product,customer,quantity,amount,cost
-> T2,1,2024-06-10,S1,P9,C9,1,10.00,7.00
-= before, or after
-";
 
 #[test]
 fn sales_log(rt: HostRuntime) -> Result<(), Fail> {
-    check_engine(&rt, rt.alloc(), SALES_LOG)
+    check_engine(&rt, rt.alloc(), stops::SALES_LOG)
 }
-
-const SALES_DATABASE: &str = "\
-files
-init small
-= made
-send product p1
-> id,day,brand
-> P1,2024-02-01,Acme
-= accepted 2: 1 records, 0 placeholders
-send sales s1
-> ticket,line,day,store,product,customer,quantity,amount,cost
-> T1,1,2024-02-05,S1,P1,,2,5.00,3.20
-= accepted 3: 1 records, 1 placeholders
-stops database send sales s2
-> ticket,line,day,store,product,customer,quantity,amount,cost
-> T2,1,2024-06-10,S1,P9,C9,1,10.00,7.00
-= before, or after
-";
 
 #[test]
 fn sales_database(rt: HostRuntime) -> Result<(), Fail> {
-    check_engine(&rt, rt.alloc(), SALES_DATABASE)
+    check_engine(&rt, rt.alloc(), stops::SALES_DATABASE)
 }
-
-const MIGRATIONS_LOG: &str = "\
-files
-init small
-= made
-send product p1
-> id,day,brand
-> P1,2024-02-01,Acme
-> P1,2024-03-01,Bolt
-= accepted 2: 2 records, 0 placeholders
-send sales s1
-> ticket,line,day,store,product,customer,quantity,amount,cost
-> T1,1,2024-03-05,S1,P1,,1,2.50,1.60
-= accepted 3: 1 records, 1 placeholders
-stops log send migrate m1
-> small-overwritten
-= before, or after
-";
 
 #[test]
 fn migrations_log(rt: HostRuntime) -> Result<(), Fail> {
-    check_engine(&rt, rt.alloc(), MIGRATIONS_LOG)
+    check_engine(&rt, rt.alloc(), stops::MIGRATIONS_LOG)
 }
-
-const MIGRATIONS_DATABASE: &str = "\
-files
-init small
-= made
-send product p1
-> id,day,brand
-> P1,2024-02-01,Acme
-> P1,2024-03-01,Bolt
-= accepted 2: 2 records, 0 placeholders
-send sales s1
-> ticket,line,day,store,product,customer,quantity,amount,cost
-> T1,1,2024-03-05,S1,P1,,1,2.50,1.60
-= accepted 3: 1 records, 1 placeholders
-stops database send migrate m1
-> small-overwritten
-= before, or after
-";
 
 #[test]
 fn migrations_database(rt: HostRuntime) -> Result<(), Fail> {
-    check_engine(&rt, rt.alloc(), MIGRATIONS_DATABASE)
+    check_engine(&rt, rt.alloc(), stops::MIGRATIONS_DATABASE)
 }

@@ -2,113 +2,14 @@
 
 use crate::engine::scenarios::check_engine;
 use std::test::Fail;
-
-const ANSWERS: &str = "\
-make flat
-batch p0
-= accepted 2: 0 records, 0 placeholders
-batch p1
-= accepted 3: 1 records, 0 placeholders
-batch p2
-= accepted 4: 1 records, 0 placeholders
-batch p3
-= accepted 5: 1 records, 0 placeholders
-batch p4
-= accepted 6: 1 records, 0 placeholders
-batch p5
-= accepted 7: 1 records, 0 placeholders
-batch p6
-= accepted 8: 1 records, 0 placeholders
-batch p7
-= accepted 9: 1 records, 0 placeholders
-batch p8
-= accepted 10: 1 records, 0 placeholders
-counts
-= format 1
-= commands 10
-= changes 8
-= facts 0
-= products 1
-= stores 0
-= customers 0
-table product
-= 1,1,P1,19000101,20240119,0,Cola 1 l,Acme,Drinks,Grocery,2019,South,,,Soft drinks,,,East,0
-= 3,1,P1,20240201,20240331,0,Cola 1 l,Cask,Drinks,Grocery,2019,South,,,Soft drinks,,,East,0
-= 4,1,P1,20240120,20240131,0,Cola 1 l,Bolt,Drinks,Grocery,2019,South,,,Soft drinks,,,East,0
-= 6,1,P1,20240401,99991231,1,Cola 1 l,Cask,Soft drinks,Grocery,2019,South,,,Soft drinks,,,East,0
-";
+use wh_scenarios::engine::worked;
 
 #[test]
 fn answers(rt: HostRuntime) -> Result<(), Fail> {
-    check_engine(&rt, rt.alloc(), ANSWERS)
+    check_engine(&rt, rt.alloc(), worked::ANSWERS)
 }
-
-const ROWS: &str = "\
-make flat
-load p0 p0
-table product
-
-# The earliest day draws the number 2, which names no row.
-load p1 p2
-table product
-= 1,1,P1,19000101,20240131,0,Cola 1l,Acme,Drinks,Grocery,2019,North,,,Drinks,,,(none),0
-= 3,1,P1,20240201,99991231,1,Cola 1l,Bolt,Drinks,Grocery,2019,North,,,Drinks,,,(none),0
-
-# The brand came earlier.
-load p3 p3
-table product
-= 1,1,P1,19000101,20240119,0,Cola 1l,Acme,Drinks,Grocery,2019,North,,,Drinks,,,(none),0
-= 4,1,P1,20240120,99991231,1,Cola 1l,Bolt,Drinks,Grocery,2019,North,,,Drinks,,,(none),0
-table member
-= 1,1,P1,1
-
-# A day is told again, and a row is there again under its number.
-load p4 p4
-table product
-= 1,1,P1,19000101,20240119,0,Cola 1l,Acme,Drinks,Grocery,2019,North,,,Drinks,,,(none),0
-= 3,1,P1,20240201,99991231,1,Cola 1l,Cask,Drinks,Grocery,2019,North,,,Drinks,,,(none),0
-= 4,1,P1,20240120,20240131,0,Cola 1l,Bolt,Drinks,Grocery,2019,North,,,Drinks,,,(none),0
-
-# All accepted records are kept, two of them of one day.
-table change
-= 3,1,1,1,20240110,2,Cola 1l,Acme,Drinks,Grocery,2019,North
-= 4,1,1,1,20240201,3,Cola 1l,Bolt,Drinks,Grocery,2019,North
-= 5,1,1,1,20240120,4,Cola 1l,Bolt,Drinks,Grocery,2019,North
-= 6,1,1,1,20240201,3,Cola 1l,Cask,Drinks,Grocery,2019,North
-
-# Every row shows the latest description.
-load p5 p5
-table product
-= 1,1,P1,19000101,20240119,0,Cola 1 l,Acme,Drinks,Grocery,2019,North,,,Drinks,,,(none),0
-= 3,1,P1,20240201,99991231,1,Cola 1 l,Cask,Drinks,Grocery,2019,North,,,Drinks,,,(none),0
-= 4,1,P1,20240120,20240131,0,Cola 1 l,Bolt,Drinks,Grocery,2019,North,,,Drinks,,,(none),0
-
-# Every row shows the latest category beside its own.
-load p6 p6
-table product
-= 1,1,P1,19000101,20240119,0,Cola 1 l,Acme,Drinks,Grocery,2019,North,,,Soft drinks,,,(none),0
-= 3,1,P1,20240201,20240331,0,Cola 1 l,Cask,Drinks,Grocery,2019,North,,,Soft drinks,,,(none),0
-= 4,1,P1,20240120,20240131,0,Cola 1 l,Bolt,Drinks,Grocery,2019,North,,,Soft drinks,,,(none),0
-= 6,1,P1,20240401,99991231,1,Cola 1 l,Cask,Soft drinks,Grocery,2019,North,,,Soft drinks,,,(none),0
-
-# Every row shows the latest supplier and the prior one, and the first year of launch.
-load p7 p7
-table product
-= 1,1,P1,19000101,20240119,0,Cola 1 l,Acme,Drinks,Grocery,2019,South,,,Soft drinks,,,North,0
-= 3,1,P1,20240201,20240331,0,Cola 1 l,Cask,Drinks,Grocery,2019,South,,,Soft drinks,,,North,0
-= 4,1,P1,20240120,20240131,0,Cola 1 l,Bolt,Drinks,Grocery,2019,South,,,Soft drinks,,,North,0
-= 6,1,P1,20240401,99991231,1,Cola 1 l,Cask,Soft drinks,Grocery,2019,South,,,Soft drinks,,,North,0
-
-# A backdated record may change the prior supplier.
-load p8 p8
-table product
-= 1,1,P1,19000101,20240119,0,Cola 1 l,Acme,Drinks,Grocery,2019,South,,,Soft drinks,,,East,0
-= 3,1,P1,20240201,20240331,0,Cola 1 l,Cask,Drinks,Grocery,2019,South,,,Soft drinks,,,East,0
-= 4,1,P1,20240120,20240131,0,Cola 1 l,Bolt,Drinks,Grocery,2019,South,,,Soft drinks,,,East,0
-= 6,1,P1,20240401,99991231,1,Cola 1 l,Cask,Soft drinks,Grocery,2019,South,,,Soft drinks,,,East,0
-";
 
 #[test]
 fn rows(rt: HostRuntime) -> Result<(), Fail> {
-    check_engine(&rt, rt.alloc(), ROWS)
+    check_engine(&rt, rt.alloc(), worked::ROWS)
 }

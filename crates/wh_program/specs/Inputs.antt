@@ -1,0 +1,26 @@
+-- The files that a run reads, and how far.
+use Rattle.std.specs.Prelude.{◌≡◌, ℕ, suc, List, take, Option, Some, None}
+use Rattle.wh_batch.specs.declared.kind.CommandKind.{CommandKind}
+use Rattle.wh_batch.specs.declared.kind.CommandKind.TheVariants.{Batch, Migration}
+
+-- what a host holds under a path, if a file is there
+abbrev pub Files : Type 1
+Files = List ℕ → Option (List ℕ) → Type 0
+
+-- what is read of it: the bytes of the file where there are at most so many, else the first of them and one more, by which it is seen that there are more
+abbrev pub up_to : ℕ → Files → Files
+up_to most holds path None = holds path None
+up_to most holds path (Some bytes) = (whole : List ℕ) × holds path (Some whole) × (bytes ≡ take (suc most) whole)
+
+-- the most bytes of a batch; one of more is too large
+abbrev pub batch_limit : ℕ
+batch_limit = 1_000_000
+
+-- the most bytes of a policy; more are none
+abbrev pub policy_limit : ℕ
+policy_limit = 65_536
+
+-- those of the input of a command
+abbrev pub input_limit : CommandKind → ℕ
+input_limit (Batch kind) = batch_limit
+input_limit Migration = policy_limit

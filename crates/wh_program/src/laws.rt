@@ -1,0 +1,11 @@
+//! Laws of the inputs of a run. They speak of the definitions alone and do nothing.
+
+ghost use Rattle.wh_program.specs.Laws.{PoliciesAreReadSo, TrialsAreReadSo, CommandsAreReadSo};
+
+/// Nothing is lost where an input is read to its limit and a byte: a policy, a trial's batch and a command are what the whole file makes
+/// them.
+pub fn inputs_are_told_by_their_beginnings()
+    ensures policies { PoliciesAreReadSo }
+    ensures trials { TrialsAreReadSo }
+    ensures commands { CommandsAreReadSo }
+{}

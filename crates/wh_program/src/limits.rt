@@ -1,0 +1,22 @@
+//! How far the inputs of a run are read.
+
+ghost use Rattle.std.specs.Prelude.{◌≡◌};
+ghost use Rattle.wh_program.specs.Inputs.{input_limit};
+
+use wh_batch::CommandKind;
+
+/// The most bytes of a batch, as `wh_batch` takes one. The byte after them tells that there are more.
+pub const BATCH_LIMIT: usize = 1_000_000;
+
+/// The most bytes of a policy, as `wh_policy` takes one.
+pub const POLICY_LIMIT: usize = 65_536;
+
+/// The most bytes of the input of a command.
+pub fn input_limit(kind: CommandKind) -> usize
+    ensures { result ≡ input_limit kind }
+{
+    match kind {
+        CommandKind::Batch(_) => BATCH_LIMIT,
+        CommandKind::Migration => POLICY_LIMIT,
+    }
+}

@@ -1,0 +1,8 @@
+//! Scenarios of the program, by what they are about. `program` of `wh_warehouse_tests` says what their words mean, and `program::answers`
+//! those of `answers`.
+
+pub mod answers;
+pub mod deliveries;
+pub mod reports;
+pub mod trials;
+pub mod warehouses;

@@ -1,0 +1,1473 @@
+//! Reports and dumps of a warehouse.
+
+pub const WORKED: &str = r#"
+# The policy, the same with a brand that is overwritten, and with two attributes exchanged.
+policy policy.toml name = "tier"|type = 2->name = "tier"|type = 2|[[customer]]|name = "age_band"|type = 5|[[customer]]|name = "spend_band"|type = 5
+policy m1.toml name = "brand"|type = 2->name = "brand"|type = 1 and name = "tier"|type = 2->name = "tier"|type = 2|[[customer]]|name = "age_band"|type = 5|[[customer]]|name = "spend_band"|type = 5
+policy m3.toml name = "brand"|type = 2|[[product]]|name = "category"|type = 6->name = "category"|type = 6|[[product]]|name = "brand"|type = 2 and name = "tier"|type = 2->name = "tier"|type = 2|[[customer]]|name = "age_band"|type = 5|[[customer]]|name = "spend_band"|type = 5
+
+# The batches.
+file p0.csv
+> id,day,description,brand,category,department,launched,supplier
+file p1.csv
+> id,day,description,brand,category,department,launched,supplier
+> P1,2024-01-10,Cola 1l,Acme,Drinks,Grocery,2019,North
+file p2.csv
+> id,day,description,brand,category,department,launched,supplier
+> P1,2024-02-01,Cola 1l,Bolt,Drinks,Grocery,2019,North
+file s1.csv
+> ticket,line,day,store,product,customer,quantity,amount,cost
+> T1,1,2024-02-05,S1,P1,,2,5.00,3.20
+> T0,1,2023-12-31,S1,P1,,1,2.5,1.60
+file p3.csv
+> id,day,description,brand,category,department,launched,supplier
+> P1,2024-01-20,Cola 1l,Bolt,Drinks,Grocery,2019,North
+file p4.csv
+> id,day,description,brand,category,department,launched,supplier
+> P1,2024-02-01,Cola 1l,Cask,Drinks,Grocery,2019,North
+file p5.csv
+> id,day,description,brand,category,department,launched,supplier
+> P1,2024-03-01,Cola 1 l,Cask,Drinks,Grocery,2019,North
+file p6.csv
+> id,day,description,brand,category,department,launched,supplier
+> P1,2024-04-01,Cola 1 l,Cask,Soft drinks,Grocery,2019,North
+file p7.csv
+> id,day,description,brand,category,department,launched,supplier
+> P1,2024-06-01,Cola 1 l,Cask,Soft drinks,Grocery,2021,South
+file p8.csv
+> id,day,description,brand,category,department,launched,supplier
+> P1,2024-05-01,Cola 1 l,Cask,Soft drinks,Grocery,2019,East
+file s2.csv
+> ticket,line,day,store,product,customer,quantity,amount,cost
+> T2,1,2024-06-10,S1,P9,C9,1,10.00,7.00
+file p9.csv
+> id,day,description,brand,category,department,launched,supplier
+> P9,2024-06-05,Tea 50,Leaf,Drinks,Grocery,2024,North
+file c1.csv
+> id,day,tier,age_band,spend_band
+> C9,2024-06-08,Gold,30-39,high
+file c2.csv
+> id,day,tier,age_band,spend_band
+> C9,2024-07-01,Gold,40-49,high
+file s4.csv
+> ticket,line,day,store,product,customer,quantity,amount,cost
+> T4,1,2024-02-29,S1,P1,,1,2.50,1.60
+bytes c3.csv \xEF\xBB\xBFid,day,tier,age_band,spend_band\r\nC9,2024-07-01,Gold,40-49,high\r\n
+file c4.csv
+> id,day,tier,age_band,spend_band
+> C8,2024-07-01,xxxxxxxxxxxxxxxxxxxxxxxxxxxxxxxxxxxxxxxxxxxxxxxxxxxxxxxxxxxx,,
+bytes empty.csv
+file p1x.csv
+> id,day,description,brand,category,department,launched,supplier
+> P1,2024-01-10,Cola 1l,Acme,Drinks,Grocery,2019,North
+>
+file s3.csv
+> ticket,line,day,store,product,customer,quantity,amount,cost
+> T3,1,2024-07-02,S1,P1,,1,2.50,1.60
+> T2,1,2024-07-02,S1,P1,,1,2.50,1.60
+file s5.csv
+> ticket,line,day,store,product,customer,quantity,amount,cost
+> T5,1,2023-02-29,S1,P1,,1,2.50,1.60
+file s6.csv
+> ticket,line,day,store,product,customer,quantity,amount,cost
+> T5,1,2027-01-01,S1,P1,,1,2.50,1.60
+
+# A warehouse is made once. A batch without records, and one of no bytes.
+run init w policy.toml
+= accepted 1 init: 0 records, 0 placeholders
+= status 0
+run init w policy.toml
+= refused: E11 not empty
+= status 2
+run dump w member
+= dim,durable,natural,opening
+= status 0
+run dump w change
+= command,record,dim,durable,day,anchor,v1,v2,v3,v4,v5,v6
+= status 0
+run dump w fact
+= ticket,line,day,store_key,product_key,customer_key,store_durable,product_durable,customer_durable,profile,quantity,amount,cost
+= status 0
+run dump w product
+= surrogate,durable,natural,from_day,to_day,is_current,a1,a2,a3,a4,a5,a6,b1,b2,b3,b4,b5,b6,profile_now
+= status 0
+run dump w store
+= surrogate,durable,natural,from_day,to_day,is_current,a1,a2,a3,a4,a5,a6,b1,b2,b3,b4,b5,b6,profile_now
+= status 0
+run dump w customer
+= surrogate,durable,natural,from_day,to_day,is_current,a1,a2,a3,a4,a5,a6,b1,b2,b3,b4,b5,b6,profile_now
+= 0,0,(no card),19000101,99991231,1,(no card),,,,,,,,,,,,0
+= status 0
+run dump w profile
+= number,v1,v2,v3,v4,v5,v6
+= 0,,(no card),(no card),,,
+= 1,,(unknown),(unknown),,,
+= status 0
+run dump w meta
+= name,value
+= changes_max,1000000
+= commands_max,100000
+= facts_max,1000000
+= format,1
+= status 0
+run report w product.brand was 2023-01-01 2026-12-31
+= report product.brand was 2023-01-01 2026-12-31
+=    lines   quantity         amount           cost         margin  label
+=        0          0           0.00           0.00           0.00  total
+= status 0
+run load w product p0 p0.csv
+= accepted 2 p0: 0 records, 0 placeholders
+= status 0
+run load w product p00 empty.csv
+= refused: E3 batch, B2 wrong header, record 0
+= status 2
+
+# A brand that changes: the number 2 was drawn by the earliest day, and no row begins there.
+run load w product p1 p1.csv
+= accepted 3 p1: 1 records, 0 placeholders
+= status 0
+run load w product p2 p2.csv
+= accepted 4 p2: 1 records, 0 placeholders
+= status 0
+run dump w product
+= surrogate,durable,natural,from_day,to_day,is_current,a1,a2,a3,a4,a5,a6,b1,b2,b3,b4,b5,b6,profile_now
+= 1,1,P1,19000101,20240131,0,Cola 1l,Acme,Drinks,Grocery,2019,North,,,Drinks,,,(none),0
+= 3,1,P1,20240201,99991231,1,Cola 1l,Bolt,Drinks,Grocery,2019,North,,,Drinks,,,(none),0
+= status 0
+
+# Sales of two days, in a store that no record describes.
+run load w sales s1 s1.csv
+= accepted 5 s1: 2 records, 1 placeholders
+= status 0
+run dump w fact
+= ticket,line,day,store_key,product_key,customer_key,store_durable,product_durable,customer_durable,profile,quantity,amount,cost
+= T0,1,20231231,1,1,0,1,1,0,0,1,250,160
+= T1,1,20240205,1,3,0,1,1,0,0,2,500,320
+= status 0
+
+# A record of a day between: a row ends earlier, another takes the place of the one behind it, and a sale follows.
+run plan w product p3 p3.csv
+= put command 6
+= put change 6 1
+= put product 1
+= remove product 3
+= put product 4
+= rekey fact T1 1
+= edits 6
+= status 0
+run load w product p3 p3.csv
+= accepted 6 p3: 1 records, 0 placeholders
+= status 0
+run dump w product
+= surrogate,durable,natural,from_day,to_day,is_current,a1,a2,a3,a4,a5,a6,b1,b2,b3,b4,b5,b6,profile_now
+= 1,1,P1,19000101,20240119,0,Cola 1l,Acme,Drinks,Grocery,2019,North,,,Drinks,,,(none),0
+= 4,1,P1,20240120,99991231,1,Cola 1l,Bolt,Drinks,Grocery,2019,North,,,Drinks,,,(none),0
+= status 0
+run dump w fact
+= ticket,line,day,store_key,product_key,customer_key,store_durable,product_durable,customer_durable,profile,quantity,amount,cost
+= T0,1,20231231,1,1,0,1,1,0,0,1,250,160
+= T1,1,20240205,1,4,0,1,1,0,0,2,500,320
+= status 0
+
+# Another brand from a day that has a record: its row comes back under its number.
+run load w product p4 p4.csv
+= accepted 7 p4: 1 records, 0 placeholders
+= status 0
+run dump w product
+= surrogate,durable,natural,from_day,to_day,is_current,a1,a2,a3,a4,a5,a6,b1,b2,b3,b4,b5,b6,profile_now
+= 1,1,P1,19000101,20240119,0,Cola 1l,Acme,Drinks,Grocery,2019,North,,,Drinks,,,(none),0
+= 3,1,P1,20240201,99991231,1,Cola 1l,Cask,Drinks,Grocery,2019,North,,,Drinks,,,(none),0
+= 4,1,P1,20240120,20240131,0,Cola 1l,Bolt,Drinks,Grocery,2019,North,,,Drinks,,,(none),0
+= status 0
+run dump w fact
+= ticket,line,day,store_key,product_key,customer_key,store_durable,product_durable,customer_durable,profile,quantity,amount,cost
+= T0,1,20231231,1,1,0,1,1,0,0,1,250,160
+= T1,1,20240205,1,3,0,1,1,0,0,2,500,320
+= status 0
+
+# A text that is overwritten shows on all rows, and none begins.
+run plan w product p5 p5.csv
+= put command 8
+= put change 8 1
+= put product 1
+= put product 3
+= put product 4
+= edits 5
+= status 0
+run load w product p5 p5.csv
+= accepted 8 p5: 1 records, 0 placeholders
+= status 0
+run dump w product
+= surrogate,durable,natural,from_day,to_day,is_current,a1,a2,a3,a4,a5,a6,b1,b2,b3,b4,b5,b6,profile_now
+= 1,1,P1,19000101,20240119,0,Cola 1 l,Acme,Drinks,Grocery,2019,North,,,Drinks,,,(none),0
+= 3,1,P1,20240201,99991231,1,Cola 1 l,Cask,Drinks,Grocery,2019,North,,,Drinks,,,(none),0
+= 4,1,P1,20240120,20240131,0,Cola 1 l,Bolt,Drinks,Grocery,2019,North,,,Drinks,,,(none),0
+= status 0
+
+# Another category begins a row, and stands as the newest in all.
+run load w product p6 p6.csv
+= accepted 9 p6: 1 records, 0 placeholders
+= status 0
+run dump w product
+= surrogate,durable,natural,from_day,to_day,is_current,a1,a2,a3,a4,a5,a6,b1,b2,b3,b4,b5,b6,profile_now
+= 1,1,P1,19000101,20240119,0,Cola 1 l,Acme,Drinks,Grocery,2019,North,,,Soft drinks,,,(none),0
+= 3,1,P1,20240201,20240331,0,Cola 1 l,Cask,Drinks,Grocery,2019,North,,,Soft drinks,,,(none),0
+= 4,1,P1,20240120,20240131,0,Cola 1 l,Bolt,Drinks,Grocery,2019,North,,,Soft drinks,,,(none),0
+= 6,1,P1,20240401,99991231,1,Cola 1 l,Cask,Soft drinks,Grocery,2019,North,,,Soft drinks,,,(none),0
+= status 0
+
+# Suppliers and what they were before; a record of an earlier day leaves the newest supplier.
+run load w product p7 p7.csv
+= accepted 10 p7: 1 records, 0 placeholders
+= status 0
+run dump w product
+= surrogate,durable,natural,from_day,to_day,is_current,a1,a2,a3,a4,a5,a6,b1,b2,b3,b4,b5,b6,profile_now
+= 1,1,P1,19000101,20240119,0,Cola 1 l,Acme,Drinks,Grocery,2019,South,,,Soft drinks,,,North,0
+= 3,1,P1,20240201,20240331,0,Cola 1 l,Cask,Drinks,Grocery,2019,South,,,Soft drinks,,,North,0
+= 4,1,P1,20240120,20240131,0,Cola 1 l,Bolt,Drinks,Grocery,2019,South,,,Soft drinks,,,North,0
+= 6,1,P1,20240401,99991231,1,Cola 1 l,Cask,Soft drinks,Grocery,2019,South,,,Soft drinks,,,North,0
+= status 0
+run load w product p8 p8.csv
+= accepted 11 p8: 1 records, 0 placeholders
+= status 0
+run dump w product
+= surrogate,durable,natural,from_day,to_day,is_current,a1,a2,a3,a4,a5,a6,b1,b2,b3,b4,b5,b6,profile_now
+= 1,1,P1,19000101,20240119,0,Cola 1 l,Acme,Drinks,Grocery,2019,South,,,Soft drinks,,,East,0
+= 3,1,P1,20240201,20240331,0,Cola 1 l,Cask,Drinks,Grocery,2019,South,,,Soft drinks,,,East,0
+= 4,1,P1,20240120,20240131,0,Cola 1 l,Bolt,Drinks,Grocery,2019,South,,,Soft drinks,,,East,0
+= 6,1,P1,20240401,99991231,1,Cola 1 l,Cask,Soft drinks,Grocery,2019,South,,,Soft drinks,,,East,0
+= status 0
+
+# A sale is the first to mention a product and a customer.
+run plan w sales s2 s2.csv
+= put command 12
+= put member 1 2
+= put member 3 1
+= put product 9
+= put customer 1
+= put fact T2 1
+= edits 6
+= status 0
+run load w sales s2 s2.csv
+= accepted 12 s2: 1 records, 2 placeholders
+= status 0
+run dump w product
+= surrogate,durable,natural,from_day,to_day,is_current,a1,a2,a3,a4,a5,a6,b1,b2,b3,b4,b5,b6,profile_now
+= 1,1,P1,19000101,20240119,0,Cola 1 l,Acme,Drinks,Grocery,2019,South,,,Soft drinks,,,East,0
+= 3,1,P1,20240201,20240331,0,Cola 1 l,Cask,Drinks,Grocery,2019,South,,,Soft drinks,,,East,0
+= 4,1,P1,20240120,20240131,0,Cola 1 l,Bolt,Drinks,Grocery,2019,South,,,Soft drinks,,,East,0
+= 6,1,P1,20240401,99991231,1,Cola 1 l,Cask,Soft drinks,Grocery,2019,South,,,Soft drinks,,,East,0
+= 9,2,P9,19000101,99991231,1,(unknown),(unknown),(unknown),(unknown),(unknown),(unknown),,,(unknown),,,(none),0
+= status 0
+run dump w customer
+= surrogate,durable,natural,from_day,to_day,is_current,a1,a2,a3,a4,a5,a6,b1,b2,b3,b4,b5,b6,profile_now
+= 0,0,(no card),19000101,99991231,1,(no card),,,,,,,,,,,,0
+= 1,1,C9,19000101,99991231,1,(unknown),,,,,,,,,,,,1
+= status 0
+run dump w fact
+= ticket,line,day,store_key,product_key,customer_key,store_durable,product_durable,customer_durable,profile,quantity,amount,cost
+= T0,1,20231231,1,1,0,1,1,0,0,1,250,160
+= T1,1,20240205,1,3,0,1,1,0,0,2,500,320
+= T2,1,20240610,1,9,1,1,2,1,1,1,1000,700
+= status 0
+run dump w profile
+= number,v1,v2,v3,v4,v5,v6
+= 0,,(no card),(no card),,,
+= 1,,(unknown),(unknown),,,
+= status 0
+run dump w member
+= dim,durable,natural,opening
+= 1,1,P1,1
+= 1,2,P9,9
+= 2,1,S1,1
+= 3,1,C9,1
+= status 0
+run report w product.brand was 2023-01-01 2026-12-31
+= report product.brand was 2023-01-01 2026-12-31
+=    lines   quantity         amount           cost         margin  label
+=        1          1          10.00           7.00           3.00  (unknown)
+=        1          1           2.50           1.60           0.90  Acme
+=        1          2           5.00           3.20           1.80  Cask
+=        3          4          17.50          11.80           5.70  total
+= status 0
+run report w customer.age_band was 2023-01-01 2026-12-31
+= report customer.age_band was 2023-01-01 2026-12-31
+=    lines   quantity         amount           cost         margin  label
+=        2          3           7.50           4.80           2.70  (no card)
+=        1          1          10.00           7.00           3.00  (unknown)
+=        3          4          17.50          11.80           5.70  total
+= status 0
+
+# Records fill the rows of both, under their numbers. The customer's bands give the sale another profile.
+run load w product p9 p9.csv
+= accepted 13 p9: 1 records, 0 placeholders
+= status 0
+run dump w product
+= surrogate,durable,natural,from_day,to_day,is_current,a1,a2,a3,a4,a5,a6,b1,b2,b3,b4,b5,b6,profile_now
+= 1,1,P1,19000101,20240119,0,Cola 1 l,Acme,Drinks,Grocery,2019,South,,,Soft drinks,,,East,0
+= 3,1,P1,20240201,20240331,0,Cola 1 l,Cask,Drinks,Grocery,2019,South,,,Soft drinks,,,East,0
+= 4,1,P1,20240120,20240131,0,Cola 1 l,Bolt,Drinks,Grocery,2019,South,,,Soft drinks,,,East,0
+= 6,1,P1,20240401,99991231,1,Cola 1 l,Cask,Soft drinks,Grocery,2019,South,,,Soft drinks,,,East,0
+= 9,2,P9,19000101,99991231,1,Tea 50,Leaf,Drinks,Grocery,2024,North,,,Drinks,,,(none),0
+= status 0
+run dump w fact
+= ticket,line,day,store_key,product_key,customer_key,store_durable,product_durable,customer_durable,profile,quantity,amount,cost
+= T0,1,20231231,1,1,0,1,1,0,0,1,250,160
+= T1,1,20240205,1,3,0,1,1,0,0,2,500,320
+= T2,1,20240610,1,9,1,1,2,1,1,1,1000,700
+= status 0
+run plan w customer c1 c1.csv
+= put command 14
+= put change 14 1
+= put customer 1
+= put profile 2
+= rekey fact T2 1
+= edits 5
+= status 0
+run load w customer c1 c1.csv
+= accepted 14 c1: 1 records, 0 placeholders
+= status 0
+run dump w customer
+= surrogate,durable,natural,from_day,to_day,is_current,a1,a2,a3,a4,a5,a6,b1,b2,b3,b4,b5,b6,profile_now
+= 0,0,(no card),19000101,99991231,1,(no card),,,,,,,,,,,,0
+= 1,1,C9,19000101,99991231,1,Gold,,,,,,,,,,,,2
+= status 0
+run dump w fact
+= ticket,line,day,store_key,product_key,customer_key,store_durable,product_durable,customer_durable,profile,quantity,amount,cost
+= T0,1,20231231,1,1,0,1,1,0,0,1,250,160
+= T1,1,20240205,1,3,0,1,1,0,0,2,500,320
+= T2,1,20240610,1,9,1,1,2,1,2,1,1000,700
+= status 0
+run dump w profile
+= number,v1,v2,v3,v4,v5,v6
+= 0,,(no card),(no card),,,
+= 1,,(unknown),(unknown),,,
+= 2,,30-39,high,,,
+= status 0
+
+# A later band: the sale keeps its profile. A report by the bands of the day of sale, and by the newest.
+run load w customer c2 c2.csv
+= accepted 15 c2: 1 records, 0 placeholders
+= status 0
+run dump w customer
+= surrogate,durable,natural,from_day,to_day,is_current,a1,a2,a3,a4,a5,a6,b1,b2,b3,b4,b5,b6,profile_now
+= 0,0,(no card),19000101,99991231,1,(no card),,,,,,,,,,,,0
+= 1,1,C9,19000101,99991231,1,Gold,,,,,,,,,,,,3
+= status 0
+run dump w fact
+= ticket,line,day,store_key,product_key,customer_key,store_durable,product_durable,customer_durable,profile,quantity,amount,cost
+= T0,1,20231231,1,1,0,1,1,0,0,1,250,160
+= T1,1,20240205,1,3,0,1,1,0,0,2,500,320
+= T2,1,20240610,1,9,1,1,2,1,2,1,1000,700
+= status 0
+run dump w profile
+= number,v1,v2,v3,v4,v5,v6
+= 0,,(no card),(no card),,,
+= 1,,(unknown),(unknown),,,
+= 2,,30-39,high,,,
+= 3,,40-49,high,,,
+= status 0
+run dump w change
+= command,record,dim,durable,day,anchor,v1,v2,v3,v4,v5,v6
+= 3,1,1,1,20240110,2,Cola 1l,Acme,Drinks,Grocery,2019,North
+= 4,1,1,1,20240201,3,Cola 1l,Bolt,Drinks,Grocery,2019,North
+= 6,1,1,1,20240120,4,Cola 1l,Bolt,Drinks,Grocery,2019,North
+= 7,1,1,1,20240201,3,Cola 1l,Cask,Drinks,Grocery,2019,North
+= 8,1,1,1,20240301,5,Cola 1 l,Cask,Drinks,Grocery,2019,North
+= 9,1,1,1,20240401,6,Cola 1 l,Cask,Soft drinks,Grocery,2019,North
+= 10,1,1,1,20240601,7,Cola 1 l,Cask,Soft drinks,Grocery,2021,South
+= 11,1,1,1,20240501,8,Cola 1 l,Cask,Soft drinks,Grocery,2019,East
+= 13,1,1,2,20240605,10,Tea 50,Leaf,Drinks,Grocery,2024,North
+= 14,1,3,1,20240608,2,Gold,30-39,high,,,
+= 15,1,3,1,20240701,3,Gold,40-49,high,,,
+= status 0
+run report w customer.age_band was 2023-01-01 2026-12-31
+= report customer.age_band was 2023-01-01 2026-12-31
+=    lines   quantity         amount           cost         margin  label
+=        2          3           7.50           4.80           2.70  (no card)
+=        1          1          10.00           7.00           3.00  30-39
+=        3          4          17.50          11.80           5.70  total
+= status 0
+run report w customer.age_band is 2023-01-01 2026-12-31
+= report customer.age_band is 2023-01-01 2026-12-31
+=    lines   quantity         amount           cost         margin  label
+=        2          3           7.50           4.80           2.70  (no card)
+=        1          1          10.00           7.00           3.00  40-49
+=        3          4          17.50          11.80           5.70  total
+= status 0
+
+# A writer that takes a byte a call, and fails from a call on, or at a call alone.
+breaks 1 report w customer.age_band was 2023-01-01 2026-12-31
+= status 0
+= 343 calls
+= a beginning, and then failed: G4 write where it can be written, status 3
+
+# The brand is overwritten from now on, and then tracked again. A policy that exchanges two attributes doesn't fit.
+run plan w migrate m1 m1.toml
+= put command 16
+= put product 1
+= remove product 3
+= remove product 4
+= rekey fact T1 1
+= edits 5
+= status 0
+run migrate w m1 m1.toml
+= accepted 16 m1: 0 records, 0 placeholders
+= status 0
+run dump w product
+= surrogate,durable,natural,from_day,to_day,is_current,a1,a2,a3,a4,a5,a6,b1,b2,b3,b4,b5,b6,profile_now
+= 1,1,P1,19000101,20240331,0,Cola 1 l,Cask,Drinks,Grocery,2019,South,,,Soft drinks,,,East,0
+= 6,1,P1,20240401,99991231,1,Cola 1 l,Cask,Soft drinks,Grocery,2019,South,,,Soft drinks,,,East,0
+= 9,2,P9,19000101,99991231,1,Tea 50,Leaf,Drinks,Grocery,2024,North,,,Drinks,,,(none),0
+= status 0
+run dump w fact
+= ticket,line,day,store_key,product_key,customer_key,store_durable,product_durable,customer_durable,profile,quantity,amount,cost
+= T0,1,20231231,1,1,0,1,1,0,0,1,250,160
+= T1,1,20240205,1,1,0,1,1,0,0,2,500,320
+= T2,1,20240610,1,9,1,1,2,1,2,1,1000,700
+= status 0
+run report w product.brand is 2023-01-01 2026-12-31
+= report product.brand is 2023-01-01 2026-12-31
+=    lines   quantity         amount           cost         margin  label
+=        2          3           7.50           4.80           2.70  Cask
+=        1          1          10.00           7.00           3.00  Leaf
+=        3          4          17.50          11.80           5.70  total
+= status 0
+run report w product.brand was 2023-01-01 2026-12-31
+= report product.brand was 2023-01-01 2026-12-31
+=    lines   quantity         amount           cost         margin  label
+=        2          3           7.50           4.80           2.70  Cask
+=        1          1          10.00           7.00           3.00  Leaf
+=        3          4          17.50          11.80           5.70  total
+= status 0
+run migrate w m2 policy.toml
+= accepted 17 m2: 0 records, 0 placeholders
+= status 0
+run dump w product
+= surrogate,durable,natural,from_day,to_day,is_current,a1,a2,a3,a4,a5,a6,b1,b2,b3,b4,b5,b6,profile_now
+= 1,1,P1,19000101,20240119,0,Cola 1 l,Acme,Drinks,Grocery,2019,South,,,Soft drinks,,,East,0
+= 3,1,P1,20240201,20240331,0,Cola 1 l,Cask,Drinks,Grocery,2019,South,,,Soft drinks,,,East,0
+= 4,1,P1,20240120,20240131,0,Cola 1 l,Bolt,Drinks,Grocery,2019,South,,,Soft drinks,,,East,0
+= 6,1,P1,20240401,99991231,1,Cola 1 l,Cask,Soft drinks,Grocery,2019,South,,,Soft drinks,,,East,0
+= 9,2,P9,19000101,99991231,1,Tea 50,Leaf,Drinks,Grocery,2024,North,,,Drinks,,,(none),0
+= status 0
+run dump w fact
+= ticket,line,day,store_key,product_key,customer_key,store_durable,product_durable,customer_durable,profile,quantity,amount,cost
+= T0,1,20231231,1,1,0,1,1,0,0,1,250,160
+= T1,1,20240205,1,3,0,1,1,0,0,2,500,320
+= T2,1,20240610,1,9,1,1,2,1,2,1,1000,700
+= status 0
+run migrate w m3 m3.toml
+= refused: E5 policy does not fit
+= status 2
+run report w product.brand was 2023-01-01 2026-12-31
+= report product.brand was 2023-01-01 2026-12-31
+=    lines   quantity         amount           cost         margin  label
+=        1          1           2.50           1.60           0.90  Acme
+=        1          2           5.00           3.20           1.80  Cask
+=        1          1          10.00           7.00           3.00  Leaf
+=        3          4          17.50          11.80           5.70  total
+= status 0
+
+# A batch again, another under its id, and a sale of a line that is there.
+run load w product p1 p1.csv
+= already 3 p1: 1 records, 0 placeholders
+= status 0
+run load w product p1 p1x.csv
+= refused: E2 id reused
+= status 2
+run load w sales s3 s3.csv
+= refused: E6 line there, record 2
+= status 2
+run dump w fact
+= ticket,line,day,store_key,product_key,customer_key,store_durable,product_durable,customer_durable,profile,quantity,amount,cost
+= T0,1,20231231,1,1,0,1,1,0,0,1,250,160
+= T1,1,20240205,1,3,0,1,1,0,0,2,500,320
+= T2,1,20240610,1,9,1,1,2,1,2,1,1000,700
+= status 0
+
+# A day of a leap year, no day, and a day that the calendar hasn't got.
+run load w sales s4 s4.csv
+= accepted 18 s4: 1 records, 0 placeholders
+= status 0
+run dump w fact
+= ticket,line,day,store_key,product_key,customer_key,store_durable,product_durable,customer_durable,profile,quantity,amount,cost
+= T0,1,20231231,1,1,0,1,1,0,0,1,250,160
+= T1,1,20240205,1,3,0,1,1,0,0,2,500,320
+= T2,1,20240610,1,9,1,1,2,1,2,1,1000,700
+= T4,1,20240229,1,3,0,1,1,0,0,1,250,160
+= status 0
+run load w sales s5 s5.csv
+= refused: E3 batch, B5 bad day, record 1
+= status 2
+run load w sales s6 s6.csv
+= refused: E3 batch, B9 outside calendar, record 1
+= status 2
+
+# By attributes of each type, in each mode that it has a reading in.
+run report w product.brand is 2023-01-01 2026-12-31
+= refused: G2 no reading, type 2 is
+= status 2
+run report w product.category was 2023-01-01 2026-12-31
+= report product.category was 2023-01-01 2026-12-31
+=    lines   quantity         amount           cost         margin  label
+=        4          5          20.00          13.40           6.60  Drinks
+=        4          5          20.00          13.40           6.60  total
+= status 0
+run report w product.category is 2023-01-01 2026-12-31
+= report product.category is 2023-01-01 2026-12-31
+=    lines   quantity         amount           cost         margin  label
+=        1          1          10.00           7.00           3.00  Drinks
+=        3          4          10.00           6.40           3.60  Soft drinks
+=        4          5          20.00          13.40           6.60  total
+= status 0
+run report w product.supplier is 2023-01-01 2026-12-31
+= report product.supplier is 2023-01-01 2026-12-31
+=    lines   quantity         amount           cost         margin  label
+=        1          1          10.00           7.00           3.00  North
+=        3          4          10.00           6.40           3.60  South
+=        4          5          20.00          13.40           6.60  total
+= status 0
+run report w product.supplier prior 2023-01-01 2026-12-31
+= report product.supplier prior 2023-01-01 2026-12-31
+=    lines   quantity         amount           cost         margin  label
+=        1          1          10.00           7.00           3.00  (none)
+=        3          4          10.00           6.40           3.60  East
+=        4          5          20.00          13.40           6.60  total
+= status 0
+run report w date.month was 2023-01-01 2026-12-31
+= report date.month was 2023-01-01 2026-12-31
+=    lines   quantity         amount           cost         margin  label
+=        1          1           2.50           1.60           0.90  2023-12
+=        2          3           7.50           4.80           2.70  2024-02
+=        1          1          10.00           7.00           3.00  2024-06
+=        4          5          20.00          13.40           6.60  total
+= status 0
+run report w date.month is 2023-01-01 2026-12-31
+= report date.month is 2023-01-01 2026-12-31
+=    lines   quantity         amount           cost         margin  label
+=        1          1           2.50           1.60           0.90  2023-12
+=        2          3           7.50           4.80           2.70  2024-02
+=        1          1          10.00           7.00           3.00  2024-06
+=        4          5          20.00          13.40           6.60  total
+= status 0
+run report w date.holiday was 2023-01-01 2026-12-31
+= report date.holiday was 2023-01-01 2026-12-31
+=    lines   quantity         amount           cost         margin  label
+=        4          5          20.00          13.40           6.60  (none)
+=        4          5          20.00          13.40           6.60  total
+= status 0
+run report w date.holiday is 2023-01-01 2026-12-31
+= report date.holiday is 2023-01-01 2026-12-31
+=    lines   quantity         amount           cost         margin  label
+=        4          5          20.00          13.40           6.60  (none)
+=        4          5          20.00          13.40           6.60  total
+= status 0
+run report w product.launched was 2023-01-01 2026-12-31
+= report product.launched was 2023-01-01 2026-12-31
+=    lines   quantity         amount           cost         margin  label
+=        3          4          10.00           6.40           3.60  2019
+=        1          1          10.00           7.00           3.00  2024
+=        4          5          20.00          13.40           6.60  total
+= status 0
+run report w product.launched is 2023-01-01 2026-12-31
+= report product.launched is 2023-01-01 2026-12-31
+=    lines   quantity         amount           cost         margin  label
+=        3          4          10.00           6.40           3.60  2019
+=        1          1          10.00           7.00           3.00  2024
+=        4          5          20.00          13.40           6.60  total
+= status 0
+run report w product.description was 2023-01-01 2026-12-31
+= report product.description was 2023-01-01 2026-12-31
+=    lines   quantity         amount           cost         margin  label
+=        3          4          10.00           6.40           3.60  Cola 1 l
+=        1          1          10.00           7.00           3.00  Tea 50
+=        4          5          20.00          13.40           6.60  total
+= status 0
+run report w product.description is 2023-01-01 2026-12-31
+= report product.description is 2023-01-01 2026-12-31
+=    lines   quantity         amount           cost         margin  label
+=        3          4          10.00           6.40           3.60  Cola 1 l
+=        1          1          10.00           7.00           3.00  Tea 50
+=        4          5          20.00          13.40           6.60  total
+= status 0
+run report w product.brand was 2023-01-01 2026-12-31
+= report product.brand was 2023-01-01 2026-12-31
+=    lines   quantity         amount           cost         margin  label
+=        1          1           2.50           1.60           0.90  Acme
+=        2          3           7.50           4.80           2.70  Cask
+=        1          1          10.00           7.00           3.00  Leaf
+=        4          5          20.00          13.40           6.60  total
+= status 0
+run report w product.department was 2023-01-01 2026-12-31
+= report product.department was 2023-01-01 2026-12-31
+=    lines   quantity         amount           cost         margin  label
+=        4          5          20.00          13.40           6.60  Grocery
+=        4          5          20.00          13.40           6.60  total
+= status 0
+run report w product.department is 2023-01-01 2026-12-31
+= report product.department is 2023-01-01 2026-12-31
+=    lines   quantity         amount           cost         margin  label
+=        4          5          20.00          13.40           6.60  Grocery
+=        4          5          20.00          13.40           6.60  total
+= status 0
+run report w store.city was 2023-01-01 2026-12-31
+= report store.city was 2023-01-01 2026-12-31
+=    lines   quantity         amount           cost         margin  label
+=        4          5          20.00          13.40           6.60  (unknown)
+=        4          5          20.00          13.40           6.60  total
+= status 0
+run report w customer.tier was 2023-01-01 2026-12-31
+= report customer.tier was 2023-01-01 2026-12-31
+=    lines   quantity         amount           cost         margin  label
+=        3          4          10.00           6.40           3.60  (no card)
+=        1          1          10.00           7.00           3.00  Gold
+=        4          5          20.00          13.40           6.60  total
+= status 0
+run report w customer.spend_band was 2023-01-01 2026-12-31
+= report customer.spend_band was 2023-01-01 2026-12-31
+=    lines   quantity         amount           cost         margin  label
+=        3          4          10.00           6.40           3.60  (no card)
+=        1          1          10.00           7.00           3.00  high
+=        4          5          20.00          13.40           6.60  total
+= status 0
+run report w customer.spend_band is 2023-01-01 2026-12-31
+= report customer.spend_band is 2023-01-01 2026-12-31
+=    lines   quantity         amount           cost         margin  label
+=        3          4          10.00           6.40           3.60  (no card)
+=        1          1          10.00           7.00           3.00  high
+=        4          5          20.00          13.40           6.60  total
+= status 0
+run report w date.month prior 2023-01-01 2026-12-31
+= refused: G2 no reading, date prior
+= status 2
+
+# No sale, a single day, and both ends of a range, which are included.
+run report w product.category was 2025-01-01 2025-12-31
+= report product.category was 2025-01-01 2025-12-31
+=    lines   quantity         amount           cost         margin  label
+=        0          0           0.00           0.00           0.00  total
+= status 0
+run report w product.category was 2024-02-29 2024-02-29
+= report product.category was 2024-02-29 2024-02-29
+=    lines   quantity         amount           cost         margin  label
+=        1          1           2.50           1.60           0.90  Drinks
+=        1          1           2.50           1.60           0.90  total
+= status 0
+run report w date.month was 2024-02-05 2024-02-29
+= report date.month was 2024-02-05 2024-02-29
+=    lines   quantity         amount           cost         margin  label
+=        2          3           7.50           4.80           2.70  2024-02
+=        2          3           7.50           4.80           2.70  total
+= status 0
+run report w date.month was 2024-02-06 2024-02-28
+= report date.month was 2024-02-06 2024-02-28
+=    lines   quantity         amount           cost         margin  label
+=        0          0           0.00           0.00           0.00  total
+= status 0
+run report w customer.age_band is 1900-01-01 9999-12-31
+= report customer.age_band is 1900-01-01 9999-12-31
+=    lines   quantity         amount           cost         margin  label
+=        3          4          10.00           6.40           3.60  (no card)
+=        1          1          10.00           7.00           3.00  40-49
+=        4          5          20.00          13.40           6.60  total
+= status 0
+
+# A mark in front and other ends of lines make another batch; bands that weren't given are a profile too.
+run plan w customer c3 c3.csv
+= put command 19
+= put change 19 1
+= edits 2
+= status 0
+run load w customer c3 c3.csv
+= accepted 19 c3: 1 records, 0 placeholders
+= status 0
+run load w customer c4 c4.csv
+= accepted 20 c4: 1 records, 0 placeholders
+= status 0
+file c5.csv
+> id,day,tier,age_band,spend_band
+> C8,2024-07-01,xxxxxxxxxxxxxxxxxxxxxxxxxxxxxxxxxxxxxxxxxxxxxxxxxxxxxxxxxxxxx,,
+run load w customer c5 c5.csv
+= refused: E3 batch, B6 bad value, record 1
+= status 2
+run dump w customer
+= surrogate,durable,natural,from_day,to_day,is_current,a1,a2,a3,a4,a5,a6,b1,b2,b3,b4,b5,b6,profile_now
+= 0,0,(no card),19000101,99991231,1,(no card),,,,,,,,,,,,0
+= 1,1,C9,19000101,99991231,1,Gold,,,,,,,,,,,,3
+= 4,2,C8,19000101,99991231,1,xxxxxxxxxxxxxxxxxxxxxxxxxxxxxxxxxxxxxxxxxxxxxxxxxxxxxxxxxxxx,,,,,,,,,,,,4
+= status 0
+run dump w profile
+= number,v1,v2,v3,v4,v5,v6
+= 0,,(no card),(no card),,,
+= 1,,(unknown),(unknown),,,
+= 2,,30-39,high,,,
+= 3,,40-49,high,,,
+= 4,,(none),(none),,,
+= status 0
+run dump w member
+= dim,durable,natural,opening
+= 1,1,P1,1
+= 1,2,P9,9
+= 2,1,S1,1
+= 3,1,C9,1
+= 3,2,C8,4
+= status 0
+run dump w change
+= command,record,dim,durable,day,anchor,v1,v2,v3,v4,v5,v6
+= 3,1,1,1,20240110,2,Cola 1l,Acme,Drinks,Grocery,2019,North
+= 4,1,1,1,20240201,3,Cola 1l,Bolt,Drinks,Grocery,2019,North
+= 6,1,1,1,20240120,4,Cola 1l,Bolt,Drinks,Grocery,2019,North
+= 7,1,1,1,20240201,3,Cola 1l,Cask,Drinks,Grocery,2019,North
+= 8,1,1,1,20240301,5,Cola 1 l,Cask,Drinks,Grocery,2019,North
+= 9,1,1,1,20240401,6,Cola 1 l,Cask,Soft drinks,Grocery,2019,North
+= 10,1,1,1,20240601,7,Cola 1 l,Cask,Soft drinks,Grocery,2021,South
+= 11,1,1,1,20240501,8,Cola 1 l,Cask,Soft drinks,Grocery,2019,East
+= 13,1,1,2,20240605,10,Tea 50,Leaf,Drinks,Grocery,2024,North
+= 14,1,3,1,20240608,2,Gold,30-39,high,,,
+= 15,1,3,1,20240701,3,Gold,40-49,high,,,
+= 19,1,3,1,20240701,3,Gold,40-49,high,,,
+= 20,1,3,2,20240701,5,xxxxxxxxxxxxxxxxxxxxxxxxxxxxxxxxxxxxxxxxxxxxxxxxxxxxxxxxxxxx,(none),(none),,,
+= status 0
+run report w customer.age_band is 2023-01-01 2026-12-31
+= report customer.age_band is 2023-01-01 2026-12-31
+=    lines   quantity         amount           cost         margin  label
+=        3          4          10.00           6.40           3.60  (no card)
+=        1          1          10.00           7.00           3.00  40-49
+=        4          5          20.00          13.40           6.60  total
+= status 0
+run status w
+= format 1
+= commands 20
+= changes 13
+= facts 4
+= members product 2 store 1 customer 2
+= status 0
+
+# The calendar has a line a day of four years, and the columns' names. Of two days.
+lines dump w calendar
+= 1462 lines
+= status 0
+sql w DELETE FROM calendar WHERE date_key <> 20240229 AND date_key <> 20241225
+run dump w calendar
+= date_key,iso,year,quarter,month,day,day_of_year,weekday,weekday_name,weekend,holiday
+= 20240229,2024-02-29,2024,1,2,29,60,4,Thursday,0,(none)
+= 20241225,2024-12-25,2024,4,12,25,360,3,Wednesday,0,Christmas Day
+= status 0
+"#;
+
+pub const REFUSED: &str = r#"
+# Of each dimension attributes of all types that it may have, and under another policy bands of customers of the other type.
+policy policy.toml name = "tier"|type = 2->name = "tier"|type = 2|[[customer]]|name = "age_band"|type = 5|[[customer]]|name = "spend_band"|type = 5
+policy four.toml name = "tier"|type = 2->name = "tier"|type = 2|[[customer]]|name = "age_band"|type = 4|[[customer]]|name = "spend_band"|type = 4
+file p1.csv
+> id,day,description,brand,category,department,launched,supplier
+> P1,2024-01-10,Cola 1l,Acme,Drinks,Grocery,2019,North
+run init w policy.toml
+= accepted 1 init: 0 records, 0 placeholders
+= status 0
+run init v four.toml
+= accepted 1 init: 0 records, 0 placeholders
+= status 0
+
+# No such attribute: another name, one of another dimension, none, and words that name no dimension.
+run report w product.colour was 2023-01-01 2026-12-31
+= refused: G1 no attribute
+= status 2
+run report w product.city was 2023-01-01 2026-12-31
+= refused: G1 no attribute
+= status 2
+run report w store.brand was 2023-01-01 2026-12-31
+= refused: G1 no attribute
+= status 2
+run report w customer.brand was 2023-01-01 2026-12-31
+= refused: G1 no attribute
+= status 2
+run report w date.year was 2023-01-01 2026-12-31
+= refused: G1 no attribute
+= status 2
+run report w date.day was 2023-01-01 2026-12-31
+= refused: G1 no attribute
+= status 2
+run report w date was 2023-01-01 2026-12-31
+= refused: G1 no attribute
+= status 2
+run report w product was 2023-01-01 2026-12-31
+= refused: G1 no attribute
+= status 2
+run report w product. was 2023-01-01 2026-12-31
+= refused: G1 no attribute
+= status 2
+run report w .brand was 2023-01-01 2026-12-31
+= refused: G1 no attribute
+= status 2
+run report w brand was 2023-01-01 2026-12-31
+= refused: G1 no attribute
+= status 2
+run report w Product.brand was 2023-01-01 2026-12-31
+= refused: G1 no attribute
+= status 2
+run report w product.Brand was 2023-01-01 2026-12-31
+= refused: G1 no attribute
+= status 2
+run report w product.brand.x was 2023-01-01 2026-12-31
+= refused: G1 no attribute
+= status 2
+run report w product..brand was 2023-01-01 2026-12-31
+= refused: G1 no attribute
+= status 2
+run report w product,brand was 2023-01-01 2026-12-31
+= refused: G1 no attribute
+= status 2
+run report w
+>
+> was
+> 2023-01-01
+> 2026-12-31
+= refused: G1 no attribute
+= status 2
+run report w
+>  product.brand
+> was
+> 2023-01-01
+> 2026-12-31
+= refused: G1 no attribute
+= status 2
+run report w
+> product. brand
+> was
+> 2023-01-01
+> 2026-12-31
+= refused: G1 no attribute
+= status 2
+run report w calendar.month was 2023-01-01 2026-12-31
+= refused: G1 no attribute
+= status 2
+run report w date.months was 2023-01-01 2026-12-31
+= refused: G1 no attribute
+= status 2
+
+# No reading, by the type of the attribute and the mode.
+run report w product.launched prior 2023-01-01 2026-12-31
+= refused: G2 no reading, type 0 prior
+= status 2
+run report w product.description prior 2023-01-01 2026-12-31
+= refused: G2 no reading, type 1 prior
+= status 2
+run report w product.brand is 2023-01-01 2026-12-31
+= refused: G2 no reading, type 2 is
+= status 2
+run report w product.brand prior 2023-01-01 2026-12-31
+= refused: G2 no reading, type 2 prior
+= status 2
+run report w product.supplier was 2023-01-01 2026-12-31
+= refused: G2 no reading, type 3 was
+= status 2
+run report w customer.age_band prior 2023-01-01 2026-12-31
+= refused: G2 no reading, type 5 prior
+= status 2
+run report w product.category prior 2023-01-01 2026-12-31
+= refused: G2 no reading, type 6 prior
+= status 2
+run report w product.department prior 2023-01-01 2026-12-31
+= refused: G2 no reading, type 7 prior
+= status 2
+run report w store.city is 2023-01-01 2026-12-31
+= refused: G2 no reading, type 2 is
+= status 2
+run report w customer.tier prior 2023-01-01 2026-12-31
+= refused: G2 no reading, type 2 prior
+= status 2
+run report v customer.spend_band is 2023-01-01 2026-12-31
+= refused: G2 no reading, type 4 is
+= status 2
+run report v customer.spend_band prior 2023-01-01 2026-12-31
+= refused: G2 no reading, type 4 prior
+= status 2
+run report w date.month prior 2023-01-01 2026-12-31
+= refused: G2 no reading, date prior
+= status 2
+run report w date.holiday prior 2023-01-01 2026-12-31
+= refused: G2 no reading, date prior
+= status 2
+
+# No range: what is no day, a day before the first, and a range that ends before it begins.
+run report w product.brand was 2024-02-30 2024-12-31
+= refused: G3 bad range
+= status 2
+run report w product.brand was 2024-01-01 2023-02-29
+= refused: G3 bad range
+= status 2
+run report w product.brand was 2024-1-1 2024-12-31
+= refused: G3 bad range
+= status 2
+run report w product.brand was 20240101 2024-12-31
+= refused: G3 bad range
+= status 2
+run report w product.brand was 2024-01-01 2024-13-01
+= refused: G3 bad range
+= status 2
+run report w product.brand was 1899-12-31 2024-12-31
+= refused: G3 bad range
+= status 2
+run report w
+> product.brand
+> was
+>
+> 2024-12-31
+= refused: G3 bad range
+= status 2
+run report w
+> product.brand
+> was
+> 2024-01-01
+>
+= refused: G3 bad range
+= status 2
+run report w
+> product.brand
+> was
+>  2024-01-01
+> 2024-12-31
+= refused: G3 bad range
+= status 2
+run report w product.brand was 2024-01-02 2024-01-01
+= refused: G3 bad range
+= status 2
+run report w product.brand was 9999-12-31 1900-01-01
+= refused: G3 bad range
+= status 2
+run report w product.brand was today 2024-12-31
+= refused: G3 bad range
+= status 2
+
+# The first fault is told: the attribute, then its reading, then the range.
+run report w product.colour prior 2024-02-30 2023-01-01
+= refused: G1 no attribute
+= status 2
+run report w product.brand is 2024-02-30 2023-01-01
+= refused: G2 no reading, type 2 is
+= status 2
+run report w date.month prior 2024-01-02 2024-01-01
+= refused: G2 no reading, date prior
+= status 2
+run report w date.week prior 2024-01-02 2024-01-01
+= refused: G1 no attribute
+= status 2
+
+# The policy in force tells it: a newer one has another type of the brand.
+policy m1.toml name = "brand"|type = 2->name = "brand"|type = 1 and name = "tier"|type = 2->name = "tier"|type = 2|[[customer]]|name = "age_band"|type = 5|[[customer]]|name = "spend_band"|type = 5
+run report w product.brand is 2023-01-01 2026-12-31
+= refused: G2 no reading, type 2 is
+= status 2
+run migrate w m1 m1.toml
+= accepted 2 m1: 0 records, 0 placeholders
+= status 0
+run report w product.brand is 2023-01-01 2026-12-31
+= report product.brand is 2023-01-01 2026-12-31
+=    lines   quantity         amount           cost         margin  label
+=        0          0           0.00           0.00           0.00  total
+= status 0
+run report w product.brand prior 2023-01-01 2026-12-31
+= refused: G2 no reading, type 1 prior
+= status 2
+
+# Where nothing is, nothing is made, whatever is asked for. A file is not connected.
+run report x product.brand was 2023-01-01 2026-12-31
+= failed: N1 not a warehouse
+= status 3
+run report x product.colour prior 2024-02-30 2023-01-01
+= failed: N1 not a warehouse
+= status 3
+run dump x product
+= failed: N1 not a warehouse
+= status 3
+run dump x meta
+= failed: N1 not a warehouse
+= status 3
+stands x
+= no
+run report p1.csv product.brand was 2023-01-01 2026-12-31
+= failed: F1 file, p1.csv
+= status 3
+run dump p1.csv product
+= failed: F1 file, p1.csv
+= status 3
+
+# Nine tables are no warehouse, and other formats are refused.
+sql v DROP TABLE profile
+run report v product.brand was 2023-01-01 2026-12-31
+= failed: N1 not a warehouse
+= status 3
+run dump v product
+= failed: N1 not a warehouse
+= status 3
+sql w UPDATE meta SET value = 0 WHERE name = 'format'
+run report w product.brand was 2023-01-01 2026-12-31
+= failed: N2 old format
+= status 3
+run dump w product
+= failed: N2 old format
+= status 3
+sql w UPDATE meta SET value = 2 WHERE name = 'format'
+run report w product.brand was 2023-01-01 2026-12-31
+= failed: N3 new format
+= status 3
+run dump w product
+= failed: N3 new format
+= status 3
+sql w UPDATE meta SET value = 'one' WHERE name = 'format'
+run report w product.brand was 2023-01-01 2026-12-31
+= failed: E7 damaged, meta
+= status 3
+run dump w product
+= failed: E7 damaged, meta
+= status 3
+
+# Words that are none: of a mode, of a table, too few and too many.
+ended report w product.brand now 2023-01-01 2026-12-31
+= a text
+= status 4
+ended report w product.brand Was 2023-01-01 2026-12-31
+= a text
+= status 4
+ended report w product.brand was
+= a text
+= status 4
+ended report w product.brand was 2023-01-01
+= a text
+= status 4
+ended report w product.brand was 2023-01-01 2026-12-31 more
+= a text
+= status 4
+ended report w
+= a text
+= status 4
+ended report
+= a text
+= status 4
+ended dump w
+= a text
+= status 4
+ended dump
+= a text
+= status 4
+ended dump w products
+= a text
+= status 4
+ended dump w Product
+= a text
+= status 4
+ended dump w sales
+= a text
+= status 4
+ended dump w date
+= a text
+= status 4
+ended dump w fact2
+= a text
+= status 4
+ended dump w product more
+= a text
+= status 4
+ended dump x none
+= a text
+= status 4
+ended report x product.brand then 2023-01-01 2026-12-31
+= a text
+= status 4
+ended report
+> w
+> product.brand
+>
+> 2023-01-01
+> 2026-12-31
+= a text
+= status 4
+ended dump w
+>
+= a text
+= status 4
+stands x
+= no
+ended report --help
+= a text
+= status 0
+ended help report
+= a text
+= status 0
+ended dump --help
+= a text
+= status 0
+ended help dump
+= a text
+= status 0
+"#;
+
+pub const TABLES: &str = r#"
+# Texts with commas and quotes, a text of 60 bytes that is no ASCII, and figures below nothing.
+file small.toml
+> first_year = 2024
+> last_year = 2024
+> [[product]]
+> name = "label"
+> type = 2
+> [[store]]
+> name = "city"
+> type = 1
+> [[customer]]
+> name = "band"
+> type = 5
+> [[holiday]]
+> day = "2024-12-25"
+> name = 'Feast, "long"'
+file p1.csv
+> id,day,label
+> P1,2024-01-10,"Tea, 50 ""Earl"""
+> P2,2024-01-10,éééééééééééééééééééééééééééééé
+> P1,2024-06-01,Tee
+file k1.csv
+> id,day,city
+> S1,2024-01-01,Bern
+file c1.csv
+> id,day,band
+> C1,2024-03-01,30-39
+> C1,2024-09-01,
+file s1.csv
+> ticket,line,day,store,product,customer,quantity,amount,cost
+> T1,1,2024-12-25,S1,P1,C1,1,2.00,1.00
+> T1,2,2024-12-25,S1,P2,,-1,-0.05,0
+> T2,1,2024-02-10,S1,P1,C1,3,6,3.5
+> T2,10,2024-02-10,S1,P1,,2,0.00,0.01
+run init w small.toml
+= accepted 1 init: 0 records, 0 placeholders
+= status 0
+run load w product p1 p1.csv
+= accepted 2 p1: 3 records, 0 placeholders
+= status 0
+run load w store k1 k1.csv
+= accepted 3 k1: 1 records, 0 placeholders
+= status 0
+run load w customer c1 c1.csv
+= accepted 4 c1: 2 records, 0 placeholders
+= status 0
+run load w sales s1 s1.csv
+= accepted 5 s1: 4 records, 0 placeholders
+= status 0
+
+# Each table. The calendar has a line a day of a leap year, and the columns' names.
+run dump w meta
+= name,value
+= changes_max,1000000
+= commands_max,100000
+= facts_max,1000000
+= format,1
+= status 0
+run dump w command
+= number,id,kind,bytes,records,placeholders
+= 1,init,init,66697273745f79656172203d20323032340a6c6173745f79656172203d20323032340a5b5b70726f647563745d5d0a6e616d65203d20226c6162656c220a74797065203d20320a5b5b73746f72655d5d0a6e616d65203d202263697479220a74797065203d20310a5b5b637573746f6d65725d5d0a6e616d65203d202262616e64220a74797065203d20350a5b5b686f6c696461795d5d0a646179203d2022323032342d31322d3235220a6e616d65203d202746656173742c20226c6f6e6722270a,0,0
+= 2,p1,product,69642c6461792c6c6162656c0a50312c323032342d30312d31302c225465612c2035302022224561726c2222220a50322c323032342d30312d31302cc3a9c3a9c3a9c3a9c3a9c3a9c3a9c3a9c3a9c3a9c3a9c3a9c3a9c3a9c3a9c3a9c3a9c3a9c3a9c3a9c3a9c3a9c3a9c3a9c3a9c3a9c3a9c3a9c3a9c3a90a50312c323032342d30362d30312c5465650a,3,0
+= 3,k1,store,69642c6461792c636974790a53312c323032342d30312d30312c4265726e0a,1,0
+= 4,c1,customer,69642c6461792c62616e640a43312c323032342d30332d30312c33302d33390a43312c323032342d30392d30312c0a,2,0
+= 5,s1,sales,7469636b65742c6c696e652c6461792c73746f72652c70726f647563742c637573746f6d65722c7175616e746974792c616d6f756e742c636f73740a54312c312c323032342d31322d32352c53312c50312c43312c312c322e30302c312e30300a54312c322c323032342d31322d32352c53312c50322c2c2d312c2d302e30352c300a54322c312c323032342d30322d31302c53312c50312c43312c332c362c332e350a54322c31302c323032342d30322d31302c53312c50312c2c322c302e30302c302e30310a,4,0
+= status 0
+run dump w member
+= dim,durable,natural,opening
+= 1,1,P1,1
+= 1,2,P2,3
+= 2,1,S1,1
+= 3,1,C1,1
+= status 0
+run dump w change
+= command,record,dim,durable,day,anchor,v1,v2,v3,v4,v5,v6
+= 2,1,1,1,20240110,2,"Tea, 50 ""Earl""",,,,,
+= 2,2,1,2,20240110,4,éééééééééééééééééééééééééééééé,,,,,
+= 2,3,1,1,20240601,5,Tee,,,,,
+= 3,1,2,1,20240101,2,Bern,,,,,
+= 4,1,3,1,20240301,2,30-39,,,,,
+= 4,2,3,1,20240901,3,(none),,,,,
+= status 0
+run dump w product
+= surrogate,durable,natural,from_day,to_day,is_current,a1,a2,a3,a4,a5,a6,b1,b2,b3,b4,b5,b6,profile_now
+= 1,1,P1,19000101,20240531,0,"Tea, 50 ""Earl""",,,,,,,,,,,,0
+= 3,2,P2,19000101,99991231,1,éééééééééééééééééééééééééééééé,,,,,,,,,,,,0
+= 5,1,P1,20240601,99991231,1,Tee,,,,,,,,,,,,0
+= status 0
+run dump w store
+= surrogate,durable,natural,from_day,to_day,is_current,a1,a2,a3,a4,a5,a6,b1,b2,b3,b4,b5,b6,profile_now
+= 1,1,S1,19000101,99991231,1,Bern,,,,,,,,,,,,0
+= status 0
+run dump w customer
+= surrogate,durable,natural,from_day,to_day,is_current,a1,a2,a3,a4,a5,a6,b1,b2,b3,b4,b5,b6,profile_now
+= 0,0,(no card),19000101,99991231,1,,,,,,,,,,,,,0
+= 1,1,C1,19000101,99991231,1,,,,,,,,,,,,,3
+= status 0
+run dump w profile
+= number,v1,v2,v3,v4,v5,v6
+= 0,(no card),,,,,
+= 1,(unknown),,,,,
+= 2,30-39,,,,,
+= 3,(none),,,,,
+= status 0
+lines dump w calendar
+= 367 lines
+= status 0
+run dump w fact
+= ticket,line,day,store_key,product_key,customer_key,store_durable,product_durable,customer_durable,profile,quantity,amount,cost
+= T1,1,20241225,1,5,1,1,1,1,3,1,200,100
+= T1,2,20241225,1,3,0,1,2,0,0,-1,-5,0
+= T2,1,20240210,1,1,1,1,1,1,2,3,600,350
+= T2,10,20240210,1,1,0,1,1,0,0,2,0,1
+= status 0
+
+# Labels are not quoted, and stand in order of their bytes.
+run report w product.label was 2024-01-01 2024-12-31
+= report product.label was 2024-01-01 2024-12-31
+=    lines   quantity         amount           cost         margin  label
+=        2          5           6.00           3.51           2.49  Tea, 50 "Earl"
+=        1          1           2.00           1.00           1.00  Tee
+=        1         -1          -0.05           0.00          -0.05  éééééééééééééééééééééééééééééé
+=        4          5           7.95           4.51           3.44  total
+= status 0
+run report w store.city was 2024-01-01 2024-12-31
+= report store.city was 2024-01-01 2024-12-31
+=    lines   quantity         amount           cost         margin  label
+=        4          5           7.95           4.51           3.44  Bern
+=        4          5           7.95           4.51           3.44  total
+= status 0
+run report w customer.band was 2024-01-01 2024-12-31
+= report customer.band was 2024-01-01 2024-12-31
+=    lines   quantity         amount           cost         margin  label
+=        2          1          -0.05           0.01          -0.06  (no card)
+=        1          1           2.00           1.00           1.00  (none)
+=        1          3           6.00           3.50           2.50  30-39
+=        4          5           7.95           4.51           3.44  total
+= status 0
+run report w customer.band is 2024-01-01 2024-12-31
+= report customer.band is 2024-01-01 2024-12-31
+=    lines   quantity         amount           cost         margin  label
+=        2          1          -0.05           0.01          -0.06  (no card)
+=        2          4           8.00           4.50           3.50  (none)
+=        4          5           7.95           4.51           3.44  total
+= status 0
+run report w date.holiday was 2024-01-01 2024-12-31
+= report date.holiday was 2024-01-01 2024-12-31
+=    lines   quantity         amount           cost         margin  label
+=        2          5           6.00           3.51           2.49  (none)
+=        2          0           1.95           1.00           0.95  Feast, "long"
+=        4          5           7.95           4.51           3.44  total
+= status 0
+run report w date.month is 2024-01-01 2024-12-31
+= report date.month is 2024-01-01 2024-12-31
+=    lines   quantity         amount           cost         margin  label
+=        2          5           6.00           3.51           2.49  2024-02
+=        2          0           1.95           1.00           0.95  2024-12
+=        4          5           7.95           4.51           3.44  total
+= status 0
+
+# Another warehouse, under another name.
+run init u small.toml
+= accepted 1 init: 0 records, 0 placeholders
+= status 0
+run load u store k1 k1.csv
+= accepted 2 k1: 1 records, 0 placeholders
+= status 0
+run dump u store
+= surrogate,durable,natural,from_day,to_day,is_current,a1,a2,a3,a4,a5,a6,b1,b2,b3,b4,b5,b6,profile_now
+= 1,1,S1,19000101,99991231,1,Bern,,,,,,,,,,,,0
+= status 0
+run report u store.city is 2024-01-01 2024-12-31
+= report store.city is 2024-01-01 2024-12-31
+=    lines   quantity         amount           cost         margin  label
+=        0          0           0.00           0.00           0.00  total
+= status 0
+run report u store.town is 2024-01-01 2024-12-31
+= refused: G1 no attribute
+= status 2
+
+# A damaged row of a table is met by its dump and by reports that read it, and by no other.
+sql w UPDATE store SET to_day = 20240332
+run dump w store
+= surrogate,durable,natural,from_day,to_day,is_current,a1,a2,a3,a4,a5,a6,b1,b2,b3,b4,b5,b6,profile_now
+= failed: E7 damaged, store
+= status 3
+run report w store.city is 2024-01-01 2024-12-31
+= failed: E7 damaged, store
+= status 3
+run dump w profile
+= number,v1,v2,v3,v4,v5,v6
+= 0,(no card),,,,,
+= 1,(unknown),,,,,
+= 2,30-39,,,,,
+= 3,(none),,,,,
+= status 0
+run report w customer.band was 2024-01-01 2024-12-31
+= report customer.band was 2024-01-01 2024-12-31
+=    lines   quantity         amount           cost         margin  label
+=        2          1          -0.05           0.01          -0.06  (no card)
+=        1          1           2.00           1.00           1.00  (none)
+=        1          3           6.00           3.50           2.50  30-39
+=        4          5           7.95           4.51           3.44  total
+= status 0
+run report w store.town is 2024-01-01 2024-12-31
+= refused: G1 no attribute
+= status 2
+sql w UPDATE store SET to_day = 99991231
+sql w UPDATE fact SET quantity = 'two'
+run dump w fact
+= ticket,line,day,store_key,product_key,customer_key,store_durable,product_durable,customer_durable,profile,quantity,amount,cost
+= failed: E7 damaged, fact
+= status 3
+run report w store.city is 2024-01-01 2024-12-31
+= failed: E7 damaged, fact
+= status 3
+run dump w store
+= surrogate,durable,natural,from_day,to_day,is_current,a1,a2,a3,a4,a5,a6,b1,b2,b3,b4,b5,b6,profile_now
+= 1,1,S1,19000101,99991231,1,Bern,,,,,,,,,,,,0
+= status 0
+sql w UPDATE product SET from_day = 20240332
+run report w product.label was 2024-01-01 2024-12-31
+= failed: E7 damaged, product
+= status 3
+run dump w product
+= surrogate,durable,natural,from_day,to_day,is_current,a1,a2,a3,a4,a5,a6,b1,b2,b3,b4,b5,b6,profile_now
+= failed: E7 damaged, product
+= status 3
+
+# A row that a fact names for its label isn't there: only where a sale of the range asks for it.
+anew
+run init w small.toml
+= accepted 1 init: 0 records, 0 placeholders
+= status 0
+run load w product p1 p1.csv
+= accepted 2 p1: 3 records, 0 placeholders
+= status 0
+run load w store k1 k1.csv
+= accepted 3 k1: 1 records, 0 placeholders
+= status 0
+run load w customer c1 c1.csv
+= accepted 4 c1: 2 records, 0 placeholders
+= status 0
+run load w sales s1 s1.csv
+= accepted 5 s1: 4 records, 0 placeholders
+= status 0
+sql w DELETE FROM product WHERE surrogate = 1
+run report w product.label was 2024-01-01 2024-12-31
+= failed: E7 damaged, product
+= status 3
+run report w product.label was 2024-12-01 2024-12-31
+= report product.label was 2024-12-01 2024-12-31
+=    lines   quantity         amount           cost         margin  label
+=        1          1           2.00           1.00           1.00  Tee
+=        1         -1          -0.05           0.00          -0.05  éééééééééééééééééééééééééééééé
+=        2          0           1.95           1.00           0.95  total
+= status 0
+run report w store.city was 2024-01-01 2024-12-31
+= report store.city was 2024-01-01 2024-12-31
+=    lines   quantity         amount           cost         margin  label
+=        4          5           7.95           4.51           3.44  Bern
+=        4          5           7.95           4.51           3.44  total
+= status 0
+sql w DELETE FROM calendar WHERE date_key = 20240210
+run report w date.month is 2024-01-01 2024-12-31
+= failed: E7 damaged, calendar
+= status 3
+run report w date.holiday was 2024-02-10 2024-02-10
+= failed: E7 damaged, calendar
+= status 3
+run report w date.holiday was 2024-02-11 2024-12-31
+= report date.holiday was 2024-02-11 2024-12-31
+=    lines   quantity         amount           cost         margin  label
+=        2          0           1.95           1.00           0.95  Feast, "long"
+=        2          0           1.95           1.00           0.95  total
+= status 0
+sql w DELETE FROM profile WHERE number = 3
+run report w customer.band was 2024-01-01 2024-12-31
+= failed: E7 damaged, profile
+= status 3
+run report w customer.band was 2024-01-01 2024-11-30
+= report customer.band was 2024-01-01 2024-11-30
+=    lines   quantity         amount           cost         margin  label
+=        1          2           0.00           0.01          -0.01  (no card)
+=        1          3           6.00           3.50           2.50  30-39
+=        2          5           6.00           3.51           2.49  total
+= status 0
+sql w DELETE FROM customer WHERE surrogate = 1
+run report w customer.band is 2024-01-01 2024-12-31
+= failed: E7 damaged, customer
+= status 3
+sql w DELETE FROM store
+run report w store.city was 2024-01-01 2024-12-31
+= failed: E7 damaged, store
+= status 3
+run report w store.city was 2024-01-01 2024-01-31
+= report store.city was 2024-01-01 2024-01-31
+=    lines   quantity         amount           cost         margin  label
+=        0          0           0.00           0.00           0.00  total
+= status 0
+run dump w store
+= surrogate,durable,natural,from_day,to_day,is_current,a1,a2,a3,a4,a5,a6,b1,b2,b3,b4,b5,b6,profile_now
+= status 0
+
+# Figures that are wider than their columns: as many such sales of one day as the calendar has days.
+anew
+policy policy.toml name = "tier"|type = 2->name = "tier"|type = 2|[[customer]]|name = "age_band"|type = 5|[[customer]]|name = "spend_band"|type = 5
+file s2.csv
+> ticket,line,day,store,product,customer,quantity,amount,cost
+> T2,1,2024-06-10,S1,P9,C9,1,10.00,7.00
+run init w policy.toml
+= accepted 1 init: 0 records, 0 placeholders
+= status 0
+run load w sales s2 s2.csv
+= accepted 2 s2: 1 records, 3 placeholders
+= status 0
+sql w INSERT INTO fact SELECT iso, 1, 20240229, 1, 1, 0, 1, 1, 0, 0, 9999, -999999999, 999999999 FROM calendar
+run report w customer.tier was 2023-01-01 2026-12-31
+= report customer.tier was 2023-01-01 2026-12-31
+=    lines   quantity         amount           cost         margin  label
+=     1461   14608539 -14609999985.39 14609999985.39 -29219999970.78  (no card)
+=        1          1          10.00           7.00           3.00  (unknown)
+=     1462   14608540 -14609999975.39 14609999992.39 -29219999967.78  total
+= status 0
+run report w date.month is 2024-02-29 2024-02-29
+= report date.month is 2024-02-29 2024-02-29
+=    lines   quantity         amount           cost         margin  label
+=     1461   14608539 -14609999985.39 14609999985.39 -29219999970.78  2024-02
+=     1461   14608539 -14609999985.39 14609999985.39 -29219999970.78  total
+= status 0
+lines dump w fact
+= 1463 lines
+= status 0
+
+# A writer that takes a byte a call, and fails from a call on, or at a call alone, under a dump: what went out is a beginning.
+file few.toml
+> first_year = 2024
+> last_year = 2024
+> [[product]]
+> name = "brand"
+> type = 2
+> [[store]]
+> name = "city"
+> type = 2
+> [[customer]]
+> name = "tier"
+> type = 2
+file b1.csv
+> id,day,brand
+> P1,2024-01-10,Acme
+run init f few.toml
+= accepted 1 init: 0 records, 0 placeholders
+= status 0
+run load f product b1 b1.csv
+= accepted 2 b1: 1 records, 0 placeholders
+= status 0
+run dump f command
+= number,id,kind,bytes,records,placeholders
+= 1,init,init,66697273745f79656172203d20323032340a6c6173745f79656172203d20323032340a5b5b70726f647563745d5d0a6e616d65203d20226272616e64220a74797065203d20320a5b5b73746f72655d5d0a6e616d65203d202263697479220a74797065203d20320a5b5b637573746f6d65725d5d0a6e616d65203d202274696572220a74797065203d20320a,0,0
+= 2,b1,product,69642c6461792c6272616e640a50312c323032342d30312d31302c41636d650a,1,0
+= status 0
+breaks 1 dump f command
+= status 0
+= 421 calls
+= a beginning, and then failed: G4 write where it can be written, status 3
+"#;

@@ -1,0 +1,139 @@
+//! A row of each table goes in, and out again, in the transaction that made the tables.
+
+pub const ROWS: &str = "
+empty BEGIN
+create
+
+table meta
+= meta
+all meta
+get meta Any name, (even this) é
+count meta
+= 0
+put meta 'Any name, (even this) é', -9223372036854775807 - 1
+all meta
+= meta 'Any name, (even this) é', -9223372036854775808
+get meta Any name, (even this) é
+= meta 'Any name, (even this) é', -9223372036854775808
+count meta
+= 1
+remove meta Any name, (even this) é
+all meta
+get meta Any name, (even this) é
+count meta
+= 0
+
+table command
+= command
+all command
+get command 9999999
+count command
+= 0
+put command 9999999, '2024-06-10_1.sales', 'sales', x'00ff2c0a', 0, 2
+all command
+= command 9999999, '2024-06-10_1.sales', 'sales', x'00ff2c0a', 0, 2
+get command 9999999
+= command 9999999, '2024-06-10_1.sales', 'sales', x'00ff2c0a', 0, 2
+count command
+= 1
+remove command 9999999
+all command
+get command 9999999
+count command
+= 0
+
+table member
+= member
+all member
+get member customer 12
+count member
+= 0
+put member 3, 12, 'C-9', 34
+all member
+= member 3, 12, 'C-9', 34
+get member customer 12
+= member 3, 12, 'C-9', 34
+count member
+= 1
+remove member customer 12
+all member
+get member customer 12
+count member
+= 0
+
+table change
+= change
+all change
+get change 7 3
+count change
+= 0
+put change 7, 3, 2, 5, 20240229, 8, 'Bern', '(none)', '', '', '', '(unknown)'
+all change
+= change 7, 3, 2, 5, 20240229, 8, 'Bern', '(none)', '', '', '', '(unknown)'
+get change 7 3
+= change 7, 3, 2, 5, 20240229, 8, 'Bern', '(none)', '', '', '', '(unknown)'
+count change
+= 1
+remove change 7 3
+all change
+get change 7 3
+count change
+= 0
+
+table profile
+= profile
+all profile
+get profile 2
+count profile
+= 0
+put profile 2, '', '30-39', 'high', '', '', '(none)'
+all profile
+= profile 2, '', '30-39', 'high', '', '', '(none)'
+get profile 2
+= profile 2, '', '30-39', 'high', '', '', '(none)'
+count profile
+= 1
+remove profile 2
+all profile
+get profile 2
+count profile
+= 0
+
+table calendar
+= calendar
+all calendar
+get calendar 20240229
+count calendar
+= 0
+put calendar 20240229, '2024-02-29', 2024, 1, 2, 29, 60, 4, 'Thursday', 0, '(none)'
+all calendar
+= calendar 20240229, '2024-02-29', 2024, 1, 2, 29, 60, 4, 'Thursday', 0, '(none)'
+get calendar 20240229
+= calendar 20240229, '2024-02-29', 2024, 1, 2, 29, 60, 4, 'Thursday', 0, '(none)'
+count calendar
+= 1
+remove calendar 20240229
+all calendar
+get calendar 20240229
+count calendar
+= 0
+
+table fact
+= fact
+all fact
+get fact T-1 9999
+count fact
+= 0
+put fact 'T-1', 9999, 20240610, 1, 9, 0, 4, 5, 0, 3, -9999, -999999999, 999999999
+all fact
+= fact 'T-1', 9999, 20240610, 1, 9, 0, 4, 5, 0, 3, -9999, -999999999, 999999999
+get fact T-1 9999
+= fact 'T-1', 9999, 20240610, 1, 9, 0, 4, 5, 0, 3, -9999, -999999999, 999999999
+count fact
+= 1
+remove fact T-1 9999
+all fact
+get fact T-1 9999
+count fact
+= 0
+";

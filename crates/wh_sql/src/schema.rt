@@ -1,0 +1,234 @@
+//! The schema: making its tables, and whether they are there.
+
+ghost use Rattle.std.specs.Prelude.{◌≡◌, ◌≤◌, [], false, map, Some, None, Err, IsTrue, IfErr, OnOk};
+ghost use Rattle.std.specs.List.{list_all, list_any};
+ghost use Rattle.sqlite.specs.Held.{state};
+ghost use Rattle.sqlite.specs.Schema.{Schema};
+ghost use Rattle.sqlite.specs.Change.{is_used};
+ghost use Rattle.sqlite.specs.State.{HasCleanDisk};
+ghost use Rattle.wh_rows.specs.declared.cause.Cause.TheVariants.{Disk};
+ghost use Rattle.wh_rows.specs.Making.{Extends, Leads, making_texts};
+ghost use Rattle.wh_rows.specs.Tables.{no_tables};
+ghost use Rattle.wh_rows.specs.AtRest.{IsWriting, Leaves, IsCauseOf};
+ghost use Rattle.wh_sql.specs.Refused.{IsOneRefused, bare};
+ghost use Rattle.wh_sql.specs.Present.{IsMaking, is_any_taken, has_columns, has_table, are_all_there};
+
+use sqlite::{Alter, Connection};
+use sqlite_schema::schema::{Schema, Table};
+use wh_rows::Cause;
+
+/// The texts that make the warehouse: its tables, then its indexes.
+const TEXTS: [&str; 19] = [
+    "CREATE TABLE meta (name TEXT NOT NULL, value INTEGER NOT NULL, PRIMARY KEY (name))",
+    "CREATE TABLE command (number INTEGER PRIMARY KEY NOT NULL, id TEXT NOT NULL, kind TEXT NOT NULL, bytes BLOB NOT NULL, records INTEGER NOT NULL, placeholders INTEGER NOT NULL, UNIQUE (id))",
+    "CREATE TABLE member (dim INTEGER NOT NULL, durable INTEGER NOT NULL, natural TEXT NOT NULL, opening INTEGER NOT NULL, PRIMARY KEY (dim, durable), UNIQUE (dim, natural))",
+    "CREATE TABLE change (command INTEGER NOT NULL, record INTEGER NOT NULL, dim INTEGER NOT NULL, durable INTEGER NOT NULL, day INTEGER NOT NULL, anchor INTEGER NOT NULL, v1 TEXT NOT NULL, v2 TEXT NOT NULL, v3 TEXT NOT NULL, v4 TEXT NOT NULL, v5 TEXT NOT NULL, v6 TEXT NOT NULL, PRIMARY KEY (command, record))",
+    "CREATE TABLE product (surrogate INTEGER PRIMARY KEY NOT NULL, durable INTEGER NOT NULL, natural TEXT NOT NULL, from_day INTEGER NOT NULL, to_day INTEGER NOT NULL, is_current INTEGER NOT NULL, a1 TEXT NOT NULL, a2 TEXT NOT NULL, a3 TEXT NOT NULL, a4 TEXT NOT NULL, a5 TEXT NOT NULL, a6 TEXT NOT NULL, b1 TEXT NOT NULL, b2 TEXT NOT NULL, b3 TEXT NOT NULL, b4 TEXT NOT NULL, b5 TEXT NOT NULL, b6 TEXT NOT NULL, profile_now INTEGER NOT NULL)",
+    "CREATE TABLE store (surrogate INTEGER PRIMARY KEY NOT NULL, durable INTEGER NOT NULL, natural TEXT NOT NULL, from_day INTEGER NOT NULL, to_day INTEGER NOT NULL, is_current INTEGER NOT NULL, a1 TEXT NOT NULL, a2 TEXT NOT NULL, a3 TEXT NOT NULL, a4 TEXT NOT NULL, a5 TEXT NOT NULL, a6 TEXT NOT NULL, b1 TEXT NOT NULL, b2 TEXT NOT NULL, b3 TEXT NOT NULL, b4 TEXT NOT NULL, b5 TEXT NOT NULL, b6 TEXT NOT NULL, profile_now INTEGER NOT NULL)",
+    "CREATE TABLE customer (surrogate INTEGER PRIMARY KEY NOT NULL, durable INTEGER NOT NULL, natural TEXT NOT NULL, from_day INTEGER NOT NULL, to_day INTEGER NOT NULL, is_current INTEGER NOT NULL, a1 TEXT NOT NULL, a2 TEXT NOT NULL, a3 TEXT NOT NULL, a4 TEXT NOT NULL, a5 TEXT NOT NULL, a6 TEXT NOT NULL, b1 TEXT NOT NULL, b2 TEXT NOT NULL, b3 TEXT NOT NULL, b4 TEXT NOT NULL, b5 TEXT NOT NULL, b6 TEXT NOT NULL, profile_now INTEGER NOT NULL)",
+    "CREATE TABLE profile (number INTEGER PRIMARY KEY NOT NULL, v1 TEXT NOT NULL, v2 TEXT NOT NULL, v3 TEXT NOT NULL, v4 TEXT NOT NULL, v5 TEXT NOT NULL, v6 TEXT NOT NULL)",
+    "CREATE TABLE calendar (date_key INTEGER PRIMARY KEY NOT NULL, iso TEXT NOT NULL, year INTEGER NOT NULL, quarter INTEGER NOT NULL, month INTEGER NOT NULL, day INTEGER NOT NULL, day_of_year INTEGER NOT NULL, weekday INTEGER NOT NULL, weekday_name TEXT NOT NULL, weekend INTEGER NOT NULL, holiday TEXT NOT NULL)",
+    "CREATE TABLE fact (ticket TEXT NOT NULL, line INTEGER NOT NULL, day INTEGER NOT NULL, store_key INTEGER NOT NULL, product_key INTEGER NOT NULL, customer_key INTEGER NOT NULL, store_durable INTEGER NOT NULL, product_durable INTEGER NOT NULL, customer_durable INTEGER NOT NULL, profile INTEGER NOT NULL, quantity INTEGER NOT NULL, amount INTEGER NOT NULL, cost INTEGER NOT NULL, PRIMARY KEY (ticket, line))",
+    "CREATE INDEX change_by_member ON change (dim, durable)",
+    "CREATE INDEX change_by_anchor ON change (dim, anchor)",
+    "CREATE INDEX product_by_durable ON product (durable)",
+    "CREATE INDEX store_by_durable ON store (durable)",
+    "CREATE INDEX customer_by_durable ON customer (durable)",
+    "CREATE INDEX fact_by_store ON fact (store_durable, day)",
+    "CREATE INDEX fact_by_product ON fact (product_durable, day)",
+    "CREATE INDEX fact_by_customer ON fact (customer_durable, day)",
+    "CREATE INDEX profile_by_values ON profile (v1, v2, v3, v4, v5, v6)",
+];
+
+/// The names of a table and of its columns.
+struct Names {
+    table: &'static str,
+    columns: &'static [&'static str],
+}
+
+/// The columns of the table of a dimension.
+const DIMENSION: [&str; 19] = [
+    "surrogate",
+    "durable",
+    "natural",
+    "from_day",
+    "to_day",
+    "is_current",
+    "a1",
+    "a2",
+    "a3",
+    "a4",
+    "a5",
+    "a6",
+    "b1",
+    "b2",
+    "b3",
+    "b4",
+    "b5",
+    "b6",
+    "profile_now",
+];
+
+const TABLES: [Names; 10] = [
+    Names {
+        table: "meta",
+        columns: &["name", "value"],
+    },
+    Names {
+        table: "command",
+        columns: &["number", "id", "kind", "bytes", "records", "placeholders"],
+    },
+    Names {
+        table: "member",
+        columns: &["dim", "durable", "natural", "opening"],
+    },
+    Names {
+        table: "change",
+        columns: &[
+            "command", "record", "dim", "durable", "day", "anchor", "v1", "v2", "v3", "v4", "v5",
+            "v6",
+        ],
+    },
+    Names {
+        table: "product",
+        columns: &DIMENSION,
+    },
+    Names {
+        table: "store",
+        columns: &DIMENSION,
+    },
+    Names {
+        table: "customer",
+        columns: &DIMENSION,
+    },
+    Names {
+        table: "profile",
+        columns: &["number", "v1", "v2", "v3", "v4", "v5", "v6"],
+    },
+    Names {
+        table: "calendar",
+        columns: &[
+            "date_key",
+            "iso",
+            "year",
+            "quarter",
+            "month",
+            "day",
+            "day_of_year",
+            "weekday",
+            "weekday_name",
+            "weekend",
+            "holiday",
+        ],
+    },
+    Names {
+        table: "fact",
+        columns: &[
+            "ticket",
+            "line",
+            "day",
+            "store_key",
+            "product_key",
+            "customer_key",
+            "store_durable",
+            "product_durable",
+            "customer_durable",
+            "profile",
+            "quantity",
+            "amount",
+            "cost",
+        ],
+    },
+];
+
+/// Runs a text that makes one table or index, inside a transaction.
+fn create_one<S: Alter>(conn: &mut Connection<S>, text: &str) -> Result<(), Cause>
+    ensures clean { HasCleanDisk (state S.Store conn.new) → HasCleanDisk (state S.Store conn.old) }
+    ensures counts { (state S.Store conn.old).faults ≤ (state S.Store conn.new).faults }
+    ensures made { HasCleanDisk (state S.Store conn.new) → (from to : Schema) → Extends from text.now to → IsMaking from (state S.Store conn.old) → OnOk result (IsMaking to (state S.Store conn.new)) }
+    ensures left { HasCleanDisk (state S.Store conn.new) → (from to : Schema) → Extends from text.now to → IsMaking from (state S.Store conn.old) → Leaves None (state S.Store conn.new) }
+    ensures cause { HasCleanDisk (state S.Store conn.new) → IfErr result (IsCauseOf text.now [] (state S.Store conn.old) (state S.Store conn.new)) }
+{
+    conn.execute(text, &[])?;
+    Ok(())
+}
+
+/// Runs texts that make tables and indexes, in their order, inside a transaction.
+fn create_all<S: Alter>(conn: &mut Connection<S>, texts: &[&str]) -> Result<(), Cause>
+    ensures clean { HasCleanDisk (state S.Store conn.new) → HasCleanDisk (state S.Store conn.old) }
+    ensures counts { (state S.Store conn.old).faults ≤ (state S.Store conn.new).faults }
+    ensures made { HasCleanDisk (state S.Store conn.new) → (from to : Schema) → Leads from (map (λ text. text.now) texts.now) to → IsMaking from (state S.Store conn.old) → OnOk result (IsMaking to (state S.Store conn.new)) }
+    ensures left { HasCleanDisk (state S.Store conn.new) → (from to : Schema) → Leads from (map (λ text. text.now) texts.now) to → IsMaking from (state S.Store conn.old) → Leaves None (state S.Store conn.new) }
+    ensures cause { HasCleanDisk (state S.Store conn.new) → IfErr result (IsOneRefused S.Store IsCauseOf (bare (map (λ text. text.now) texts.now)) conn.old conn.new) }
+{
+    for text in texts {
+        create_one(conn, text)?;
+    }
+    Ok(())
+}
+
+/// Makes the ten tables and their indexes, inside a transaction on a database with no object. Outside a transaction it is refused.
+pub fn create<S: Alter>(conn: &mut Connection<S>) -> Result<(), Cause>
+    ensures clean { HasCleanDisk (state S.Store conn.new) → HasCleanDisk (state S.Store conn.old) }
+    ensures counts { (state S.Store conn.old).faults ≤ (state S.Store conn.new).faults }
+    ensures made { HasCleanDisk (state S.Store conn.new) → IsWriting None None (state S.Store conn.old) → OnOk result (IsWriting None (Some no_tables) (state S.Store conn.new)) }
+    ensures left { HasCleanDisk (state S.Store conn.new) → IsWriting None None (state S.Store conn.old) → Leaves None (state S.Store conn.new) }
+    ensures cause { HasCleanDisk (state S.Store conn.new) → IsTrue conn.old.in_transaction → IfErr result (IsOneRefused S.Store IsCauseOf (bare making_texts) conn.old conn.new) }
+    ensures late { conn.old.in_transaction ≡ false → (result ≡ Err Disk) × (conn.new ≡ conn.old) }
+{
+    if conn.is_autocommit() {
+        return Err(Cause::Disk);
+    }
+    create_all(conn, &TEXTS)
+}
+
+fn is_taken(schema: &Schema, name: &str) -> bool
+    ensures { result ≡ is_used schema.now name.now }
+{
+    let name = name.as_bytes();
+    schema.table_named(name).is_some()
+        || schema.index_named(name).is_some()
+        || schema.view_named(name).is_some()
+}
+
+fn is_one_taken(schema: &Schema, tables: &[Names]) -> bool
+    ensures { result ≡ list_any (λ names. is_used schema.now names.table.now) tables.now }
+{
+    tables.iter().any(|names| is_taken(schema, names.table))
+}
+
+/// Whether a table, an index or a view has the name of one of the ten tables.
+pub fn has_taken_name<S: Alter>(conn: &Connection<S>) -> bool
+    ensures { result ≡ is_any_taken (state S.Store conn.now).now.schema }
+{
+    is_one_taken(conn.schema(), &TABLES)
+}
+
+fn has_columns(table: &Table, columns: &[&str]) -> bool
+    ensures { result ≡ has_columns columns.now (λ name. name.now) table.now }
+{
+    columns
+        .iter()
+        .all(|name| table.column_named(name.as_bytes()).is_some())
+}
+
+fn has_table(schema: &Schema, names: &Names) -> bool
+    ensures { result ≡ has_table names.now.table.now names.now.columns.now (λ name. name.now) schema.now }
+{
+    let tables = schema.tables.as_slice();
+    tables.iter().any(|table| table.is_named(names.table.as_bytes())
+        && has_columns(table, names.columns))
+}
+
+fn has_each(schema: &Schema, tables: &[Names]) -> bool
+    ensures { result ≡ list_all (λ names. has_table names.table.now names.columns.now (λ name. name.now) schema.now) tables.now }
+{
+    tables.iter().all(|names| has_table(schema, names))
+}
+
+/// Whether each of the ten tables is there, with its columns.
+pub fn has_tables<S: Alter>(conn: &Connection<S>) -> bool
+    ensures { result ≡ are_all_there (state S.Store conn.now).now.schema }
+{
+    has_each(conn.schema(), &TABLES)
+}
