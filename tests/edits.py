@@ -7,17 +7,19 @@ A function is proved from its own body and from the contracts of what it calls, 
 disturb one another. They are tried together, in rounds, each of them one check over what is proved already. An edit
 counts as refused where the prover refuses its own function, and not where that function only waits for another one's
 proof. An edit whose answer isn't clear is tried again without those that are refused, and in the end alone, as is one that
-stands outside of functions. All is done on a copy of the repository; a crate with no kept work in out/ is proved there
-first. The last line counts the edits, and the status is 1 where one is not refused.
+stands outside of functions. Where a check ends before it answers for any function, its edits are tried in two parts, those
+that its errors point at and the others, or two halves: so an edit that doesn't compile is found. It is a BAD EDIT, which
+says nothing. All is done on a copy of the repository; a crate with no kept work in out/ is proved there first. The last
+line counts the edits, and the status is 1 where one is bad or not refused.
 """
 
 import argparse
 import re
+import resource
 import shutil
 import subprocess
 import sys
 import tempfile
-import time
 from pathlib import Path
 from typing import NamedTuple
 
@@ -26,6 +28,7 @@ FUNCTION = re.compile(r"( *)(?:pub(?:\([^)]*\))? )?(?:const |final )*fn (\w+)")
 IMPL = re.compile(r"impl(?:<.*?>)? (.+?)(?: for (.+?))?(?: \{| where|$)")
 TRAIT = re.compile(r"(?:pub(?:\([^)]*\))? )?trait (\w+)")
 ANSWER = re.compile(r"^fn (\S+): (.*)$", re.M)
+ERROR = re.compile(r"^(?:\./)?(src/\S+?):(\d+):\d+: error", re.M)
 WAITS = re.compile(r"it calls `|it passes the block `|a call of `|waits for the proof of `")
 
 
@@ -142,37 +145,98 @@ def is_refused_among(crate, edit, said):
     return any((is_of(it, f"{module}::{name}") or is_of_method(it, name)) and is_refusal(reason) for it, reason in answers)
 
 
+def place_after(edit, edits):
+    """The first line, and the line past the last, of an edit's function, or else of its lines, where all of the edits are made."""
+    first, past = edit.function[1:] if edit.function else (edit.first, edit.past)
+    longer = [(it.first, len(it.lines) - (it.past - it.first)) for it in edits if it.file == edit.file]
+    return first + sum(by for at, by in longer if at < first), past + sum(by for at, by in longer if at < past)
+
+
+def is_blamed(edit, edits, said):
+    """Whether an error points into the edit's function."""
+    first, past = place_after(edit, edits)
+    return any(file == edit.file and first < int(line) <= past for file, line in ERROR.findall(said))
+
+
+def parted(edits, said):
+    """Two parts of edits with which a check ended early: those that its errors point at and the others, or halves."""
+    blamed = [it for it in edits if is_blamed(it, edits, said)]
+    if not 0 < len(blamed) < len(edits):
+        blamed = edits[: len(edits) // 2]
+    return blamed, [it for it in edits if it not in blamed]
+
+
+class Round(NamedTuple):
+    """What one round says of its edits: those that are refused, those that end a check alone, and how many checks it took."""
+
+    refused: list
+    bad: list
+    checks: int
+
+
+def try_round(crate, edits):
+    """Tries edits of different functions together."""
+    said = check_with(crate, edits)
+    if ANSWER.search(said):
+        return Round([it for it in edits if is_refused_among(crate, it, said)], [], 1)
+    if len(edits) == 1:
+        return Round([], [(edits[0], said)], 1)
+    some, others = (try_round(crate, part) for part in parted(edits, said))
+    return Round(some.refused + others.refused, some.bad + others.bad, some.checks + others.checks + 1)
+
+
 def try_together(crate, edits):
-    """Tries edits in rounds, of each function one, while a round refuses some. Gives those that are left."""
-    left = edits
+    """Tries edits in rounds, of each function one, while a round refuses some. Gives those that are left, and the bad ones."""
+    left, bad, number = edits, [], 0
     while len(left) > 1:
-        chosen = list({(it.file, it.function): it for it in left}.values())
-        said = check_with(crate, chosen)
-        refused = [it for it in chosen if is_refused_among(crate, it, said)]
-        print(f"{crate.name}: {len(refused)} of {len(chosen)} refused together", flush=True)
-        left = [it for it in left if it not in refused]
-        if not refused:
+        chosen, number = list({(it.file, it.function): it for it in left}.values()), number + 1
+        tried = try_round(crate, chosen)
+        print(f"{crate.name}: round {number}: {len(tried.refused)} of {len(chosen)} refused, {tried.checks} checks, {seconds():.0f} s so far", flush=True)
+        bad += tried.bad
+        known = tried.refused + [it for it, _ in tried.bad]
+        left = [it for it in left if it not in known]
+        if not tried.refused:
             break
-    return left
+    return left, bad
 
 
-def is_refused_alone(crate, edit):
-    return any(is_refusal(reason) for _, reason in ANSWER.findall(check_with(crate, [edit])))
+def try_alone(crate, edit):
+    """Whether an edit is refused, alone, and whether it is bad."""
+    said = check_with(crate, [edit])
+    answers = ANSWER.findall(said)
+    refused = any(is_refusal(reason) for _, reason in answers)
+    return refused, [] if answers else [(edit, said)]
+
+
+def seconds():
+    """The processor time of all checks so far."""
+    used = resource.getrusage(resource.RUSAGE_CHILDREN)
+    return used.ru_utime + used.ru_stime
+
+
+def why_bad(said):
+    return next((line[:200] for line in said.split("\n") if "error" in line), "its check ends with no answer")
 
 
 def try_crate(crate, folders):
-    """How many edits there are, and the names of those that are not refused."""
-    start, paths = time.time(), sorted(it for folder in folders for it in (crate / folder).glob("*.edit"))
+    """How many edits there are, and how many are not refused."""
+    start, paths = seconds(), sorted(it for folder in folders for it in (crate / folder).glob("*.edit"))
     if "\nlogic=proved " not in check(crate):
         sys.exit(f"{crate.name} is not proved, so its edits say nothing")
     edits = [read(crate, path) for path in paths]
-    missed = [f"{path}: a text of it isn't once in its file" for path, it in zip(paths, edits) if not it]
+    missed = [f"BAD EDIT: {path}: a text of it isn't once in its file" for path, it in zip(paths, edits) if not it]
     good = [it for it in edits if it]
-    left = try_together(crate, [it for it in good if it.function]) + [it for it in good if not it.function]
-    missed += [it.label for it in left if not is_refused_alone(crate, it)]
-    print(f"{crate.name}: {len(edits)} edits, {len(left)} of them alone, {time.time() - start:.0f} s", flush=True)
-    for name in missed:
-        print(f"NOT REFUSED: {name}", flush=True)
+    left, bad = try_together(crate, [it for it in good if it.function])
+    left += [it for it in good if not it.function]
+    for edit in left:
+        refused, worse = try_alone(crate, edit)
+        bad += worse
+        missed += [f"NOT REFUSED: {edit.label}"] if not refused and not worse else []
+    missed += [f"BAD EDIT: {edit.label}: {why_bad(said)}" for edit, said in bad]
+    spent = seconds() - start
+    print(f"{crate.name}: {len(edits)} edits, {len(left)} of them alone, {spent:.0f} s, {spent / max(len(edits), 1):.1f} an edit", flush=True)
+    for line in missed:
+        print(line, flush=True)
     return len(edits), len(missed)
 
 
@@ -198,7 +262,7 @@ def main():
         copy_to(Path(room, "wh"), given.crate)
         counts = [try_crate(Path(room, "wh", "crates", name), folders) for name in given.crate]
     edits, missed = (sum(it) for it in zip(*counts))
-    print(f"{edits - missed} refused, {missed} not refused")
+    print(f"{edits - missed} refused, {missed} not refused, {seconds():.0f} s of processor time")
     return 1 if missed else 0
 
 
