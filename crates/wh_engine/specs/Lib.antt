@@ -8,3 +8,4 @@ pub mod Serving
 pub mod Delivered
 pub mod Nights
 pub mod Scanned
+pub mod Fresh
