@@ -27,7 +27,8 @@ pub at_most_all : (sent : List Command) (answers : List (Result Reply Refused)) 
 at_most_all sent answers None many = omega (arith, many)
 at_most_all sent answers (Some (faults.Refused why)) many = omega (arith, many)
 at_most_all sent answers (Some (faults.Damaged table)) many = omega (arith, many)
-at_most_all sent answers (Some faults.Memory) many = many
+at_most_all sent answers (Some faults.Memory) (inl none) = let count = ap length none in omega (arith, count)
+at_most_all sent answers (Some faults.Memory) (inr fewer) = omega (arith, fewer)
 at_most_all sent answers (Some (faults.Store cause)) many = omega (arith, many)
 at_most_all sent answers (Some faults.Reopen) many = let none = ap length many in omega (arith, none)
 
@@ -83,7 +84,7 @@ module _ (limits : Limits) where
         let count : length answers ≡ length sent = ap length done.0 ∙ as_many_answers limits commands sent in
         let all : after (length answers) ≡ accepted_after_all limits commands sent = ap (accepted_after_all limits commands) (take_all (length answers) sent (omega (arith, count))) in
         record { each = λ trees may. inl (subst (λ list. AreTreesOf limits list trees) (sym all) (left_of limits (accepted_after_all limits commands sent) s trees done.1.rests may)) }
-    delivery_leaves answers (Some faults.Memory) session s done = record { each = λ trees may. inl (left_of limits (after (length answers)) s trees done.1.rests may) }
+    delivery_leaves answers (Some faults.Memory) session s done = record { each = λ trees may. inl (left_of limits (after (length answers)) s trees done.2.rests may) }
     delivery_leaves answers (Some (faults.Store cause)) session s done = done.2.left
     delivery_leaves answers (Some (faults.Refused why)) session s done = absurd done
     delivery_leaves answers (Some (faults.Damaged table)) session s done = absurd done
@@ -152,7 +153,7 @@ module _ (limits : Limits) where
 
       pub delivered_again : (stop : Option Fault) (session : Session) (s : State) → IsDelivered limits found rest second stop session s → IsDeliveredAgain limits commands sent (first ++ second) stop session s
       delivered_again None session s done = (all_receipts done.0, subst (λ list. IsReady limits list session s) (rest_ends limits commands sent n found at) done.1)
-      delivered_again (Some faults.Memory) session s done = (some_receipts done.0, ready_one_of (length (first ++ second)) (further k) session s (near false) done.1)
+      delivered_again (Some faults.Memory) session s done = (some_receipts done.0, ready_one_of (length (first ++ second)) (further k) session s (near false) done.2)
       delivered_again (Some (faults.Store cause)) session s done =
           let within : length (first ++ second) < length sent = let rest_is = length-drop n sent in let less = done.1 in omega (arith, count, rest_is, less) in
           (some_receipts done.0, within, still_stopped session s done.2)

@@ -1,12 +1,12 @@
 -- Commands that come one after the other.
-use Rattle.std.proofs.Common.{◌≡◌, ℕ, suc, ◌<◌, false, List, [], ◌∷◌, ◌++◌, length, take, Some, Result, Ok, Err, refl, sym, ap, subst, ◌∙◌}
+use Rattle.std.proofs.Common.{◌≡◌, ◌≢◌, ℕ, suc, ◌<◌, false, inr, arith, List, [], ◌∷◌, ◌++◌, length, take, Some, Result, Ok, Err, refl, sym, ap, subst, ◌∙◌}
 use Rattle.sqlite.specs.State.{State}
 use Rattle.wh_history.specs.Accepted.{Accepted}
 use Rattle.wh_history.specs.Tables.{Limits}
 use Rattle.wh_engine.specs.Admission.{answer, after_answer, accepted_after, accepted_after_all}
 use Rattle.wh_policy.specs.declared.policy.Policy.{Policy}
 use Rattle.wh_engine.specs.Answered.{IsReady, IsStopped, IsAnswered, IsGoverned, KeepsNothing, IsNotAccepted, IsWritten}
-use Rattle.wh_engine.specs.Delivered.{answers_to, answer_or_stop, AcceptsNothing, AcceptNothing, IsDelivered, IsLastWritten, as_called, is_of_the_store}
+use Rattle.wh_engine.specs.Delivered.{answers_to, answer_or_stop, AcceptsNothing, AcceptNothing, AreAsMany, AreGoverned, IsDelivered, IsLastWritten, as_called, is_of_the_store}
 use Rattle.wh_engine.specs.Faults.{stops}
 use Rattle.wh_engine.specs.Nights.{DeliveriesJoin}
 use Rattle.wh_engine.specs.declared.command.Command.{Command}
@@ -93,7 +93,7 @@ stopped_at limits held sent c answers (Err (faults.Refused why)) fault session s
 stopped_at limits held sent c answers (Err (faults.Damaged table)) fault session s are within more is e = absurd is
 stopped_at limits held sent c answers (Err faults.Memory) fault session s are within more is e =
     let same : fault ≡ faults.Memory = cc in
-    subst (λ (f : Fault). IsDelivered limits held sent answers (Some f) session s) (sym same) (are, is)
+    subst (λ (f : Fault). IsDelivered limits held sent answers (Some f) session s) (sym same) (are, inr within, is)
 stopped_at limits held sent c answers (Err (faults.Store cause)) fault session s are within more is e =
     let same : fault ≡ faults.Store cause = cc in
     let next = ap (accepted_after_all limits held) more ∙ deliveries_join limits held (take (length answers) sent) (c ∷ []) in
@@ -114,6 +114,39 @@ pub policy_stays : (old new : Policy) (c : Command) (answered : Result Reply Fau
 policy_stays old new c (Ok (Accepts receipt)) governed none = absurd none
 policy_stays old new c (Ok (Already receipt)) governed none = governed
 policy_stays old new c (Err fault) governed none = governed
+
+-- ---- the policy after a delivery
+
+-- after one more command
+pub governed_on : (old mid new : Policy) (answers : List (Result Reply Refused)) (told : Result Reply Refused) (sent : List Command) (c : Command)
+    → AreGoverned old mid answers sent → length sent ≡ length answers → IsGoverned mid new c (as_called told) → AreGoverned old new (answers ++ told ∷ []) (sent ++ c ∷ [])
+governed_on old mid new [] told [] c so same is = (new, subst (λ p. IsGoverned p new c (as_called told)) so is, refl)
+governed_on old mid new [] told (d ∷ sent) c so same is = absurd (omega (arith, same))
+governed_on old mid new (a ∷ answers) told [] c so same is = absurd so
+governed_on old mid new (a ∷ answers) told (d ∷ sent) c so same is = (so.0, so.1, governed_on so.0 mid new answers told sent c so.2 (omega (arith, same)) is)
+
+-- of commands that have their answers, among more of them
+pub governed_among : (old new : Policy) (answers : List (Result Reply Refused)) (sent more : List Command) → AreGoverned old new answers sent → AreGoverned old new answers (sent ++ more)
+governed_among old new [] sent more so = so
+governed_among old new (a ∷ answers) [] more so = absurd so
+governed_among old new (a ∷ answers) (c ∷ sent) more so = (so.0, so.1, governed_among so.0 new answers sent more so.2)
+
+-- a stop is told in the session
+pub flag_at_stop : (fault : Fault) → stops {A = Reply} (Err fault) ≡ is_of_the_store (Some fault)
+flag_at_stop (faults.Refused why) = refl
+flag_at_stop (faults.Damaged table) = refl
+flag_at_stop faults.Memory = refl
+flag_at_stop (faults.Store cause) = refl
+flag_at_stop faults.Reopen = refl
+
+-- ---- how many are answered
+
+pub many_at_stop : (sent : List Command) (answers : List (Result Reply Refused)) (fault : Fault) → fault ≢ faults.Reopen → length answers < length sent → AreAsMany sent answers (Some fault)
+many_at_stop sent answers (faults.Refused why) ready within = within
+many_at_stop sent answers (faults.Damaged table) ready within = within
+many_at_stop sent answers faults.Memory ready within = inr within
+many_at_stop sent answers (faults.Store cause) ready within = within
+many_at_stop sent answers faults.Reopen ready within = absurd (ready refl)
 
 -- ---- how many keys are written
 

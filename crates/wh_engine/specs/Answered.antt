@@ -8,6 +8,8 @@ use Rattle.wh_history.specs.Accepted.{Accepted, sold, members}
 use Rattle.wh_history.specs.Tables.{Limits}
 use Rattle.wh_rows.specs.AtRest.{AreTrees, IsAtRest}
 use Rattle.wh_rows.specs.Tables.{Tables}
+use Rattle.wh_rows.specs.Raw.{Stored}
+use Rattle.wh_rows.specs.declared.table.Table.TheVariants as table
 use Rattle.wh_engine.specs.Admission.{in_force, policy_brought, answer, accepted_after, AreAdmitted}
 use Rattle.wh_plan.specs.Defined.{AreOf}
 use Rattle.wh_plan.specs.Edits.{Edits, AreEdits, edit_count}
@@ -118,6 +120,11 @@ counts_of commands = record {
   stores = length (members Stores commands);
   customers = length (members Customer commands);
 }
+
+-- the format is 1, and of commands, accepted records and sales all that are stored are counted, damaged or not
+abbrev pub CountsStored : Stored → Counts → Type 0
+CountsStored stored counts =
+    (counts.format ≡ 1) × (counts.commands ≡ length (stored table.Command)) × (counts.changes ≡ length (stored table.Change)) × (counts.facts ≡ length (stored table.Fact))
 
 -- What a count says: it is that of the commands, and nothing changed; or memory ran out and nothing changed; or the store refused a call.
 abbrev pub IsCounted : Limits → List Accepted → Result Counts Fault → Session → State → Type 0

@@ -1,12 +1,13 @@
 -- What a warehouse holds after commands that are delivered one after the other.
-use Rattle.std.specs.Prelude.{◌≡◌, ℕ, suc, ◌<◌, ◌≤◌, Bool, true, false, List, [], ◌∷◌, length, take, Option, Some, None, Result, Ok, Err, ⊤}
+use Rattle.std.specs.Prelude.{◌≡◌, ◌⊎◌, ℕ, suc, ◌<◌, Bool, true, false, List, [], ◌∷◌, length, take, Option, Some, None, Result, Ok, Err, ⊤}
 use Rattle.std.specs.List.{AllByRecursion}
 use Rattle.sqlite.specs.State.{State}
 use Rattle.wh_history.specs.Accepted.{Accepted}
 use Rattle.wh_history.specs.Tables.{Limits}
 use Rattle.wh_rows.specs.Raw.{Stored, HasDamageIn}
 use Rattle.wh_engine.specs.Admission.{answer, accepted_after, accepted_after_all}
-use Rattle.wh_engine.specs.Answered.{IsReady, IsStopped, IsWritten}
+use Rattle.wh_policy.specs.declared.policy.Policy.{Policy}
+use Rattle.wh_engine.specs.Answered.{IsReady, IsStopped, IsGoverned, IsWritten}
 use Rattle.wh_engine.specs.declared.command.Command.{Command}
 use Rattle.wh_engine.specs.declared.command.Refused.{Refused as Refusal}
 use Rattle.wh_engine.specs.declared.command.Reply.{Reply}
@@ -30,14 +31,18 @@ answer_or_stop (Err fault) = Err fault
 abbrev pub AreAnswers : Limits → List Accepted → List Command → List (Result Reply Refusal) → Type 0
 AreAnswers limits commands sent answers = answers ≡ answers_to limits commands (take (length answers) sent)
 
+-- not all of the commands are answered; where there was no room for an answer, there may be none to answer
+abbrev pub AreFewer : List Command → List (Result Reply Refusal) → Type 0
+AreFewer sent answers = (answers ≡ []) ⊎ (length answers < length sent)
+
 -- What a delivery says: with no stop each command has its answer, and the tables are those of the list after all of them. Where memory ran out the first
--- commands have theirs, and the tables are those of the list after these. Where the store refused a call they have theirs too, and a crash leaves the tables of the list
+-- commands have theirs, not all, and the tables are those of the list after these. Where the store refused a call they have theirs too, and a crash leaves the tables of the list
 -- after these, or those with the next command.
 abbrev pub IsDelivered : Limits → List Accepted → List Command → List (Result Reply Refusal) → Option Fault → Session → State → Type 0
 IsDelivered limits commands sent answers None session s =
     (answers ≡ answers_to limits commands sent) × IsReady limits (accepted_after_all limits commands sent) session s
 IsDelivered limits commands sent answers (Some Memory) session s =
-    AreAnswers limits commands sent answers × IsReady limits (accepted_after_all limits commands (take (length answers) sent)) session s
+    AreAnswers limits commands sent answers × AreFewer sent answers × IsReady limits (accepted_after_all limits commands (take (length answers) sent)) session s
 IsDelivered limits commands sent answers (Some (Store cause)) session s =
     AreAnswers limits commands sent answers × (length answers < length sent)
     × IsStopped limits (accepted_after_all limits commands (take (length answers) sent)) (accepted_after_all limits commands (take (suc (length answers)) sent)) session s
@@ -71,25 +76,32 @@ abbrev pub BlamesStored : Stored → Option Fault → Type 0
 BlamesStored stored (Some (Damaged table)) = HasDamageIn stored table
 BlamesStored stored stop = ⊤
 
--- With no stop each of the commands is answered; else the first of them are, and not all, unless there was no room for an answer or the warehouse had to be opened again.
+-- With no stop each of the commands is answered; else the first of them are, and not all; none where the warehouse had to be opened again.
 abbrev pub AreAsMany : List Command → List (Result Reply Refusal) → Option Fault → Type 0
 AreAsMany sent answers None = length answers ≡ length sent
-AreAsMany sent answers (Some Memory) = length answers ≤ length sent
+AreAsMany sent answers (Some Memory) = AreFewer sent answers
 AreAsMany sent answers (Some Reopen) = answers ≡ []
 AreAsMany sent answers (Some fault) = length answers < length sent
-
--- A delivery notes whether the store refused a call. The limits stay, and so does the policy where nothing was accepted.
-pub record IsDeliveryNoted (old new : Session) (answers : List (Result Reply Refusal)) (stop : Option Fault) : Type 0 where
-  pub flag : new.must_reopen ≡ is_of_the_store stop
-  pub limits : new.limits ≡ old.limits
-  pub policy : AcceptNothing answers → new.policy ≡ old.policy
-
--- ---- how many keys are written
 
 -- the answer to a command, as a call gives it
 abbrev pub as_called : Result Reply Refusal → Result Reply Fault
 as_called (Ok reply) = Ok reply
 as_called (Err why) = Err (Refused why)
+
+-- the second policy is what the answers to the first commands make of the first one, one after the other
+abbrev pub AreGoverned : Policy → Policy → List (Result Reply Refusal) → List Command → Type 0
+AreGoverned old new [] sent = new ≡ old
+AreGoverned old new (told ∷ answers) [] = ⊥
+AreGoverned old new (told ∷ answers) (c ∷ sent) = (between : Policy) × IsGoverned old between c (as_called told) × AreGoverned between new answers sent
+
+-- A delivery notes whether the store refused a call. The limits stay, and so does the policy where nothing was accepted; else it is what the accepted commands make of it.
+pub record IsDeliveryNoted (old new : Session) (sent : List Command) (answers : List (Result Reply Refusal)) (stop : Option Fault) : Type 0 where
+  pub flag : new.must_reopen ≡ is_of_the_store stop
+  pub limits : new.limits ≡ old.limits
+  pub policy : AcceptNothing answers → new.policy ≡ old.policy
+  pub governed : AreGoverned old.policy new.policy answers sent
+
+-- ---- how many keys are written
 
 -- as many keys are written as the last of the commands writes, and none where there is no command
 abbrev pub IsLastWritten : Limits → List Accepted → List Command → ℕ → Type 0

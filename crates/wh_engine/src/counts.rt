@@ -1,6 +1,6 @@
 //! How much a warehouse holds.
 
-ghost use Rattle.std.specs.Prelude.{◌≡◌, List, length, false, Some, Ok, Err, IsTrue};
+ghost use Rattle.std.specs.Prelude.{◌≡◌, List, length, false, Some, Ok, Err, IsTrue, IfOk};
 ghost use Rattle.sqlite.specs.State.{HasCleanDisk};
 ghost use Rattle.wh_history.specs.Accepted.{Accepted, members};
 ghost use Rattle.wh_history.specs.Tables.{Limits};
@@ -8,7 +8,7 @@ ghost use Rattle.wh_rows.specs.AtRest.{IsAtRest};
 ghost use Rattle.wh_store.specs.Reads.{Spares, SaysAsStored, state_of};
 ghost use Rattle.wh_rows.specs.Tables.{Tables as TenTables};
 ghost use Rattle.wh_rows.specs.Raw.{Stored, RestsOn};
-ghost use Rattle.wh_engine.specs.Answered.{IsReady, IsCounted, counts_of};
+ghost use Rattle.wh_engine.specs.Answered.{IsReady, IsCounted, CountsStored, counts_of};
 ghost use Rattle.wh_plan.specs.Defined.{AreOf};
 ghost use Rattle.wh_engine.specs.Faults.{IsServed, BlamesDamage, IsWorkedOut, Judges, stops};
 ghost use Rattle.wh_plan.specs.Sound.{IsAccepted};
@@ -54,6 +54,7 @@ fn counts_of<S: Alter>(tables: &mut Tables<S>, alloc: Global) -> Result<Counts, 
     ensures blames { SaysAsStored (state_of S.Store tables.old) (state_of S.Store tables.new) (λ stored. BlamesDamage stored result) }
     ensures counts { HasCleanDisk (state_of S.Store tables.new) → (limits : Limits) (commands : List Accepted) (t : TenTables) → AreOf limits commands t → IsAccepted limits commands → IsAtRest (Some t) (state_of S.Store tables.old)
         → Judges (λ counts told. counts ≡ told) result (Ok (counts_of commands)) }
+    ensures stored { SaysAsStored (state_of S.Store tables.old) (state_of S.Store tables.new) (λ stored. IfOk result (CountsStored stored)) }
     ensures work { IsWorkedOut result }
 {
     let commands = tables.count::<tables::Command>(alloc)?;
@@ -81,11 +82,14 @@ impl<S: Alter> Engine<S> {
             → IsCounted limits commands result self.new.session (state_of S.Store self.new.tables) }
         ensures untouched { HasCleanDisk (state_of S.Store self.new.tables) → (t : TenTables) → IsAtRest (Some t) (state_of S.Store self.old.tables) → IsServed result → IsAtRest (Some t) (state_of S.Store self.new.tables) }
         ensures untouched_stored { HasCleanDisk (state_of S.Store self.new.tables) → (stored : Stored) → RestsOn stored (state_of S.Store self.old.tables) → IsServed result → RestsOn stored (state_of S.Store self.new.tables) }
+        // Of any rows, whoever wrote them: how many are stored, damaged or not.
+        ensures stored { SaysAsStored (state_of S.Store self.old.tables) (state_of S.Store self.new.tables) (λ stored. IfOk result (CountsStored stored)) }
         // The table that is named as damaged stores a damaged row, whoever wrote it.
         ensures blames { SaysAsStored (state_of S.Store self.old.tables) (state_of S.Store self.new.tables) (λ stored. BlamesDamage stored result) }
         ensures reopen { IsTrue self.old.session.must_reopen → (result ≡ Err Fault.Reopen) × (self.new.tables ≡ self.old.tables) × (self.new.session ≡ self.old.session) }
         ensures only { result ≡ Err Fault.Reopen → IsTrue self.old.session.must_reopen }
         ensures noted { self.old.session.must_reopen ≡ false → self.new.session ≡ record (self.old.session) { must_reopen = stops result } }
+        ensures writes { self.new.writes ≡ self.old.writes }
     {
         if self.session.must_reopen {
             return Err(Fault::Reopen);

@@ -61,8 +61,8 @@ impl<S: Alter> Engine<S> {
         ensures written { HasCleanDisk (state_of S.Store self.new.tables) → (limits : LimitCounts) (accepted : List Accepted) → IsReady limits accepted self.old.session (state_of S.Store self.old.tables)
             → IsDeliveryWritten limits accepted commands.now result.stop self.new.writes }
         ensures silent { AcceptNothing result.answers.items → self.new.writes ≡ 0 }
-        // The limits stay, and the policy too, unless a command is accepted.
-        ensures noted { self.old.session.must_reopen ≡ false → IsDeliveryNoted self.old.session self.new.session result.answers.items result.stop }
+        // The limits stay, and the policy is what the accepted commands make of it.
+        ensures noted { self.old.session.must_reopen ≡ false → IsDeliveryNoted self.old.session self.new.session commands.now result.answers.items result.stop }
     {
         self.writes = 0;
         if self.session.must_reopen {

@@ -1,6 +1,6 @@
 //! Making a warehouse, and opening one.
 
-ghost use Rattle.std.specs.Prelude.{◌≡◌, ◌≢◌, true, false, [], ◌∷◌, List, slice_get, None, Some, Ok, Err, IfOk, IfErr, OnOk};
+ghost use Rattle.std.specs.Prelude.{◌≡◌, ◌≢◌, true, false, [], ◌∷◌, List, slice_get, None, Some, Ok, Err, IfOk, IfErr, OnOk, IsTrue};
 ghost use Rattle.sqlite.specs.Held.{state};
 ghost use Rattle.sqlite.specs.State.{HasCleanDisk};
 ghost use Rattle.wh_policy.specs.Policy.{policy_at};
@@ -127,6 +127,9 @@ impl<S: Alter> Engine<S> {
         ensures same { IfErr result (λ e. NothingIsWritten e.0 → e.1 ≡ conn) }
         ensures fresh { IfOk result (λ engine. (engine.session.must_reopen ≡ false) × (engine.writes ≡ 0)) }
         ensures kept { is_any_taken (state S.Store conn).now.schema ≡ true → IfErr result (λ e. e.1 ≡ conn) }
+        // A transaction of the caller's is neither joined nor ended.
+        ensures outside { IfOk result (λ _. conn.in_transaction ≡ false) }
+        ensures within { IsTrue conn.in_transaction → IfErr result (λ e. e.1 ≡ conn) }
         ensures left { IfErr result (λ e. HasCleanDisk (state S.Store e.1) → IsAtRest None (state S.Store conn) → LeavesMade limits policy.now (state S.Store e.1)) }
     {
         let read = match Policy::read(alloc, policy) {
@@ -167,6 +170,7 @@ impl<S: Alter> Engine<S> {
         ensures found_stored { IfOk result (λ engine. HasCleanDisk (state_of S.Store engine.tables) → (stored : Stored) → RestsOn stored (state S.Store conn) → FormatIs stored (Ok tt) × SessionIs stored engine.session × RestsOn stored (state_of S.Store engine.tables)) }
         ensures fault_stored { IfErr result (λ e. HasCleanDisk (state S.Store e.1) → (stored : Stored) → RestsOn stored (state S.Store conn) → IsUnopened stored e.0 × LeavesStored stored (state S.Store e.1) × (SparesStore e.0 → RestsOn stored (state S.Store e.1))) }
         ensures fresh { IfOk result (λ engine. (engine.session.must_reopen ≡ false) × (engine.writes ≡ 0)) }
+        ensures within { IsTrue conn.in_transaction → result ≡ Err (OpenFault.Store Cause.Disk, conn) }
         ensures missing { conn.in_transaction ≡ false → are_all_there (state S.Store conn).now.schema ≡ false → result ≡ Err (OpenFault.NotAWarehouse, conn) }
     {
         let mut tables = match Tables::open(alloc, conn) {

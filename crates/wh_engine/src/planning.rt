@@ -54,6 +54,7 @@ impl<S: Alter> Engine<S> {
         ensures reopen { IsTrue self.old.session.must_reopen → (result ≡ Err Fault.Reopen) × (self.new.tables ≡ self.old.tables) × (self.new.session ≡ self.old.session) }
         ensures only { result ≡ Err Fault.Reopen → IsTrue self.old.session.must_reopen }
         ensures noted { self.old.session.must_reopen ≡ false → self.new.session ≡ record (self.old.session) { must_reopen = stops result } }
+        ensures writes { self.new.writes ≡ self.old.writes }
     {
         if self.session.must_reopen {
             return Err(Fault::Reopen);

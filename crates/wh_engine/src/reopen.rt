@@ -1,6 +1,6 @@
 //! From one run to the next.
 
-ghost use Rattle.std.specs.Prelude.{◌≡◌, ◌⊎◌, ◌++◌, List, IfOk};
+ghost use Rattle.std.specs.Prelude.{◌≡◌, ◌⊎◌, ◌++◌, false, List, IfOk};
 ghost use Rattle.sqlite.specs.Files.{file_state};
 ghost use Rattle.sqlite.specs.State.{HasCleanDisk};
 ghost use Rattle.wh_history.specs.Accepted.{Accepted};
@@ -28,6 +28,7 @@ pub fn restart<D: Crash + Drop>(
     ensures clean { IfOk result (λ again. HasCleanDisk (file_state again.tables.conn) → HasCleanDisk (file_state engine.tables.conn)) }
     ensures ready { (limits : LimitCounts) (before after : List Accepted) → AreAdmitted limits before → AreAdmitted limits after → LeavesOneOf limits before after (file_state engine.tables.conn)
         → IfOk result (λ again. HasCleanDisk (file_state again.tables.conn) → ∥ IsReady limits before again.session (file_state again.tables.conn) ⊎ IsReady limits after again.session (file_state again.tables.conn) ∥₁) }
+    ensures fresh { IfOk result (λ again. (again.session.must_reopen ≡ false) × (again.writes ≡ 0)) }
 {
     let conn = match restart_connection(alloc, engine.close(), options) {
         Ok(conn) => conn,

@@ -42,7 +42,7 @@ delivered room sent limits commands told answers None session s tells (are, read
     (Rests (Holds limits (accepted_after_all limits commands sent)), λ has. record { answers = answers; stop = None; leaves = (are, refl); tells = tells has }, (ready.admitted, ready.rests))
 delivered room sent limits commands told answers (Some (fault.Refused why)) session s tells none = absurd none
 delivered room sent limits commands told answers (Some (fault.Damaged table)) session s tells none = absurd none
-delivered room sent limits commands told answers (Some fault.Memory) session s tells (are, ready) =
+delivered room sent limits commands told answers (Some fault.Memory) session s tells (are, few, ready) =
     (Rests (Holds limits (accepted_after_all limits commands (take (length answers) sent))), λ has. record { answers = answers; stop = Some fault.Memory; leaves = (are, refl); tells = tells has }, (ready.admitted, ready.rests))
 delivered room sent limits commands told answers (Some (fault.Store cause)) session s tells (are, few, stopped) = (
   LeftAt (Holds limits (accepted_after_all limits commands (take (length answers) sent))) (Holds limits (accepted_after_all limits commands (take (suc (length answers)) sent))),

@@ -1,11 +1,12 @@
-use Rattle.std.proofs.Common.{◌≡◌, ◌<◌, ◌++◌, ◌∷◌, [], ◌+◌, suc, take, length, Ok, sym, ap, ap₂, subst, ◌∙◌, arith}
+use Rattle.std.proofs.Common.{◌≡◌, ◌<◌, ◌++◌, ◌∷◌, [], ◌+◌, suc, take, drop, length, Ok, Err, sym, ap, ap₂, subst, subst₂, ◌∙◌, arith, length-take}
 use Rattle.std.proofs.lemmas.Grind.{common_steps}
-use Rattle.std.proofs.lemmas.List.{take_more}
+use Rattle.std.proofs.lemmas.List.{take_more, take-append-drop}
 use Rattle.sqlite.specs.Held.{state}
 use Rattle.wh_engine.specs.Admission.{accepted_after_all}
-use Rattle.wh_engine.specs.Answered.{IsReady, IsAnswered, KeepsNothing, IsNotAccepted, IsWritten}
-use Rattle.wh_engine.specs.Delivered.{answers_to, answer_or_stop, as_called, AcceptNothing, IsLastWritten}
-use Rattle.wh_engine.proofs.Delivering.{deliveries_join, answers_join, goes_on, not_stopped, keeps, keeps_at_stop, stop_is, stopped_at, nothing_before, called, last_written, policy_stays}
+use Rattle.wh_engine.specs.Answered.{IsReady, IsAnswered, IsGoverned, KeepsNothing, IsNotAccepted, IsWritten}
+use Rattle.wh_engine.specs.Delivered.{answers_to, answer_or_stop, as_called, AcceptNothing, AreGoverned, IsLastWritten}
+use Rattle.wh_engine.proofs.Delivering.{deliveries_join, answers_join, goes_on, not_stopped, keeps, keeps_at_stop, stop_is, stopped_at, nothing_before, called, last_written, policy_stays, governed_on, governed_among, flag_at_stop, many_at_stop}
+use Rattle.wh_engine.specs.Faults.{stops}
 use Rattle.wh_engine.proofs.engine.Engine.deliver.Goals as goal
 
 pub returns-in-Err-clause-delivered : goal.returns-in-Err-clause-delivered
@@ -45,6 +46,36 @@ pub returns-in-Err-clause-silent : goal.returns-in-Err-clause-silent
 returns-in-Err-clause-silent g c nothing =
     c.apply-answered.ensures.silent (subst IsNotAccepted (sym (stop_is c.apply-answered.result c.in-Err.fault (sym c.in-Err.ensures))) tt)
 
+pub returns-in-Err-clause-many : goal.returns-in-Err-clause-many
+returns-in-Err-clause-many g c =
+    let kept = c.loop-command.invariant in
+    let answers = c.loop-command.answers.items in
+    let count = sym c.loop-command.answers.ok.0 ∙ kept.count in
+    let within : length answers < length c.args.commands.now = let less = c.loop-command-test.true in omega (arith, count, less) in
+    let stop = stop_is c.apply-answered.result c.in-Err.fault (sym c.in-Err.ensures) in
+    many_at_stop c.args.commands.now answers c.in-Err.fault
+    (λ reopen. let must = c.apply-answered.ensures.only (stop ∙ ap Err reopen) in let off = kept.goes_on in cc) within
+
+pub returns-in-Err-clause-noted : goal.returns-in-Err-clause-noted
+returns-in-Err-clause-noted g c off =
+    let kept = c.loop-command.invariant in
+    let sent = c.args.commands.now in
+    let i = c.loop-command.command-index in
+    let answers = c.loop-command.answers.items in
+    let command = c.command-item.result in
+    let fault = c.in-Err.fault in
+    let noted = c.apply-answered.ensures.noted kept.goes_on in
+    let stop = stop_is c.apply-answered.result fault (sym c.in-Err.ensures) in
+    let stays : c.apply-answered.new.self.session.policy ≡ c.loop-command.self.session.policy =
+    subst (IsGoverned c.loop-command.self.session.policy c.apply-answered.new.self.session.policy command) stop noted.policy in
+    record {
+      flag = noted.flag ∙ ap stops stop ∙ flag_at_stop fault;
+      limits = noted.limits ∙ kept.limits;
+      policy = λ nothing. stays ∙ kept.policy nothing;
+      governed = subst₂ (λ p list. AreGoverned c.args.self.now.session.policy p answers list) (sym stays) (take-append-drop i sent)
+          (governed_among c.args.self.now.session.policy c.loop-command.self.session.policy answers (take i sent) (drop i sent) kept.governed);
+    }
+
 pub loop-command-preserved : goal.loop-command-preserved
 loop-command-preserved g c =
     let kept = c.loop-command.invariant in
@@ -70,6 +101,11 @@ loop-command-preserved g c =
       clean = λ clean. kept.clean (c.apply-answered.ensures.clean clean);
       limits = noted.limits ∙ kept.limits;
       policy = λ nothing. let parts = split nothing in policy_stays c.loop-command.self.session.policy session.policy command answered noted.policy parts.2 ∙ kept.policy parts.0;
+      governed =
+          let counted : length (take i sent) ≡ length answers = let all = length-take i sent in let less = c.loop-command-test.true in let count = sym c.loop-command.answers.ok.0 ∙ kept.count in omega (arith, all, less, count) in
+          let one = subst (λ r. IsGoverned c.loop-command.self.session.policy session.policy command r) (called answered answer e) noted.policy in
+          subst₂ (AreGoverned c.args.self.now.session.policy session.policy) (sym c.push_reserved.ensures.items) (sym more)
+          (governed_on c.args.self.now.session.policy c.loop-command.self.session.policy session.policy answers answer (take i sent) command kept.governed counted one);
       so_far = λ clean limits accepted ready.
           let was = kept.so_far (c.apply-answered.ensures.clean clean) limits accepted ready in
           let before = accepted_after_all limits accepted (take i sent) in
@@ -98,6 +134,17 @@ returns-clause-delivered g c clean limits accepted ready =
     let was = c.loop-command.invariant.so_far clean limits accepted ready in
     let whole : take c.loop-command.command-index c.args.commands.now ≡ c.args.commands.now = grind (arith, common_steps, c.loop-command-test.false) in
     rw whole at was
+
+pub returns-clause-noted : goal.returns-clause-noted
+returns-clause-noted g c off =
+    let kept = c.loop-command.invariant in
+    let whole : take c.loop-command.command-index c.args.commands.now ≡ c.args.commands.now = grind (arith, common_steps, c.loop-command-test.false) in
+    record {
+      flag = kept.goes_on;
+      limits = kept.limits;
+      policy = kept.policy;
+      governed = rw whole at kept.governed;
+    }
 
 pub returns-clause-written : goal.returns-clause-written
 returns-clause-written g c clean limits accepted ready =

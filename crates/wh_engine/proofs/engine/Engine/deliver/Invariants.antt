@@ -9,7 +9,7 @@ use Rattle.wh_rows.specs.Raw.{Stored, RestsOn}
 use Rattle.wh_rows.specs.Tables.{Tables}
 use Rattle.wh_engine.specs.Admission.{accepted_after_all}
 use Rattle.wh_engine.specs.Answered.{IsReady}
-use Rattle.wh_engine.specs.Delivered.{answers_to, AcceptNothing, IsLastWritten}
+use Rattle.wh_engine.specs.Delivered.{answers_to, AcceptNothing, AreGoverned, IsLastWritten}
 use Rattle.wh_engine.proofs.engine.Engine.deliver.Given as goal
 
 abbrev pub invariant-loop-command : goal.invariant-loop-command
@@ -23,6 +23,7 @@ invariant-loop-command g l =
       clean : HasCleanDisk now → HasCleanDisk old;
       limits : l.self.session.limits ≡ l.fn.self.session.limits;
       policy : AcceptNothing l.answers.items → l.self.session.policy ≡ l.fn.self.session.policy;
+      governed : AreGoverned l.fn.self.session.policy l.self.session.policy l.answers.items (take l.command-index l.commands);
       so_far : HasCleanDisk now → (limits : Limits) (accepted : List Accepted) → IsReady limits accepted l.fn.self.session old
           → (l.answers.items ≡ answers_to limits accepted (take l.command-index l.commands)) × IsReady limits (accepted_after_all limits accepted (take l.command-index l.commands)) l.self.session now;
       silent : AcceptNothing l.answers.items → l.self.writes ≡ 0;
