@@ -1,9 +1,10 @@
 -- What is read of a file.
 use Rattle.std.proofs.Common.{refl, inl, inr, ◌⊎◌, true, ◌<◌, ◌≡◌, ◌∙◌, ◌≤◌, ◌^◌, sym, subst, ap, arith, ℕ, suc, List, length, take, Option, Some, None}
-use Rattle.std.specs.Prelude.{nat_lt, option_map}
+use Rattle.std.specs.Prelude.{IfOk, nat_lt, option_map}
 use Rattle.std.specs.declared.alloc.Global.{Global}
 use Rattle.std.specs.declared.vec.Vec.{Vec}
 use Rattle.std.proofs.lemmas.Bool.{cases_lt, lt-ltb}
+use Rattle.std.proofs.lemmas.Result.{IfOk-weaker}
 use Rattle.std.proofs.lemmas.List.{length-take, length-take-le, take_all}
 use Rattle.wh_policy.specs.Document.{document_at}
 use Rattle.wh_policy.specs.Policy.{attributes_of, policy_at}
@@ -14,7 +15,9 @@ use Rattle.wh_batch.specs.Layouts.{dimension_layout, dimension_records, sales_la
 use Rattle.wh_batch.specs.declared.kind.CommandKind.TheVariants.{Batch, Migration}
 use Rattle.wh_batch.specs.declared.kind.Kind.TheVariants.{Dimension, Sales}
 use Rattle.wh_batch.specs.declared.kind.Format.TheVariants.{One}
+use Rattle.wh_program.specs.Answer.{answer_under, AnswersTrial}
 use Rattle.wh_program.specs.Inputs.{Files, up_to, batch_limit, policy_limit}
+use Rattle.wh_program.specs.Warehouse.{Told}
 use Rattle.wh_program.specs.Laws.{PoliciesAreReadSo, TrialsAreReadSo, CommandsAreReadSo}
 
 -- as far as any bytes go, it is the whole of it
@@ -31,6 +34,11 @@ past_or_whole most bytes = elim (cases_lt most (length bytes)) [
   | inl longer ↦ inl (lt-ltb most (length (take (suc most) bytes)) (omega (arith, length-take-le (suc most) bytes longer)), lt-ltb most (length bytes) longer)
   | inr short ↦ inr (take_all (suc most) bytes (omega arith))
 ]
+
+-- a trial of a batch under a policy, each as far as it is read
+pub tried_under : (holds : Files) (dim : Dim) (path policy_path text batch : List ℕ) (told : Told) → up_to policy_limit holds policy_path (Some text) → up_to batch_limit holds path (Some batch)
+    → IfOk told (λ a. a ≡ answer_under dim batch (policy_at text)) → IfOk told (AnswersTrial holds dim path (Some policy_path))
+tried_under holds dim path policy_path text batch told first second tells = IfOk-weaker told _ _ (λ a is. (Some text, Some batch, first, λ there. second, is)) tells
 
 -- ---- laws
 
