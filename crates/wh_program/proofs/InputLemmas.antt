@@ -1,5 +1,5 @@
 -- What is read of a file.
-use Rattle.std.proofs.Common.{refl, inl, inr, ◌⊎◌, true, ◌<◌, ◌≡◌, ◌∙◌, ◌≤◌, ◌^◌, sym, subst, ap, arith, ℕ, suc, List, length, take, Option, Some, None}
+use Rattle.std.proofs.Common.{refl, inl, inr, ◌⊎◌, true, ◌≡◌, ◌∙◌, ◌≤◌, ◌^◌, sym, subst, ap, arith, ℕ, suc, List, length, take, Option, Some, None}
 use Rattle.std.specs.Prelude.{IfOk, nat_lt, option_map}
 use Rattle.std.specs.declared.alloc.Global.{Global}
 use Rattle.std.specs.declared.vec.Vec.{Vec}
