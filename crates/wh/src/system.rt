@@ -1,10 +1,10 @@
 //! The files of the system, and the connections to those that are warehouses.
 
-ghost use Rattle.std.specs.Prelude.{IsTrue, IfOk, length, ◌≤◌};
+ghost use Rattle.std.specs.Prelude.{◌≡◌, ◌≤◌, IsTrue, IfOk, OnErr, length};
 
 use sqlite::{Alter, Connection, Error, ErrorCode, FileStore, Files, Options, Unknown};
 use sqlite_disk::Disk;
-use sqlite_std_file::{File as DatabaseFile, OpenError};
+use sqlite_std_file::OpenError;
 use std::alloc::Global;
 use std::fs::{self, File};
 use std::hash::{BuildHasher, RandomState};
@@ -77,34 +77,6 @@ fn options_for(runtime: &HostRuntime, name: &str) -> Result<Options, HostError> 
     })
 }
 
-/// A connection to the database in two files, on whatever disk they lie.
-fn connected<D: Disk + Drop>(
-    alloc: Global,
-    files: Files<D>,
-    options: Options,
-) -> Result<Connection<FileStore<D>>, HostError>
-    requires log { IsTrue (D.Disk.is_usable files.log) }
-    requires db { IsTrue (D.Disk.is_usable files.db) }
-{
-    match Connection::open_files(alloc, files, options) {
-        Ok(connection) => Ok(connection),
-        Err((error, _)) => Err(of_connecting(error)),
-    }
-}
-
-/// Connects the database in a file, or in a new one of that name, whose pages get no check sums: the `sqlite3` program can write it too.
-fn connect(
-    runtime: &HostRuntime,
-    name: &str,
-) -> Result<Connection<FileStore<DatabaseFile>>, HostError> {
-    let options = options_for(runtime, name)?;
-    // `Unknown` says nothing of what the file holds, and supposes that a torn write leaves each byte old or new.
-    match sqlite_std_file::open(runtime, name, Unknown) {
-        Ok(files) => connected(runtime.alloc(), files, options),
-        Err(error) => Err(of_opening(error)),
-    }
-}
-
 /// What a visitor answers over a connection, which is then closed.
 fn visited<D: Disk + Drop, V: Visitor, W: Write>(
     alloc: Global,
@@ -116,6 +88,43 @@ fn visited<D: Disk + Drop, V: Visitor, W: Write>(
     // What was committed is in the files already, so a failure here loses nothing.
     let _ = connection.close();
     output
+}
+
+/// What a visitor answers over the database in two files, on whatever disk they lie, which is then closed.
+fn on_files<D: Disk + Drop, V: Visitor, W: Write>(
+    alloc: Global,
+    files: Files<D>,
+    options: Options,
+    visitor: V,
+    out: &mut W,
+) -> Result<V::Output, HostError>
+    requires log { IsTrue (D.Disk.is_usable files.log) }
+    requires db { IsTrue (D.Disk.is_usable files.db) }
+    ensures not_printed { OnErr result (W.contents out.new ≡ W.contents out.old) }
+{
+    match Connection::open_files(alloc, files, options) {
+        Ok(connection) => Ok(visited(alloc, connection, visitor, out)),
+        Err((error, _)) => Err(of_connecting(error)),
+    }
+}
+
+/// What a visitor answers over the database in a file, or in a new one of that name, whose pages get no check sums: the `sqlite3` program
+/// can write it too.
+fn on_database<V: Visitor, W: Write>(
+    runtime: &HostRuntime,
+    alloc: Global,
+    name: &str,
+    visitor: V,
+    out: &mut W,
+) -> Result<V::Output, HostError>
+    ensures not_printed { OnErr result (W.contents out.new ≡ W.contents out.old) }
+{
+    let options = options_for(runtime, name)?;
+    // `Unknown` says nothing of what the file holds, and supposes that a torn write leaves each byte old or new.
+    match sqlite_std_file::open(runtime, name, Unknown) {
+        Ok(files) => on_files(alloc, files, options, visitor, out),
+        Err(error) => Err(of_opening(error)),
+    }
 }
 
 /// What a visitor answers over a connection that nothing keeps.
@@ -164,10 +173,7 @@ impl Host for SystemHost<'_> {
         visitor: V,
         out: &mut W,
     ) -> Result<V::Output, HostError> {
-        match connect(self.runtime, name) {
-            Ok(connection) => Ok(visited(alloc, connection, visitor, out)),
-            Err(error) => Err(error),
-        }
+        on_database(self.runtime, alloc, name, visitor, out)
     }
 
     fn with_existing<V: Visitor, W: Write>(

@@ -1,15 +1,10 @@
 -- Room for the lines of answers.
-use Rattle.std.proofs.Common.{◌≡◌, ◌∙◌, inl, inr, sym, ap, arith, ℕ, ◌+◌, ◌<◌, ◌≤◌, List, [], ◌∷◌, length, drop, get_or, Ok, Err}
+use Rattle.std.proofs.Common.{◌≡◌, inl, inr, ap, arith, ℕ, ◌≤◌, List, Ok, Err}
 use Rattle.std.specs.Prelude.{Result, IfOk, vec_capacity}
 use Rattle.std.specs.declared.alloc.Global.{Global}
 use Rattle.std.specs.declared.vec.Vec.{Vec}
-use Rattle.std.proofs.lemmas.List.{drop_more, drop_all}
-use Rattle.wh_rows.specs.Names.{table_name}
-use Rattle.wh_rows.specs.declared.table.Table.{Table}
-use Rattle.wh_rows.specs.declared.table.Table.TheVariants as table
-use Rattle.wh_engine.specs.declared.command.Command.{Command}
 use Rattle.wh_program.specs.Answer.{Printed}
-use Rattle.wh_program.specs.Room.{TellsIn, longest_answer, longest_answers}
+use Rattle.wh_program.specs.Room.{TellsIn}
 use Rattle.wh_program.specs.Standing.{Content, Nothing, Holds, Standing}
 use Rattle.wh_program.specs.Warehouse.{Told, printed, Opens}
 use Rattle.wh_history.specs.Accepted.{Accepted}
@@ -23,29 +18,6 @@ told_in most room (Err e) answer enough tells = absurd (omega (arith, tells.1))
 -- so it is printed
 pub printed_in : (most : ℕ) (room : Vec ℕ Global) (told : Told) (answer : Printed) → most ≤ vec_capacity room → TellsIn most room told answer → printed told ≡ answer
 printed_in most room told answer enough tells = ap printed (told_in most room told answer enough tells)
-
--- a table's name is no longer than the other names in lines
-pub short_name : (t : Table) → length (table_name t) ≤ 32
-short_name table.Meta = omega arith
-short_name table.Command = omega arith
-short_name table.Member = omega arith
-short_name table.Change = omega arith
-short_name table.Product = omega arith
-short_name table.Store = omega arith
-short_name table.Customer = omega arith
-short_name table.Profile = omega arith
-short_name table.Calendar = omega arith
-short_name table.Fact = omega arith
-
--- ---- deliveries
-
--- the line of the next command, and those after it
-pub longest-next : (sent : List Command) (i : ℕ) (c : Command) → i < length sent → c ≡ get_or sent i c → longest_answers (drop i sent) ≡ longest_answer c.id + longest_answers (drop (i + 1) sent)
-longest-next sent i c within at = ap longest_answers (drop_more sent i c within) ∙ ap (λ (x : Command). longest_answer x.id + longest_answers (drop (i + 1) sent)) (sym at)
-
--- no command is left
-pub longest-past : (sent : List Command) (i : ℕ) → length sent ≤ i → longest_answers (drop i sent) ≡ 0
-longest-past sent i past = ap longest_answers (drop_all i sent past)
 
 -- ---- a visit that needs room
 

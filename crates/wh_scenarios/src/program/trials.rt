@@ -116,7 +116,15 @@ many p.csv 5001
 run trial product p.csv
 = refused: E3 batch, B1 too large, record 5001
 = status 2
+long p.csv 1000000
+run trial product p.csv
+= refused: E3 batch, B2 wrong header, record 0
+= status 2
 long p.csv 1000001
+run trial product p.csv
+= refused: E3 batch, B1 too large, record 0
+= status 2
+long p.csv 1000003
 run trial product p.csv
 = refused: E3 batch, B1 too large, record 0
 = status 2
