@@ -1,4 +1,4 @@
-use Rattle.std.proofs.Common.{rules, ◌≡◌, ℕ, List, None, ◌++◌, take, drop, length, ap, ◌∙◌}
+use Rattle.std.proofs.Common.{rules, ◌≡◌, None, ◌++◌, take, drop, length, ap, ◌∙◌}
 use Rattle.std.specs.Prelude.{unwrap_or}
 use Rattle.std.proofs.Math.Seq.{take-append_seam}
 use Rattle.wh_program.specs.Named.{named}

@@ -1,6 +1,5 @@
-use Rattle.std.proofs.Common.{rules, ◌≡◌, true, refl, sym, ap, subst, ◌∙◌, Some, None, ◌++◌, ◌∷◌, []}
+use Rattle.std.proofs.Common.{rules, ◌≡◌, ◌++◌, ◌∷◌, []}
 use Rattle.std.specs.String.{string_bytes}
-use Rattle.wh_program.specs.Named.{named}
 use Rattle.wh_program.specs.declared.named.Named.{Named}
 use Rattle.wh_program.proofs.NamedLemmas.{of_name, is_another, put_last, others_last}
 use Rattle.wh_program.proofs.named.add.Goals as goal

@@ -1,4 +1,4 @@
-use Rattle.std.proofs.Common.{rules, ◌≡◌, ◌+◌, ◌<◌, true, false, length, get_or, sym, ap, subst, ◌∙◌, Some, add-one}
+use Rattle.std.proofs.Common.{rules, ◌≡◌, ◌<◌, true, false, length, get_or, ap, ◌∙◌, add-one}
 use Rattle.std.proofs.lemmas.List.{set-get_or}
 use Rattle.wh_program.specs.Named.{named}
 use Rattle.wh_program.specs.declared.named.Named.{Named}

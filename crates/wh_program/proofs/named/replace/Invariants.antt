@@ -1,4 +1,4 @@
-use Rattle.std.proofs.Common.{◌≡◌, List, None, take}
+use Rattle.std.proofs.Common.{◌≡◌, None, take}
 use Rattle.wh_program.specs.Named.{named}
 use Rattle.wh_program.proofs.named.replace.Given as goal
 
