@@ -39,7 +39,7 @@ pub fn replace<T: Drop>(all: &mut [Named<T>], name: &str, value: T) -> Result<T,
     Err(value)
 }
 
-/// Adds a value behind all.
+/// Adds a value after all.
 pub fn add<T: Drop>(
     all: &mut Vec<Named<T>>,
     alloc: Global,
