@@ -16,6 +16,7 @@ pub mod Prefixes
 pub mod Reports
 pub mod Worked
 pub mod Outputs
+pub mod Parts
 pub mod EngineReading
 pub mod HandedRows
 pub mod SummedFacts

@@ -1,11 +1,9 @@
 -- What goes out piece by piece.
 use Rattle.std.proofs.Common.{◌≡◌, ℕ, ◌<◌, zero, suc, List, [], ◌∷◌, ◌++◌, Option, Some, None, Result, Ok, Err, refl, sym, ap, ◌∙◌, subst, length, take, append_assoc, append-nil, arith}
-use Rattle.std.specs.Prelude.{flat_map}
 use Rattle.std.specs.Io.KnownBytes.{Appends, Keeps}
 use Rattle.std.proofs.KnownBytes.{Appends-nil, Appends-trans}
-use Rattle.wh_engine.specs.declared.fault.Fault.{Fault}
 use Rattle.wh_store.specs.Scan.{HandsOut}
-use Rattle.wh_report.specs.Output.{IsOutBut, IsOutWhole, IsOutInPieces}
+use Rattle.wh_report.specs.Output.{IsOutBut, IsOutInPieces}
 use Rattle.wh_report.specs.declared.output.ReportFault.{ReportFault}
 use Rattle.wh_report.specs.declared.output.ReportFault.TheVariants.{Write, Warehouse, Inconsistent}
 
@@ -33,10 +31,6 @@ took_none text buffer n taken a b c short went none took = beginning text n a b 
 pub none_out : (a : Option (List ℕ)) (text : List ℕ) → IsOutBut text a a text
 none_out a text = record { part = []; whole = refl; went = Appends-nil a }
 
--- before the first piece memory ran out
-pub unwritten : (a : Option (List ℕ)) (text : List ℕ) (fault : Fault) (result : Result (Unit {0}) ReportFault) → result ≡ Err (Warehouse fault) → IsOutInPieces result a a text
-unwritten a text fault result is = rw is (text, none_out a text)
-
 -- a piece went out but a rest of it, before more
 pub joined : (a b c : Option (List ℕ)) (text piece more rest : List ℕ) → IsOutBut (piece ++ more) a b text → IsOutBut rest b c piece → IsOutBut (rest ++ more) a c text
 joined a b c text piece more rest before now = record {
@@ -62,30 +56,10 @@ pub closing : (a b c : Option (List ℕ)) (text piece : List ℕ) (result : Resu
 closing a b c text piece (Ok done) before out = all_out a c text [] refl (onward a b c text piece [] (subst (λ p. IsOutBut p a b text) (sym (append-nil piece)) before) out)
 closing a b c text piece (Err fault) before out = further a b c text piece [] fault (subst (λ p. IsOutBut p a b text) (sym (append-nil piece)) before) out
 
--- a first piece, and then the others
-pub table_out : (a b c : Option (List ℕ)) (header rows : List ℕ) (result : Result (Unit {0}) ReportFault) → Appends a b header → IsOutInPieces result b c rows → IsOutInPieces result a c (header ++ rows)
-table_out a b c header rows result went out = closing a b c (header ++ rows) rows result (onward a a b (header ++ rows) header rows (none_out a (header ++ rows)) went) out
-
--- or not even that
-pub header_cut : (a b : Option (List ℕ)) (header rows : List ℕ) (fault : ReportFault) → IsOutWhole (Err fault) a b header → IsOutInPieces (Err fault) a b (header ++ rows)
-header_cut a b header rows Write out = (out.0, out.1 ++ rows, joined a a b (header ++ rows) header rows (out.0 ∷ out.1) (none_out a (header ++ rows)) out.2)
-header_cut a b header rows (Warehouse fault) out = (header ++ rows, subst (λ n. IsOutBut (header ++ rows) a n (header ++ rows)) (sym out) (none_out a (header ++ rows)))
-header_cut a b header rows (Inconsistent table) out = absurd out
-
--- ---- a line a row
+-- ---- a row at a time
 
 pub row_handed : {V : Type 0} (left rest : List V) (found : Option V) (row : V) → found ≡ Some row → HandsOut left found rest → left ≡ row ∷ rest
 row_handed left rest found row is out = subst (λ f. HandsOut left f rest) is out
 
 pub none_handed : {V : Type 0} (left rest : List V) (found : Option V) → found ≡ None → HandsOut left found rest → left ≡ []
 none_handed left rest found is out = (subst (λ f. HandsOut left f rest) is out).0
-
-module _ {R : Type 0} (line : R → List ℕ) where
-  pub row_out : (a b c : Option (List ℕ)) (text : List ℕ) (row : R) (left rest : List R) → left ≡ row ∷ rest → IsOutBut (flat_map line left) a b text → Appends b c (line row) → IsOutBut (flat_map line rest) a c text
-  row_out a b c text row left rest is before went = onward a b c text (line row) (flat_map line rest) (subst (λ rows. IsOutBut (flat_map line rows) a b text) is before) went
-
-  pub row_cut : (a b c : Option (List ℕ)) (text : List ℕ) (row : R) (left rest : List R) (fault : ReportFault) → left ≡ row ∷ rest → IsOutBut (flat_map line left) a b text → IsOutInPieces (Err fault) b c (line row) → IsOutInPieces (Err fault) a c text
-  row_cut a b c text row left rest fault is before out = further a b c text (line row) (flat_map line rest) fault (subst (λ rows. IsOutBut (flat_map line rows) a b text) is before) out
-
-  pub rows_out : (a b : Option (List ℕ)) (text : List ℕ) (left : List R) → left ≡ [] → IsOutBut (flat_map line left) a b text → Appends a b text
-  rows_out a b text left none out = all_out a b text (flat_map line left) (ap (λ rows. flat_map line rows) none) out

@@ -14,4 +14,5 @@ pub mod Counting
 pub mod Defined
 pub mod Dump
 pub mod Output
+pub mod Part
 pub mod Reported

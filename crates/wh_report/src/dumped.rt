@@ -3,13 +3,14 @@
 ghost use Rattle.std.specs.Prelude.{◌≡◌, ◌++◌, ◌∷◌, [], IfOk, OnOk, map, slice_index_or};
 ghost use Rattle.std.specs.Fmt.{decimal, signed_decimal};
 ghost use Rattle.csv.specs.Records.{fields_of};
-ghost use Rattle.csv.specs.Writing.{default_writer, row_text};
 ghost use Rattle.hex.specs.Hex.{encode_lower};
 ghost use Rattle.wh_rows.specs.Rows.{product, slot_columns, encode_dimension};
 ghost use Rattle.wh_rows.specs.Types.{dim_number};
 ghost use Rattle.wh_report.specs.Dump.{value_field, column_names, row_fields, header_line, row_line, table_text, dimension_text};
 
-use csv::{StringRecord, WriterBuilder};
+use crate::part::Part;
+use csv::StringRecord;
+use itoa::Buffer;
 use std::alloc::{AllocError, Global};
 use wh_day::{DateRow, Value, Values};
 use wh_history::{DimRow, Fact};
@@ -22,52 +23,40 @@ pub trait DumpedTable: StoredTable {
     fn columns(alloc: Global) -> Result<StringRecord, AllocError>
         ensures { IfOk result (λ names. fields_of names ≡ column_names Self.layout) };
 
-    /// A row's fields, in the order of the columns: numbers in decimal, days as YYYYMMDD, 1 or 0 for a flag, two
-    /// hexadecimal digits a byte, and texts as they are.
-    fn fields(alloc: Global, row: &Self::Row) -> Result<StringRecord, AllocError>
-        ensures { IfOk result (λ fields. fields_of fields ≡ row_fields Self.layout row.now) };
-}
-
-/// The line of these fields. Over a buffer in memory `csv` fails only where memory runs out.
-fn line_of(alloc: Global, fields: &StringRecord) -> Result<Vec<u8>, AllocError>
-    ensures { IfOk result (λ line. line.items ≡ row_text default_writer (fields_of fields.now)) }
-{
-    let mut writer = WriterBuilder::new().from_writer(Vec::new(alloc));
-    if writer.write_byte_record(fields.as_byte_record()).is_err() {
-        return Err(AllocError);
-    }
-    match writer.into_inner() {
-        Ok(line) => Ok(line),
-        Err(_) => Err(AllocError),
-    }
+    /// Puts a row's fields in place of those that are there, in the order of the columns: numbers in decimal, days as
+    /// YYYYMMDD, 1 or 0 for a flag, two hexadecimal digits a byte, and texts as they are.
+    fn fields(alloc: Global, row: &Self::Row, fields: &mut StringRecord) -> Result<(), AllocError>
+        ensures { OnOk result (fields_of fields.new ≡ row_fields Self.layout row.now) };
 }
 
 /// The first line of a table's dump.
 pub fn header_line<T: DumpedTable>(alloc: Global) -> Result<Vec<u8>, AllocError>
     ensures { IfOk result (λ line. line.items ≡ header_line T.layout) }
 {
-    let names = T::columns(alloc)?;
-    line_of(alloc, &names)
+    let mut part = Part::new(alloc);
+    part.add_names::<T>(alloc)?;
+    part.take(alloc)
 }
 
 /// The line of a row.
 pub fn row_line<T: DumpedTable>(alloc: Global, row: &T::Row) -> Result<Vec<u8>, AllocError>
     ensures { IfOk result (λ line. line.items ≡ row_line T.layout row.now) }
 {
-    let fields = T::fields(alloc, row)?;
-    line_of(alloc, &fields)
+    let mut part = Part::new(alloc);
+    part.add_row::<T>(alloc, row)?;
+    part.take(alloc)
 }
 
 /// The whole text of a table that has these rows.
 pub fn table_text<T: DumpedTable>(alloc: Global, rows: &[T::Row]) -> Result<Vec<u8>, AllocError>
     ensures { IfOk result (λ text. text.items ≡ table_text T.layout rows.now) }
 {
-    let mut text = header_line::<T>(alloc)?;
+    let mut text = Part::new(alloc);
+    text.add_names::<T>(alloc)?;
     for row in rows {
-        let line = row_line::<T>(alloc, row)?;
-        text.extend_from_slice(&line)?;
+        text.add_row::<T>(alloc, row)?;
     }
-    Ok(text)
+    text.take(alloc)
 }
 
 /// The whole text of product, store or customer, which have the same columns.
@@ -77,27 +66,22 @@ pub fn dimension_text(alloc: Global, rows: &[DimRow]) -> Result<Vec<u8>, AllocEr
     table_text::<tables::Product>(alloc, rows)
 }
 
-fn push_number(alloc: Global, fields: &mut StringRecord, number: u64) -> Result<(), AllocError>
+fn push_number(fields: &mut StringRecord, number: u64) -> Result<(), AllocError>
     ensures { OnOk result (fields_of fields.new ≡ fields_of fields.old ++ decimal number ∷ []) }
 {
-    let text = number.to_string(alloc)?;
-    fields.push_field(text.as_str())?;
-    Ok(())
+    fields.push_field(Buffer::new().format(number))
 }
 
-fn push_integer(alloc: Global, fields: &mut StringRecord, number: &i64) -> Result<(), AllocError>
+fn push_integer(fields: &mut StringRecord, number: &i64) -> Result<(), AllocError>
     ensures { OnOk result (fields_of fields.new ≡ fields_of fields.old ++ signed_decimal number.now ∷ []) }
 {
-    let text = format!(in alloc; "{number}")?;
-    fields.push_field(text.as_str())?;
-    Ok(())
+    fields.push_field(Buffer::new().format(*number))
 }
 
 fn push_text(fields: &mut StringRecord, text: &Value) -> Result<(), AllocError>
     ensures { OnOk result (fields_of fields.new ≡ fields_of fields.old ++ text.now ∷ []) }
 {
-    fields.push_field(text.as_str())?;
-    Ok(())
+    fields.push_field(text.as_str())
 }
 
 fn push_slot(fields: &mut StringRecord, texts: &Values, place: usize) -> Result<(), AllocError>
@@ -105,10 +89,7 @@ fn push_slot(fields: &mut StringRecord, texts: &Values, place: usize) -> Result<
 {
     match texts.as_slice().get(place) {
         Some(text) => push_text(fields, text),
-        None => {
-            fields.push_field("")?;
-            Ok(())
-        }
+        None => fields.push_field(""),
     }
 }
 
@@ -128,11 +109,10 @@ impl DumpedTable for tables::Meta {
         StringRecord::from_fields(alloc, &["name", "value"])
     }
 
-    fn fields(alloc: Global, row: &MetaRow) -> Result<StringRecord, AllocError> {
-        let mut fields = StringRecord::new(alloc);
-        push_text(&mut fields, &row.name)?;
-        push_integer(alloc, &mut fields, &row.value)?;
-        Ok(fields)
+    fn fields(_alloc: Global, row: &MetaRow, fields: &mut StringRecord) -> Result<(), AllocError> {
+        fields.clear();
+        push_text(fields, &row.name)?;
+        push_integer(fields, &row.value)
     }
 }
 
@@ -144,15 +124,18 @@ impl DumpedTable for tables::Command {
         )
     }
 
-    fn fields(alloc: Global, row: &CommandRow) -> Result<StringRecord, AllocError> {
-        let mut fields = StringRecord::new(alloc);
-        push_number(alloc, &mut fields, row.number)?;
-        push_text(&mut fields, &row.id)?;
-        push_text(&mut fields, &row.kind)?;
-        push_bytes(alloc, &mut fields, row.bytes.as_slice())?;
-        push_number(alloc, &mut fields, row.records)?;
-        push_number(alloc, &mut fields, row.placeholders)?;
-        Ok(fields)
+    fn fields(
+        alloc: Global,
+        row: &CommandRow,
+        fields: &mut StringRecord,
+    ) -> Result<(), AllocError> {
+        fields.clear();
+        push_number(fields, row.number)?;
+        push_text(fields, &row.id)?;
+        push_text(fields, &row.kind)?;
+        push_bytes(alloc, fields, row.bytes.as_slice())?;
+        push_number(fields, row.records)?;
+        push_number(fields, row.placeholders)
     }
 }
 
@@ -161,13 +144,16 @@ impl DumpedTable for tables::Member {
         StringRecord::from_fields(alloc, &["dim", "durable", "natural", "opening"])
     }
 
-    fn fields(alloc: Global, row: &MemberRow) -> Result<StringRecord, AllocError> {
-        let mut fields = StringRecord::new(alloc);
-        push_number(alloc, &mut fields, dim_number(row.dim))?;
-        push_number(alloc, &mut fields, row.durable)?;
-        push_text(&mut fields, &row.natural)?;
-        push_number(alloc, &mut fields, row.opening)?;
-        Ok(fields)
+    fn fields(
+        _alloc: Global,
+        row: &MemberRow,
+        fields: &mut StringRecord,
+    ) -> Result<(), AllocError> {
+        fields.clear();
+        push_number(fields, dim_number(row.dim))?;
+        push_number(fields, row.durable)?;
+        push_text(fields, &row.natural)?;
+        push_number(fields, row.opening)
     }
 }
 
@@ -182,16 +168,19 @@ impl DumpedTable for tables::Change {
         )
     }
 
-    fn fields(alloc: Global, row: &ChangeRow) -> Result<StringRecord, AllocError> {
-        let mut fields = StringRecord::new(alloc);
-        push_number(alloc, &mut fields, row.command)?;
-        push_number(alloc, &mut fields, row.place)?;
-        push_number(alloc, &mut fields, dim_number(row.dim))?;
-        push_number(alloc, &mut fields, row.durable)?;
-        push_number(alloc, &mut fields, u64::from(row.day.key()))?;
-        push_number(alloc, &mut fields, row.anchor)?;
-        push_slots(&mut fields, &row.values)?;
-        Ok(fields)
+    fn fields(
+        _alloc: Global,
+        row: &ChangeRow,
+        fields: &mut StringRecord,
+    ) -> Result<(), AllocError> {
+        fields.clear();
+        push_number(fields, row.command)?;
+        push_number(fields, row.place)?;
+        push_number(fields, dim_number(row.dim))?;
+        push_number(fields, row.durable)?;
+        push_number(fields, u64::from(row.day.key()))?;
+        push_number(fields, row.anchor)?;
+        push_slots(fields, &row.values)
     }
 }
 
@@ -200,8 +189,8 @@ impl DumpedTable for tables::Product {
         dimension_columns(alloc)
     }
 
-    fn fields(alloc: Global, row: &DimRow) -> Result<StringRecord, AllocError> {
-        dimension_fields(alloc, row)
+    fn fields(_alloc: Global, row: &DimRow, fields: &mut StringRecord) -> Result<(), AllocError> {
+        dimension_fields(row, fields)
     }
 }
 
@@ -210,8 +199,8 @@ impl DumpedTable for tables::Store {
         dimension_columns(alloc)
     }
 
-    fn fields(alloc: Global, row: &DimRow) -> Result<StringRecord, AllocError> {
-        dimension_fields(alloc, row)
+    fn fields(_alloc: Global, row: &DimRow, fields: &mut StringRecord) -> Result<(), AllocError> {
+        dimension_fields(row, fields)
     }
 }
 
@@ -220,8 +209,8 @@ impl DumpedTable for tables::Customer {
         dimension_columns(alloc)
     }
 
-    fn fields(alloc: Global, row: &DimRow) -> Result<StringRecord, AllocError> {
-        dimension_fields(alloc, row)
+    fn fields(_alloc: Global, row: &DimRow, fields: &mut StringRecord) -> Result<(), AllocError> {
+        dimension_fields(row, fields)
     }
 }
 
@@ -230,11 +219,14 @@ impl DumpedTable for tables::Profile {
         StringRecord::from_fields(alloc, &["number", "v1", "v2", "v3", "v4", "v5", "v6"])
     }
 
-    fn fields(alloc: Global, row: &ProfileRow) -> Result<StringRecord, AllocError> {
-        let mut fields = StringRecord::new(alloc);
-        push_number(alloc, &mut fields, row.number)?;
-        push_slots(&mut fields, &row.values)?;
-        Ok(fields)
+    fn fields(
+        _alloc: Global,
+        row: &ProfileRow,
+        fields: &mut StringRecord,
+    ) -> Result<(), AllocError> {
+        fields.clear();
+        push_number(fields, row.number)?;
+        push_slots(fields, &row.values)
     }
 }
 
@@ -258,20 +250,19 @@ impl DumpedTable for tables::Calendar {
         )
     }
 
-    fn fields(alloc: Global, row: &DateRow) -> Result<StringRecord, AllocError> {
-        let mut fields = StringRecord::new(alloc);
-        push_number(alloc, &mut fields, u64::from(row.date_key.key()))?;
-        push_text(&mut fields, &row.iso)?;
-        push_integer(alloc, &mut fields, &row.year)?;
-        push_integer(alloc, &mut fields, &row.quarter)?;
-        push_integer(alloc, &mut fields, &row.month)?;
-        push_integer(alloc, &mut fields, &row.day)?;
-        push_integer(alloc, &mut fields, &row.day_of_year)?;
-        push_integer(alloc, &mut fields, &row.weekday)?;
-        push_text(&mut fields, &row.weekday_name)?;
-        push_number(alloc, &mut fields, u64::from(row.weekend))?;
-        push_text(&mut fields, &row.holiday)?;
-        Ok(fields)
+    fn fields(_alloc: Global, row: &DateRow, fields: &mut StringRecord) -> Result<(), AllocError> {
+        fields.clear();
+        push_number(fields, u64::from(row.date_key.key()))?;
+        push_text(fields, &row.iso)?;
+        push_integer(fields, &row.year)?;
+        push_integer(fields, &row.quarter)?;
+        push_integer(fields, &row.month)?;
+        push_integer(fields, &row.day)?;
+        push_integer(fields, &row.day_of_year)?;
+        push_integer(fields, &row.weekday)?;
+        push_text(fields, &row.weekday_name)?;
+        push_number(fields, u64::from(row.weekend))?;
+        push_text(fields, &row.holiday)
     }
 }
 
@@ -297,22 +288,21 @@ impl DumpedTable for tables::Fact {
         )
     }
 
-    fn fields(alloc: Global, row: &Fact) -> Result<StringRecord, AllocError> {
-        let mut fields = StringRecord::new(alloc);
-        push_text(&mut fields, &row.ticket)?;
-        push_number(alloc, &mut fields, u64::from(row.line))?;
-        push_number(alloc, &mut fields, u64::from(row.day.key()))?;
-        push_number(alloc, &mut fields, row.keys.store_key)?;
-        push_number(alloc, &mut fields, row.keys.product_key)?;
-        push_number(alloc, &mut fields, row.keys.customer_key)?;
-        push_number(alloc, &mut fields, row.store_durable)?;
-        push_number(alloc, &mut fields, row.product_durable)?;
-        push_number(alloc, &mut fields, row.customer_durable)?;
-        push_number(alloc, &mut fields, row.keys.profile)?;
-        push_integer(alloc, &mut fields, &row.quantity)?;
-        push_integer(alloc, &mut fields, &row.amount)?;
-        push_integer(alloc, &mut fields, &row.cost)?;
-        Ok(fields)
+    fn fields(_alloc: Global, row: &Fact, fields: &mut StringRecord) -> Result<(), AllocError> {
+        fields.clear();
+        push_text(fields, &row.ticket)?;
+        push_number(fields, u64::from(row.line))?;
+        push_number(fields, u64::from(row.day.key()))?;
+        push_number(fields, row.keys.store_key)?;
+        push_number(fields, row.keys.product_key)?;
+        push_number(fields, row.keys.customer_key)?;
+        push_number(fields, row.store_durable)?;
+        push_number(fields, row.product_durable)?;
+        push_number(fields, row.customer_durable)?;
+        push_number(fields, row.keys.profile)?;
+        push_integer(fields, &row.quantity)?;
+        push_integer(fields, &row.amount)?;
+        push_integer(fields, &row.cost)
     }
 }
 
@@ -320,8 +310,7 @@ fn push_bytes(alloc: Global, fields: &mut StringRecord, bytes: &[u8]) -> Result<
     ensures { OnOk result (fields_of fields.new ≡ fields_of fields.old ++ encode_lower bytes.now ∷ []) }
 {
     let text = hex::encode(alloc, bytes)?;
-    fields.push_field(text.as_str())?;
-    Ok(())
+    fields.push_field(text.as_str())
 }
 
 /// The number of a dimension in the tables member and change.
@@ -365,18 +354,17 @@ fn dimension_columns(alloc: Global) -> Result<StringRecord, AllocError>
     )
 }
 
-fn dimension_fields(alloc: Global, row: &DimRow) -> Result<StringRecord, AllocError>
-    ensures { IfOk result (λ fields. fields_of fields ≡ map value_field (encode_dimension row.now)) }
+fn dimension_fields(row: &DimRow, fields: &mut StringRecord) -> Result<(), AllocError>
+    ensures { OnOk result (fields_of fields.new ≡ map value_field (encode_dimension row.now)) }
 {
-    let mut fields = StringRecord::new(alloc);
-    push_number(alloc, &mut fields, row.surrogate)?;
-    push_number(alloc, &mut fields, row.durable)?;
-    push_text(&mut fields, &row.natural)?;
-    push_number(alloc, &mut fields, u64::from(row.from_day.key()))?;
-    push_number(alloc, &mut fields, u64::from(row.to_day.key()))?;
-    push_number(alloc, &mut fields, u64::from(row.is_current))?;
-    push_slots(&mut fields, &row.a)?;
-    push_slots(&mut fields, &row.b)?;
-    push_number(alloc, &mut fields, row.profile_now)?;
-    Ok(fields)
+    fields.clear();
+    push_number(fields, row.surrogate)?;
+    push_number(fields, row.durable)?;
+    push_text(fields, &row.natural)?;
+    push_number(fields, u64::from(row.from_day.key()))?;
+    push_number(fields, u64::from(row.to_day.key()))?;
+    push_number(fields, u64::from(row.is_current))?;
+    push_slots(fields, &row.a)?;
+    push_slots(fields, &row.b)?;
+    push_number(fields, row.profile_now)
 }

@@ -10,6 +10,7 @@ mod labels;
 pub mod laws;
 mod mode;
 mod output;
+mod part;
 mod reporting;
 mod request;
 mod subject;
