@@ -488,4 +488,46 @@ run load c.csv product p1 p1.csv
 run status c.csv
 = failed: F1 file, c.csv
 = status 3
+
+# A number that is none.
+file letters.csv
+> ticket,line,day,store,product,customer,quantity,amount,cost
+> T1,1,2024-02-05,S1,P1,,x,5.00,3.20
+file two.csv
+> id,day,description,brand,category,department,launched,supplier
+> P1,2024-01-10,Cola 1l,Acme,Drinks,Grocery,2019,North
+> P1,2024-02-01,Cola 1l,Bolt,Drinks,Grocery,2019,North
+file s1.csv
+> ticket,line,day,store,product,customer,quantity,amount,cost
+> T1,1,2024-02-05,S1,P1,,2,5.00,3.20
+> T0,1,2023-12-31,S1,P1,,1,2.5,1.60
+anew
+run init w flat.toml
+= accepted 1 init: 0 records, 0 placeholders
+= status 0
+run load w sales s1 letters.csv
+= refused: E3 batch, B7 bad number, record 1
+= status 2
+
+# No room for one more command, for two records, for two sales.
+sql w UPDATE meta SET value = 1 WHERE name = 'commands_max'
+run load w product p1 two.csv
+= refused: E6 full, commands
+= status 2
+sql w UPDATE meta SET value = 9 WHERE name = 'commands_max'
+sql w UPDATE meta SET value = 1 WHERE name = 'changes_max'
+run load w product p1 two.csv
+= refused: E6 full, changes
+= status 2
+sql w UPDATE meta SET value = 1 WHERE name = 'facts_max'
+run load w sales s1 s1.csv
+= refused: E6 full, facts
+= status 2
+run status w
+= format 1
+= commands 1
+= changes 0
+= facts 0
+= members product 0 store 0 customer 0
+= status 0
 "#;
