@@ -126,7 +126,7 @@ position-none text e = rw (e, le-ltb (length text) (length text) (omega arith)) 
 position-at : (text : List ℕ) (i : ℕ) → position_or_len is_point text ≡ i → i < length text → position is_point text ≡ Some i
 position-at text i e lt = rw (e, lt-ltb i (length text) lt) refl
 
--- a text with a point is what stands before it and behind it
+-- a text with a point is what stands before it and after it
 split_at_point : (text : List ℕ) → position_or_len is_point text < length text → text ≡ take (position_or_len is_point text) text ++ 46 ∷ drop (position_or_len is_point text + 1) text
 split_at_point text lt =
     let point : get_or text (position_or_len is_point text) 0 ≡ 46 = eqb-true _ 46 (passes_at_first is_point text 0 lt) in

@@ -2,10 +2,10 @@
 use Rattle.std.proofs.Common.{◌≡◌, List, [], ◌∷◌, ◌++◌, Result, Ok, Err, refl, sym, ap, subst, ◌∙◌, append_assoc}
 use Rattle.wh_history.specs.Accepted.{Accepted, Content}
 use Rattle.wh_history.specs.Tables.{Limits}
-use Rattle.wh_plan.specs.FirstRows.{making_of}
-use Rattle.wh_plan.specs.Sound.{IsAccepted}
-use Rattle.wh_plan.proofs.StaysBegun.{accepted_lists_begin}
-use Rattle.wh_engine.specs.Admission.{in_force, content_of, accepted_as, answer, with_content, after_answer, accepted_after, accepted_after_all, AreAdmitted, AdmittedListsAreSound, IsRead, AreRead, ContentsAreRead}
+use Rattle.wh_rows.specs.Sound.{making_of}
+use Rattle.wh_rows.specs.Sound.{IsAccepted}
+use Rattle.wh_rows.proofs.StaysBegun.{accepted_lists_begin}
+use Rattle.wh_engine.specs.Admission.{current_policy, content_of, accepted_as, answer, with_content, after_answer, accepted_after, accepted_after_all, AreAdmitted, AdmittedListsAreSound, IsOfItsBytes, AreOfTheirBytes, ContentsAreRead}
 use Rattle.wh_engine.specs.declared.command.Command.{Command}
 use Rattle.wh_engine.specs.declared.command.Reply.{Reply}
 use Rattle.wh_engine.specs.declared.command.Reply.TheVariants.{Accepted as Accepts, Already}
@@ -44,33 +44,33 @@ admitted_after_all limits commands (c ∷ sent) it = admitted_after_all limits (
 
 -- ---- what they say is what their bytes give
 
-one_more_read : (before later : List Accepted) (a : Accepted) → AreRead before later → IsRead (before ++ later) a → AreRead before (later ++ a ∷ [])
-one_more_read before [] a are read = (subst (λ list. IsRead list a) (all_before before) read, tt)
+one_more_read : (before later : List Accepted) (a : Accepted) → AreOfTheirBytes before later → IsOfItsBytes (before ++ later) a → AreOfTheirBytes before (later ++ a ∷ [])
+one_more_read before [] a are read = (subst (λ list. IsOfItsBytes list a) (all_before before) read, tt)
   where
     all_before : (list : List Accepted) → list ++ [] ≡ list
     all_before [] = refl
     all_before (x ∷ list) = ap (λ rest. x ∷ rest) (all_before list)
-one_more_read before (b ∷ later) a are read = (are.0, one_more_read (before ++ b ∷ []) later a are.1 (subst (λ list. IsRead list a) (sym (append_assoc before (b ∷ []) later)) read))
+one_more_read before (b ∷ later) a are read = (are.0, one_more_read (before ++ b ∷ []) later a are.1 (subst (λ list. IsOfItsBytes list a) (sym (append_assoc before (b ∷ []) later)) read))
 
 -- a list that begins with this command, and whose others are read
 record IsReadFrom (making : Accepted) (commands : List Accepted) : Type 0 where
   later : List Accepted
   begins : commands ≡ making ∷ later
-  are : AreRead (making ∷ []) later
+  are : AreOfTheirBytes (making ∷ []) later
 
 module _ (making : Accepted) (limits : Limits) where
   module _ (commands : List Accepted) (c : Command) (from : IsReadFrom making commands) where
-    by_content : (r : Result Content Refused) → content_of c.kind (in_force commands) c.bytes ≡ r → IsReadFrom making (with_content commands c r)
+    by_content : (r : Result Content Refused) → content_of c.kind (current_policy commands) c.bytes ≡ r → IsReadFrom making (with_content commands c r)
     by_content (Ok content) is = record {
       later = from.later ++ accepted_as c content ∷ [];
       begins = ap (λ (list : List Accepted). list ++ accepted_as c content ∷ []) from.begins;
       are = one_more_read (making ∷ []) from.later (accepted_as c content) from.are
-          (subst (λ list. IsRead list (accepted_as c content)) from.begins (record { kind = c.kind; kind_is = refl; content_is = is }));
+          (subst (λ list. IsOfItsBytes list (accepted_as c content)) from.begins (record { kind = c.kind; kind_is = refl; content_is = is }));
     }
     by_content (Err why) is = from
 
     by_answer : (r : Result Reply Refused) → IsReadFrom making (after_answer commands c r)
-    by_answer (Ok (Accepts receipt)) = by_content (content_of c.kind (in_force commands) c.bytes) refl
+    by_answer (Ok (Accepts receipt)) = by_content (content_of c.kind (current_policy commands) c.bytes) refl
     by_answer (Ok (Already receipt)) = from
     by_answer (Err why) = from
 
@@ -86,4 +86,4 @@ contents_are_read limits making later it =
     let first = making_of it.policy it.bytes in
     let from : IsReadFrom first (making ∷ later) = subst (IsReadFrom first) (sym it.admitted) (read_after_all first limits (first ∷ []) it.sent (record { later = []; begins = refl; are = tt })) in
     let same = same_later making first later from.later from.begins in
-    subst (λ list. AreRead (making ∷ []) list) (sym same.1) (subst (λ (m : Accepted). AreRead (m ∷ []) from.later) (sym same.0) from.are)
+    subst (λ list. AreOfTheirBytes (making ∷ []) list) (sym same.1) (subst (λ (m : Accepted). AreOfTheirBytes (m ∷ []) from.later) (sym same.0) from.are)

@@ -17,12 +17,12 @@ use Rattle.wh_history.proofs.Basics.{some_is}
 use Rattle.wh_rows.specs.declared.rows.CommandRow.{CommandRow}
 use Rattle.wh_rows.specs.Types.{is_key}
 use Rattle.wh_batch.specs.Kind.{command_word}
-use Rattle.wh_engine.specs.Admission.{records_told, sales_told, policy_told, content_of, in_force, accepted_as, receipt_of, changes_in, first_line_there, number_past_lines, number_for, answer_with, when_read, by_id, answer, with_content, after_answer, accepted_after}
+use Rattle.wh_engine.specs.Admission.{records_told, sales_told, policy_told, content_of, current_policy, accepted_as, receipt_of, changes_in, first_line_there, number_past_lines, number_for, answer_with, when_read, by_id, answer, with_content, after_answer, accepted_after}
 use Rattle.wh_engine.specs.Decided.{reply_to_known, IsNew}
-use Rattle.wh_plan.specs.Defined.{command_at}
+use Rattle.wh_rows.specs.Defined.{command_at}
 use Rattle.wh_engine.specs.Faults.{Judges}
-use Rattle.wh_plan.specs.Reading.{number_of, command_with}
-use Rattle.wh_plan.specs.Sound.{changes_kept, IsAccepted}
+use Rattle.wh_plan.specs.Reading.{number_by_id, command_with}
+use Rattle.wh_rows.specs.Sound.{changes_kept, IsAccepted}
 use Rattle.wh_engine.specs.declared.command.Command.{Command}
 use Rattle.wh_batch.specs.declared.kind.CommandKind.TheVariants.{Batch, Migration}
 use Rattle.wh_engine.specs.declared.fault.Fault.{Fault}
@@ -33,7 +33,7 @@ use Rattle.wh_engine.specs.declared.command.Refused.{Refused}
 use Rattle.wh_engine.specs.declared.command.Refused.TheVariants.{BadId, LineThere, Full}
 use Rattle.wh_engine.specs.declared.command.Limit.TheVariants.{Commands, Changes, Facts}
 use Rattle.wh_plan.proofs.FoundCommands.{stored, told, find_numbered}
-use Rattle.wh_plan.proofs.GrownKeys.{at_last}
+use Rattle.wh_rows.proofs.GrownKeys.{at_last}
 use Rattle.wh_engine.proofs.Migrated.{IsSoundIf, sound_after}
 use Rattle.wh_engine.proofs.StaysAccepted.{stays_accepted, had_number}
 
@@ -88,7 +88,7 @@ module _ (limits : Limits) (commands : List Accepted) (c : Command) where
   found = find (λ (a : Accepted). bytes_eq a.id c.id) commands
 
   abbrev number : ℕ
-  number = number_of commands c.id
+  number = number_by_id commands c.id
 
   -- the row of the command that was found
   row_found : command_with commands c.id ≡ option_map (λ (a : Accepted). stored number (told commands number a)) found
@@ -116,7 +116,7 @@ module _ (limits : Limits) (commands : List Accepted) (c : Command) where
   pub is_new : command_with commands c.id ≡ None → IsNew commands c
   is_new none = no_row found (sym row_found ∙ none)
 
-  pub new_answer : is_key 40 c.id ≡ true → IsNew commands c → answer limits commands c ≡ when_read limits commands c (content_of c.kind (in_force commands) c.bytes)
+  pub new_answer : is_key 40 c.id ≡ true → IsNew commands c → answer limits commands c ≡ when_read limits commands c (content_of c.kind (current_policy commands) c.bytes)
   new_answer good new = rw (good, new) refl
 
   pub bad_answer : is_key 40 c.id ≡ false → answer limits commands c ≡ Err BadId
@@ -129,14 +129,14 @@ module _ (limits : Limits) (commands : List Accepted) (c : Command) where
 
   module _ (good : is_key 40 c.id ≡ true) (new : IsNew commands c) where
     -- what it says is refused
-    content_refused : (why : Refused) → content_of c.kind (in_force commands) c.bytes ≡ Err why → answer limits commands c ≡ Err why
+    content_refused : (why : Refused) → content_of c.kind (current_policy commands) c.bytes ≡ Err why → answer limits commands c ≡ Err why
     content_refused why h = new_answer good new ∙ ap (when_read limits commands c) h
 
     -- there is no number for it
-    pub number_refused : (content : Content) (why : Refused) → content_of c.kind (in_force commands) c.bytes ≡ Ok content → number_for limits commands content ≡ Err why → answer limits commands c ≡ Err why
+    pub number_refused : (content : Content) (why : Refused) → content_of c.kind (current_policy commands) c.bytes ≡ Ok content → number_for limits commands content ≡ Err why → answer limits commands c ≡ Err why
     number_refused content why read none = new_answer good new ∙ ap (when_read limits commands c) read ∙ ap (answer_with commands c content) none
 
-    module _ (content : Content) (read : content_of c.kind (in_force commands) c.bytes ≡ Ok content) (next : ℕ) (room : number_for limits commands content ≡ Ok next) where
+    module _ (content : Content) (read : content_of c.kind (current_policy commands) c.bytes ≡ Ok content) (next : ℕ) (room : number_for limits commands content ≡ Ok next) where
       -- it is accepted
       pub command_accepted : answer limits commands c ≡ Ok (Accepts (receipt_of (after content) next content))
       command_accepted = new_answer good new ∙ ap (when_read limits commands c) read ∙ ap (answer_with commands c content) room
@@ -161,25 +161,25 @@ module _ (limits : Limits) (commands : List Accepted) (c : Command) where
     -- a batch of records, one of sales, and a migration
 
     module _ (dim : Dim) (kind : c.kind ≡ Batch (Dimension dim)) where
-      pub records_content : (records : List DimensionRecord) → records_told dim (in_force commands) c.bytes ≡ Ok records → content_of c.kind (in_force commands) c.bytes ≡ Ok (Describes dim records)
-      records_content records read = ap (λ k. content_of k (in_force commands) c.bytes) kind ∙ ap (λ o. o >>= λ records. Ok (Describes dim records)) read
+      pub records_content : (records : List DimensionRecord) → records_told dim (current_policy commands) c.bytes ≡ Ok records → content_of c.kind (current_policy commands) c.bytes ≡ Ok (Describes dim records)
+      records_content records read = ap (λ k. content_of k (current_policy commands) c.bytes) kind ∙ ap (λ o. o >>= λ records. Ok (Describes dim records)) read
 
-      pub records_refused : (why : Refused) → records_told dim (in_force commands) c.bytes ≡ Err why → answer limits commands c ≡ Err why
-      records_refused why read = content_refused why (ap (λ k. content_of k (in_force commands) c.bytes) kind ∙ ap (λ o. o >>= λ records. Ok (Describes dim records)) read)
+      pub records_refused : (why : Refused) → records_told dim (current_policy commands) c.bytes ≡ Err why → answer limits commands c ≡ Err why
+      records_refused why read = content_refused why (ap (λ k. content_of k (current_policy commands) c.bytes) kind ∙ ap (λ o. o >>= λ records. Ok (Describes dim records)) read)
 
     module _ (kind : c.kind ≡ Batch Sales) where
-      pub sales_content : (sales : List SaleRecord) → sales_told (in_force commands) c.bytes ≡ Ok sales → content_of c.kind (in_force commands) c.bytes ≡ Ok (Sells sales)
-      sales_content sales read = ap (λ k. content_of k (in_force commands) c.bytes) kind ∙ ap (λ o. o >>= λ sales. Ok (Sells sales)) read
+      pub sales_content : (sales : List SaleRecord) → sales_told (current_policy commands) c.bytes ≡ Ok sales → content_of c.kind (current_policy commands) c.bytes ≡ Ok (Sells sales)
+      sales_content sales read = ap (λ k. content_of k (current_policy commands) c.bytes) kind ∙ ap (λ o. o >>= λ sales. Ok (Sells sales)) read
 
-      pub sales_refused : (why : Refused) → sales_told (in_force commands) c.bytes ≡ Err why → answer limits commands c ≡ Err why
-      sales_refused why read = content_refused why (ap (λ k. content_of k (in_force commands) c.bytes) kind ∙ ap (λ o. o >>= λ sales. Ok (Sells sales)) read)
+      pub sales_refused : (why : Refused) → sales_told (current_policy commands) c.bytes ≡ Err why → answer limits commands c ≡ Err why
+      sales_refused why read = content_refused why (ap (λ k. content_of k (current_policy commands) c.bytes) kind ∙ ap (λ o. o >>= λ sales. Ok (Sells sales)) read)
 
     module _ (kind : c.kind ≡ Migration) where
-      pub policy_content : (newer : Policy) → policy_told (in_force commands) c.bytes ≡ Ok newer → content_of c.kind (in_force commands) c.bytes ≡ Ok (Governs newer)
-      policy_content newer read = ap (λ k. content_of k (in_force commands) c.bytes) kind ∙ ap (λ o. o >>= λ newer. Ok (Governs newer)) read
+      pub policy_content : (newer : Policy) → policy_told (current_policy commands) c.bytes ≡ Ok newer → content_of c.kind (current_policy commands) c.bytes ≡ Ok (Governs newer)
+      policy_content newer read = ap (λ k. content_of k (current_policy commands) c.bytes) kind ∙ ap (λ o. o >>= λ newer. Ok (Governs newer)) read
 
-      pub policy_refused : (why : Refused) → policy_told (in_force commands) c.bytes ≡ Err why → answer limits commands c ≡ Err why
-      policy_refused why read = content_refused why (ap (λ k. content_of k (in_force commands) c.bytes) kind ∙ ap (λ o. o >>= λ newer. Ok (Governs newer)) read)
+      pub policy_refused : (why : Refused) → policy_told (current_policy commands) c.bytes ≡ Err why → answer limits commands c ≡ Err why
+      policy_refused why read = content_refused why (ap (λ k. content_of k (current_policy commands) c.bytes) kind ∙ ap (λ o. o >>= λ newer. Ok (Governs newer)) read)
 
   -- ---- the list after a command
 
@@ -189,11 +189,11 @@ module _ (limits : Limits) (commands : List Accepted) (c : Command) where
   pub after_repeat : (receipt : Receipt) → answer limits commands c ≡ Ok (Already receipt) → accepted_after limits commands c ≡ commands
   after_repeat receipt said = ap (after_answer commands c) said
 
-  pub after_accepted : (receipt : Receipt) (content : Content) → answer limits commands c ≡ Ok (Accepts receipt) → content_of c.kind (in_force commands) c.bytes ≡ Ok content → accepted_after limits commands c ≡ commands ++ accepted_as c content ∷ []
+  pub after_accepted : (receipt : Receipt) (content : Content) → answer limits commands c ≡ Ok (Accepts receipt) → content_of c.kind (current_policy commands) c.bytes ≡ Ok content → accepted_after limits commands c ≡ commands ++ accepted_as c content ∷ []
   after_accepted receipt content said read = ap (after_answer commands c) said ∙ ap (with_content commands c) read
 
 -- the policy in force is the last that was given
-pub policy_in_force : (commands : List Accepted) → IsSome (policy_after None commands) → policy_after None commands ≡ Some (in_force commands)
+pub policy_in_force : (commands : List Accepted) → IsSome (policy_after None commands) → policy_after None commands ≡ Some (current_policy commands)
 policy_in_force commands some = by_option (policy_after None commands) some
   where
     by_option : (o : Option Policy) → IsSome o → o ≡ Some (unwrap_or o trial_policy)
@@ -201,7 +201,7 @@ policy_in_force commands some = by_option (policy_after None commands) some
     by_option (Some policy) some = refl
 
 -- and it is sound
-pub sound_in_force : (limits : Limits) (commands : List Accepted) → IsAccepted limits commands → IsSound (in_force commands)
+pub sound_in_force : (limits : Limits) (commands : List Accepted) → IsAccepted limits commands → IsSound (current_policy commands)
 sound_in_force limits commands accepted = subst IsSoundIf (policy_in_force commands accepted.governed) (sound_after None commands tt accepted.policies)
 
 -- ---- an answer that was judged

@@ -131,7 +131,7 @@ governed_among old new [] sent more so = so
 governed_among old new (a ∷ answers) [] more so = absurd so
 governed_among old new (a ∷ answers) (c ∷ sent) more so = (so.0, so.1, governed_among so.0 new answers sent more so.2)
 
--- a stop is told in the session
+-- a stop is kept in the session
 pub flag_at_stop : (fault : Fault) → stops {A = Reply} (Err fault) ≡ is_of_the_store (Some fault)
 flag_at_stop (faults.Refused why) = refl
 flag_at_stop (faults.Damaged table) = refl

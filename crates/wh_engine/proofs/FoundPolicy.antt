@@ -9,8 +9,8 @@ use Rattle.wh_history.specs.Accepted.{Accepted, Content, Governs, Describes, Sel
 use Rattle.wh_history.specs.Keys.{at_place}
 use Rattle.wh_rows.specs.Questions.{gives_policy}
 use Rattle.wh_rows.specs.declared.rows.CommandRow.{CommandRow}
-use Rattle.wh_plan.specs.Defined.{command_at}
-use Rattle.wh_plan.specs.Sound.{GivesPolicy}
+use Rattle.wh_rows.specs.Defined.{command_at}
+use Rattle.wh_rows.specs.Sound.{GivesPolicy}
 use Rattle.wh_plan.proofs.FoundCommands.{stored, told}
 
 pub first_taken : {X : Type 0} (xs : List X) → slice_get (take 1 xs) 0 ≡ slice_get xs 0

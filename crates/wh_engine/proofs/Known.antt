@@ -7,7 +7,7 @@ use Rattle.wh_history.specs.Accepted.{Accepted, Content}
 use Rattle.wh_history.specs.Tables.{Limits}
 use Rattle.wh_rows.specs.Types.{is_key}
 use Rattle.wh_batch.specs.Kind.{command_word}
-use Rattle.wh_engine.specs.Admission.{content_of, in_force, accepted_as, already, by_id, number_for, answer_with, when_read, answer, with_content, after_answer, accepted_after, accepted_after_all}
+use Rattle.wh_engine.specs.Admission.{content_of, current_policy, accepted_as, already, by_id, number_for, answer_with, when_read, answer, with_content, after_answer, accepted_after, accepted_after_all}
 use Rattle.wh_engine.specs.Nights.{RefusesNone}
 use Rattle.wh_engine.specs.declared.command.Command.{Command}
 use Rattle.wh_engine.specs.declared.command.Receipt.{Receipt}
@@ -48,7 +48,7 @@ module _ (limits : Limits) where
   known_by_content commands c d (Err why) known = known
 
   known_by_answer : (commands : List Accepted) (c d : Command) (a : Result Reply Refused) → IsKnown commands c → IsKnown (after_answer commands d a) c
-  known_by_answer commands c d (Ok (Accepts receipt)) known = known_by_content commands c d (content_of d.kind (in_force commands) d.bytes) known
+  known_by_answer commands c d (Ok (Accepts receipt)) known = known_by_content commands c d (content_of d.kind (current_policy commands) d.bytes) known
   known_by_answer commands c d (Ok (Already receipt)) known = known
   known_by_answer commands c d (Err why) known = known
 
@@ -85,7 +85,7 @@ module _ (limits : Limits) where
 
     repeat_known : (b : Bool) (o : Option Accepted) (receipt : Receipt) → is_key 40 c.id ≡ b → there ≡ o → by_case b o ≡ Ok (Already receipt) → IsKnown commands c
     repeat_known false o receipt good is h = absurd cc
-    repeat_known true None receipt good is h = absurd (read_anew (content_of c.kind (in_force commands) c.bytes) receipt h)
+    repeat_known true None receipt good is h = absurd (read_anew (content_of c.kind (current_policy commands) c.bytes) receipt h)
     repeat_known true (Some a) receipt good is h = record {
       accepted = a;
       found = is;
@@ -111,7 +111,7 @@ module _ (limits : Limits) where
     known_after (Ok (Already receipt)) is ok = repeat_known (is_key 40 c.id) there receipt refl refl is
     known_after (Ok (Accepts receipt)) is ok =
         let new = new_id limits commands c (is_key 40 c.id) there receipt refl refl is in
-        accepted_known (content_of c.kind (in_force commands) c.bytes) receipt new.0 new.1 (rw (new.0, new.1) at is)
+        accepted_known (content_of c.kind (current_policy commands) c.bytes) receipt new.0 new.1 (rw (new.0, new.1) at is)
 
   -- ---- so are all commands of which none was refused
 

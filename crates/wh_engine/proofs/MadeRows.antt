@@ -26,7 +26,7 @@ use Rattle.wh_history.specs.Tables.{no_card_main, no_card_second, no_card_row}
 use Rattle.wh_history.proofs.Basics.{some_is}
 use Rattle.wh_rows.specs.Rows as row
 use Rattle.wh_rows.specs.Types.{is_special, is_slot, are_slots}
-use Rattle.wh_plan.specs.Defined.{day_at}
+use Rattle.wh_rows.specs.Defined.{day_at}
 use Rattle.wh_plan.specs.FirstRows.{IsGoodPolicy, making_row, first_profiles, calendar_rows, MayBeFirst}
 
 -- ---- any rows

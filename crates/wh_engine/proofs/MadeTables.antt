@@ -24,8 +24,9 @@ use Rattle.wh_rows.specs.declared.key.ChangeKey.{ChangeKey}
 use Rattle.wh_rows.specs.declared.rows.MetaRow.{MetaRow}
 use Rattle.wh_rows.specs.declared.rows.ProfileRow.{ProfileRow}
 use Rattle.wh_store.specs.Meta.{made_with}
-use Rattle.wh_plan.specs.Defined.{meta_at, command_at, member_at, change_at, profile_at, AreOf}
-use Rattle.wh_plan.specs.FirstRows.{making_of, making_row, profile_of, first_profiles, calendar_rows, with_first}
+use Rattle.wh_rows.specs.Defined.{meta_at, command_at, member_at, change_at, profile_at, AreOf}
+use Rattle.wh_plan.specs.FirstRows.{making_row, profile_of, first_profiles, calendar_rows, with_first}
+use Rattle.wh_rows.specs.Sound.{making_of}
 use Rattle.wh_engine.proofs.MadeCalendar.{calendar_made}
 
 -- the tables of a warehouse that was just made

@@ -16,19 +16,19 @@ use Rattle.wh_rows.specs.Tables.{Tables}
 use Rattle.wh_rows.specs.declared.cause.Cause.{Cause}
 use Rattle.wh_rows.specs.declared.rows.CommandRow.{CommandRow}
 use Rattle.wh_rows.specs.declared.rows.MetaRow.{MetaRow}
-use Rattle.wh_store.specs.Meta.{number_of, number_in, fault_of, limits_in}
+use Rattle.wh_store.specs.Meta.{meta_number, number_in, fault_of, limits_in}
 use Rattle.wh_store.specs.Opening.{SparesStore, IsTaken, IsRefusedWith, unread}
 use Rattle.wh_rows.specs.declared.table.Table.{Table}
 use Rattle.wh_store.specs.Reads.{SparesRows, SparesStore as RefusesNothing}
 use Rattle.wh_sql.specs.declared.fault.ReadFault.{ReadFault}
 use Rattle.wh_sql.specs.declared.fault.ReadFault.TheVariants as reading
 use Rattle.wh_store.specs.declared.fault.OpenFault.{OpenFault}
-use Rattle.wh_engine.specs.Admission.{in_force, AreAdmitted}
+use Rattle.wh_engine.specs.Admission.{current_policy, AreAdmitted}
 use Rattle.wh_engine.specs.Answered.{Rests, IsReady}
-use Rattle.wh_plan.specs.Defined.{AreOf, meta_at}
-use Rattle.wh_plan.specs.FirstRows.{making_of}
+use Rattle.wh_rows.specs.Defined.{AreOf, meta_at}
+use Rattle.wh_rows.specs.Sound.{making_of}
 use Rattle.wh_engine.specs.Opened.{last_policy_in, of_limits, of_policy, of_command, session_in, opened, IsTold, IsRead, IsNotOpened, LeavesMaking, LeavesMade}
-use Rattle.wh_plan.specs.Sound.{IsAccepted}
+use Rattle.wh_rows.specs.Sound.{IsAccepted}
 use Rattle.wh_store.specs.declared.fault.OpenFault.TheVariants as faults
 use Rattle.wh_engine.specs.declared.session.Session.{Session}
 use Rattle.wh_engine.proofs.Decisions.{policy_in_force}
@@ -37,7 +37,7 @@ use Rattle.wh_engine.proofs.FoundPolicy.{first_taken, last_gives}
 
 -- ---- readings in turn
 
--- what was told of rows that were read
+-- what was said of rows that were read
 pub read_of_told : {A : Type 0} (result told : Result A OpenFault) (t : Tables) (s : State) → IsTold result told → ((cause : Cause) → result ≢ Err (faults.Store cause)) → IsAtRest (Some t) s → IsRead result told t s
 read_of_told (Ok x) told t s is plain rests = (is, rests)
 read_of_told (Err faults.NotAWarehouse) told t s is plain rests = (is, rests)
@@ -110,7 +110,7 @@ never h = cc
 
 module _ (limits : Limits) (commands : List Accepted) (t : Tables) (accepted : IsAccepted limits commands) (are : AreOf limits commands t) where
   number_there : (name : List ℕ) (row : MetaRow) → meta_at limits name ≡ Some row → number_in t name ≡ Some row.value
-  number_there name row is = ap number_of (are.meta name ∙ is)
+  number_there name row is = ap meta_number (are.meta name ∙ is)
 
   format_there : IsTaken t
   format_there = ap fault_of (number_there (codes "format") (record { name = codes "format"; value = pos 1 }) refl)
@@ -126,22 +126,22 @@ module _ (limits : Limits) (commands : List Accepted) (t : Tables) (accepted : I
       rw (commands_max, changes_max, facts_max) (limits_if (are_limits limits) refl accepted.limited)
 
   -- the last command that gives a policy gives the one in force
-  policy_there : of_command (last_policy_in t) ≡ Ok (in_force commands)
+  policy_there : of_command (last_policy_in t) ≡ Ok (current_policy commands)
   policy_there = elim (last_gives commands accepted.policies) [
-    | inl none ↦ let never : None ≡ Some (in_force commands) = sym none.1 ∙ policy_in_force commands accepted.governed in cc
+    | inl none ↦ let never : None ≡ Some (current_policy commands) = sym none.1 ∙ policy_in_force commands accepted.governed in cc
     | inr found ↦
         let there : last_policy_in t ≡ Some found.0 = ap (λ (rows : List CommandRow). slice_get (part (Some last_one) (filter (λ (r : CommandRow). gives_policy r.kind) rows)) 0) (command_rows limits commands t are) ∙ first_taken _ ∙ found.2 in
-        let same : found.1 ≡ in_force commands = some_is _ _ (sym found.4 ∙ policy_in_force commands accepted.governed) in
+        let same : found.1 ≡ current_policy commands = some_is _ _ (sym found.4 ∙ policy_in_force commands accepted.governed) in
         ap of_command there ∙ ap of_policy found.3 ∙ ap Ok same
   ]
 
-  pub opened_there : opened t ≡ Ok (record { limits = limits; policy = in_force commands; must_reopen = false })
-  opened_there = format_known t format_there ∙ session_is t limits (in_force commands) (ap of_limits limits_there) policy_there
+  pub opened_there : opened t ≡ Ok (record { limits = limits; policy = current_policy commands; must_reopen = false })
+  opened_there = format_known t format_there ∙ session_is t limits (current_policy commands) (ap of_limits limits_there) policy_there
 
   -- it is opened ready
   pub opened_ready : AreAdmitted limits commands → (session : Session) (s : State) → opened t ≡ Ok session → IsAtRest (Some t) s → IsReady limits commands session s
   opened_ready admitted session s is rests =
-      let same : record { limits = limits; policy = in_force commands; must_reopen = false } ≡ session = same_ok (opened t) _ session opened_there is in
+      let same : record { limits = limits; policy = current_policy commands; must_reopen = false } ≡ session = same_ok (opened t) _ session opened_there is in
       record { admitted = admitted; rests = record { tables = t; are = are; rests = rests }; session_is = sym same }
 
   -- and refused by the store, or for want of memory, alone

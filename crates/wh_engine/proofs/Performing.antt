@@ -9,13 +9,13 @@ use Rattle.wh_history.specs.Accepted.{Accepted, policy_after}
 use Rattle.wh_history.specs.Tables.{Limits}
 use Rattle.wh_rows.specs.AtRest.{AreTrees, IsAtRest, Leaves}
 use Rattle.wh_rows.specs.Tables.{Tables}
-use Rattle.wh_engine.specs.Admission.{accepted_as, answer, accepted_after, in_force, AreAdmitted}
+use Rattle.wh_engine.specs.Admission.{accepted_as, answer, accepted_after, current_policy, AreAdmitted}
 use Rattle.wh_engine.specs.Answered.{AreTreesOf, LeavesOneOf, IsReady, IsAnswered, IsPerformed, IsWritten, IsForeseen, IsForetold}
 use Rattle.wh_engine.specs.Decided.{IsHeld, IsEffectOf, Decides}
-use Rattle.wh_plan.specs.Defined.{AreOf}
+use Rattle.wh_rows.specs.Defined.{AreOf}
 use Rattle.wh_engine.specs.Faults.{IsServed, Judges, stops}
 use Rattle.wh_plan.specs.Edits.{Edits, AreEdits, no_edits, edit_count, with_all_edits}
-use Rattle.wh_plan.specs.Sound.{IsAccepted}
+use Rattle.wh_rows.specs.Sound.{IsAccepted}
 use Rattle.wh_plan.specs.Writable.{MayBeWritten}
 use Rattle.wh_engine.specs.declared.command.Command.{Command}
 use Rattle.wh_engine.specs.declared.command.Receipt.{Receipt}
@@ -33,7 +33,7 @@ use Rattle.wh_engine.proofs.StaysAccepted.{stays_accepted}
 use Rattle.wh_engine.proofs.Admitted.{admitted_sound, admitted_after}
 use Rattle.wh_plan.proofs.WrittenEdits.{edits_are_written, exact_edits_are_one, no_edits_stay}
 
-held_as : (limits : Limits) (commands : List Accepted) (session : Session) (t : Tables) → session ≡ record { limits = limits; policy = in_force commands; must_reopen = false } → IsAccepted limits commands → AreOf limits commands t → IsHeld session commands t
+held_as : (limits : Limits) (commands : List Accepted) (session : Session) (t : Tables) → session ≡ record { limits = limits; policy = current_policy commands; must_reopen = false } → IsAccepted limits commands → AreOf limits commands t → IsHeld session commands t
 held_as limits commands session t is accepted are = rw is (record { accepted = accepted; are = are; policy = refl })
 
 module _ (limits : Limits) (commands : List Accepted) (c : Command) (session : Session) (old : State) (ready : IsReady limits commands session old) where
@@ -118,15 +118,15 @@ module _ (limits : Limits) (commands : List Accepted) (c : Command) (session : S
     accept_foreseen new rests = ((Accepts receipt, said), subst (λ list. AreEdits commands list edits) (sym list_is) work.edits_are, still_ready new rests)
 
     -- the policy that it gives, or else the one before, is in force
-    now_in_force : unwrap_or newer (in_force commands) ≡ in_force (commands ++ added ∷ [])
+    now_in_force : unwrap_or newer (current_policy commands) ≡ current_policy (commands ++ added ∷ [])
     now_in_force =
-        ap (λ o. unwrap_or o (in_force commands)) work.newer_is ∙ sym (newer_in_force (policy_after None commands) work.content trial_policy)
+        ap (λ o. unwrap_or o (current_policy commands)) work.newer_is ∙ sym (newer_in_force (policy_after None commands) work.content trial_policy)
         ∙ ap (λ o. unwrap_or o trial_policy) (sym (policy_with None commands added))
 
     abbrev governed : Session
     governed = record { limits = session.limits; policy = unwrap_or newer session.policy; must_reopen = session.must_reopen }
 
-    governed_is : governed ≡ record { limits = limits; policy = in_force (commands ++ added ∷ []); must_reopen = false }
+    governed_is : governed ≡ record { limits = limits; policy = current_policy (commands ++ added ∷ []); must_reopen = false }
     governed_is =
         ap (λ (s : Session). record { limits = s.limits; policy = unwrap_or newer s.policy; must_reopen = s.must_reopen }) ready.session_is
         ∙ ap (λ (policy : Policy). record { limits = limits; policy = policy; must_reopen = false }) now_in_force

@@ -6,7 +6,7 @@ use Rattle.wh_history.specs.Accepted.{Accepted, Content}
 use Rattle.wh_history.specs.Tables.{Limits}
 use Rattle.wh_rows.specs.Types.{is_key}
 use Rattle.wh_batch.specs.Kind.{command_word}
-use Rattle.wh_engine.specs.Admission.{content_of, in_force, accepted_as, already, by_id, answer, with_content, after_answer, accepted_after}
+use Rattle.wh_engine.specs.Admission.{content_of, current_policy, accepted_as, already, by_id, answer, with_content, after_answer, accepted_after}
 use Rattle.wh_engine.specs.declared.command.Command.{Command}
 use Rattle.wh_engine.specs.declared.command.Receipt.{Receipt}
 use Rattle.wh_engine.specs.declared.command.Reply.{Reply}
@@ -44,7 +44,7 @@ module _ (limits : Limits) (commands : List Accepted) (c : Command) where
   new_id true None receipt good is h = (good, is)
   new_id true (Some a) receipt good is h = absurd (known_refused (bytes_eq a.kind (command_word c.kind) && bytes_eq a.bytes c.bytes) _ receipt h)
 
-  by_content : (read : Result Content Refused) (receipt : Receipt) → content_of c.kind (in_force commands) c.bytes ≡ read → is_key 40 c.id ≡ true → found ≡ None → answer limits commands c ≡ Ok (Accepts receipt)
+  by_content : (read : Result Content Refused) (receipt : Receipt) → content_of c.kind (current_policy commands) c.bytes ≡ read → is_key 40 c.id ≡ true → found ≡ None → answer limits commands c ≡ Ok (Accepts receipt)
       → accepted_after limits (with_content commands c read) c ≡ with_content commands c read
   by_content (Err why) receipt told good new is = ap (after_answer commands c) is ∙ ap (with_content commands c) told
   by_content (Ok content) receipt told good new is =
@@ -59,7 +59,7 @@ module _ (limits : Limits) (commands : List Accepted) (c : Command) where
   by_answer (Err why) is = ap (after_answer commands c) is
   by_answer (Ok (Accepts receipt)) is =
       let new = new_id (is_key 40 c.id) found receipt refl refl is in
-      by_content (content_of c.kind (in_force commands) c.bytes) receipt refl new.0 new.1 is
+      by_content (content_of c.kind (current_policy commands) c.bytes) receipt refl new.0 new.1 is
 
   pub acts_once : accepted_after limits (accepted_after limits commands c) c ≡ accepted_after limits commands c
   acts_once = by_answer (answer limits commands c) refl

@@ -24,8 +24,8 @@ use Rattle.wh_history.proofs.Untouched.{described-last}
 use Rattle.wh_rows.specs.Questions.{gives_policy}
 use Rattle.wh_rows.specs.Types.{is_key, is_kind}
 use Rattle.wh_batch.specs.Kind.{command_word}
-use Rattle.wh_engine.specs.Admission.{of_batch, records_told, sales_told, policy_told, content_of, in_force, accepted_as, receipt_of, changes_in, first_line_there, number_past_lines, number_for, answer_with, when_read, answer, with_content, after_answer, accepted_after, AcceptedListsStaySound}
-use Rattle.wh_plan.specs.Sound.{IsGoodRecord, IsGoodSale, same_line, changes_kept, GivesPolicy, IsAccepted}
+use Rattle.wh_engine.specs.Admission.{of_batch, records_told, sales_told, policy_told, content_of, current_policy, accepted_as, receipt_of, changes_in, first_line_there, number_past_lines, number_for, answer_with, when_read, answer, with_content, after_answer, accepted_after, AcceptedListsStaySound}
+use Rattle.wh_rows.specs.Sound.{IsGoodRecord, IsGoodSale, same_line, changes_kept, GivesPolicy, IsAccepted}
 use Rattle.wh_engine.specs.declared.command.Command.{Command}
 use Rattle.wh_batch.specs.declared.kind.CommandKind.{CommandKind}
 use Rattle.wh_batch.specs.declared.kind.CommandKind.TheVariants.{Batch, Migration}
@@ -274,10 +274,10 @@ well Migration policy bytes content six told =
     })
 
 module _ (limits : Limits) (commands : List Accepted) (c : Command) (accepted : IsAccepted limits commands) where
-  content_well : (content : Content) → content_of c.kind (in_force commands) c.bytes ≡ Ok content → IsWell (command_word c.kind) c.bytes content
-  content_well content told = well c.kind (in_force commands) c.bytes content (λ dim. in_force_six dim (policy_after None commands) _ accepted.governed (accepted.six dim)) told
+  content_well : (content : Content) → content_of c.kind (current_policy commands) c.bytes ≡ Ok content → IsWell (command_word c.kind) c.bytes content
+  content_well content told = well c.kind (current_policy commands) c.bytes content (λ dim. in_force_six dim (policy_after None commands) _ accepted.governed (accepted.six dim)) told
 
-  by_content : (read : Result Content Refused) (receipt : Receipt) → content_of c.kind (in_force commands) c.bytes ≡ read → is_key 40 c.id ≡ true → find (λ (a : Accepted). bytes_eq a.id c.id) commands ≡ None
+  by_content : (read : Result Content Refused) (receipt : Receipt) → content_of c.kind (current_policy commands) c.bytes ≡ read → is_key 40 c.id ≡ true → find (λ (a : Accepted). bytes_eq a.id c.id) commands ≡ None
       → when_read limits commands c read ≡ Ok (Accepts receipt) → IsAccepted limits (with_content commands c read)
   by_content (Err why) receipt told good new h = accepted
   by_content (Ok content) receipt told good new h =
@@ -290,8 +290,8 @@ module _ (limits : Limits) (commands : List Accepted) (c : Command) (accepted : 
   by_answer (Err why) said = accepted
   by_answer (Ok (Accepts receipt)) said =
       let new = new_id limits commands c (is_key 40 c.id) (find (λ (a : Accepted). bytes_eq a.id c.id) commands) receipt refl refl said in
-      let read : when_read limits commands c (content_of c.kind (in_force commands) c.bytes) ≡ Ok (Accepts receipt) = rw (new.0, new.1) at said in
-      by_content (content_of c.kind (in_force commands) c.bytes) receipt refl new.0 new.1 read
+      let read : when_read limits commands c (content_of c.kind (current_policy commands) c.bytes) ≡ Ok (Accepts receipt) = rw (new.0, new.1) at said in
+      by_content (content_of c.kind (current_policy commands) c.bytes) receipt refl new.0 new.1 read
 
   pub stays_accepted : IsAccepted limits (accepted_after limits commands c)
   stays_accepted = by_answer (answer limits commands c) refl

@@ -11,7 +11,7 @@ use Rattle.wh_policy.specs.declared.record.DimensionRecord.{DimensionRecord}
 use Rattle.wh_history.specs.Accepted.{Accepted, Governs, Describes, profiles_of}
 use Rattle.wh_history.specs.Tables.{Limits, dimension_row}
 use Rattle.wh_history.specs.declared.rows.DimRow.{DimRow}
-use Rattle.wh_plan.specs.Defined.{meta_at, command_at, member_at, change_at, profile_at, calendar_at, fact_at}
+use Rattle.wh_rows.specs.Defined.{meta_at, command_at, member_at, change_at, profile_at, calendar_at, fact_at}
 use Rattle.wh_plan.specs.BatchRows.{behind}
 
 abbrev policy : Policy

@@ -19,8 +19,8 @@ use Rattle.wh_history.specs.Accepted.{Accepted, Content, Governs, Describes, Sel
 use Rattle.wh_history.specs.Tables.{Limits}
 use Rattle.wh_rows.specs.Types.{is_key}
 use Rattle.wh_rows.specs.Limits.{are_limits}
-use Rattle.wh_plan.specs.FirstRows.{making_of}
-use Rattle.wh_plan.specs.Sound.{IsAccepted, changes_kept, same_line}
+use Rattle.wh_rows.specs.Sound.{making_of}
+use Rattle.wh_rows.specs.Sound.{IsAccepted, changes_kept, same_line}
 use Rattle.wh_engine.specs.declared.command.Command.{Command}
 use Rattle.wh_batch.specs.declared.kind.CommandKind.{CommandKind}
 use Rattle.wh_batch.specs.declared.kind.CommandKind.TheVariants.{Batch, Migration}
@@ -32,8 +32,8 @@ use Rattle.wh_engine.specs.declared.command.Refused.TheVariants.{BadId, Reused, 
 use Rattle.wh_engine.specs.declared.command.Limit.TheVariants.{Commands, Changes, Facts}
 
 -- the policy in force; a list of accepted commands begins with a making, so it has one
-abbrev pub in_force : List Accepted → Policy
-in_force commands = unwrap_or (policy_after None commands) trial_policy
+abbrev pub current_policy : List Accepted → Policy
+current_policy commands = unwrap_or (policy_after None commands) trial_policy
 
 -- what was read of a batch, or its first fault
 abbrev pub of_batch : {A : Type 0} → Result A BatchFault → Result A Refused
@@ -122,7 +122,7 @@ when_known commands c a = already (receipt_again a.kind a.bytes c (receipt_of co
 
 abbrev pub by_id : Limits → List Accepted → Command → Option Accepted → Result Reply Refused
 by_id limits commands c (Some a) = when_known commands c a
-by_id limits commands c None = when_read limits commands c (content_of c.kind (in_force commands) c.bytes)
+by_id limits commands c None = when_read limits commands c (content_of c.kind (current_policy commands) c.bytes)
 
 -- the first case that applies
 abbrev pub answer : Limits → List Accepted → Command → Result Reply Refused
@@ -135,7 +135,7 @@ with_content commands c (Err why) = commands
 
 -- the list after a command: with it where it is accepted
 abbrev pub after_answer : List Accepted → Command → Result Reply Refused → List Accepted
-after_answer commands c (Ok (Accepts receipt)) = with_content commands c (content_of c.kind (in_force commands) c.bytes)
+after_answer commands c (Ok (Accepts receipt)) = with_content commands c (content_of c.kind (current_policy commands) c.bytes)
 after_answer commands c (Ok (Already receipt)) = commands
 after_answer commands c (Err why) = commands
 
@@ -167,16 +167,16 @@ abbrev pub AdmittedListsAreSound : Type 0
 AdmittedListsAreSound = (limits : Limits) (commands : List Accepted) → AreAdmitted limits commands → IsAccepted limits commands
 
 -- what the command says is what its kind and bytes give under the policy that was in force before it
-pub record IsRead (before : List Accepted) (a : Accepted) : Type 0 where
+pub record IsOfItsBytes (before : List Accepted) (a : Accepted) : Type 0 where
   pub kind : CommandKind
   pub kind_is : a.kind ≡ command_word kind
-  pub content_is : content_of kind (in_force before) a.bytes ≡ Ok a.content
+  pub content_is : content_of kind (current_policy before) a.bytes ≡ Ok a.content
 
 -- so it is of each command that came after these
-abbrev pub AreRead : List Accepted → List Accepted → Type 0
-AreRead before [] = ⊤
-AreRead before (a ∷ later) = IsRead before a × AreRead (before ++ a ∷ []) later
+abbrev pub AreOfTheirBytes : List Accepted → List Accepted → Type 0
+AreOfTheirBytes before [] = ⊤
+AreOfTheirBytes before (a ∷ later) = IsOfItsBytes before a × AreOfTheirBytes (before ++ a ∷ []) later
 
 -- In an admitted list what each command after the making says is what its kind and bytes give.
 abbrev pub ContentsAreRead : Type 0
-ContentsAreRead = (limits : Limits) (making : Accepted) (later : List Accepted) → AreAdmitted limits (making ∷ later) → AreRead (making ∷ []) later
+ContentsAreRead = (limits : Limits) (making : Accepted) (later : List Accepted) → AreAdmitted limits (making ∷ later) → AreOfTheirBytes (making ∷ []) later

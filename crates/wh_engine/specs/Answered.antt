@@ -10,10 +10,10 @@ use Rattle.wh_rows.specs.AtRest.{AreTrees, IsAtRest}
 use Rattle.wh_rows.specs.Tables.{Tables}
 use Rattle.wh_rows.specs.Raw.{Stored}
 use Rattle.wh_rows.specs.declared.table.Table.TheVariants as table
-use Rattle.wh_engine.specs.Admission.{in_force, policy_brought, answer, accepted_after, AreAdmitted}
-use Rattle.wh_plan.specs.Defined.{AreOf}
+use Rattle.wh_engine.specs.Admission.{current_policy, policy_brought, answer, accepted_after, AreAdmitted}
+use Rattle.wh_rows.specs.Defined.{AreOf}
 use Rattle.wh_plan.specs.Edits.{Edits, AreEdits, edit_count}
-use Rattle.wh_plan.specs.Sound.{changes_kept}
+use Rattle.wh_rows.specs.Sound.{changes_kept}
 use Rattle.wh_engine.specs.Faults.{stops}
 use Rattle.wh_engine.specs.declared.command.Command.{Command}
 use Rattle.wh_engine.specs.declared.command.Reply.{Reply}
@@ -43,7 +43,7 @@ pub record LeavesOneOf (limits : Limits) (before after : List Accepted) (s : Sta
 pub record IsReady (limits : Limits) (commands : List Accepted) (session : Session) (s : State) : Type 0 where
   pub admitted : AreAdmitted limits commands
   pub rests : Rests limits commands s
-  pub session_is : session ≡ record { limits = limits; policy = in_force commands; must_reopen = false }
+  pub session_is : session ≡ record { limits = limits; policy = current_policy commands; must_reopen = false }
 
 -- The store refused a call of the engine, which has to be opened again; a crash leaves the tables before the command, or those with it.
 pub record IsStopped (limits : Limits) (before after : List Accepted) (session : Session) (s : State) : Type 0 where

@@ -4,11 +4,11 @@ use Rattle.wh_policy.specs.declared.policy.Policy.{Policy}
 use Rattle.wh_history.specs.Accepted.{Accepted, Content, governed}
 use Rattle.wh_rows.specs.declared.rows.CommandRow.{CommandRow}
 use Rattle.wh_batch.specs.Kind.{command_word}
-use Rattle.wh_engine.specs.Admission.{content_of, accepted_as, in_force, policy_brought, receipt_again, already}
+use Rattle.wh_engine.specs.Admission.{content_of, accepted_as, current_policy, policy_brought, receipt_again, already}
 use Rattle.wh_rows.specs.Tables.{Tables}
-use Rattle.wh_plan.specs.Defined.{AreOf}
+use Rattle.wh_rows.specs.Defined.{AreOf}
 use Rattle.wh_plan.specs.Edits.{Edits, AreEdits}
-use Rattle.wh_plan.specs.Sound.{IsAccepted}
+use Rattle.wh_rows.specs.Sound.{IsAccepted}
 use Rattle.wh_engine.specs.declared.command.Command.{Command}
 use Rattle.wh_engine.specs.declared.command.Receipt.{Receipt}
 use Rattle.wh_engine.specs.declared.command.Reply.{Reply}
@@ -37,12 +37,12 @@ IsNew commands c = find (λ (a : Accepted). bytes_eq a.id c.id) commands ≡ Non
 pub record IsHeld (session : Session) (commands : List Accepted) (tables : Tables) : Type 0 where
   pub accepted : IsAccepted session.limits commands
   pub are : AreOf session.limits commands tables
-  pub policy : session.policy ≡ in_force commands
+  pub policy : session.policy ≡ current_policy commands
 
 -- the edits are those of the command, which says this, and the newer policy is the one that it gives, if it gives one
 pub record IsEffectOf (commands : List Accepted) (c : Command) (edits : Edits) (newer : Option Policy) : Type 0 where
   pub content : Content
-  pub read : content_of c.kind (in_force commands) c.bytes ≡ Ok content
+  pub read : content_of c.kind (current_policy commands) c.bytes ≡ Ok content
   pub edits_are : AreEdits commands (commands ++ accepted_as c content ∷ []) edits
   pub newer_is : newer ≡ governed None content
 

@@ -19,7 +19,7 @@ pub record Morning : Type 0 where
   pub acknowledged : ℕ
   pub found : List Accepted
 
--- how many of the commands that it began with a night left behind it
+-- how many of the commands that it began with a night left after it
 abbrev pub left_by : Night → ℕ
 left_by night = if night.left_next then suc night.acknowledged else night.acknowledged
 

@@ -41,7 +41,7 @@ abbrev pub receipt_answered : Result Reply Refusal → Result Receipt Refusal
 receipt_answered (Ok reply) = Ok (receipt_told reply)
 receipt_answered (Err why) = Err why
 
--- as many of the commands, from the first on, are told the receipts and the refusals that they are told without a stop
+-- as many of the commands, from the first on, get the receipts and the refusals that they get without a stop
 abbrev pub TellReceipts : Limits → List Accepted → List Command → List (Result Reply Refusal) → Type 0
 TellReceipts limits commands sent answers = map receipt_answered answers ≡ map receipt_answered (answers_to limits commands (take (length answers) sent))
 

@@ -10,10 +10,10 @@ ghost use Rattle.wh_rows.specs.Tables.{Tables as TenTables};
 ghost use Rattle.wh_store.specs.Reads.{ReadsOnly, Spares, SaysAsStored, state_of};
 ghost use Rattle.wh_engine.specs.Admission.{changes_in, first_line_there, number_for};
 ghost use Rattle.wh_engine.specs.Decided.{receipt_of_known};
-ghost use Rattle.wh_plan.specs.Defined.{AreOf};
+ghost use Rattle.wh_rows.specs.Defined.{AreOf};
 ghost use Rattle.wh_engine.specs.Faults.{IsServed, BlamesDamage, IsWorkedOut, Judges};
 ghost use Rattle.wh_plan.specs.Reads.{Finds, Tells};
-ghost use Rattle.wh_plan.specs.Sound.{IsAccepted, same_line};
+ghost use Rattle.wh_rows.specs.Sound.{IsAccepted, same_line};
 
 use crate::command::{Command, Limit, Receipt, Refused};
 use crate::fault::Fault;

@@ -6,7 +6,7 @@ ghost use Rattle.wh_policy.specs.declared.policy.Policy.{Policy};
 ghost use Rattle.wh_history.specs.Accepted.{Accepted, Sells};
 ghost use Rattle.wh_rows.specs.Raw.{Stored};
 ghost use Rattle.wh_rows.specs.Types.{is_key};
-ghost use Rattle.wh_engine.specs.Admission.{answer, content_of, in_force, policy_told, records_told, sales_told};
+ghost use Rattle.wh_engine.specs.Admission.{answer, content_of, current_policy, policy_told, records_told, sales_told};
 ghost use Rattle.wh_engine.specs.Decided.{row_of_command, IsNew, reply_to_known, Brings, Decides};
 ghost use Rattle.wh_batch.specs.declared.kind.CommandKind.TheVariants.{Batch, Migration};
 ghost use Rattle.wh_engine.specs.Faults.{IsServed, BlamesDamage, IsWorkedOut, Judges};
@@ -148,7 +148,7 @@ fn decide_sold<S: Alter>(
     ensures reads { Spares (state_of S.Store tables.old) (state_of S.Store tables.new) (IsServed result) }
     ensures blames { SaysAsStored (state_of S.Store tables.old) (state_of S.Store tables.new) (λ stored. BlamesDamage stored result) }
     ensures decided { Works (state_of S.Store tables.old) (state_of S.Store tables.new) session.now (λ commands. is_key 40 command.now.id ≡ true → IsNew commands command.now
-        → content_of command.now.kind (in_force commands) command.now.bytes ≡ Ok (Sells sales.now)
+        → content_of command.now.kind (current_policy commands) command.now.bytes ≡ Ok (Sells sales.now)
         → Judges (Decides commands command.now) result (answer session.now.limits commands command.now)) }
     ensures brings { command.now.kind ≡ Batch Sales → IfOk result (Brings session.now.policy command.now) }
     ensures work { IsWorkedOut result }

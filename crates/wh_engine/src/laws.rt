@@ -1,8 +1,9 @@
-//! Laws of admission and of deliveries. They speak of the definitions alone and do nothing.
+//! Laws of makings, of admission and of deliveries. They speak of the definitions alone and do nothing.
 
 ghost use Rattle.std.specs.Prelude.{◌≡◌, List};
 ghost use Rattle.wh_history.specs.Accepted.{Accepted};
 ghost use Rattle.wh_history.specs.Tables.{Limits};
+ghost use Rattle.wh_plan.specs.FirstRows.{PoliciesAreGood};
 ghost use Rattle.wh_engine.specs.Admission.{accepted_after, AcceptedListsStaySound, AdmittedListsAreSound, ContentsAreRead};
 ghost use Rattle.wh_engine.specs.Nights.{DeliveriesJoin, RedeliveryEndsTheSame, ReopeningFindsABeginning};
 ghost use Rattle.wh_engine.specs.declared.command.Command.{Command};
@@ -10,6 +11,11 @@ ghost use Rattle.wh_engine.specs.declared.command.Command.{Command};
 /// A command that is sent twice acts once.
 pub fn acts_once()
     ensures { (limits : Limits) (commands : List Accepted) (c : Command) → accepted_after limits (accepted_after limits commands c) c ≡ accepted_after limits commands c }
+{}
+
+/// Every policy that is read from a file is good, so that a warehouse can be made under it.
+pub fn policies_are_good()
+    ensures { PoliciesAreGood }
 {}
 
 /// A list of commands that a warehouse can have accepted stays one after each command, accepted or refused.

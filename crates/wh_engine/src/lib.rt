@@ -24,7 +24,7 @@ pub use delivery::Replies;
 pub use engine::Engine;
 pub use fault::Fault;
 pub use fresh::deliver_fresh;
-pub use making::{policies_are_good, write_making};
+pub use making::write_making;
 pub use opening::InitFault;
 pub use reopen::{deliver_again, redeliver, restart};
 pub use scan::Scan;

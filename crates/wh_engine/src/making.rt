@@ -6,8 +6,9 @@ ghost use Rattle.wh_rows.specs.AtRest.{IsWriting, Leaves};
 ghost use Rattle.wh_rows.specs.Tables.{Tables as TenTables};
 ghost use Rattle.wh_store.specs.Reads.{state_of};
 ghost use Rattle.wh_store.specs.Writes.{WritesOnly, Makes};
-ghost use Rattle.wh_plan.specs.Defined.{AreOf};
-ghost use Rattle.wh_plan.specs.FirstRows.{making_of, IsGoodPolicy, PoliciesAreGood, making_row, calendar_rows, with_first, MayBeFirst};
+ghost use Rattle.wh_rows.specs.Defined.{AreOf};
+ghost use Rattle.wh_plan.specs.FirstRows.{IsGoodPolicy, making_row, calendar_rows, with_first, MayBeFirst};
+ghost use Rattle.wh_rows.specs.Sound.{making_of};
 
 use sqlite::Alter;
 use sqlite::types::Bytes;
@@ -90,9 +91,3 @@ pub fn write_making<S: Alter>(
     writing.make(alloc, limits)?;
     put_first(writing, alloc, &command, &customer, &profiles, &calendar)
 }
-
-/// Every policy that is read from a file is good, so that a warehouse can be made under it. This is a law, and does
-/// nothing.
-pub fn policies_are_good()
-    ensures { PoliciesAreGood }
-{}

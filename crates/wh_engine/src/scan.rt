@@ -97,7 +97,7 @@ impl<S: Alter> Engine<S> {
         found
     }
 
-    /// The next row of a table behind those that the cursor handed out; of a new cursor the first. It is for a reader that goes
+    /// The next row of a table after those that the cursor handed out; of a new cursor the first. It is for a reader that goes
     /// through several tables, or hands the engine on between two rows. After a refusal of the store it answers `Reopen`, and
     /// after another fault no row comes any more.
     pub fn next_row<T: Scanned>(

@@ -32,7 +32,7 @@ no_less xs ys zs e = let n = ap (λ (as' : List Anchor). length as') e ∙ lengt
 abbrev put_unless : Bool → Member → Option Member → Option Member
 put_unless b m o = cond b (Some m) o
 
--- a member, by what was mentioned and told of its dimension
+-- a member, by what was mentioned and said of its dimension
 abbrev member_by : List Anchor → List DimensionRecord → List ℕ → Member
 member_by mentioned told natural = record {
   durable = place bytes_eq natural (distinct bytes_eq (map (λ a. a.natural) mentioned));
@@ -61,7 +61,7 @@ module _ (dim : Dim) (commands : List Accepted) (id kind bytes : List ℕ) where
   pub described_after : (rs : List DimensionRecord) → described dim (after rs) ≡ described dim commands ++ rs
   described_after rs = described-last dim commands (batch rs) ∙ ap (λ qs. described dim commands ++ qs) (same_dimension dim rs)
 
-  -- the batch with a record more mentions and tells what the record does behind the batch
+  -- the batch with a record more mentions and tells what the record does after the batch
   mentions_more : (rs : List DimensionRecord) (r : DimensionRecord) → mentions dim (after (rs ++ r ∷ [])) ≡ mentions dim (after rs ++ batch (r ∷ []) ∷ [])
   mentions_more rs r =
       mentions_after (rs ++ r ∷ [])

@@ -120,7 +120,7 @@ holds_from day r h = grind (arith, nat_tests)
 holds_to : (day : ℕ) (r : DimRow) → holds day r ≡ true → day ≤ r.to_day
 holds_to day r h = grind (arith, nat_tests)
 
--- behind a row of the table stands its anchor
+-- each row of the table stands for an anchor
 pub came_from : (dim : Dim) (commands : List Accepted) (key : ℕ) (q : DimRow) (o : Option Anchor) → at_place key (anchors dim commands) ≡ o → option_and_then (λ (a : Anchor). find (λ (r : DimRow). r.surrogate == key) (member_rows commands dim a.natural)) o ≡ Some q → (a : Anchor) × (find (λ (r : DimRow). r.surrogate == key) (member_rows commands dim a.natural) ≡ Some q)
 came_from dim commands key q None is h = cc
 came_from dim commands key q (Some a) is h = (a, h)

@@ -73,7 +73,7 @@ module _ {X : Type 0} (same : X → X → Bool) (decides : (x y : X) → Decides
             more ∙ rw none refl
       ] refl
 
-  -- a second mention right behind the first adds nothing
+  -- a second mention right after the first adds nothing
   there_then : (x : X) (xs : List X) → 0 < place same x (distinct same (xs ++ x ∷ []))
   there_then x xs = subst (λ (n : ℕ). 0 < n) (sym (place-last x xs)) (given_or_given (place same x (distinct same xs)) _ (omega arith))
 

@@ -1,4 +1,4 @@
--- Of a member with a record before a day, the keys and profiles of the days before it, behind records of that day and later ones.
+-- Of a member with a record before a day, the keys and profiles of the days before it, after records of that day and later ones.
 use Rattle.std.proofs.Common.{◌≡◌, ℕ, ◌<◌, ◌≤◌, ◌==◌, Bool, true, false, cond, ◌||◌, nat_lt, nat_le, List, [], ◌∷◌, ◌++◌, map, append-nil, Some, refl, sym, ◌∙◌, ap, arith, inl, inr}
 use Rattle.std.specs.Prelude.{◌≢◌, filter, option_map, unwrap_or}
 use Rattle.std.specs.List.{list_any, AllByRecursion}
@@ -197,7 +197,7 @@ module _ (kinds : List AttributeType) where
         | false ↦ λ none. absurd (none refl)
       ] some
 
--- ---- a member before and behind
+-- ---- a member before and after
 
 module _ (before after : Member) (first : ℕ) (new : List Change) (more : after.changes ≡ before.changes ++ new) (late : AllByRecursion (λ c. first ≤ c.day) new) (some : list_any (is_before first) before.changes ≡ true) where
   same_front : front first (dated after.changes) ≡ front first (dated before.changes)

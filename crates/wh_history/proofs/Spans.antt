@@ -1,4 +1,4 @@
--- The spans of a member's rows, one behind another.
+-- The spans of a member's rows, one after another.
 use Rattle.std.proofs.Common.{◌≡◌, ℕ, ◌<◌, ◌≤◌, true, false, cond, List, [], ◌∷◌, map, arith, inl, inr}
 use Rattle.std.specs.List.{count_by}
 use Rattle.std.proofs.lemmas.Bool.Decides.{nat_tests}
@@ -60,7 +60,7 @@ module _ (kinds : List AttributeType) (number : ℕ) (m : Member) where
       let step = sum_by-cons (λ r. cond r.is_current 1 0) (row kinds number m (from, day_before next)) (rows_of (spans next more)) in
       grind (arith, nat_tests, rest, step)
 
--- changes in order of their days, behind a day
+-- changes in order of their days, after a day
 abbrev pub Follows : ℕ → List Change → Type 0
 Follows day [] = Unit {0}
 Follows day (c ∷ cs) = (day < c.day) × (is_day c.day ≡ true) × Follows c.day cs

@@ -19,7 +19,7 @@ keep_there v c xs p x within is same kept =
     let here : keep c (map v (drop p xs)) ≡ map v (drop p xs) = rw next (rw same (grind (arith, nat_tests))) in
     sym (kept ∙ ap (λ t. map v (take p xs) ++ t) here ∙ sym (map-append v (take p xs) (drop p xs)) ∙ ap (map v) (take-append-drop p xs))
 
--- one change has no start behind it, and none has none
+-- one change has no start after it, and none has none
 pub starts_end : (kinds : List AttributeType) (xs : List Change) → length xs ≤ 1 → starts kinds xs ≡ []
 starts_end kinds [] h = refl
 starts_end kinds (x ∷ []) h = refl

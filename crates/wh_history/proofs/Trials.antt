@@ -90,7 +90,7 @@ module _ (dim : Dim) (commands : List Accepted) where
       let next : suc key ≡ key + 1 = omega arith in
       ap (λ o. cons_option o (picked_from rows_by_member (suc key) (map owner back))) here ∙ ap (cons_option (numbered_row commands dim key)) (rest ∙ ap (λ n. filter_map (numbered_row commands dim) (range_with_len n (length back))) next)
 
-  -- behind the first key the table has the rows of anchors
+  -- after the first key the table has the rows of anchors
   in_range : (key n : ℕ) → 0 < key → filter_map (numbered_row commands dim) (range_with_len key n) ≡ filter_map (dimension_row commands dim) (range_with_len key n)
   in_range key zero given = refl
   in_range key (suc n) given =
@@ -104,7 +104,7 @@ module _ (dim : Dim) (commands : List Accepted) where
   put_first None rs = refl
   put_first (Some r) rs = refl
 
-  -- the rows of the keys by their owners, behind the row without a key, are the table
+  -- the rows of the keys by their owners, after the row without a key, are the table
   pub table_is : first_rows dim (types_in dim commands) ++ picked_from rows_by_member 1 (map owner (anchors dim commands)) ≡ dimension_table commands dim
   table_is =
       let picked = picked_is [] (anchors dim commands) 1 refl refl (owners_given dim commands) ∙ in_range 1 (length (anchors dim commands)) (omega arith) in

@@ -63,7 +63,7 @@ start_at m p d ds up own =
     let here : at d.day (dated m.changes) ≡ Some d = own.1.0 in
     record { key = rw (later, here) refl; in_force = sym here }
 
--- what is left behind one change and behind two, at the places of a loop
+-- what is left after one change and after two, at the places of a loop
 pub one_left : {X : Type 0} (v : X → Change) (xs : List X) (place : ℕ) (y : X) → place < length xs → y ≡ get_or xs place y → map v (drop (place + 1 - 1) xs) ≡ v y ∷ map v (drop (place + 1) xs)
 one_left v xs place y high is_y =
     let back : place + 1 - 1 ≡ place = omega arith in

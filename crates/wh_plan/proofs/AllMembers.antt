@@ -14,11 +14,11 @@ use Rattle.wh_history.specs.declared.member.Member.{Member}
 use Rattle.wh_history.proofs.Basics.{some_is}
 use Rattle.wh_history.proofs.Once.{once_distinct}
 use Rattle.wh_rows.specs.declared.rows.MemberRow.{MemberRow}
-use Rattle.wh_plan.specs.Defined.{member_at}
+use Rattle.wh_rows.specs.Defined.{member_at}
 use Rattle.wh_plan.specs.Migrated.{all_members}
 use Rattle.wh_plan.proofs.FoundMembers.{key_of, natural_at, member_is}
-use Rattle.wh_plan.proofs.FoundPlaces.{place_given, place_at}
-use Rattle.wh_plan.proofs.GovernedLists.{members_governed, member_governed, policy_governed}
+use Rattle.wh_rows.proofs.FoundPlaces.{place_given, place_at}
+use Rattle.wh_rows.proofs.GovernedLists.{members_governed, member_governed, policy_governed}
 
 module _ (dim : Dim) (commands : List Accepted) where
   module _ (durable : ℕ) (row : MemberRow) (is : member_at commands (key_of dim durable) ≡ Some row) where

@@ -30,10 +30,10 @@ use Rattle.wh_history.proofs.Owners.{all_distinct}
 use Rattle.wh_history.proofs.Places.{at_place-place}
 use Rattle.wh_plan.specs.NewRows.{rows_of_members}
 use Rattle.wh_plan.specs.Migrated.{all_members, all_rows, IsMigrated}
-use Rattle.wh_plan.proofs.FoundPlaces.{at_place_among}
+use Rattle.wh_rows.proofs.FoundPlaces.{at_place_among}
 use Rattle.wh_plan.proofs.FoundRows.{row_key, row_past, table_listed, under_key, none_behind}
-use Rattle.wh_plan.proofs.GrownMembers.{all_mapped, opened_in_all}
-use Rattle.wh_plan.proofs.Listed.{kept}
+use Rattle.wh_rows.proofs.GrownMembers.{all_mapped, opened_in_all}
+use Rattle.wh_rows.proofs.Listed.{kept}
 use Rattle.wh_plan.proofs.PlanningOwners.{nowhere, found_in}
 use Rattle.wh_plan.proofs.PlanningRendered.{through}
 use Rattle.wh_plan.proofs.PlanningTable.{durable_given}
@@ -90,7 +90,7 @@ module _ (dim : Dim) (commands : List Accepted) (ends : RecordsHaveDays commands
 none_at_first : (dim : Dim) (commands : List Accepted) → RecordsHaveDays commands → row_of 0 (rows_of_members commands dim (members dim commands)) ≡ None
 none_at_first dim commands ends = nowhere dim commands ends 0 refl (members dim commands) (all_are dim commands ends)
 
--- behind the first row of customers the rows of all members are the table
+-- after the first row of customers the rows of all members are the table
 rows_listed : (dim : Dim) (commands : List Accepted) → RecordsHaveDays commands → (key : ℕ) → row_of key (first_rows dim (types_in dim commands) ++ rows_of_members commands dim (members dim commands)) ≡ dimension_row commands dim key
 rows_listed Product commands ends key = rows_numbered Product commands ends key
 rows_listed Store commands ends key = rows_numbered Store commands ends key

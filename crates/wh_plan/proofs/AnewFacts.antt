@@ -31,7 +31,7 @@ use Rattle.wh_history.proofs.Places.{at_place-place, place-distinct_given}
 use Rattle.wh_rows.specs.Rows as row
 use Rattle.wh_rows.specs.Tables.{Tables}
 use Rattle.wh_rows.specs.declared.key.LineKey.{LineKey}
-use Rattle.wh_plan.specs.Defined.{AreOf, fact_at}
+use Rattle.wh_rows.specs.Defined.{AreOf, fact_at}
 use Rattle.wh_plan.specs.BatchRows.{AreFacts, AreRekeyed, has_line}
 use Rattle.wh_plan.specs.SoldMembers.{no_keys, keys_sold}
 use Rattle.wh_plan.specs.Migrated.{all_members, Showing, showing, keys_given, keys_by, keys_anew, moved_anew, AreDimensionMembers, AreWarehouseMembers, AreShown, AreAllShown}
@@ -39,14 +39,14 @@ use Rattle.wh_plan.specs.declared.all_members.DimensionMembers.{DimensionMembers
 use Rattle.wh_plan.specs.declared.all_members.WarehouseMembers.{WarehouseMembers}
 use Rattle.wh_plan.specs.declared.migrated.ShownDimension.{ShownDimension}
 use Rattle.wh_plan.specs.declared.migrated.ShownDimensions.{ShownDimensions}
-use Rattle.wh_plan.proofs.Following.{Named, all_named}
-use Rattle.wh_plan.proofs.FoundPlaces.{at_place-map}
-use Rattle.wh_plan.proofs.GovernedLists.{sold_governed, durable_governed}
-use Rattle.wh_plan.proofs.GrownChanges.{natural_among}
+use Rattle.wh_rows.proofs.Following.{Named, all_named}
+use Rattle.wh_rows.proofs.FoundPlaces.{at_place-map}
+use Rattle.wh_rows.proofs.GovernedLists.{sold_governed, durable_governed}
+use Rattle.wh_rows.proofs.GrownChanges.{natural_among}
 use Rattle.wh_plan.proofs.GrownFacts.{own_line, Once, found_each}
-use Rattle.wh_plan.proofs.GrownKeys.{all_at}
+use Rattle.wh_rows.proofs.GrownKeys.{all_at}
 use Rattle.wh_plan.proofs.MovedFacts.{on_line, facts_of_line}
-use Rattle.wh_plan.proofs.MovedKeys.{with_keys, moved_gives, moved_has, moved_is_other, at_found}
+use Rattle.wh_rows.proofs.MovedKeys.{with_keys, moved_gives, moved_has, moved_is_other, at_found}
 use Rattle.wh_plan.proofs.MovedLists.{find_by_filter, distinct_by_filter, filter_moves, moves_of_one}
 use Rattle.wh_plan.proofs.AllRows.{row_shown}
 use Rattle.wh_plan.proofs.SalesKeys.{fact_keyed}

@@ -19,9 +19,9 @@ use Rattle.wh_history.proofs.Once.{once_distinct, among_distinct}
 use Rattle.wh_history.proofs.Members.{place_within}
 use Rattle.wh_history.proofs.Records.{day_mentioned}
 use Rattle.wh_rows.specs.Tables.{Tables}
-use Rattle.wh_plan.specs.Defined.{AreOf}
+use Rattle.wh_rows.specs.Defined.{AreOf}
 use Rattle.wh_plan.specs.Reading.{last_opening}
-use Rattle.wh_plan.proofs.FoundPlaces.{at_place-map, at_place_among, place_at}
+use Rattle.wh_rows.proofs.FoundPlaces.{at_place-map, at_place_among, place_at}
 use Rattle.wh_plan.proofs.FoundMembers.{same_dim}
 use Rattle.wh_plan.proofs.FoundChanges.{anchors_read}
 

@@ -18,14 +18,14 @@ use Rattle.wh_history.specs.Tables.{Limits}
 use Rattle.wh_history.specs.declared.member.Change.{Change}
 use Rattle.wh_history.proofs.Places.{one_place}
 use Rattle.wh_history.proofs.Joins.{all_weaker}
-use Rattle.wh_plan.proofs.Listed.{filter_all}
+use Rattle.wh_rows.proofs.Listed.{filter_all}
 use Rattle.wh_rows.specs.declared.rows.ChangeRow.{ChangeRow}
 use Rattle.wh_rows.specs.Tables.{Tables}
-use Rattle.wh_plan.specs.Defined.{AreOf}
+use Rattle.wh_rows.specs.Defined.{AreOf}
 use Rattle.wh_plan.specs.Reading.{HaveNoEmptyValue, given_text, change_in}
-use Rattle.wh_plan.proofs.FoundPlaces.{same_number_is, number_itself}
+use Rattle.wh_rows.proofs.FoundPlaces.{same_number_is, number_itself}
 use Rattle.wh_plan.proofs.FoundMembers.{same_dim, same_dim_is, dim_itself}
-use Rattle.wh_plan.proofs.ListedChanges.{made, record_rows, content_rows, change_rows, changes_listed}
+use Rattle.wh_rows.proofs.ListedChanges.{made, record_rows, content_rows, change_rows, changes_listed}
 
 -- ---- the texts of the slots
 
@@ -70,7 +70,7 @@ tests_agree Customer Product = refl
 tests_agree Customer Store = refl
 tests_agree Customer Customer = refl
 
--- ---- the rows of a dimension, where what is read of a row is told by its record
+-- ---- the rows of a dimension, where what is read of a row is what its record says
 
 module _ {X : Type 0} (dim : Dim) (commands : List Accepted) (read : ChangeRow → X) (tell : DimensionRecord → X) (p : ChangeRow → Bool) (q : DimensionRecord → Bool) where
   -- so it is of each row of the record, and so is whether it passes

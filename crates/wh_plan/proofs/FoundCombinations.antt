@@ -14,7 +14,7 @@ use Rattle.wh_history.proofs.Joins.{all_weaker}
 use Rattle.wh_history.proofs.Stays.{picks_from}
 use Rattle.wh_rows.specs.Tables.{Tables}
 use Rattle.wh_rows.specs.declared.rows.ChangeRow.{ChangeRow}
-use Rattle.wh_plan.specs.Defined.{AreOf}
+use Rattle.wh_rows.specs.Defined.{AreOf}
 use Rattle.wh_plan.specs.Migration.{said_in, stored_by}
 use Rattle.wh_plan.specs.Profiles.{with_combinations}
 use Rattle.wh_plan.specs.Reading.{HaveNoEmptyValue, given_text}

@@ -15,10 +15,10 @@ use Rattle.wh_history.specs.Tables.{Limits, command_row, CommandRow as Told}
 use Rattle.wh_rows.specs.declared.rows.CommandRow.{CommandRow}
 use Rattle.wh_rows.specs.Tables.{Tables}
 use Rattle.wh_store.specs.Reads.{same_text}
-use Rattle.wh_plan.specs.Defined.{AreOf, command_at}
-use Rattle.wh_plan.specs.Reading.{HaveDistinctIds, number_of, command_with}
-use Rattle.wh_plan.proofs.Listed.{passes_at, values-numbered, len-values, length_numbered}
-use Rattle.wh_plan.proofs.FoundPlaces.{same_text_is, text_itself, at_place-map, at_place_past, at_place_there, behind_one, place_given, place_at, once_is}
+use Rattle.wh_rows.specs.Defined.{AreOf, command_at}
+use Rattle.wh_plan.specs.Reading.{HaveDistinctIds, number_by_id, command_with}
+use Rattle.wh_rows.proofs.Listed.{passes_at, values-numbered, len-values, length_numbered}
+use Rattle.wh_rows.proofs.FoundPlaces.{same_text_is, text_itself, at_place-map, at_place_past, at_place_there, behind_one, place_given, place_at, once_is}
 
 abbrev pub stored : ℕ → Told → CommandRow
 stored number c = record { number = number; id = c.id; kind = c.kind; bytes = c.bytes; records = c.records; placeholders = c.placeholders }
@@ -54,7 +54,7 @@ module _ (commands : List Accepted) where
       (stored number (told commands number c.0), ap (λ (o : Option Accepted). option_map (stored number) (option_map (told commands number) o)) c.1)
 
   -- the command of an id
-  pub find_numbered : (id : List ℕ) → at_place (number_of commands id) commands ≡ find (λ c. bytes_eq c.id id) commands
+  pub find_numbered : (id : List ℕ) → at_place (number_by_id commands id) commands ≡ find (λ c. bytes_eq c.id id) commands
   find_numbered id = found commands
     where
       found : (cs : List Accepted) → at_place (place bytes_eq id (map (λ (c : Accepted). c.id) cs)) cs ≡ find (λ c. bytes_eq c.id id) cs
@@ -79,14 +79,14 @@ module _ (limits : Limits) (commands : List Accepted) (t : Tables) (are : AreOf 
   pub command_of : HaveDistinctIds commands → (id : List ℕ) → filter (λ r. same_text id r.id) (values t.command) ≡ option_to_list (command_with commands id)
   command_of distinct id =
       let once = once_is bytes_eq bytes_eq-Decides (ids commands) distinct in
-      let key : (j : ℕ) (w : CommandRow) → get t.command j ≡ Some w → same_text id w.id ≡ true → j ≡ number_of commands id = λ j w here same.
+      let key : (j : ℕ) (w : CommandRow) → get t.command j ≡ Some w → same_text id w.id ≡ true → j ≡ number_by_id commands id = λ j w here same.
       let is : command_at commands j ≡ Some w = sym (are.command j) ∙ here in
       let name : id ≡ w.id = same_text_is id w.id same in
       sym (ap (λ (n : List ℕ). place bytes_eq n (ids commands)) name ∙ place_at bytes_eq bytes_eq-Decides j (ids commands) w.id once (id_at commands j w is)) in
-      let own : (w : CommandRow) → get t.command (number_of commands id) ≡ Some w → (w.number ≡ number_of commands id) × (same_text id w.id ≡ true) = λ w here.
-      let is : command_at commands (number_of commands id) ≡ Some w = sym (are.command (number_of commands id)) ∙ here in
-      let at = id_at commands (number_of commands id) w is in
-      let name : w.id ≡ id = some_is _ _ (sym at ∙ at_place-place bytes_eq bytes_eq-Decides id (ids commands) (place_given (number_of commands id) (ids commands) w.id at)) in
-      (command_number commands (number_of commands id) w is, ap (same_text id) name ∙ text_itself id) in
-      passes_at nat_cmp nat_cmp_total nat_cmp-IsAntisymmetric (λ (r : CommandRow). r.number) (λ r. same_text id r.id) t.command (number_of commands id) own key
-      ∙ ap option_to_list (are.command (number_of commands id))
+      let own : (w : CommandRow) → get t.command (number_by_id commands id) ≡ Some w → (w.number ≡ number_by_id commands id) × (same_text id w.id ≡ true) = λ w here.
+      let is : command_at commands (number_by_id commands id) ≡ Some w = sym (are.command (number_by_id commands id)) ∙ here in
+      let at = id_at commands (number_by_id commands id) w is in
+      let name : w.id ≡ id = some_is _ _ (sym at ∙ at_place-place bytes_eq bytes_eq-Decides id (ids commands) (place_given (number_by_id commands id) (ids commands) w.id at)) in
+      (command_number commands (number_by_id commands id) w is, ap (same_text id) name ∙ text_itself id) in
+      passes_at nat_cmp nat_cmp_total nat_cmp-IsAntisymmetric (λ (r : CommandRow). r.number) (λ r. same_text id r.id) t.command (number_by_id commands id) own key
+      ∙ ap option_to_list (are.command (number_by_id commands id))

@@ -17,7 +17,7 @@ use Rattle.wh_rows.specs.Rows as row
 use Rattle.wh_rows.specs.declared.key.LineKey.{LineKey}
 use Rattle.wh_plan.specs.Edits.{with_rows}
 use Rattle.wh_plan.specs.BatchRows.{has_line}
-use Rattle.wh_plan.specs.Sound.{same_line}
+use Rattle.wh_rows.specs.Sound.{same_line}
 
 -- ---- the key of a fact
 

@@ -23,7 +23,7 @@ use Rattle.wh_history.proofs.Mixtures.{put_last}
 use Rattle.wh_history.proofs.Numbers.{distinct-append}
 use Rattle.wh_history.proofs.Once.{among_distinct}
 use Rattle.wh_rows.specs.declared.rows.ProfileRow.{ProfileRow}
-use Rattle.wh_plan.specs.Defined.{profile_at}
+use Rattle.wh_rows.specs.Defined.{profile_at}
 use Rattle.wh_plan.specs.Profiles.{with_combination, with_combinations, said_of, said_by, numbered_as, learned, is_none, row_of_profile}
 use Rattle.wh_plan.specs.BatchRows.{behind}
 
@@ -165,7 +165,7 @@ get_middle : {X : Type 0} (front back : List X) (x : X) → slice_get (front ++ 
 get_middle [] back x = refl
 get_middle (y ∷ front) back x = get_middle front back x
 
--- the rows of combinations behind others
+-- the rows of combinations after others
 rows_from : (list : List Accepted) (front back : List (List (List ℕ))) (next : ℕ) → next ≡ suc (suc (length front)) → front ++ back ≡ profiles_of list
     → filter_map (profile_at list) (range_with_len next (length back)) ≡ map row_of_profile (numbered_from next back)
 rows_from list front [] next at whole = refl

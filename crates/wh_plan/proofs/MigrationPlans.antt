@@ -21,15 +21,15 @@ use Rattle.wh_rows.specs.Rows as row
 use Rattle.wh_rows.specs.declared.key.ChangeKey.{ChangeKey}
 use Rattle.wh_rows.specs.declared.key.MemberKey.{MemberKey}
 use Rattle.wh_rows.specs.declared.rows.CommandRow.{CommandRow}
-use Rattle.wh_plan.specs.Defined.{command_at, member_at, change_at, profile_at, calendar_at, fact_at, day_at}
+use Rattle.wh_rows.specs.Defined.{command_at, member_at, change_at, profile_at, calendar_at, fact_at, day_at}
 use Rattle.wh_plan.specs.Edits.{Edits, AreEdits, IsTablePlan, IsFactPlan, rows_of_dimension}
 use Rattle.wh_plan.specs.Migrated.{ArePlannedAnew}
 use Rattle.wh_plan.specs.declared.migrated.MigratedRows.{MigratedRows}
-use Rattle.wh_plan.proofs.GovernedLists.{members_governed, policy_governed}
-use Rattle.wh_plan.proofs.GrownChanges.{changes_grow}
-use Rattle.wh_plan.proofs.GrownCommands.{command_keyed, command_grows}
-use Rattle.wh_plan.proofs.GrownCommands as command
-use Rattle.wh_plan.proofs.GrownMembers as member
+use Rattle.wh_rows.proofs.GovernedLists.{members_governed, policy_governed}
+use Rattle.wh_rows.proofs.GrownChanges.{changes_grow}
+use Rattle.wh_rows.proofs.GrownCommands.{command_keyed, command_grows}
+use Rattle.wh_rows.proofs.GrownCommands as command
+use Rattle.wh_rows.proofs.GrownMembers as member
 use Rattle.wh_plan.proofs.PlanEdits.{own_row}
 use Rattle.wh_plan.proofs.Plans.{empty_plan, grown_plan}
 

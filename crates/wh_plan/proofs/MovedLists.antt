@@ -1,4 +1,4 @@
--- The rows of a list that pass a test, behind steps that keep whether they do.
+-- The rows of a list that pass a test, after steps that keep whether they do.
 use Rattle.std.proofs.Common.{◌≡◌, ℕ, suc, ◌+◌, ◌<◌, length, drop, get_or, arith, append_assoc, drop-cons, Bool, true, false, not, cond, ◌||◌, ◌&&◌, ◌≤◌, List, [], ◌∷◌, ◌++◌, map, Option, Some, None, refl, sym, ◌∙◌, ap, subst, append-nil}
 use Rattle.std.specs.Prelude.{find, filter, filter_map, flat_map, is_some, zip}
 use Rattle.std.specs.Bool.{Decides}

@@ -9,7 +9,7 @@ use Rattle.wh_history.specs.Plan.{Needs, edited, Above, Ascends, IsPlan}
 use Rattle.wh_history.specs.declared.plan.Edit.{Edit}
 use Rattle.wh_history.specs.declared.plan.Edit.TheVariants.{Put, Remove}
 use Rattle.wh_history.proofs.Basics.{some_is}
-use Rattle.wh_plan.proofs.Listed.{number_rises}
+use Rattle.wh_rows.proofs.Listed.{number_rises}
 
 -- ---- what is left of a range
 

@@ -17,12 +17,12 @@ use Rattle.wh_history.specs.declared.rows.DimRow.{DimRow}
 use Rattle.wh_history.proofs.Basics.{some_is}
 use Rattle.wh_rows.specs.declared.key.MemberKey.{MemberKey}
 use Rattle.wh_rows.specs.Rows as row
-use Rattle.wh_plan.specs.Defined.{member_at}
-use Rattle.wh_plan.specs.Laws.{ShowsNoProfile}
+use Rattle.wh_rows.specs.Defined.{member_at}
+use Rattle.wh_rows.specs.Laws.{ShowsNoProfile}
 use Rattle.wh_plan.specs.BatchRows.{BatchRows, rows_brought, in_dimension, behind, members_behind, new_members}
 use Rattle.wh_plan.proofs.Plans.{empty_plan, made_mapped}
-use Rattle.wh_plan.proofs.GrownOthers.{same_dim_is, mentions_stay, table_stays, plain_table_stays}
-use Rattle.wh_plan.proofs.GrownPlain.{sound_policies_show_none}
+use Rattle.wh_rows.proofs.GrownOthers.{same_dim_is, mentions_stay, table_stays, plain_table_stays}
+use Rattle.wh_rows.proofs.GrownPlain.{sound_policies_show_none}
 
 -- ---- no member
 

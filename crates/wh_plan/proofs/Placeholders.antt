@@ -17,9 +17,9 @@ use Rattle.wh_history.proofs.Stays.{types-last}
 use Rattle.wh_rows.specs.Rows as row
 use Rattle.wh_plan.specs.Laws.{SalesPutPlaceholders}
 use Rattle.wh_plan.proofs.FoundRows.{row_key, row_past}
-use Rattle.wh_plan.proofs.GrownKeys.{at_front, all_at, then_same, grows_behind}
-use Rattle.wh_plan.proofs.GrownMembers.{Opened, opened_in_all}
-use Rattle.wh_plan.proofs.Listed.{number_rises}
+use Rattle.wh_rows.proofs.GrownKeys.{at_front, all_at, then_same, grows_behind}
+use Rattle.wh_rows.proofs.GrownMembers.{Opened, opened_in_all}
+use Rattle.wh_rows.proofs.Listed.{number_rises}
 use Rattle.wh_plan.proofs.Plans.{grown_plan}
 use Rattle.wh_plan.proofs.Selling.{batch, rows_kept}
 

@@ -16,7 +16,7 @@ use Rattle.wh_history.specs.Plan.{Needs}
 use Rattle.wh_history.specs.declared.plan.Edit.TheVariants.{Put}
 use Rattle.wh_history.proofs.Basics.{some_is}
 use Rattle.wh_rows.specs.Rows as row
-use Rattle.wh_plan.specs.Defined.{day_at}
+use Rattle.wh_rows.specs.Defined.{day_at}
 use Rattle.wh_plan.specs.Edits.{IsTablePlan}
 use Rattle.wh_plan.specs.Migration.{edit_of_day, edit_on, edits_of_days}
 use Rattle.wh_plan.proofs.NumberedPlans.{numbered_plan}

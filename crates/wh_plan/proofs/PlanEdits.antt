@@ -4,7 +4,7 @@ use Rattle.std.specs.Prelude.{filter_map}
 use Rattle.std.specs.List.{range_with_len, cons_option}
 use Rattle.wh_history.specs.Accepted.{Accepted}
 use Rattle.wh_rows.specs.declared.rows.CommandRow.{CommandRow}
-use Rattle.wh_plan.specs.Defined.{command_at}
+use Rattle.wh_rows.specs.Defined.{command_at}
 use Rattle.wh_plan.specs.BatchRows.{behind}
 use Rattle.wh_plan.proofs.FoundCommands.{command_number}
 

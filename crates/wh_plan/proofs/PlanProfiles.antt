@@ -28,11 +28,11 @@ use Rattle.wh_history.proofs.Stays.{types-last, profiles-last}
 use Rattle.wh_history.proofs.Untouched.{described-last}
 use Rattle.wh_rows.specs.Tables.{Tables}
 use Rattle.wh_rows.specs.declared.rows.ProfileRow.{ProfileRow}
-use Rattle.wh_plan.specs.Defined.{AreOf, profile_at}
+use Rattle.wh_rows.specs.Defined.{AreOf, profile_at}
 use Rattle.wh_plan.specs.Profiles.{with_combinations, told_of, said_by, number_kept, learned, is_none, unknown, row_of_profile}
 use Rattle.wh_plan.specs.BatchRows.{behind}
 use Rattle.wh_plan.proofs.FoundProfiles.{number_kept_is}
-use Rattle.wh_plan.proofs.GrownPlain.{none_of}
+use Rattle.wh_rows.proofs.GrownPlain.{none_of}
 use Rattle.wh_plan.proofs.Learning.{any_of, distinct_with, with_append, all_there, any_left, each_change, number_looked_up, number_with, none_known, rows_fresh}
 use Rattle.wh_plan.proofs.PlanningLists.{filter_same, fresh_is}
 

@@ -21,14 +21,14 @@ use Rattle.wh_history.proofs.Untouched.{described-last}
 use Rattle.wh_rows.specs.Rows as row
 use Rattle.wh_rows.specs.Tables.{Tables}
 use Rattle.wh_rows.specs.declared.rows.ProfileRow.{ProfileRow}
-use Rattle.wh_plan.specs.Defined.{AreOf, profile_at}
+use Rattle.wh_rows.specs.Defined.{AreOf, profile_at}
 use Rattle.wh_plan.specs.Edits.{IsTablePlan}
-use Rattle.wh_plan.specs.Migration.{profiles_shown, edit_of_profile, edit_between, edits_of_profiles}
+use Rattle.wh_plan.specs.Migration.{profiles_shown, edit_of_profile, profile_edit_at, edits_of_profiles}
 use Rattle.wh_plan.specs.Profiles.{row_of_profile}
-use Rattle.wh_plan.specs.Sound.{AreTypes}
-use Rattle.wh_plan.proofs.FoundPlaces.{at_place_there}
-use Rattle.wh_plan.proofs.GrownProfiles.{profile_keyed, none_past}
-use Rattle.wh_plan.proofs.Listed.{values-numbered}
+use Rattle.wh_rows.specs.Sound.{AreTypes}
+use Rattle.wh_rows.proofs.FoundPlaces.{at_place_there}
+use Rattle.wh_rows.proofs.GrownProfiles.{profile_keyed, none_past}
+use Rattle.wh_rows.proofs.Listed.{values-numbered}
 use Rattle.wh_plan.proofs.NumberedPlans.{numbered_plan}
 use Rattle.wh_plan.proofs.PlanProfiles.{types_are}
 
@@ -103,10 +103,10 @@ needed n (Some old) (Some new) was is =
     ] refl
 
 module _ (before after : List Accepted) (stored rows : List ProfileRow) (stand : (n : ℕ) → slice_get stored n ≡ profile_at before n) (follow : (n : ℕ) → slice_get rows n ≡ profile_at after n) where
-  edit_is : (n : ℕ) → edit_between stored rows n ≡ edit_of_profile n (profile_at before n) (profile_at after n)
+  edit_is : (n : ℕ) → profile_edit_at stored rows n ≡ edit_of_profile n (profile_at before n) (profile_at after n)
   edit_is n = ap (λ o. edit_of_profile n o (slice_get rows n)) (stand n) ∙ ap (edit_of_profile n (profile_at before n)) (follow n)
 
-  no_edit : (n : ℕ) → 0 + max (length stored) (length rows) ≤ n → edit_between stored rows n ≡ None
+  no_edit : (n : ℕ) → 0 + max (length stored) (length rows) ≤ n → profile_edit_at stored rows n ≡ None
   no_edit n past =
       let old = get_past n stored (omega arith) in
       let new = get_past n rows (omega arith) in
@@ -114,7 +114,7 @@ module _ (before after : List Accepted) (stored rows : List ProfileRow) (stand :
 
   profiles_plan : IsTablePlan row.profile (profile_at before) (profile_at after) (edits_of_profiles stored rows)
   profiles_plan =
-      numbered_plan (λ (r : ProfileRow). r.number) (profile_at before) (profile_at after) (profile_keyed after) (edit_between stored rows)
+      numbered_plan (λ (r : ProfileRow). r.number) (profile_at before) (profile_at after) (profile_keyed after) (profile_edit_at stored rows)
       (λ n. subst (Needs n (profile_at before n) (profile_at after n)) (sym (edit_is n)) (needed n (profile_at before n) (profile_at after n) (profile_keyed before n) (profile_keyed after n)))
       0 (max (length stored) (length rows)) (λ n below. absurd (omega arith)) no_edit
 
@@ -129,7 +129,7 @@ module _ (commands : List Accepted) (c : Accepted) (gives : governs c.content �
   kinds_are : kinds ≡ types_in Customer (commands ++ c ∷ [])
   kinds_are = typed.are ∙ sym (types_are Customer (commands ++ c ∷ []) typed.policy typed.governed)
 
-  -- it brings no record, and the types under which they are told
+  -- it brings no record, and the types under which they are read
   pub combinations_after : combinations_of kinds (described Customer commands) ≡ profiles_of (commands ++ c ∷ [])
   combinations_after =
       let same : described Customer (commands ++ c ∷ []) ≡ described Customer commands = described-last Customer commands c ∙ ap (λ (rs : List DimensionRecord). described Customer commands ++ rs) (none_described Customer c.content gives) ∙ append-nil (described Customer commands) in

@@ -1,4 +1,4 @@
--- The rows of the members that a batch touches, as they are read, and the edits between them and those behind it.
+-- The rows of the members that a batch touches, as they are read, and the edits between them and those after it.
 use Rattle.std.proofs.Common.{◌≡◌, ℕ, zero, suc, ◌+◌, ◌<◌, ◌==◌, Bool, true, false, cond, nat_lt, List, [], ◌∷◌, ◌++◌, length, map, drop, get_or, Option, None, refl, sym, ◌∙◌, ap, arith, append-nil}
 use Rattle.std.specs.Prelude.{◌≢◌, flat_map, option_map, unwrap_or}
 use Rattle.std.specs.List.{list_any, AllByRecursion}
@@ -24,10 +24,10 @@ use Rattle.wh_history.specs.declared.member.Member.{Member}
 use Rattle.wh_history.specs.declared.plan.Edit.{Edit}
 use Rattle.wh_history.specs.declared.rows.DimRow.{DimRow}
 use Rattle.wh_history.proofs.Stays.{policy_last}
-use Rattle.wh_plan.specs.Laws.{ShowsNoProfile}
+use Rattle.wh_rows.specs.Laws.{ShowsNoProfile}
 use Rattle.wh_plan.specs.NewRows.{naturals_told, rows_of_members, members_among}
-use Rattle.wh_plan.specs.Sound.{AreTypes}
-use Rattle.wh_plan.proofs.GrownPlain.{none_of}
+use Rattle.wh_rows.specs.Sound.{AreTypes}
+use Rattle.wh_rows.proofs.GrownPlain.{none_of}
 use Rattle.wh_plan.proofs.PlanningOwners.{touched_rows_before, touched_rows_after}
 use Rattle.wh_plan.proofs.PlanningRendered.{rendered_planned}
 use Rattle.wh_plan.proofs.PlanningTable.{touched_rows_are_the_plan}

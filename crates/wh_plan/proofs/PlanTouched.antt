@@ -23,7 +23,7 @@ stored_in list natural = unwrap_or (named list natural) (nothing_stored natural)
 pub named_so : (list : List Member) (natural : List ℕ) (m : Member) → named list natural ≡ Some m → m.natural ≡ natural
 named_so list natural m is = (bytes_eq-Decides m.natural natural).0 (find_passes (λ (q : Member). bytes_eq q.natural natural) m list is)
 
--- of what is stored only the members that are told matter
+-- of what is stored only the members that records mention matter
 told_alone : (f g : List ℕ → Member) (t : Touched) (rs : List DimensionRecord) → AllByRecursion (λ r. f r.natural ≡ g r.natural) rs → touched f t rs ≡ touched g t rs
 told_alone f g t [] same = refl
 told_alone f g t (r ∷ rs) same =
@@ -42,7 +42,7 @@ module _ (dim : Dim) (commands : List Accepted) (rs : List DimensionRecord) wher
   reads_are [] among = tt
   reads_are (q ∷ qs) among = (read_is q.natural among.0, reads_are qs among.1)
 
-  -- so reads of those lead to the members behind the batch
+  -- so reads of those lead to the members after the batch
   pub touched_from : (c : Accepted) → c.content ≡ Describes dim rs → (stored : List Member) → stored ≡ read → (given_members given_anchors : ℕ) → given_members ≡ length (members dim commands) → given_anchors ≡ length (anchors dim commands)
       → touched (stored_in stored) (untouched given_members given_anchors) rs ≡ touched_by dim commands (commands ++ c ∷ []) rs
   touched_from c is stored stored_is given_members given_anchors members_are anchors_are =

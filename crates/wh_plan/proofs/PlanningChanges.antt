@@ -18,10 +18,10 @@ use Rattle.wh_history.proofs.Basics.{first_or}
 use Rattle.wh_history.proofs.Once.{among_distinct}
 use Rattle.wh_history.proofs.Records.{anchor_is}
 use Rattle.wh_rows.specs.declared.rows.ChangeRow.{ChangeRow}
-use Rattle.wh_plan.specs.Defined.{change_at}
+use Rattle.wh_rows.specs.Defined.{change_at}
 use Rattle.wh_plan.specs.BatchRows.{behind}
 use Rattle.wh_plan.specs.NewRows.{by_place, row_of_record, named, new_change}
-use Rattle.wh_plan.proofs.GrownKeys.{at_last}
+use Rattle.wh_rows.proofs.GrownKeys.{at_last}
 use Rattle.wh_plan.proofs.PlanningMembers.{Among, all_among, naturals, twice}
 use Rattle.wh_plan.proofs.PlanningPlaces.{filter_map_same, by_place_same, behind_gives}
 

@@ -26,7 +26,7 @@ use Rattle.wh_history.proofs.Owners.{all_distinct}
 use Rattle.wh_history.proofs.Places.{place-distinct_given}
 use Rattle.wh_history.proofs.Untouched.{mentions-last}
 use Rattle.wh_rows.specs.declared.rows.MemberRow.{MemberRow}
-use Rattle.wh_plan.specs.Defined.{member_at}
+use Rattle.wh_rows.specs.Defined.{member_at}
 use Rattle.wh_plan.specs.BatchRows.{behind}
 use Rattle.wh_plan.specs.NewRows.{row_of_member, new_member}
 use Rattle.wh_plan.proofs.PlanningLists.{filter_same, filter_twice, fresh_is}
@@ -69,7 +69,7 @@ pub twice : {X Y Z : Type 0} (f : Y → Z) (g : X → Y) (o : Option X) → opti
 twice f g None = refl
 twice f g (Some x) = refl
 
--- ---- the rows of members whose durable keys are behind those that were given
+-- ---- the rows of members whose durable keys are after those that were given
 
 module _ (dim : Dim) (commands after : List Accepted) where
   abbrev is_later : List ℕ → Bool
@@ -138,7 +138,7 @@ module _ (dim : Dim) (commands : List Accepted) (c : Accepted) (rs : List Dimens
       ∙ ap (λ b. front || b) (named_twice n rs among) ∙ or_true front in
       place-distinct_given bytes_eq bytes_eq-Decides n (members_in (mentions dim after)) all
 
-  -- and one behind all that were given, where nothing mentioned it before
+  -- and one after all that were given, where nothing mentioned it before
   pub new_is : (n : List ℕ) → Among (naturals rs) n → not (list_any (λ m. bytes_eq m n) before) ≡ nat_lt (length (members dim commands)) (durable_key dim after n)
   new_is n among =
       let count = length (members dim commands) in

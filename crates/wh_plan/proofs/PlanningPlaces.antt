@@ -29,7 +29,7 @@ by_place_same f g n (x ∷ xs) all = ap (λ o. cons_option o (by_place f (suc n)
 pub one_longer : {X : Type 0} (front : List X) (x : X) → length (front ++ x ∷ []) ≡ suc (length front)
 one_longer front x = length-append front (x ∷ []) ∙ omega arith
 
--- the places behind the front of a list give what its back gives
+-- the places after the front of a list give what its back gives
 given_behind : {X Y : Type 0} (give : ℕ → X → Option Y) (whole front back : List X) → whole ≡ front ++ back
     → filter_map (λ n. option_and_then (give n) (at_place n whole)) (range_with_len (suc (length front)) (length back)) ≡ by_place give (suc (length front)) back
 given_behind give whole front [] is = refl

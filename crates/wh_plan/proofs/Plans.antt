@@ -14,7 +14,7 @@ use Rattle.wh_rows.specs.Holds.{Layout}
 use Rattle.wh_store.specs.Edits.{Puts, with_edit}
 use Rattle.wh_plan.specs.BatchRows.{behind}
 use Rattle.wh_plan.specs.Edits.{with_edits, IsTablePlan}
-use Rattle.wh_plan.proofs.WrittenRows.{AmongKeys, Grows, among_mapped, among_range}
+use Rattle.wh_rows.proofs.Growing.{AmongKeys, Grows, among_mapped, among_range}
 use Rattle.wh_plan.proofs.Exact as exact
 
 pub made_mapped : {X Y Z : Type 0} (f : X → Y) (make : Y → Option Z) (xs : List X) → filter_map make (map f xs) ≡ filter_map (λ x. make (f x)) xs

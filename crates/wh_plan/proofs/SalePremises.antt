@@ -9,14 +9,14 @@ use Rattle.wh_history.specs.declared.plan.Edit.TheVariants.{Put}
 use Rattle.wh_history.specs.Accepted.{Accepted, Sells, anchors, members, placeholders_by, sold}
 use Rattle.wh_history.specs.Tables.{Limits}
 use Rattle.wh_plan.specs.BatchRows.{new_members}
-use Rattle.wh_plan.specs.Defined.{fact_at, member_at}
+use Rattle.wh_rows.specs.Defined.{fact_at, member_at}
 use Rattle.wh_plan.specs.Edits.{Edits, AreEdits}
-use Rattle.wh_plan.specs.Sound.{same_line, IsAccepted}
+use Rattle.wh_rows.specs.Sound.{same_line, IsAccepted}
 use Rattle.wh_plan.proofs.BatchPlans.{members_are}
 use Rattle.wh_plan.proofs.SalesEdits.{members_joined, all_counted}
-use Rattle.wh_plan.proofs.SameLines.{line_stored}
+use Rattle.wh_rows.proofs.SameLines.{line_stored}
 use Rattle.wh_plan.proofs.Selling.{sold_more}
-use Rattle.wh_plan.proofs.SmallNumbers.{anchors_few, members_few}
+use Rattle.wh_rows.proofs.SmallNumbers.{anchors_few, members_few}
 
 -- ---- the second part of a list whose elements are distinct
 

@@ -17,10 +17,10 @@ use Rattle.wh_history.specs.declared.rows.DimRow.{DimRow}
 use Rattle.wh_rows.specs.declared.rows.ChangeRow.{ChangeRow}
 use Rattle.wh_rows.specs.declared.rows.CommandRow.{CommandRow}
 use Rattle.wh_rows.specs.declared.rows.MemberRow.{MemberRow}
-use Rattle.wh_plan.specs.Defined.{command_at, member_at, change_at, profile_at, fact_at}
+use Rattle.wh_rows.specs.Defined.{command_at, member_at, change_at, profile_at, fact_at}
 use Rattle.wh_plan.specs.Edits.{IsFactPlan}
 use Rattle.wh_plan.specs.BatchRows.{BatchRows, AreBatchRows, rows_brought, behind, members_behind, new_members}
-use Rattle.wh_plan.proofs.GrownKeys.{at_last}
+use Rattle.wh_rows.proofs.GrownKeys.{at_last}
 use Rattle.wh_plan.proofs.OneDimension.{none_behind}
 use Rattle.wh_plan.proofs.Plans.{made_mapped}
 use Rattle.wh_plan.proofs.Placeholders.{sales_put_placeholders}

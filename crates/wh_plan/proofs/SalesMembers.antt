@@ -21,8 +21,8 @@ use Rattle.wh_history.proofs.Places.{anchors_decide, place-distinct_given}
 use Rattle.wh_history.proofs.Untouched.{mentions-last}
 use Rattle.wh_plan.specs.SoldMembers.{naturals_sold, numbered}
 use Rattle.wh_plan.proofs.FoundStored.{member_absent}
-use Rattle.wh_plan.proofs.GrownChanges.{natural_among}
-use Rattle.wh_plan.proofs.GrownMembers.{Opened, opened_in_all}
+use Rattle.wh_rows.proofs.GrownChanges.{natural_among}
+use Rattle.wh_rows.proofs.GrownMembers.{Opened, opened_in_all}
 use Rattle.wh_plan.proofs.PlanningLists.{fresh_is}
 use Rattle.wh_plan.proofs.PlanningPlaces.{place_here}
 use Rattle.wh_plan.proofs.Selling.{changes_kept}
@@ -223,7 +223,7 @@ module _ (dim : Dim) (commands : List Accepted) (c : Accepted) (sales : List Sal
         | false ↦ λ old. rw (durable_old n (suc (members_so_far front)) old, opening_old n (suc (anchors_so_far front)) old, changes_kept commands c sales is dim n) refl
       ] refl
 
-  -- and how many have numbers behind it
+  -- and how many have numbers after it
   one_counted : (front : List (List ℕ)) (n : List ℕ) (count number : ℕ) → (is_new n ≡ true → number ≡ 0) → (is_new n ≡ false → 0 < number)
       → grown number (count + length (filter is_new front)) ≡ count + length (filter is_new (front ++ n ∷ []))
   one_counted front n count number none some =
@@ -250,7 +250,7 @@ module _ (dim : Dim) (commands : List Accepted) (c : Accepted) (sales : List Sal
   none_yet : (count : ℕ) → count ≡ count + 0
   none_yet count = omega arith
 
-  -- the members with their numbers are as they are behind the batch
+  -- the members with their numbers are as they are after the batch
   pub sold_numbered : numbered (length (members dim commands)) (length (anchors dim commands)) (map (member_of dim commands) (naturals_sold dim sales)) ≡ map (member_of dim (commands ++ c ∷ [])) (naturals_sold dim sales)
   sold_numbered =
       ap (λ k. numbered k (length (anchors dim commands)) (map (member_of dim commands) ns)) (none_yet (length (members dim commands)))

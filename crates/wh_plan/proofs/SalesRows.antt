@@ -24,7 +24,7 @@ use Rattle.wh_history.proofs.Once.{IsOnce, once_distinct}
 use Rattle.wh_history.proofs.Places.{anchors_decide}
 use Rattle.wh_history.proofs.Stays.{policy_last}
 use Rattle.wh_rows.specs.declared.rows.MemberRow.{MemberRow}
-use Rattle.wh_plan.specs.Defined.{member_at}
+use Rattle.wh_rows.specs.Defined.{member_at}
 use Rattle.wh_history.specs.Known.{KnowsEnough}
 use Rattle.wh_history.proofs.Knowing.{rows_enough}
 use Rattle.wh_history.specs.Shapes.{Shape, shape_after, rendered_in}
@@ -49,7 +49,7 @@ one_row kinds combinations m none =
 from_opening : (kinds : List AttributeType) (combinations : List (List (List ℕ))) (m : Member) → (whole_time kinds combinations m).surrogate ≡ m.opening
 from_opening kinds combinations m = refl
 
--- ---- each number behind those that were given is that of an anchor
+-- ---- each number after those that were given is that of an anchor
 
 numbered_behind : (commands : List Accepted) (dim : Dim) (key : ℕ) → 0 < key → dimension_row commands dim key ≡ numbered_row commands dim key
 numbered_behind commands Product key given = refl
@@ -98,7 +98,7 @@ module _ (commands : List Accepted) (dim : Dim) where
       ∙ behind_gives give (anchors dim commands) there (map opening_of new) split
       ∙ placed there new split blank
 
-  -- what the members give: only those behind the number that was given have a row
+  -- what the members give: only those after the number that was given have a row
   placeholders_are : (given : ℕ) (ns : List (List ℕ)) → AllByRecursion (λ n. changes_of dim commands n ≡ []) (filter (λ n. nat_lt given (durable_key dim commands n)) ns)
       → filter_map (placeholder given) (map (rendered_in (shape_after dim commands)) (map (member_of dim commands) ns)) ≡ map row_of_new (filter (λ n. nat_lt given (durable_key dim commands n)) ns)
   placeholders_are given [] blank = refl

@@ -25,13 +25,13 @@ use Rattle.wh_history.proofs.Stays.{types-last}
 use Rattle.wh_history.proofs.Untouched.{described-last}
 use Rattle.wh_rows.specs.Rows as row
 use Rattle.wh_rows.specs.declared.key.LineKey.{LineKey}
-use Rattle.wh_plan.specs.Defined.{fact_at}
+use Rattle.wh_rows.specs.Defined.{fact_at}
 use Rattle.wh_plan.specs.Laws.{SalesAreFacts}
 use Rattle.wh_plan.specs.BatchRows.{has_line}
-use Rattle.wh_plan.proofs.Following.{Named, all_named, durable_kept, customer_kept}
-use Rattle.wh_plan.proofs.GrownChanges.{natural_among}
+use Rattle.wh_rows.proofs.Following.{Named, all_named, durable_kept, customer_kept}
+use Rattle.wh_rows.proofs.GrownChanges.{natural_among}
 use Rattle.wh_plan.proofs.GrownFacts.{found_mapped, facts_once, or_none}
-use Rattle.wh_plan.proofs.GrownKeys.{found_is, map_same}
+use Rattle.wh_rows.proofs.GrownKeys.{found_is, map_same}
 
 module _ (commands : List Accepted) (c : Accepted) (sales : List SaleRecord) (is : c.content ≡ Sells sales) where
   abbrev after : List Accepted

@@ -18,7 +18,7 @@ use Rattle.wh_rows.specs.declared.key.MemberKey.{MemberKey}
 use Rattle.wh_rows.specs.declared.key.LineKey.{LineKey}
 use Rattle.wh_rows.specs.Rows as row
 use Rattle.wh_plan.specs.declared.edits.FactEdit.{FactEdit}
-use Rattle.wh_plan.specs.Defined.{command_at, member_at, change_at, profile_at, fact_at}
+use Rattle.wh_rows.specs.Defined.{command_at, member_at, change_at, profile_at, fact_at}
 use Rattle.wh_plan.specs.Edits.{IsFactPlan}
 
 -- its own row, those of the members that it is the first to mention, of its records and of new profiles, the edits of facts, and those of the rows of the three dimensions

@@ -9,7 +9,6 @@ use Rattle.wh_policy.specs.Types.{is_profile}
 use Rattle.wh_policy.specs.declared.attribute.AttributeType.{AttributeType}
 use Rattle.wh_policy.specs.declared.attribute.Dim.{Dim}
 use Rattle.wh_policy.specs.declared.policy.Policy.{Policy}
-use Rattle.wh_history.specs.Accepted.{Accepted, Governs}
 use Rattle.wh_history.specs.Slots.{columns_from, six}
 use Rattle.wh_history.specs.declared.rows.DimRow.{DimRow}
 use Rattle.wh_rows.specs.Rows as row
@@ -17,13 +16,9 @@ use Rattle.wh_rows.specs.Tables.{Tables}
 use Rattle.wh_rows.specs.declared.rows.CommandRow.{CommandRow}
 use Rattle.wh_rows.specs.declared.rows.ProfileRow.{ProfileRow}
 use Rattle.wh_store.specs.Edits.{with_row, IsValid}
-use Rattle.wh_plan.specs.Defined.{day_at}
+use Rattle.wh_rows.specs.Defined.{day_at}
 use Rattle.wh_plan.specs.Edits.{with_rows}
 use Rattle.wh_plan.specs.BatchRows.{behind}
-
--- the command that a making is
-abbrev pub making_of : Policy → List ℕ → Accepted
-making_of policy bytes = record { id = codes "init"; kind = codes "init"; bytes = bytes; content = Governs policy }
 
 -- up to six attributes a dimension, and holidays whose names are text
 pub record IsGoodPolicy (policy : Policy) : Type 0 where

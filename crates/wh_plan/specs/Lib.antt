@@ -1,11 +1,9 @@
-pub mod Defined
 pub mod Reading
 pub mod Reads
 pub mod Edits
 pub mod BatchRows
 pub mod FactEdits
 pub mod Writable
-pub mod Sound
 pub mod FirstRows
 pub mod Migration
 pub mod NewRows

@@ -52,7 +52,7 @@ pub record ArePlannedAnew (before after : List Accepted) (planned : MigratedRows
   pub stores : IsRowPlan (dimension_row before Store) (dimension_row after Store) planned.stores.items
   pub customers : IsRowPlan (dimension_row before Customer) (dimension_row after Customer) planned.customers.items
 
--- the rows of a dimension's table: those of each member, one member after the other, behind that of sales without a card
+-- the rows of a dimension's table: those of each member, one member after the other, after that of sales without a card
 abbrev pub all_rows : Shape → List Member → List DimRow
 all_rows shape ms = first_rows shape.dim shape.kinds ++ flat_map (rows_in shape) ms
 

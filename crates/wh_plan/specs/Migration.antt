@@ -15,7 +15,7 @@ use Rattle.wh_history.specs.declared.plan.Edit.TheVariants.{Put, Remove}
 use Rattle.wh_rows.specs.Rows as row
 use Rattle.wh_rows.specs.declared.rows.ChangeRow.{ChangeRow}
 use Rattle.wh_rows.specs.declared.rows.ProfileRow.{ProfileRow}
-use Rattle.wh_plan.specs.Defined.{day_at, profile_at}
+use Rattle.wh_rows.specs.Defined.{day_at, profile_at}
 use Rattle.wh_plan.specs.Edits.{IsTablePlan}
 use Rattle.wh_plan.specs.BatchRows.{behind}
 use Rattle.wh_plan.specs.FirstRows.{first_profiles}
@@ -63,11 +63,11 @@ edit_of_profile number None (Some new) = Some (Put new)
 edit_of_profile number (Some old) (Some new) = if are_same old.values new.values then None else Some (Put new)
 
 -- the edits between rows whose numbers are their places
-abbrev pub edit_between : List ProfileRow → List ProfileRow → ℕ → Option (Edit ProfileRow ℕ)
-edit_between stored rows number = edit_of_profile number (slice_get stored number) (slice_get rows number)
+abbrev pub profile_edit_at : List ProfileRow → List ProfileRow → ℕ → Option (Edit ProfileRow ℕ)
+profile_edit_at stored rows number = edit_of_profile number (slice_get stored number) (slice_get rows number)
 
 abbrev pub edits_of_profiles : List ProfileRow → List ProfileRow → List (Edit ProfileRow ℕ)
-edits_of_profiles stored rows = filter_map (edit_between stored rows) (range_with_len 0 (max (length stored) (length rows)))
+edits_of_profiles stored rows = filter_map (profile_edit_at stored rows) (range_with_len 0 (max (length stored) (length rows)))
 
 -- All combinations are known under their numbers after a command, and the edits lead from the profiles before it to those after it.
 pub record IsRenumbered (before after : List Accepted) (profiles : Renumbered) : Type 0 where

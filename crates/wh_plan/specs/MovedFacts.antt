@@ -17,8 +17,8 @@ use Rattle.wh_history.specs.declared.member.Member.{Member}
 use Rattle.wh_rows.specs.Rows as row
 use Rattle.wh_rows.specs.Tables.{Tables}
 use Rattle.wh_rows.specs.Questions.{durable_of}
-use Rattle.wh_plan.specs.Defined.{AreOf, fact_at}
-use Rattle.wh_plan.specs.Laws.{ShowsNoProfile}
+use Rattle.wh_rows.specs.Defined.{AreOf, fact_at}
+use Rattle.wh_rows.specs.Laws.{ShowsNoProfile}
 use Rattle.wh_plan.specs.BatchRows.{AreFacts, AreRekeyed}
 use Rattle.wh_plan.specs.declared.touched.TouchedMember.{TouchedMember}
 use Rattle.wh_plan.specs.NewRows.{members_among, naturals_told}

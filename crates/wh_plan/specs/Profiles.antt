@@ -15,7 +15,7 @@ use Rattle.wh_history.specs.declared.profiles.Numbered.{Numbered}
 use Rattle.wh_rows.specs.declared.rows.ProfileRow.{ProfileRow}
 use Rattle.wh_rows.specs.Rows as row
 use Rattle.wh_store.specs.Reads.{same_slots}
-use Rattle.wh_plan.specs.Defined.{profile_at}
+use Rattle.wh_rows.specs.Defined.{profile_at}
 use Rattle.wh_plan.specs.BatchRows.{behind}
 use Rattle.wh_plan.specs.declared.profiles.Learned.{Learned}
 

@@ -10,7 +10,7 @@ use Rattle.wh_history.specs.declared.member.Change.{Change}
 use Rattle.wh_history.specs.declared.rows.DimRow.{DimRow}
 use Rattle.wh_rows.specs.declared.rows.CommandRow.{CommandRow}
 use Rattle.wh_rows.specs.declared.rows.ChangeRow.{ChangeRow}
-use Rattle.wh_plan.specs.Defined.{command_at}
+use Rattle.wh_rows.specs.Defined.{command_at}
 
 -- no two commands have one id
 abbrev pub HaveDistinctIds : List Accepted → Type 0
@@ -21,12 +21,12 @@ abbrev pub HaveNoEmptyValue : List Accepted → Type 0
 HaveNoEmptyValue commands = (dim : Dim) → AllByRecursion (λ r. AllByRecursion (λ text. text ≢ []) r.values) (described dim commands)
 
 -- the number of the command with an id, and 0 where none has it
-abbrev pub number_of : List Accepted → List ℕ → ℕ
-number_of commands id = place bytes_eq id (map (λ c. c.id) commands)
+abbrev pub number_by_id : List Accepted → List ℕ → ℕ
+number_by_id commands id = place bytes_eq id (map (λ c. c.id) commands)
 
 -- and its row
 abbrev pub command_with : List Accepted → List ℕ → Option CommandRow
-command_with commands id = command_at commands (number_of commands id)
+command_with commands id = command_at commands (number_by_id commands id)
 
 -- the text of a slot that a record gave; it is stored empty where the record gave none
 abbrev pub given_text : List ℕ → List ℕ

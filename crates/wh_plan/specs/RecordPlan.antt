@@ -9,7 +9,7 @@ use Rattle.wh_history.specs.Plan.{row_of}
 use Rattle.wh_history.specs.Touched.{touched_by}
 use Rattle.wh_history.specs.declared.dimension.Dimension.{Dimension}
 use Rattle.wh_history.specs.declared.member.Member.{Member}
-use Rattle.wh_plan.specs.Defined.{fact_at, profile_at}
+use Rattle.wh_rows.specs.Defined.{fact_at, profile_at}
 use Rattle.wh_plan.specs.BatchRows.{AreFacts, AreRekeyed, behind}
 use Rattle.wh_plan.specs.NewRows.{naturals_told, rows_of_members, members_among}
 use Rattle.wh_plan.specs.declared.record_plan.Found.{Found}

@@ -15,7 +15,7 @@ use Rattle.wh_history.specs.declared.facts.MemberKeys.{MemberKeys}
 use Rattle.wh_history.specs.declared.member.Member.{Member}
 use Rattle.wh_history.specs.declared.plan.Edit.TheVariants.{Put}
 use Rattle.wh_history.specs.declared.rows.DimRow.{DimRow}
-use Rattle.wh_plan.specs.Defined.{member_at}
+use Rattle.wh_rows.specs.Defined.{member_at}
 use Rattle.wh_plan.specs.BatchRows.{behind}
 use Rattle.wh_plan.specs.declared.sold_dimension.SoldDimension.{SoldDimension}
 

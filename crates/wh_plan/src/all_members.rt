@@ -8,7 +8,7 @@ ghost use Rattle.wh_history.specs.Keys.{at_place};
 ghost use Rattle.wh_plan.specs.Reading.{HaveNoEmptyValue};
 ghost use Rattle.wh_plan.specs.Reads.{Finds};
 ghost use Rattle.wh_plan.specs.Migrated.{all_members, AreDimensionMembers, AreWarehouseMembers};
-ghost use Rattle.wh_plan.specs.Sound.{IsAccepted};
+ghost use Rattle.wh_rows.specs.Sound.{IsAccepted};
 ghost use Rattle.wh_store.specs.Reads.{ReadsOnly, state_of};
 
 use crate::reading::{last_member, stored_changes};

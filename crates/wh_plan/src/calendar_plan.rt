@@ -3,7 +3,7 @@
 ghost use Rattle.std.specs.Prelude.{◌≡◌, true, IfOk};
 ghost use Rattle.wh_policy.specs.Names.{fits};
 ghost use Rattle.wh_rows.specs.Rows as row;
-ghost use Rattle.wh_plan.specs.Defined.{day_at};
+ghost use Rattle.wh_rows.specs.Defined.{day_at};
 ghost use Rattle.wh_plan.specs.Edits.{IsTablePlan};
 ghost use Rattle.wh_plan.specs.Migration.{edit_of_day, edit_on};
 

@@ -1,7 +1,8 @@
 //! Laws of the tables that accepted commands define. They speak of the definitions alone and do nothing.
 
 ghost use Rattle.wh_plan.specs.MovedFacts.{MovedFactsAreExact};
-ghost use Rattle.wh_plan.specs.Laws.{AcceptedListsBegin, CommandsMayBeWritten, EditsAreWritten, ExactEditsAreOne, FactsAreEffective, LateRecordsMoveFacts, NoEditsStay, SalesAreFacts, SalesPutPlaceholders, SecondKeysAreApart, SoundPoliciesShowNone, TouchedRowsAfter, TouchedRowsAreThePlan, TouchedRowsBefore, UntouchedMembersKeep};
+ghost use Rattle.wh_plan.specs.Laws.{CommandsMayBeWritten, EditsAreWritten, ExactEditsAreOne, NoEditsStay, SalesAreFacts, SalesPutPlaceholders, TouchedRowsAfter, TouchedRowsAreThePlan, TouchedRowsBefore};
+ghost use Rattle.wh_rows.specs.Laws.{AcceptedListsBegin, FactsAreEffective, LateRecordsMoveFacts, SecondKeysAreApart, SoundPoliciesShowNone, UntouchedMembersKeep};
 
 /// From the tables of some accepted commands the exact edits lead to those of others, in all ten tables.
 pub fn edits_are_written()
@@ -51,7 +52,7 @@ pub fn touched_rows_are_the_plan()
     ensures after { TouchedRowsAfter }
 {}
 
-/// Behind a batch of records each stored fact has the keys that its member's rows of that dimension then give it, and its
+/// After a batch of records each stored fact has the keys that its member's rows of that dimension then give it, and its
 /// other keys as they were. A late record moves facts of its own member alone.
 pub fn late_records_move_facts()
     ensures { LateRecordsMoveFacts }

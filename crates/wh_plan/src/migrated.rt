@@ -12,11 +12,11 @@ ghost use Rattle.wh_history.specs.Laws.{RecordsHaveDays, governs};
 ghost use Rattle.wh_history.specs.Plan.{IsRowPlan};
 ghost use Rattle.wh_history.specs.Shapes.{shape_of, rendered_in};
 ghost use Rattle.wh_history.specs.Tables.{dimension_row, dimension_table};
-ghost use Rattle.wh_plan.specs.Defined.{fact_at};
+ghost use Rattle.wh_rows.specs.Defined.{fact_at};
 ghost use Rattle.wh_plan.specs.Edits.{IsFactPlan};
 ghost use Rattle.wh_plan.specs.Reads.{Finds, Tells};
 ghost use Rattle.wh_plan.specs.Migrated.{all_rows, keys_anew, keys_given, moved_anew, showing, AreWarehouseMembers, ArePlannedAnew, AreAllShown, AreShown, AreDimensionMembers, IsMigrated};
-ghost use Rattle.wh_plan.specs.Sound.{IsAccepted};
+ghost use Rattle.wh_rows.specs.Sound.{IsAccepted};
 ghost use Rattle.wh_store.specs.Reads.{ReadsOnly, state_of};
 
 use crate::all_members::{DimensionMembers, WarehouseMembers};

@@ -4,10 +4,10 @@ ghost use Rattle.std.specs.Prelude.{◌≡◌, ◌++◌, ◌∷◌, [], suc, tru
 ghost use Rattle.wh_policy.specs.Names.{fits};
 ghost use Rattle.wh_policy.specs.Written.{IsSound};
 ghost use Rattle.wh_history.specs.Accepted.{Accepted, Governs, policy_after};
-ghost use Rattle.wh_plan.specs.Defined.{command_at};
+ghost use Rattle.wh_rows.specs.Defined.{command_at};
 ghost use Rattle.wh_plan.specs.Edits.{AreEdits};
 ghost use Rattle.wh_plan.specs.Reads.{Finds};
-ghost use Rattle.wh_plan.specs.Sound.{IsAccepted};
+ghost use Rattle.wh_rows.specs.Sound.{IsAccepted};
 ghost use Rattle.wh_store.specs.Reads.{ReadsOnly, state_of};
 
 use crate::all_members::read_dimensions;

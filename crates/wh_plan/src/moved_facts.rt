@@ -6,13 +6,13 @@ ghost use Rattle.wh_history.specs.Accepted.{Accepted, Describes, member_of, prof
 ghost use Rattle.wh_history.specs.Known.{number_in, KnowsEnough};
 ghost use Rattle.wh_history.specs.Shapes.{shape_of};
 ghost use Rattle.wh_history.specs.Touched.{touched_by};
-ghost use Rattle.wh_plan.specs.Defined.{fact_at};
+ghost use Rattle.wh_rows.specs.Defined.{fact_at};
 ghost use Rattle.wh_plan.specs.BatchRows.{AreFacts, AreRekeyed};
 ghost use Rattle.wh_plan.specs.MovedFacts.{earliest, moves_since, moved_of_touched, pair_of, rekeyed_facts};
 ghost use Rattle.wh_plan.specs.NewRows.{Records, naturals_told};
 ghost use Rattle.wh_store.specs.Reads.{ReadsOnly, state_of};
 ghost use Rattle.wh_plan.specs.Reads.{Finds, Tells};
-ghost use Rattle.wh_plan.specs.Sound.{AreTypes, IsAccepted};
+ghost use Rattle.wh_rows.specs.Sound.{AreTypes, IsAccepted};
 
 use crate::touched::{TouchedMember, touched_pairs};
 use sqlite::Alter;

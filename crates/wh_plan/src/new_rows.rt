@@ -6,7 +6,7 @@ ghost use Rattle.wh_history.specs.Accepted.{Accepted, Describes, members, profil
 ghost use Rattle.wh_history.specs.Known.{number_in, KnowsEnough};
 ghost use Rattle.wh_history.specs.Shapes.{shape_of, rows_in};
 ghost use Rattle.wh_history.specs.Touched.{touched_by};
-ghost use Rattle.wh_plan.specs.Defined.{member_at, change_at};
+ghost use Rattle.wh_rows.specs.Defined.{member_at, change_at};
 ghost use Rattle.wh_plan.specs.BatchRows.{behind};
 ghost use Rattle.wh_plan.specs.NewRows.{Records, rows_of_members, naturals_told, by_place, row_of_member, new_member, row_of_record, new_change};
 

@@ -14,7 +14,7 @@ ghost use Rattle.wh_plan.specs.Migration.{stored_by, profiles_shown, edit_of_pro
 ghost use Rattle.wh_plan.specs.Profiles.{with_combinations};
 ghost use Rattle.wh_plan.specs.Reading.{HaveNoEmptyValue};
 ghost use Rattle.wh_plan.specs.Reads.{Finds, Tells};
-ghost use Rattle.wh_plan.specs.Sound.{AreTypes, IsAccepted};
+ghost use Rattle.wh_rows.specs.Sound.{AreTypes, IsAccepted};
 
 use crate::first_profiles::first_profiles;
 use crate::profiles::{FIRST, add_combination, add_fresh};

@@ -12,7 +12,7 @@ ghost use Rattle.wh_history.specs.Slots.{are_same};
 ghost use Rattle.wh_plan.specs.Profiles.{with_combination, with_combinations, told_of, said_of, said_by, number_kept, learned, is_none, unknown, row_of_profile, IsLearned};
 ghost use Rattle.wh_store.specs.Reads.{ReadsOnly, state_of};
 ghost use Rattle.wh_plan.specs.Reads.{Finds, Tells};
-ghost use Rattle.wh_plan.specs.Sound.{AreTypes, IsAccepted};
+ghost use Rattle.wh_rows.specs.Sound.{AreTypes, IsAccepted};
 
 use crate::batch::Batch;
 use sqlite::Alter;

@@ -11,7 +11,7 @@ ghost use Rattle.wh_history.specs.Laws.{RecordsHaveDays};
 ghost use Rattle.wh_history.specs.Plan.{IsRowPlan, row_of};
 ghost use Rattle.wh_history.specs.Tables.{dimension_row};
 ghost use Rattle.wh_history.specs.Touched.{touched_by};
-ghost use Rattle.wh_plan.specs.Defined.{command_at};
+ghost use Rattle.wh_rows.specs.Defined.{command_at};
 ghost use Rattle.wh_plan.specs.Edits.{AreEdits};
 ghost use Rattle.wh_plan.specs.BatchRows.{in_dimension, AreBatchRows};
 ghost use Rattle.wh_plan.specs.NewRows.{Records, members_among, naturals_told, rows_of_members};
@@ -19,7 +19,7 @@ ghost use Rattle.wh_plan.specs.Reading.{HaveNoEmptyValue};
 ghost use Rattle.wh_store.specs.Reads.{ReadsOnly, state_of};
 ghost use Rattle.wh_plan.specs.Reads.{Finds};
 ghost use Rattle.wh_plan.specs.RecordPlan.{IsFound, IsPlanned};
-ghost use Rattle.wh_plan.specs.Sound.{AreTypes, IsAccepted};
+ghost use Rattle.wh_rows.specs.Sound.{AreTypes, IsAccepted};
 
 use crate::batch::Batch;
 use crate::batch_rows::{BatchRows, edits_of_batch};

@@ -12,7 +12,7 @@ ghost use Rattle.wh_plan.specs.Reading.{HaveNoEmptyValue};
 ghost use Rattle.wh_store.specs.Reads.{ReadsOnly, state_of};
 ghost use Rattle.wh_plan.specs.Reads.{Finds};
 ghost use Rattle.wh_plan.specs.SoldMembers.{naturals_sold, numbered, placeholder, IsSoldDimension};
-ghost use Rattle.wh_plan.specs.Sound.{AreTypes};
+ghost use Rattle.wh_rows.specs.Sound.{AreTypes};
 
 use crate::naturals::naturals_sold;
 use crate::new_rows::new_members;

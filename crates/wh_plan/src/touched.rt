@@ -5,7 +5,7 @@ ghost use Rattle.std.specs.BTreeMap.{get_by};
 ghost use Rattle.std.specs.Cmp.Lexicographic.{slice_cmp};
 ghost use Rattle.std.specs.Ordering.{nat_cmp};
 ghost use Rattle.std.specs.Option.{option_copied};
-ghost use Rattle.wh_policy.specs.declared.attribute.Dim.{Dim as Dimension};
+ghost use Rattle.wh_policy.specs.declared.attribute.Dim.{Dim};
 ghost use Rattle.wh_history.specs.Accepted.{Accepted, Describes, anchors, members, member_of};
 ghost use Rattle.wh_history.specs.Keys.{greatest_number};
 ghost use Rattle.wh_history.specs.Touched.{touched_by};
@@ -85,7 +85,7 @@ pub(crate) fn touched_members(
 ) -> Result<Touched, AllocError>
     requires members { drawn.members ≤ greatest_number }
     requires anchors { drawn.anchors ≤ greatest_number }
-    ensures { (dim : Dimension) (commands : List Accepted) (c : Accepted) → c.content ≡ Describes dim records.now
+    ensures { (dim : Dim) (commands : List Accepted) (c : Accepted) → c.content ≡ Describes dim records.now
         → stored.now ≡ map (member_of dim commands) (naturals_told records.now)
         → drawn.members ≡ length (members dim commands) → drawn.anchors ≡ length (anchors dim commands)
         → IfOk result (λ touched. touched ≡ touched_by dim commands (commands ++ c ∷ []) records.now) }

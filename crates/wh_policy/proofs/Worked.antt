@@ -510,7 +510,7 @@ customer_before_years : policy_in (member (codes "customer") (list (attribute (c
 unfolding policy_on_literals
 customer_before_years = refl
 
--- types 4 and 5 side by side before bad years, but behind a name twice
+-- types 4 and 5 side by side before bad years, but after a name twice
 mixed_before_years : policy_in (member (codes "customer") (list (attribute (codes "age_band") 4 ∷ attribute (codes "spend_band") 5 ∷ [])) (member (codes "last_year") (integer (pos 2053)) small)) ≡ Err ProfileMixed
 unfolding policy_on_literals
 mixed_before_years = refl

@@ -57,7 +57,7 @@ module _ {T : Type 0} where
         | false ↦ λ h. skipped items i name d (omega arith) h another
       ] none
 
-  -- one is put behind all, where none has its name
+  -- one is put after all, where none has its name
   pub put_last : (items : List (Named T)) (name : List ℕ) (y : Named T) → named items name ≡ None → has_name y name ≡ true → named (items ++ y ∷ []) name ≡ Some y.value
   put_last [] name y none same = rw same refl
   put_last (x ∷ items) name y none same =

@@ -12,7 +12,7 @@ use Rattle.wh_policy.specs.declared.policy.Policy.{Policy}
 use Rattle.wh_history.specs.Accepted.{Accepted}
 use Rattle.wh_history.specs.Tables.{Limits}
 use Rattle.wh_rows.specs.AtRest.{IsAtRest}
-use Rattle.wh_engine.specs.Admission.{in_force, AreAdmitted}
+use Rattle.wh_engine.specs.Admission.{current_policy, AreAdmitted}
 use Rattle.wh_engine.specs.Answered as engine
 use Rattle.wh_engine.specs.Answered.{IsReady}
 use Rattle.wh_engine.specs.Scanned.{IsServing}
@@ -101,7 +101,7 @@ given-reads policy words mode from to request is =
 
 module _ (words : ReportWords) (limits : Limits) (commands : List Accepted) (told : Told) (session : Session) (s : State) where
   -- a report that was worked out
-  pub reported : (request : Asked) (worked : Result (Vec ℕ Global) ReportFault) → asked_under (in_force commands) words ≡ Ok request → Reports commands request worked
+  pub reported : (request : Asked) (worked : Result (Vec ℕ Global) ReportFault) → asked_under (current_policy commands) words ≡ Ok request → Reports commands request worked
       → IfOk told (λ a. a ≡ report_answer worked) → IsServing limits commands (of_warehouse worked) session s
       → (after : Standing) × IsReported words limits commands told after × Stands after s
   reported request (Ok text) is reports tells serving =
@@ -112,7 +112,7 @@ module _ (words : ReportWords) (limits : Limits) (commands : List Accepted) (tol
   reported request (Err (report.Inconsistent table)) is none tells serving = absurd none
 
   -- or one that can't be asked for
-  pub not_asked : (why : RequestFault) → asked_under (in_force commands) words ≡ Err why → IfOk told (λ a. a ≡ refused (request_line why)) → IsReady limits commands session s
+  pub not_asked : (why : RequestFault) → asked_under (current_policy commands) words ≡ Err why → IfOk told (λ a. a ≡ refused (request_line why)) → IsReady limits commands session s
       → (after : Standing) × IsReported words limits commands told after × Stands after s
   not_asked why is tells ready =
       (Rests (Holds limits commands), record { read = Ok tt; leaves = refl; tells = IfOk-weaker told _ _ (λ a e. e ∙ sym (ap (asked_answer commands) is)) tells }, (ready.admitted, ready.rests))
@@ -124,7 +124,7 @@ not_read words limits commands e session s ready = (Rests (Holds limits commands
 
 -- ---- dump
 
--- what is told where a dump was stopped, by what went out of it and what was said behind that
+-- what is answered where a dump was stopped, by what went out of it and what was said after that
 pub stopped-dump : (text : List ℕ) (why : ReportFault) (old mid new : Option (List ℕ)) (code : ℕ) → IsOfDump why → IsOutInPieces (Err why) old mid text → SaysStop why mid new code
     → (told : Told) × TellsText text (of_warehouse {A = Unit {0}} (Err why)) told × Prints old new code (printed told)
 stopped-dump text report.Write old mid new code of (byte, rest, but) (failed, (told, said)) = (Ok (done text), refl, prints-cut old mid new code text but.part byte rest told but.whole but.went failed said)

@@ -10,7 +10,7 @@ use Rattle.wh_program.specs.Warehouse.{Told, printed, Opens}
 use Rattle.wh_history.specs.Accepted.{Accepted}
 use Rattle.wh_history.specs.Tables.{Limits}
 
--- where the room suffices the answer is told
+-- where the room suffices there is an answer
 pub told_in : (most : ℕ) (room : Vec ℕ Global) (told : Told) (answer : Printed) → most ≤ vec_capacity room → TellsIn most room told answer → told ≡ Ok answer
 told_in most room (Ok a) answer enough tells = ap Ok tells.0
 told_in most room (Err e) answer enough tells = absurd (omega (arith, tells.1))

@@ -21,7 +21,7 @@ is_no_usage Done = λ e. absurd (omega arith)
 is_no_usage Refused = λ e. absurd (omega arith)
 is_no_usage Failed = λ e. absurd (omega arith)
 
--- what is printed behind a part of it
+-- what is printed after a part of it
 pub prints-behind : (old mid new : Option (List ℕ)) (code : ℕ) (part : List ℕ) (a : Printed) → Appends old mid part → Prints mid new code a → Prints old new code (behind part a)
 prints-behind old mid new code part a went (inl whole) = inl (record { status = whole.status; text = Appends-trans old mid new part a.text went whole.text })
 prints-behind old mid new code part a went (inr cut) =
@@ -36,7 +36,7 @@ prints-behind old mid new code part a went (inr cut) =
       text = subst (Appends old new) same (Appends-trans old mid new part (take cut.kept a.text ++ line) went cut.text);
     })
 
--- the writer failed behind a part of a text that wants at least a byte
+-- the writer failed after a part of a text that wants at least a byte
 pub prints-cut : (old mid new : Option (List ℕ)) (code : ℕ) (text part : List ℕ) (byte : ℕ) (rest : List ℕ) (told : ℕ) → text ≡ part ++ byte ∷ rest → Appends old mid part
     → code ≡ 3 → Appends mid new (take told write_line) → Prints old new code (done text)
 prints-cut old mid new code text part byte rest told whole went failed said =

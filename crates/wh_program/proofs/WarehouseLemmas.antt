@@ -15,7 +15,7 @@ use Rattle.wh_rows.specs.Schema.{no_schema}
 use Rattle.wh_sql.specs.Present.{are_all_there, is_any_taken}
 use Rattle.wh_sql.proofs.Worked.{taken_in_a_warehouse, taken_in_none}
 use Rattle.wh_plan.specs.Edits.{Edits}
-use Rattle.wh_plan.specs.FirstRows.{making_of}
+use Rattle.wh_rows.specs.Sound.{making_of}
 use Rattle.wh_engine.specs.Admission.{accepted_after, AreAdmitted}
 use Rattle.wh_engine.specs.Answered as engine
 use Rattle.wh_engine.specs.Answered.{IsReady, IsAnswered, IsForetold as EngineForetold, IsCounted as EngineCounted}

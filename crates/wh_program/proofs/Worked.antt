@@ -138,7 +138,7 @@ text_of_a_delivery : delivery_answer night answers None
 unfolding digits
 text_of_a_delivery = refl
 
--- one that stopped behind its first command, whatever was refused
+-- one that stopped after its first command, whatever was refused
 text_of_a_stop : delivery_answer night (Err BadId ∷ []) (Some (Store Disk)) ≡ failed (codes "refused: E1 bad id\nfailed: E9 store, disk\n")
 unfolding digits
 text_of_a_stop = refl

@@ -1,5 +1,6 @@
 -- The words that the program takes.
-use Rattle.std.specs.Prelude.{◌≡◌, ℕ, List, [], ◌∷◌, codes, Bool, true, not, ◌==◌, ◌&&◌, Option, Some, None, option_map, option_and_then, if◌then◌else◌, bytes_eq}
+use Rattle.std.specs.Prelude.{◌≡◌, ℕ, List, [], ◌∷◌, codes, Bool, true, not, ◌==◌, ◌&&◌, Option, Some, None, map, option_map, option_and_then, if◌then◌else◌, bytes_eq}
+use Rattle.wh_program.specs.declared.words.Subcommand.{Subcommand}
 use Rattle.clap.specs.Words.{App, Row, Rule, Text, first_of, new_app, new_rule, with_rule, with_subcommand}
 
 -- an operand that a command can't do without
@@ -10,71 +11,58 @@ operand name = record (new_rule name) { required = true }
 abbrev pub option_of : List ℕ → List ℕ → Rule
 option_of name long = record (new_rule name) { long = Some long }
 
-abbrev pub operands_app : App
-operands_app = with_rule (with_rule (new_app (codes "trial")) (operand (codes "DIMENSION"))) (operand (codes "CSV"))
+-- an app with operands more, in that order
+abbrev pub with_operands : App → List (List ℕ) → App
+with_operands app [] = app
+with_operands app (name ∷ rest) = with_operands (with_rule app (operand name)) rest
+
+-- a command that has operands alone
+abbrev pub command_app : List ℕ → List (List ℕ) → App
+command_app name operands = with_operands (new_app name) operands
+
+-- the command of a row of the program's table
+abbrev pub subcommand_app : Subcommand → App
+subcommand_app s = command_app s.name.now (map (λ o. o.0.now) s.operands.now)
 
 abbrev pub trial_app : App
-trial_app = with_rule operands_app (option_of (codes "POLICY") (codes "policy"))
+trial_app = with_rule (command_app (codes "trial") (codes "DIMENSION" ∷ codes "CSV" ∷ [])) (option_of (codes "POLICY") (codes "policy"))
 
 abbrev pub init_app : App
-init_app = with_rule (with_rule (new_app (codes "init")) (operand (codes "FILE"))) (operand (codes "POLICY"))
-
--- a word that takes a command of a kind, under an id
-abbrev pub kind_app : List ℕ → App
-kind_app name = with_rule (with_rule (new_app name) (operand (codes "FILE"))) (operand (codes "KIND"))
-
-abbrev pub called_app : List ℕ → App
-called_app name = with_rule (kind_app name) (operand (codes "ID"))
+init_app = command_app (codes "init") (codes "FILE" ∷ codes "POLICY" ∷ [])
 
 abbrev pub load_app : App
-load_app = with_rule (called_app (codes "load")) (operand (codes "CSV"))
-
-abbrev pub plan_app : App
-plan_app = with_rule (called_app (codes "plan")) (operand (codes "INPUT"))
-
-abbrev pub migration_app : App
-migration_app = with_rule (with_rule (new_app (codes "migrate")) (operand (codes "FILE"))) (operand (codes "ID"))
+load_app = command_app (codes "load") (codes "FILE" ∷ codes "KIND" ∷ codes "ID" ∷ codes "CSV" ∷ [])
 
 abbrev pub migrate_app : App
-migrate_app = with_rule migration_app (operand (codes "POLICY"))
+migrate_app = command_app (codes "migrate") (codes "FILE" ∷ codes "ID" ∷ codes "POLICY" ∷ [])
 
 abbrev pub deliver_app : App
-deliver_app = with_rule (with_rule (new_app (codes "deliver")) (operand (codes "FILE"))) (operand (codes "MANIFEST"))
+deliver_app = command_app (codes "deliver") (codes "FILE" ∷ codes "MANIFEST" ∷ [])
 
--- a report, without its mode and its days
-abbrev pub asking_app : App
-asking_app = with_rule (with_rule (new_app (codes "report")) (operand (codes "FILE"))) (operand (codes "ATTRIBUTE"))
-
-abbrev pub mode_app : App
-mode_app = with_rule asking_app (operand (codes "MODE"))
+abbrev pub plan_app : App
+plan_app = command_app (codes "plan") (codes "FILE" ∷ codes "KIND" ∷ codes "ID" ∷ codes "INPUT" ∷ [])
 
 abbrev pub report_app : App
-report_app = with_rule (with_rule mode_app (operand (codes "FROM"))) (operand (codes "TO"))
+report_app = command_app (codes "report") (codes "FILE" ∷ codes "ATTRIBUTE" ∷ codes "MODE" ∷ codes "FROM" ∷ codes "TO" ∷ [])
 
 abbrev pub dump_app : App
-dump_app = with_rule (with_rule (new_app (codes "dump")) (operand (codes "FILE"))) (operand (codes "TABLE"))
+dump_app = command_app (codes "dump") (codes "FILE" ∷ codes "TABLE" ∷ [])
 
 abbrev pub status_app : App
-status_app = with_rule (new_app (codes "status")) (operand (codes "FILE"))
+status_app = command_app (codes "status") (codes "FILE" ∷ [])
 
+-- the program before it has commands
 abbrev pub top_app : App
 top_app = record (new_app (codes "wh")) { top = record (new_app (codes "wh")).top { no_binary_name = true; subcommand_required = true } }
 
-abbrev pub first_app : App
-first_app = with_subcommand (with_subcommand top_app trial_app.top) init_app.top
-
-abbrev pub second_app : App
-second_app = with_subcommand (with_subcommand first_app load_app.top) migrate_app.top
-
-abbrev pub third_app : App
-third_app = with_subcommand (with_subcommand second_app deliver_app.top) plan_app.top
-
-abbrev pub fourth_app : App
-fourth_app = with_subcommand (with_subcommand third_app report_app.top) dump_app.top
+-- an app with commands more, in that order
+abbrev pub with_commands : App → List App → App
+with_commands app [] = app
+with_commands app (command ∷ rest) = with_commands (with_subcommand app command.top) rest
 
 -- the whole program
 abbrev pub program_app : App
-program_app = with_subcommand fourth_app status_app.top
+program_app = with_commands top_app (trial_app ∷ init_app ∷ load_app ∷ migrate_app ∷ deliver_app ∷ plan_app ∷ report_app ∷ dump_app ∷ status_app ∷ [])
 
 -- the words of a trial, under its own policy or the one in a file
 abbrev pub trial_words : List ℕ → List ℕ → Option (List ℕ) → List (List ℕ)

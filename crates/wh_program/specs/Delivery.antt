@@ -94,7 +94,7 @@ LacksInput holds entries (errors.Fault path) = IsFirstMissing holds entries path
 
 -- ---- the word
 
--- nothing was sent, and why is told, or memory ran out before; nothing changed
+-- nothing was sent, and the answer says why, or memory ran out before; nothing changed
 pub record IsNotSent (stands : Standing → Type 0) (content : Content) (told : Told) (Tells : Printed → Type 0) : Type 0 where
   pub same : stands (Rests content)
   pub tells : IfOk told Tells

@@ -6,8 +6,8 @@ use Rattle.wh_history.specs.Accepted.{Accepted}
 use Rattle.wh_history.specs.Tables.{Limits}
 use Rattle.wh_rows.specs.Tables.{Tables}
 use Rattle.wh_rows.specs.declared.table.Table.{Table}
-use Rattle.wh_plan.specs.Defined.{AreOf}
-use Rattle.wh_engine.specs.Admission.{in_force}
+use Rattle.wh_rows.specs.Defined.{AreOf}
+use Rattle.wh_engine.specs.Admission.{current_policy}
 use Rattle.wh_engine.specs.declared.fault.Fault.{Fault}
 use Rattle.wh_engine.specs.declared.fault.Fault.TheVariants as fault
 use Rattle.wh_report.specs.Asked.{Asked}
@@ -50,14 +50,14 @@ read_answer (Err fault) answer = fault_answer fault
 pub record IsReported (words : ReportWords) (limits : Limits) (commands : List Accepted) (told : Told) (after : Standing) : Type 0 where
   pub read : Result (Unit {0}) Fault
   pub leaves : LeavesRead limits commands read after
-  pub tells : IfOk told (λ a. a ≡ read_answer read (asked_answer commands (asked_under (in_force commands) words)))
+  pub tells : IfOk told (λ a. a ≡ read_answer read (asked_answer commands (asked_under (current_policy commands) words)))
 
 abbrev pub AnswersReport : (Standing → Type 0) → Content → (file : List ℕ) → ReportWords → Told → Type 0
 AnswersReport stands content file words told = IsTried stands (Opens (IsReported words) content) told ⊎ IsNotConnected stands content file told
 
 -- ---- dump
 
--- an answer behind what was printed before it
+-- an answer after what was printed before it
 abbrev pub behind : List ℕ → Printed → Printed
 behind part answer = record { status = answer.status; text = part ++ answer.text }
 
@@ -86,7 +86,7 @@ pub record IsDumped (table : Table) (limits : Limits) (commands : List Accepted)
 abbrev pub AnswersDump : (Standing → Type 0) → Content → (file : List ℕ) → Table → Told → Type 0
 AnswersDump stands content file table told = IsTried stands (Opens (IsDumped table) content) told ⊎ IsNotConnected stands content file told
 
--- what ended a dump is said behind what went out of it: that the writer failed, as far as it could still be written, or the line of the fault
+-- what ended a dump is said after what went out of it: that the writer failed, as far as it could still be written, or the line of the fault
 abbrev pub SaysStop : ReportFault → Option (List ℕ) → Option (List ℕ) → ℕ → Type 0
 SaysStop report.Write old new code = (code ≡ 3) × ((told : ℕ) × Appends old new (take told write_line))
 SaysStop (report.Warehouse why) old new code = (line : Told) × IfOk line (λ a. a ≡ fault_answer why) × Prints old new code (printed line)

@@ -27,6 +27,6 @@ longest_delivery sent = longest_answers sent + longest_line
 abbrev pub Fits : {T E : Type 0} → ℕ → Result T E → (old new : Vec ℕ Global) → Type 0
 Fits most result old new = (vec_capacity old ≤ vec_capacity new) × OnOk result (vec_len new ≤ vec_len old + most) × OnErr result (vec_capacity old < vec_len old + most)
 
--- an answer of at most so many bytes was told in this room, or there was no room for it
+-- an answer of at most so many bytes was made in this room, or there was no room for it
 abbrev pub TellsIn : ℕ → Vec ℕ Global → Told → Printed → Type 0
 TellsIn most room told answer = IfOk told (λ a. a ≡ answer) × OnErr told (vec_capacity room < most)

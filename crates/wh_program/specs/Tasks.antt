@@ -13,11 +13,11 @@ use Rattle.wh_program.specs.Warehouse.{Told, Makes, Sends, Plans, AnswersWith, A
 abbrev pub Stores : Type 1
 Stores = List ℕ → Standing → Type 0
 
--- over what stands under a file: this is told and printed
+-- over what stands under a file: this is answered and printed
 abbrev pub RunsOver : Stores → (file : List ℕ) → (Content → Told → Type 0) → (Told → Type 0) → Type 0
 RunsOver before file answers prints = (content : Content) → before file (Rests content) → (told : Told) × answers content told × prints told
 
--- What is told and printed, by the files that a host holds, each as far as it is read, and by what it stores before and after.
+-- What is answered and printed, by the files that a host holds, each as far as it is read, and by what it stores before and after.
 abbrev pub Runs : Files → (before after : Stores) → (prints : Told → Type 0) → Task → Type 0
 Runs holds before after prints (Trial dim path policy) = (told : Told) × IfOk told (AnswersTrial holds dim path policy) × prints told
 Runs holds before after prints (Init file policy) = RunsOver before file (λ content told. AnswersWith (up_to policy_limit holds) (after file) Makes content file policy told) prints

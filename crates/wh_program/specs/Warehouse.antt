@@ -7,7 +7,7 @@ use Rattle.wh_history.specs.Accepted.{Accepted}
 use Rattle.wh_history.specs.Tables.{Limits}
 use Rattle.wh_rows.specs.Limits.{greatest_limits}
 use Rattle.wh_plan.specs.Edits.{Edits, AreEdits}
-use Rattle.wh_plan.specs.FirstRows.{making_of}
+use Rattle.wh_rows.specs.Sound.{making_of}
 use Rattle.wh_engine.specs.Admission.{answer, accepted_after}
 use Rattle.wh_engine.specs.Answered.{counts_of}
 use Rattle.wh_engine.specs.Opened.{IsNotMade}

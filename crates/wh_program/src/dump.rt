@@ -24,7 +24,7 @@ use wh_engine::Engine;
 use wh_report::{ReportFault, dump};
 use wh_rows::Table;
 
-/// Says what ended a dump, behind what went out of it.
+/// Says what ended a dump, after what went out of it.
 fn print_stop<W: Write>(alloc: Global, fault: ReportFault, out: &mut W) -> Status
     ensures { SaysStop fault (W.contents out.old) (W.contents out.new) (status_code result) }
 {

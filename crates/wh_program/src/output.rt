@@ -1,6 +1,6 @@
-//! Writing texts out, and what a run answers once they are.
+//! What a run answers once its text is written out.
 
-ghost use Rattle.std.specs.Prelude.{◌≡◌, ℕ, ◌<◌, OnOk, OnErr, length, take};
+ghost use Rattle.std.specs.Prelude.{◌≡◌, ℕ, take};
 ghost use Rattle.std.specs.Io.KnownBytes.{Appends};
 ghost use Rattle.wh_program.specs.Answer.{status_code, wrong_words, write_line};
 ghost use Rattle.wh_program.specs.Run.{Prints};
@@ -11,29 +11,10 @@ use crate::answer::{Answer, Status};
 use crate::lines::{MEMORY_LINE, WRITE_LINE};
 use std::alloc::AllocError;
 use std::io::Write;
+use wh_report::write_whole;
 
 /// How a run ends whose words aren't those of a command.
 const USAGE: u8 = 4;
-
-/// The writer failed, or took nothing.
-#[derive(Clone, Copy, Debug, PartialEq, Eq)]
-pub struct WriteFailed;
-
-/// Writes the text. After an `Err` what went out is a beginning of it.
-pub fn write_whole<W: Write>(out: &mut W, text: &[u8]) -> Result<(), WriteFailed>
-    ensures whole { OnOk result (Appends (W.contents out.old) (W.contents out.new) text.now) }
-    ensures beginning { OnErr result ((kept : ℕ) × (kept < length text.now)
-        × Appends (W.contents out.old) (W.contents out.new) (take kept text.now)) }
-{
-    let mut written = 0;
-    'writes: while written < text.len() {
-        match out.write(&text[written..]) {
-            Ok(0) | Err(_) => return Err(WriteFailed),
-            Ok(taken) => written += taken,
-        }
-    }
-    Ok(())
-}
 
 /// The writer failed: a line says so, as far as it can still be written.
 pub fn write_failed<W: Write>(out: &mut W) -> Status

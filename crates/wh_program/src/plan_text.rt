@@ -2,7 +2,6 @@
 
 ghost use Rattle.std.specs.Prelude.{◌≡◌, ◌++◌, ℕ, List, IfOk, OnOk, codes, flat_map};
 ghost use Rattle.std.specs.Fmt.{decimal};
-ghost use Rattle.wh_rows.specs.Types.{dim_number};
 ghost use Rattle.wh_program.specs.PlanText.{member_words, change_words, line_words, key_line, edit_line, fact_line, commands_text, dimensions_text, facts_text, count_line, plan_text};
 ghost use Rattle.wh_program.specs.Room.{Fits};
 ghost use Rattle.wh_plan.specs.Edits.{edit_count};
@@ -12,8 +11,9 @@ use std::alloc::{AllocError, Global};
 use wh_day::{DateRow, Day, Value};
 use wh_history::{DimRow, Edit, Fact};
 use wh_plan::{Edits, FactEdit};
-use wh_policy::Dim;
-use wh_rows::{ChangeKey, ChangeRow, CommandRow, LineKey, MemberKey, MemberRow, ProfileRow, Table};
+use wh_rows::{
+    ChangeKey, ChangeRow, CommandRow, LineKey, MemberKey, MemberRow, ProfileRow, Table, dim_number,
+};
 
 pub fn push_number(text: &mut Vec<u8>, number: u64) -> Result<(), AllocError>
     ensures added { OnOk result (text.new.items ≡ text.old.items ++ decimal number) }
@@ -38,17 +38,6 @@ fn push_line_key(text: &mut Vec<u8>, ticket: &Value, line: u32) -> Result<(), Al
     text.extend_from_slice(ticket.as_str().as_bytes())?;
     text.extend_from_slice(b" ")?;
     push_number(text, u64::from(line))
-}
-
-/// The number of a dimension, as the key of a member has it.
-fn dim_number(dim: Dim) -> u64
-    ensures { result ≡ dim_number dim }
-{
-    match dim {
-        Dim::Product => 1,
-        Dim::Store => 2,
-        Dim::Customer => 3,
-    }
 }
 
 /// A key, or a row that has one.

@@ -25,7 +25,7 @@ use std::io;
 use std::io::Write;
 use wh_batch::CommandKind;
 
-/// Does what the words of a command ask for, and prints what is told of it.
+/// Does what the words of a command ask for, and prints the answer.
 fn run_task<H: Host, W: Write>(alloc: Global, task: Task, host: &mut H, out: &mut W) -> Status
     ensures { Runs (H.holds host.old) (H.stores host.old) (H.stores host.new) (λ told. Prints (W.contents out.old) (W.contents out.new) (status_code result) (printed told)) (task_in task.entry) }
 {

@@ -6,7 +6,7 @@
 //! - `batch KIND BYTES`: the answer to a batch of these bytes.
 //! - `rows KIND BYTES`: to one of the kind's header, the end of that line and these bytes.
 //! - `either KIND BYTES`: to the same, read as a batch of either kind; of its records the number alone.
-//! - `cuts BYTES`: to each beginning of a batch of customers. An answer is told once, after the length from which it holds.
+//! - `cuts BYTES`: to each beginning of a batch of customers. An answer is written once, after the length from which it holds.
 //! - `many KIND NUMBER TEXT`: to a batch of so many records and this text; of its records the number alone.
 //! - `long KIND LENGTH BYTES`: the answer to these bytes with line ends after them, in all so many bytes.
 //! - `made KIND`: a record that is made by hand.

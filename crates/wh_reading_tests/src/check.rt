@@ -40,7 +40,7 @@ impl Driver for Echo {
     }
 }
 
-/// Scenarios, and what is told of them.
+/// Scenarios, and what came of them.
 const TOLD: [(&str, &str); 7] = [
     ("say\n> a\n>\n= a\n=\n\n# b\nsay\n> c d\n= c d\n", ""),
     (
@@ -60,7 +60,7 @@ const TOLD: [(&str, &str); 7] = [
     ("= a\n", "no scenario"),
 ];
 
-/// What is told of a scenario, empty where each step answers what it must.
+/// What went wrong in a scenario, empty where each step answers what it must.
 fn told(alloc: Global, scenario: &str) -> Result<String, AllocError> {
     match difference(alloc, Echo, scenario) {
         Ok(None) => Ok(String::new(alloc)),

@@ -1,6 +1,6 @@
 //! The histories of members: rows, dated values, tables of a trial, and plans.
 //!
-//! A member is told of step by step, and then asked about. VALUES are the texts of the slots, with commas between them;
+//! A member is described step by step, and then asked about. VALUES are the texts of the slots, with commas between them;
 //! where there is none the value is `(none)`. A SLOT is counted from 0, and a DAY is a number YYYYMMDD. A row's answer is a
 //! line: its surrogate key, its first and last day, 1 for the current row, the six main texts, the six second texts, and
 //! the newest profile. The verbs:

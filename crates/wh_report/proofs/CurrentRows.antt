@@ -20,8 +20,8 @@ use Rattle.wh_history.proofs.Joins.{InSpans, all_weaker}
 use Rattle.wh_history.proofs.Owners.{owners_given}
 use Rattle.wh_history.proofs.Shown.{span_found}
 use Rattle.wh_history.proofs.Spans.{Rises, InOrder-dated, Rises-starts}
-use Rattle.wh_plan.proofs.GrownKeys.{all_at}
-use Rattle.wh_plan.proofs.ValidTables.{then_of}
+use Rattle.wh_rows.proofs.GrownKeys.{all_at}
+use Rattle.wh_rows.proofs.ValidTables.{then_of}
 use Rattle.wh_report.specs.Defined.{AreRowsOf}
 use Rattle.wh_report.specs.Labels.{entry, first_text}
 use Rattle.wh_report.proofs.DefinedTexts.{last_is_day}
@@ -57,7 +57,7 @@ module _ (commands : List Accepted) (dim : Dim) (ends : RecordsHaveDays commands
   rises_of : (natural : List ℕ) → Rises first_day (starts (types_in dim commands) (dated (changes_of dim commands natural)))
   rises_of natural = Rises-starts (types_in dim commands) (dated (changes_of dim commands natural)) (InOrder-dated (changes_of dim commands natural) (days_in dim commands natural (described dim commands) (ends dim)))
 
-  -- what stands behind a row that has a number: its member's span
+  -- what a row that has a number stands for: its member's span
   record Behind (q : DimRow) : Type 0 where
     natural : List ℕ
     span : ℕ × ℕ

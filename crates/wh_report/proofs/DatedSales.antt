@@ -25,10 +25,10 @@ use Rattle.wh_batch.proofs.GoodLemmas.{reads_batches}
 use Rattle.wh_history.specs.Accepted.{Accepted, Content, Governs, Describes, Sells, governed, policy_after, sold, sold_by}
 use Rattle.wh_history.specs.Tables.{Limits}
 use Rattle.wh_history.proofs.Joins.{all_append, all_weaker}
-use Rattle.wh_plan.specs.Defined.{calendar_at, day_at}
-use Rattle.wh_plan.specs.FirstRows.{making_of}
-use Rattle.wh_plan.specs.Sound.{IsGoodSale}
-use Rattle.wh_engine.specs.Admission.{in_force, of_batch, of_file, records_told, content_of, accepted_as, answer, with_content, after_answer, accepted_after, accepted_after_all}
+use Rattle.wh_rows.specs.Defined.{calendar_at, day_at}
+use Rattle.wh_rows.specs.Sound.{making_of}
+use Rattle.wh_rows.specs.Sound.{IsGoodSale}
+use Rattle.wh_engine.specs.Admission.{current_policy, of_batch, of_file, records_told, content_of, accepted_as, answer, with_content, after_answer, accepted_after, accepted_after_all}
 use Rattle.wh_engine.specs.declared.command.Command.{Command}
 use Rattle.wh_batch.specs.declared.kind.CommandKind.{CommandKind}
 use Rattle.wh_batch.specs.declared.kind.CommandKind.TheVariants.{Batch, Migration}
@@ -45,7 +45,7 @@ AreWithin years sales = AllByRecursion (λ s. is_within years s.day ≡ true) sa
 
 -- those that were accepted lie in the years of the policy in force
 abbrev IsWithinAll : List Accepted → Type 0
-IsWithinAll commands = AreWithin (in_force commands).years (sold commands)
+IsWithinAll commands = AreWithin (current_policy commands).years (sold commands)
 
 -- ---- one command more
 
@@ -88,46 +88,46 @@ module _ (commands : List Accepted) (c : Command) (within : IsWithinAll commands
   with_it content = commands ++ accepted_as c content ∷ []
 
   -- under the same policy
-  same_policy : (content : Content) → governed (policy_after None commands) content ≡ policy_after None commands → AreWithin (in_force commands).years (sold_by content) → IsWithinAll (with_it content)
+  same_policy : (content : Content) → governed (policy_after None commands) content ≡ policy_after None commands → AreWithin (current_policy commands).years (sold_by content) → IsWithinAll (with_it content)
   same_policy content same new =
-      let force : in_force (with_it content) ≡ in_force commands = ap (λ (o : Option Policy). unwrap_or o trial_policy) (policy_behind None commands (accepted_as c content) ∙ same) in
+      let force : current_policy (with_it content) ≡ current_policy commands = ap (λ (o : Option Policy). unwrap_or o trial_policy) (policy_behind None commands (accepted_as c content) ∙ same) in
       subst (λ (p : Policy). AreWithin p.years (sold (with_it content))) (sym force)
-      (subst (AreWithin (in_force commands).years) (sym (sold_behind commands (accepted_as c content))) (all_append (λ s. is_within (in_force commands).years s.day ≡ true) (sold commands) (sold_by content) within new))
+      (subst (AreWithin (current_policy commands).years) (sym (sold_behind commands (accepted_as c content))) (all_append (λ s. is_within (current_policy commands).years s.day ≡ true) (sold commands) (sold_by content) within new))
 
   -- under a policy that fits it
-  newer_policy : (newer : Policy) → fits (in_force commands) newer ≡ true → IsWithinAll (with_it (Governs newer))
+  newer_policy : (newer : Policy) → fits (current_policy commands) newer ≡ true → IsWithinAll (with_it (Governs newer))
   newer_policy newer fit =
-      let force : in_force (with_it (Governs newer)) ≡ newer = ap (λ (o : Option Policy). unwrap_or o trial_policy) (policy_behind None commands (accepted_as c (Governs newer))) in
+      let force : current_policy (with_it (Governs newer)) ≡ newer = ap (λ (o : Option Policy). unwrap_or o trial_policy) (policy_behind None commands (accepted_as c (Governs newer))) in
       subst (λ (p : Policy). AreWithin p.years (sold (with_it (Governs newer)))) (sym force)
-      (subst (AreWithin newer.years) (sym (sold_behind commands (accepted_as c (Governs newer)) ∙ append-nil (sold commands))) (kept (in_force commands) newer (sold commands) fit within))
+      (subst (AreWithin newer.years) (sym (sold_behind commands (accepted_as c (Governs newer)) ∙ append-nil (sold commands))) (kept (current_policy commands) newer (sold commands) fit within))
 
-  of_sales : (r : Result (List SaleRecord) BatchFault) (content : Content) → sale_records (in_force commands) One c.bytes ≡ r → (of_batch r >>= λ sales. Ok (Sells sales)) ≡ Ok content → IsWithinAll (with_it content)
-  of_sales (Ok sales) content is e = subst (λ x. IsWithinAll (with_it x)) (ok_is _ _ e) (same_policy (Sells sales) refl (read_within (in_force commands) c.bytes sales is))
+  of_sales : (r : Result (List SaleRecord) BatchFault) (content : Content) → sale_records (current_policy commands) One c.bytes ≡ r → (of_batch r >>= λ sales. Ok (Sells sales)) ≡ Ok content → IsWithinAll (with_it content)
+  of_sales (Ok sales) content is e = subst (λ x. IsWithinAll (with_it x)) (ok_is _ _ e) (same_policy (Sells sales) refl (read_within (current_policy commands) c.bytes sales is))
   of_sales (Err fault) content is e = absurd cc
 
   of_records : (dim : Dim) (r : Result (List DimensionRecord) Refused) (content : Content) → (r >>= λ records. Ok (Describes dim records)) ≡ Ok content → IsWithinAll (with_it content)
   of_records dim (Ok records) content e = subst (λ x. IsWithinAll (with_it x)) (ok_is _ _ e) (same_policy (Describes dim records) refl tt)
   of_records dim (Err why) content e = absurd cc
 
-  of_policy : (r : Result Policy PolicyFault) (content : Content) → ((of_file r >>= λ newer. cond (fits (in_force commands) newer) (Ok newer) (Err Unfit)) >>= λ newer. Ok (Governs newer)) ≡ Ok content → IsWithinAll (with_it content)
+  of_policy : (r : Result Policy PolicyFault) (content : Content) → ((of_file r >>= λ newer. cond (fits (current_policy commands) newer) (Ok newer) (Err Unfit)) >>= λ newer. Ok (Governs newer)) ≡ Ok content → IsWithinAll (with_it content)
   of_policy (Ok newer) content e =
-      elim (fits (in_force commands) newer) as (λ b. (fits (in_force commands) newer ≡ b) → ((cond b (Ok newer) (Err Unfit)) >>= λ newer. Ok (Governs newer)) ≡ Ok content → IsWithinAll (with_it content)) [
+      elim (fits (current_policy commands) newer) as (λ b. (fits (current_policy commands) newer ≡ b) → ((cond b (Ok newer) (Err Unfit)) >>= λ newer. Ok (Governs newer)) ≡ Ok content → IsWithinAll (with_it content)) [
         | true ↦ λ fit told. subst (λ x. IsWithinAll (with_it x)) (ok_is _ _ told) (newer_policy newer fit)
         | false ↦ λ fit told. absurd cc
       ] refl e
   of_policy (Err fault) content e = absurd cc
 
-  of_kind : (kind : CommandKind) (content : Content) → content_of kind (in_force commands) c.bytes ≡ Ok content → IsWithinAll (with_it content)
-  of_kind (Batch (Dimension dim)) content e = of_records dim (records_told dim (in_force commands) c.bytes) content e
-  of_kind (Batch Sales) content e = of_sales (sale_records (in_force commands) One c.bytes) content refl e
+  of_kind : (kind : CommandKind) (content : Content) → content_of kind (current_policy commands) c.bytes ≡ Ok content → IsWithinAll (with_it content)
+  of_kind (Batch (Dimension dim)) content e = of_records dim (records_told dim (current_policy commands) c.bytes) content e
+  of_kind (Batch Sales) content e = of_sales (sale_records (current_policy commands) One c.bytes) content refl e
   of_kind Migration content e = of_policy (policy_at c.bytes) content e
 
-  by_content : (r : Result Content Refused) → content_of c.kind (in_force commands) c.bytes ≡ r → IsWithinAll (with_content commands c r)
+  by_content : (r : Result Content Refused) → content_of c.kind (current_policy commands) c.bytes ≡ r → IsWithinAll (with_content commands c r)
   by_content (Ok content) is = of_kind c.kind content is
   by_content (Err why) is = within
 
   by_answer : (r : Result Reply Refused) → IsWithinAll (after_answer commands c r)
-  by_answer (Ok (Accepts receipt)) = by_content (content_of c.kind (in_force commands) c.bytes) refl
+  by_answer (Ok (Accepts receipt)) = by_content (content_of c.kind (current_policy commands) c.bytes) refl
   by_answer (Ok (Already receipt)) = within
   by_answer (Err why) = within
 
@@ -144,7 +144,7 @@ dated commands (Some policy) day is some day_is within =
     let row : day_at policy day ≡ Some (calendar_row policy.holidays day) = rw (day_is, parts.0, parts.1) refl in
     subst IsSome (sym (ap (option_and_then (λ (p : Policy). day_at p day)) is ∙ row)) refl
 
-all_dated : (commands : List Accepted) → IsSome (policy_after None commands) → (sales : List SaleRecord) → AllByRecursion IsGoodSale sales → AreWithin (in_force commands).years sales → AllByRecursion (λ s. IsSome (calendar_at commands s.day)) sales
+all_dated : (commands : List Accepted) → IsSome (policy_after None commands) → (sales : List SaleRecord) → AllByRecursion IsGoodSale sales → AreWithin (current_policy commands).years sales → AllByRecursion (λ s. IsSome (calendar_at commands s.day)) sales
 all_dated commands some [] good within = tt
 all_dated commands some (s ∷ sales) good within = (dated commands (policy_after None commands) s.day refl some good.0.day within.0, all_dated commands some sales good.1 within.1)
 

@@ -16,9 +16,9 @@ use Rattle.wh_history.specs.Tables.{dimension_row, profile_row, key_at, profile_
 use Rattle.wh_history.specs.declared.rows.DimRow.{DimRow}
 use Rattle.wh_history.proofs.Basics.{some_is}
 use Rattle.wh_history.proofs.Effective.{found_row, in_order}
-use Rattle.wh_plan.specs.Defined as defined
+use Rattle.wh_rows.specs.Defined as defined
 use Rattle.wh_plan.proofs.FoundRows.{row_key}
-use Rattle.wh_plan.proofs.ValidTables.{then_of}
+use Rattle.wh_rows.proofs.ValidTables.{then_of}
 use Rattle.wh_rows.specs.declared.rows.ProfileRow.{ProfileRow}
 use Rattle.wh_report.specs.Defined.{AreRowsOf, AreDefined}
 use Rattle.wh_report.specs.Joined.{slot_column, surrogate_in, durable_in, fact_key}

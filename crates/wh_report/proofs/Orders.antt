@@ -25,7 +25,7 @@ one_behind sales s = one_more (summed sales) (with_sale s (summed sales)) (unwra
 one_before : (sales : List Sold) (s : Sold) → with_sale s (summed sales) ≡ summed (s ∷ sales)
 one_before sales s = one_behind sales s ∙ moved sales [] s ∙ ap (λ xs. summed (s ∷ xs)) (append-nil sales)
 
--- the element at a place, between those before it and those behind
+-- the element at a place, between those before it and those after
 record Split {X : Type 0} (xs : List X) (k : ℕ) (other : X) : Type 0 where
   before : List X
   x : X

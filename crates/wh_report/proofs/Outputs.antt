@@ -1,32 +1,21 @@
 -- What goes out piece by piece.
 use Rattle.std.proofs.Common.{◌≡◌, ℕ, ◌<◌, zero, suc, List, [], ◌∷◌, ◌++◌, Option, Some, None, Result, Ok, Err, refl, sym, ap, ◌∙◌, subst, length, take, append_assoc, append-nil, arith}
-use Rattle.std.specs.Io.KnownBytes.{Appends, Keeps}
+use Rattle.std.specs.Io.KnownBytes.{Appends}
 use Rattle.std.proofs.KnownBytes.{Appends-nil, Appends-trans}
 use Rattle.wh_store.specs.Scan.{HandsOut}
 use Rattle.wh_report.specs.Output.{IsOutBut, IsOutInPieces}
 use Rattle.wh_report.specs.declared.output.ReportFault.{ReportFault}
 use Rattle.wh_report.specs.declared.output.ReportFault.TheVariants.{Write, Warehouse, Inconsistent}
 
-pub kept : (a b : Option (List ℕ)) → Keeps a b → Appends a b []
-kept None b keeps = tt
-kept (Some x) None keeps = absurd keeps
-kept (Some x) (Some y) keeps = keeps ∙ sym (append-nil x)
-
--- what stands behind a beginning
+-- what stands after a beginning
 rest_of : (text : List ℕ) (n : ℕ) → n < length text → (byte : ℕ) × (rest : List ℕ) × (text ≡ take n text ++ byte ∷ rest)
 rest_of [] n short = absurd (omega (arith, short))
 rest_of (t ∷ text) zero short = (t, text, refl)
 rest_of (t ∷ text) (suc n) short = let found = rest_of text n (omega (arith, short)) in (found.0, found.1, ap (λ ts. t ∷ ts) found.2)
 
--- the writer failed behind a beginning
-pub beginning : (text : List ℕ) (n : ℕ) (a b c : Option (List ℕ)) → n < length text → Appends a b (take n text) → Appends b c [] → (byte : ℕ) × (rest : List ℕ) × IsOutBut (byte ∷ rest) a c text
-beginning text n a b c short went nothing =
-    let found = rest_of text n short in
-    (found.0, found.1, record { part = take n text; whole = found.2; went = subst (Appends a c) (append-nil (take n text)) (Appends-trans a b c (take n text) [] went nothing) })
-
--- the writer took nothing
-pub took_none : (text buffer : List ℕ) (n taken : ℕ) (a b c : Option (List ℕ)) → n < length text → Appends a b (take n text) → taken ≡ 0 → Appends b c (take taken buffer) → (byte : ℕ) × (rest : List ℕ) × IsOutBut (byte ∷ rest) a c text
-took_none text buffer n taken a b c short went none took = beginning text n a b c short went (subst (λ k. Appends b c (take k buffer)) none took)
+-- the writer failed after a beginning
+pub cut_off : (text : List ℕ) (a b : Option (List ℕ)) → (kept : ℕ) × (kept < length text) × Appends a b (take kept text) → (byte : ℕ) × (rest : List ℕ) × IsOutBut (byte ∷ rest) a b text
+cut_off text a b cut = let found = rest_of text cut.0 cut.1 in (found.0, found.1, record { part = take cut.0 text; whole = found.2; went = cut.2 })
 
 pub none_out : (a : Option (List ℕ)) (text : List ℕ) → IsOutBut text a a text
 none_out a text = record { part = []; whole = refl; went = Appends-nil a }
@@ -45,7 +34,7 @@ onward a b c text piece more before went = joined a b c text piece more [] befor
 pub all_out : (a b : Option (List ℕ)) (text rest : List ℕ) → rest ≡ [] → IsOutBut rest a b text → Appends a b text
 all_out a b text rest none out = subst (Appends a b) (sym (out.whole ∙ ap (λ r. out.part ++ r) none ∙ append-nil out.part)) out.went
 
--- a piece goes out behind what did
+-- a piece goes out after what did
 pub further : (a b c : Option (List ℕ)) (text piece more : List ℕ) (fault : ReportFault) → IsOutBut (piece ++ more) a b text → IsOutInPieces (Err fault) b c piece → IsOutInPieces (Err fault) a c text
 further a b c text piece more Write before out = (out.0, out.1 ++ more, joined a b c text piece more (out.0 ∷ out.1) before out.2)
 further a b c text piece more (Warehouse fault) before out = (out.0 ++ more, joined a b c text piece more out.0 before out.1)

@@ -27,15 +27,15 @@ use Rattle.wh_rows.proofs.Orders.{line_cmp_total}
 use Rattle.wh_rows.specs.declared.key.LineKey.{LineKey}
 use Rattle.wh_rows.specs.declared.rows.ProfileRow.{ProfileRow}
 use Rattle.wh_rows.specs.declared.table.Table.{Table}
-use Rattle.wh_plan.specs.Defined.{AreOf, calendar_at, day_at, fact_at, profile_at}
-use Rattle.wh_plan.specs.Sound.{IsAccepted}
+use Rattle.wh_rows.specs.Defined.{AreOf, calendar_at, day_at, fact_at, profile_at}
+use Rattle.wh_rows.specs.Sound.{IsAccepted}
 use Rattle.wh_plan.proofs.FoundRows.{row_key}
 use Rattle.wh_plan.proofs.GrownFacts.{line_is}
-use Rattle.wh_plan.proofs.GrownKeys.{found_is}
-use Rattle.wh_plan.proofs.GrownProfiles.{profile_keyed}
-use Rattle.wh_plan.proofs.ValidTables.{made_of}
-use Rattle.wh_plan.proofs.Listed.{len-values}
-use Rattle.wh_engine.specs.Admission.{in_force, AreAdmitted}
+use Rattle.wh_rows.proofs.GrownKeys.{found_is}
+use Rattle.wh_rows.proofs.GrownProfiles.{profile_keyed}
+use Rattle.wh_rows.proofs.ValidTables.{made_of}
+use Rattle.wh_rows.proofs.Listed.{len-values}
+use Rattle.wh_engine.specs.Admission.{current_policy, AreAdmitted}
 use Rattle.wh_engine.specs.Answered.{IsReady}
 use Rattle.wh_engine.specs.Scanned.{ReadsThrough, IsServing, IsWanting}
 use Rattle.wh_engine.specs.declared.fault.Fault.{Fault}
@@ -123,7 +123,7 @@ fact_keyed commands key f is = by_sale (find (on_line key) (sold commands)) refl
     by_sale None found is = absurd cc
     by_sale (Some s) found is = ap row.fact.key (sym (some_is (fact_of commands s) f is)) ∙ line_is key (fact_of commands s) (find_passes (on_line key) s (sold commands) found)
 
-module _ (limits : Limits) (commands : List Accepted) (admitted : AreAdmitted limits commands) (t : Tables) (are : AreOf limits commands t) (r : Asked) (subject : Subject) (which : Reading) (names : subject_in (in_force commands) r.words ≡ Some subject) (shows : reading_of subject r.mode ≡ Some which) where
+module _ (limits : Limits) (commands : List Accepted) (admitted : AreAdmitted limits commands) (t : Tables) (are : AreOf limits commands t) (r : Asked) (subject : Subject) (which : Reading) (names : subject_in (current_policy commands) r.words ≡ Some subject) (shows : reading_of subject r.mode ≡ Some which) where
   abbrev column : LabelColumn
   column = column_of subject which
 
@@ -131,7 +131,7 @@ module _ (limits : Limits) (commands : List Accepted) (admitted : AreAdmitted li
   ok = admitted_sound limits commands admitted
 
   reads : Reads commands r.words r.mode subject which
-  reads = record { policy = in_force commands; governed = policy_in_force commands ok.governed; sound = sound_in_force limits commands ok; names = names; shows = shows }
+  reads = record { policy = current_policy commands; governed = policy_in_force commands ok.governed; sound = sound_in_force limits commands ok; names = names; shows = shows }
 
   abbrev IsLabelled : SaleRecord → Type 0
   IsLabelled s = text_at column t (fact_key column (fact_of commands s)) ≡ Some (label commands subject which s)
@@ -193,7 +193,7 @@ pub reported_history : (limits : Limits) (commands : List Accepted) (before afte
     → HasCleanDisk new → (ready : IsReady limits commands before old) → column_asked before.policy r ≡ Some column → ReadsThrough before after old new (of_warehouse result)
     → ReportsTables r column ready.rests.tables result → IfErr result IsOfTables → Reports commands r result
 reported_history limits commands before after old new r column result clean ready asked reads says only =
-    let governed : before.policy ≡ in_force commands = ap (λ (s : Session). s.policy) ready.session_is in
+    let governed : before.policy ≡ current_policy commands = ap (λ (s : Session). s.policy) ready.session_is in
     let asks = asks_of before.policy r column asked in
     let t : Tables = ready.rests.tables in
     reported limits commands ready.admitted t ready.rests.are r asks.subject asks.which (sym (ap (λ (policy : Policy). subject_in policy r.words) governed) ∙ asks.names) asks.shows result (subst (λ (c : LabelColumn). ReportsTables r c t result) asks.is says) only

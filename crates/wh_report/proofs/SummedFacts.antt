@@ -21,8 +21,8 @@ use Rattle.wh_report.specs.Request.{is_asked_of}
 use Rattle.wh_report.specs.Reported.{IsSummed, IsUncounted, uncounted}
 use Rattle.wh_report.specs.Sums.{IsMeasured, IsUpTo}
 use Rattle.wh_report.specs.declared.column.LabelColumn.{LabelColumn}
-use Rattle.wh_report.specs.declared.counting.FactFault.{FactFault}
-use Rattle.wh_report.specs.declared.counting.FactFault.TheVariants.{Memory, NoLabel, Damaged}
+use Rattle.wh_report.specs.declared.fact.FactFault.{FactFault}
+use Rattle.wh_report.specs.declared.fact.FactFault.TheVariants.{Memory, NoLabel, Damaged}
 use Rattle.wh_report.specs.declared.output.ReportFault.{ReportFault}
 use Rattle.wh_report.specs.declared.output.ReportFault.TheVariants.{Write, Warehouse, Inconsistent}
 use Rattle.wh_report.proofs.HandedRows.{Seen}

@@ -63,7 +63,7 @@ by_year : subject_in policy (codes "date.year") ≡ None
 unfolding subject_in policy_on_literals
 by_year = refl
 
--- a request, and the faults: no reading is told before no range, and no attribute before both
+-- a request, and the faults: no reading comes before no range, and no attribute before both
 
 asked_for_categories : asked policy (codes "product.category") Is (codes "2023-01-01") (codes "2026-12-31") ≡ Ok (record { words = codes "product.category"; mode = Is; from = 20230101; to = 20261231 })
 unfolding asked subject_in policy_on_literals

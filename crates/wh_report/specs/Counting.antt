@@ -7,8 +7,8 @@ use Rattle.wh_report.specs.Request.{is_asked_of}
 use Rattle.wh_report.specs.Summary.{Sold}
 use Rattle.wh_report.specs.Sums.{Measured}
 use Rattle.wh_report.specs.declared.column.LabelColumn.{LabelColumn}
-use Rattle.wh_report.specs.declared.counting.FactFault.{FactFault}
-use Rattle.wh_report.specs.declared.counting.FactFault.TheVariants as fault
+use Rattle.wh_report.specs.declared.fact.FactFault.{FactFault}
+use Rattle.wh_report.specs.declared.fact.FactFault.TheVariants as fault
 use Rattle.wh_report.specs.declared.summary.AddError.{AddError}
 use Rattle.wh_report.specs.declared.summary.AddError.TheVariants.{Memory, Full}
 

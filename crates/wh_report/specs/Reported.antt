@@ -16,7 +16,7 @@ use Rattle.wh_rows.specs.declared.table.Table.{Table}
 use Rattle.wh_rows.specs.declared.table.Table.TheVariants as table
 use Rattle.wh_store.specs.Scan.{rows_left}
 use Rattle.wh_store.specs.declared.scan.Cursor.{Cursor}
-use Rattle.wh_engine.specs.Admission.{in_force}
+use Rattle.wh_engine.specs.Admission.{current_policy}
 use Rattle.wh_engine.specs.Scanned.{IsWanting}
 use Rattle.wh_engine.specs.declared.fault.Fault.TheVariants as faults
 use Rattle.wh_report.specs.Asked.{Asked}
@@ -29,8 +29,8 @@ use Rattle.wh_report.specs.Subject.{subject_in, reading_of}
 use Rattle.wh_report.specs.Summary.{Sold, Summed, summed}
 use Rattle.wh_report.specs.declared.column.LabelColumn.{LabelColumn}
 use Rattle.wh_report.specs.declared.column.LabelColumn.TheVariants.{Main, Second, CurrentMain, FactProfile, CurrentProfile, CalendarMonth, CalendarHoliday}
-use Rattle.wh_report.specs.declared.counting.FactFault.{FactFault}
-use Rattle.wh_report.specs.declared.counting.FactFault.TheVariants as uncountable
+use Rattle.wh_report.specs.declared.fact.FactFault.{FactFault}
+use Rattle.wh_report.specs.declared.fact.FactFault.TheVariants as uncountable
 use Rattle.wh_report.specs.declared.output.ReportFault.{ReportFault}
 use Rattle.wh_report.specs.declared.output.ReportFault.TheVariants.{Write, Warehouse, Inconsistent}
 
@@ -86,7 +86,7 @@ IsSummed r column labels facts (Ok sums) = sums ≡ summed (filter_map (counted 
 IsSummed r column labels facts (Err (Inconsistent found)) = IsInconsistent r column labels facts found
 IsSummed r column labels facts (Err fault) = ⊤
 
--- why a fact isn't counted behind others: its key leads to no label, or they are as many as can be counted
+-- why a fact isn't counted after others: its key leads to no label, or they are as many as can be counted
 abbrev pub IsUncounted : Asked → LabelColumn → (ℕ → Option (List ℕ)) → List Fact → Fact → ReportFault → Type 0
 IsUncounted r column labels before f (Inconsistent found) = ((found ≡ table_of column) × (is_asked_of r f.day ≡ true) × (labels (fact_key column f) ≡ None)) ⊎ ((found ≡ table.Fact) × (4_294_967_295 ≤ length before))
 IsUncounted r column labels before f fault = ⊤
@@ -111,7 +111,7 @@ column_asked policy r = option_and_then (λ subject. option_map (column_of subje
 
 -- The report that is asked for: what the sales come to, each under the label that the history gives it.
 abbrev pub report_of : List Accepted → Asked → List ℕ
-report_of commands r = unwrap_or (option_and_then (λ subject. option_map (λ which. report commands subject which r) (reading_of subject r.mode)) (subject_in (in_force commands) r.words)) []
+report_of commands r = unwrap_or (option_and_then (λ subject. option_map (λ which. report commands subject which r) (reading_of subject r.mode)) (subject_in (current_policy commands) r.words)) []
 
 -- It is given, or memory ran out or the store refused a call. Nothing else comes.
 abbrev pub Reports : List Accepted → Asked → Result (Vec ℕ Global) ReportFault → Type 0

@@ -2,33 +2,33 @@
 #![tactic(auto)]
 
 mod column;
-mod counting;
-mod dumped;
-mod dumping;
-mod labelling;
+mod column_labels;
+mod dumps;
+mod fact;
+mod fact_sums;
 mod labels;
 pub mod laws;
 mod mode;
 mod output;
 mod part;
-mod reporting;
 mod request;
+mod sales_report;
 mod subject;
 mod summary;
-mod summing;
+mod table_texts;
 mod text;
 mod totals;
 
 pub use column::{LabelColumn, column_of};
-pub use counting::FactFault;
-pub use dumped::{DumpedTable, dimension_text, header_line, row_line, table_text};
-pub use dumping::{dump, write_table};
+pub use dumps::{dump, write_table};
+pub use fact::FactFault;
 pub use labels::Labels;
 pub use mode::Mode;
-pub use output::ReportFault;
-pub use reporting::report;
+pub use output::{ReportFault, WriteFailed, write_whole};
 pub use request::{Request, RequestFault};
+pub use sales_report::report;
 pub use subject::{Reading, SlotAttribute, Subject, reading_of, subject_in};
 pub use summary::{AddError, Summary};
+pub use table_texts::{DumpedTable, dimension_text, header_line, row_line, table_text};
 pub use text::report_text;
 pub use totals::{Measures, Totals};

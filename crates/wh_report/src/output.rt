@@ -1,8 +1,8 @@
 //! Writing a text out, and why a call that writes one fails.
 
-ghost use Rattle.std.specs.Prelude.{◌≡◌, IfErr};
+ghost use Rattle.std.specs.Prelude.{◌≡◌, ℕ, ◌<◌, OnOk, OnErr, length, take};
+ghost use Rattle.std.specs.Io.KnownBytes.{Appends};
 ghost use Rattle.wh_engine.specs.declared.fault.Fault.TheVariants as faults;
-ghost use Rattle.wh_report.specs.Output.{IsOutWhole};
 ghost use Rattle.wh_report.specs.declared.output.ReportFault.TheVariants as report;
 
 use std::alloc::AllocError;
@@ -41,21 +41,30 @@ impl From<Fault> for ReportFault {
     }
 }
 
+impl From<WriteFailed> for ReportFault {
+    ghost from_gives = { λ _ fault. fault ≡ report.Write };
+
+    fn from(_failed: WriteFailed) -> ReportFault {
+        ReportFault::Write
+    }
+}
+
+/// The writer failed, or took nothing.
+#[derive(Clone, Copy, Debug, PartialEq, Eq, Error)]
+#[error("the text can't be written")]
+pub struct WriteFailed;
+
 /// Writes the text. After an `Err` what went out is a beginning of it.
-pub(crate) fn write_whole<W: Write>(out: &mut W, text: &[u8]) -> Result<(), ReportFault>
-    ensures out { IsOutWhole result (W.contents out.old) (W.contents out.new) text.now }
-    ensures only { IfErr result (λ fault. fault ≡ report.Write) }
+pub fn write_whole<W: Write>(out: &mut W, text: &[u8]) -> Result<(), WriteFailed>
+    ensures whole { OnOk result (Appends (W.contents out.old) (W.contents out.new) text.now) }
+    ensures beginning { OnErr result ((kept : ℕ) × (kept < length text.now)
+        × Appends (W.contents out.old) (W.contents out.new) (take kept text.now)) }
 {
     let mut written = 0;
     'writes: while written < text.len() {
         match out.write(&text[written..]) {
-            Ok(taken) => {
-                if taken == 0 {
-                    return Err(ReportFault::Write);
-                }
-                written += taken;
-            }
-            Err(_) => return Err(ReportFault::Write),
+            Ok(0) | Err(_) => return Err(WriteFailed),
+            Ok(taken) => written += taken,
         }
     }
     Ok(())

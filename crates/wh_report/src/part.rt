@@ -8,8 +8,8 @@ ghost use Rattle.wh_report.specs.Output.{IsOutBut, IsOutWhole, IsOfNoTable};
 ghost use Rattle.wh_report.specs.Part.{Gathers};
 ghost use Rattle.wh_report.specs.declared.output.ReportFault.TheVariants as report;
 
-use crate::dumped::DumpedTable;
 use crate::output::{ReportFault, write_whole};
+use crate::table_texts::DumpedTable;
 use csv::{StringRecord, Writer, WriterBuilder};
 use std::alloc::{AllocError, Global};
 use std::io::Write;
@@ -93,10 +93,10 @@ impl Part {
         let written = write_whole(out, &lines);
         lines.clear();
         self.lines = WriterBuilder::new().from_writer(lines);
-        written
+        Ok(written?)
     }
 
-    /// Writes the lines out before a fault of the warehouse is told, and tells that one also where the writer fails.
+    /// Writes the lines out before a fault of the warehouse is answered, and answers that one also where the writer fails.
     pub(crate) fn go_out_before<W: Write>(
         &mut self,
         alloc: Global,

@@ -1,4 +1,4 @@
--- The rows behind a key, and those behind the last row of a part of them.
+-- The rows after a key, and those after the last row of a part of them.
 use Rattle.std.proofs.Common.{◌≡◌, ℕ, zero, suc, ◌-◌, ◌<◌, ◌≤◌, List, [], ◌∷◌, ◌++◌, filter, take, drop, length, slice_get, Bool, true, false, cond, if◌then◌else◌, Option, None, Some, option_map, refl, sym, ap, subst, ◌∙◌, arith, append_assoc, Ordering, Less, Equal, Greater}
 use Rattle.std.proofs.lemmas.List.{take-append-drop}
 use Rattle.std.specs.List.{AllByRecursion}
@@ -86,7 +86,7 @@ module _ {K V : Type 0} (layout : Layout K V) (total : IsTotalOrder layout.order
   turned_back : (j k : K) → layout.order j k ≡ Greater → layout.order k j ≡ Less
   turned_back j k greater = total.antisymm k j ∙ ap ordering_reverse greater
 
-  -- a row behind a row that is behind a key is behind the key
+  -- a row after a row that is after a key is after the key
   further : (after : Option K) (v w : V) → is_behind layout after v ≡ true → is_behind layout (Some (layout.key v)) w ≡ true → is_behind layout after w ≡ true
   further None v w first second = refl
   further (Some k) v w first second =
@@ -98,7 +98,7 @@ module _ {K V : Type 0} (layout : Layout K V) (total : IsTotalOrder layout.order
   all_behind k [] all = refl
   all_behind k (v ∷ vs) all = rw (turned k (layout.key v) all.0) (ap (λ l. v ∷ l) (all_behind k vs all.1))
 
-  -- of rows in the order of their keys, those behind the key of one are those after it
+  -- of rows in the order of their keys, those after the key of one are those after it
   behind_one : (before : List V) (v : V) (later : List V) → IsAscending Below (before ++ v ∷ later) → filter (is_behind layout (Some (layout.key v))) (before ++ v ∷ later) ≡ later
   behind_one [] v later up = rw (not_behind_itself (layout.key v)) (all_behind (layout.key v) later up.0)
   behind_one (x ∷ before) v later up =
@@ -109,7 +109,7 @@ module _ {K V : Type 0} (layout : Layout K V) (total : IsTotalOrder layout.order
     abbrev left : List V
     left = filter (is_behind layout after) (values m)
 
-    -- what is behind a row of what is left is what comes after it there
+    -- what is after a row of what is left is what comes after it there
     pub behind_row : (before : List V) (v : V) (later : List V) → left ≡ before ++ v ∷ later → filter (is_behind layout (Some (layout.key v))) (values m) ≡ later
     behind_row before v later is =
         let up = ascending-filter Below (is_behind layout after) (values m) (rising layout (entries m) keyed (entries_sorted m)) in
@@ -118,7 +118,7 @@ module _ {K V : Type 0} (layout : Layout K V) (total : IsTotalOrder layout.order
         ∙ ap (filter (is_behind layout (Some (layout.key v)))) is
         ∙ behind_one before v later (subst (IsAscending Below) is up)
 
-    -- a part of what is left, and what is behind its last row, are what is left
+    -- a part of what is left, and what is after its last row, are what is left
     pub part_and_rest : (most : ℕ) → 0 < most → (rows : List V) → rows ≡ take most left → (is_short : Bool) → (is_short ≡ true → length rows < most) → (is_short ≡ false → most ≤ length rows)
         → rows ++ (if is_short then [] else filter (is_behind layout (option_map layout.key (slice_get rows (length rows - 1)))) (values m)) ≡ left
     part_and_rest most some rows are true short full =

@@ -1,4 +1,4 @@
--- The stored rows behind a key, whoever wrote them, and those behind the last row of a part of them.
+-- The stored rows after a key, whoever wrote them, and those after the last row of a part of them.
 use Rattle.std.proofs.Common.{◌≡◌, ◌≢◌, ◌+◌, ◌<◌, ◌≤◌, List, [], ◌∷◌, ◌++◌, map, filter, drop, length, Bool, true, false, cond, Option, None, Some, refl, sym, ap, subst, ◌∙◌, arith, Ordering, Less, Equal, Greater}
 use Rattle.std.proofs.lemmas.List.{take-append-drop, length-map}
 use Rattle.std.proofs.lemmas.List.Sorted.{length_permutation, IsPermutation-sym, IsPermutation-trans, IsPermutation-append_right}
@@ -135,7 +135,7 @@ module _ {K V : Type 0} (layout : Layout K V) (bind : K → Row) (stands_at : K 
     up : IsAscending NotBelow front.ordered
     up = ascending_from_sorted cmp total front.ordered front.sorted
 
-    -- a part that isn't full is all that is behind the key
+    -- a part that isn't full is all that is after the key
     pub short_part : length read < a_part.most → IsArranged layout.table (filter (behind_key after) stored) (map layout.encode read)
     short_part few =
         let long : length (map layout.encode read) ≡ length read = length-map read layout.encode in
@@ -156,13 +156,13 @@ module _ {K V : Type 0} (layout : Layout K V) (bind : K → Row) (stands_at : K 
       not_past_itself : past v last ≡ false
       not_past_itself = ap is_gt (sym (keyed.led last v)) ∙ tie_is _ (total.antisymm last last)
 
-      -- the last row is behind the key
+      -- the last row is after the key
       is_behind_key : behind_key after last ≡ true
       is_behind_key =
           let all = all-permutation (λ r. behind_key after r ≡ true) (filter (behind_key after) stored) front.ordered front.same (kept_all (behind_key after) stored) in
           all_at (λ r. behind_key after r ≡ true) (map layout.encode before) last later (subst (AllByRecursion (λ r. behind_key after r ≡ true)) parted all)
 
-      -- and so are the rows that are behind it
+      -- and so are the rows that are after it
       further : (a : Option K) → behind_key a last ≡ true → (r : Row) → past v r ≡ true → behind_key a r ≡ true
       further None here r beyond = refl
       further (Some k) here r beyond =
@@ -200,7 +200,7 @@ module _ {K V : Type 0} (layout : Layout K V) (bind : K → Row) (stands_at : K 
       none_past : AllByRecursion (λ r. past v r ≡ false) (map layout.encode before)
       none_past = all_mapped (λ r. NotBelow r last) (λ r. past v r ≡ false) (map layout.encode before) (λ r below. ap is_gt (sym (keyed.led r v)) ∙ below) (before_at NotBelow (map layout.encode before) last later up_here)
 
-      -- what is behind it is what comes after it
+      -- what is after it is what comes after it
       rest_is : IsPermutation later (filter (past v) stored)
       rest_is =
           let kept : filter (past v) front.ordered ≡ later = ap (filter (past v)) parted ∙ passed_over (past v) (map layout.encode before) last later none_past not_past_itself all_past in
@@ -219,7 +219,7 @@ module _ {K V : Type 0} (layout : Layout K V) (bind : K → Row) (stands_at : K 
       through r s Equal is below less = ap is_gt (total.congr r last s is ∙ less)
       through r s Greater is below less = absurd (cc)
 
-      -- a part, and what is behind its last row, are what is behind the key
+      -- a part, and what is after its last row, are what is after the key
       pub part_then_rest : (rest : List Row) → IsArranged layout.table (filter (behind_key (Some (layout.key v))) stored) rest → IsArranged layout.table (filter (behind_key after) stored) (map layout.encode read ++ rest)
       part_then_rest rest is =
           let bag : IsPermutation later rest = IsPermutation-trans _ _ _ rest_is is.same in

@@ -106,11 +106,11 @@ two_tied v w k l first second same =
 
 -- ---- tests of a key's columns
 
--- behind a key of one column
+-- after a key of one column
 past_one : (g : Bool) (o : Ordering) → g ≡ is_gt o → (g && true) ≡ is_gt (ordering_then o Equal)
 past_one g o is = and-true g ∙ is ∙ ap is_gt (sym (then-Equal o))
 
--- behind a key of two
+-- after a key of two
 past_two : (a g h : Bool) (o p : Ordering) → a ≡ is_ge o → g ≡ is_gt o → h ≡ is_gt p → (a && ((g || h) && true)) ≡ is_gt (ordering_then o (ordering_then p Equal))
 past_two a g h o p least first second =
     ap₂ ◌&&◌ least (ap (λ b. b && true) (ap₂ ◌||◌ first second)) ∙ then_after o p ∙ ap (λ q. is_gt (ordering_then o q)) (sym (then-Equal p))

@@ -21,3 +21,6 @@ pub mod AtRest
 pub mod Raw
 pub mod Rekey
 pub mod Parts
+pub mod Defined
+pub mod Sound
+pub mod Laws

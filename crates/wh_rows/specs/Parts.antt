@@ -16,12 +16,12 @@ use Rattle.wh_rows.specs.Raw.{Stored, IsStored, stored_cmp, ReadsFrontStored}
 abbrev pub a_part : Front
 a_part = record { most = 256; backwards = false }
 
--- the texts that show the first part of a table, and the part behind a key
+-- the texts that show the first part of a table, and the part after a key
 pub record PartTexts : Type 0 where
   pub first : List ℕ
   pub after : List ℕ
 
--- ---- the part behind a key, or the first where there is no key
+-- ---- the part after a key, or the first where there is no key
 
 abbrev pub part_text : {K : Type 0} → PartTexts → Option K → List ℕ
 part_text texts None = texts.first
@@ -31,7 +31,7 @@ abbrev pub bind_part : {K : Type 0} → (K → Row) → Option K → Row
 bind_part bind None = []
 bind_part bind (Some key) = bind key
 
--- the row is behind the key, in the order of keys
+-- the row is after the key, in the order of keys
 abbrev pub is_behind : {K V : Type 0} → Layout K V → Option K → V → Bool
 is_behind layout None row = true
 is_behind layout (Some key) row = is_gt (layout.order (layout.key row) key)

@@ -7,10 +7,11 @@ use Rattle.wh_day.specs.Value.{none_text, unknown_text, no_card_text}
 use Rattle.wh_policy.specs.declared.attribute.Dim.{Dim}
 use Rattle.wh_policy.specs.declared.attribute.Dim.TheVariants.{Product, Store, Customer}
 use Rattle.wh_policy.specs.Words.{word_of, every_dim}
+use Rattle.wh_history.specs.Keys.{greatest_number}
 
 -- a key, a number or a count
 abbrev pub is_number : ℕ → Bool
-is_number n = nat_le n 9999999
+is_number n = nat_le n greatest_number
 
 -- the number of a line on its ticket
 abbrev pub is_line : ℕ → Bool

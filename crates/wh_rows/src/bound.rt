@@ -9,6 +9,7 @@ ghost use Rattle.wh_rows.specs.Types.{is_number, dim_number};
 ghost use Rattle.wh_rows.specs.Rows.{flag, slot_column, slot_columns, encode_meta, encode_command, encode_member, encode_change, encode_dimension, encode_profile, encode_date, encode_fact, is_command, is_member, is_change, is_dimension, is_profile, is_fact};
 
 use crate::cause::Cause;
+use crate::key::dim_number;
 use crate::rows::{ChangeRow, CommandRow, MemberRow, MetaRow, ProfileRow};
 use sqlite::types::ValueRef;
 use std::alloc::Global;
@@ -34,15 +35,11 @@ pub fn day(day: Day) -> ValueRef<'static>
     ValueRef::Int(day.key() as i64)
 }
 
-/// The number of a dimension.
+/// The number of a dimension, as a column.
 pub fn dim(dim: Dim) -> ValueRef<'static>
     ensures { owned result ≡ Int (pos (dim_number dim)) }
 {
-    match dim {
-        Dim::Product => ValueRef::Int(1),
-        Dim::Store => ValueRef::Int(2),
-        Dim::Customer => ValueRef::Int(3),
-    }
+    ValueRef::Int(dim_number(dim) as i64)
 }
 
 /// A text.

@@ -14,6 +14,7 @@ use sqlite::types::{Bytes, ValueRef};
 use std::alloc::Global;
 use thiserror::Error;
 use wh_day::{Day, ReadError, Value, Values, is_key};
+use wh_history::GREATEST_NUMBER;
 use wh_policy::Dim;
 
 /// A stored value is not of the type of its column.
@@ -46,7 +47,7 @@ pub(crate) fn number(row: &Row, at: usize) -> Result<u64, ReadError<Damaged>>
     ensures { Gives (λ n. n) result (number_of (column row.now at)) }
 {
     match column(row, at) {
-        ValueRef::Int(n) if 0 <= n && n <= 9_999_999 => Ok(n as u64),
+        ValueRef::Int(n) if 0 <= n && n <= GREATEST_NUMBER as i64 => Ok(n as u64),
         _ => Err(ReadError::Fault(Damaged)),
     }
 }

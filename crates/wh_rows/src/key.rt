@@ -1,7 +1,21 @@
-//! The keys of the tables whose key has two columns.
+//! The keys of the tables whose key has two columns, and the numbers of the dimensions in them.
+
+ghost use Rattle.std.specs.Prelude.{◌≡◌};
+ghost use Rattle.wh_rows.specs.Types.{dim_number};
 
 use wh_day::Value;
 use wh_policy::Dim;
+
+/// The number of a dimension, by which the tables member and change name it.
+pub fn dim_number(dim: Dim) -> u64
+    ensures { result ≡ dim_number dim }
+{
+    match dim {
+        Dim::Product => 1,
+        Dim::Store => 2,
+        Dim::Customer => 3,
+    }
+}
 
 /// The key of member: a dimension, and a durable key of it.
 #[derive(Clone, Copy, Debug, PartialEq, Eq)]

@@ -13,7 +13,7 @@ pub mod tables;
 
 pub use cause::Cause;
 pub use columns::Damaged;
-pub use key::{ChangeKey, LineKey, MemberKey};
+pub use key::{ChangeKey, LineKey, MemberKey, dim_number};
 pub use limits::Limits;
 pub use rows::{ChangeRow, CommandRow, MemberRow, MetaRow, ProfileRow, TableRow};
 pub use table::Table;

@@ -7,7 +7,7 @@ use sqlite::types::ValueRef;
 use std::alloc::Global;
 use wh_rows::Cause;
 
-/// The part of a table that stands behind a key, or its first part: up to 256 rows in the order of their keys.
+/// The part of a table that stands after a key, or its first part: up to 256 rows in the order of their keys.
 #[derive(Debug, Drop)]
 pub struct Part<K> {
     pub after: Option<K>,

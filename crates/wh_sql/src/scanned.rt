@@ -9,7 +9,7 @@ use std::alloc::AllocError;
 /// So many rows are a part.
 pub const PART: usize = 256;
 
-/// The texts that show the first part of a table, and the part behind a key.
+/// The texts that show the first part of a table, and the part after a key.
 #[derive(Drop)]
 pub struct PartStatements {
     pub first: &'static str,

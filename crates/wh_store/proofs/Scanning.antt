@@ -16,7 +16,7 @@ use Rattle.wh_sql.specs.Part.{HasKey}
 use Rattle.wh_store.specs.Scan.{HandsOut}
 
 module _ {K V : Type 0} (layout : Layout K V) (rows : Tables → FinMap layout.order V) (with_rows : FinMap layout.order V → Tables → Tables) (placed : IsPlaced layout rows with_rows) (s : State) (t : Tables) (at : IsAtRest (Some t) s) where
-  -- a part that was read and what is behind its last row are what was left
+  -- a part that was read and what is after its last row are what was left
   pub part_read : (after next : Option K) (read : List V) (n : ℕ) → read ≡ part (Some a_part) (filter (is_behind layout after) (values (rows t))) → next ≡ option_map layout.key (slice_get read (length read - 1)) → n ≡ length read
       → read ++ (if nat_lt n 256 then [] else filter (is_behind layout next) (values (rows t))) ≡ filter (is_behind layout after) (values (rows t))
   part_read after next read n are last long =

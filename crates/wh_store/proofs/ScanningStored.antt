@@ -11,7 +11,7 @@ use Rattle.wh_rows.proofs.BehindStored.{short_part, part_then_rest, nil_after}
 use Rattle.wh_store.specs.Scan.{AreUnread, AreAheadOf, HandsOutSo}
 
 module _ {K V : Type 0} (layout : Layout K V) (bind : K → Row) (stands_at : K → Row → Bool) (keyed : IsKeyed layout bind stands_at) (stored : List Row) (once : (k : K) → length (filter (stands_at k) stored) ≤ 1) where
-  -- a part that was read, and what is behind its last row, are what was left
+  -- a part that was read, and what is after its last row, are what was left
   pub part_left : (after next : Option K) (read : List V) (n : ℕ) → IsFrontOf a_part layout.table (filter (stands_behind layout bind after) stored) (map layout.encode read)
       → next ≡ option_map layout.key (slice_get read (length read - 1)) → n ≡ length read → (unread : List Row) → AreUnread layout bind stored next (nat_lt n 256) unread
       → IsArranged layout.table (filter (stands_behind layout bind after) stored) (map layout.encode read ++ unread)

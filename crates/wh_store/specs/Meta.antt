@@ -15,13 +15,13 @@ use Rattle.wh_store.specs.declared.fault.OpenFault.{OpenFault}
 use Rattle.wh_store.specs.declared.fault.OpenFault.TheVariants.{NotAWarehouse, OldFormat, NewFormat}
 
 -- the number of a row that may be there
-abbrev pub number_of : Option MetaRow → Option ℤ
-number_of (Some row) = Some row.value
-number_of None = None
+abbrev pub meta_number : Option MetaRow → Option ℤ
+meta_number (Some row) = Some row.value
+meta_number None = None
 
 -- the number under a name
 abbrev pub number_in : Tables → List ℕ → Option ℤ
-number_in t name = number_of (get t.meta name)
+number_in t name = meta_number (get t.meta name)
 
 -- one more row
 abbrev pub with_number : List ℕ → ℤ → Tables → Tables

@@ -12,7 +12,7 @@ use Rattle.wh_sql.specs.declared.fault.ReadFault.{ReadFault}
 use Rattle.wh_sql.specs.declared.fault.ReadFault.TheVariants as sql
 use Rattle.wh_store.specs.declared.fault.OpenFault.{OpenFault}
 use Rattle.wh_store.specs.declared.fault.OpenFault.TheVariants.{Memory, Damaged, Store}
-use Rattle.wh_store.specs.Meta.{number_of, limits_of_numbers, fault_of}
+use Rattle.wh_store.specs.Meta.{meta_number, limits_of_numbers, fault_of}
 
 -- the rows that are stored under a name
 abbrev pub rows_named : Stored → List ℕ → List Row
@@ -20,7 +20,7 @@ rows_named stored name = filter (stands_at_text name) (stored Meta)
 
 -- none of them is damaged, and the last has this number
 abbrev pub IsNumberIn : Stored → List ℕ → Option ℤ → Type 0
-IsNumberIn stored name number = (found : Option MetaRow) × IsLastOf meta (rows_named stored name) found × (number ≡ number_of found)
+IsNumberIn stored name number = (found : Option MetaRow) × IsLastOf meta (rows_named stored name) found × (number ≡ meta_number found)
 
 -- what the format that is stored says
 abbrev pub FormatIs : Stored → Result ⊤ OpenFault → Type 0

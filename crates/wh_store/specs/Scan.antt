@@ -7,7 +7,7 @@ use Rattle.wh_rows.specs.Holds.{Layout}
 use Rattle.wh_rows.specs.Parts.{is_behind, stands_behind, IsArranged}
 use Rattle.wh_store.specs.declared.scan.Cursor.{Cursor}
 
--- of a table, those that were read ahead, and then those behind the last of them
+-- of a table, those that were read ahead, and then those after the last of them
 abbrev pub rows_left : {K V : Type 0} (layout : Layout K V) → FinMap layout.order V → Cursor K V → List V
 rows_left layout rows cursor = into_iter_items cursor.ahead ++ (if cursor.is_over then [] else filter (is_behind layout cursor.unread.after) (values rows))
 
@@ -22,7 +22,7 @@ IsOver cursor = (into_iter_items cursor.ahead ≡ []) × IsTrue cursor.is_over
 
 -- ---- of any rows that are stored, whoever wrote them
 
--- those behind the key of the last that was read, in the order of their keys; none where nothing is read any more
+-- those after the key of the last that was read, in the order of their keys; none where nothing is read any more
 abbrev pub AreUnread : {K V : Type 0} → Layout K V → (K → Row) → List Row → Option K → Bool → List Row → Type 0
 AreUnread layout bind stored after true rows = rows ≡ []
 AreUnread layout bind stored after false rows = IsArranged layout.table (filter (stands_behind layout bind after) stored) rows

@@ -25,7 +25,7 @@ use wh_sql::{PART, Part, ReadFault, Scanned};
 pub struct Cursor<K, R> {
     /// The rows that were read and are not handed out yet.
     ahead: IntoIter<R>,
-    /// The part of the table behind them.
+    /// The part of the table after them.
     unread: Part<K>,
     /// That part is empty, or a fault came.
     is_over: bool,
@@ -87,7 +87,7 @@ fn read_ahead<T: Scanned, S: Alter>(
     Ok(())
 }
 
-/// The next row of the table behind those that the cursor handed out. After a fault none comes.
+/// The next row of the table after those that the cursor handed out. After a fault none comes.
 pub fn next_row<T: Scanned, S: Alter>(
     tables: &mut Tables<S>,
     alloc: Global,

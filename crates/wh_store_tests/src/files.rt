@@ -253,7 +253,7 @@ fn fused(alloc: Global, files: &Disks, log: u64, db: u64) -> Result<Disks, Troub
     })
 }
 
-/// What is told of files after a crash.
+/// What files hold after a crash, as an answer.
 fn shown<D: Crash + Drop>(alloc: Global, files: Files<D>) -> Result<String, Trouble> {
     let mut out = String::new(alloc);
     match on_files(alloc, crashed(files), Task::Show, End::Close, &mut out) {

@@ -1,4 +1,4 @@
-//! Rows as a scenario writes them, `product 1, 1, 'M1', ..` for the values of SQL, and as it is told of them.
+//! Rows as a scenario writes them, `product 1, 1, 'M1', ..` for the values of SQL, and as its answers write them.
 
 use crate::held::{Reads, Writes};
 use crate::told::Told;

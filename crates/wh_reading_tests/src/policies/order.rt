@@ -1,4 +1,4 @@
-//! Which of two faults is told.
+//! Which of two faults is the answer.
 
 pub const SCENARIO: &str = r#"
 # Of two things that are wrong with a file the first in this order is told.

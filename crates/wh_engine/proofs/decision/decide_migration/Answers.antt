@@ -5,7 +5,7 @@ use Rattle.wh_history.specs.Accepted.{Governs}
 use Rattle.wh_sql.specs.declared.fault.ReadFault.{ReadFault}
 use Rattle.wh_sql.specs.declared.fault.ReadFault.TheVariants as reading
 use Rattle.wh_store.specs.Reads.{SparesStore}
-use Rattle.wh_engine.specs.Admission.{in_force, accepted_as, answer, number_for, policy_told}
+use Rattle.wh_engine.specs.Admission.{current_policy, accepted_as, answer, number_for, policy_told}
 use Rattle.wh_engine.specs.Decided.{Decides}
 use Rattle.wh_engine.specs.Faults.{of_reading, IsServed}
 use Rattle.wh_engine.specs.declared.decision.Decision.{Decision}
@@ -22,9 +22,9 @@ returns-clause-decided g c clean commands t held rests kind good new =
     let number = c.in-Ok.number in
     let content = Governs newer in
     let before = c.plan_migration.ensures.reads.clean clean in
-    let found = judged_ok (λ newer told. newer ≡ told) newer (policy_told (in_force commands) command.bytes) (rw (held.policy, c.as_slice.ensures) at c.in_ok-newer.ensures.read) in
-    let told : policy_told (in_force commands) command.bytes ≡ Ok newer = found.1 ∙ ap Ok (sym found.2) in
-    let taken = policy_taken (in_force commands) command.bytes newer told in
+    let found = judged_ok (λ newer told. newer ≡ told) newer (policy_told (current_policy commands) command.bytes) (rw (held.policy, c.as_slice.ensures) at c.in_ok-newer.ensures.read) in
+    let told : policy_told (current_policy commands) command.bytes ≡ Ok newer = found.1 ∙ ap Ok (sym found.2) in
+    let taken = policy_taken (current_policy commands) command.bytes newer told in
     let read = policy_content limits commands command good new kind newer told in
     let numbered = judged_ok (λ number next. number ≡ next) number (number_for limits commands content) (c.in-Ok.ensures.number before commands t held.are held.accepted rests content refl refl) in
     let room : number_for limits commands content ≡ Ok number = numbered.1 ∙ ap Ok (sym numbered.2) in
@@ -40,8 +40,8 @@ returns-in-Err-clause-decided g c clean commands t held rests kind good new =
     let command = c.args.command.now in
     let newer = c.in_ok-newer.newer in
     let content = Governs newer in
-    let found = judged_ok (λ newer told. newer ≡ told) newer (policy_told (in_force commands) command.bytes) (rw (held.policy, c.as_slice.ensures) at c.in_ok-newer.ensures.read) in
-    let told : policy_told (in_force commands) command.bytes ≡ Ok newer = found.1 ∙ ap Ok (sym found.2) in
+    let found = judged_ok (λ newer told. newer ≡ told) newer (policy_told (current_policy commands) command.bytes) (rw (held.policy, c.as_slice.ensures) at c.in_ok-newer.ensures.read) in
+    let told : policy_told (current_policy commands) command.bytes ≡ Ok newer = found.1 ∙ ap Ok (sym found.2) in
     let read = policy_content limits commands command good new kind newer told in
     let judged = c.in-Err.ensures.number clean commands t held.are held.accepted rests content refl refl in
     judged_err (λ (number next : ℕ). number ≡ next) (Decides commands command) c.in-Err.fault (number_for limits commands content) (answer limits commands command) judged

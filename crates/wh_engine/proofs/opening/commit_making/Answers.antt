@@ -2,7 +2,8 @@ use Rattle.std.proofs.Common.{◌≡◌, [], ◌∷◌, None, Some, rules}
 use Rattle.sqlite.specs.Held.{state}
 use Rattle.sqlite.specs.State.{HasCleanDisk}
 use Rattle.wh_rows.specs.AtRest.{IsAtRest}
-use Rattle.wh_plan.specs.FirstRows.{making_of, IsGoodPolicy}
+use Rattle.wh_plan.specs.FirstRows.{IsGoodPolicy}
+use Rattle.wh_rows.specs.Sound.{making_of}
 use Rattle.wh_engine.proofs.OpenedTables.{rests_if_kept, leaves_making}
 use Rattle.wh_engine.proofs.opening.commit_making.Goals as goal
 

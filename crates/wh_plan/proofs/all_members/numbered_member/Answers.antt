@@ -1,5 +1,5 @@
 use Rattle.std.proofs.Common.{◌≡◌, sym, ◌∙◌, Some}
-use Rattle.wh_plan.specs.Defined.{member_at}
+use Rattle.wh_rows.specs.Defined.{member_at}
 use Rattle.wh_plan.proofs.AllMembers.{member_there, number_given, number_is}
 use Rattle.wh_plan.proofs.FoundMembers.{key_of}
 use Rattle.wh_plan.proofs.all_members.numbered_member.Goals as goal

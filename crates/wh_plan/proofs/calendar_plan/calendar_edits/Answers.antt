@@ -1,6 +1,6 @@
 use Rattle.std.proofs.Common.{◌∙◌, refl, sym, subst}
 use Rattle.wh_rows.specs.Rows as row
-use Rattle.wh_plan.specs.Defined.{day_at}
+use Rattle.wh_rows.specs.Defined.{day_at}
 use Rattle.wh_plan.specs.Edits.{IsTablePlan}
 use Rattle.wh_plan.specs.Migration.{edit_on}
 use Rattle.wh_plan.proofs.NumberedPlans.{one_made, none_made, all_made}

@@ -1,4 +1,4 @@
-use Rattle.wh_plan.proofs.OwnKeys.{second_keys_are_apart}
+use Rattle.wh_rows.proofs.OwnKeys.{second_keys_are_apart}
 use Rattle.wh_plan.proofs.laws.second_keys_are_apart.Goals as goal
 
 pub returns : goal.returns

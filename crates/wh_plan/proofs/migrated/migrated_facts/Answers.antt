@@ -5,7 +5,7 @@ use Rattle.wh_history.specs.Accepted.{Accepted}
 use Rattle.wh_history.specs.Facts.{rekeyed_to}
 use Rattle.wh_history.specs.declared.facts.Fact.{Fact}
 use Rattle.wh_plan.specs.BatchRows.{AreFacts, AreRekeyed}
-use Rattle.wh_plan.specs.Defined.{fact_at}
+use Rattle.wh_rows.specs.Defined.{fact_at}
 use Rattle.wh_plan.proofs.AnewFacts.{keys_all, keys_shown, moved_shown, anew_facts, anew_rekeyed}
 use Rattle.wh_plan.proofs.migrated.migrated_facts.Goals as goal
 

@@ -6,7 +6,7 @@ use Rattle.wh_history.specs.declared.plan.Edit.TheVariants.{Put}
 use Rattle.wh_rows.specs.declared.rows.CommandRow.{CommandRow}
 use Rattle.std.proofs.Common.{ℕ}
 use Rattle.wh_plan.proofs.AllMembers.{types_anew}
-use Rattle.wh_plan.proofs.GovernedLists.{policy_governed}
+use Rattle.wh_rows.proofs.GovernedLists.{policy_governed}
 use Rattle.wh_plan.proofs.MigrationPlans.{migration_edits}
 use Rattle.wh_plan.proofs.PlanPremises.{days_after}
 use Rattle.wh_plan.proofs.migration_plan.plan_migration.Goals as goal

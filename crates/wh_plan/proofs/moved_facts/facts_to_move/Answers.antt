@@ -7,7 +7,7 @@ use Rattle.wh_history.specs.Known.{number_in, KnowsEnough}
 use Rattle.wh_history.specs.Shapes.{shape_of}
 use Rattle.wh_history.specs.Touched.{touched_by}
 use Rattle.wh_history.specs.declared.member.Member.{Member}
-use Rattle.wh_plan.specs.Defined.{fact_at}
+use Rattle.wh_rows.specs.Defined.{fact_at}
 use Rattle.wh_plan.specs.BatchRows.{AreFacts, AreRekeyed}
 use Rattle.wh_plan.specs.MovedFacts.{moved_of_touched, pair_of}
 use Rattle.wh_plan.specs.NewRows.{naturals_told}

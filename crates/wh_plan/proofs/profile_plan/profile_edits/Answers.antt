@@ -3,7 +3,7 @@ use Rattle.std.specs.List.{slice_get, HoldsAt}
 use Rattle.std.specs.Option.{option_copied, IfSome, MatchOption}
 use Rattle.std.proofs.lemmas.Option.{slice_get_past, slice_get_read}
 use Rattle.wh_rows.specs.declared.rows.ProfileRow.{ProfileRow}
-use Rattle.wh_plan.specs.Migration.{edit_of_profile, edit_between}
+use Rattle.wh_plan.specs.Migration.{edit_of_profile, profile_edit_at}
 use Rattle.wh_plan.proofs.NumberedPlans.{one_made, none_made}
 use Rattle.wh_plan.proofs.profile_plan.profile_edits.Goals as goal
 use Rattle.wh_plan.proofs.profile_plan.profile_edits.Goals.{in-Some+in_ok-push, in_default}
@@ -17,7 +17,7 @@ loop-place-preserved c =
     let place = c.loop-place.place in
     let stored = c.args.stored.now in
     let rows = c.args.rows.now in
-    let make = edit_between stored rows in
+    let make = profile_edit_at stored rows in
     let old = c.get.ensures.lookup in
     let new = c.get-in-loop-place.ensures.lookup in
     let made : c.in_ok-edit.field-0 ≡ make place =

@@ -2,7 +2,7 @@ use Rattle.std.proofs.Common.{◌≡◌, ◌++◌, ◌∷◌, [], ◌∙◌, sym
 use Rattle.wh_history.specs.Accepted.{profiles_of}
 use Rattle.wh_history.specs.Known.{all_numbered}
 use Rattle.wh_rows.specs.Rows as row
-use Rattle.wh_plan.specs.Defined.{profile_at}
+use Rattle.wh_rows.specs.Defined.{profile_at}
 use Rattle.wh_plan.specs.Edits.{IsTablePlan}
 use Rattle.wh_plan.specs.Migration.{edits_of_profiles}
 use Rattle.wh_plan.proofs.PlanPremises.{values_before}

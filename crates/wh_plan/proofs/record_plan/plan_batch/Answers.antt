@@ -4,7 +4,7 @@ use Rattle.wh_policy.specs.declared.attribute.AttributeType.{AttributeType}
 use Rattle.wh_history.specs.Accepted.{profiles_of}
 use Rattle.wh_history.specs.Known.{number_in, KnowsEnough}
 use Rattle.wh_history.specs.Laws.{governs}
-use Rattle.wh_plan.specs.Sound.{AreTypes}
+use Rattle.wh_rows.specs.Sound.{AreTypes}
 use Rattle.wh_plan.proofs.PlanPremises.{days_before, days_after}
 use Rattle.wh_plan.proofs.record_plan.plan_batch.Goals as goal
 

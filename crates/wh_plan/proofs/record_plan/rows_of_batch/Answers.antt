@@ -2,7 +2,7 @@ use Rattle.std.proofs.Common.{◌++◌, ◌∷◌, [], length, sym, ◌∙◌, a
 use Rattle.std.specs.Prelude.{filter_map}
 use Rattle.wh_history.specs.Accepted.{records_by}
 use Rattle.wh_history.specs.Plan.{row_of}
-use Rattle.wh_plan.specs.Defined.{change_at, fact_at}
+use Rattle.wh_rows.specs.Defined.{change_at, fact_at}
 use Rattle.wh_plan.specs.BatchRows.{behind}
 use Rattle.wh_plan.proofs.OneDimension.{members_told, all_planned}
 use Rattle.wh_plan.proofs.PlanEdits.{own_number}

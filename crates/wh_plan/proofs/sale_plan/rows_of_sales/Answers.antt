@@ -3,7 +3,7 @@ use Rattle.std.specs.List.{AllByRecursion}
 use Rattle.wh_history.specs.declared.facts.Fact.{Fact}
 use Rattle.wh_rows.specs.Rows as row
 use Rattle.wh_plan.specs.BatchRows.{AreFacts}
-use Rattle.wh_plan.specs.Defined.{fact_at}
+use Rattle.wh_rows.specs.Defined.{fact_at}
 use Rattle.wh_plan.proofs.SalesEdits.{rows_sold}
 use Rattle.wh_plan.proofs.Selling.{sales_are_facts, facts_new}
 use Rattle.wh_plan.proofs.sale_plan.rows_of_sales.Goals as goal

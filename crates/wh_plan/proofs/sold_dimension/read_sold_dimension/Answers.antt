@@ -5,7 +5,7 @@ use Rattle.wh_history.specs.Accepted.{members, anchors, member_of, profiles_of}
 use Rattle.wh_history.specs.Known.{number_in, KnowsEnough}
 use Rattle.wh_history.specs.declared.member.Member.{Member}
 use Rattle.wh_plan.specs.SoldMembers.{numbered}
-use Rattle.wh_plan.specs.Sound.{AreTypes}
+use Rattle.wh_rows.specs.Sound.{AreTypes}
 use Rattle.wh_plan.proofs.SalesMembers.{sold_numbered}
 use Rattle.wh_plan.proofs.SalesRows.{members_were, anchors_were}
 use Rattle.wh_plan.proofs.sold_dimension.read_sold_dimension.Goals as goal

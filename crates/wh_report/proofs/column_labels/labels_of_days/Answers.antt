@@ -1,0 +1,36 @@
+use Rattle.std.proofs.Common.{rules}
+use Rattle.std.specs.Prelude.{Ok}
+use Rattle.wh_rows.specs.Rows as row
+use Rattle.wh_report.proofs.EngineReading.{unread, and_then, answered, handed_out}
+use Rattle.wh_report.proofs.HandedRows.{none_seen, one_seen, all_seen, no_labels}
+use Rattle.wh_report.proofs.Outputs.{row_handed, none_handed}
+use Rattle.wh_report.proofs.column_labels.labels_of_days.Goals as goal
+
+pub days-init : goal.days-init
+days-init g c = record {
+  reads = unread _ _ tt;
+  writes = search rules;
+  labels = λ clean t at. none_seen _ _ _ (c.new-cursor.ensures.left row.calendar t.calendar) (no_labels _ c.new-labels.ensures);
+}
+
+pub days-preserved : goal.days-preserved
+days-preserved g c =
+    let kept = c.days.invariant in
+    let read = c.in_ok-row.ensures in
+    record {
+      reads = handed_out _ _ _ _ _ _ _ c.in_ok-row.field-0 kept.reads read.reads;
+      writes = search rules;
+      labels = λ clean t at.
+          let before = read.reads.spares.clean clean in
+          one_seen _ _ c.in-Some.row _ _ _ (row_handed _ _ _ c.in-Some.row c.in-Some.is (read.rows clean t (kept.reads.spares.same before t at tt))) (kept.labels before t at) (λ done made. c.in_ok-add_date-in-Some.ensures done made);
+    }
+
+pub returns-in-None-clause-reads : goal.returns-in-None-clause-reads
+returns-in-None-clause-reads g c = answered _ _ _ _ _ _ (and_then _ _ _ _ _ _ tt (Ok c.in_ok-row.field-0) c.days.invariant.reads c.in_ok-row.ensures.reads)
+
+pub returns-in-None-clause-labels : goal.returns-in-None-clause-labels
+returns-in-None-clause-labels g c clean t at =
+    let kept = c.days.invariant in
+    let read = c.in_ok-row.ensures in
+    let before = read.reads.spares.clean clean in
+    all_seen _ _ _ (none_handed _ _ _ c.in-None.is (read.rows clean t (kept.reads.spares.same before t at tt))) (kept.labels before t at)

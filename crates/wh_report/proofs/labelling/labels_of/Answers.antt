@@ -1,4 +1,0 @@
-use Rattle.wh_report.proofs.labelling.labels_of.Goals as goal
-
-pub returns-in-CurrentProfile-clause-labels : goal.returns-in-CurrentProfile-clause-labels
-returns-in-CurrentProfile-clause-labels g c clean t at = rw c.in-CurrentProfile.is (rw c.in-CurrentProfile.is at (c.labels_by_profiles.ensures.labels clean t at))

@@ -1,4 +1,0 @@
-use Rattle.wh_report.proofs.labelling.labels_of_dimension.Goals as goal
-
-pub returns-clause-labels : goal.returns-clause-labels
-returns-clause-labels g c clean t at = rw c.new-no_profiles.ensures at (c.labels_of_rows.ensures.labels clean t at)

@@ -1,0 +1,39 @@
+use Rattle.std.proofs.Common.{ap, ◌∙◌}
+use Rattle.std.proofs.lemmas.Result.{err_from_is_err_and}
+use Rattle.wh_report.proofs.EngineReading.{and_then, answered, faulted, out_of_memory}
+use Rattle.wh_report.proofs.ReadReports.{text_read, fault_read}
+use Rattle.wh_report.proofs.sales_report.report_over.Goals as goal
+
+pub returns-in_err-labels-clause-reads : goal.returns-in_err-labels-clause-reads
+returns-in_err-labels-clause-reads g c =
+    let p = err_from_is_err_and c.from_residual.result c.from_residual.ensures.1 in
+    rw (p.1, p.2) (faulted _ _ _ _ _ c.in_err-labels.ensures.reads)
+
+pub returns-in_err-summary-clause-reads : goal.returns-in_err-summary-clause-reads
+returns-in_err-summary-clause-reads g c =
+    let p = err_from_is_err_and c.from_residual-in_err-summary.result c.from_residual-in_err-summary.ensures.1 in
+    rw (p.1, p.2) (and_then _ _ _ _ _ _ _ _ c.in_ok-labels.ensures.reads c.in_err-summary.ensures.reads)
+
+pub returns-in_err-summary-clause-tables : goal.returns-in_err-summary-clause-tables
+returns-in_err-summary-clause-tables g c clean t at =
+    let first = c.in_ok-labels.ensures in
+    let second = c.in_err-summary.ensures in
+    let before = second.reads.spares.clean clean in
+    let p = err_from_is_err_and c.from_residual-in_err-summary.result c.from_residual-in_err-summary.ensures.1 in
+    rw (p.1, p.2) (fault_read _ _ t _ (first.labels before t at) _ (second.sums clean t (first.reads.spares.same before t at tt)))
+
+pub returns-in_err-text-clause-reads : goal.returns-in_err-text-clause-reads
+returns-in_err-text-clause-reads g c =
+    let p = err_from_is_err_and c.from_residual-in_err-text.result c.from_residual-in_err-text.ensures.1 in
+    rw (p.1, p.2) (out_of_memory _ _ _ _ _ (and_then _ _ _ _ _ _ _ _ c.in_ok-labels.ensures.reads c.in_ok-summary.ensures.reads))
+
+pub returns-clause-reads : goal.returns-clause-reads
+returns-clause-reads g c = answered _ _ _ _ _ _ (and_then _ _ _ _ _ _ _ _ c.in_ok-labels.ensures.reads c.in_ok-summary.ensures.reads)
+
+pub returns-clause-tables : goal.returns-clause-tables
+returns-clause-tables g c clean t at =
+    let first = c.in_ok-labels.ensures in
+    let second = c.in_ok-summary.ensures in
+    let before = second.reads.spares.clean clean in
+    let sums = second.sums clean t (first.reads.spares.same before t at tt) in
+    text_read _ _ t _ (first.labels before t at) c.into_bytes.result (ap (λ v. v.items) c.into_bytes.ensures.value ∙ c.in_ok-text.ensures _ sums)

@@ -1,0 +1,93 @@
+//! Counting the facts of a report.
+
+ghost use Rattle.std.specs.Prelude.{◌≡◌, ◌≤◌, ◌++◌, ◌∷◌, [], List, true, None, ◌↔◌, IsSome, IfSome, OnOk, IfErr, length, filter_map};
+ghost use Rattle.wh_history.specs.declared.facts.Fact.{Fact};
+ghost use Rattle.wh_report.specs.Counting.{measures_of, counted, fault_of};
+ghost use Rattle.wh_report.specs.Joined.{fact_key};
+ghost use Rattle.wh_report.specs.Labels.{text_of};
+ghost use Rattle.wh_report.specs.Request.{is_asked_of};
+ghost use Rattle.wh_report.specs.Summary.{summed};
+ghost use Rattle.wh_report.specs.Sums.{IsMeasured};
+ghost use Rattle.wh_report.specs.declared.fact.FactFault.TheVariants.{NoLabel, Damaged};
+
+use crate::column::LabelColumn;
+use crate::labels::Labels;
+use crate::request::Request;
+use crate::summary::{AddError, Summary};
+use crate::totals::Measures;
+use thiserror::Error;
+use wh_history::Fact;
+
+/// Why a fact wasn't counted.
+#[derive(Clone, Copy, Debug, PartialEq, Eq, Error)]
+pub enum FactFault {
+    #[error("memory ran out")]
+    Memory,
+    /// The row that the fact names for its label isn't there.
+    #[error("a fact names a row that is not there")]
+    NoLabel,
+    /// Its measures are out of the range of a sale's, or there are 4,294,967,295 facts before it.
+    #[error("a fact is out of range, or there are too many")]
+    Damaged,
+}
+
+impl From<AddError> for FactFault {
+    ghost use Rattle.std.specs.Prelude.{◌≡◌};
+    ghost use Rattle.wh_report.specs.Counting.{fault_of};
+
+    ghost from_gives = { λ error fault. fault ≡ fault_of error };
+
+    fn from(error: AddError) -> FactFault {
+        match error {
+            AddError::Memory => FactFault::Memory,
+            AddError::Full => FactFault::Damaged,
+        }
+    }
+}
+
+impl Summary {
+    /// Counts a further fact, where its day is in the range that is asked for, under the label that its key leads to. After
+    /// an error the summary is of no use.
+    pub fn add_fact(
+        &mut self,
+        request: &Request,
+        column: LabelColumn,
+        labels: &Labels,
+        fact: &Fact,
+    ) -> Result<(), FactFault>
+        // After a list of facts it is what their sales come to, with those of one more.
+        ensures sums { (facts : List Fact) → self.old ≡ summed (filter_map (counted request.now column (text_of labels.now)) facts)
+            → OnOk result (self.new ≡ summed (filter_map (counted request.now column (text_of labels.now)) (facts ++ fact.now ∷ []))) }
+        // No sale of the range is passed over for want of a label.
+        ensures labelled { OnOk result (is_asked_of request.now fact.now.day ≡ true → IsSome (text_of labels.now (fact_key column fact.now))) }
+        ensures no_label { IfErr result (λ e. e ≡ NoLabel → (is_asked_of request.now fact.now.day ≡ true) × (text_of labels.now (fact_key column fact.now) ≡ None)) }
+        ensures damaged { (facts : List Fact) → self.old ≡ summed (filter_map (counted request.now column (text_of labels.now)) facts)
+            → IfErr result (λ e. e ≡ Damaged → IsMeasured (measures_of fact.now) → 4_294_967_295 ≤ length (filter_map (counted request.now column (text_of labels.now)) facts)) }
+    {
+        if !request.contains(fact.day) {
+            return Ok(());
+        }
+        let Some(label) = labels.get(column.key(fact)) else {
+            return Err(FactFault::NoLabel);
+        };
+        let Some(measures) = measures_of(fact) else {
+            return Err(FactFault::Damaged);
+        };
+        self.add(label.as_str(), measures)?;
+        Ok(())
+    }
+}
+
+/// A fact's measures, where they are within what a sale may have.
+fn measures_of(fact: &Fact) -> Option<Measures>
+    ensures some { IsSome result ↔ IsMeasured (measures_of fact.now) }
+    ensures value { IfSome result (λ m. m ≡ measures_of fact.now) }
+{
+    let Fact {
+        quantity,
+        amount,
+        cost,
+        ..
+    } = fact;
+    Measures::new(*quantity, *amount, *cost)
+}

@@ -1,0 +1,82 @@
+//! A report over a warehouse that is open.
+
+ghost use Rattle.std.specs.Prelude.{◌≡◌, List, Some, true, IfErr};
+ghost use Rattle.sqlite.specs.State.{HasCleanDisk};
+ghost use Rattle.wh_history.specs.Accepted.{Accepted};
+ghost use Rattle.wh_history.specs.Tables.{Limits};
+ghost use Rattle.wh_engine.specs.Answered.{IsReady};
+ghost use Rattle.wh_engine.specs.Scanned.{ReadsThrough};
+ghost use Rattle.wh_store.specs.Reads.{SaysAtRest, state_of};
+ghost use Rattle.wh_report.specs.Joined.{column_of};
+ghost use Rattle.wh_report.specs.Output.{IsOfTables, of_warehouse};
+ghost use Rattle.wh_report.specs.Reported.{ReportsTables, Reports, column_asked};
+ghost use Rattle.wh_report.specs.Request.{has_reading};
+ghost use Rattle.wh_report.specs.Subject.{subject_in, reading_of};
+ghost use Rattle.wh_report.specs.declared.subject.Reading.{Reading};
+ghost use Rattle.wh_report.specs.declared.subject.Subject.{Subject};
+
+use crate::column::{LabelColumn, column_of};
+use crate::column_labels::labels_of;
+use crate::fact_sums::summary_of;
+use crate::output::ReportFault;
+use crate::request::Request;
+use crate::subject::{reading_of, subject_in};
+use sqlite::Alter;
+use std::alloc::Global;
+use wh_engine::Engine;
+use wh_policy::Policy;
+
+/// The column in which the labels of a request stand under a policy.
+fn column_asked(policy: &Policy, request: &Request) -> Option<LabelColumn>
+    ensures { result ≡ column_asked policy.now request.now }
+{
+    match subject_in(policy, request.attribute()) {
+        Some(subject) => match reading_of(subject, request.mode()) {
+            Some(which) => Some(column_of(subject, which)),
+            None => None,
+        },
+        None => None,
+    }
+}
+
+/// The report of a column's labels.
+fn report_over<S: Alter>(
+    alloc: Global,
+    engine: &mut Engine<S>,
+    request: &Request,
+    column: LabelColumn,
+) -> Result<Vec<u8>, ReportFault>
+    ensures reads { ReadsThrough engine.old.session engine.new.session (state_of S.Store engine.old.tables) (state_of S.Store engine.new.tables) (of_warehouse result) }
+    ensures writes { engine.new.writes ≡ engine.old.writes }
+    ensures tables { SaysAtRest (state_of S.Store engine.old.tables) (state_of S.Store engine.new.tables) (λ t. ReportsTables request.now column t result) }
+    ensures only { IfErr result IsOfTables }
+{
+    let labels = labels_of(alloc, engine, column)?;
+    let summary = summary_of(alloc, engine, request, column, &labels)?;
+    let text = request.text(alloc, &summary)?;
+    Ok(text.into_bytes())
+}
+
+/// The text of the report that is asked for. Whether its attribute has a reading under the policy in force is what
+/// `Request::reads` answers.
+pub fn report<S: Alter>(
+    alloc: Global,
+    engine: &mut Engine<S>,
+    request: &Request,
+) -> Result<Vec<u8>, ReportFault>
+    requires { has_reading engine.old.session.policy request.now ≡ true }
+    ensures reads { ReadsThrough engine.old.session engine.new.session (state_of S.Store engine.old.tables) (state_of S.Store engine.new.tables) (of_warehouse result) }
+    ensures writes { engine.new.writes ≡ engine.old.writes }
+    // Of any tables whose rows have values of their types, also of those that no warehouse made.
+    ensures tables { SaysAtRest (state_of S.Store engine.old.tables) (state_of S.Store engine.new.tables) (λ t. (subject : Subject) (which : Reading)
+        → subject_in engine.old.session.policy request.now.words ≡ Some subject → reading_of subject request.now.mode ≡ Some which → ReportsTables request.now (column_of subject which) t result) }
+    // Of the tables of accepted commands the text is that of the history.
+    ensures reported { HasCleanDisk (state_of S.Store engine.new.tables) → (limits : Limits) (commands : List Accepted) → IsReady limits commands engine.old.session (state_of S.Store engine.old.tables)
+        → Reports commands request.now result }
+    ensures only { IfErr result IsOfTables }
+{
+    match column_asked(engine.policy(), request) {
+        Some(column) => report_over(alloc, engine, request, column),
+        None => unreachable!(),
+    }
+}
