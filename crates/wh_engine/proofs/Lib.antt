@@ -28,3 +28,4 @@ pub mod Known
 pub mod Nights
 pub mod DeliveredAgain
 pub mod Scanning
+pub mod PutFacts

@@ -1,21 +1,24 @@
 //! Writing the edits of a command, inside a transaction.
 
-ghost use Rattle.std.specs.Prelude.{◌≡◌, ◌⊎◌, ◌+◌, length, Some, OnOk, IfOk, ⊤};
+ghost use Rattle.std.specs.Prelude.{◌≡◌, ◌⊎◌, ◌+◌, length, map, Some, OnOk, IfOk, ⊤};
 ghost use Rattle.std.specs.List.{AllByRecursion};
 ghost use Rattle.sqlite.specs.State.{HasCleanDisk};
+ghost use Rattle.wh_history.specs.declared.plan.Edit.TheVariants.{Put};
 ghost use Rattle.wh_rows.specs.AtRest.{AreTrees, IsAtRest};
 ghost use Rattle.wh_rows.specs.Tables.{Tables as TenTables};
 ghost use Rattle.wh_store.specs.Reads.{state_of};
 ghost use Rattle.wh_store.specs.Writes.{WritesOnly, Makes};
 ghost use Rattle.wh_store.specs.Edits.{after_all};
 ghost use Rattle.wh_plan.specs.Edits.{with_commands, with_dimensions, with_facts, with_fact_edit, with_all_edits, count_commands, count_dimensions, count_facts, edit_count};
+ghost use Rattle.wh_plan.specs.declared.edits.FactEdit.TheVariants.{Row};
 ghost use Rattle.wh_plan.specs.Writable.{AreValidCommands, AreValidDimensions, AreValidFacts, IsValidFactEdit, MayBeWritten};
 
 use sqlite::Alter;
-use std::alloc::Global;
+use std::alloc::{AllocError, Global};
+use wh_history::{Edit, Fact};
 use wh_plan::{Edits, FactEdit};
 use wh_rows::{Cause, tables};
-use wh_store::{Tables, Writing};
+use wh_store::{FACTS_AT_ONCE, Tables, Writing};
 
 /// Makes the edits of command, member and change.
 fn edit_commands<S: Alter>(
@@ -83,6 +86,56 @@ fn edit_each_fact<S: Alter>(
     Ok(())
 }
 
+/// The facts of edits that each put one, or none where one of them doesn't.
+fn facts_put<'e>(alloc: Global, edits: &'e [FactEdit]) -> Result<Option<Vec<&'e Fact>>, AllocError>
+    ensures { IfOk result (λ put. (facts : _) → put ≡ Some facts → edits.now ≡ map (λ fact. Row (Put fact)) (map (λ f. f.now) facts.items)) }
+{
+    let mut facts = Vec::new(alloc);
+    for edit in edits {
+        match edit {
+            FactEdit::Row(Edit::Put(fact)) => facts.push(fact)?,
+            _ => return Ok(None),
+        }
+    }
+    Ok(Some(facts))
+}
+
+/// Makes edits of facts, in one statement where it can.
+fn edit_facts_at_once<S: Alter>(
+    writing: &mut Writing<'_, S>,
+    alloc: Global,
+    edits: &[FactEdit],
+) -> Result<(), Cause>
+    ensures same_reference { writing.new.tables.ghost_name ≡ writing.old.tables.ghost_name }
+    ensures writes { WritesOnly (state_of S.Store writing.old.tables.now) (state_of S.Store writing.new.tables.now) (AllByRecursion IsValidFactEdit edits.now) }
+    ensures edited { Makes (state_of S.Store writing.old.tables.now) (state_of S.Store writing.new.tables.now) result (AllByRecursion IsValidFactEdit edits.now) (λ made. record made { fact = after_all with_fact_edit edits.now made.fact }) }
+    ensures counted { OnOk result (writing.new.writes ≡ writing.old.writes + length edits.now) }
+{
+    if let Some(facts) = facts_put(alloc, edits)? {
+        if writing.insert_facts(alloc, &facts)? {
+            return Ok(());
+        }
+    }
+    edit_each_fact(writing, alloc, edits)
+}
+
+/// Makes edits of facts, a part after the other.
+fn edit_all_facts<S: Alter>(
+    writing: &mut Writing<'_, S>,
+    alloc: Global,
+    edits: &[FactEdit],
+) -> Result<(), Cause>
+    ensures same_reference { writing.new.tables.ghost_name ≡ writing.old.tables.ghost_name }
+    ensures writes { WritesOnly (state_of S.Store writing.old.tables.now) (state_of S.Store writing.new.tables.now) (AllByRecursion IsValidFactEdit edits.now) }
+    ensures edited { Makes (state_of S.Store writing.old.tables.now) (state_of S.Store writing.new.tables.now) result (AllByRecursion IsValidFactEdit edits.now) (λ made. record made { fact = after_all with_fact_edit edits.now made.fact }) }
+    ensures counted { OnOk result (writing.new.writes ≡ writing.old.writes + length edits.now) }
+{
+    for part in edits.chunks(FACTS_AT_ONCE) {
+        edit_facts_at_once(writing, alloc, part)?;
+    }
+    Ok(())
+}
+
 /// Makes the edits of profile, calendar and fact.
 fn edit_facts<S: Alter>(
     writing: &mut Writing<'_, S>,
@@ -96,7 +149,7 @@ fn edit_facts<S: Alter>(
 {
     writing.edit_all::<tables::Profile>(alloc, &edits.profiles)?;
     writing.edit_all::<tables::Calendar>(alloc, &edits.calendar)?;
-    edit_each_fact(writing, alloc, &edits.facts)
+    edit_all_facts(writing, alloc, &edits.facts)
 }
 
 /// Writes the edits of a command.

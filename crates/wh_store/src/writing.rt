@@ -1,6 +1,6 @@
 //! Edits that are kept together, or not at all.
 
-ghost use Rattle.std.specs.Prelude.{◌≡◌, ◌≢◌, ◌⊎◌, ◌+◌, ◌<◌, ◌≤◌, [], pos, codes, map, Option, None, Some, IsTrue, IfOk, IfErr, OnOk, length, ⊤, false, Err};
+ghost use Rattle.std.specs.Prelude.{◌≡◌, ◌≢◌, ◌⊎◌, ◌+◌, ◌<◌, ◌≤◌, [], pos, codes, map, Option, None, Some, IsTrue, IfOk, IfErr, OnOk, length, ⊤, Bool, false, Ok, Err};
 ghost use Rattle.std.specs.FinMap.{insert, remove};
 ghost use Rattle.std.specs.List.{AllByRecursion};
 ghost use Rattle.sqlite.specs.State.{HasCleanDisk, Survives};
@@ -8,6 +8,7 @@ ghost use Rattle.sqlite_rules.specs.Lists.{Has};
 ghost use Rattle.wh_rows.specs.declared.cause.Cause.TheVariants.{Disk, Memory};
 ghost use Rattle.wh_rows.specs.Types.{is_number};
 ghost use Rattle.wh_rows.specs.Rows.{encode_meta};
+ghost use Rattle.wh_rows.specs.Rows as row;
 ghost use Rattle.wh_rows.specs.Texts as texts;
 ghost use Rattle.wh_rows.specs.AtRest.{AreTrees, IsAtRest, IsWriting, Leaves, IsCauseOf};
 ghost use Rattle.wh_rows.specs.Tables.{Tables as TenTables};
@@ -15,7 +16,7 @@ ghost use Rattle.wh_rows.specs.Rekey.{rekey_text, bind_rekey, are_keys, rekeyed}
 ghost use Rattle.wh_sql.specs.Refused.{IsOneRefused};
 ghost use Rattle.wh_store.specs.Reads.{state_of};
 ghost use Rattle.wh_store.specs.Writes.{WritesOnly, Makes, NotesRefusals, Undoes};
-ghost use Rattle.wh_store.specs.Edits.{with_row, with_edit, IsValid, Puts, after_all, IsOfTypes, statement_of};
+ghost use Rattle.wh_store.specs.Edits.{with_row, with_edit, with_inserted, inserted_count, IsValid, Puts, after_all, IsOfTypes, statement_of};
 ghost use Rattle.wh_store.specs.Meta.{made_with, with_number, making};
 
 use crate::meta;
@@ -24,10 +25,10 @@ use crate::transaction::{commit, roll_back};
 use sqlite::Alter;
 use std::alloc::Global;
 use std::mem::replace;
-use wh_history::{Edit, FactKeys};
+use wh_history::{Edit, Fact, FactKeys};
 use wh_rows::tables::Meta;
 use wh_rows::{Cause, Limits, LineKey};
-use wh_sql::{Keeps, create, put, rekey, remove};
+use wh_sql::{Keeps, create, insert_facts, put, rekey, remove};
 
 /// Edits of the tables. They are kept by `commit` alone: where it is dropped before that, it leaves nothing.
 pub struct Writing<'t, S: Alter> {
@@ -59,12 +60,12 @@ impl<'t, S: Alter> Writing<'t, S> {
         self.writes
     }
 
-    /// How many keys it will have written after one more.
-    fn one_more(&self) -> Result<u64, Cause>
-        ensures more { IfOk result (λ writes. writes ≡ self.now.writes + 1) }
-        ensures full { IfErr result (λ _. self.now.writes ≡ u64.MAX) }
+    /// How many keys it will have written after some more.
+    fn and(&self, keys: u64) -> Result<u64, Cause>
+        ensures more { IfOk result (λ writes. writes ≡ self.now.writes + keys) }
+        ensures full { IfErr result (λ _. u64.MAX < self.now.writes + keys) }
     {
-        match self.writes.checked_add(1) {
+        match self.writes.checked_add(keys) {
             Some(writes) => Ok(writes),
             None => Err(Cause::Size),
         }
@@ -81,7 +82,7 @@ impl<'t, S: Alter> Writing<'t, S> {
         ensures noted { NotesRefusals self.old.refused self.new.refused result }
     {
         let refused = replace(&mut self.refused, true);
-        let writes = self.one_more()?;
+        let writes = self.and(1)?;
         put::<T, S>(alloc, &mut self.tables.conn, row)?;
         self.writes = writes;
         self.refused = refused;
@@ -99,7 +100,7 @@ impl<'t, S: Alter> Writing<'t, S> {
         ensures noted { NotesRefusals self.old.refused self.new.refused result }
     {
         let refused = replace(&mut self.refused, true);
-        let writes = self.one_more()?;
+        let writes = self.and(1)?;
         remove::<T, S>(alloc, &mut self.tables.conn, key)?;
         self.writes = writes;
         self.refused = refused;
@@ -117,11 +118,32 @@ impl<'t, S: Alter> Writing<'t, S> {
         ensures noted { NotesRefusals self.old.refused self.new.refused result }
     {
         let refused = replace(&mut self.refused, true);
-        let writes = self.one_more()?;
+        let writes = self.and(1)?;
         rekey(alloc, &mut self.tables.conn, line, keys)?;
         self.writes = writes;
         self.refused = refused;
         Ok(())
+    }
+
+    /// Puts facts in that aren't there yet, sixteen in one statement. Where there are not sixteen of them, or one of their keys is taken,
+    /// nothing changes, and the answer is false.
+    pub fn insert_facts(&mut self, alloc: Global, facts: &[&Fact]) -> Result<bool, Cause>
+        ensures same_reference { self.new.tables.ghost_name ≡ self.old.tables.ghost_name }
+        ensures writes { WritesOnly (state_of S.Store self.old.tables.now) (state_of S.Store self.new.tables.now) ⊤ }
+        ensures inserted { (inserted : Bool) → result ≡ Ok inserted
+            → Makes (state_of S.Store self.old.tables.now) (state_of S.Store self.new.tables.now) result (AllByRecursion (IsValid row.fact) (map (λ f. f.now) facts.now)) (with_inserted inserted (map (λ f. f.now) facts.now)) }
+        ensures counted { IfOk result (λ inserted. self.new.writes ≡ self.old.writes + inserted_count inserted (map (λ f. f.now) facts.now)) }
+        ensures noted { NotesRefusals self.old.refused self.new.refused result }
+    {
+        let refused = replace(&mut self.refused, true);
+        let writes = self.and(facts.len() as u64)?;
+        if !insert_facts(alloc, &mut self.tables.conn, facts)? {
+            self.refused = refused;
+            return Ok(false);
+        }
+        self.writes = writes;
+        self.refused = refused;
+        Ok(true)
     }
 
     /// Puts rows at their keys, one after the other.

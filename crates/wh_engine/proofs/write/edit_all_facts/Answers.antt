@@ -1,0 +1,77 @@
+use Rattle.std.proofs.Common.{◌≡◌, Some, subst, sym, ap, ◌∙◌, arith, rules, refl, length, length-append}
+use Rattle.std.proofs.lemmas.List.{nil_from_length}
+use Rattle.std.specs.List.{AllByRecursion}
+use Rattle.std.specs.Slice.Iter.{chunks_rest}
+use Rattle.sqlite.specs.Held.{state}
+use Rattle.wh_rows.specs.AtRest.{IsWriting}
+use Rattle.wh_rows.specs.Tables.{Tables as TenTables}
+use Rattle.wh_store.specs.Edits.{after_all}
+use Rattle.wh_plan.specs.Edits.{with_fact_edit}
+use Rattle.wh_plan.specs.Writable.{IsValidFactEdit}
+use Rattle.wh_engine.proofs.PutFacts.{in_parts, all_parts}
+use Rattle.wh_engine.proofs.write.edit_all_facts.Goals as goal
+
+pub loop-part-init : goal.loop-part-init
+loop-part-init g c = record {
+  can_next = search rules;
+  is_finite = tt;
+  size = search rules;
+  same_reference = refl;
+  clean = λ clean. clean;
+  counts = omega arith;
+  counted = search rules;
+  put = λ clean before made at may. (made, at, rw c.chunks.ensures.rest may, search rules);
+}
+
+pub returns-in_err-edit_facts_at_once-clause-writes : goal.returns-in_err-edit_facts_at_once-clause-writes
+returns-in_err-edit_facts_at_once-clause-writes g c =
+    let kept = c.loop-part.invariant in
+    let steps = c.in-Some.ensures.steps in
+    record {
+      clean = λ clean. kept.clean (c.edit_facts_at_once.ensures.writes.clean clean);
+      counts = omega (arith, kept.counts, c.edit_facts_at_once.ensures.writes.counts);
+      left = λ clean before made at may.
+          let was = kept.put (c.edit_facts_at_once.ensures.writes.clean clean) before made at may in
+          let parts = all_parts IsValidFactEdit c.in-Some.part.now (chunks_rest c.next.new.self) (subst (AllByRecursion IsValidFactEdit) steps.1.0 was.2) in
+          c.edit_facts_at_once.ensures.writes.left clean before was.0 was.1 parts.0;
+    }
+
+pub loop-part-preserved : goal.loop-part-preserved
+loop-part-preserved g c =
+    let kept = c.loop-part.invariant in
+    let steps = c.in-Some.ensures.steps in
+    let part = c.in-Some.part.now in
+    let rest = chunks_rest c.next.new.self in
+    record {
+      can_next = search rules;
+      is_finite = tt;
+      size = steps.0 ∙ kept.size;
+      same_reference = c.edit_facts_at_once.ensures.same_reference ∙ kept.same_reference;
+      clean = λ clean. kept.clean (c.edit_facts_at_once.ensures.writes.clean clean);
+      counts = omega (arith, kept.counts, c.edit_facts_at_once.ensures.writes.counts);
+      counted = let long = ap length steps.1.0 ∙ length-append part rest in omega (arith, c.in_ok-edit_facts_at_once.ensures.counted, kept.counted, long);
+      put = λ clean before made at may.
+          let was = kept.put (c.edit_facts_at_once.ensures.writes.clean clean) before made at may in
+          let mid = was.0 in
+          let parts = all_parts IsValidFactEdit part rest (subst (AllByRecursion IsValidFactEdit) steps.1.0 was.2) in
+          let now : TenTables = record mid { fact = after_all with_fact_edit part mid.fact } in
+          let leads : ◌≡◌ {A = TenTables} (record mid { fact = after_all with_fact_edit (chunks_rest c.loop-part.part-iterator) mid.fact }) (record mid { fact = after_all with_fact_edit rest (after_all with_fact_edit part mid.fact) }) =
+          ap (λ facts. record mid { fact = facts }) (ap (λ es. after_all with_fact_edit es mid.fact) steps.1.0 ∙ in_parts with_fact_edit part rest mid.fact) in
+          (now, c.in_ok-edit_facts_at_once.ensures.edited clean before mid was.1 parts.0, parts.1, sym leads ∙ was.3);
+    }
+
+pub returns-clause-edited : goal.returns-clause-edited
+returns-clause-edited g c clean before made at may =
+    let was = c.loop-part.invariant.put clean before made at may in
+    let none = nil_from_length _ c.in-None.ensures.steps.1.0 in
+    subst (λ all. IsWriting before (Some all) (state g.S.Store c.loop-part.writing.tables.now.conn)) (rw none at was.3) was.1
+
+pub returns-clause-counted : goal.returns-clause-counted
+returns-clause-counted g c = omega (arith, c.loop-part.invariant.counted, c.in-None.ensures.steps.1.0)
+
+pub returns-clause-writes : goal.returns-clause-writes
+returns-clause-writes g c = record {
+  clean = c.loop-part.invariant.clean;
+  counts = c.loop-part.invariant.counts;
+  left = λ clean before made at may. (c.loop-part.invariant.put clean before made at may).1.left;
+}
