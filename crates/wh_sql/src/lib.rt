@@ -4,6 +4,7 @@
 mod dimension;
 mod fault;
 mod greatest;
+mod insert;
 mod keeps;
 mod keys;
 mod part;
@@ -19,6 +20,7 @@ mod write;
 pub use dimension::Dimension;
 pub use fault::ReadFault;
 pub use greatest::{Greatest, GreatestOf, greatest_anchor};
+pub use insert::{FACTS_AT_ONCE, insert_facts};
 pub use keeps::{Keeps, Statements};
 pub use part::Part;
 pub use question::{Question, ask};
