@@ -1,6 +1,6 @@
 //! Edits that are kept together, or not at all.
 
-ghost use Rattle.std.specs.Prelude.{◌≡◌, ◌≢◌, ◌⊎◌, ◌+◌, ◌<◌, ◌≤◌, [], pos, codes, map, Option, None, Some, IsTrue, IfOk, IfErr, OnOk, length, ⊤, Bool, false, Ok, Err};
+ghost use Rattle.std.specs.Prelude.{◌≡◌, ◌≢◌, ◌⊎◌, ◌+◌, ◌<◌, ◌≤◌, [], pos, codes, map, Option, None, Some, IsTrue, IfOk, IfErr, OnOk, length, ⊤, false, Err, if◌then◌else◌};
 ghost use Rattle.std.specs.FinMap.{insert, remove};
 ghost use Rattle.std.specs.List.{AllByRecursion};
 ghost use Rattle.sqlite.specs.State.{HasCleanDisk, Survives};
@@ -12,11 +12,12 @@ ghost use Rattle.wh_rows.specs.Rows as row;
 ghost use Rattle.wh_rows.specs.Texts as texts;
 ghost use Rattle.wh_rows.specs.AtRest.{AreTrees, IsAtRest, IsWriting, Leaves, IsCauseOf};
 ghost use Rattle.wh_rows.specs.Tables.{Tables as TenTables};
+ghost use Rattle.wh_rows.specs.Inserting.{insert_text, bind_facts, with_each};
 ghost use Rattle.wh_rows.specs.Rekey.{rekey_text, bind_rekey, are_keys, rekeyed};
 ghost use Rattle.wh_sql.specs.Refused.{IsOneRefused};
 ghost use Rattle.wh_store.specs.Reads.{state_of};
 ghost use Rattle.wh_store.specs.Writes.{WritesOnly, Makes, NotesRefusals, Undoes};
-ghost use Rattle.wh_store.specs.Edits.{with_row, with_edit, with_inserted, inserted_count, IsValid, Puts, after_all, IsOfTypes, statement_of};
+ghost use Rattle.wh_store.specs.Edits.{with_row, with_edit, IsValid, Puts, after_all, IsOfTypes, statement_of};
 ghost use Rattle.wh_store.specs.Meta.{made_with, with_number, making};
 
 use crate::meta;
@@ -130,9 +131,11 @@ impl<'t, S: Alter> Writing<'t, S> {
     pub fn insert_facts(&mut self, alloc: Global, facts: &[&Fact]) -> Result<bool, Cause>
         ensures same_reference { self.new.tables.ghost_name ≡ self.old.tables.ghost_name }
         ensures writes { WritesOnly (state_of S.Store self.old.tables.now) (state_of S.Store self.new.tables.now) ⊤ }
-        ensures inserted { (inserted : Bool) → result ≡ Ok inserted
-            → Makes (state_of S.Store self.old.tables.now) (state_of S.Store self.new.tables.now) result (AllByRecursion (IsValid row.fact) (map (λ f. f.now) facts.now)) (with_inserted inserted (map (λ f. f.now) facts.now)) }
-        ensures counted { IfOk result (λ inserted. self.new.writes ≡ self.old.writes + inserted_count inserted (map (λ f. f.now) facts.now)) }
+        ensures inserted { HasCleanDisk (state_of S.Store self.new.tables.now) → (before : Option TenTables) (made : TenTables) → IsWriting before (Some made) (state_of S.Store self.old.tables.now) → AllByRecursion (IsValid row.fact) (map (λ f. f.now) facts.now)
+            → IfOk result (λ inserted. IsWriting before (Some (if inserted then record made { fact = with_each row.fact (map (λ f. f.now) facts.now) made.fact } else made)) (state_of S.Store self.new.tables.now)) }
+        ensures counted { IfOk result (λ inserted. self.new.writes ≡ self.old.writes + (if inserted then length facts.now else 0)) }
+        ensures cause { HasCleanDisk (state_of S.Store self.new.tables.now) → IsTrue (state_of S.Store self.old.tables.now).in_transaction → self.old.writes + length facts.now ≤ u64.MAX → AllByRecursion (IsValid row.fact) (map (λ f. f.now) facts.now)
+            → IfErr result (λ cause. cause ≢ Memory → IsCauseOf insert_text (bind_facts (map (λ f. f.now) facts.now)) (state_of S.Store self.old.tables.now) (state_of S.Store self.new.tables.now) cause) }
         ensures noted { NotesRefusals self.old.refused self.new.refused result }
     {
         let refused = replace(&mut self.refused, true);
