@@ -1,4 +1,4 @@
-use Rattle.std.proofs.Common.{◌≡◌, Some, subst, sym, ap, ◌∙◌, arith, rules, refl, length, length-append}
+use Rattle.std.proofs.Common.{◌≡◌, ◌+◌, Some, subst, sym, ap, ◌∙◌, arith, rules, refl, length, length-append}
 use Rattle.std.proofs.lemmas.List.{nil_from_length}
 use Rattle.std.specs.List.{AllByRecursion}
 use Rattle.std.specs.Slice.Iter.{chunks_rest}
@@ -12,16 +12,23 @@ use Rattle.wh_engine.proofs.PutFacts.{in_parts, all_parts}
 use Rattle.wh_engine.proofs.write.edit_all_facts.Goals as goal
 
 pub loop-part-init : goal.loop-part-init
-loop-part-init g c = record {
-  can_next = search rules;
-  is_finite = tt;
-  size = search rules;
-  same_reference = refl;
-  clean = λ clean. clean;
-  counts = omega arith;
-  counted = search rules;
-  put = λ clean before made at may. (made, at, rw c.chunks.ensures.rest may, search rules);
-}
+loop-part-init g c =
+    let rest : chunks_rest c.into_iter-part-iterator.result ≡ c.args.edits.now = search rules in
+    record {
+      can_next = search rules;
+      is_finite = tt;
+      size = search rules;
+      same_reference = refl;
+      clean = λ clean. clean;
+      counts = omega arith;
+      counted = ap (λ es. c.args.writing.now.writes + length es) rest;
+      put = λ clean before made at may. (
+          made,
+          at,
+          subst (AllByRecursion IsValidFactEdit) (sym rest) may,
+          ap (λ es. record made { fact = after_all with_fact_edit es made.fact }) rest,
+      );
+    }
 
 pub returns-in_err-edit_facts_at_once-clause-writes : goal.returns-in_err-edit_facts_at_once-clause-writes
 returns-in_err-edit_facts_at_once-clause-writes g c =

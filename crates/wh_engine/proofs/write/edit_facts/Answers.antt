@@ -32,22 +32,22 @@ returns-clause-edited g c clean before made at may =
     let valid = subst AreValidFacts (sym c.edits.view_is) may in
     let edited_1 = rw c.deref.ensures.value at c.in_ok-edit_all.ensures.edited in
     let edited_2 = rw c.deref-2.ensures.value at c.in_ok-edit_all-2.ensures.edited in
-    let edited_3 = rw c.deref-3.ensures.value at c.edit_each_fact.ensures.edited in
-    let two = c.edit_each_fact.ensures.writes.clean clean in
+    let edited_3 = rw c.deref-3.ensures.value at c.edit_all_facts.ensures.edited in
+    let two = c.edit_all_facts.ensures.writes.clean clean in
     let one = c.edit_all-2.ensures.writes.clean two in
-    subst (λ e. OnOk c.edit_each_fact.result (IsWriting before (Some (with_facts e made)) (state g.S.Store c.edit_each_fact.new.writing.tables.now.conn))) c.edits.view_is
+    subst (λ e. OnOk c.edit_all_facts.result (IsWriting before (Some (with_facts e made)) (state g.S.Store c.edit_all_facts.new.writing.tables.now.conn))) c.edits.view_is
     (edited_3 clean before _ (edited_2 two before _ (edited_1 one before made at valid.profiles) valid.calendar) valid.facts)
 
 pub returns-clause-writes : goal.returns-clause-writes
 returns-clause-writes g c = record {
-  clean = λ clean. c.edit_all.ensures.writes.clean (c.edit_all-2.ensures.writes.clean (c.edit_each_fact.ensures.writes.clean clean));
-  counts = omega (arith, c.edit_all.ensures.writes.counts, c.edit_all-2.ensures.writes.counts, c.edit_each_fact.ensures.writes.counts);
+  clean = λ clean. c.edit_all.ensures.writes.clean (c.edit_all-2.ensures.writes.clean (c.edit_all_facts.ensures.writes.clean clean));
+  counts = omega (arith, c.edit_all.ensures.writes.counts, c.edit_all-2.ensures.writes.counts, c.edit_all_facts.ensures.writes.counts);
   left = λ clean before made at may.
       let valid = subst AreValidFacts (sym c.edits.view_is) may in
       let edited_1 = rw c.deref.ensures.value at c.in_ok-edit_all.ensures.edited in
       let edited_2 = rw c.deref-2.ensures.value at c.in_ok-edit_all-2.ensures.edited in
-      let left = rw c.deref-3.ensures.value at c.edit_each_fact.ensures.writes.left in
-      let two = c.edit_each_fact.ensures.writes.clean clean in
+      let left = rw c.deref-3.ensures.value at c.edit_all_facts.ensures.writes.left in
+      let two = c.edit_all_facts.ensures.writes.clean clean in
       let one = c.edit_all-2.ensures.writes.clean two in
       left clean before _ (edited_2 two before _ (edited_1 one before made at valid.profiles) valid.calendar) valid.facts;
 }
