@@ -66,3 +66,5 @@ pub mod EffectiveFacts
 pub mod GovernedLists
 pub mod MovedKeys
 pub mod SameLines
+pub mod Inserts
+pub mod InsertedFacts

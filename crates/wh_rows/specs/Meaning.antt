@@ -1,5 +1,5 @@
 -- What the text of a statement has to mean.
-use Rattle.std.specs.Prelude.{◌≡◌, ℕ, ◌/◌, Bool, true, false, List, [], ◌∷◌, length, drop, slice_get, Some, None, Ok, Err, Result, ℤ, ◌&&◌, ◌++◌, Option, flat_map}
+use Rattle.std.specs.Prelude.{◌≡◌, ℕ, ◌/◌, Bool, true, false, List, [], ◌∷◌, length, drop, slice_get, Some, None, Ok, Err, Result, ℤ, ◌&&◌, ◌++◌, Option, map, flat_map}
 use Rattle.std.specs.List.{list_all}
 use Rattle.std.specs.Ordering.{eq_by_cmp}
 use Rattle.sqlite.specs.Order.{Row}
