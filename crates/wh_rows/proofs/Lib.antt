@@ -68,3 +68,4 @@ pub mod MovedKeys
 pub mod SameLines
 pub mod Inserts
 pub mod InsertedFacts
+pub mod BoundFacts
