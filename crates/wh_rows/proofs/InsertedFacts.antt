@@ -1,10 +1,10 @@
 -- The statement that puts in sixteen facts.
-use Rattle.std.proofs.Common.{◌≡◌, ℕ, List, [], ◌∷◌, codes, map, ◌&&◌, ◌++◌, inl, inr, length, Ok, Err, refl, sym, ap₂, ◌∙◌, ◌+◌, true, false, zero, suc}
+use Rattle.std.proofs.Common.{◌≡◌, ℕ, List, [], ◌∷◌, codes, map, ◌&&◌, ◌++◌, inl, inr, length, Ok, Err, refl, sym, ap, ap₂, ◌∙◌, ◌+◌, true, false, zero, suc}
 use Rattle.std.specs.Prelude.{IsTrue, flat_map, ◌/◌}
 use Rattle.std.specs.List.{AllByRecursion}
 use Rattle.std.specs.Ordering.{nat_cmp}
 use Rattle.std.specs.Cmp.Lexicographic.{slice_cmp}
-use Rattle.std.proofs.lemmas.Bool.{cases_Bool}
+use Rattle.std.proofs.lemmas.Bool.{cases_Bool, both_ways}
 use Rattle.sqlite_value.specs.declared.value.Value.TheVariants.{Null, Int}
 use Rattle.sqlite_value.specs.Keys.{first_key}
 use Rattle.sqlite_schema.specs.Rules.{equal}
@@ -16,15 +16,13 @@ use Rattle.sqlite.specs.Term.{Term, lit, col}
 use Rattle.sqlite.specs.Effect.{value_rows}
 use Rattle.sqlite.specs.Listing.{understood}
 use Rattle.sqlite.specs.State.{State, Executes, ExecutesIn, IsNotRun, IsUnchanged, shows_rows, store_error}
-use Rattle.sqlite.specs.declared.error.ErrorCode.TheVariants as code
-use Rattle.sqlite.specs.declared.error.Error.TheVariants.{SqliteFailure}
+use Rattle.sqlite.specs.declared.error.Error.{Error}
 use Rattle.sqlite_trees.specs.declared.error.StoreError.{StoreError}
 use Rattle.sqlite_trees.specs.declared.error.StoreError.TheVariants.{OutOfMemory, Io, Corrupt, Full, Broken, Unstorable}
-use Rattle.sqlite_schema.specs.declared.schema.Constraint.{Constraint}
 use Rattle.wh_rows.specs.Schema.{index}
 use Rattle.wh_rows.specs.Rows as row
 use Rattle.wh_rows.specs.Tables.{Tables, Stores}
-use Rattle.wh_rows.specs.Inserting.{facts_at_once, insert_text, bind_facts, with_each}
+use Rattle.wh_rows.specs.Inserting.{facts_at_once, insert_text, bind_facts, with_each, is_broken_rule, BreaksRule}
 use Rattle.wh_rows.specs.Meaning.{InsertsEach, KeepsApart}
 use Rattle.wh_rows.proofs.Cast.{cast_row_own}
 use Rattle.wh_rows.proofs.Keys.{and-true, equal-Nat, equal-Text, then_eq}
@@ -42,9 +40,9 @@ abbrev rows_from : ℕ → ℕ → List Term
 rows_from zero n = []
 rows_from (suc more) n = row_from n ++ rows_from more (n + 13)
 
-pub insert : InsertsEach row.fact facts_at_once insert_text
+pub inserts : InsertsEach row.fact facts_at_once insert_text
 unfolding understood everything first_key
-insert = record {
+inserts = record {
   at = 9;
   table = record { has = refl; uncounted = refl; unstamped = refl; idle = λ keys olds news. refl };
   terms = rows_from 16 0;
@@ -76,25 +74,28 @@ pub facts_inserted : (old new : State) (t : Tables) → Stores old.now t → (fa
 facts_inserted old new t stored facts sixteen valid count ran =
     let rise = places.fact.rising old.now t stored in
     places.fact.changed old.now new.now t (with_each row.fact facts t.fact)
-    (Inserts.leaves row.fact places.fact.total places.fact.same facts_at_once insert_text insert own_lines old new facts count stored.schema rise t.fact stored.fact sixteen ran)
-    (holds_inserted row.fact places.fact.total places.fact.same facts_at_once insert_text insert own_lines old new facts count stored.schema rise t.fact stored.fact sixteen ran valid) stored
+    (Inserts.leaves row.fact places.fact.total places.fact.same facts_at_once insert_text inserts own_lines old new facts count stored.schema rise t.fact stored.fact sixteen ran)
+    (holds_inserted row.fact places.fact.total places.fact.same facts_at_once insert_text inserts own_lines old new facts count stored.schema rise t.fact stored.fact sixteen ran valid) stored
 
 -- ---- a refusal
 
-not_of_store : (rule : Constraint) (cause : StoreError) → ¬ (SqliteFailure (code.ConstraintViolation rule) ≡ store_error cause)
-not_of_store rule OutOfMemory e = cc
-not_of_store rule Io e = cc
-not_of_store rule Corrupt e = cc
-not_of_store rule Full e = cc
-not_of_store rule Broken e = cc
-not_of_store rule Unstorable e = cc
+not_of_store : (error : Error) (cause : StoreError) → is_broken_rule error ≡ true → ¬ (error ≡ store_error cause)
+not_of_store error cause broken is = both_ways _ (none cause) (ap is_broken_rule (sym is) ∙ broken)
+  where
+    none : (cause : StoreError) → is_broken_rule (store_error cause) ≡ false
+    none OutOfMemory = refl
+    none Io = refl
+    none Corrupt = refl
+    none Full = refl
+    none Broken = refl
+    none Unstorable = refl
 
--- a statement that a rule refuses leaves all as it was
-pub refused_stays : (text : List ℕ) (params : Row) (old new : State) (rule : Constraint) → Executes text params old new (Err (SqliteFailure (code.ConstraintViolation rule))) → IsUnchanged old new
+-- a statement that breaks a rule leaves all as it was
+pub refused_stays : (text : List ℕ) (params : Row) (old new : State) → BreaksRule text params old new → IsUnchanged old new
 unfolding ExecutesIn IsNotRun
-refused_stays text params old new rule (inl (inl stays)) = stays.1
-refused_stays text params old new rule (inl (inr fails)) = absurd (not_of_store rule fails.0 fails.1)
-refused_stays text params old new rule (inr ran) = elim (cases_Bool (shows_rows false ran.0)) [
+refused_stays text params old new (e, broken, inl (inl stays)) = stays.1
+refused_stays text params old new (e, broken, inl (inr fails)) = absurd (not_of_store e fails.0 broken fails.1)
+refused_stays text params old new (e, broken, inr ran) = elim (cases_Bool (shows_rows false ran.0)) [
   | inl shows ↦ (rw shows at ran.2).1
-  | inr runs ↦ elim (rw runs at ran.2) [ inl refused ↦ refused.1 | inr fails ↦ absurd (not_of_store rule fails.0 fails.1) ]
+  | inr runs ↦ elim (rw runs at ran.2) [ inl refused ↦ refused.1 | inr fails ↦ absurd (not_of_store e fails.0 broken fails.1) ]
 ]

@@ -1,6 +1,6 @@
 //! Writing sixteen facts at once, inside a transaction.
 
-ghost use Rattle.std.specs.Prelude.{◌≡◌, ◌≢◌, ◌≤◌, ℕ, false, if◌then◌else◌, map, length, Option, Some, Err, IsTrue, IfOk, IfErr};
+ghost use Rattle.std.specs.Prelude.{◌≡◌, ◌≢◌, ◌≤◌, ◌⊎◌, false, if◌then◌else◌, map, length, Option, Some, Err, IsTrue, IfOk, IfErr};
 ghost use Rattle.std.specs.List.{AllByRecursion};
 ghost use Rattle.sqlite.specs.Held.{state};
 ghost use Rattle.sqlite.specs.State.{HasCleanDisk};
@@ -8,7 +8,7 @@ ghost use Rattle.wh_rows.specs.declared.cause.Cause.TheVariants.{Memory, Disk};
 ghost use Rattle.wh_rows.specs.Tables.{Tables};
 ghost use Rattle.wh_rows.specs.Rows.{is_fact};
 ghost use Rattle.wh_rows.specs.Rows as row;
-ghost use Rattle.wh_rows.specs.Inserting.{facts_at_once, insert_text, bind_facts, with_each};
+ghost use Rattle.wh_rows.specs.Inserting.{facts_at_once, insert_text, bind_facts, with_each, is_broken_rule, BreaksRule};
 ghost use Rattle.wh_rows.specs.AtRest.{IsWriting, Leaves, IsCauseOf};
 
 use sqlite::{Alter, Connection, ErrorCode};
@@ -18,6 +18,13 @@ use wh_rows::{Cause, bound};
 
 /// How many facts one statement puts in.
 pub const FACTS_AT_ONCE: usize = 16;
+
+/// Whether the error says that a statement breaks a rule of the schema, as that no two facts have one line.
+fn is_broken_rule(error: &sqlite::Error) -> bool
+    ensures { result ≡ is_broken_rule error.now }
+{
+    matches!(error, sqlite::Error::SqliteFailure(ErrorCode::ConstraintViolation(_)))
+}
 
 /// Puts facts in that aren't there yet, sixteen in one statement. Where there are not sixteen of them, or one of their keys is taken
 /// (also by another of them), nothing changes, and the answer is false. Outside a transaction it is refused.
@@ -32,6 +39,7 @@ pub fn insert_facts<S: Alter>(
     ensures put { HasCleanDisk (state S.Store conn.new) → (before : Option Tables) (made : Tables) → IsWriting before (Some made) (state S.Store conn.old)
         → AllByRecursion (λ f. IsTrue (is_fact f)) (map (λ f. f.now) facts.now)
         → IfOk result (λ done. IsWriting before (Some (if done then record made { fact = with_each row.fact (map (λ f. f.now) facts.now) made.fact } else made)) (state S.Store conn.new)) }
+    ensures refused { HasCleanDisk (state S.Store conn.new) → IfOk result (λ done. done ≡ false → (length facts.now ≢ facts_at_once) ⊎ BreaksRule insert_text (bind_facts (map (λ f. f.now) facts.now)) (state S.Store conn.old) (state S.Store conn.new)) }
     ensures left { HasCleanDisk (state S.Store conn.new) → (before : Option Tables) (made : Tables) → IsWriting before (Some made) (state S.Store conn.old) → Leaves before (state S.Store conn.new) }
     ensures cause { HasCleanDisk (state S.Store conn.new) → IsTrue (state S.Store conn.old).in_transaction → AllByRecursion (λ f. IsTrue (is_fact f)) (map (λ f. f.now) facts.now)
         → IfErr result (λ cause. cause ≢ Memory → IsCauseOf insert_text (bind_facts (map (λ f. f.now) facts.now)) (state S.Store conn.old) (state S.Store conn.new) cause) }
@@ -50,7 +58,12 @@ pub fn insert_facts<S: Alter>(
     );
     match put {
         Ok(_) => Ok(true),
-        Err(sqlite::Error::SqliteFailure(ErrorCode::ConstraintViolation(_))) => Ok(false),
-        Err(error) => Err(Cause::from(error)),
+        Err(error) => {
+            if is_broken_rule(&error) {
+                Ok(false)
+            } else {
+                Err(Cause::from(error))
+            }
+        }
     }
 }
