@@ -66,3 +66,6 @@ pub mod EffectiveFacts
 pub mod GovernedLists
 pub mod MovedKeys
 pub mod SameLines
+pub mod Inserts
+pub mod InsertedFacts
+pub mod BoundFacts

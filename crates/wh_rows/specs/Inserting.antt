@@ -1,7 +1,11 @@
 -- Putting in sixteen facts by one statement.
-use Rattle.std.specs.Prelude.{ℕ, List, [], ◌∷◌, codes, flat_map}
+use Rattle.std.specs.Prelude.{◌≡◌, ℕ, List, [], ◌∷◌, codes, flat_map, Bool, true, false, Err}
 use Rattle.std.specs.FinMap.{FinMap, insert}
 use Rattle.sqlite.specs.Order.{Row}
+use Rattle.sqlite.specs.declared.error.ErrorCode.TheVariants.{ConstraintViolation}
+use Rattle.sqlite.specs.declared.error.Error.{Error}
+use Rattle.sqlite.specs.declared.error.Error.TheVariants.{SqliteFailure}
+use Rattle.sqlite.specs.State.{State, Executes}
 use Rattle.wh_history.specs.declared.facts.Fact.{Fact}
 use Rattle.wh_rows.specs.Holds.{Layout}
 use Rattle.wh_rows.specs.Rows.{encode_fact}
@@ -21,3 +25,12 @@ bind_facts facts = flat_map encode_fact facts
 abbrev pub with_each : {K V : Type 0} (layout : Layout K V) → List V → FinMap layout.order V → FinMap layout.order V
 with_each layout [] m = m
 with_each layout (v ∷ vs) m = with_each layout vs (insert m (layout.key v) v)
+
+-- the error says that the statement breaks a rule of the schema, as that no two facts have one line
+abbrev pub is_broken_rule : Error → Bool
+is_broken_rule (SqliteFailure (ConstraintViolation rule)) = true
+is_broken_rule _ = false
+
+-- the store refused the statement with such an error
+abbrev pub BreaksRule : List ℕ → Row → State → State → Type 0
+BreaksRule text params old new = (error : Error) × (is_broken_rule error ≡ true) × Executes text params old new (Err error)

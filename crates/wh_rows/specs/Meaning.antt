@@ -1,5 +1,5 @@
 -- What the text of a statement has to mean.
-use Rattle.std.specs.Prelude.{◌≡◌, ℕ, ◌/◌, Bool, true, false, List, [], ◌∷◌, length, drop, slice_get, Some, None, Ok, Err, Result, ℤ, ◌&&◌, ◌++◌, Option}
+use Rattle.std.specs.Prelude.{◌≡◌, ℕ, ◌/◌, Bool, true, false, List, [], ◌∷◌, length, drop, slice_get, Some, None, Ok, Err, Result, ℤ, ◌&&◌, ◌++◌, Option, map, flat_map}
 use Rattle.std.specs.List.{list_all}
 use Rattle.std.specs.Ordering.{eq_by_cmp}
 use Rattle.sqlite.specs.Order.{Row}
@@ -11,7 +11,7 @@ use Rattle.sqlite.specs.Table.{Table}
 use Rattle.sqlite.specs.Schema.{Schema}
 use Rattle.sqlite.specs.Source.TheVariants.{Values}
 use Rattle.sqlite.specs.Command.{Command}
-use Rattle.sqlite.specs.Command.TheVariants.{Select, InsertOr, Delete, Nothing, Update}
+use Rattle.sqlite.specs.Command.TheVariants.{Select, Insert, InsertOr, Delete, Nothing, Update}
 use Rattle.sqlite.specs.Rowids.TheVariants.{Chosen}
 use Rattle.sqlite_resolve.specs.declared.compiled.Compiled.{Compiled}
 use Rattle.sqlite_resolve.specs.declared.error.CompileError.{CompileError}
@@ -87,6 +87,20 @@ pub record PutsOne {K V : Type 0} (layout : Layout K V) (text : List ℕ) : Type
       → drop 1 (output (reading layout.table.tree (same_rowid here) (col 1 0 ∷ cells) []) ((layout.encode v ++ id ∷ shown layout.table (with_rowid Chosen rows (source v))) ∷ r ∷ [])).1 ≡ rowid r ∷ over v (values_of layout.table r)
   pub remade : (v w : V) → layout.key w ≡ layout.key v → (r : Row) (n : ℤ) → rowid r ≡ Int n → values_of layout.table r ≡ layout.encode w
       → (cast_row layout.table (Int n ∷ over v (layout.encode w)) ≡ Int n ∷ over v (layout.encode w)) × (values_of layout.table (Int n ∷ over v (layout.encode w)) ≡ layout.encode v)
+
+-- what a text has to mean, to put in so many rows, which its parameters are, one after the other
+pub record InsertsEach {K V : Type 0} (layout : Layout K V) (many : ℕ) (text : List ℕ) : Type 0 where
+  pub at : ℕ
+  pub table : IsPlainTable warehouse at layout.table
+  pub terms : List Term
+  pub width : ℕ
+  pub command : command_of (understood warehouse text) ≡ Insert at (Values terms width)
+  pub plain : IsPlain (understood warehouse text)
+  -- a row as it is written, less a rowid that is chosen
+  pub source : V → Row
+  pub given : (vs : List V) → length vs ≡ many → value_rows (flat_map layout.encode vs) width (length terms / width) terms ≡ map source vs
+  pub own : (v : V) → cast_row layout.table (source v) ≡ source v
+  pub shows : (v : V) (rows : List Row) → values_of layout.table (with_rowid Chosen rows (source v)) ≡ layout.encode v
 
 -- what a text has to mean, to take out the row of the key that its parameters are
 pub record RemovesOne {K V : Type 0} (layout : Layout K V) (bind : K → Row) (text : List ℕ) : Type 0 where

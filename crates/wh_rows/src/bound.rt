@@ -1,11 +1,13 @@
 //! Rows as the values of their columns, to be bound to the parameters of a statement.
 
-ghost use Rattle.std.specs.Prelude.{◌≡◌, ◌≢◌, false, pos, IfOk, IfErr};
+ghost use Rattle.std.specs.Prelude.{◌≡◌, ◌≢◌, false, pos, map, IfOk, IfErr};
+ghost use Rattle.std.specs.List.{list_all};
 ghost use Rattle.sqlite_value.specs.Value.{owned};
 ghost use Rattle.sqlite_value.specs.declared.value.Value.TheVariants.{Int, Text};
 ghost use Rattle.sqlite.specs.Values.{bound};
 ghost use Rattle.wh_rows.specs.declared.cause.Cause.TheVariants.{Memory, Size};
 ghost use Rattle.wh_rows.specs.Types.{is_number, dim_number};
+ghost use Rattle.wh_rows.specs.Inserting.{bind_facts};
 ghost use Rattle.wh_rows.specs.Rows.{flag, slot_column, slot_columns, encode_meta, encode_command, encode_member, encode_change, encode_dimension, encode_profile, encode_date, encode_fact, is_command, is_member, is_change, is_dimension, is_profile, is_fact};
 
 use crate::cause::Cause;
@@ -258,5 +260,18 @@ pub fn fact<'a>(alloc: Global, row: &'a Fact) -> Result<Vec<ValueRef<'a>>, Cause
             ValueRef::Int(row.cost),
         ],
     )?;
+    Ok(values)
+}
+
+/// Facts, one after the other.
+pub fn facts<'a>(alloc: Global, rows: &[&'a Fact]) -> Result<Vec<ValueRef<'a>>, Cause>
+    ensures ok { IfOk result (λ values. bound values.items ≡ bind_facts (map (λ r. r.now) rows.now)) }
+    ensures err { IfErr result (λ cause. cause ≢ Memory → (cause ≡ Size) × (list_all is_fact (map (λ r. r.now) rows.now) ≡ false)) }
+{
+    let mut values = Vec::new(alloc);
+    for row in rows {
+        let mut columns = fact(alloc, row)?;
+        values.append(&mut columns)?;
+    }
     Ok(values)
 }
