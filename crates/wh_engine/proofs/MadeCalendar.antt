@@ -15,9 +15,9 @@ use Rattle.wh_history.proofs.Basics.{some_is}
 use Rattle.wh_rows.specs.Rows as row
 use Rattle.wh_rows.specs.Defined.{day_at}
 use Rattle.wh_plan.specs.FirstRows.{calendar_rows}
-use Rattle.wh_plan.specs.Edits.{with_rows}
 use Rattle.wh_plan.proofs.WrittenRows.{written}
 use Rattle.wh_rows.proofs.Growing.{Grows}
+use Rattle.wh_rows.specs.Steps.{with_rows}
 
 -- the rows of the days from a number on
 abbrev pub rows_from : Policy → ℕ → ℕ → List DateRow

@@ -5,8 +5,8 @@ use Rattle.std.specs.FinMap.{FinMap}
 use Rattle.wh_history.specs.declared.facts.Fact.{Fact}
 use Rattle.wh_history.specs.declared.plan.Edit.TheVariants.{Put}
 use Rattle.wh_rows.specs.Rows as row
-use Rattle.wh_rows.specs.Inserting.{with_each}
-use Rattle.wh_store.specs.Edits.{with_row, after_all, IsValid}
+use Rattle.wh_rows.specs.Steps.{with_row, with_rows, after_all}
+use Rattle.wh_store.specs.Edits.{IsValid}
 use Rattle.wh_plan.specs.Edits.{with_fact_edit}
 use Rattle.wh_plan.specs.Writable.{IsValidFactEdit}
 use Rattle.wh_plan.specs.declared.edits.FactEdit.{FactEdit}
@@ -21,7 +21,7 @@ valid_facts [] may = tt
 valid_facts (fact ∷ facts) may = (may.0, valid_facts facts may.1)
 
 -- such edits lead to the facts put, one after the other
-pub facts_put : (facts : List Fact) (m : FinMap row.fact.order Fact) → after_all with_fact_edit (map putting facts) m ≡ with_each row.fact facts m
+pub facts_put : (facts : List Fact) (m : FinMap row.fact.order Fact) → after_all with_fact_edit (map putting facts) m ≡ with_rows row.fact facts m
 facts_put [] m = refl
 facts_put (fact ∷ facts) m = facts_put facts (with_row row.fact fact m)
 

@@ -8,7 +8,7 @@ use Rattle.std.specs.declared.cmp.Ordering.{Ordering}
 use Rattle.std.specs.declared.cmp.Ordering.TheVariants.{Less, Equal}
 use Rattle.wh_history.specs.Plan.{Above, Ascends, IsExact}
 use Rattle.wh_history.proofs.Joins.{all_weaker}
-use Rattle.wh_store.specs.Edits.{after_all}
+use Rattle.wh_rows.specs.Steps.{after_all}
 
 module _ {Key E : Type 0} (order : Key → Key → Ordering) (total : IsTotalOrder order) (key_of : E → Key) where
   -- ---- the edit of a key

@@ -20,7 +20,7 @@ use Rattle.wh_rows.specs.Meaning.{moved_at}
 use Rattle.wh_rows.specs.Rekey.{with_keys}
 use Rattle.wh_rows.specs.Rows as row
 use Rattle.wh_rows.specs.declared.key.LineKey.{LineKey}
-use Rattle.wh_store.specs.Edits.{after_all}
+use Rattle.wh_rows.specs.Steps.{after_all}
 use Rattle.wh_plan.specs.BatchRows.{AreFacts, AreRekeyed, has_line}
 use Rattle.wh_plan.specs.Edits.{IsFactPlan, ChangesFact, NeedsFact, edited_line, with_fact_edit}
 use Rattle.wh_plan.specs.FactEdits.{by_line, put_of, rekey_of}

@@ -6,9 +6,9 @@ use Rattle.std.specs.Ordering.{eq_by_cmp}
 use Rattle.std.specs.Cmp.{IsTotalOrder, eq_by_cmp_equiv, Equal-is}
 use Rattle.std.specs.FinMap.{FinMap, get, insert, IsAntisymmetric, get-insert}
 use Rattle.wh_rows.specs.Holds.{Layout}
-use Rattle.wh_plan.specs.Edits.{with_rows}
 use Rattle.wh_plan.specs.BatchRows.{behind}
 use Rattle.wh_rows.proofs.Growing.{AmongKeys, among_range, Grows}
+use Rattle.wh_rows.specs.Steps.{with_rows}
 
 module _ {I K V : Type 0} (layout : Layout K V) (total : IsTotalOrder layout.order) (same : IsAntisymmetric layout.order) (new : K → Option V) (keyed : (k : K) (v : V) → new k ≡ Some v → layout.key v ≡ k) (at : I → K) where
   -- a key has its row already, or has none and is to get it

@@ -22,8 +22,9 @@ use Rattle.wh_rows.specs.Holds.{Layout}
 use Rattle.wh_rows.specs.Rekey.{rekeyed}
 use Rattle.wh_rows.specs.Rows as row
 use Rattle.wh_rows.specs.Tables.{Tables}
-use Rattle.wh_store.specs.Edits.{with_row, with_edit, after_all}
+use Rattle.wh_store.specs.Edits.{with_edit}
 use Rattle.wh_rows.specs.Defined.{command_at, member_at, change_at, profile_at, calendar_at, fact_at}
+use Rattle.wh_rows.specs.Steps.{after_all}
 use Rattle.wh_plan.specs.declared.edits.FactEdit.{FactEdit}
 use Rattle.wh_plan.specs.declared.edits.FactEdit.TheVariants.{Row, Rekey}
 
@@ -62,10 +63,6 @@ abbrev pub edit_count : Edits → ℕ
 edit_count edits = count_commands edits + count_dimensions edits + count_facts edits
 
 -- ---- what they make of the tables
-
--- a table with rows put at their keys, the first one first
-abbrev pub with_rows : {K V : Type 0} (layout : Layout K V) → List V → FinMap layout.order V → FinMap layout.order V
-with_rows layout = after_all (with_row layout)
 
 -- a table with edits, the first one first
 abbrev pub with_edits : {K V : Type 0} (layout : Layout K V) → List (Edit V K) → FinMap layout.order V → FinMap layout.order V

@@ -20,10 +20,10 @@ use Rattle.wh_rows.specs.Tables.{Tables}
 use Rattle.wh_rows.specs.declared.key.LineKey.{LineKey}
 use Rattle.wh_plan.specs.BatchRows.{has_line}
 use Rattle.wh_rows.specs.Defined.{AreOf}
-use Rattle.wh_plan.specs.Edits.{with_rows}
 use Rattle.wh_rows.specs.Sound.{same_line}
 use Rattle.wh_plan.proofs.GrownFacts.{own_line, line_is, line_tied, Once, facts_put, found_mapped, facts_once, or_none}
 use Rattle.wh_rows.proofs.Listed.{len-values}
+use Rattle.wh_rows.specs.Steps.{with_rows}
 use Rattle.wh_report.specs.Defined.{AreRowsOf}
 use Rattle.wh_report.specs.Summary.{Sold, summed}
 use Rattle.wh_report.proofs.Reports.{moved}

@@ -22,13 +22,14 @@ use Rattle.sqlite_trees.specs.declared.error.StoreError.TheVariants.{OutOfMemory
 use Rattle.wh_rows.specs.Schema.{index}
 use Rattle.wh_rows.specs.Rows as row
 use Rattle.wh_rows.specs.Tables.{Tables, Stores}
-use Rattle.wh_rows.specs.Inserting.{facts_at_once, insert_text, bind_facts, with_each, is_broken_rule, BreaksRule}
+use Rattle.wh_rows.specs.Inserting.{facts_at_once, insert_text, bind_facts, is_broken_rule, BreaksRule}
 use Rattle.wh_rows.specs.Meaning.{InsertsEach, KeepsApart}
 use Rattle.wh_rows.proofs.Cast.{cast_row_own}
 use Rattle.wh_rows.proofs.Keys.{and-true, equal-Nat, equal-Text, then_eq}
 use Rattle.wh_rows.proofs.Inserts
 use Rattle.wh_rows.proofs.Inserts.{OfEach, written_out, same_key, holds_inserted}
 use Rattle.wh_rows.proofs.Places as places
+use Rattle.wh_rows.specs.Steps.{with_rows}
 use Rattle.wh_history.specs.declared.facts.Fact.{Fact}
 
 -- a row of parameters from a place on, with a rowid to be chosen
@@ -70,10 +71,10 @@ own_lines = record {
 
 -- the facts are put in
 pub facts_inserted : (old new : State) (t : Tables) → Stores old.now t → (facts : List Fact) → length facts ≡ facts_at_once → AllByRecursion (λ f. IsTrue (row.fact.is_valid f)) facts → (count : ℕ)
-    → Executes insert_text (bind_facts facts) old new (Ok count) → Stores new.now (record t { fact = with_each row.fact facts t.fact })
+    → Executes insert_text (bind_facts facts) old new (Ok count) → Stores new.now (record t { fact = with_rows row.fact facts t.fact })
 facts_inserted old new t stored facts sixteen valid count ran =
     let rise = places.fact.rising old.now t stored in
-    places.fact.changed old.now new.now t (with_each row.fact facts t.fact)
+    places.fact.changed old.now new.now t (with_rows row.fact facts t.fact)
     (Inserts.leaves row.fact places.fact.total places.fact.same facts_at_once insert_text inserts own_lines old new facts count stored.schema rise t.fact stored.fact sixteen ran)
     (holds_inserted row.fact places.fact.total places.fact.same facts_at_once insert_text inserts own_lines old new facts count stored.schema rise t.fact stored.fact sixteen ran valid) stored
 

@@ -39,7 +39,6 @@ use Rattle.sqlite.proofs.Callers.{statement_of, runs_as, one_step}
 use Rattle.wh_rows.specs.Schema.{warehouse}
 use Rattle.wh_rows.specs.Holds.{Layout, values_of, HasRows, Holds, IsRising}
 use Rattle.wh_rows.specs.OneTable.{LeavesOthers}
-use Rattle.wh_rows.specs.Inserting.{with_each}
 use Rattle.wh_rows.specs.Meaning.{IsPlainTable, InsertsEach, KeepsApart}
 use Rattle.wh_rows.proofs.Edits.{went, same_value, task_for, concluded}
 use Rattle.wh_rows.proofs.Keys.{equal_is}
@@ -47,6 +46,7 @@ use Rattle.wh_rows.proofs.Maps.{values-insert, other_rows, keyed-insert, all-ins
 use Rattle.wh_rows.proofs.RawKeys.{at_most_one, ids_differ, none_clashes}
 use Rattle.wh_rows.proofs.Typed.{holds_filtered, put_is_more}
 use Rattle.wh_rows.proofs.ColumnLemmas.{both}
+use Rattle.wh_rows.specs.Steps.{with_rows}
 
 -- ---- a list that is written out
 
@@ -155,17 +155,17 @@ module _ {K V : Type 0} (layout : Layout K V) (total : IsTotalOrder layout.order
       ])) in
       subst (λ l. IsPermutation (values (insert m (layout.key v) v)) (v ∷ l)) (sym (other_rows layout.order same layout.key (layout.key v) (entries m) keyed) ∙ others) (values-insert layout.order total m (layout.key v) v)
 
-  each_keyed : (vs : List V) (m : FinMap layout.order V) → AreKeyed m → AreKeyed (with_each layout vs m)
+  each_keyed : (vs : List V) (m : FinMap layout.order V) → AreKeyed m → AreKeyed (with_rows layout vs m)
   each_keyed [] m keyed = keyed
   each_keyed (v ∷ vs) m keyed = each_keyed vs (insert m (layout.key v) v) (keyed-insert layout.order same layout.key total m v keyed)
 
   each_valid : (vs : List V) (m : FinMap layout.order V) → AllByRecursion (λ v. IsTrue (layout.is_valid v)) vs → AllByRecursion (λ e. IsTrue (layout.is_valid e.1)) (entries m)
-      → AllByRecursion (λ e. IsTrue (layout.is_valid e.1)) (entries (with_each layout vs m))
+      → AllByRecursion (λ e. IsTrue (layout.is_valid e.1)) (entries (with_rows layout vs m))
   each_valid [] m new valid = valid
   each_valid (v ∷ vs) m new valid = each_valid vs (insert m (layout.key v) v) new.1 (all-insert layout.order (λ w. IsTrue (layout.is_valid w)) total m (layout.key v) v new.0 valid)
 
   -- where all keys differ, the rows are those that were there and the new ones
-  each_put : (vs : List V) (m : FinMap layout.order V) → AreApart (vs ++ values m) → AreKeyed m → IsPermutation (values (with_each layout vs m)) (vs ++ values m)
+  each_put : (vs : List V) (m : FinMap layout.order V) → AreApart (vs ++ values m) → AreKeyed m → IsPermutation (values (with_rows layout vs m)) (vs ++ values m)
   each_put [] m apart keyed = IsPermutation-refl (values m)
   each_put (v ∷ vs) m apart keyed =
       let after = insert m (layout.key v) v in
@@ -243,7 +243,7 @@ module _ {K V : Type 0} (layout : Layout K V) (total : IsTotalOrder layout.order
         (both (far v x y hx hy px py) (ids_differ (rowid x) (rowid y) (all_has _ after x rises.1 hx) (all_has _ after y rises.1 hy) less))) in
         subst (λ n. n ≤ 1) long once
 
-    pub holds_inserted : AllByRecursion (λ v. IsTrue (layout.is_valid v)) vs → Holds layout new.now.trees (with_each layout vs m)
+    pub holds_inserted : AllByRecursion (λ v. IsTrue (layout.is_valid v)) vs → Holds layout new.now.trees (with_rows layout vs m)
     holds_inserted valid = record {
       rows_are = IsPermutation-trans _ _ _ bag (IsPermutation-map layout.encode _ _ (IsPermutation-sym _ _ (each_put vs m apart held.keyed)));
       keyed = each_keyed vs m held.keyed;

@@ -1,13 +1,11 @@
 -- Putting in sixteen facts by one statement.
-use Rattle.std.specs.Prelude.{◌≡◌, ℕ, List, [], ◌∷◌, codes, flat_map, Bool, true, false, Err}
-use Rattle.std.specs.FinMap.{FinMap, insert}
+use Rattle.std.specs.Prelude.{◌≡◌, ℕ, List, codes, flat_map, Bool, true, false, Err}
 use Rattle.sqlite.specs.Order.{Row}
 use Rattle.sqlite.specs.declared.error.ErrorCode.TheVariants.{ConstraintViolation}
 use Rattle.sqlite.specs.declared.error.Error.{Error}
 use Rattle.sqlite.specs.declared.error.Error.TheVariants.{SqliteFailure}
 use Rattle.sqlite.specs.State.{State, Executes}
 use Rattle.wh_history.specs.declared.facts.Fact.{Fact}
-use Rattle.wh_rows.specs.Holds.{Layout}
 use Rattle.wh_rows.specs.Rows.{encode_fact}
 
 -- how many facts the statement puts in
@@ -20,11 +18,6 @@ insert_text = codes "INSERT INTO fact VALUES (?1, ?2, ?3, ?4, ?5, ?6, ?7, ?8, ?9
 -- the facts as the parameters of the statement, one after the other
 abbrev pub bind_facts : List Fact → Row
 bind_facts facts = flat_map encode_fact facts
-
--- the map with each row put at its key, the first one first
-abbrev pub with_each : {K V : Type 0} (layout : Layout K V) → List V → FinMap layout.order V → FinMap layout.order V
-with_each layout [] m = m
-with_each layout (v ∷ vs) m = with_each layout vs (insert m (layout.key v) v)
 
 -- the error says that the statement breaks a rule of the schema, as that no two facts have one line
 abbrev pub is_broken_rule : Error → Bool

@@ -19,10 +19,11 @@ use Rattle.wh_rows.specs.AtRest.{Has, Leaves, IsWriting}
 use Rattle.wh_rows.specs.Rekey.{Rekey, rekey_text, bind_rekey, are_keys, rekeyed}
 use Rattle.wh_history.specs.declared.facts.Fact.{Fact}
 use Rattle.wh_rows.specs.Rows as row
-use Rattle.wh_rows.specs.Inserting.{facts_at_once, insert_text, bind_facts, with_each, BreaksRule}
+use Rattle.wh_rows.specs.Inserting.{facts_at_once, insert_text, bind_facts, BreaksRule}
 use Rattle.wh_rows.proofs.Facts.{rekey}
 use Rattle.wh_rows.proofs.InsertedFacts.{inserts, facts_inserted, refused_stays}
 use Rattle.wh_rows.proofs.OnTables.{row_put, key_removed, fact_rekeyed}
+use Rattle.wh_rows.specs.Steps.{with_rows}
 use Rattle.wh_sql.proofs.Inside.{leaves_inside, stays_inside, writes_on, has_tables}
 
 module _ (text : List ℕ) (params : Row) (old new : State) (before : Option Tables) (t : Tables) (at : IsWriting before (Some t) old) (clean : HasCleanDisk new) (survives : Survives old new (CommitsBy text params old)) where
@@ -65,7 +66,7 @@ module _ (params : Row) (old new : State) (before : Option Tables) (t : Tables) 
 
   -- the transaction has put in the facts
   pub inserts_on : (count : ℕ) → Executes insert_text params old new (Ok count) → (facts : List Fact) → params ≡ bind_facts facts → length facts ≡ facts_at_once → AllByRecursion (λ f. IsTrue (row.fact.is_valid f)) facts
-      → IsWriting before (Some (record t { fact = with_each row.fact facts t.fact })) new
+      → IsWriting before (Some (record t { fact = with_rows row.fact facts t.fact })) new
   inserts_on count ran facts is sixteen valid =
       makes insert_text params old new before t at clean survives _ inserts.command inserts.plain tt count ran _ (facts_inserted old new t at.now.tables facts sixteen valid count (rw is at ran))
 

@@ -8,8 +8,9 @@ ghost use Rattle.wh_rows.specs.declared.cause.Cause.TheVariants.{Memory, Disk};
 ghost use Rattle.wh_rows.specs.Tables.{Tables};
 ghost use Rattle.wh_rows.specs.Rows.{is_fact};
 ghost use Rattle.wh_rows.specs.Rows as row;
-ghost use Rattle.wh_rows.specs.Inserting.{facts_at_once, insert_text, bind_facts, with_each, is_broken_rule, BreaksRule};
+ghost use Rattle.wh_rows.specs.Inserting.{facts_at_once, insert_text, bind_facts, is_broken_rule, BreaksRule};
 ghost use Rattle.wh_rows.specs.AtRest.{IsWriting, Leaves, IsCauseOf};
+ghost use Rattle.wh_rows.specs.Steps.{with_rows};
 
 use sqlite::{Alter, Connection, ErrorCode};
 use std::alloc::Global;
@@ -38,7 +39,7 @@ pub fn insert_facts<S: Alter>(
     ensures sixteen { IfOk result (λ done. IsTrue done → length facts.now ≡ facts_at_once) }
     ensures put { HasCleanDisk (state S.Store conn.new) → (before : Option Tables) (made : Tables) → IsWriting before (Some made) (state S.Store conn.old)
         → AllByRecursion (λ f. IsTrue (is_fact f)) (map (λ f. f.now) facts.now)
-        → IfOk result (λ done. IsWriting before (Some (if done then record made { fact = with_each row.fact (map (λ f. f.now) facts.now) made.fact } else made)) (state S.Store conn.new)) }
+        → IfOk result (λ done. IsWriting before (Some (if done then record made { fact = with_rows row.fact (map (λ f. f.now) facts.now) made.fact } else made)) (state S.Store conn.new)) }
     ensures refused { HasCleanDisk (state S.Store conn.new) → IfOk result (λ done. done ≡ false → (length facts.now ≢ facts_at_once) ⊎ BreaksRule insert_text (bind_facts (map (λ f. f.now) facts.now)) (state S.Store conn.old) (state S.Store conn.new)) }
     ensures left { HasCleanDisk (state S.Store conn.new) → (before : Option Tables) (made : Tables) → IsWriting before (Some made) (state S.Store conn.old) → Leaves before (state S.Store conn.new) }
     ensures cause { HasCleanDisk (state S.Store conn.new) → IsTrue (state S.Store conn.old).in_transaction → AllByRecursion (λ f. IsTrue (is_fact f)) (map (λ f. f.now) facts.now)

@@ -1,15 +1,12 @@
 -- Edits of one table, one after the other.
 use Rattle.std.specs.Prelude.{◌≡◌, ℕ, List, [], ◌∷◌, IsTrue, ⊤}
-use Rattle.std.specs.FinMap.{FinMap, insert, remove}
+use Rattle.std.specs.FinMap.{FinMap, remove}
 use Rattle.sqlite.specs.Order.{Row}
 use Rattle.wh_history.specs.declared.plan.Edit.{Edit}
 use Rattle.wh_history.specs.declared.plan.Edit.TheVariants.{Put, Remove}
 use Rattle.wh_rows.specs.Holds.{Layout}
+use Rattle.wh_rows.specs.Steps.{with_row}
 use Rattle.wh_rows.specs.Texts.{Texts}
-
--- a table with a row put at its key
-abbrev pub with_row : {K V : Type 0} (layout : Layout K V) → V → FinMap layout.order V → FinMap layout.order V
-with_row layout row m = insert m (layout.key row) row
 
 -- a table with one edit
 abbrev pub with_edit : {K V : Type 0} (layout : Layout K V) → Edit V K → FinMap layout.order V → FinMap layout.order V
@@ -24,11 +21,6 @@ IsValid layout row = IsTrue (layout.is_valid row)
 abbrev pub Puts : {K V : Type 0} → (V → Type 0) → Edit V K → Type 0
 Puts P (Put row) = P row
 Puts P (Remove key) = ⊤
-
--- what steps lead to, the first one first
-abbrev pub after_all : {E M : Type 0} → (E → M → M) → List E → M → M
-after_all step [] m = m
-after_all step (e ∷ es) m = after_all step es (step e m)
 
 -- what is put, or stands at the key that is taken out, has values of their types
 abbrev pub IsOfTypes : {K V : Type 0} (layout : Layout K V) → Edit V K → Type 0

@@ -12,12 +12,13 @@ ghost use Rattle.wh_rows.specs.Rows as row;
 ghost use Rattle.wh_rows.specs.Texts as texts;
 ghost use Rattle.wh_rows.specs.AtRest.{AreTrees, IsAtRest, IsWriting, Leaves, IsCauseOf};
 ghost use Rattle.wh_rows.specs.Tables.{Tables as TenTables};
-ghost use Rattle.wh_rows.specs.Inserting.{insert_text, bind_facts, with_each};
+ghost use Rattle.wh_rows.specs.Inserting.{insert_text, bind_facts};
 ghost use Rattle.wh_rows.specs.Rekey.{rekey_text, bind_rekey, are_keys, rekeyed};
+ghost use Rattle.wh_rows.specs.Steps.{with_row, with_rows, after_all};
 ghost use Rattle.wh_sql.specs.Refused.{IsOneRefused};
 ghost use Rattle.wh_store.specs.Reads.{state_of};
 ghost use Rattle.wh_store.specs.Writes.{WritesOnly, Makes, NotesRefusals, Undoes};
-ghost use Rattle.wh_store.specs.Edits.{with_row, with_edit, IsValid, Puts, after_all, IsOfTypes, statement_of};
+ghost use Rattle.wh_store.specs.Edits.{with_edit, IsValid, Puts, IsOfTypes, statement_of};
 ghost use Rattle.wh_store.specs.Meta.{made_with, with_number, making};
 
 use crate::meta;
@@ -132,7 +133,7 @@ impl<'t, S: Alter> Writing<'t, S> {
         ensures same_reference { self.new.tables.ghost_name ≡ self.old.tables.ghost_name }
         ensures writes { WritesOnly (state_of S.Store self.old.tables.now) (state_of S.Store self.new.tables.now) ⊤ }
         ensures inserted { HasCleanDisk (state_of S.Store self.new.tables.now) → (before : Option TenTables) (made : TenTables) → IsWriting before (Some made) (state_of S.Store self.old.tables.now) → AllByRecursion (IsValid row.fact) (map (λ f. f.now) facts.now)
-            → IfOk result (λ inserted. IsWriting before (Some (if inserted then record made { fact = with_each row.fact (map (λ f. f.now) facts.now) made.fact } else made)) (state_of S.Store self.new.tables.now)) }
+            → IfOk result (λ inserted. IsWriting before (Some (if inserted then record made { fact = with_rows row.fact (map (λ f. f.now) facts.now) made.fact } else made)) (state_of S.Store self.new.tables.now)) }
         ensures counted { IfOk result (λ inserted. self.new.writes ≡ self.old.writes + (if inserted then length facts.now else 0)) }
         ensures cause { HasCleanDisk (state_of S.Store self.new.tables.now) → IsTrue (state_of S.Store self.old.tables.now).in_transaction → self.old.writes + length facts.now ≤ u64.MAX → AllByRecursion (IsValid row.fact) (map (λ f. f.now) facts.now)
             → IfErr result (λ cause. cause ≢ Memory → IsCauseOf insert_text (bind_facts (map (λ f. f.now) facts.now)) (state_of S.Store self.old.tables.now) (state_of S.Store self.new.tables.now) cause) }

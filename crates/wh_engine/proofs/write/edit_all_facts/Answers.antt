@@ -5,7 +5,7 @@ use Rattle.std.specs.Slice.Iter.{chunks_rest}
 use Rattle.sqlite.specs.Held.{state}
 use Rattle.wh_rows.specs.AtRest.{IsWriting}
 use Rattle.wh_rows.specs.Tables.{Tables as TenTables}
-use Rattle.wh_store.specs.Edits.{after_all}
+use Rattle.wh_rows.specs.Steps.{after_all}
 use Rattle.wh_plan.specs.Edits.{with_fact_edit}
 use Rattle.wh_plan.specs.Writable.{IsValidFactEdit}
 use Rattle.wh_engine.proofs.PutFacts.{in_parts, all_parts}

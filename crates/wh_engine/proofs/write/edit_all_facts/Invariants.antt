@@ -5,7 +5,7 @@ use Rattle.sqlite.specs.Held.{state}
 use Rattle.sqlite.specs.State.{HasCleanDisk}
 use Rattle.wh_rows.specs.AtRest.{IsWriting}
 use Rattle.wh_rows.specs.Tables.{Tables as TenTables}
-use Rattle.wh_store.specs.Edits.{after_all}
+use Rattle.wh_rows.specs.Steps.{after_all}
 use Rattle.wh_plan.specs.Edits.{with_fact_edit}
 use Rattle.wh_plan.specs.Writable.{IsValidFactEdit}
 use Rattle.wh_engine.proofs.write.edit_all_facts.Given as goal

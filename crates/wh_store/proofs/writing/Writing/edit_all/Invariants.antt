@@ -4,7 +4,8 @@ use Rattle.sqlite.specs.Held.{state}
 use Rattle.sqlite.specs.State.{HasCleanDisk}
 use Rattle.wh_rows.specs.AtRest.{IsWriting}
 use Rattle.wh_rows.specs.Tables.{Tables as TenTables}
-use Rattle.wh_store.specs.Edits.{with_edit, after_all, IsValid, Puts}
+use Rattle.wh_rows.specs.Steps.{after_all}
+use Rattle.wh_store.specs.Edits.{with_edit, IsValid, Puts}
 use Rattle.wh_store.proofs.Looping.{IsOnTheWay}
 use Rattle.wh_store.proofs.writing.Writing.edit_all.Given as goal
 

@@ -2,7 +2,8 @@ use Rattle.std.proofs.Common.{Some, subst, ◌∙◌, arith}
 use Rattle.std.proofs.lemmas.Result.{err_from_is_err_and}
 use Rattle.sqlite.specs.Held.{state}
 use Rattle.wh_rows.specs.AtRest.{IsWriting, IsCauseOf}
-use Rattle.wh_store.specs.Edits.{with_row, IsValid}
+use Rattle.wh_rows.specs.Steps.{with_row}
+use Rattle.wh_store.specs.Edits.{IsValid}
 use Rattle.wh_store.proofs.Refusals.{is_among, one_refused}
 use Rattle.wh_store.proofs.Looping.{next_is, next_may, next_way, way_ends}
 use Rattle.wh_store.proofs.writing.Writing.put_all.Goals as goal
