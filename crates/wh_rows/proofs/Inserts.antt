@@ -1,5 +1,5 @@
 -- Putting in rows by one plain INSERT.
-use Rattle.std.proofs.Common.{◌≡◌, inl, inr, ℕ, zero, suc, ◌≤◌, ℤ, List, [], ◌∷◌, ◌++◌, map, filter, drop, length, ◌/◌, append-nil, Bool, true, false, not, ◌&&◌, None, Some, Ok, Option, refl, sym, ap, ap₂, subst, subst₂, ◌∙◌, arith}
+use Rattle.std.proofs.Common.{◌≡◌, inl, inr, ℕ, zero, suc, ◌≤◌, ℤ, List, [], ◌∷◌, ◌++◌, map, filter, drop, length, ◌/◌, append-nil, Bool, true, false, not, ◌&&◌, None, Ok, Option, refl, sym, ap, ap₂, subst, subst₂, ◌∙◌, arith}
 use Rattle.std.specs.Prelude.{IsTrue, flat_map}
 use Rattle.std.specs.List.{AllByRecursion}
 use Rattle.std.specs.List.Sorted.{IsPermutation}
@@ -9,8 +9,8 @@ use Rattle.std.specs.FinMap.{FinMap, entries, values, insert, IsAntisymmetric}
 use Rattle.std.proofs.lemmas.Bool.{and_parts, not-true, cases_Bool}
 use Rattle.std.proofs.lemmas.Cmp.{tied_itself}
 use Rattle.std.proofs.lemmas.List.{length-map, map-append}
-use Rattle.std.proofs.lemmas.List.Sorted.{IsPermutation-refl, IsPermutation-sym, IsPermutation-trans, IsPermutation-map, IsPermutation-cons, IsPermutation-append, IsPermutation-middle, length_permutation}
-use Rattle.sqlite_value.specs.Order.{Row, value_cmp}
+use Rattle.std.proofs.lemmas.List.Sorted.{IsPermutation-refl, IsPermutation-sym, IsPermutation-trans, IsPermutation-map, IsPermutation-append, IsPermutation-middle, length_permutation}
+use Rattle.sqlite_value.specs.Order.{Row}
 use Rattle.sqlite_trees.specs.Tree.{Trees, rowid, put_row}
 use Rattle.sqlite_trees.proofs.ListLemmas.{filter_all, all-slice_get, all-permutation, IsPermutation-filter}
 use Rattle.sqlite_trees.proofs.TreeLemmas.{IsShaped-put_row}

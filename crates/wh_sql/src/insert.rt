@@ -24,7 +24,10 @@ pub const FACTS_AT_ONCE: usize = 16;
 fn is_broken_rule(error: &sqlite::Error) -> bool
     ensures { result ≡ is_broken_rule error.now }
 {
-    matches!(error, sqlite::Error::SqliteFailure(ErrorCode::ConstraintViolation(_)))
+    matches!(
+        error,
+        sqlite::Error::SqliteFailure(ErrorCode::ConstraintViolation(_))
+    )
 }
 
 /// Puts facts in that aren't there yet, sixteen in one statement. Where there are not sixteen of them, or one of their keys is taken
