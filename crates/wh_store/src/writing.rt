@@ -5,7 +5,7 @@ ghost use Rattle.std.specs.FinMap.{insert, remove};
 ghost use Rattle.std.specs.List.{AllByRecursion};
 ghost use Rattle.sqlite.specs.State.{HasCleanDisk, Survives};
 ghost use Rattle.sqlite_rules.specs.Lists.{Has};
-ghost use Rattle.wh_rows.specs.declared.cause.Cause.TheVariants.{Disk, Memory};
+ghost use Rattle.wh_rows.specs.declared.cause.Cause.TheVariants.{Disk, Memory, Size};
 ghost use Rattle.wh_rows.specs.Types.{is_number};
 ghost use Rattle.wh_rows.specs.Rows.{encode_meta};
 ghost use Rattle.wh_rows.specs.Rows as row;
@@ -65,7 +65,7 @@ impl<'t, S: Alter> Writing<'t, S> {
     /// How many keys it will have written after some more.
     fn and(&self, keys: u64) -> Result<u64, Cause>
         ensures more { IfOk result (λ writes. writes ≡ self.now.writes + keys) }
-        ensures full { IfErr result (λ _. u64.MAX < self.now.writes + keys) }
+        ensures full { IfErr result (λ cause. (cause ≡ Size) × (u64.MAX < self.now.writes + keys)) }
     {
         match self.writes.checked_add(keys) {
             Some(writes) => Ok(writes),
@@ -215,6 +215,7 @@ impl<'t, S: Alter> Writing<'t, S> {
         ensures left { HasCleanDisk (state_of S.Store self.new.tables.now) → IsWriting None None (state_of S.Store self.old.tables.now) → Leaves None (state_of S.Store self.new.tables.now) }
         ensures cause { HasCleanDisk (state_of S.Store self.new.tables.now) → IsWriting None None (state_of S.Store self.old.tables.now) → self.old.writes + 4 ≤ u64.MAX
             → IfErr result (λ cause. cause ≢ Memory → IsOneRefused S.Store IsCauseOf (making limits) self.old.tables.now.conn self.new.tables.now.conn cause) }
+        ensures counted { OnOk result (self.new.writes ≡ self.old.writes + 4) }
         ensures noted { NotesRefusals self.old.refused self.new.refused result }
     {
         let refused = replace(&mut self.refused, true);
