@@ -54,6 +54,6 @@ pub record AreUnopened {D : Type 0} {g : Ghosts D} (Held : Image → Type 0) (le
   pub stays : AreClean g files.log files.db → (image : Image) → outcomes g files.log files.db image → Held image
   pub refused : RefusesFiles files left error
 
--- They are those of a connection: it had lost nothing, and they held one of what the crash could leave of it.
+-- They are those of a connection, to which the disk had returned what was written, and held one of what the crash could leave of it.
 abbrev pub IsNotReopened : {D : Type 0} {g : Ghosts D} → State → Leftover D g → Error → Type 0
 IsNotReopened before = AreUnopened (λ image. HasCleanDisk before × HoldsOneOf before image)
