@@ -4,6 +4,7 @@ pub mod Decided
 pub mod Answered
 pub mod Opened
 pub mod Redelivered
+pub mod Reopened
 pub mod Serving
 pub mod Delivered
 pub mod Nights

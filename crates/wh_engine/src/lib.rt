@@ -26,7 +26,7 @@ pub use fault::Fault;
 pub use fresh::deliver_fresh;
 pub use making::write_making;
 pub use opening::InitFault;
-pub use reopen::{deliver_again, redeliver, restart};
+pub use reopen::{NotReopened, deliver_again, redeliver, restart};
 pub use scan::Scan;
 pub use wh_batch::CommandKind;
 pub use wh_store::OpenFault;

@@ -160,6 +160,7 @@ impl<S: Alter> Engine<S> {
     /// Opens the warehouse of a connection. A refusal hands the connection back.
     pub fn open(alloc: Global, conn: Connection<S>) -> Result<Engine<S>, (OpenFault, Connection<S>)>
         ensures clean { IfOk result (λ engine. HasCleanDisk (state_of S.Store engine.tables) → HasCleanDisk (state S.Store conn)) }
+        ensures clean_left { IfErr result (λ e. HasCleanDisk (state S.Store e.1) → HasCleanDisk (state S.Store conn)) }
         ensures ready { IfOk result (λ engine. HasCleanDisk (state_of S.Store engine.tables) → (limits : LimitCounts) (commands : List Accepted) → AreAdmitted limits commands → Rests limits commands (state S.Store conn)
             → IsReady limits commands engine.session (state_of S.Store engine.tables)) }
         ensures refused { IfErr result (λ e. HasCleanDisk (state S.Store e.1) → (limits : LimitCounts) (commands : List Accepted) → AreAdmitted limits commands → Rests limits commands (state S.Store conn)

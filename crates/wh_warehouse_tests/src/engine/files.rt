@@ -497,9 +497,9 @@ fn over_a_crash<D: Crash + Drop>(
 }
 
 /// The answer to a command that was sent again, and the counts.
-fn push_again<S: Alter + Drop>(
+fn push_again<S: Alter + Drop, E: Drop>(
     alloc: Global,
-    again: Result<(Result<Reply, Fault>, Engine<S>), OpenFault>,
+    again: Result<(Result<Reply, Fault>, Engine<S>), E>,
     out: &mut String,
 ) -> Result<(), Trouble> {
     match again {
@@ -547,9 +547,9 @@ fn delivered_over_a_crash<D: Crash + Drop>(
 }
 
 /// The answers of both deliveries, and the counts.
-fn push_both<S: Alter + Drop>(
+fn push_both<S: Alter + Drop, E: Drop>(
     alloc: Global,
-    again: Result<(Replies, Replies, Engine<S>), OpenFault>,
+    again: Result<(Replies, Replies, Engine<S>), E>,
     out: &mut String,
 ) -> Result<(), Trouble> {
     match again {

@@ -6,9 +6,10 @@ use Rattle.sqlite.specs.State.{HasCleanDisk}
 use Rattle.wh_history.specs.Accepted.{Accepted}
 use Rattle.wh_engine.specs.Admission.{accepted_after_all}
 use Rattle.wh_engine.specs.Answered.{IsReady}
-use Rattle.wh_engine.specs.Delivered.{IsDelivered}
+use Rattle.wh_engine.specs.Delivered.{AreAnswers, IsDelivered}
 use Rattle.wh_engine.proofs.Admitted.{admitted_after_all}
 use Rattle.wh_engine.proofs.DeliveredAgain.{at_most_all, are_answers, delivery_leaves, delivered_again}
+use Rattle.wh_engine.proofs.Reopened.{known_of}
 use Rattle.wh_engine.proofs.reopen.deliver_again.Goals as goal
 
 pub slice_bounds-rest-count : goal.slice_bounds-rest-count
@@ -27,8 +28,8 @@ slice_bounds-rest-start g c =
     let count = c.len.ensures in
     omega (arith, most, len_is, count)
 
-pub returns : goal.returns
-returns g c limits accepted ready clean =
+pub returns-clause-delivered : goal.returns-clause-delivered
+returns-clause-delivered g c limits accepted ready clean =
     let sent = c.args.commands.now in
     let first = c.deliver-first.result.answers.items in
     let second = c.deliver-second.result.answers.items in
@@ -50,3 +51,17 @@ returns g c limits accepted ready clean =
       | inl is ↦ delivered_again limits accepted sent first are before (inl refl) second c.deliver-second.result.stop last.session (file_state last.tables.conn) (done before is)
       | inr is ↦ delivered_again limits accepted sent first are after (inr refl) second c.deliver-second.result.stop last.session (file_state last.tables.conn) (done after is)
     ])
+
+pub returns-in-Err-clause-refused : goal.returns-in-Err-clause-refused
+returns-in-Err-clause-refused g c limits accepted ready =
+    let sent = c.args.commands.now in
+    let first = c.deliver-first.result in
+    let n = length first.answers.items in
+    let stopped = c.deliver-first.new.self in
+    let before = accepted_after_all limits accepted (take n sent) in
+    let after = accepted_after_all limits accepted (take (suc n) sent) in
+    let told = λ (was : HasCleanDisk (file_state stopped.tables.conn)). c.deliver-first.ensures.delivered was limits accepted ready in
+    let are = λ (was : HasCleanDisk (file_state stopped.tables.conn)). are_answers limits accepted sent first.answers.items first.stop stopped.session (file_state stopped.tables.conn) (told was) in
+    let left = λ (was : HasCleanDisk (file_state stopped.tables.conn)). delivery_leaves limits accepted sent first.answers.items first.stop stopped.session (file_state stopped.tables.conn) (told was) in
+    known_of limits before after (HasCleanDisk (file_state stopped.tables.conn)) (AreAnswers limits accepted sent first.answers.items) c.in-Err.why are
+    (c.in-Err.ensures.refused limits before after (admitted_after_all limits accepted (take n sent) ready.admitted) (admitted_after_all limits accepted (take (suc n) sent) ready.admitted) left)

@@ -1,14 +1,16 @@
 use Rattle.std.proofs.Common.{inl, inr}
+use Rattle.std.specs.Bool.{⊤}
 use Rattle.std.proofs.Math.Logic.{∥∥₁_map}
 use Rattle.sqlite.specs.Files.{file_state}
 use Rattle.sqlite.specs.State.{HasCleanDisk}
 use Rattle.wh_engine.specs.Admission.{accepted_after}
 use Rattle.wh_engine.proofs.Redelivered.{answered_leaves, from_before, from_after}
 use Rattle.wh_engine.proofs.Admitted.{admitted_after}
+use Rattle.wh_engine.proofs.Reopened.{known_of}
 use Rattle.wh_engine.proofs.reopen.redeliver.Goals as goal
 
-pub returns : goal.returns
-returns g c limits commands ready clean =
+pub returns-clause-redelivered : goal.returns-clause-redelivered
+returns-clause-redelivered g c limits commands ready clean =
     let command = c.args.command.now in
     let after = accepted_after limits commands command in
     let stopped = c.apply.new.self in
@@ -22,3 +24,12 @@ returns g c limits commands ready clean =
       | inl first ↦ from_before limits commands command c.apply-answer.result last.session (file_state last.tables.conn) (c.apply-answer.ensures.answered clean limits commands first)
       | inr second ↦ from_after limits commands command c.apply-answer.result last.session (file_state last.tables.conn) (c.apply-answer.ensures.answered clean limits after second)
     ])
+
+pub returns-in-Err-clause-refused : goal.returns-in-Err-clause-refused
+returns-in-Err-clause-refused g c limits commands ready =
+    let command = c.args.command.now in
+    let after = accepted_after limits commands command in
+    let stopped = c.apply.new.self in
+    let admitted = admitted_after limits commands command ready.admitted in
+    let left = λ (was : HasCleanDisk (file_state stopped.tables.conn)). answered_leaves limits commands command c.apply.result stopped.session (file_state stopped.tables.conn) (c.apply.ensures.answered was limits commands ready) in
+    known_of limits commands after (HasCleanDisk (file_state stopped.tables.conn)) ⊤ c.in-Err.why (λ was. tt) (c.in-Err.ensures.refused limits commands after ready.admitted admitted left)
