@@ -15,7 +15,7 @@ pub use scan::{Cursor, Scan, next_row};
 pub use tables::Tables;
 pub use wh_rows::{Cause, Limits, Table};
 pub use wh_sql::{
-    CommandOf, Dimension, FACTS_AT_ONCE, Greatest, GreatestOf, Keeps, LastPolicy, MemberOf, ProfileOf, Question,
-    ReadFault, RecordsOf, RowsOf, SalesSince, Scanned,
+    CommandOf, Dimension, FACTS_AT_ONCE, Greatest, GreatestOf, Keeps, LastPolicy, MemberOf,
+    ProfileOf, Question, ReadFault, RecordsOf, RowsOf, SalesSince, Scanned,
 };
 pub use writing::Writing;

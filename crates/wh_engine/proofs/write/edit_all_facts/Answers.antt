@@ -23,10 +23,10 @@ loop-part-init g c =
       counts = omega arith;
       counted = ap (λ es. c.args.writing.now.writes + length es) rest;
       put = λ clean before made at may. (
-          made,
-          at,
-          subst (AllByRecursion IsValidFactEdit) (sym rest) may,
-          ap (λ es. record made { fact = after_all with_fact_edit es made.fact }) rest,
+        made,
+        at,
+        subst (AllByRecursion IsValidFactEdit) (sym rest) may,
+        ap (λ es. record made { fact = after_all with_fact_edit es made.fact }) rest,
       );
     }
 
