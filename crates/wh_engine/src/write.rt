@@ -111,10 +111,11 @@ fn edit_facts_at_once<S: Alter>(
     ensures edited { Makes (state_of S.Store writing.old.tables.now) (state_of S.Store writing.new.tables.now) result (AllByRecursion IsValidFactEdit edits.now) (λ made. record made { fact = after_all with_fact_edit edits.now made.fact }) }
     ensures counted { OnOk result (writing.new.writes ≡ writing.old.writes + length edits.now) }
 {
-    if let Some(facts) = facts_put(alloc, edits)? {
-        if writing.insert_facts(alloc, &facts)? {
-            return Ok(());
-        }
+    let Ok(Some(facts)) = facts_put(alloc, edits) else {
+        return edit_each_fact(writing, alloc, edits);
+    };
+    if writing.insert_facts(alloc, &facts)? {
+        return Ok(());
     }
     edit_each_fact(writing, alloc, edits)
 }

@@ -30,8 +30,8 @@ fn is_broken_rule(error: &sqlite::Error) -> bool
     )
 }
 
-/// Puts facts in that aren't there yet, sixteen in one statement. Where there are not sixteen of them, or one of their keys is taken
-/// (also by another of them), nothing changes, and the answer is false. Outside a transaction it is refused.
+/// Puts facts in that aren't there yet, sixteen in one statement. Where there are not sixteen of them, or one of their lines is taken, also by
+/// another of them, nothing changes, and the answer is false. Outside a transaction it is refused.
 pub fn insert_facts<S: Alter>(
     alloc: Global,
     conn: &mut Connection<S>,

@@ -12,7 +12,7 @@ ghost use Rattle.wh_rows.specs.Rows as row;
 ghost use Rattle.wh_rows.specs.Texts as texts;
 ghost use Rattle.wh_rows.specs.AtRest.{AreTrees, IsAtRest, IsWriting, Leaves, IsCauseOf};
 ghost use Rattle.wh_rows.specs.Tables.{Tables as TenTables};
-ghost use Rattle.wh_rows.specs.Inserting.{insert_text, bind_facts};
+ghost use Rattle.wh_rows.specs.Inserting.{facts_at_once, insert_text, bind_facts, BreaksRule};
 ghost use Rattle.wh_rows.specs.Rekey.{rekey_text, bind_rekey, are_keys, rekeyed};
 ghost use Rattle.wh_rows.specs.Steps.{with_row, with_rows, after_all};
 ghost use Rattle.wh_sql.specs.Refused.{IsOneRefused};
@@ -127,13 +127,15 @@ impl<'t, S: Alter> Writing<'t, S> {
         Ok(())
     }
 
-    /// Puts facts in that aren't there yet, sixteen in one statement. Where there are not sixteen of them, or one of their keys is taken,
-    /// nothing changes, and the answer is false.
+    /// Puts facts in that aren't there yet, sixteen in one statement. Where there are not sixteen of them, or one of their lines is taken, also by
+    /// another of them, nothing changes, and the answer is false.
     pub fn insert_facts(&mut self, alloc: Global, facts: &[&Fact]) -> Result<bool, Cause>
         ensures same_reference { self.new.tables.ghost_name ≡ self.old.tables.ghost_name }
         ensures writes { WritesOnly (state_of S.Store self.old.tables.now) (state_of S.Store self.new.tables.now) ⊤ }
         ensures inserted { HasCleanDisk (state_of S.Store self.new.tables.now) → (before : Option TenTables) (made : TenTables) → IsWriting before (Some made) (state_of S.Store self.old.tables.now) → AllByRecursion (IsValid row.fact) (map (λ f. f.now) facts.now)
             → IfOk result (λ inserted. IsWriting before (Some (if inserted then record made { fact = with_rows row.fact (map (λ f. f.now) facts.now) made.fact } else made)) (state_of S.Store self.new.tables.now)) }
+        ensures sixteen { IfOk result (λ inserted. IsTrue inserted → length facts.now ≡ facts_at_once) }
+        ensures refused { HasCleanDisk (state_of S.Store self.new.tables.now) → IfOk result (λ inserted. inserted ≡ false → (length facts.now ≢ facts_at_once) ⊎ BreaksRule insert_text (bind_facts (map (λ f. f.now) facts.now)) (state_of S.Store self.old.tables.now) (state_of S.Store self.new.tables.now)) }
         ensures counted { IfOk result (λ inserted. self.new.writes ≡ self.old.writes + (if inserted then length facts.now else 0)) }
         ensures cause { HasCleanDisk (state_of S.Store self.new.tables.now) → IsTrue (state_of S.Store self.old.tables.now).in_transaction → self.old.writes + length facts.now ≤ u64.MAX → AllByRecursion (IsValid row.fact) (map (λ f. f.now) facts.now)
             → IfErr result (λ cause. cause ≢ Memory → IsCauseOf insert_text (bind_facts (map (λ f. f.now) facts.now)) (state_of S.Store self.old.tables.now) (state_of S.Store self.new.tables.now) cause) }
