@@ -278,7 +278,7 @@ send sales s1
 > T01,1,2024-02-05,S1,P1,,1,1.05,0.60
 = accepted 5: 35 records, 1 placeholders
 writes
-= 38
+= written 38
 table fact
 = T01,1,20240205,1,3,0,1,1,0,0,1,105,60
 = T02,1,20240115,1,1,0,1,1,0,0,2,205,120
