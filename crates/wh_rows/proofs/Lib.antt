@@ -25,6 +25,7 @@ pub mod Customers
 pub mod Profiles
 pub mod Calendars
 pub mod Facts
+pub mod KeyedSales
 pub mod ColumnLemmas
 pub mod Exact
 pub mod ReadAll

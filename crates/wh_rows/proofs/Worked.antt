@@ -11,6 +11,8 @@ use Rattle.wh_rows.specs.Limits.{limits_of, greatest_limits}
 use Rattle.wh_rows.specs.Types.{is_key, is_kind}
 use Rattle.wh_rows.specs.Columns.{damaged, integer_of, number_of, line_of, measure_of, day_of, flag_of, dim_of, blob_of, text_of, slot_of}
 use Rattle.wh_rows.specs.Stored.{meta_of, command_of, member_of, change_of, dimension_of, profile_of, date_of, fact_of}
+use Rattle.wh_rows.specs.KeyedSales.{shown_of, keyed_of}
+use Rattle.wh_rows.specs.declared.keyed_sale.FactKey.TheVariants.{Surrogate, Durable, Profile, Day}
 use Rattle.wh_rows.specs.Questions.{anchor_column}
 use Rattle.wh_rows.specs.Raw.{IsGreatestIn, IsGreatestAnchor}
 use Rattle.wh_rows.proofs.OnLiterals.{rows_on_literals}
@@ -328,6 +330,44 @@ line_10000 = refl
 quantity_10000 : fact_of (Text (codes "T2") ∷ Int (pos 1) ∷ Int (pos 20240610) ∷ Int (pos 1) ∷ Int (pos 9) ∷ Int (pos 1) ∷ Int (pos 1) ∷ Int (pos 2) ∷ Int (pos 1) ∷ Int (pos 1) ∷ Int (pos 10000) ∷ Int (pos 1000) ∷ Int (pos 700) ∷ []) ≡ damaged
 unfolding rows_on_literals
 quantity_10000 = refl
+
+-- ---- a sale by a key of its fact
+
+sold : Row
+sold = Text (codes "T2") ∷ Int (pos 1) ∷ Int (pos 20240610) ∷ Int (pos 3) ∷ Int (pos 9) ∷ Int (pos 0) ∷ Int (pos 1) ∷ Int (pos 2) ∷ Int (pos 0) ∷ Int (pos 4) ∷ Int (negsuc 0) ∷ Int (negsuc 999) ∷ Int (negsuc 699) ∷ []
+
+by_product_row : keyed_of (shown_of (Surrogate Product) sold) ≡ Ok (record { day = 20240610; key = 9; quantity = negsuc 0; amount = negsuc 999; cost = negsuc 699 })
+unfolding rows_on_literals sold
+by_product_row = refl
+
+by_product : keyed_of (shown_of (Durable Product) sold) ≡ Ok (record { day = 20240610; key = 2; quantity = negsuc 0; amount = negsuc 999; cost = negsuc 699 })
+unfolding rows_on_literals sold
+by_product = refl
+
+by_no_card : keyed_of (shown_of (Surrogate Customer) sold) ≡ Ok (record { day = 20240610; key = 0; quantity = negsuc 0; amount = negsuc 999; cost = negsuc 699 })
+unfolding rows_on_literals sold
+by_no_card = refl
+
+by_profile : keyed_of (shown_of Profile sold) ≡ Ok (record { day = 20240610; key = 4; quantity = negsuc 0; amount = negsuc 999; cost = negsuc 699 })
+unfolding rows_on_literals sold
+by_profile = refl
+
+-- a day is a key too
+by_its_day : keyed_of (shown_of Day sold) ≡ Ok (record { day = 20240610; key = 20240610; quantity = negsuc 0; amount = negsuc 999; cost = negsuc 699 })
+unfolding rows_on_literals sold
+by_its_day = refl
+
+by_a_text : keyed_of (Int (pos 20240610) ∷ Text (codes "9") ∷ Int (pos 1) ∷ Int (pos 1000) ∷ Int (pos 700) ∷ []) ≡ damaged
+unfolding rows_on_literals
+by_a_text = refl
+
+by_a_key_below_0 : keyed_of (Int (pos 20240610) ∷ Int (negsuc 0) ∷ Int (pos 1) ∷ Int (pos 1000) ∷ Int (pos 700) ∷ []) ≡ damaged
+unfolding rows_on_literals
+by_a_key_below_0 = refl
+
+a_sale_without_cost : keyed_of (Int (pos 20240610) ∷ Int (pos 9) ∷ Int (pos 1) ∷ Int (pos 1000) ∷ []) ≡ damaged
+unfolding rows_on_literals
+a_sale_without_cost = refl
 
 -- ---- the greatest anchor of stored records
 

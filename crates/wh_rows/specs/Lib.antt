@@ -20,6 +20,7 @@ pub mod Cause
 pub mod AtRest
 pub mod Raw
 pub mod Rekey
+pub mod KeyedSales
 pub mod Steps
 pub mod Inserting
 pub mod Parts

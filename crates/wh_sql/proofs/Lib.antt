@@ -1,5 +1,6 @@
 pub mod Inside
 pub mod Writing
 pub mod Reading
+pub mod Tallying
 mod Creating
 pub mod Worked

@@ -43,43 +43,52 @@ use Rattle.wh_sql.specs.Reads.{ReadsOnly, NamesDamage, SparesRows, IsServed, IsU
 use Rattle.wh_sql.specs.declared.fault.ReadFault.{ReadFault}
 use Rattle.wh_sql.specs.declared.fault.ReadFault.TheVariants.{Memory, Damaged, Store}
 
--- ---- a text that shows what is there
+-- ---- a call that leaves what is there
 
-module _ (text : List ℕ) (params : Row) (plain : IsPlain (understood warehouse text)) (t : Tables) (old new : State) (at : IsAtRest (Some t) old)
-    (survives : Survives old new (CommitsShowing text params old)) (clean : HasCleanDisk new) where
-  pub leaves_same : Leaves (Some t) new
-  leaves_same = record { each = λ trees may. elim ((query_commits_nothing text params old new at.now.schema plain survives).crash clean trees may) [ inl before ↦ at.left.each trees before | inr none ↦ absurd none ] }
+module _ (old new : State) (survives : Survives old new (λ _. ⊥)) (clean : HasCleanDisk new) where
+  module _ (t : Tables) (at : IsAtRest (Some t) old) where
+    leaves_same : Leaves (Some t) new
+    leaves_same = record { each = λ trees may. elim (survives.crash clean trees may) [ inl before ↦ at.left.each trees before | inr none ↦ absurd none ] }
 
-  pub still_rests : (answer : List Row) → Shown text params old new answer → IsAtRest (Some t) new
-  still_rests answer shown =
-      let same : IsUnchanged old new = query_keeps text params old new at.now.schema plain answer shown in
-      record {
-        is_open = same.0.is_open;
-        autocommit = same.0.mode ∙ at.autocommit;
-        unmarked = same.2 ∙ at.unmarked;
-        now = subst (Has (Some t)) (sym same.0.now_is) at.now;
-        committed = same.0.committed_is ∙ (at.committed ∙ sym same.0.now_is);
-        left = leaves_same;
-      }
+    still_rests : IsUnchanged old new → IsAtRest (Some t) new
+    still_rests same = record {
+      is_open = same.0.is_open;
+      autocommit = same.0.mode ∙ at.autocommit;
+      unmarked = same.2 ∙ at.unmarked;
+      now = subst (Has (Some t)) (sym same.0.now_is) at.now;
+      committed = same.0.committed_is ∙ (at.committed ∙ sym same.0.now_is);
+      left = leaves_same;
+    }
+
+  -- so it is of stored rows, whoever wrote them
+  module _ (stored : Stored) (at : RestsOn stored old) where
+    leaves_stored : LeavesStored stored new
+    leaves_stored = record { each = λ trees may. elim (survives.crash clean trees may) [ inl before ↦ at.left.each trees before | inr none ↦ absurd none ] }
+
+    still_stored : IsUnchanged old new → RestsOn stored new
+    still_stored same = record {
+      is_open = same.0.is_open;
+      autocommit = same.0.mode ∙ at.autocommit;
+      unmarked = same.2 ∙ at.unmarked;
+      now = subst (IsStored stored) (sym same.0.now_is) at.now;
+      committed = same.0.committed_is ∙ (at.committed ∙ sym same.0.now_is);
+      left = leaves_stored;
+    }
+
+-- whatever was made of what was read
+pub reads_unchanged : {A : Type 0} (old new : State) → Survives old new (λ _. ⊥) → (result : Result A ReadFault) → (HasCleanDisk new → IsServed result → IsUnchanged old new)
+    → (HasCleanDisk new → (t : Tables) → IsAtRest (Some t) old → IsUndamaged result) → (HasCleanDisk new → (stored : Stored) → RestsOn stored old → IfErr result (NamesDamage stored)) → ReadsOnly old new result
+reads_unchanged old new survives result same sound named = record {
+  clean = λ clean. omega (arith, survives.clean, clean);
+  sound = sound;
+  same = λ clean t at served. still_rests old new survives clean t at (same clean served);
+  left = λ clean t at. leaves_same old new survives clean t at;
+  rests = λ clean stored at served. still_stored old new survives clean stored at (same clean served);
+  leaves = λ clean stored at. leaves_stored old new survives clean stored at;
+  named = named;
+}
 
 -- ---- a text that shows stored rows, whoever wrote them
-
-module _ (text : List ℕ) (params : Row) (plain : IsPlain (understood warehouse text)) (stored : Stored) (old new : State) (at : RestsOn stored old)
-    (survives : Survives old new (CommitsShowing text params old)) (clean : HasCleanDisk new) where
-  pub leaves_stored : LeavesStored stored new
-  leaves_stored = record { each = λ trees may. elim ((query_commits_nothing text params old new at.now.schema plain survives).crash clean trees may) [ inl before ↦ at.left.each trees before | inr none ↦ absurd none ] }
-
-  pub still_stored : (answer : List Row) → Shown text params old new answer → RestsOn stored new
-  still_stored answer shown =
-      let same : IsUnchanged old new = query_keeps text params old new at.now.schema plain answer shown in
-      record {
-        is_open = same.0.is_open;
-        autocommit = same.0.mode ∙ at.autocommit;
-        unmarked = same.2 ∙ at.unmarked;
-        now = subst (IsStored stored) (sym same.0.now_is) at.now;
-        committed = same.0.committed_is ∙ (at.committed ∙ sym same.0.now_is);
-        left = leaves_stored;
-      }
 
 -- a text that means the stored rows that pass a test, of a table among the ten
 module _ {K V : Type 0} {layout : Layout K V} (name : Table) (named : table_of name ≡ layout.table) {stands : Row → Bool} {keep : V → Bool} {text : List ℕ} {params : Row} (it : ReadsStored layout params stands keep text)
@@ -187,15 +196,18 @@ count_stored layout name named text counts old new answer shown stored is =
 pub reads_only : {A : Type 0} (text : List ℕ) (params : Row) (plain : IsPlain (understood warehouse text)) (old new : State) → Survives old new (CommitsShowing text params old) → (result : Result A ReadFault)
     → (HasCleanDisk new → IsServed result → (answer : List Row) × Shown text params old new answer) → (HasCleanDisk new → (t : Tables) → IsAtRest (Some t) old → IsUndamaged result)
     → (HasCleanDisk new → (stored : Stored) → RestsOn stored old → IfErr result (NamesDamage stored)) → ReadsOnly old new result
-reads_only text params plain old new survives result shown sound named = record {
-  clean = λ clean. omega (arith, survives.clean, clean);
-  sound = sound;
-  same = λ clean t at served. let told = shown clean served in still_rests text params plain t old new at survives clean told.0 told.1;
-  left = λ clean t at. leaves_same text params plain t old new at survives clean;
-  rests = λ clean stored at served. let told = shown clean served in still_stored text params plain stored old new at survives clean told.0 told.1;
-  leaves = λ clean stored at. leaves_stored text params plain stored old new at survives clean;
-  named = named;
-}
+reads_only text params plain old new survives result shown sound named =
+    let kept : old.now.schema ≡ warehouse → Survives old new (λ _. ⊥) = λ is. query_commits_nothing text params old new is plain survives in
+    let same : HasCleanDisk new → IsServed result → old.now.schema ≡ warehouse → IsUnchanged old new = λ clean served is. let told = shown clean served in query_keeps text params old new is plain told.0 told.1 in
+    record {
+      clean = λ clean. omega (arith, survives.clean, clean);
+      sound = sound;
+      same = λ clean t at served. still_rests old new (kept at.now.schema) clean t at (same clean served at.now.schema);
+      left = λ clean t at. leaves_same old new (kept at.now.schema) clean t at;
+      rests = λ clean stored at served. still_stored old new (kept at.now.schema) clean stored at (same clean served at.now.schema);
+      leaves = λ clean stored at. leaves_stored old new (kept at.now.schema) clean stored at;
+      named = named;
+    }
 
 -- what wasn't asked met no row, and changes nothing
 no_row : (cause : Cause) → SparesRows (unasked cause)

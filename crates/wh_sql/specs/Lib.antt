@@ -3,3 +3,4 @@ pub mod Reads
 pub mod Present
 pub mod Asked
 pub mod Part
+pub mod Tally

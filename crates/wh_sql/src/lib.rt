@@ -15,6 +15,7 @@ mod read;
 mod scanned;
 mod schema;
 mod tables;
+mod tally;
 mod write;
 
 pub use dimension::Dimension;
@@ -28,4 +29,5 @@ pub use questions::{CommandOf, LastPolicy, MemberOf, ProfileOf, RecordsOf, RowsO
 pub use read::{all, count, get};
 pub use scanned::{PART, PartStatements, Scanned};
 pub use schema::{create, has_tables, has_taken_name};
+pub use tally::{Tally, tally_facts};
 pub use write::{put, rekey, remove};

@@ -7,10 +7,11 @@ ghost use Rattle.sqlite_value.specs.declared.value.Value.TheVariants.{Int as Num
 ghost use Rattle.sqlite.specs.Held.{state};
 ghost use Rattle.sqlite.specs.State.{HasCleanDisk, Survives};
 ghost use Rattle.wh_rows.specs.declared.table.Table.{Table};
-ghost use Rattle.wh_rows.specs.declared.table.Table.TheVariants.{Change as OfChange};
+ghost use Rattle.wh_rows.specs.declared.table.Table.TheVariants.{Change as OfChange, Fact as OfFact};
 ghost use Rattle.wh_rows.specs.declared.cause.Cause.{Cause};
 ghost use Rattle.wh_rows.specs.declared.cause.Cause.TheVariants.{Memory};
-ghost use Rattle.wh_rows.specs.Rows.{change};
+ghost use Rattle.wh_rows.specs.KeyedSales.{keyed_sales};
+ghost use Rattle.wh_rows.specs.Rows.{change, fact};
 ghost use Rattle.wh_rows.specs.Texts as texts;
 ghost use Rattle.wh_rows.specs.AtRest.{IsAtRest, IsWriting, Leaves};
 ghost use Rattle.wh_rows.specs.Tables.{Tables as TenTables};
@@ -23,6 +24,7 @@ ghost use Rattle.wh_sql.specs.Reads.{ReadsOnly, Spares, IsServed, IsOfDamage, Is
 ghost use Rattle.wh_sql.specs.Refused.{IsCauseOfQuery, IsOneRefused};
 ghost use Rattle.wh_store.specs.Reads.{state_of, SaysAtRest, SaysAsStored};
 ghost use Rattle.wh_sql.specs.Present.{is_any_taken, are_all_there};
+ghost use Rattle.wh_sql.specs.Tally.{HasCounted, HasCountedStored};
 ghost use Rattle.wh_sql.specs.declared.fault.ReadFault.TheVariants.{Damaged, Store as Refused};
 ghost use Rattle.wh_store.specs.Meta.{limits_in, limits_asked};
 ghost use Rattle.wh_store.specs.Opening.{SparesStore, IsTaken, IsRefusedWith, connection_after};
@@ -36,9 +38,10 @@ use crate::writing::Writing;
 use sqlite::{Alter, Connection};
 use std::alloc::Global;
 use wh_policy::Dim;
-use wh_rows::{Cause, Limits, Table};
+use wh_rows::{Cause, FactKey, Limits, Table};
 use wh_sql::{
-    Keeps, Question, ReadFault, all, ask, count, get, greatest_anchor, has_tables, has_taken_name,
+    Keeps, Question, ReadFault, Tally, all, ask, count, get, greatest_anchor, has_tables,
+    has_taken_name, tally_facts,
 };
 
 /// The ten tables over one connection.
@@ -165,6 +168,20 @@ impl<S: Alter> Tables<S> {
         ensures refused { HasCleanDisk (state_of S.Store self.new) → Q.can_be_asked question.now → IfErr result (FailsToShow T.layout T.name (Q.means question.now) (Q.bind question.now) (state_of S.Store self.old) (state_of S.Store self.new)) }
     {
         ask::<T, Q, S>(alloc, &mut self.conn, question)
+    }
+
+    /// Has a tally count each fact by one of its keys, in whatever order they are stored. `Memory`: there are more facts than a
+    /// `u64` counts.
+    pub fn tally_facts<C: Tally>(&mut self, which: FactKey, tally: &mut C) -> Result<(), ReadFault>
+        requires { C.counts tally.old [] tally.old }
+        ensures reads { ReadsOnly (state_of S.Store self.old) (state_of S.Store self.new) result }
+        ensures counted { SaysAtRest (state_of S.Store self.old) (state_of S.Store self.new) (λ t. IfOk result (λ _. HasCounted C.counts which tally.old tally.new (values t.fact))) }
+        // The same of any rows, whoever wrote them, by the columns that are read of them: each was counted, or one is damaged.
+        ensures stored { SaysAsStored (state_of S.Store self.old) (state_of S.Store self.new) (λ stored. IfOk result (λ _. HasCountedStored C.counts which tally.old tally.new (stored OfFact))) }
+        ensures damaged { SaysAsStored (state_of S.Store self.old) (state_of S.Store self.new) (λ stored. IfErr result (IsOfDamage fact OfFact (stored OfFact))) }
+        ensures refused { HasCleanDisk (state_of S.Store self.new) → IfErr result (λ fault. (why : Cause) → fault ≡ Refused why → IsCauseOfQuery (keyed_sales which) [] (state_of S.Store self.old) (state_of S.Store self.new) why) }
+    {
+        tally_facts(&mut self.conn, which, tally)
     }
 
     /// The greatest anchor among the accepted records of a dimension, 0 where there is none.

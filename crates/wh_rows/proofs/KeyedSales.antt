@@ -1,0 +1,218 @@
+-- The text that shows all facts by one of their keys, and what it shows of the facts that are stored.
+use Rattle.std.proofs.Common.{◌≡◌, ◌≢◌, ℕ, ◌+◌, pos, negsuc, true, false, ◌&&◌, ◌==◌, Option, None, IsSome, List, [], ◌∷◌, map, length, codes, filter, Ok, Err, Result, IfOk, IfErr, refl, sym, ap, ap₂, subst, subst₂, ◌∙◌}
+use Rattle.std.specs.Prelude.{IsTrue, if◌then◌else◌}
+use Rattle.std.specs.FinMap.{values}
+use Rattle.std.specs.List.Sorted.{IsPermutation}
+use Rattle.std.proofs.lemmas.Bool.{and_parts, eqb-true}
+use Rattle.std.proofs.lemmas.List.Sorted.{IsPermutation-map, IsPermutation-refl, IsPermutation-sym, IsPermutation-trans}
+use Rattle.sqlite_trees.proofs.ListLemmas.{pull_back}
+use Rattle.sqlite_rules.specs.Lists.{Has}
+use Rattle.sqlite_rules.proofs.ProbeLemmas.{has_mapped}
+use Rattle.sqlite_schema.specs.declared.command.Command.{Command}
+use Rattle.sqlite_schema.specs.declared.command.Returning.{Returning}
+use Rattle.sqlite_schema.specs.declared.schema.Schema.{Schema}
+use Rattle.sqlite_resolve.specs.Compile.{first, returning, meaning, planned, with_command, compiled}
+use Rattle.sqlite_resolve.specs.Lowering.{Checked, and_then}
+use Rattle.sqlite_resolve.specs.declared.compiled.Compiled.{Compiled}
+use Rattle.sqlite_resolve.specs.declared.error.CompileError.TheVariants.{NoSuchTable}
+use Rattle.sqlite_tied.specs.Compute.{everything}
+use Rattle.sqlite_value.specs.declared.value.Value.{Value}
+use Rattle.sqlite_value.specs.declared.value.Value.TheVariants.{Null, Int, Real, Text, Blob}
+use Rattle.sqlite.specs.Order.{Row, column}
+use Rattle.sqlite.specs.Query.{Output, output}
+use Rattle.sqlite.specs.Term.{Term, col}
+use Rattle.sqlite.specs.Effect.{Database}
+use Rattle.sqlite.specs.Given.{Returns}
+use Rattle.sqlite.specs.Listing.{understood, reads_listing, listing_schema, if_select, is_select}
+use Rattle.sqlite.specs.State.{State, Shown}
+use Rattle.sqlite.proofs.Callers.{reads_as}
+use Rattle.wh_day.specs.Day.{is_day}
+use Rattle.wh_day.specs.Reading.{Gives}
+use Rattle.wh_day.specs.declared.error.ReadError.{ReadError}
+use Rattle.wh_day.specs.declared.error.ReadError.TheVariants.{Memory, Fault}
+use Rattle.wh_policy.specs.declared.attribute.Dim.TheVariants.{Product, Store, Customer}
+use Rattle.wh_history.specs.declared.facts.Fact.{Fact}
+use Rattle.wh_rows.specs.declared.columns.Damaged.{Damaged}
+use Rattle.wh_rows.specs.declared.keyed_sale.FactKey.{FactKey}
+use Rattle.wh_rows.specs.declared.keyed_sale.FactKey.TheVariants.{Surrogate, Durable, Profile, Day}
+use Rattle.wh_rows.specs.declared.keyed_sale.KeyedSale.{KeyedSale}
+use Rattle.wh_rows.specs.declared.table.Table.TheVariants as tables
+use Rattle.wh_rows.specs.Schema.{warehouse}
+use Rattle.wh_rows.specs.Types.{is_key, is_line, is_number, is_measure}
+use Rattle.wh_rows.specs.Rows as row
+use Rattle.wh_rows.specs.Rows.{is_fact, encode_fact}
+use Rattle.wh_rows.specs.Columns.{day_of, measure_of}
+use Rattle.wh_rows.specs.Holds.{values_of}
+use Rattle.wh_rows.specs.Tables.{Tables, Stores}
+use Rattle.wh_rows.specs.Statements.{reading}
+use Rattle.wh_rows.specs.Raw.{Stored, IsStored, HasDamage, rows_in, stored_of}
+use Rattle.wh_rows.specs.KeyedSales.{keyed, columns_of, shown_of, key_in, keyed_columns, keyed_of, keyed_sales, ShowsSales}
+use Rattle.wh_rows.proofs.Answers.{is_read, map-map}
+use Rattle.wh_rows.proofs.ColumnLemmas.{bind_ok, bind_is, when_ok, whole, day_so, day_is, measure_so, measure_is}
+use Rattle.wh_rows.proofs.Edits.{filter_all, same_value}
+use Rattle.wh_rows.proofs.Orders.{line_cmp_total}
+use Rattle.wh_rows.proofs.Raw.{has_again, holds_rows, no_damage}
+use Rattle.wh_rows.proofs.RawTables.{stores_stored}
+
+-- ---- what a row of the columns is read as
+
+key_so : (v : Value) (n : ℕ) → key_in v ≡ Ok n → v ≡ Int (pos n)
+unfolding key_in
+key_so Null n h = absurd (cc)
+key_so (Int (pos k)) n h = ap (λ k. Int (pos k)) (same_value h)
+key_so (Int (negsuc k)) n h = absurd (cc)
+key_so (Real x) n h = absurd (cc)
+key_so (Text t) n h = absurd (cc)
+key_so (Blob b) n h = absurd (cc)
+
+keyed_sound : (row : Row) (s : KeyedSale) → keyed_of row ≡ Ok s → row ≡ columns_of s
+unfolding keyed_of
+keyed_sound row s h =
+    let all = when_ok (length row == 5) (keyed_columns row) s h in
+    let day = bind_ok (day_of (column row 0)) _ s all.1 in
+    let key = bind_ok (key_in (column row 1)) _ s day.2 in
+    let quantity = bind_ok (measure_of 9999 (column row 2)) _ s key.2 in
+    let amount = bind_ok (measure_of 999999999 (column row 3)) _ s quantity.2 in
+    let cost = bind_ok (measure_of 999999999 (column row 4)) _ s amount.2 in
+    let found : KeyedSale = record { day = day.0; key = key.0; quantity = quantity.0; amount = amount.0; cost = cost.0 } in
+    let columns : row ≡ columns_of found =
+    whole Null row 5 (eqb-true (length row) 5 all.0)
+    ∙ ap₂ ◌∷◌ (day_so _ _ day.1).0 (ap₂ ◌∷◌ (key_so _ _ key.1) (ap₂ ◌∷◌ (measure_so 9999 _ _ quantity.1).0 (ap₂ ◌∷◌ (measure_so 999999999 _ _ amount.1).0 (ap₂ ◌∷◌ (measure_so 999999999 _ _ cost.1).0 refl)))) in
+    subst (λ s. row ≡ columns_of s) (same_value cost.2) columns
+
+keyed_complete : (which : FactKey) (f : Fact) → is_fact f ≡ true → keyed_of (columns_of (keyed which f)) ≡ Ok (keyed which f)
+unfolding keyed_of key_in
+keyed_complete which f valid =
+    let cost = and_parts _ (is_measure 999999999 f.cost) valid in
+    let amount = and_parts _ (is_measure 999999999 f.amount) cost.0 in
+    let quantity = and_parts _ (is_measure 9999 f.quantity) amount.0 in
+    let profile = and_parts _ (is_number f.keys.profile) quantity.0 in
+    let customer_durable = and_parts _ (is_number f.customer_durable) profile.0 in
+    let product_durable = and_parts _ (is_number f.product_durable) customer_durable.0 in
+    let store_durable = and_parts _ (is_number f.store_durable) product_durable.0 in
+    let customer_key = and_parts _ (is_number f.keys.customer_key) store_durable.0 in
+    let product_key = and_parts _ (is_number f.keys.product_key) customer_key.0 in
+    let store_key = and_parts _ (is_number f.keys.store_key) product_key.0 in
+    let day = and_parts (is_key 20 f.ticket && is_line f.line) (is_day f.day) store_key.0 in
+    bind_is _ f.day _ (keyed which f) (day_is f.day day.1)
+    (bind_is _ f.quantity _ (keyed which f) (measure_is 9999 f.quantity quantity.1)
+    (bind_is _ f.amount _ (keyed which f) (measure_is 999999999 f.amount amount.1)
+    (bind_is _ f.cost _ (keyed which f) (measure_is 999999999 f.cost cost.1) refl)))
+
+-- what a function that reads gives, by what it reads
+pub keyed_ok : (row : Row) (result : Result KeyedSale (ReadError Damaged)) → Gives (λ s. s) result (keyed_of row) → IfOk result (λ s. row ≡ columns_of s)
+keyed_ok row (Ok s) gives = keyed_sound row s gives
+keyed_ok row (Err e) gives = tt
+
+pub keyed_err : (row : Row) (result : Result KeyedSale (ReadError Damaged)) → Gives (λ s. s) result (keyed_of row) → IfErr result (λ e. e ≢ Memory → (which : FactKey) (f : Fact) → IsTrue (is_fact f) → row ≢ columns_of (keyed which f))
+keyed_err row (Ok s) gives = tt
+keyed_err row (Err Memory) gives = λ fault. absurd (fault refl)
+keyed_err row (Err (Fault d)) gives = λ fault which f valid is. let one = sym gives ∙ ap keyed_of is ∙ keyed_complete which f valid in absurd (cc)
+
+-- ---- what the text means
+
+abbrev showing : ℕ → List Term
+showing place = col 1 3 ∷ col 1 (place + 1) ∷ col 1 11 ∷ col 1 12 ∷ col 1 13 ∷ []
+
+abbrev naming : List ℕ → List (List ℕ)
+naming key = codes "day" ∷ key ∷ codes "quantity" ∷ codes "amount" ∷ codes "cost" ∷ []
+
+pub shows_sales : (which : FactKey) → ShowsSales which
+unfolding understood everything
+shows_sales (Surrogate Product) = record { project = showing 4; names = naming (codes "product_key"); command = refl; plain = (refl, refl); unlisted = refl; shows = λ r. refl }
+shows_sales (Surrogate Store) = record { project = showing 3; names = naming (codes "store_key"); command = refl; plain = (refl, refl); unlisted = refl; shows = λ r. refl }
+shows_sales (Surrogate Customer) = record { project = showing 5; names = naming (codes "customer_key"); command = refl; plain = (refl, refl); unlisted = refl; shows = λ r. refl }
+shows_sales (Durable Product) = record { project = showing 7; names = naming (codes "product_durable"); command = refl; plain = (refl, refl); unlisted = refl; shows = λ r. refl }
+shows_sales (Durable Store) = record { project = showing 6; names = naming (codes "store_durable"); command = refl; plain = (refl, refl); unlisted = refl; shows = λ r. refl }
+shows_sales (Durable Customer) = record { project = showing 8; names = naming (codes "customer_durable"); command = refl; plain = (refl, refl); unlisted = refl; shows = λ r. refl }
+shows_sales Profile = record { project = showing 9; names = naming (codes "profile"); command = refl; plain = (refl, refl); unlisted = refl; shows = λ r. refl }
+shows_sales Day = record { project = showing 2; names = naming (codes "day"); command = refl; plain = (refl, refl); unlisted = refl; shows = λ r. refl }
+
+-- ---- what it shows of the facts that are stored
+
+-- a fact's row shows the fact's sale
+pub shown_fact : (which : FactKey) (f : Fact) → shown_of which (encode_fact f) ≡ columns_of (keyed which f)
+shown_fact (Surrogate Product) f = refl
+shown_fact (Surrogate Store) f = refl
+shown_fact (Surrogate Customer) f = refl
+shown_fact (Durable Product) f = refl
+shown_fact (Durable Store) f = refl
+shown_fact (Durable Customer) f = refl
+shown_fact Profile f = refl
+shown_fact Day f = refl
+
+module _ (which : FactKey) (old new : State) (answer : List Row) (shown : Shown (keyed_sales which) [] old new answer) where
+  -- the answer is what each row of the table shows, in some order
+  shows_each : old.now.schema ≡ warehouse → IsPermutation (map (shown_of which) (rows_in row.fact.table old.now.trees)) answer
+  shows_each is =
+      let it = shows_sales which in
+      let read = reads_as (keyed_sales which) [] old new warehouse is _ it.command it.plain it.unlisted answer shown in
+      let found = is_read old.now.trees [] row.fact.table.tree [] it.project [] answer read.answer in
+      let db = old.now.trees row.fact.table.tree in
+      let first : Output → Row = λ o. o.1 in
+      let output_of : Row → Output = λ r. output (reading row.fact.table.tree [] it.project []) ([] ∷ r ∷ []) in
+      let each : map first (map output_of (filter (λ _. true) db)) ≡ map (shown_of which) (rows_in row.fact.table old.now.trees) =
+      map-map first output_of _ ∙ ap (map (λ r. first (output_of r))) (filter_all db) ∙ ap (λ f. map f db) (λ i r. it.shows r i) ∙ sym (map-map (shown_of which) (values_of row.fact.table) db) in
+      subst₂ IsPermutation each (sym found.shown) (IsPermutation-map first _ _ found.same)
+
+  -- of any rows, whoever wrote them
+  pub shows_stored_sales : (stored : Stored) → IsStored stored old.now → IsPermutation (map (shown_of which) (stored tables.Fact)) answer
+  shows_stored_sales stored is = IsPermutation-trans _ _ _ (IsPermutation-map (shown_of which) _ _ (IsPermutation-sym _ _ (is.rows tables.Fact))) (shows_each is.schema)
+
+  -- a row of the answer that shows no fact is that of a damaged one
+  pub shows_damage : (shows : Row) → Has answer shows → ((f : Fact) → IsTrue (is_fact f) → shows ≢ columns_of (keyed which f)) → (stored : Stored) → IsStored stored old.now → HasDamage row.fact (stored tables.Fact)
+  shows_damage shows here none stored is =
+      let found = has_mapped (shown_of which) (stored tables.Fact) shows (has_again _ answer shows (shows_stored_sales stored is) here) in
+      (found.0, found.1, λ f valid same. none f valid (found.2 ∙ ap (shown_of which) same ∙ shown_fact which f))
+
+  -- of tables, the facts' sales
+  pub shows_typed_sales : (t : Tables) → Stores old.now t → (ordered : List Fact) × IsPermutation ordered (values t.fact) × (answer ≡ map columns_of (map (keyed which) ordered))
+  shows_typed_sales t is =
+      let facts = values t.fact in
+      let each : map (shown_of which) (map encode_fact facts) ≡ map (λ f. columns_of (keyed which f)) facts = map-map (shown_of which) encode_fact facts ∙ ap (λ f. map f facts) (λ i f. shown_fact which f i) in
+      let back = pull_back (λ f. columns_of (keyed which f)) _ answer (shows_stored_sales (stored_of t) (stores_stored old.now t is)) facts each in
+      (back.0, IsPermutation-sym _ _ back.1, back.2 ∙ sym (map-map columns_of (keyed which) back.0))
+
+-- none of the facts of tables is damaged
+pub no_fact_damaged : (db : Database) (t : Tables) → Stores db t → ¬ HasDamage row.fact (stored_of t tables.Fact)
+no_fact_damaged db t is = no_damage row.fact (stored_of t tables.Fact) (values t.fact) (holds_rows row.fact line_cmp_total db.trees t.fact is.fact).valid (IsPermutation-refl _)
+
+-- ---- whatever the schema is, the text is a query
+
+shows_nothing : (made : Checked Command) (formats : List (List ℕ)) (compile : List (List ℕ) × (Command × Option Returning) → Compiled) → ((plan : List (List ℕ) × (Command × Option Returning)) → (compile plan).returning ≡ plan.1.1)
+    → ¬ Returns (and_then (and_then (and_then made (λ c. Ok (c, None))) (λ found. Ok (formats, found))) (λ plan. Ok (compile plan)))
+shows_nothing (Ok c) formats compile keeps some = absurd (let none = subst (λ (shown : Option Returning). IsSome shown) (keeps (formats, (c, None))) some in cc)
+shows_nothing (Err e) formats compile keeps some = some
+
+-- the text has no RETURNING
+abbrev HasNone : Schema → List ℕ → Type 0
+HasNone schema text = IfOk (first text) (λ p. (base : ℕ) → returning schema base p.statement ≡ Ok None)
+
+compiled_returns_nothing : (schema : Schema) (text : List ℕ) → HasNone schema text → ¬ Returns (compiled schema text)
+unfolding compiled planned meaning
+compiled_returns_nothing schema text = elim (first text) as (λ r. IfOk r (λ p. (base : ℕ) → returning schema base p.statement ≡ Ok None) → ¬ Returns (and_then r (λ p. and_then (planned schema p) (λ plan. Ok (with_command p plan))))) [
+  | Ok p ↦ λ none some. shows_nothing _ _ (with_command p) (λ plan. refl) (rw none at some)
+  | Err e ↦ λ none some. some
+]
+
+if_select_returns : (r : Checked Compiled) → Returns (if_select r) → Returns r
+if_select_returns (Ok c) = elim (is_select c.command) as (λ b. Returns (if b then Ok c else Err NoSuchTable) → IsSome c.returning) [ true ↦ λ some. some | false ↦ λ some. absurd some ]
+if_select_returns (Err e) = λ some. some
+
+understood_returns_nothing : (schema : Schema) (text : List ℕ) → ((s : Schema) → HasNone s text) → ¬ Returns (understood schema text)
+unfolding understood
+understood_returns_nothing schema text none = elim (reads_listing schema text) as (λ b. ¬ Returns (if b then if_select (compiled listing_schema text) else compiled schema text)) [
+  | true ↦ λ some. compiled_returns_nothing listing_schema text (none listing_schema) (if_select_returns _ some)
+  | false ↦ compiled_returns_nothing schema text (none schema)
+]
+
+pub returns_nothing : (which : FactKey) (schema : Schema) → ¬ Returns (understood schema (keyed_sales which))
+unfolding everything
+returns_nothing (Surrogate Product) schema = understood_returns_nothing schema (keyed_sales (Surrogate Product)) (λ s base. refl)
+returns_nothing (Surrogate Store) schema = understood_returns_nothing schema (keyed_sales (Surrogate Store)) (λ s base. refl)
+returns_nothing (Surrogate Customer) schema = understood_returns_nothing schema (keyed_sales (Surrogate Customer)) (λ s base. refl)
+returns_nothing (Durable Product) schema = understood_returns_nothing schema (keyed_sales (Durable Product)) (λ s base. refl)
+returns_nothing (Durable Store) schema = understood_returns_nothing schema (keyed_sales (Durable Store)) (λ s base. refl)
+returns_nothing (Durable Customer) schema = understood_returns_nothing schema (keyed_sales (Durable Customer)) (λ s base. refl)
+returns_nothing Profile schema = understood_returns_nothing schema (keyed_sales Profile) (λ s base. refl)
+returns_nothing Day schema = understood_returns_nothing schema (keyed_sales Day) (λ s base. refl)

@@ -1,0 +1,84 @@
+//! What is shown of a fact where sales are summed by one of its keys.
+
+ghost use Rattle.std.specs.Prelude.{◌≡◌, ◌≢◌, IsTrue, IfOk, IfErr};
+ghost use Rattle.sqlite_value.specs.Order.{column};
+ghost use Rattle.wh_day.specs.Reading.{Gives};
+ghost use Rattle.wh_day.specs.declared.error.ReadError.TheVariants.{Memory};
+ghost use Rattle.wh_history.specs.declared.facts.Fact.{Fact};
+ghost use Rattle.wh_rows.specs.KeyedSales.{columns_of, keyed, key_in, keyed_of};
+ghost use Rattle.wh_rows.specs.Rows.{is_fact};
+
+use crate::columns::{self, Damaged};
+use sqlite::Row;
+use wh_day::{Day, ReadError};
+use wh_policy::Dim;
+
+/// The keys by which a fact names rows of other tables.
+#[derive(Clone, Copy, Debug, PartialEq, Eq)]
+pub enum FactKey {
+    /// The surrogate key of the row of a dimension that holds the day of sale.
+    Surrogate(Dim),
+    /// The durable key of a member of a dimension.
+    Durable(Dim),
+    /// The number of the customer's profile on the day of sale.
+    Profile,
+    /// The day of sale, which is the key of the calendar.
+    Day,
+}
+
+/// A sale by one of its fact's keys: what a sum of sales needs of it, and no text.
+#[derive(Clone, Copy, Debug, PartialEq, Eq)]
+pub struct KeyedSale {
+    pub day: Day,
+    pub key: u64,
+    pub quantity: i64,
+    /// In hundredths.
+    pub amount: i64,
+    /// In hundredths.
+    pub cost: i64,
+}
+
+/// A key of another table's row: a number, or a day.
+#[tactic(auto, unfolding(crate::specs::KeyedSales::key_in, crate::specs::Columns::integer_of))]
+fn key(row: &Row, at: usize) -> Result<u64, ReadError<Damaged>>
+    ensures { Gives (λ key. key) result (key_in (column row.now at)) }
+{
+    let key = columns::integer(row, at)?;
+    if key < 0 {
+        return Err(ReadError::Fault(Damaged));
+    }
+    Ok(key as u64)
+}
+
+/// The five columns.
+#[tactic(auto, unfolding(crate::specs::KeyedSales::keyed_of))]
+fn read_columns(row: &Row) -> Result<KeyedSale, ReadError<Damaged>>
+    ensures { Gives (λ sale. sale) result (keyed_of row.now) }
+{
+    if row.column_count() != 5 {
+        return Err(ReadError::Fault(Damaged));
+    }
+    let day = columns::day(row, 0)?;
+    let key = key(row, 1)?;
+    let quantity = columns::measure(9_999, row, 2)?;
+    let amount = columns::measure(999_999_999, row, 3)?;
+    let cost = columns::measure(999_999_999, row, 4)?;
+    Ok(KeyedSale {
+        day,
+        key,
+        quantity,
+        amount,
+        cost,
+    })
+}
+
+impl KeyedSale {
+    /// Reads a row of these five columns. `Damaged`: it has others, or a value is out of its type.
+    pub fn read(row: &Row) -> Result<KeyedSale, ReadError<Damaged>>
+        ensures ok { IfOk result (λ sale. row.now ≡ columns_of sale) }
+        // Refused are the columns that no fact shows by any of its keys.
+        ensures err { IfErr result (λ e. e ≢ Memory → (which : _) (fact : Fact) → IsTrue (is_fact fact) → row.now ≢ columns_of (keyed which fact)) }
+    {
+        read_columns(row)
+    }
+}
