@@ -3,7 +3,6 @@ use Rattle.std.proofs.Common.{◌≡◌, ◌⊎◌, ℕ, ◌<◌, ◌≤◌, Boo
 use Rattle.std.specs.Prelude.{◌≢◌, ◌==◌, bytes_eq, find, filter, is_some, option_map, unwrap_or}
 use Rattle.std.specs.FinMap.{values, get}
 use Rattle.std.specs.List.{AllByRecursion, list_any}
-use Rattle.std.specs.Option.{option_and_then}
 use Rattle.std.specs.Ordering.{eq_by_cmp, is_ge, is_le, nat_cmp, MatchOrdering}
 use Rattle.std.specs.Cmp.{ranks}
 use Rattle.std.proofs.Math.Seq.{drop-append_seam}
@@ -12,7 +11,7 @@ use Rattle.std.proofs.lemmas.Bool.Decides.{nat_tests}
 use Rattle.std.proofs.lemmas.List.{map-append}
 use Rattle.std.proofs.lemmas.List.Elements.{filter-append}
 use Rattle.std.proofs.lemmas.Slice.Eq.{bytes_eq-Decides}
-use Rattle.wh_day.specs.Day.{is_day, first_day, last_day, day_before, checked_day_before}
+use Rattle.wh_day.specs.Day.{is_day, first_day, last_day, day_before}
 use Rattle.wh_day.proofs.Days.{from_first, to_last, parts, day_before-greatest}
 use Rattle.wh_policy.specs.declared.attribute.AttributeType.{AttributeType}
 use Rattle.wh_policy.specs.declared.attribute.Dim.{Dim}
@@ -22,7 +21,7 @@ use Rattle.wh_policy.specs.declared.record.SaleRecord.{SaleRecord}
 use Rattle.wh_history.specs.Accepted.{Accepted, Content, Describes, described, described_by, sold, member_of_sale, members, durable_key, surrogate_key, opening_of, member_of, types_in, profiles_of, change_of, changes_of}
 use Rattle.wh_history.specs.Dated.{at, dated}
 use Rattle.wh_history.specs.Facts.{key_in, rekeyed_to}
-use Rattle.wh_history.specs.Shapes.{Shape, RenderedMember, shape_after, rendered_in}
+use Rattle.wh_history.specs.Shapes.{RenderedMember, shape_after, rendered_in}
 use Rattle.wh_history.specs.Laws.{ChangesHaveDays, governs}
 use Rattle.wh_history.specs.Profiles.{current_profile, profile_now}
 use Rattle.wh_history.specs.Rows.{rows}
@@ -46,7 +45,7 @@ use Rattle.wh_rows.specs.Tables.{Tables}
 use Rattle.wh_rows.specs.declared.key.LineKey.{LineKey}
 use Rattle.wh_rows.specs.Questions.{durable_of}
 use Rattle.wh_rows.specs.Defined.{AreOf, fact_at}
-use Rattle.wh_plan.specs.MovedFacts.{moved_for, rekeyed_facts, earliest, latest_day, moves_since, moves_until, keeps_row, first_kept, facts_with, facts_between}
+use Rattle.wh_plan.specs.MovedFacts.{moved_for, rekeyed_facts, earliest, latest_day, moves_since, moves_until, before_record, keeps_row, facts_with, facts_between}
 use Rattle.wh_rows.specs.Sound.{IsGoodSale, IsAccepted}
 use Rattle.wh_rows.proofs.FoundPlaces.{same_number_is}
 use Rattle.wh_rows.proofs.GrownMembers.{opening_given}
@@ -268,7 +267,7 @@ module _ (limits : Limits) (commands : List Accepted) (c : Accepted) (rs : List 
       keys_after : (f : Fact) → is_day f.day ≡ true → until < f.day → keys_for after dim natural f ≡ keys_for commands dim natural f
       keys_after f within past =
           elim (find (keeps dim is natural) (dated (changes_of dim commands natural))) as (λ o. (find (keeps dim is natural) (dated (changes_of dim commands natural)) ≡ o)
-          → unwrap_or (option_and_then (λ (d : Change). checked_day_before d.day) o) last_day < f.day → keys_for after dim natural f ≡ keys_for commands dim natural f) [
+          → before_record o < f.day → keys_for after dim natural f ≡ keys_for commands dim natural f) [
             | None ↦ λ _ more. absurd (omega (arith, more, to_last f.day within))
             | Some start ↦ λ found.
                 elim (start.day == first_day) as (λ b. ((start.day == first_day) ≡ b) → unwrap_or (cond b None (Some (day_before start.day))) last_day < f.day → keys_for after dim natural f ≡ keys_for commands dim natural f) [

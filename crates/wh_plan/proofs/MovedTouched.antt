@@ -3,8 +3,7 @@ use Rattle.std.proofs.Common.{◌≡◌, ℕ, ◌==◌, Bool, true, false, cond,
 use Rattle.std.specs.Prelude.{find, filter_map, flat_map, option_map, unwrap_or, zip}
 use Rattle.std.specs.FinMap.{FinMap}
 use Rattle.std.specs.List.{cons_option, AllByRecursion}
-use Rattle.std.specs.Option.{option_and_then}
-use Rattle.wh_day.specs.Day.{first_day, last_day, checked_day_before}
+use Rattle.wh_day.specs.Day.{first_day}
 use Rattle.wh_policy.specs.Policy.{types_of}
 use Rattle.wh_policy.specs.Written.{IsSound}
 use Rattle.wh_policy.specs.declared.attribute.AttributeType.{AttributeType}
@@ -32,7 +31,7 @@ use Rattle.wh_history.proofs.Stays.{policy_last}
 use Rattle.wh_rows.specs.Rows as row
 use Rattle.wh_rows.specs.Tables.{Tables}
 use Rattle.wh_rows.specs.Defined.{AreOf, fact_at}
-use Rattle.wh_plan.specs.MovedFacts.{facts_with, facts_between, rekeyed_facts, moves_since, moves_until, keeps_row, latest_day, moved_of_touched, moves_of_member, moves_of_members}
+use Rattle.wh_plan.specs.MovedFacts.{facts_with, facts_between, rekeyed_facts, moves_since, moves_until, before_record, latest_day, moved_of_touched, moves_of_member, moves_of_members}
 use Rattle.wh_plan.specs.BatchRows.{AreFacts, AreRekeyed}
 use Rattle.wh_plan.specs.NewRows.{members_among, naturals_told}
 use Rattle.wh_rows.specs.Sound.{AreTypes, IsAccepted}
@@ -107,7 +106,7 @@ module _ (dim : Dim) (kinds : List AttributeType) (number : List (List ℕ) → 
       let key : (n : Member) (day : ℕ) → key_in (rows_by kinds number n) day ≡ key_in (rows_by kinds known n) day =
       λ n day. key_of_any (profile_now_by kinds number n) (profile_now_by kinds known n) n day (spans first_day (starts kinds (dated n.changes))) in
       let last = latest_day (drop (length stored.changes) m.changes) in
-      ap (λ o. unwrap_or (option_and_then (λ (c : Change). checked_day_before c.day) o) last_day)
+      ap before_record
       (find_alike (λ (c : Change). nat_lt last c.day && (key_in (rows_by kinds number stored) c.day == key_in (rows_by kinds number m) c.day)) (λ (c : Change). nat_lt last c.day && (key_in (rows_by kinds known stored) c.day == key_in (rows_by kinds known m) c.day))
       (λ c. ap₂ (λ i j. nat_lt last c.day && (i == j)) (key stored c.day) (key m c.day)) (dated stored.changes))
 

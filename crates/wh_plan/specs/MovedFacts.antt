@@ -58,14 +58,18 @@ latest_day (c ∷ cs) = if nat_lt (latest_day cs) c.day then c.day else latest_d
 abbrev pub keeps_row : RenderedMember → RenderedMember → ℕ → Bool
 keeps_row stored after day = key_in stored.rows day == key_in after.rows day
 
--- of the stored records of a member that are of a later day than these, the first whose day keeps its row, if one does
-abbrev pub first_kept : RenderedMember → RenderedMember → List Change → Option Change
-first_kept stored after new = find (λ c. nat_lt (latest_day new) c.day && keeps_row stored after c.day) stored.dated
+-- of a member's records that are of a later day, by the days, the first whose day keeps its row, if one does
+abbrev pub first_kept : RenderedMember → RenderedMember → ℕ → Option Change
+first_kept stored after last = find (λ c. nat_lt last c.day && keeps_row stored after c.day) stored.dated
 
--- The last day whose facts can move, by what a batch adds to a member's changes: from the day of that record on nothing changes, so it
--- is the day before. Where there is none, it is the last day of all.
+-- the day before that of a record, and the last day of all where there is none
+abbrev pub before_record : Option Change → ℕ
+before_record kept = unwrap_or (option_and_then (λ c. checked_day_before c.day) kept) last_day
+
+-- The last day whose facts can move: from the day of the first stored record on that is later than all new ones and whose day keeps its row,
+-- nothing changes.
 abbrev pub moves_until : RenderedMember → RenderedMember → ℕ
-moves_until stored after = unwrap_or (option_and_then (λ (c : Change). checked_day_before c.day) (first_kept stored after (drop (length stored.member.changes) after.member.changes))) last_day
+moves_until stored after = before_record (first_kept stored after (latest_day (drop (length stored.member.changes) after.member.changes)))
 
 -- of those facts the ones from one day to another
 abbrev pub facts_between : FinMap row.fact.order Fact → Dim → ℕ → ℕ → ℕ → List Fact

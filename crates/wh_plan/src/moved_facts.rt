@@ -1,15 +1,15 @@
 //! The stored facts that a batch of dimension records moves.
 
-ghost use Rattle.std.specs.Prelude.{◌≡◌, ◌==◌, ◌&&◌, ◌++◌, ◌∷◌, [], drop, find, flat_map, length, map, nat_lt, option_map, IfOk};
+ghost use Rattle.std.specs.Prelude.{◌≡◌, ◌++◌, ◌∷◌, [], drop, flat_map, length, map, nat_lt, IfOk};
 ghost use Rattle.std.specs.List.{list_any, AllByRecursion};
+ghost use Rattle.std.specs.Option.{option_copied};
 ghost use Rattle.wh_history.specs.Accepted.{Accepted, Describes, member_of, profiles_of};
-ghost use Rattle.wh_history.specs.Facts.{key_in};
 ghost use Rattle.wh_history.specs.Known.{number_in, KnowsEnough};
 ghost use Rattle.wh_history.specs.Shapes.{rendered_in, shape_of, shown};
 ghost use Rattle.wh_history.specs.Touched.{touched_by};
 ghost use Rattle.wh_rows.specs.Defined.{fact_at};
 ghost use Rattle.wh_plan.specs.BatchRows.{AreFacts, AreRekeyed};
-ghost use Rattle.wh_plan.specs.MovedFacts.{earliest, latest_day, moves_since, moves_until, moved_of_touched, pair_of};
+ghost use Rattle.wh_plan.specs.MovedFacts.{before_record, earliest, first_kept, latest_day, moves_since, moves_until, moved_of_touched, pair_of};
 ghost use Rattle.wh_plan.specs.NewRows.{Records, naturals_told};
 ghost use Rattle.wh_store.specs.Reads.{ReadsOnly, state_of};
 ghost use Rattle.wh_plan.specs.Reads.{Finds, Tells};
@@ -19,7 +19,7 @@ use crate::touched::{TouchedMember, touched_pairs};
 use sqlite::Alter;
 use std::alloc::{AllocError, Global};
 use wh_day::Day;
-use wh_history::{Change, DimRow, Dimension, Fact, Member, Rendered, key_in};
+use wh_history::{Change, Dimension, Fact, Member, Rendered, key_in};
 use wh_rows::tables;
 use wh_store::{ReadFault, SalesBetween, Tables};
 
@@ -89,25 +89,25 @@ fn has_later(changes: &[Change], last: Day) -> bool
     changes.iter().any(|change| last < change.day)
 }
 
-/// Of a member's records that are of a later day than some, by the days, the day of the first that keeps its row.
-fn first_kept(dated: &[&Change], stored: &[DimRow], after: &[DimRow], last: Day) -> Option<Day>
-    ensures { result ≡ option_map (λ c. c.day) (find (λ c. nat_lt last c.day && (key_in stored.now c.day == key_in after.now c.day)) (map (λ c. c.now) dated.now)) }
+/// Of a member's records that are of a later day, by the days, the first whose day keeps its row.
+fn first_kept<'a>(stored: &Rendered<'a>, after: &Rendered, last: Day) -> Option<&'a Change>
+    ensures { option_copied result ≡ first_kept (shown stored.now) (shown after.now) last }
 {
-    for change in dated {
+    for change in &stored.dated {
         let day = change.day;
-        if last < day && key_in(stored, day) == key_in(after, day) {
-            return Some(day);
+        if last < day && key_in(&stored.rows, day) == key_in(&after.rows, day) {
+            return Some(*change);
         }
     }
     None
 }
 
-/// The last day whose facts can move: that before the first later record that keeps its row.
-fn until_first_kept(stored: &Rendered, after: &Rendered, last: Day) -> Day
-    ensures { last ≡ latest_day (drop (length (shown stored.now).member.changes) (shown after.now).member.changes) → result ≡ moves_until (shown stored.now) (shown after.now) }
+/// The day before that of a record, and the last day of all where there is none.
+fn before_record(kept: Option<&Change>) -> Day
+    ensures { result ≡ before_record (option_copied kept.entry) }
 {
-    match first_kept(&stored.dated, &stored.rows, &after.rows, last) {
-        Some(day) => day.before().unwrap_or(Day::last()),
+    match kept {
+        Some(change) => change.day.before().unwrap_or(Day::last()),
         None => Day::last(),
     }
 }
@@ -128,7 +128,7 @@ fn moves_until(
         return Ok(Day::last());
     }
     let stored = dimension.rendered(alloc, stored)?;
-    Ok(until_first_kept(&stored, after, last))
+    Ok(before_record(first_kept(&stored, after, last)))
 }
 
 /// The question for the facts that can move, of a member as it is stored and as it is after a batch.
@@ -143,10 +143,7 @@ fn facts_to_ask(
     Ok(SalesBetween {
         dim: dimension.dim,
         durable: after.member.durable,
-        from: moves_since(
-            stored.changes.as_slice(),
-            after.member.changes.as_slice(),
-        ),
+        from: moves_since(stored.changes.as_slice(), after.member.changes.as_slice()),
         to: moves_until(alloc, dimension, stored, after)?,
     })
 }

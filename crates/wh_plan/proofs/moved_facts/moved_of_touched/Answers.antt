@@ -1,4 +1,4 @@
-use Rattle.std.proofs.Common.{◌≡◌, ◌<◌, cond, nat_lt, List, [], sym, ◌∙◌, ap, arith}
+use Rattle.std.proofs.Common.{◌<◌, cond, nat_lt, List, [], sym, ◌∙◌, ap, arith}
 use Rattle.std.specs.Prelude.{filter_map}
 use Rattle.std.proofs.lemmas.Bool.{lt-ltb}
 use Rattle.wh_history.specs.Facts.{rekeyed_fact}

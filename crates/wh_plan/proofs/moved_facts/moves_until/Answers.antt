@@ -1,13 +1,11 @@
-use Rattle.std.proofs.Common.{◌≡◌, Bool, true, false, cond, ◌&&◌, ◌||◌, nat_lt, List, [], ◌∷◌, drop, length, ℕ, Option, None, Some, refl, sym, ◌∙◌, ap}
-use Rattle.std.specs.Prelude.{find, unwrap_or}
+use Rattle.std.proofs.Common.{◌≡◌, Bool, true, false, cond, ◌&&◌, ◌||◌, nat_lt, List, [], ◌∷◌, drop, length, None, Some, refl, sym, ◌∙◌, ap}
+use Rattle.std.specs.Prelude.{find}
 use Rattle.std.specs.List.{list_any, AllByRecursion}
-use Rattle.std.specs.Option.{option_and_then}
-use Rattle.wh_day.specs.Day.{last_day, checked_day_before}
 use Rattle.wh_history.specs.Dated.{dated}
 use Rattle.wh_history.specs.Shapes.{rendered_in, shape_of, shown}
 use Rattle.wh_history.specs.declared.member.Change.{Change}
 use Rattle.wh_history.proofs.Joins.{all_dated}
-use Rattle.wh_plan.specs.MovedFacts.{first_kept, keeps_row, latest_day}
+use Rattle.wh_plan.specs.MovedFacts.{before_record, first_kept, keeps_row, latest_day}
 use Rattle.wh_plan.proofs.moved_facts.moves_until.Goals as goal
 
 each_fails : (p : Change → Bool) (cs : List Change) → list_any p cs ≡ false → AllByRecursion (λ c. p c ≡ false) cs
@@ -37,5 +35,5 @@ returns-then-not-has_later c =
     let has : c.has_later.result ≡ false = let found = c.if-not-has_later.true in cc in
     let none : list_any (λ (d : Change). nat_lt (latest_day new) d.day) stored.changes ≡ false =
     sym (c.has_later.ensures ∙ ap (list_any (λ (d : Change). nat_lt c.latest_day-last.result d.day)) c.as_slice-changes.ensures ∙ ap (λ n. list_any (λ (d : Change). nat_lt n d.day) stored.changes) last) ∙ has in
-    let kept : first_kept before after new ≡ None = none_later (λ (d : Change). nat_lt (latest_day new) d.day) (λ (d : Change). keeps_row before after d.day) stored.changes none in
-    c.last.ensures ∙ sym (ap (λ o. unwrap_or (option_and_then (λ (d : Change). checked_day_before d.day) o) last_day) kept)
+    let kept : first_kept before after (latest_day new) ≡ None = none_later (λ (d : Change). nat_lt (latest_day new) d.day) (λ (d : Change). keeps_row before after d.day) stored.changes none in
+    c.last.ensures ∙ sym (ap before_record kept)
