@@ -1,8 +1,8 @@
 -- Of a member with a record of a day that is later than all new ones, the keys and profiles from that day on, where the row of the day is the same.
-use Rattle.std.proofs.Common.{◌≡◌, ◌⊎◌, ℕ, ◌<◌, ◌≤◌, ◌==◌, Bool, true, false, cond, not, nat_lt, nat_le, List, [], ◌∷◌, ◌++◌, map, append-nil, Option, Some, None, refl, sym, ◌∙◌, ap, subst, arith, inl, inr}
+use Rattle.std.proofs.Common.{◌≡◌, ℕ, ◌<◌, ◌≤◌, ◌==◌, Bool, true, false, cond, not, nat_lt, nat_le, List, [], ◌∷◌, ◌++◌, map, append-nil, Some, refl, sym, ◌∙◌, ap, subst, arith, inl, inr}
 use Rattle.std.specs.Prelude.{filter, find, option_map, unwrap_or}
 use Rattle.std.specs.List.{list_any, AllByRecursion}
-use Rattle.std.proofs.lemmas.Bool.{cases_lt, cases_eq, lt-ltb, le-ltb, eq-eqb, ne_eqb, eqb-true}
+use Rattle.std.proofs.lemmas.Bool.{cases_lt, cases_eq, lt-ltb, le-ltb, eq-eqb, ne_eqb}
 use Rattle.std.proofs.lemmas.Bool.Decides.{nat_tests}
 use Rattle.std.proofs.lemmas.List.Elements.{filter-append}
 use Rattle.wh_day.specs.Day.{first_day, is_day}
@@ -14,6 +14,7 @@ use Rattle.wh_history.specs.Laws.{ChangesHaveDays, is_of}
 use Rattle.wh_history.specs.Rows.{same_tracked, later_starts, starts, spans, start_key, row}
 use Rattle.wh_history.specs.declared.member.Change.{Change}
 use Rattle.wh_history.specs.declared.member.Member.{Member}
+use Rattle.wh_history.proofs.Basics.{some_is}
 use Rattle.wh_history.proofs.Joins.{AmongDays, among_above}
 use Rattle.wh_history.proofs.Since.{last_start, key_of_day, late_starts}
 use Rattle.wh_history.proofs.Spans.{Follows, InOrder, InOrder-dated, Rises, Rises-later_starts, Rises-starts}
@@ -117,9 +118,6 @@ found_among p (d ∷ ds) c found =
       | true ↦ λ is. inl (ap (λ (e : Change). e.day) (some_is d c is))
       | false ↦ λ later. inr (found_among p ds c later)
     ] found
-  where
-    some_is : (d c : Change) → Some d ≡ Some c → d ≡ c
-    some_is d c is = cc
 
 in_order_rest : (day : ℕ) (cs : List Change) → Follows day cs → InOrder cs
 in_order_rest day [] up = tt
@@ -180,12 +178,11 @@ module _ (kinds : List AttributeType) where
             let within = first_among start d ds up.1.2 rest in
             let by_start : nat_le d.day start ≡ true = grind (arith, nat_tests) in
             let by_day : nat_le d.day day ≡ true = grind (arith, nat_tests) in
-            let left = starts kinds (back start (d ∷ ds)) in
             rw (lt-ltb c.day start early) (elim (same_tracked kinds c d) as (λ b. last_start day begun (cond b (later_starts kinds d ds) (d.day ∷ later_starts kinds d ds))
-                ≡ last_start day (last_start start begun (cond b (later_starts kinds d ds) (d.day ∷ later_starts kinds d ds))) (starts kinds (back start (d ∷ ds)))) [
-                  | true ↦ later_back start day begun d ds (up.1.1, up.1.2) rest late
-                  | false ↦ rw (by_start, by_day) (later_back start day d.day d ds (up.1.1, up.1.2) rest late)
-                ])
+            ≡ last_start day (last_start start begun (cond b (later_starts kinds d ds) (d.day ∷ later_starts kinds d ds))) (starts kinds (back start (d ∷ ds)))) [
+              | true ↦ later_back start day begun d ds (up.1.1, up.1.2) rest late
+              | false ↦ rw (by_start, by_day) (later_back start day d.day d ds (up.1.1, up.1.2) rest late)
+            ])
         | inr here ↦
             let none = late_starts kinds start begun c (d ∷ ds) (follows_weaker start c.day (d ∷ ds) here up.1) in
             rw (le-ltb c.day start here) (ap (λ n. last_start day n (later_starts kinds c (d ∷ ds))) (sym none))
