@@ -89,7 +89,7 @@ def puts(program, folder, count):
 
 WORDS = {
     "rows": "1,000 of RowsOf",
-    "sales": "1,000 of SalesSince",
+    "sales": "1,000 of SalesBetween",
     "records": "1,000 of RecordsOf",
     "greatest": "1,000 of Greatest",
     "anchors": "10 of greatest_anchor",

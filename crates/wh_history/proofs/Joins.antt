@@ -53,7 +53,7 @@ abbrev pub AmongDays : ℕ → List Change → Type 0
 AmongDays day [] = ⊥
 AmongDays day (c ∷ cs) = (c.day ≡ day) ⊎ AmongDays day cs
 
-among_above : (low day : ℕ) (cs : List Change) → Follows low cs → AmongDays day cs → low < day
+pub among_above : (low day : ℕ) (cs : List Change) → Follows low cs → AmongDays day cs → low < day
 among_above low day [] up among = absurd among
 among_above low day (c ∷ cs) up among =
     elim among [ inl here ↦ omega arith | inr later ↦ let rest = among_above c.day day cs up.2 later in omega arith ]

@@ -17,6 +17,7 @@ pub mod Members
 pub mod Shown
 pub mod Walks
 pub mod Since
+pub mod Until
 pub mod Worked
 pub mod Touching
 pub mod Lasts

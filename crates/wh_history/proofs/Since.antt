@@ -126,7 +126,7 @@ at_front first day (c ∷ cs) less some =
 -- ---- the row of an earlier day
 
 -- of a start and later ones, the last that is not after a day
-abbrev last_start : ℕ → ℕ → List ℕ → ℕ
+abbrev pub last_start : ℕ → ℕ → List ℕ → ℕ
 last_start day from [] = from
 last_start day from (next ∷ more) = cond (nat_le next day) (last_start day next more) from
 
@@ -144,7 +144,7 @@ last_start_within day from (next ∷ more) late =
 
 module _ (kinds : List AttributeType) (number : ℕ) (m : Member) where
   -- the row of a day has the number of the last start that is not after it
-  key_of_day : (day from : ℕ) (more : List ℕ) → is_day day ≡ true → Rises from more → from ≤ day → key_in (map (row kinds number m) (spans from more)) day ≡ start_key m (last_start day from more)
+  pub key_of_day : (day from : ℕ) (more : List ℕ) → is_day day ≡ true → Rises from more → from ≤ day → key_in (map (row kinds number m) (spans from more)) day ≡ start_key m (last_start day from more)
   key_of_day day from [] is up late =
       let within = to_last day is in
       let t : holds day (row kinds number m (from, last_day)) ≡ true = grind (arith, nat_tests) in
@@ -166,7 +166,7 @@ module _ (kinds : List AttributeType) (number : ℕ) (m : Member) where
 
 module _ (kinds : List AttributeType) where
   -- no start of later changes is up to the day
-  late_starts : (day from : ℕ) (c : Change) (cs : List Change) → Follows day cs → last_start day from (later_starts kinds c cs) ≡ from
+  pub late_starts : (day from : ℕ) (c : Change) (cs : List Change) → Follows day cs → last_start day from (later_starts kinds c cs) ≡ from
   late_starts day from c [] up = refl
   late_starts day from c (d ∷ ds) up =
       let rest = late_starts day from d ds (follows_weaker day d.day ds (omega (arith, up.0)) up.2) in

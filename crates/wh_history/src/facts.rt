@@ -62,7 +62,7 @@ fn is_same_keys(a: FactKeys, b: FactKeys) -> bool
 }
 
 /// The surrogate key of the row that holds a day.
-fn key_in(rows: &[DimRow], day: Day) -> u64
+pub fn key_in(rows: &[DimRow], day: Day) -> u64
     ensures { result ≡ key_in rows.now day }
 {
     match rows.iter().find(|row| row.holds(day)) {

@@ -17,7 +17,7 @@ ghost use Rattle.wh_history.specs.Plan.{row_of};
 ghost use Rattle.wh_history.specs.Accepted.{Accepted, Anchor, durable_key, surrogate_key, anchors, members, member_of, types_in};
 ghost use Rattle.wh_history.specs.Tables.{key_at, member_rows, numbered_row};
 ghost use Rattle.wh_history.specs.Touched.{touched, untouched, touched_by, with_batch};
-ghost use Rattle.wh_history.specs.Laws.{ChangesHaveDays, DatedListsAreExact, ChangesInForce, RecordsHaveDays, EachDayHasOneRow, OneRowIsCurrent, mentions_member, IsMember, IsEffective, governs};
+ghost use Rattle.wh_history.specs.Laws.{ChangesHaveDays, DatedListsAreExact, ChangesInForce, RecordsHaveDays, EachDayHasOneRow, OneRowIsCurrent, is_of, mentions_member, IsMember, IsEffective, governs};
 ghost use Rattle.wh_history.specs.declared.member.Change.{Change};
 ghost use Rattle.wh_history.specs.declared.member.Member.{Member};
 ghost use Rattle.wh_history.specs.declared.rows.DimRow.{DimRow};
@@ -83,6 +83,17 @@ pub fn days_before_stay()
         → is_day day ≡ true → day < first → key_in (rows kinds new after) day ≡ key_in (rows kinds old before) day }
     ensures changes { (before after : Member) (first day : ℕ) (more : List Change) → after.changes ≡ before.changes ++ more → AllByRecursion (λ c. first ≤ c.day) more
         → list_any (λ c. nat_lt c.day first) before.changes ≡ true → day < first → at day (dated after.changes) ≡ at day (dated before.changes) }
+{}
+
+/// Of a member with a change of a day that is later than all of some more changes, these leave that day and the days after it
+/// as they were, where its row has the number that it had; and the same change holds, whatever its row.
+pub fn days_after_stay()
+    ensures keys { (kinds : List AttributeType) (old new : List (List (List ℕ))) (before after : Member) (start day : ℕ) (more : List Change) → after.changes ≡ before.changes ++ more → AllByRecursion (λ c. c.day < start) more
+        → list_any (is_of start) (dated before.changes) ≡ true → ChangesHaveDays before.changes → ChangesHaveDays after.changes → after.opening ≡ before.opening
+        → key_in (rows kinds new after) start ≡ key_in (rows kinds old before) start
+        → is_day day ≡ true → start ≤ day → key_in (rows kinds new after) day ≡ key_in (rows kinds old before) day }
+    ensures changes { (before after : Member) (start day : ℕ) (more : List Change) → after.changes ≡ before.changes ++ more → AllByRecursion (λ c. c.day < start) more
+        → list_any (is_of start) (dated before.changes) ≡ true → ChangesHaveDays before.changes → ChangesHaveDays after.changes → start ≤ day → at day (dated after.changes) ≡ at day (dated before.changes) }
 {}
 
 /// A batch is its records, one after the other: from what is stored of each member that it touches, and from how many

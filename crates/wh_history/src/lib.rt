@@ -17,7 +17,7 @@ mod trial;
 
 pub use dated::{latest, original, prior, value_at};
 pub use dimension::{Dimension, Rendered};
-pub use facts::{Fact, FactKeys, MemberKeys};
+pub use facts::{Fact, FactKeys, MemberKeys, key_in};
 pub use member::{Change, Changes, Member};
 pub use plan::{Edit, plan_rows};
 pub use profiles::{Numbered, Profiles, profile_texts};

@@ -38,7 +38,7 @@ pub mod MovedLists
 pub mod FactPlans
 pub mod WrittenEdits
 pub mod MovedFacts
-pub mod MovedSince
+pub mod MovedBetween
 pub mod MovedTouched
 pub mod SalesMembers
 pub mod SalesNaturals

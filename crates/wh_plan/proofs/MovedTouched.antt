@@ -1,8 +1,9 @@
 -- The facts that move by the members that a batch touches.
-use Rattle.std.proofs.Common.{◌≡◌, ℕ, true, false, cond, nat_lt, List, [], ◌∷◌, ◌++◌, map, Option, None, refl, sym, ◌∙◌, ap, subst}
-use Rattle.std.specs.Prelude.{filter_map, flat_map, option_map, unwrap_or, zip}
+use Rattle.std.proofs.Common.{◌≡◌, ℕ, ◌==◌, Bool, true, false, cond, ◌&&◌, nat_lt, nat_le, List, [], ◌∷◌, ◌++◌, drop, length, map, Option, None, Some, refl, sym, ◌∙◌, ap, ap₂, subst}
+use Rattle.std.specs.Prelude.{find, filter_map, flat_map, option_map, unwrap_or, zip}
 use Rattle.std.specs.FinMap.{FinMap}
 use Rattle.std.specs.List.{cons_option, AllByRecursion}
+use Rattle.wh_day.specs.Day.{first_day}
 use Rattle.wh_policy.specs.Policy.{types_of}
 use Rattle.wh_policy.specs.Written.{IsSound}
 use Rattle.wh_policy.specs.declared.attribute.AttributeType.{AttributeType}
@@ -10,15 +11,17 @@ use Rattle.wh_policy.specs.declared.attribute.Dim.{Dim}
 use Rattle.wh_policy.specs.declared.policy.Policy.{Policy}
 use Rattle.wh_policy.specs.declared.record.DimensionRecord.{DimensionRecord}
 use Rattle.wh_history.specs.Accepted.{Accepted, Describes, types_in, profiles_of, durable_key, member_of, changes_of}
+use Rattle.wh_history.specs.Dated.{dated}
 use Rattle.wh_history.specs.Laws.{governs}
-use Rattle.wh_history.specs.Facts.{rekeyed_fact}
+use Rattle.wh_history.specs.Facts.{key_in, rekeyed_fact}
 use Rattle.wh_history.specs.Known.{KnowsEnough}
-use Rattle.wh_history.specs.Profiles.{profile_number}
-use Rattle.wh_history.specs.Rows.{rows}
-use Rattle.wh_history.specs.Shapes.{Shape, shape_after}
+use Rattle.wh_history.specs.Profiles.{profile_number, profile_now_by}
+use Rattle.wh_history.specs.Rows.{holds, row as row_of, rows, rows_by, spans, starts}
+use Rattle.wh_history.specs.Shapes.{Shape, rendered_in, shape_after}
 use Rattle.wh_history.specs.Tables.{Limits}
 use Rattle.wh_history.specs.Touched.{touched_by}
 use Rattle.wh_history.specs.declared.facts.Fact.{Fact}
+use Rattle.wh_history.specs.declared.member.Change.{Change}
 use Rattle.wh_history.specs.declared.member.Member.{Member}
 use Rattle.wh_history.specs.declared.rows.DimRow.{DimRow}
 use Rattle.wh_history.proofs.Basics.{some_is}
@@ -28,14 +31,14 @@ use Rattle.wh_history.proofs.Stays.{policy_last}
 use Rattle.wh_rows.specs.Rows as row
 use Rattle.wh_rows.specs.Tables.{Tables}
 use Rattle.wh_rows.specs.Defined.{AreOf, fact_at}
-use Rattle.wh_plan.specs.MovedFacts.{facts_with, facts_since, rekeyed_facts, moves_since, moved_of_touched, moves_of_member, moves_of_members}
+use Rattle.wh_plan.specs.MovedFacts.{facts_with, facts_between, rekeyed_facts, moves_since, moves_until, before_record, latest_day, moved_of_touched, moves_of_member, moves_of_members}
 use Rattle.wh_plan.specs.BatchRows.{AreFacts, AreRekeyed}
 use Rattle.wh_plan.specs.NewRows.{members_among, naturals_told}
 use Rattle.wh_rows.specs.Sound.{AreTypes, IsAccepted}
 use Rattle.wh_rows.proofs.GrownPlain.{sound_policies_show_none}
 use Rattle.wh_plan.proofs.MovedFacts.{moved_facts_are_exact}
 use Rattle.wh_plan.proofs.MovedLists.{pairs_through}
-use Rattle.wh_plan.proofs.MovedSince.{moves_since_are_all}
+use Rattle.wh_plan.proofs.MovedBetween.{moves_between_are_all}
 use Rattle.wh_plan.proofs.PlanningOwners.{above_none}
 
 module _ (limits : Limits) (commands : List Accepted) (c : Accepted) (ok : IsAccepted limits (commands ++ c ∷ [])) (dim : Dim) (rs : List DimensionRecord) (is : c.content ≡ Describes dim rs) (t : Tables) (are : AreOf limits commands t) where
@@ -48,9 +51,12 @@ module _ (limits : Limits) (commands : List Accepted) (c : Accepted) (ok : IsAcc
   abbrev there : List ℕ → List Fact
   there n = moved_of_touched (shape_after dim after) t.fact (member_of dim commands n, member_of dim after n)
 
-  -- what of the member's facts since the day moves
-  abbrev by_later : List ℕ → List Fact
-  by_later n = rekeyed_facts (shape_after dim after) (member_of dim after n) (facts_since t.fact dim (durable_key dim after n) (moves_since (changes_of dim commands n) (changes_of dim after n)))
+  -- what of the member's facts between the days moves
+  abbrev by_days : List ℕ → List Fact
+  by_days n =
+      let shape = shape_after dim after in
+      rekeyed_facts shape (member_of dim after n)
+      (facts_between t.fact dim (durable_key dim after n) (moves_since (changes_of dim commands n) (changes_of dim after n)) (moves_until (rendered_in shape (member_of dim commands n)) (rendered_in shape (member_of dim after n))))
 
   pub moves_of_touched : (ns : List (List ℕ)) → flat_map (λ n. moved_of_touched (shape_after dim (commands ++ c ∷ [])) t.fact (member_of dim commands n, member_of dim (commands ++ c ∷ []) n)) ns
       ≡ moves_of_members commands (commands ++ c ∷ []) t.fact dim (members_among commands dim ns)
@@ -58,14 +64,19 @@ module _ (limits : Limits) (commands : List Accepted) (c : Accepted) (ok : IsAcc
   moves_of_touched (n ∷ ns) =
       let rest = moves_of_touched ns in
       elim (nat_lt 0 (durable_key dim commands n)) as (λ b. (nat_lt 0 (durable_key dim commands n) ≡ b)
-      → cond b (by_later n) [] ++ flat_map there ns ≡ moves_of_members commands after t.fact dim (cond b (n ∷ members_among commands dim ns) (members_among commands dim ns))) [
+      → cond b (by_days n) [] ++ flat_map there ns ≡ moves_of_members commands after t.fact dim (cond b (n ∷ members_among commands dim ns) (members_among commands dim ns))) [
         | true ↦ λ e.
             let given = above_none (durable_key dim commands n) e in
-            ap (λ fs. fs ++ flat_map there ns) (moves_since_are_all limits commands c rs ok dim is t are n given)
+            ap (λ fs. fs ++ flat_map there ns) (moves_between_are_all limits commands c rs ok dim is t are n given)
             ∙ ap (λ k. by_rows n k ++ flat_map there ns) (durable_stays dim commands (c ∷ []) n given)
             ∙ ap (λ fs. moves_of_member commands after t.fact dim n ++ fs) rest
         | false ↦ λ _. rest
       ] refl
+
+-- two tests that answer alike find the same
+find_alike : (p q : Change → Bool) → ((c : Change) → p c ≡ q c) → (cs : List Change) → find p cs ≡ find q cs
+find_alike p q alike [] = refl
+find_alike p q alike (c ∷ cs) = ap₂ (λ b o. cond b (Some c) o) (alike c) (find_alike p q alike cs)
 
 -- the facts that move by what is known of the members
 module _ (dim : Dim) (kinds : List AttributeType) (number : List (List ℕ) → Option ℕ) (combinations : List (List (List ℕ))) (table : FinMap row.fact.order Fact) where
@@ -79,11 +90,34 @@ module _ (dim : Dim) (kinds : List AttributeType) (number : List (List ℕ) → 
       ap (λ o. cons_option o (filter_map (rekeyed_fact (by number) (with_those kinds number combinations m rs)) fs)) (rekeyed_enough kinds number combinations dim m enough rs f)
       ∙ ap (cons_option (rekeyed_fact (by (profile_number combinations)) (with_those kinds number combinations m rs) f)) (filtered_same m enough rs fs)
 
+  -- the number of the row of a day is no number of a profile
+  key_of_any : (shown other : ℕ) (m : Member) (day : ℕ) (ss : List (ℕ × ℕ)) → key_in (map (row_of kinds shown m) ss) day ≡ key_in (map (row_of kinds other m) ss) day
+  key_of_any shown other m day [] = refl
+  key_of_any shown other m day (s ∷ ss) =
+      elim (nat_le s.0 day && nat_le day s.1) as (λ b. unwrap_or (option_map (λ (r : DimRow). r.surrogate) (cond b (Some (row_of kinds shown m s)) (find (holds day) (map (row_of kinds shown m) ss)))) 0
+      ≡ unwrap_or (option_map (λ (r : DimRow). r.surrogate) (cond b (Some (row_of kinds other m s)) (find (holds day) (map (row_of kinds other m) ss)))) 0) [
+        | true ↦ refl
+        | false ↦ key_of_any shown other m day ss
+      ]
+
+  until_known : (stored m : Member) → moves_until (rendered_in (by number) stored) (rendered_in (by number) m) ≡ moves_until (rendered_in (by (profile_number combinations)) stored) (rendered_in (by (profile_number combinations)) m)
+  until_known stored m =
+      let known = profile_number combinations in
+      let key : (n : Member) (day : ℕ) → key_in (rows_by kinds number n) day ≡ key_in (rows_by kinds known n) day =
+      λ n day. key_of_any (profile_now_by kinds number n) (profile_now_by kinds known n) n day (spans first_day (starts kinds (dated n.changes))) in
+      let last = latest_day (drop (length stored.changes) m.changes) in
+      ap before_record
+      (find_alike (λ (c : Change). nat_lt last c.day && (key_in (rows_by kinds number stored) c.day == key_in (rows_by kinds number m) c.day)) (λ (c : Change). nat_lt last c.day && (key_in (rows_by kinds known stored) c.day == key_in (rows_by kinds known m) c.day))
+      (λ c. ap₂ (λ i j. nat_lt last c.day && (i == j)) (key stored c.day) (key m c.day)) (dated stored.changes))
+
   moves_known : (stored m : Member) → KnowsEnough dim kinds number combinations m → moved_of_touched (by number) table (stored, m) ≡ moved_of_touched (by (profile_number combinations)) table (stored, m)
   moves_known stored m enough =
-      let facts = facts_since table dim m.durable (moves_since stored.changes m.changes) in
+      let asked : ℕ → List Fact = facts_between table dim m.durable (moves_since stored.changes m.changes) in
+      let facts = asked (moves_until (rendered_in (by number) stored) (rendered_in (by number) m)) in
       ap (λ fs. cond (nat_lt 0 stored.durable) fs [])
-      (ap (λ rs. filter_map (rekeyed_fact (by number) (with_those kinds number combinations m rs)) facts) (rows_enough kinds number combinations dim m enough) ∙ filtered_same m enough (rows kinds combinations m) facts)
+      (ap (λ rs. filter_map (rekeyed_fact (by number) (with_those kinds number combinations m rs)) facts) (rows_enough kinds number combinations dim m enough)
+      ∙ filtered_same m enough (rows kinds combinations m) facts
+      ∙ ap (λ day. filter_map (rekeyed_fact (by (profile_number combinations)) (with_those kinds number combinations m (rows kinds combinations m))) (asked day)) (until_known stored m))
 
   pub all_moves_known : (g h : List ℕ → Member) (ns : List (List ℕ)) → AllByRecursion (KnowsEnough dim kinds number combinations) (map h ns)
       → flat_map (λ n. moved_of_touched (record { dim = dim; kinds = kinds; number = number }) table (g n, h n)) ns ≡ flat_map (λ n. moved_of_touched (record { dim = dim; kinds = kinds; number = profile_number combinations }) table (g n, h n)) ns

@@ -1,15 +1,16 @@
 -- Which stored facts a batch of records moves.
-use Rattle.std.specs.Prelude.{◌≡◌, ℕ, nat_lt, if◌then◌else◌, ◌&&◌, List, [], ◌∷◌, ◌++◌, drop, length, filter, filter_map, flat_map, Option}
+use Rattle.std.specs.Prelude.{◌≡◌, ℕ, nat_lt, ◌==◌, if◌then◌else◌, ◌&&◌, Bool, List, [], ◌∷◌, ◌++◌, drop, length, find, filter, filter_map, flat_map, Option, unwrap_or}
 use Rattle.std.specs.List.{list_any}
 use Rattle.std.specs.FinMap.{FinMap, values}
-use Rattle.std.specs.Ordering.{eq_by_cmp, is_ge, nat_cmp}
-use Rattle.wh_day.specs.Day.{first_day, last_day}
+use Rattle.std.specs.Option.{option_and_then}
+use Rattle.std.specs.Ordering.{eq_by_cmp, is_ge, is_le, nat_cmp}
+use Rattle.wh_day.specs.Day.{first_day, last_day, checked_day_before}
 use Rattle.wh_policy.specs.declared.attribute.Dim.{Dim}
 use Rattle.wh_policy.specs.declared.attribute.Dim.TheVariants.{Product, Store, Customer}
 use Rattle.wh_policy.specs.declared.record.DimensionRecord.{DimensionRecord}
 use Rattle.wh_history.specs.Accepted.{Accepted, Describes, member_of, durable_key}
-use Rattle.wh_history.specs.Facts.{rekeyed_fact}
-use Rattle.wh_history.specs.Shapes.{Shape, shape_after, rendered_in}
+use Rattle.wh_history.specs.Facts.{key_in, rekeyed_fact}
+use Rattle.wh_history.specs.Shapes.{Shape, RenderedMember, shape_after, rendered_in}
 use Rattle.wh_history.specs.Tables.{Limits}
 use Rattle.wh_history.specs.declared.facts.Fact.{Fact}
 use Rattle.wh_history.specs.declared.member.Change.{Change}
@@ -48,9 +49,31 @@ since_first stored first = if list_any (λ c. nat_lt c.day first) stored then fi
 abbrev pub moves_since : List Change → List Change → ℕ
 moves_since stored changes = since_first stored (earliest (drop (length stored) changes))
 
--- of those facts the ones since a day
-abbrev pub facts_since : FinMap row.fact.order Fact → Dim → ℕ → ℕ → List Fact
-facts_since table dim durable from = filter (λ f. eq_by_cmp nat_cmp durable (durable_of dim f) && is_ge (nat_cmp f.day from)) (values table)
+-- the latest day of changes, and the first day of all where there is none
+abbrev pub latest_day : List Change → ℕ
+latest_day [] = first_day
+latest_day (c ∷ cs) = if nat_lt (latest_day cs) c.day then c.day else latest_day cs
+
+-- whether a member's row of a day is the same as it is stored and as it will be
+abbrev pub keeps_row : RenderedMember → RenderedMember → ℕ → Bool
+keeps_row stored after day = key_in stored.rows day == key_in after.rows day
+
+-- of a member's records that are of a later day, by the days, the first whose day keeps its row, if one does
+abbrev pub first_kept : RenderedMember → RenderedMember → ℕ → Option Change
+first_kept stored after last = find (λ c. nat_lt last c.day && keeps_row stored after c.day) stored.dated
+
+-- the day before that of a record, and the last day of all where there is none
+abbrev pub before_record : Option Change → ℕ
+before_record kept = unwrap_or (option_and_then (λ c. checked_day_before c.day) kept) last_day
+
+-- The last day whose facts can move: from the day of the first stored record on that is later than all new ones and whose day keeps its row,
+-- nothing changes.
+abbrev pub moves_until : RenderedMember → RenderedMember → ℕ
+moves_until stored after = before_record (first_kept stored after (latest_day (drop (length stored.member.changes) after.member.changes)))
+
+-- of those facts the ones from one day to another
+abbrev pub facts_between : FinMap row.fact.order Fact → Dim → ℕ → ℕ → ℕ → List Fact
+facts_between table dim durable from to = filter (λ f. eq_by_cmp nat_cmp durable (durable_of dim f) && (is_ge (nat_cmp f.day from) && is_le (nat_cmp f.day to))) (values table)
 
 -- a member that a batch touches, as it is stored and as it is after the batch
 abbrev pub pair_of : TouchedMember → Member × Member
@@ -58,7 +81,9 @@ pair_of t = (t.stored.now, t.after.now)
 
 -- of a table of facts those of a touched member that move; one that isn't stored has none
 abbrev pub moved_of_touched : Shape → FinMap row.fact.order Fact → Member × Member → List Fact
-moved_of_touched shape table t = if nat_lt 0 t.0.durable then rekeyed_facts shape t.1 (facts_since table shape.dim t.1.durable (moves_since t.0.changes t.1.changes)) else []
+moved_of_touched shape table t =
+    if nat_lt 0 t.0.durable then rekeyed_facts shape t.1 (facts_between table shape.dim t.1.durable (moves_since t.0.changes t.1.changes) (moves_until (rendered_in shape t.0) (rendered_in shape t.1)))
+    else []
 
 -- of a table of the facts of some commands, those of one member that move under others, with their new keys
 abbrev pub moves_of_member : List Accepted → List Accepted → FinMap row.fact.order Fact → Dim → List ℕ → List Fact

@@ -56,17 +56,18 @@ pub(crate) fn dim_and_number(
     Ok(values)
 }
 
-/// A number and a day.
-pub(crate) fn number_and_day(
+/// A number and two days.
+pub(crate) fn number_and_days(
     alloc: Global,
     number: u64,
-    day: Day,
+    from: Day,
+    to: Day,
 ) -> Result<Vec<ValueRef<'static>>, Cause>
-    ensures ok { IfOk result (λ values. bound values.items ≡ Int (pos number) ∷ Int (pos day) ∷ []) }
+    ensures ok { IfOk result (λ values. bound values.items ≡ Int (pos number) ∷ Int (pos from) ∷ Int (pos to) ∷ []) }
     ensures err { IfErr result (λ cause. cause ≢ Memory → (cause ≡ Size) × (is_number number ≡ false)) }
 {
     let number = bound::number(number)?;
-    let values = Vec::from_array(alloc, [number, bound::day(day)])?;
+    let values = Vec::from_array(alloc, [number, bound::day(from), bound::day(to)])?;
     Ok(values)
 }
 

@@ -25,7 +25,7 @@ pub use insert::{FACTS_AT_ONCE, insert_facts};
 pub use keeps::{Keeps, Statements};
 pub use part::Part;
 pub use question::{Question, ask};
-pub use questions::{CommandOf, LastPolicy, MemberOf, ProfileOf, RecordsOf, RowsOf, SalesSince};
+pub use questions::{CommandOf, LastPolicy, MemberOf, ProfileOf, RecordsOf, RowsOf, SalesBetween};
 pub use read::{all, count, get};
 pub use scanned::{PART, PartStatements, Scanned};
 pub use schema::{create, has_tables, has_taken_name};

@@ -1,7 +1,7 @@
 //! The questions that are asked of the tables.
 
 use crate::dimension::Dimension;
-use crate::keys::{dim_and_number, dim_and_text, number_and_day, number_key, text_key};
+use crate::keys::{dim_and_number, dim_and_text, number_and_days, number_key, text_key};
 use crate::question::Question;
 use sqlite::types::ValueRef;
 use std::alloc::Global;
@@ -205,56 +205,57 @@ impl<'q> Question<tables::Member> for MemberOf<'q> {
     ghost reads_stored = { λ q. of_natural_stored q.dim q.natural.now };
 }
 
-/// The facts of one member of a dimension since a day, in the order of their keys.
+/// The facts of one member of a dimension from one day to another, both with them, in the order of their keys.
 #[derive(Clone, Copy, Debug, PartialEq, Eq)]
-pub struct SalesSince {
+pub struct SalesBetween {
     pub dim: Dim,
     pub durable: u64,
     pub from: Day,
+    pub to: Day,
 }
 
-impl Question<tables::Fact> for SalesSince {
+impl Question<tables::Fact> for SalesBetween {
     ghost use Rattle.std.specs.Prelude.{◌≡◌, true, [], ◌∷◌, pos, None, ◌&&◌};
-    ghost use Rattle.std.specs.Ordering.{eq_by_cmp, is_ge, nat_cmp};
+    ghost use Rattle.std.specs.Ordering.{eq_by_cmp, is_ge, is_le, nat_cmp};
     ghost use Rattle.sqlite_value.specs.declared.value.Value.TheVariants.{Int};
     ghost use Rattle.wh_rows.specs.Types.{is_number};
-    ghost use Rattle.wh_rows.specs.Questions.{durable_of, is_sale_since};
-    ghost use Rattle.wh_rows.specs.Texts.{sales_since};
-    ghost use Rattle.wh_rows.proofs.Facts.{of_sales_since, of_sales_since_stored};
+    ghost use Rattle.wh_rows.specs.Questions.{durable_of, is_sale_between};
+    ghost use Rattle.wh_rows.specs.Texts.{sales_between};
+    ghost use Rattle.wh_rows.proofs.Facts.{of_sales_between, of_sales_between_stored};
 
-    ghost keep = { λ q r. eq_by_cmp nat_cmp q.durable (durable_of q.dim r) && is_ge (nat_cmp r.day q.from) };
+    ghost keep = { λ q r. eq_by_cmp nat_cmp q.durable (durable_of q.dim r) && (is_ge (nat_cmp r.day q.from) && is_le (nat_cmp r.day q.to)) };
 
     ghost front = { None };
 
-    ghost bind = { λ q. Int (pos q.durable) ∷ Int (pos q.from) ∷ [] };
+    ghost bind = { λ q. Int (pos q.durable) ∷ Int (pos q.from) ∷ Int (pos q.to) ∷ [] };
 
     ghost can_be_asked = { λ q. is_number q.durable ≡ true };
 
-    ghost means = { λ q. sales_since q.dim };
+    ghost means = { λ q. sales_between q.dim };
 
     fn text(&self) -> &'static str {
         match self.dim {
             Dim::Product => {
-                "SELECT * FROM fact WHERE product_durable = ?1 AND day >= ?2 ORDER BY ticket, line"
+                "SELECT * FROM fact WHERE product_durable = ?1 AND day >= ?2 AND day <= ?3 ORDER BY ticket, line"
             }
             Dim::Store => {
-                "SELECT * FROM fact WHERE store_durable = ?1 AND day >= ?2 ORDER BY ticket, line"
+                "SELECT * FROM fact WHERE store_durable = ?1 AND day >= ?2 AND day <= ?3 ORDER BY ticket, line"
             }
             Dim::Customer => {
-                "SELECT * FROM fact WHERE customer_durable = ?1 AND day >= ?2 ORDER BY ticket, line"
+                "SELECT * FROM fact WHERE customer_durable = ?1 AND day >= ?2 AND day <= ?3 ORDER BY ticket, line"
             }
         }
     }
 
     fn values<'a>(&'a self, alloc: Global) -> Result<Vec<ValueRef<'a>>, Cause> {
-        number_and_day(alloc, self.durable, self.from)
+        number_and_days(alloc, self.durable, self.from, self.to)
     }
 
-    ghost stands = { λ q. is_sale_since q.dim q.durable q.from };
+    ghost stands = { λ q. is_sale_between q.dim q.durable q.from q.to };
 
-    ghost reads = { λ q. of_sales_since q.dim q.durable q.from };
+    ghost reads = { λ q. of_sales_between q.dim q.durable q.from q.to };
 
-    ghost reads_stored = { λ q. of_sales_since_stored q.dim q.durable q.from };
+    ghost reads_stored = { λ q. of_sales_between_stored q.dim q.durable q.from q.to };
 }
 
 /// The profile of a combination of values.

@@ -28,7 +28,7 @@
 //!
 //! On both, questions:
 //! - `all TABLE`, `get TABLE KEY`, `count TABLE`, `length TABLE`, the number of the rows that are read, and `nth TABLE PLACE`, from 0.
-//! - `rows DIMENSION DURABLE`, `records DIMENSION DURABLE`, `sales DIMENSION DURABLE DAY`, `command ID`, `member DIMENSION NATURAL`,
+//! - `rows DIMENSION DURABLE`, `records DIMENSION DURABLE`, `sales DIMENSION DURABLE FROM TO`, `command ID`, `member DIMENSION NATURAL`,
 //!   `profile TEXT,TEXT,..`, `greatest profile`, `greatest member DIMENSION`, `anchor DIMENSION`: the types of `wh_sql` that are
 //!   called so, and `greatest_anchor`.
 //! - `table TABLE` and `dim DIMENSION`, what a table says that it is; `read ROW`, the row as it is read from these columns.

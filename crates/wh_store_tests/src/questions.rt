@@ -13,7 +13,7 @@ use wh_rows::tables::{Change, Command, Customer, Fact, Member, Product, Profile,
 use wh_scenarios::parted;
 use wh_sql::{
     CommandOf, Dimension, Greatest, GreatestOf, MemberOf, ProfileOf, Question, RecordsOf, RowsOf,
-    SalesSince,
+    SalesBetween,
 };
 
 /// A step that only reads.
@@ -192,7 +192,7 @@ fn records<H: Reads>(
     told::<Change, RecordsOf, H>(alloc, held, &question, out)
 }
 
-/// `DIMENSION DURABLE DAY`: the facts of a member since a day.
+/// `DIMENSION DURABLE FROM TO`: the facts of a member from one day to another.
 fn sales<H: Reads>(
     alloc: Global,
     held: &mut H,
@@ -200,11 +200,13 @@ fn sales<H: Reads>(
     out: &mut String,
 ) -> Result<(), Trouble> {
     let (name, rest) = parted(words, ' ');
-    let (durable, from) = parted(rest, ' ');
-    let question = SalesSince {
+    let (durable, days) = parted(rest, ' ');
+    let (from, to) = parted(days, ' ');
+    let question = SalesBetween {
         dim: dim(name)?,
         durable: number(durable)?,
         from: day(from)?,
+        to: day(to)?,
     };
-    told::<Fact, SalesSince, H>(alloc, held, &question, out)
+    told::<Fact, SalesBetween, H>(alloc, held, &question, out)
 }

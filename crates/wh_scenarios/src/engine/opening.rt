@@ -242,6 +242,18 @@ open
 = opened
 batch p2
 = accepted 5: 1 records, 0 placeholders
+close
+
+# A record between two meets no fact since the later of them, where this one's row stays. Where it doesn't, it does.
+sql UPDATE fact SET quantity = 'two'
+open
+= opened
+send product a1
+> id,day,description,brand,category,department,launched,supplier
+> P1,2024-01-20,Cola 1l,Cask,Drinks,Grocery,2019,North
+= accepted 6: 1 records, 0 placeholders
+batch p3
+= Damaged(Fact)
 ";
 
 pub const EXCHANGED: &str = "\
