@@ -16,6 +16,7 @@ mod planning;
 mod reopen;
 mod scan;
 mod session;
+mod tally;
 mod write;
 
 pub use command::{Command, Limit, Receipt, Refused, Reply};

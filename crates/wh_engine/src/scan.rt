@@ -40,7 +40,7 @@ fn row_after<T: Scanned, S: Alter>(
 }
 
 /// Notes that the store refused a call, or leaves what was noted before.
-fn note(session: &mut Session, is_stopped: bool)
+pub(crate) fn note(session: &mut Session, is_stopped: bool)
     ensures { session.new ≡ record (session.old) { must_reopen = session.old.must_reopen || is_stopped } }
 {
     if is_stopped {

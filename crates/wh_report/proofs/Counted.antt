@@ -1,25 +1,23 @@
--- One fact more.
+-- One sale more.
 use Rattle.std.proofs.Common.{◌≡◌, ℕ, true, false, List, [], ◌∷◌, ◌++◌, Option, Some, None, refl}
 use Rattle.std.specs.Prelude.{filter_map}
 use Rattle.std.proofs.lemmas.List.{append-nil}
-use Rattle.wh_history.specs.declared.facts.Fact.{Fact}
+use Rattle.wh_rows.specs.declared.keyed_sale.KeyedSale.{KeyedSale}
 use Rattle.wh_report.specs.Asked.{Asked}
-use Rattle.wh_report.specs.Counting.{measures_of, counted}
-use Rattle.wh_report.specs.Joined.{fact_key}
+use Rattle.wh_report.specs.Counting.{measures_of, counted_sale}
 use Rattle.wh_report.specs.Request.{is_asked_of}
 use Rattle.wh_report.specs.Sums.{Measured}
-use Rattle.wh_report.specs.declared.column.LabelColumn.{LabelColumn}
 use Rattle.wh_report.proofs.Entries.{filter_map-last}
 
 -- of another day
-pub passed_over : (r : Asked) (column : LabelColumn) (labels : ℕ → Option (List ℕ)) (facts : List Fact) (f : Fact) → is_asked_of r f.day ≡ false → filter_map (counted r column labels) facts ≡ filter_map (counted r column labels) (facts ++ f ∷ [])
-passed_over r column labels facts f other =
-    let none : counted r column labels f ≡ None = rw other refl in
-    rw (filter_map-last (counted r column labels) facts f, none, append-nil (filter_map (counted r column labels) facts)) refl
+pub passed_over : (r : Asked) (labels : ℕ → Option (List ℕ)) (sales : List KeyedSale) (s : KeyedSale) → is_asked_of r s.day ≡ false → filter_map (counted_sale r labels) sales ≡ filter_map (counted_sale r labels) (sales ++ s ∷ [])
+passed_over r labels sales s other =
+    let none : counted_sale r labels s ≡ None = rw other refl in
+    rw (filter_map-last (counted_sale r labels) sales s, none, append-nil (filter_map (counted_sale r labels) sales)) refl
 
 -- of a day of the range
-pub one_counted : (r : Asked) (column : LabelColumn) (labels : ℕ → Option (List ℕ)) (facts : List Fact) (f : Fact) (label : List ℕ) (measures : Measured) → is_asked_of r f.day ≡ true → labels (fact_key column f) ≡ Some label → measures ≡ measures_of f
-    → filter_map (counted r column labels) facts ++ record { label = label; measures = measures } ∷ [] ≡ filter_map (counted r column labels) (facts ++ f ∷ [])
-one_counted r column labels facts f label measures within is same =
-    let one : counted r column labels f ≡ Some (record { label = label; measures = measures_of f }) = rw (within, is) refl in
-    rw (filter_map-last (counted r column labels) facts f, one, same) refl
+pub one_counted : (r : Asked) (labels : ℕ → Option (List ℕ)) (sales : List KeyedSale) (s : KeyedSale) (label : List ℕ) (measures : Measured) → is_asked_of r s.day ≡ true → labels s.key ≡ Some label → measures ≡ measures_of s
+    → filter_map (counted_sale r labels) sales ++ record { label = label; measures = measures } ∷ [] ≡ filter_map (counted_sale r labels) (sales ++ s ∷ [])
+one_counted r labels sales s label measures within is same =
+    let one : counted_sale r labels s ≡ Some (record { label = label; measures = measures_of s }) = rw (within, is) refl in
+    rw (filter_map-last (counted_sale r labels) sales s, one, same) refl

@@ -9,10 +9,11 @@ use Rattle.std.specs.declared.vec.Vec.{Vec}
 use Rattle.wh_policy.specs.declared.policy.Policy.{Policy}
 use Rattle.wh_history.specs.declared.facts.Fact.{Fact}
 use Rattle.wh_history.proofs.Basics.{some_is}
+use Rattle.wh_rows.specs.KeyedSales.{keyed}
 use Rattle.wh_rows.specs.Tables.{Tables}
 use Rattle.wh_report.specs.Asked.{Asked}
 use Rattle.wh_report.specs.Counting.{counted, measures_of}
-use Rattle.wh_report.specs.Joined.{column_of, fact_key}
+use Rattle.wh_report.specs.Joined.{column_of, fact_key, key_by}
 use Rattle.wh_report.specs.Label.{text_asked}
 use Rattle.wh_report.specs.Labels.{AreLabels, labels_in, text_of}
 use Rattle.wh_report.specs.Reported.{label_rows, text_at, sold_by_keys, IsSummed, ReportsTables, column_asked}
@@ -28,7 +29,7 @@ use Rattle.wh_report.specs.declared.subject.Subject.{Subject}
 pub counted_same : (r : Asked) (column : LabelColumn) (p q : ℕ → Option (List ℕ)) → ((key : ℕ) → p key ≡ q key) → (facts : List Fact) → filter_map (counted r column p) facts ≡ filter_map (counted r column q) facts
 counted_same r column p q same [] = refl
 counted_same r column p q same (f ∷ facts) =
-    ap (λ o. cons_option (cond (is_asked_of r f.day) (option_map (λ label. record { label = label; measures = measures_of f }) o) None) (filter_map (counted r column p) facts)) (same (fact_key column f))
+    ap (λ o. cons_option (cond (is_asked_of r f.day) (option_map (λ label. record { label = label; measures = measures_of (keyed (key_by column) f) }) o) None) (filter_map (counted r column p) facts)) (same (fact_key column f))
     ∙ ap (cons_option (counted r column q f)) (counted_same r column p q same facts)
 
 module _ (r : Asked) (column : LabelColumn) (t : Tables) (labels : List (ℕ × List ℕ)) (are : AreLabels labels (labels_in column (label_rows column t))) where

@@ -1,8 +1,10 @@
--- What a report counts of a fact.
+-- What a report counts of a sale, and of a fact.
 use Rattle.std.specs.Prelude.{ℕ, if◌then◌else◌, List, Option, None, option_map}
 use Rattle.wh_history.specs.declared.facts.Fact.{Fact}
+use Rattle.wh_rows.specs.KeyedSales.{keyed}
+use Rattle.wh_rows.specs.declared.keyed_sale.KeyedSale.{KeyedSale}
 use Rattle.wh_report.specs.Asked.{Asked}
-use Rattle.wh_report.specs.Joined.{fact_key}
+use Rattle.wh_report.specs.Joined.{key_by}
 use Rattle.wh_report.specs.Request.{is_asked_of}
 use Rattle.wh_report.specs.Summary.{Sold}
 use Rattle.wh_report.specs.Sums.{Measured}
@@ -12,12 +14,16 @@ use Rattle.wh_report.specs.declared.fact.FactFault.TheVariants as fault
 use Rattle.wh_report.specs.declared.summary.AddError.{AddError}
 use Rattle.wh_report.specs.declared.summary.AddError.TheVariants.{Memory, Full}
 
-abbrev pub measures_of : Fact → Measured
-measures_of f = record { quantity = f.quantity; amount = f.amount; cost = f.cost }
+abbrev pub measures_of : KeyedSale → Measured
+measures_of s = record { quantity = s.quantity; amount = s.amount; cost = s.cost }
 
--- a fact of the range with the label that its key leads to, where a function gives labels by keys
+-- a sale of the range with the label that its key leads to, where a function gives labels by keys
+abbrev pub counted_sale : Asked → (ℕ → Option (List ℕ)) → KeyedSale → Option Sold
+counted_sale r labels s = if is_asked_of r s.day then option_map (λ label. record { label = label; measures = measures_of s }) (labels s.key) else None
+
+-- the same of a fact, by the key that leads to a column
 abbrev pub counted : Asked → LabelColumn → (ℕ → Option (List ℕ)) → Fact → Option Sold
-counted r column labels f = if is_asked_of r f.day then option_map (λ label. record { label = label; measures = measures_of f }) (labels (fact_key column f)) else None
+counted r column labels f = counted_sale r labels (keyed (key_by column) f)
 
 -- a sale that can't be counted is a fact that no warehouse keeps
 abbrev pub fault_of : AddError → FactFault

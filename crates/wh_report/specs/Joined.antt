@@ -5,6 +5,10 @@ use Rattle.wh_policy.specs.declared.attribute.AttributeType.TheVariants.{RetainO
 use Rattle.wh_policy.specs.declared.attribute.Dim.{Dim}
 use Rattle.wh_policy.specs.declared.attribute.Dim.TheVariants.{Product, Store, Customer}
 use Rattle.wh_history.specs.declared.facts.Fact.{Fact}
+use Rattle.wh_rows.specs.KeyedSales.{key_of}
+pub use Rattle.wh_rows.specs.KeyedSales.{surrogate_in, durable_in}
+use Rattle.wh_rows.specs.declared.keyed_sale.FactKey.{FactKey}
+use Rattle.wh_rows.specs.declared.keyed_sale.FactKey.TheVariants.{Surrogate, Durable, Profile, Day}
 use Rattle.wh_rows.specs.declared.table.Table.{Table}
 use Rattle.wh_rows.specs.declared.table.Table.TheVariants as table
 use Rattle.wh_report.specs.declared.column.LabelColumn.{LabelColumn}
@@ -47,26 +51,18 @@ column_of (Attribute a) which = attribute_column a which
 column_of Month which = CalendarMonth
 column_of Holiday which = CalendarHoliday
 
--- a fact's surrogate key and durable key in a dimension
-abbrev pub surrogate_in : Dim → Fact → ℕ
-surrogate_in Product f = f.keys.product_key
-surrogate_in Store f = f.keys.store_key
-surrogate_in Customer f = f.keys.customer_key
-
-abbrev pub durable_in : Dim → Fact → ℕ
-durable_in Product f = f.product_durable
-durable_in Store f = f.store_durable
-durable_in Customer f = f.customer_durable
-
 -- the key by which a fact names the row of its label
+abbrev pub key_by : LabelColumn → FactKey
+key_by (Main dim place) = Surrogate dim
+key_by (Second dim place) = Surrogate dim
+key_by (CurrentMain dim place) = Durable dim
+key_by (FactProfile place) = Profile
+key_by (CurrentProfile place) = Durable Customer
+key_by CalendarMonth = Day
+key_by CalendarHoliday = Day
+
 abbrev pub fact_key : LabelColumn → Fact → ℕ
-fact_key (Main dim place) f = surrogate_in dim f
-fact_key (Second dim place) f = surrogate_in dim f
-fact_key (CurrentMain dim place) f = durable_in dim f
-fact_key (FactProfile place) f = f.keys.profile
-fact_key (CurrentProfile place) f = f.customer_durable
-fact_key CalendarMonth f = f.day
-fact_key CalendarHoliday f = f.day
+fact_key column f = key_of (key_by column) f
 
 -- the table that has the column
 abbrev pub table_of_dim : Dim → Table

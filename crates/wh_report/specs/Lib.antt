@@ -16,3 +16,4 @@ pub mod Dump
 pub mod Output
 pub mod Part
 pub mod Reported
+pub mod Tallied

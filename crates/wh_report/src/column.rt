@@ -1,12 +1,11 @@
 //! Where the labels of sales stand in the tables of the warehouse.
 
 ghost use Rattle.std.specs.Prelude.{◌≡◌};
-ghost use Rattle.wh_report.specs.Joined.{attribute_column, column_of, surrogate_in, durable_in, fact_key, table_of, table_of_dim};
+ghost use Rattle.wh_report.specs.Joined.{attribute_column, column_of, key_by, table_of, table_of_dim};
 
 use crate::subject::{Reading, SlotAttribute, Subject};
-use wh_history::Fact;
 use wh_policy::{AttributeType, Dim};
-use wh_rows::Table;
+use wh_rows::{FactKey, Table};
 
 /// The column that has the labels, and by it the key of a fact that leads to its row. A slot's place is counted from 0.
 #[derive(Clone, Copy, Debug, PartialEq, Eq)]
@@ -73,15 +72,15 @@ impl LabelColumn {
     }
 
     /// The key by which a fact names the row of its label.
-    pub fn key(self, fact: &Fact) -> u64
-        ensures { result ≡ fact_key self fact.now }
+    pub fn fact_key(self) -> FactKey
+        ensures { result ≡ key_by self }
     {
         match self {
-            LabelColumn::Main(dim, _) | LabelColumn::Second(dim, _) => surrogate_key(dim, fact),
-            LabelColumn::CurrentMain(dim, _) => durable_key(dim, fact),
-            LabelColumn::FactProfile(_) => fact.keys.profile,
-            LabelColumn::CurrentProfile(_) => fact.customer_durable,
-            LabelColumn::CalendarMonth | LabelColumn::CalendarHoliday => u64::from(fact.day.key()),
+            LabelColumn::Main(dim, _) | LabelColumn::Second(dim, _) => FactKey::Surrogate(dim),
+            LabelColumn::CurrentMain(dim, _) => FactKey::Durable(dim),
+            LabelColumn::FactProfile(_) => FactKey::Profile,
+            LabelColumn::CurrentProfile(_) => FactKey::Durable(Dim::Customer),
+            LabelColumn::CalendarMonth | LabelColumn::CalendarHoliday => FactKey::Day,
         }
     }
 }
@@ -94,27 +93,5 @@ fn dimension_table(dim: Dim) -> Table
         Dim::Product => Table::Product,
         Dim::Store => Table::Store,
         Dim::Customer => Table::Customer,
-    }
-}
-
-/// A fact's surrogate key in a dimension: that of the row which holds the day of sale.
-fn surrogate_key(dim: Dim, fact: &Fact) -> u64
-    ensures { result ≡ surrogate_in dim fact.now }
-{
-    match dim {
-        Dim::Product => fact.keys.product_key,
-        Dim::Store => fact.keys.store_key,
-        Dim::Customer => fact.keys.customer_key,
-    }
-}
-
-/// A fact's durable key in a dimension.
-fn durable_key(dim: Dim, fact: &Fact) -> u64
-    ensures { result ≡ durable_in dim fact.now }
-{
-    match dim {
-        Dim::Product => fact.product_durable,
-        Dim::Store => fact.store_durable,
-        Dim::Customer => fact.customer_durable,
     }
 }

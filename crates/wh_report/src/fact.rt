@@ -1,22 +1,20 @@
 //! Counting the facts of a report.
 
 ghost use Rattle.std.specs.Prelude.{◌≡◌, ◌≤◌, ◌++◌, ◌∷◌, [], List, true, None, ◌↔◌, IsSome, IfSome, OnOk, IfErr, length, filter_map};
-ghost use Rattle.wh_history.specs.declared.facts.Fact.{Fact};
-ghost use Rattle.wh_report.specs.Counting.{measures_of, counted, fault_of};
-ghost use Rattle.wh_report.specs.Joined.{fact_key};
+ghost use Rattle.wh_rows.specs.declared.keyed_sale.KeyedSale.{KeyedSale};
+ghost use Rattle.wh_report.specs.Counting.{measures_of, counted_sale, fault_of};
 ghost use Rattle.wh_report.specs.Labels.{text_of};
 ghost use Rattle.wh_report.specs.Request.{is_asked_of};
 ghost use Rattle.wh_report.specs.Summary.{summed};
 ghost use Rattle.wh_report.specs.Sums.{IsMeasured};
 ghost use Rattle.wh_report.specs.declared.fact.FactFault.TheVariants.{NoLabel, Damaged};
 
-use crate::column::LabelColumn;
 use crate::labels::Labels;
 use crate::request::Request;
 use crate::summary::{AddError, Summary};
 use crate::totals::Measures;
 use thiserror::Error;
-use wh_history::Fact;
+use wh_rows::KeyedSale;
 
 /// Why a fact wasn't counted.
 #[derive(Clone, Copy, Debug, PartialEq, Eq, Error)]
@@ -46,31 +44,30 @@ impl From<AddError> for FactFault {
 }
 
 impl Summary {
-    /// Counts a further fact, where its day is in the range that is asked for, under the label that its key leads to. After
+    /// Counts a further sale, where its day is in the range that is asked for, under the label that its key leads to. After
     /// an error the summary is of no use.
-    pub fn add_fact(
+    pub fn add_sale(
         &mut self,
         request: &Request,
-        column: LabelColumn,
         labels: &Labels,
-        fact: &Fact,
+        sale: KeyedSale,
     ) -> Result<(), FactFault>
-        // After a list of facts it is what their sales come to, with those of one more.
-        ensures sums { (facts : List Fact) → self.old ≡ summed (filter_map (counted request.now column (text_of labels.now)) facts)
-            → OnOk result (self.new ≡ summed (filter_map (counted request.now column (text_of labels.now)) (facts ++ fact.now ∷ []))) }
+        // After a list of sales it is what they come to, with one more.
+        ensures sums { (sales : List KeyedSale) → self.old ≡ summed (filter_map (counted_sale request.now (text_of labels.now)) sales)
+            → OnOk result (self.new ≡ summed (filter_map (counted_sale request.now (text_of labels.now)) (sales ++ sale ∷ []))) }
         // No sale of the range is passed over for want of a label.
-        ensures labelled { OnOk result (is_asked_of request.now fact.now.day ≡ true → IsSome (text_of labels.now (fact_key column fact.now))) }
-        ensures no_label { IfErr result (λ e. e ≡ NoLabel → (is_asked_of request.now fact.now.day ≡ true) × (text_of labels.now (fact_key column fact.now) ≡ None)) }
-        ensures damaged { (facts : List Fact) → self.old ≡ summed (filter_map (counted request.now column (text_of labels.now)) facts)
-            → IfErr result (λ e. e ≡ Damaged → IsMeasured (measures_of fact.now) → 4_294_967_295 ≤ length (filter_map (counted request.now column (text_of labels.now)) facts)) }
+        ensures labelled { OnOk result (is_asked_of request.now sale.day ≡ true → IsSome (text_of labels.now sale.key)) }
+        ensures no_label { IfErr result (λ e. e ≡ NoLabel → (is_asked_of request.now sale.day ≡ true) × (text_of labels.now sale.key ≡ None)) }
+        ensures damaged { (sales : List KeyedSale) → self.old ≡ summed (filter_map (counted_sale request.now (text_of labels.now)) sales)
+            → IfErr result (λ e. e ≡ Damaged → IsMeasured (measures_of sale) → 4_294_967_295 ≤ length (filter_map (counted_sale request.now (text_of labels.now)) sales)) }
     {
-        if !request.contains(fact.day) {
+        if !request.contains(sale.day) {
             return Ok(());
         }
-        let Some(label) = labels.get(column.key(fact)) else {
+        let Some(label) = labels.get(sale.key) else {
             return Err(FactFault::NoLabel);
         };
-        let Some(measures) = measures_of(fact) else {
+        let Some(measures) = measures_of(sale) else {
             return Err(FactFault::Damaged);
         };
         self.add(label.as_str(), measures)?;
@@ -78,16 +75,10 @@ impl Summary {
     }
 }
 
-/// A fact's measures, where they are within what a sale may have.
-fn measures_of(fact: &Fact) -> Option<Measures>
-    ensures some { IsSome result ↔ IsMeasured (measures_of fact.now) }
-    ensures value { IfSome result (λ m. m ≡ measures_of fact.now) }
+/// A sale's measures, where they are within what a sale may have.
+fn measures_of(sale: KeyedSale) -> Option<Measures>
+    ensures some { IsSome result ↔ IsMeasured (measures_of sale) }
+    ensures value { IfSome result (λ m. m ≡ measures_of sale) }
 {
-    let Fact {
-        quantity,
-        amount,
-        cost,
-        ..
-    } = fact;
-    Measures::new(*quantity, *amount, *cost)
+    Measures::new(sale.quantity, sale.amount, sale.cost)
 }

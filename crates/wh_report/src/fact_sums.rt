@@ -1,16 +1,12 @@
-//! What the facts of a warehouse come to, as they are handed out.
+//! Counting the facts of the warehouse for a report.
 
-ghost use Rattle.std.specs.Prelude.{◌≡◌, ◌++◌, ◌∷◌, [], List, OnOk, IfErr, filter_map};
+ghost use Rattle.std.specs.Prelude.{◌≡◌, [], IfErr};
 ghost use Rattle.std.specs.FinMap.{values};
-ghost use Rattle.wh_history.specs.declared.facts.Fact.{Fact};
 ghost use Rattle.wh_engine.specs.Scanned.{ReadsThrough};
 ghost use Rattle.wh_store.specs.Reads.{SaysAtRest, state_of};
-ghost use Rattle.wh_report.specs.Counting.{counted, measures_of};
 ghost use Rattle.wh_report.specs.Labels.{text_of};
-ghost use Rattle.wh_report.specs.Output.{IsOfCount, IsOfTables, of_warehouse};
-ghost use Rattle.wh_report.specs.Reported.{uncounted, IsUncounted, IsSummed};
-ghost use Rattle.wh_report.specs.Summary.{summed};
-ghost use Rattle.wh_report.specs.Sums.{IsMeasured};
+ghost use Rattle.wh_report.specs.Output.{IsOfTables, of_warehouse};
+ghost use Rattle.wh_report.specs.Reported.{IsSummed, uncounted};
 
 use crate::column::LabelColumn;
 use crate::fact::FactFault;
@@ -21,11 +17,11 @@ use crate::summary::Summary;
 use sqlite::Alter;
 use std::alloc::Global;
 use wh_engine::{Engine, Fault};
-use wh_history::Fact;
-use wh_rows::{Table, tables};
-use wh_store::Cursor;
+use wh_rows::{KeyedSale, Table};
+use wh_store::Tally;
 
-/// Why a fact isn't counted, as a fault of the report. Each stored fact has measures that a sale may have, so there are too many.
+/// Why a sale isn't counted, as a fault of the report. A row that a sale names for its label isn't there; or there are more
+/// sales than can be counted.
 fn uncounted(column: LabelColumn, fault: FactFault) -> ReportFault
     ensures { result ≡ uncounted column fault }
 {
@@ -36,23 +32,27 @@ fn uncounted(column: LabelColumn, fault: FactFault) -> ReportFault
     }
 }
 
-/// Counts a further fact.
-fn count_fact(
-    summary: &mut Summary,
-    request: &Request,
-    column: LabelColumn,
-    labels: &Labels,
-    fact: &Fact,
-) -> Result<(), ReportFault>
-    ensures sums { (facts : List Fact) → summary.old ≡ summed (filter_map (counted request.now column (text_of labels.now)) facts)
-        → OnOk result (summary.new ≡ summed (filter_map (counted request.now column (text_of labels.now)) (facts ++ fact.now ∷ []))) }
-    ensures only { IfErr result IsOfCount }
-    ensures cut { (facts : List Fact) → summary.old ≡ summed (filter_map (counted request.now column (text_of labels.now)) facts) → IsMeasured (measures_of fact.now)
-        → IfErr result (IsUncounted request.now column (text_of labels.now) facts fact.now) }
-{
-    match summary.add_fact(request, column, labels, fact) {
-        Ok(()) => Ok(()),
-        Err(fault) => Err(uncounted(column, fault)),
+/// What the sales that were counted come to by their labels, and why one wasn't: then no further one is.
+#[derive(Drop)]
+struct FactSums<'r> {
+    request: &'r Request,
+    labels: &'r Labels,
+    summary: Summary,
+    fault: Option<FactFault>,
+}
+
+impl Tally for FactSums<'_> {
+    ghost use Rattle.wh_report.specs.Tallied.{HasTallied};
+
+    ghost counts = { λ first sales now. HasTallied first sales now };
+
+    fn count(&mut self, sale: KeyedSale) {
+        if self.fault.is_some() {
+            return;
+        }
+        if let Err(fault) = self.summary.add_sale(self.request, self.labels, sale) {
+            self.fault = Some(fault);
+        }
     }
 }
 
@@ -69,13 +69,15 @@ pub(crate) fn summary_of<S: Alter>(
     ensures sums { SaysAtRest (state_of S.Store engine.old.tables) (state_of S.Store engine.new.tables) (λ t. IsSummed request.now column (text_of labels.now) (values t.fact) result) }
     ensures only { IfErr result IsOfTables }
 {
-    let mut cursor = Cursor::new(alloc);
-    let mut summary = Summary::new(alloc);
-    'facts: for _ in 0..u64::MAX {
-        match engine.next_row::<tables::Fact>(alloc, &mut cursor)? {
-            Some(fact) => count_fact(&mut summary, request, column, labels, &fact)?,
-            None => return Ok(summary),
-        }
+    let mut sums = FactSums {
+        request,
+        labels,
+        summary: Summary::new(alloc),
+        fault: None,
+    };
+    engine.tally_facts(column.fact_key(), &mut sums)?;
+    match sums.fault {
+        None => Ok(sums.summary),
+        Some(fault) => Err(uncounted(column, fault)),
     }
-    Err(ReportFault::Warehouse(Fault::Memory))
 }
