@@ -16,6 +16,6 @@ pub use tables::Tables;
 pub use wh_rows::{Cause, Limits, Table};
 pub use wh_sql::{
     CommandOf, Dimension, FACTS_AT_ONCE, Greatest, GreatestOf, Keeps, LastPolicy, MemberOf,
-    ProfileOf, Question, ReadFault, RecordsOf, RowsOf, SalesBetween, Scanned,
+    ProfileOf, Question, ReadFault, RecordsOf, RowsOf, SalesBetween, Scanned, Tally,
 };
 pub use writing::Writing;
