@@ -48,14 +48,14 @@ fn read_on<T: Keeps>(
 }
 
 /// The rows of the table that a query shows, each read as the store hands it out, with what the connection says of them.
-/// `Damaged`: only at the end of all that is shown. `Memory`: also where that are more rows than a `u64` counts.
+/// `Damaged` is answered at the end of all that is shown. `Memory`: also where there are more rows than a `u64` counts.
 pub(crate) fn rows_shown<T: Keeps, S: Alter>(
     alloc: Global,
     conn: &mut Connection<S>,
     text: &str,
     params: &[ValueRef<'_>],
 ) -> Result<Vec<T::Row>, ReadFault>
-    // It is no write that shows rows: one would be made before the first of them is read.
+    // It only reads: a write that shows rows is made before the first of them is handed out, and stands where the next is refused.
     requires { IsPlain (understood warehouse text.now) }
     ensures shows { HasCleanDisk (state S.Store conn.new) → IfOk result (λ rows. Shows T.layout text.now (bound params.now) (state S.Store conn.old) (state S.Store conn.new) rows.items) }
     ensures refused { HasCleanDisk (state S.Store conn.new) → IfErr result (FailsToShow T.layout T.name text.now (bound params.now) (state S.Store conn.old) (state S.Store conn.new)) }
