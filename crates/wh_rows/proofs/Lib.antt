@@ -28,7 +28,6 @@ pub mod Facts
 pub mod KeyedSales
 pub mod ColumnLemmas
 pub mod Exact
-pub mod ReadAll
 pub mod Orders
 pub mod Places
 pub mod Queries

@@ -19,4 +19,4 @@ pub use keyed_sale::{FactKey, KeyedSale};
 pub use limits::Limits;
 pub use rows::{ChangeRow, CommandRow, MemberRow, MetaRow, ProfileRow, TableRow};
 pub use table::Table;
-pub use tables::{StoredTable, read_all};
+pub use tables::StoredTable;

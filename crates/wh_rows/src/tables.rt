@@ -1,12 +1,10 @@
 //! The tables as types, for code that is the same for each of them.
 
-ghost use Rattle.std.specs.Prelude.{◌≡◌, ◌≢◌, map, IsTrue, IfOk, IfErr};
-ghost use Rattle.std.specs.List.{list_all};
+ghost use Rattle.std.specs.Prelude.{◌≡◌, ◌≢◌, IsTrue, IfOk, IfErr};
 ghost use Rattle.wh_day.specs.declared.error.ReadError.TheVariants.{Memory};
 ghost use Rattle.std.specs.FinMap.{FinMap};
 ghost use Rattle.wh_rows.specs.Holds.{Layout};
 ghost use Rattle.wh_rows.specs.Tables.{Tables};
-ghost use Rattle.wh_rows.specs.Raw.{HasDamage};
 
 use crate::columns::Damaged;
 use crate::key::{ChangeKey, LineKey, MemberKey};
@@ -248,22 +246,4 @@ impl StoredTable for Fact {
     fn read(alloc: Global, row: &Row) -> Result<wh_history::Fact, ReadError<Damaged>> {
         stored::read_fact(alloc, row)
     }
-}
-
-/// Each stored row as a row of the table, in their order.
-pub fn read_all<T: StoredTable>(
-    alloc: Global,
-    rows: &[Row],
-) -> Result<Vec<T::Row>, ReadError<Damaged>>
-    ensures ok { IfOk result (λ read. IsTrue (list_all T.layout.is_valid read.items) × (rows.now ≡ map T.layout.encode read.items)) }
-    ensures err { IfErr result (λ e. e ≢ Memory → HasDamage T.layout rows.now) }
-{
-    let mut read = Vec::new(alloc);
-    'rows: for row in rows {
-        match T::read(alloc, row) {
-            Ok(row) => read.push(row)?,
-            Err(error) => return Err(error),
-        }
-    }
-    Ok(read)
 }

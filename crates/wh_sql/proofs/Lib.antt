@@ -1,6 +1,9 @@
 pub mod Inside
 pub mod Writing
 pub mod Reading
+mod Plain
+mod Giving
+pub mod RowByRow
 pub mod Tallying
 mod Creating
 pub mod Worked

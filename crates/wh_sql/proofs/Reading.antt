@@ -265,6 +265,10 @@ first_found : {V : Type 0} (found : Option V) → slice_get (option_to_list foun
 first_found None = refl
 first_found (Some v) = refl
 
+pub part_is_plain : {K V : Type 0} (front : Option Front) (layout : Layout K V) (params : Row) (keep : V → Bool) (text : List ℕ) → ReadsPart front layout params keep text → IsPlain (understood warehouse text)
+part_is_plain None layout params keep text reads = reads.plain
+part_is_plain (Some front) layout params keep text reads = reads.plain
+
 module _ {K V : Type 0} {layout : Layout K V} {rows : Tables → FinMap layout.order V} {with_rows : FinMap layout.order V → Tables → Tables} (placed : IsPlaced layout rows with_rows) (old new : State) where
   -- a text that means a part of the rows that pass a test shows that part
   pub part_answered : (text : List ℕ) (params : Row) (front : Option Front) (keep : V → Bool) → ReadsPart front layout params keep text

@@ -1,23 +1,21 @@
 -- Facts are counted one after the other, as the store hands out their rows.
-use Rattle.std.proofs.Common.{◌≡◌, ◌⊎◌, ℕ, ◌≤◌, List, [], ◌∷◌, ◌++◌, map, Option, None, Some, Result, Ok, Err, IfErr, inl, inr, refl, sym, ap, subst, ◌∙◌, arith}
+use Rattle.std.proofs.Common.{◌≡◌, ◌⊎◌, ℕ, List, [], ◌∷◌, ◌++◌, map, Result, Ok, Err, IfErr, inl, inr, refl, sym, ap, subst, ◌∙◌}
 use Rattle.std.specs.Prelude.{IsTrue}
 use Rattle.std.specs.FinMap.{values}
 use Rattle.std.proofs.lemmas.List.{map-append}
 use Rattle.std.proofs.lemmas.List.Sorted.{IsPermutation-sym}
 use Rattle.sqlite_trees.specs.declared.store.Store.{Ghosts}
-use Rattle.sqlite_rules.specs.Lists.{Has}
+use Rattle.sqlite_rules.proofs.ListLemmas.{has_left, has_right}
 use Rattle.sqlite_resolve.specs.declared.compiled.Compiled.{Compiled}
-use Rattle.sqlite.specs.declared.error.Error.{Error}
+use Rattle.sqlite_schema.specs.declared.schema.Schema.{Schema}
 use Rattle.sqlite.specs.Order.{Row}
-use Rattle.sqlite.specs.Effect.{Database, RefusesToRead}
+use Rattle.sqlite.specs.Effect.{Database}
 use Rattle.sqlite.specs.Held.{Held, state}
-use Rattle.sqlite.specs.Given.{HasGiven, HasBegun, Returns, Advances, FailsToAdvance}
+use Rattle.sqlite.specs.Given.{HasGiven, HasBegun, Returns}
 use Rattle.sqlite.specs.Listing.{understood, IsSourceOf, reads_listing}
-use Rattle.sqlite.specs.State.{State, HasCleanDisk, IsStatement, IsUnchanged, Survives, Shown, CommitsShowing, FailsToQuery, FailsToShow, IsNotRun}
+use Rattle.sqlite.specs.State.{State, HasCleanDisk, IsStatement, IsUnchanged, Survives, Shown, CommitsShowing}
 use Rattle.sqlite.specs.Clock.{timed}
-use Rattle.sqlite.proofs.Callers.{EndsIn, begins_shown, given_begin, unchanged_then}
-use Rattle.sqlite.proofs.StateLemmas.{survives_weaker, survives_then}
-use Rattle.sqlite.proofs.StreamLemmas.{fails_since, given_plain}
+use Rattle.sqlite.proofs.Callers.{EndsIn, begins_shown, given_begin}
 use Rattle.wh_rows.specs.Schema.{warehouse}
 use Rattle.wh_rows.specs.Tables.{Tables, Stores}
 use Rattle.wh_rows.specs.Raw.{Stored, IsStored, HasDamage, HasDamageIn, stored_of}
@@ -26,28 +24,24 @@ use Rattle.wh_rows.specs.KeyedSales.{columns_of, keyed, keyed_sales}
 use Rattle.wh_rows.specs.declared.table.Table.TheVariants as tables
 use Rattle.wh_rows.specs.declared.keyed_sale.FactKey.{FactKey}
 use Rattle.wh_rows.specs.declared.keyed_sale.KeyedSale.{KeyedSale}
-use Rattle.wh_rows.proofs.KeyedSales.{shows_sales, returns_nothing, shows_stored_sales, shows_damage, shows_typed_sales, no_fact_damaged}
+use Rattle.wh_rows.proofs.KeyedSales.{shows_sales, shows_stored_sales, shows_damage, shows_typed_sales, no_fact_damaged}
 use Rattle.wh_rows.proofs.RawTables.{stores_stored}
 use Rattle.wh_rows.specs.Meaning.{command_of}
 use Rattle.wh_sql.specs.Reads.{ReadsOnly, NamesDamage, IsServed, IsUndamaged, IsOfDamage}
 use Rattle.wh_sql.specs.Tally.{CountsOne, ShowsNoFact, HasCounted, HasCountedStored}
 use Rattle.wh_sql.specs.declared.fault.ReadFault.{ReadFault}
 use Rattle.wh_sql.specs.declared.fault.ReadFault.TheVariants.{Memory, Damaged, Store}
+use Rattle.wh_sql.proofs.Plain.{plain_returns_nothing}
+use Rattle.wh_sql.proofs.Giving.{IsGiving, giving_begins}
 use Rattle.wh_sql.proofs.Reading.{reads_unchanged}
 
 -- since the first of the connections nothing was changed, the rows of these sales were given, and a tally came by them from one to the other
 pub record IsTallying {C S : Type 0} (Counts : C → List KeyedSale → C → Type 0) (g : Ghosts S) (text : List ℕ) (start now : Held S) (first last : C) : Type 0 where
   pub sales : List KeyedSale
-  pub given : HasCleanDisk (state g now) → HasGiven g text [] now (map columns_of sales)
-  pub same : HasCleanDisk (state g now) → IsUnchanged (state g start) (state g now)
-  pub survives : Survives (state g start) (state g now) (λ _. ⊥)
+  pub giving : IsGiving g text [] start now (map columns_of sales)
   pub counts : Counts first sales last
 
 -- ---- lists
-
-last_among : {X : Type 0} (xs tail : List X) (x : X) → Has ((xs ++ x ∷ []) ++ tail) x
-last_among [] tail x = inl refl
-last_among (y ∷ xs) tail x = inr (last_among xs tail x)
 
 -- no two sales are shown alike
 once_shown : (s t : KeyedSale) → columns_of s ≡ columns_of t → s ≡ t
@@ -68,33 +62,10 @@ all_once_shown (s ∷ ss) (t ∷ ts) same =
     let tail : map columns_of ss ≡ map columns_of ts = cc in
     λ i. once_shown s t head i ∷ all_once_shown ss ts tail i
 
--- ---- a refusal since
-
-module _ (sql : List ℕ) (params : Row) (old mid new : State) (same : IsUnchanged old mid) (counts : old.faults ≤ mid.faults) (limit : mid.step_limit ≡ old.step_limit)
-    (plain : (c : Compiled) → understood mid.now.schema sql ≡ Ok c → c.returning ≡ None) where
-  since : (c : Compiled) → IsStatement mid sql params c → IsStatement old sql params c
-  since c h = record { is = subst (λ (d : Database). understood d.schema sql ≡ Ok c) same.0.now_is h.is; whole = h.whole; given = h.given; now = h.now }
-
-  fails_to_query_since : (e : Error) → FailsToQuery sql params mid new e → FailsToQuery sql params old new e
-  unfolding FailsToQuery IsNotRun since
-  fails_to_query_since e (inl (inl h)) = inl (inl (rw (← same.0.now_is) h.0, unchanged_then old mid new same h.1))
-  fails_to_query_since e (inl (inr h)) = inl (inr (fails_since old mid new same counts e h))
-  fails_to_query_since e (inr h) =
-      let none = plain h.0 h.1.is in
-      let full = timed params h.0.formats h.1.now in
-      let it = subst (FailsToShow mid new sql h.0 full e) none h.2 in
-      inr (
-        h.0,
-        since h.0 h.1,
-        subst (FailsToShow old new sql h.0 full e) (sym none) (
-          it.0,
-          subst (λ (d : Database). IsSourceOf (reads_listing d.schema sql) d it.0) same.0.now_is it.1,
-          subst (λ l. RefusesToRead l h.0.command it.0 full e) limit it.2,
-          unchanged_then old mid new same it.3,
-        ),
-      )
-
 -- ---- what the rows are that were given
+
+pub tally_returns_nothing : (which : FactKey) (schema : Schema) → ¬ Returns (understood schema (keyed_sales which))
+tally_returns_nothing which = plain_returns_nothing warehouse (keyed_sales which) (shows_sales which).plain
 
 module _ {S : Type 0} (g : Ghosts S) (which : FactKey) (now : Held S) (is : (state g now).now.schema ≡ warehouse) where
   ends_anyhow : (c : Compiled) (db : Database) (it : IsStatement (state g now) (keyed_sales which) [] c) → IsSourceOf (reads_listing (state g now).now.schema (keyed_sales which)) (state g now).now db → EndsIn c.command db (timed [] c.formats it.now)
@@ -108,96 +79,51 @@ module _ {S : Type 0} (g : Ghosts S) (which : FactKey) (now : Held S) (is : (sta
       let same : IsUnchanged (state g now) (state g now) = (record { was_open = open_now; is_open = open_now; now_is = refl; committed_is = refl; mode = refl }, record { changes = refl; last_rowid = refl }, refl) in
       begins_shown (keyed_sales which) [] (state g now) (state g now) rows (given_begin g (keyed_sales which) [] now rows given) same ends_anyhow
 
--- what was handed out, said otherwise
-pub handed : {S : Type 0} (g : Ghosts S) (mid now : Held S) (row given : Option Row) → row ≡ given → (HasCleanDisk (state g now) → Advances g mid now given) → HasCleanDisk (state g now) → Advances g mid now row
-handed g mid now row given is advances clean = subst (Advances g mid now) (sym is) (advances clean)
-
--- ---- the query begins
-
-pub never_commits : (which : FactKey) (old new : State) → Survives old new (CommitsShowing (keyed_sales which) [] old) → Survives old new (λ _. ⊥)
-unfolding CommitsShowing
-never_commits which old new = survives_weaker old new _ _ (λ _ db h. returns_nothing which old.now.schema (subst Returns (sym h.1.is) h.2))
-
 module _ {S : Type 0} (g : Ghosts S) (which : FactKey) (start : Held S) where
-  begun : (now : Held S) → HasBegun g (keyed_sales which) [] start now → HasGiven g (keyed_sales which) [] now [] × IsUnchanged (state g start) (state g now)
-  begun now (inl h) = h
-  begun now (inr h) = absurd (returns_nothing which start.schema h.0)
+  -- ---- the query begins
 
   pub tally_begins : {C : Type 0} (Counts : C → List KeyedSale → C → Type 0) (now : Held S) (first : C) → (HasCleanDisk (state g now) → HasBegun g (keyed_sales which) [] start now)
       → Survives (state g start) (state g now) (CommitsShowing (keyed_sales which) [] (state g start)) → Counts first [] first → IsTallying Counts g (keyed_sales which) start now first first
-  tally_begins Counts now first just survives none = record {
-    sales = [];
-    given = λ clean. (begun now (just clean)).0;
-    same = λ clean. (begun now (just clean)).1;
-    survives = never_commits which (state g start) (state g now) survives;
-    counts = none;
-  }
+  tally_begins Counts now first just survives none = record { sales = []; giving = giving_begins g (keyed_sales which) [] start (tally_returns_nothing which start.schema) now just survives; counts = none }
 
   -- ---- one more row is given
 
-  module _ {C : Type 0} {Counts : C → List KeyedSale → C → Type 0} (mid : Held S) {first last : C} (it : IsTallying Counts g (keyed_sales which) start mid first last) (now : Held S) (survives : Survives (state g mid) (state g now) (λ _. ⊥)) where
-    was_clean : HasCleanDisk (state g now) → HasCleanDisk (state g mid)
-    was_clean clean = omega (arith, survives.clean, clean)
+  -- it is read, and its sale counted
+  pub tally_goes_on : {C : Type 0} {Counts : C → List KeyedSale → C → Type 0} (mid : Held S) {first last : C} (it : IsTallying Counts g (keyed_sales which) start mid first last) (now : Held S) (r : Row)
+      → IsGiving g (keyed_sales which) [] start now (map columns_of it.sales ++ r ∷ []) → (sale : KeyedSale) → r ≡ columns_of sale → (next : C) → CountsOne Counts last next sale → IsTallying Counts g (keyed_sales which) start now first next
+  tally_goes_on mid {first = first} it now r giving sale is next counts = record {
+    sales = it.sales ++ sale ∷ [];
+    giving = subst (IsGiving g (keyed_sales which) [] start now) (ap (λ r. map columns_of it.sales ++ r ∷ []) is ∙ sym (map-append columns_of it.sales (sale ∷ []))) giving;
+    counts = counts first it.sales it.counts;
+  }
 
-    pub still_survives : Survives (state g start) (state g now) (λ _. ⊥)
-    still_survives = survives_then (state g start) (state g mid) (state g now) _ _ _ (λ _ db none. none) (λ _ db none. none) it.survives survives
+  -- or it shows no fact, and then one that is stored is damaged
+  module _ (now : Held S) (sales : List KeyedSale) (r : Row) (giving : IsGiving g (keyed_sales which) [] start now (map columns_of sales ++ r ∷ [])) where
+    finds_no_fact : ShowsNoFact r → HasCleanDisk (state g now) → (stored : Stored) → IsStored stored (state g start).now → HasDamage row.fact (stored tables.Fact)
+    finds_no_fact none clean stored is =
+        let unchanged = giving.same clean in
+        let here : IsStored stored (state g now).now = subst (IsStored stored) (sym unchanged.0.now_is) is in
+        let rows = map columns_of sales ++ r ∷ [] in
+        let answer = given_shown g which now here.schema rows (giving.given clean) unchanged.0.is_open in
+        shows_damage which (state g now) (state g now) (rows ++ answer.0) answer.1 r (has_left rows answer.0 r (has_right (map columns_of sales) (r ∷ []) r (inl refl))) (none which) stored here
 
-    module _ (same : HasCleanDisk (state g now) → IsUnchanged (state g mid) (state g now)) where
-      pub still_same : HasCleanDisk (state g now) → IsUnchanged (state g start) (state g now)
-      still_same clean = unchanged_then (state g start) (state g mid) (state g now) (it.same (was_clean clean)) (same clean)
+    pub tally_damage : {A : Type 0} (result : Result A ReadFault) (fault : ReadFault) → result ≡ Err fault → (fault ≡ Memory) ⊎ ((fault ≡ Damaged tables.Fact) × ShowsNoFact r)
+        → HasCleanDisk (state g now) → (stored : Stored) → IsStored stored (state g start).now → IfErr result (IsOfDamage row.fact tables.Fact (stored tables.Fact))
+    tally_damage result fault is (inl memory) clean stored here = rw (is, memory) tt
+    tally_damage result fault is (inr damaged) clean stored here = rw (is, damaged.0) (refl, finds_no_fact damaged.1 clean stored here)
 
-      module _ (r : Row) (advances : HasCleanDisk (state g now) → Advances g mid now (Some r)) where
-        gives : HasCleanDisk (state g now) → HasGiven g (keyed_sales which) [] now (map columns_of it.sales ++ r ∷ [])
-        gives clean = advances clean (keyed_sales which) [] (map columns_of it.sales) (it.given (was_clean clean))
+  -- ---- no row is left
 
-        -- it is read, and its sale counted
-        pub tally_goes_on : (sale : KeyedSale) → r ≡ columns_of sale → (next : C) → CountsOne Counts last next sale → IsTallying Counts g (keyed_sales which) start now first next
-        tally_goes_on sale is next counts = record {
-          sales = it.sales ++ sale ∷ [];
-          given = λ clean. subst (HasGiven g (keyed_sales which) [] now) (ap (λ r. map columns_of it.sales ++ r ∷ []) is ∙ sym (map-append columns_of it.sales (sale ∷ []))) (gives clean);
-          same = still_same;
-          survives = still_survives;
-          counts = counts first it.sales it.counts;
-        }
+  module _ {C : Type 0} {Counts : C → List KeyedSale → C → Type 0} (mid : Held S) {first last : C} (it : IsTallying Counts g (keyed_sales which) start mid first last) (now : Held S)
+      (shown : HasCleanDisk (state g now) → Shown (keyed_sales which) [] (state g start) (state g now) (map columns_of it.sales)) where
+    pub tally_of_stored : HasCleanDisk (state g now) → (stored : Stored) → IsStored stored (state g start).now → HasCountedStored Counts which first last (stored tables.Fact)
+    tally_of_stored clean stored is =
+        (it.sales, IsPermutation-sym _ _ (shows_stored_sales which (state g start) (state g now) (map columns_of it.sales) (shown clean) stored is), it.counts)
 
-        -- or it shows no fact, and then one that is stored is damaged
-        finds_no_fact : ShowsNoFact r → HasCleanDisk (state g now) → (stored : Stored) → IsStored stored (state g start).now → HasDamage row.fact (stored tables.Fact)
-        finds_no_fact none clean stored is =
-            let unchanged = still_same clean in
-            let here : IsStored stored (state g now).now = subst (IsStored stored) (sym unchanged.0.now_is) is in
-            let rows = map columns_of it.sales ++ r ∷ [] in
-            let answer = given_shown g which now here.schema rows (gives clean) unchanged.0.is_open in
-            shows_damage which (state g now) (state g now) (rows ++ answer.0) answer.1 r (last_among (map columns_of it.sales) answer.0 r) (none which) stored here
-
-        pub tally_damage : {A : Type 0} (result : Result A ReadFault) (fault : ReadFault) → result ≡ Err fault → (fault ≡ Memory) ⊎ ((fault ≡ Damaged tables.Fact) × ShowsNoFact r)
-            → HasCleanDisk (state g now) → (stored : Stored) → IsStored stored (state g start).now → IfErr result (IsOfDamage row.fact tables.Fact (stored tables.Fact))
-        tally_damage result fault is (inl memory) clean stored here = rw (is, memory) tt
-        tally_damage result fault is (inr damaged) clean stored here = rw (is, damaged.0) (refl, finds_no_fact damaged.1 clean stored here)
-
-    -- ---- no row is left
-
-    module _ (advances : HasCleanDisk (state g now) → Advances g mid now None) where
-      shown_all : HasCleanDisk (state g now) → Shown (keyed_sales which) [] (state g mid) (state g now) (map columns_of it.sales)
-      shown_all clean = advances clean (keyed_sales which) [] (map columns_of it.sales) (it.given (was_clean clean))
-
-      pub tally_of_stored : HasCleanDisk (state g now) → (stored : Stored) → IsStored stored (state g start).now → HasCountedStored Counts which first last (stored tables.Fact)
-      tally_of_stored clean stored is =
-          let here = subst (IsStored stored) (sym (it.same (was_clean clean)).0.now_is) is in
-          (it.sales, IsPermutation-sym _ _ (shows_stored_sales which (state g mid) (state g now) (map columns_of it.sales) (shown_all clean) stored here), it.counts)
-
-      pub tally_of_tables : HasCleanDisk (state g now) → (t : Tables) → Stores (state g start).now t → HasCounted Counts which first last (values t.fact)
-      tally_of_tables clean t is =
-          let here = subst (λ db. Stores db t) (sym (it.same (was_clean clean)).0.now_is) is in
-          let found = shows_typed_sales which (state g mid) (state g now) (map columns_of it.sales) (shown_all clean) t here in
-          (found.0, found.1, subst (λ sales. Counts first sales last) (all_once_shown it.sales (map (keyed which) found.0) found.2) it.counts)
-
-    -- ---- the store refuses the next row
-
-    pub tally_refused : (e : Error) → (HasCleanDisk (state g now) → FailsToAdvance g mid now e) → HasCleanDisk (state g now) → FailsToQuery (keyed_sales which) [] (state g start) (state g now) e
-    tally_refused e fails clean =
-        let given = it.given (was_clean clean) in
-        fails_to_query_since (keyed_sales which) [] (state g start) (state g mid) (state g now) (it.same (was_clean clean)) it.survives.counts it.survives.limit
-        (given_plain g (keyed_sales which) [] mid (map columns_of it.sales) given) e (fails clean (keyed_sales which) [] (map columns_of it.sales) given)
+    pub tally_of_tables : HasCleanDisk (state g now) → (t : Tables) → Stores (state g start).now t → HasCounted Counts which first last (values t.fact)
+    tally_of_tables clean t is =
+        let found = shows_typed_sales which (state g start) (state g now) (map columns_of it.sales) (shown clean) t is in
+        (found.0, found.1, subst (λ sales. Counts first sales last) (all_once_shown it.sales (map (keyed which) found.0) found.2) it.counts)
 
 -- ---- what the call says
 

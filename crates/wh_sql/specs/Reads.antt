@@ -1,5 +1,6 @@
 -- What a call that reads the tables leaves, and what it says of them.
-use Rattle.std.specs.Prelude.{◌≡◌, ◌⊎◌, ℕ, ◌≤◌, List, [], Option, None, Some, Result, IsTrue, IfErr, map, ⊤}
+use Rattle.std.specs.Prelude.{◌≡◌, ◌⊎◌, ℕ, ◌≤◌, List, [], Vec, Option, None, Some, Result, IsTrue, IfErr, map, ⊤}
+use Rattle.std.specs.declared.alloc.Global.{Global}
 use Rattle.std.specs.List.{list_all}
 use Rattle.sqlite.specs.Order.{Row}
 use Rattle.sqlite.specs.State.{State, Shown, HasCleanDisk}
@@ -76,6 +77,11 @@ SaysOfStored old new fact = HasCleanDisk new → (stored : Stored) → IsStored 
 -- the query, asked with these parameters, shows these rows, all of values of their types
 abbrev pub Shows : {K V : Type 0} → Layout K V → List ℕ → Row → State → State → List V → Type 0
 Shows layout text params old new rows = IsTrue (list_all layout.is_valid rows) × Shown text params old new (map layout.encode rows)
+
+-- these rows, that a query shows, are read as rows of the table, all of values of their types; or one of them is damaged
+abbrev pub AreRead : {K V : Type 0} → Layout K V → List Row → Option (Vec V Global) → Type 0
+AreRead layout rows (Some read) = IsTrue (list_all layout.is_valid read.items) × (rows ≡ map layout.encode read.items)
+AreRead layout rows None = HasDamage layout rows
 
 -- what no parameter was made for, before the query
 abbrev pub unasked : Cause → ReadFault

@@ -1,9 +1,10 @@
 //! Reading rows of the tables, in the order of their keys.
 
-ghost use Rattle.std.specs.Prelude.{◌≡◌, ◌≢◌, ◌≤◌, ℕ, filter, length, Err, [], ◌∷◌, Some, MatchResult, IsTrue, IfOk, IfErr};
+ghost use Rattle.std.specs.Prelude.{◌≡◌, ◌≢◌, ◌≤◌, ℕ, List, filter, length, Err, [], ◌∷◌, ◌++◌, Some, MatchResult, IsTrue, IfOk, IfErr};
 ghost use Rattle.std.specs.FinMap.{values, get, len};
 ghost use Rattle.sqlite_sql.specs.Aggregate.{count as number_of};
 ghost use Rattle.sqlite.specs.Held.{state};
+ghost use Rattle.sqlite.specs.Order.{Row as Columns};
 ghost use Rattle.sqlite.specs.Values.{bound};
 ghost use Rattle.sqlite.specs.State.{HasCleanDisk, Survives, CommitsShowing};
 ghost use Rattle.wh_rows.specs.Tables.{Tables};
@@ -12,8 +13,8 @@ ghost use Rattle.wh_rows.specs.Schema.{warehouse};
 ghost use Rattle.sqlite.specs.Listing.{understood};
 ghost use Rattle.sqlite.proofs.Callers.{IsPlain};
 ghost use Rattle.wh_rows.specs.Raw.{Stored, RestsOn, AreRows, IsLastOf};
-ghost use Rattle.wh_sql.specs.Reads.{ReadsOnly, NamesDamage, SaysOfTables, SaysOfStored, IsUndamaged, IsOfDamage, Shows, FailsToShow, FailsToCount};
-ghost use Rattle.wh_sql.specs.declared.fault.ReadFault.TheVariants.{Damaged, Store};
+ghost use Rattle.wh_sql.specs.Reads.{ReadsOnly, NamesDamage, SaysOfTables, SaysOfStored, IsUndamaged, IsOfDamage, Shows, FailsToShow, FailsToCount, AreRead};
+ghost use Rattle.wh_sql.specs.declared.fault.ReadFault.TheVariants.{Memory, Damaged, Store};
 ghost use Rattle.wh_rows.specs.declared.cause.Cause.TheVariants.{Size};
 
 use crate::fault::ReadFault;
@@ -22,15 +23,40 @@ use sqlite::types::ValueRef;
 use sqlite::{Alter, Connection, Row};
 use std::alloc::Global;
 use wh_day::ReadError;
-use wh_rows::{Cause, Table, read_all};
+use wh_rows::{Cause, Table};
 
-/// The rows of the table that a query shows, with what the connection says of it.
+/// The rows that were read, and one more behind them. `None`: one of these is out of its type.
+fn read_on<T: Keeps>(
+    alloc: Global,
+    read: Option<Vec<T::Row>>,
+    row: &Row,
+) -> Result<Option<Vec<T::Row>>, ReadFault>
+    ensures read { (rows : List Columns) → AreRead T.layout rows read → IfOk result (AreRead T.layout (rows ++ row.now ∷ [])) }
+    ensures memory { IfErr result (λ fault. fault ≡ Memory) }
+{
+    let Some(mut rows) = read else {
+        return Ok(None);
+    };
+    match T::read(alloc, row) {
+        Ok(row) => {
+            rows.push(row)?;
+            Ok(Some(rows))
+        }
+        Err(ReadError::Memory) => Err(ReadFault::Memory),
+        Err(ReadError::Fault(_)) => Ok(None),
+    }
+}
+
+/// The rows of the table that a query shows, each read as the store hands it out, with what the connection says of them.
+/// `Damaged` is answered at the end of all that is shown. `Memory`: also where there are more rows than a `u64` counts.
 pub(crate) fn rows_shown<T: Keeps, S: Alter>(
     alloc: Global,
     conn: &mut Connection<S>,
     text: &str,
     params: &[ValueRef<'_>],
 ) -> Result<Vec<T::Row>, ReadFault>
+    // It only reads: a write that shows rows is made before the first of them is handed out, and stands where the next is refused.
+    requires { IsPlain (understood warehouse text.now) }
     ensures shows { HasCleanDisk (state S.Store conn.new) → IfOk result (λ rows. Shows T.layout text.now (bound params.now) (state S.Store conn.old) (state S.Store conn.new) rows.items) }
     ensures refused { HasCleanDisk (state S.Store conn.new) → IfErr result (FailsToShow T.layout T.name text.now (bound params.now) (state S.Store conn.old) (state S.Store conn.new)) }
     // Nothing is out of its type where that is known of what is stored, and the table that is named as damaged is one where that is.
@@ -38,15 +64,21 @@ pub(crate) fn rows_shown<T: Keeps, S: Alter>(
         → (HasCleanDisk (state S.Store conn.new) → (stored : Stored) → RestsOn stored (state S.Store conn.old) → IfErr result (NamesDamage stored)) → ReadsOnly (state S.Store conn.old) (state S.Store conn.new) result }
     ensures survives { Survives (state S.Store conn.old) (state S.Store conn.new) (CommitsShowing text.now (bound params.now) (state S.Store conn.old)) }
 {
-    let shown = match conn.query_all(text, params) {
+    let mut shown = match conn.query(text, params) {
         Ok(shown) => shown,
         Err(error) => return Err(ReadFault::Store(Cause::from(error))),
     };
-    match read_all::<T>(alloc, &shown) {
-        Ok(rows) => Ok(rows),
-        Err(ReadError::Memory) => Err(ReadFault::Memory),
-        Err(ReadError::Fault(_)) => Err(ReadFault::Damaged(T::table())),
+    let mut read = Some(Vec::new(alloc));
+    'rows: for _ in 0..u64::MAX {
+        if let Err(error) = shown.advance() {
+            return Err(ReadFault::Store(Cause::from(error)));
+        }
+        match shown.get() {
+            Some(row) => read = read_on::<T>(alloc, read, row)?,
+            None => return read.ok_or(ReadFault::Damaged(T::table())),
+        }
     }
+    Err(ReadFault::Memory)
 }
 
 /// All rows of the table.

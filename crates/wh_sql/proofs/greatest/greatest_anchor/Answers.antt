@@ -23,6 +23,9 @@ asked : (dim : Dim) (old new : State)
     → IsAnswered row.change texts.greatest_anchor (Int (pos (dim_number dim)) ∷ []) old new (λ t. IsLedByGreatest (λ r. r.anchor) (filter (λ r. eq_by_cmp nat_cmp (dim_number dim) (dim_number r.dim)) (values t.change)))
 asked dim old new = greatest_answered change old new (λ r. eq_by_cmp nat_cmp (dim_number dim) (dim_number r.dim)) (λ r. r.anchor) (greatest_anchor dim)
 
+pub rows_shown-requires : goal.rows_shown-requires
+rows_shown-requires g c = (greatest_anchor c.args.dim).plain
+
 pub returns-in_err-rows-clause-sound : goal.returns-in_err-rows-clause-sound
 returns-in_err-rows-clause-sound g c clean t stored =
     let p = err_from_is_err_and c.from_residual.result c.from_residual.ensures.1 in

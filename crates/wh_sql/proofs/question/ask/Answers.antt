@@ -2,8 +2,14 @@
 use Rattle.std.proofs.Common.{Err, ap, ◌∙◌}
 use Rattle.std.proofs.lemmas.Result.{err_from_is_err_and}
 use Rattle.sqlite.specs.Held.{state}
-use Rattle.wh_sql.proofs.Reading.{part_answered, rows_are, undamaged, part_named, nothing_asked, asked_stored, asked_damage}
+use Rattle.wh_sql.proofs.Reading.{part_is_plain, part_answered, rows_are, undamaged, part_named, nothing_asked, asked_stored, asked_damage}
 use Rattle.wh_sql.proofs.question.ask.Goals as goal
+
+pub rows_shown-requires : goal.rows_shown-requires
+rows_shown-requires g c =
+    let q = g.Q.Question in
+    let of = c.args.question.now in
+    rw c.text.ensures (part_is_plain q.front g.T.StoredTable.layout (q.bind of) (q.keep of) (q.means of) (g.met.Q.Question.reads of))
 
 pub returns-clause-rows : goal.returns-clause-rows
 returns-clause-rows g c clean t stored =

@@ -5,6 +5,9 @@ use Rattle.wh_rows.proofs.Edits.{filter_all}
 use Rattle.wh_sql.proofs.Reading.{all_answered, rows_are, undamaged, part_named, reads_stored, finds_damage}
 use Rattle.wh_sql.proofs.read.all.Goals as goal
 
+pub rows_shown-requires : goal.rows_shown-requires
+rows_shown-requires g c = rw c.statements.ensures.2 g.met.T.Keeps.lists.plain
+
 pub returns-clause-rows : goal.returns-clause-rows
 returns-clause-rows g c clean t stored =
     let asked = all_answered g.met.T.Keeps.placed (state g.S.Store c.args.conn.now) (state g.S.Store c.rows_shown.new.conn) g.met.T.Keeps.lists in

@@ -14,6 +14,9 @@ returns-in_err-values-clause-reads g c =
     let p = err_from_is_err_and c.from_residual.result c.from_residual.ensures.1 in
     nothing_asked (state g.S.Store c.args.conn.now) c.in_err-values.field-0.0 c.from_residual.result (p.1 ∙ ap Err p.2)
 
+pub rows_shown-requires : goal.rows_shown-requires
+rows_shown-requires g c = rw c.statements.ensures.3 (g.met.T.Keeps.finds c.args.key.now).plain
+
 pub returns-in_err-rows-clause-sound : goal.returns-in_err-rows-clause-sound
 returns-in_err-rows-clause-sound g c clean t stored =
     let asked = key_answered g.met.T.Keeps.placed (state g.S.Store c.args.conn.now) (state g.S.Store c.rows_shown.new.conn) c.args.key.now (g.met.T.Keeps.finds c.args.key.now) in
