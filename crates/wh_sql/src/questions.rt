@@ -205,7 +205,7 @@ impl<'q> Question<tables::Member> for MemberOf<'q> {
     ghost reads_stored = { λ q. of_natural_stored q.dim q.natural.now };
 }
 
-/// The facts of one member of a dimension from one day to another, both with them, in the order of their keys.
+/// The facts of one member of a dimension from one day to another, these two included, in the order of their keys.
 #[derive(Clone, Copy, Debug, PartialEq, Eq)]
 pub struct SalesBetween {
     pub dim: Dim,
