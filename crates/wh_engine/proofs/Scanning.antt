@@ -1,11 +1,12 @@
 -- What a scan leaves of a warehouse, and its faults.
-use Rattle.std.proofs.Common.{◌≡◌, Bool, true, false, ◌||◌, List, Result, Ok, Err, Some, IfErr, IsTrue, refl, sym, ap, inl}
+use Rattle.std.proofs.Common.{◌≡◌, Bool, true, false, ◌||◌, List, Result, Ok, Err, Some, IfErr, IsTrue, refl, sym, ap, subst, inl}
+use Rattle.std.specs.Prelude.{IsErr, IsErrAnd}
 use Rattle.sqlite.specs.State.{State}
 use Rattle.wh_history.specs.Accepted.{Accepted}
 use Rattle.wh_history.specs.Tables.{Limits}
 use Rattle.wh_rows.specs.AtRest.{IsAtRest, Leaves}
 use Rattle.wh_rows.specs.Tables.{Tables}
-use Rattle.wh_store.specs.Reads.{SparesRows}
+use Rattle.wh_store.specs.Reads.{SparesRows, SparesStore}
 use Rattle.wh_sql.specs.declared.fault.ReadFault.{ReadFault}
 use Rattle.wh_sql.specs.declared.fault.ReadFault.TheVariants as reading
 use Rattle.wh_engine.specs.Answered.{IsReady}
@@ -21,6 +22,13 @@ pub wanting : (fault : ReadFault) → SparesRows fault → IsWanting (of_reading
 wanting reading.Memory spares = tt
 wanting (reading.Damaged table) spares = absurd spares
 wanting (reading.Store cause) spares = tt
+
+-- what spares the store as the engine tells it does as it was read
+pub still_served : {A : Type 0} (result : Result A Fault) (why : ReadFault) → IsErr result × IsErrAnd result (λ fault. fault ≡ of_reading why) → IsServed result → SparesStore why
+still_served (Ok x) why came served = let err = came.0 in absurd cc
+still_served (Err fault) reading.Memory came served = tt
+still_served (Err fault) (reading.Damaged table) came served = tt
+still_served {A} (Err fault) (reading.Store cause) came served = subst (λ (f : Fault). IsServed {A = A} (Err f)) came.1 served
 
 -- ---- a row that was handed out, or refused
 

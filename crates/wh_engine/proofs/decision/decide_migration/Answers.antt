@@ -1,17 +1,11 @@
-use Rattle.std.proofs.Common.{◌≡◌, ◌∙◌, ℕ, sym, ap, subst, refl, Result, Ok, Err, Some}
-use Rattle.std.specs.Prelude.{IsErr, IsErrAnd}
+use Rattle.std.proofs.Common.{◌≡◌, ◌∙◌, ℕ, sym, ap, refl, Ok, Some}
 use Rattle.wh_policy.proofs.FileLaws.{policies_are_sound}
 use Rattle.wh_history.specs.Accepted.{Governs}
-use Rattle.wh_sql.specs.declared.fault.ReadFault.{ReadFault}
-use Rattle.wh_sql.specs.declared.fault.ReadFault.TheVariants as reading
-use Rattle.wh_store.specs.Reads.{SparesStore}
 use Rattle.wh_engine.specs.Admission.{current_policy, accepted_as, answer, number_for, policy_told}
 use Rattle.wh_engine.specs.Decided.{Decides}
-use Rattle.wh_engine.specs.Faults.{of_reading, IsServed}
-use Rattle.wh_engine.specs.declared.decision.Decision.{Decision}
-use Rattle.wh_engine.specs.declared.fault.Fault.{Fault}
 use Rattle.wh_engine.proofs.Decisions.{judged_ok, judged_err, number_refused, policy_content, command_accepted, list_accepted, own_row, policy_in_force}
 use Rattle.wh_engine.proofs.Migrated.{policy_taken}
+use Rattle.wh_engine.proofs.Scanning.{still_served}
 use Rattle.wh_engine.proofs.decision.decide_migration.Goals as goal
 
 pub returns-clause-decided : goal.returns-clause-decided
@@ -46,12 +40,6 @@ returns-in-Err-clause-decided g c clean commands t held rests kind good new =
     let judged = c.in-Err.ensures.number clean commands t held.are held.accepted rests content refl refl in
     judged_err (λ (number next : ℕ). number ≡ next) (Decides commands command) c.in-Err.fault (number_for limits commands content) (answer limits commands command) judged
     (λ why none. number_refused limits commands command good new content why read none)
-
-still_served : {A : Type 0} (result : Result A Fault) (why : ReadFault) → IsErr result × IsErrAnd result (λ fault. fault ≡ of_reading why) → IsServed result → SparesStore why
-still_served (Ok x) why came served = let err = came.0 in absurd cc
-still_served (Err fault) reading.Memory came served = tt
-still_served (Err fault) (reading.Damaged table) came served = tt
-still_served (Err fault) (reading.Store cause) came served = subst (λ (f : Fault). IsServed {A = Decision} (Err f)) came.1 served
 
 pub returns-in_err-edits-clause-reads : goal.returns-in_err-edits-clause-reads
 returns-in_err-edits-clause-reads g c =
