@@ -1,6 +1,6 @@
 -- The text that shows all facts by one of their keys, and what it shows of the facts that are stored.
-use Rattle.std.proofs.Common.{◌≡◌, ◌≢◌, ℕ, ◌+◌, pos, negsuc, true, false, ◌&&◌, ◌==◌, Option, None, IsSome, List, [], ◌∷◌, map, length, codes, filter, Ok, Err, Result, IfOk, IfErr, refl, sym, ap, ap₂, subst, subst₂, ◌∙◌}
-use Rattle.std.specs.Prelude.{IsTrue, if◌then◌else◌}
+use Rattle.std.proofs.Common.{◌≡◌, ◌≢◌, ℕ, ◌+◌, pos, negsuc, true, ◌&&◌, ◌==◌, List, [], ◌∷◌, map, length, codes, filter, Ok, Err, Result, IfOk, IfErr, refl, sym, ap, ap₂, subst, subst₂, ◌∙◌}
+use Rattle.std.specs.Prelude.{IsTrue}
 use Rattle.std.specs.FinMap.{values}
 use Rattle.std.specs.List.Sorted.{IsPermutation}
 use Rattle.std.proofs.lemmas.Bool.{and_parts, eqb-true}
@@ -8,13 +8,6 @@ use Rattle.std.proofs.lemmas.List.Sorted.{IsPermutation-map, IsPermutation-refl,
 use Rattle.sqlite_trees.proofs.ListLemmas.{pull_back}
 use Rattle.sqlite_rules.specs.Lists.{Has}
 use Rattle.sqlite_rules.proofs.ProbeLemmas.{has_mapped}
-use Rattle.sqlite_schema.specs.declared.command.Command.{Command}
-use Rattle.sqlite_schema.specs.declared.command.Returning.{Returning}
-use Rattle.sqlite_schema.specs.declared.schema.Schema.{Schema}
-use Rattle.sqlite_resolve.specs.Compile.{first, returning, meaning, planned, with_command, compiled}
-use Rattle.sqlite_resolve.specs.Lowering.{Checked, and_then}
-use Rattle.sqlite_resolve.specs.declared.compiled.Compiled.{Compiled}
-use Rattle.sqlite_resolve.specs.declared.error.CompileError.TheVariants.{NoSuchTable}
 use Rattle.sqlite_tied.specs.Compute.{everything}
 use Rattle.sqlite_value.specs.declared.value.Value.{Value}
 use Rattle.sqlite_value.specs.declared.value.Value.TheVariants.{Null, Int, Real, Text, Blob}
@@ -22,8 +15,7 @@ use Rattle.sqlite.specs.Order.{Row, column}
 use Rattle.sqlite.specs.Query.{Output, output}
 use Rattle.sqlite.specs.Term.{Term, col}
 use Rattle.sqlite.specs.Effect.{Database}
-use Rattle.sqlite.specs.Given.{Returns}
-use Rattle.sqlite.specs.Listing.{understood, reads_listing, listing_schema, if_select, is_select}
+use Rattle.sqlite.specs.Listing.{understood}
 use Rattle.sqlite.specs.State.{State, Shown}
 use Rattle.sqlite.proofs.Callers.{reads_as}
 use Rattle.wh_day.specs.Day.{is_day}
@@ -176,43 +168,3 @@ module _ (which : FactKey) (old new : State) (answer : List Row) (shown : Shown 
 -- none of the facts of tables is damaged
 pub no_fact_damaged : (db : Database) (t : Tables) → Stores db t → ¬ HasDamage row.fact (stored_of t tables.Fact)
 no_fact_damaged db t is = no_damage row.fact (stored_of t tables.Fact) (values t.fact) (holds_rows row.fact line_cmp_total db.trees t.fact is.fact).valid (IsPermutation-refl _)
-
--- ---- whatever the schema is, the text is a query
-
-shows_nothing : (made : Checked Command) (formats : List (List ℕ)) (compile : List (List ℕ) × (Command × Option Returning) → Compiled) → ((plan : List (List ℕ) × (Command × Option Returning)) → (compile plan).returning ≡ plan.1.1)
-    → ¬ Returns (and_then (and_then (and_then made (λ c. Ok (c, None))) (λ found. Ok (formats, found))) (λ plan. Ok (compile plan)))
-shows_nothing (Ok c) formats compile keeps some = absurd (let none = subst (λ (shown : Option Returning). IsSome shown) (keeps (formats, (c, None))) some in cc)
-shows_nothing (Err e) formats compile keeps some = some
-
--- the text has no RETURNING
-abbrev HasNone : Schema → List ℕ → Type 0
-HasNone schema text = IfOk (first text) (λ p. (base : ℕ) → returning schema base p.statement ≡ Ok None)
-
-compiled_returns_nothing : (schema : Schema) (text : List ℕ) → HasNone schema text → ¬ Returns (compiled schema text)
-unfolding compiled planned meaning
-compiled_returns_nothing schema text = elim (first text) as (λ r. IfOk r (λ p. (base : ℕ) → returning schema base p.statement ≡ Ok None) → ¬ Returns (and_then r (λ p. and_then (planned schema p) (λ plan. Ok (with_command p plan))))) [
-  | Ok p ↦ λ none some. shows_nothing _ _ (with_command p) (λ plan. refl) (rw none at some)
-  | Err e ↦ λ none some. some
-]
-
-if_select_returns : (r : Checked Compiled) → Returns (if_select r) → Returns r
-if_select_returns (Ok c) = elim (is_select c.command) as (λ b. Returns (if b then Ok c else Err NoSuchTable) → IsSome c.returning) [ true ↦ λ some. some | false ↦ λ some. absurd some ]
-if_select_returns (Err e) = λ some. some
-
-understood_returns_nothing : (schema : Schema) (text : List ℕ) → ((s : Schema) → HasNone s text) → ¬ Returns (understood schema text)
-unfolding understood
-understood_returns_nothing schema text none = elim (reads_listing schema text) as (λ b. ¬ Returns (if b then if_select (compiled listing_schema text) else compiled schema text)) [
-  | true ↦ λ some. compiled_returns_nothing listing_schema text (none listing_schema) (if_select_returns _ some)
-  | false ↦ compiled_returns_nothing schema text (none schema)
-]
-
-pub returns_nothing : (which : FactKey) (schema : Schema) → ¬ Returns (understood schema (keyed_sales which))
-unfolding everything
-returns_nothing (Surrogate Product) schema = understood_returns_nothing schema (keyed_sales (Surrogate Product)) (λ s base. refl)
-returns_nothing (Surrogate Store) schema = understood_returns_nothing schema (keyed_sales (Surrogate Store)) (λ s base. refl)
-returns_nothing (Surrogate Customer) schema = understood_returns_nothing schema (keyed_sales (Surrogate Customer)) (λ s base. refl)
-returns_nothing (Durable Product) schema = understood_returns_nothing schema (keyed_sales (Durable Product)) (λ s base. refl)
-returns_nothing (Durable Store) schema = understood_returns_nothing schema (keyed_sales (Durable Store)) (λ s base. refl)
-returns_nothing (Durable Customer) schema = understood_returns_nothing schema (keyed_sales (Durable Customer)) (λ s base. refl)
-returns_nothing Profile schema = understood_returns_nothing schema (keyed_sales Profile) (λ s base. refl)
-returns_nothing Day schema = understood_returns_nothing schema (keyed_sales Day) (λ s base. refl)
