@@ -1313,6 +1313,19 @@ run report w store.town is 2024-01-01 2024-12-31
 = refused: G1 no attribute
 = status 2
 sql w UPDATE store SET to_day = 99991231
+# A report reads of a fact its day, one key and the measures, and meets no damage elsewhere.
+sql w UPDATE fact SET line = 0 WHERE line = 1
+run dump w fact
+= ticket,line,day,store_key,product_key,customer_key,store_durable,product_durable,customer_durable,profile,quantity,amount,cost
+= failed: E7 damaged, fact
+= status 3
+run report w store.city is 2024-01-01 2024-12-31
+= report store.city is 2024-01-01 2024-12-31
+=    lines   quantity         amount           cost         margin  label
+=        4          5           7.95           4.51           3.44  Bern
+=        4          5           7.95           4.51           3.44  total
+= status 0
+sql w UPDATE fact SET line = 1 WHERE line = 0
 sql w UPDATE fact SET quantity = 'two'
 run dump w fact
 = ticket,line,day,store_key,product_key,customer_key,store_durable,product_durable,customer_durable,profile,quantity,amount,cost
