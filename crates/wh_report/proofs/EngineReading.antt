@@ -6,7 +6,7 @@ use Rattle.wh_engine.specs.Scanned.{ReadsThrough, noting}
 use Rattle.wh_engine.specs.declared.fault.Fault.{Fault}
 use Rattle.wh_engine.specs.declared.fault.Fault.TheVariants as faults
 use Rattle.wh_engine.specs.declared.session.Session.{Session}
-use Rattle.wh_report.specs.Output.{IsOfNoTable, IsOfCount, of_warehouse}
+use Rattle.wh_report.specs.Output.{IsOfNoTable, of_warehouse}
 use Rattle.wh_report.specs.declared.output.ReportFault.{ReportFault}
 use Rattle.wh_report.specs.declared.output.ReportFault.TheVariants as report
 
@@ -73,17 +73,6 @@ ended r s old new x (Err (report.Warehouse (faults.Damaged table))) none reads =
 ended r s old new x (Err (report.Warehouse (faults.Store cause))) none reads = absurd none
 ended r s old new x (Err (report.Warehouse faults.Reopen)) none reads = absurd none
 ended r s old new x (Err (report.Inconsistent table)) none reads = absurd none
-
--- or the tables don't fit together
-pub counted_out : {A B : Type 0} (r s : Session) (old new : State) (x : A) (result : Result B ReportFault) → IfErr result IsOfCount → ReadsThrough r s old new (Ok x) → ReadsThrough r s old new (of_warehouse result)
-counted_out r s old new x (Ok done) none reads = answered r s old new x tt reads
-counted_out r s old new x (Err report.Write) none reads = absurd none
-counted_out r s old new x (Err (report.Warehouse faults.Memory)) none reads = out_of_memory r s old new x reads
-counted_out r s old new x (Err (report.Warehouse (faults.Refused why))) none reads = absurd none
-counted_out r s old new x (Err (report.Warehouse (faults.Damaged table))) none reads = absurd none
-counted_out r s old new x (Err (report.Warehouse (faults.Store cause))) none reads = absurd none
-counted_out r s old new x (Err (report.Warehouse faults.Reopen)) none reads = absurd none
-counted_out r s old new x (Err (report.Inconsistent table)) none reads = answered r s old new x tt reads
 
 -- a row was handed out
 pub handed_out : {A : Type 0} (r s t : Session) (old mid new : State) (x : Unit {0}) (row : A) → ReadsThrough r s old mid (Ok x) → ReadsThrough s t mid new (Ok row) → ReadsThrough {A = Unit {0}} r t old new (Ok tt)

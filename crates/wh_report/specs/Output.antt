@@ -45,13 +45,6 @@ IsOfTables Write = ⊥
 IsOfTables (Warehouse fault) = ⊤
 IsOfTables (Inconsistent table) = ⊤
 
--- memory ran out, or the tables don't fit together
-abbrev pub IsOfCount : ReportFault → Type 0
-IsOfCount Write = ⊥
-IsOfCount (Warehouse Memory) = ⊤
-IsOfCount (Warehouse fault) = ⊥
-IsOfCount (Inconsistent table) = ⊤
-
 -- the answer as that of the warehouse, which answered where the writer failed or its tables don't fit together
 abbrev pub of_warehouse : {A : Type 0} → Result A ReportFault → Result (Unit {0}) Fault
 of_warehouse (Ok done) = Ok tt

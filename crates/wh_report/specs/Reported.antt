@@ -86,11 +86,6 @@ IsSummed r column labels facts (Ok sums) = sums ≡ summed (filter_map (counted 
 IsSummed r column labels facts (Err (Inconsistent found)) = IsInconsistent r column labels facts found
 IsSummed r column labels facts (Err fault) = ⊤
 
--- why a fact isn't counted after others: its key leads to no label, or they are as many as can be counted
-abbrev pub IsUncounted : Asked → LabelColumn → (ℕ → Option (List ℕ)) → List Fact → Fact → ReportFault → Type 0
-IsUncounted r column labels before f (Inconsistent found) = ((found ≡ table_of column) × (is_asked_of r f.day ≡ true) × (labels (fact_key column f) ≡ None)) ⊎ ((found ≡ table.Fact) × (4_294_967_295 ≤ length before))
-IsUncounted r column labels before f fault = ⊤
-
 -- why a fact isn't counted, as a fault of the report
 abbrev pub uncounted : LabelColumn → FactFault → ReportFault
 uncounted column uncountable.Memory = Warehouse faults.Memory
