@@ -18,6 +18,7 @@ pub mod Shown
 pub mod Walks
 pub mod Since
 pub mod Until
+pub mod MovingDays
 pub mod Worked
 pub mod Touching
 pub mod Lasts

@@ -6,6 +6,7 @@ pub mod Rows
 pub mod Rendering
 pub mod Shapes
 pub mod Facts
+pub mod MovingDays
 pub mod Plan
 pub mod Accepted
 pub mod Tables

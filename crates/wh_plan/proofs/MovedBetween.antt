@@ -6,7 +6,7 @@ use Rattle.std.specs.List.{AllByRecursion, list_any}
 use Rattle.std.specs.Ordering.{eq_by_cmp, is_ge, is_le, nat_cmp, MatchOrdering}
 use Rattle.std.specs.Cmp.{ranks}
 use Rattle.std.proofs.Math.Seq.{drop-append_seam}
-use Rattle.std.proofs.lemmas.Bool.{cases_lt, eq-eqb, eqb-true, lt-ltb, le-ltb}
+use Rattle.std.proofs.lemmas.Bool.{cases_lt, eq-eqb, eqb-true}
 use Rattle.std.proofs.lemmas.Bool.Decides.{nat_tests}
 use Rattle.std.proofs.lemmas.List.{map-append}
 use Rattle.std.proofs.lemmas.List.Elements.{filter-append}
@@ -23,6 +23,7 @@ use Rattle.wh_history.specs.Dated.{at, dated}
 use Rattle.wh_history.specs.Facts.{key_in, rekeyed_to}
 use Rattle.wh_history.specs.Shapes.{RenderedMember, shape_after, rendered_in}
 use Rattle.wh_history.specs.Laws.{ChangesHaveDays, governs}
+use Rattle.wh_history.specs.MovingDays.{earliest, latest_day, moves_since, moves_until, before_record, keeps_row}
 use Rattle.wh_history.specs.Profiles.{current_profile, profile_now}
 use Rattle.wh_history.specs.Rows.{rows}
 use Rattle.wh_history.specs.Tables.{Limits, fact_of, key_at, profile_at}
@@ -33,6 +34,7 @@ use Rattle.wh_history.proofs.Batches.{same_dimension}
 use Rattle.wh_history.proofs.Effective.{days_in}
 use Rattle.wh_history.proofs.Growth.{durable_stays, surrogate_stays}
 use Rattle.wh_history.proofs.Joins.{all_dated, all_weaker}
+use Rattle.wh_history.proofs.MovingDays.{earliest_first, latest_last}
 use Rattle.wh_history.proofs.Places.{at_place-place}
 use Rattle.wh_history.proofs.Records.{changes_stay}
 use Rattle.wh_history.proofs.Since.{at_stays, key_stays}
@@ -45,7 +47,7 @@ use Rattle.wh_rows.specs.Tables.{Tables}
 use Rattle.wh_rows.specs.declared.key.LineKey.{LineKey}
 use Rattle.wh_rows.specs.Questions.{durable_of}
 use Rattle.wh_rows.specs.Defined.{AreOf, fact_at}
-use Rattle.wh_plan.specs.MovedFacts.{moved_for, rekeyed_facts, earliest, latest_day, moves_since, moves_until, before_record, keeps_row, facts_with, facts_between}
+use Rattle.wh_plan.specs.MovedFacts.{moved_for, rekeyed_facts, facts_with, facts_between}
 use Rattle.wh_rows.specs.Sound.{IsGoodSale, IsAccepted}
 use Rattle.wh_rows.proofs.FoundPlaces.{same_number_is}
 use Rattle.wh_rows.proofs.GrownMembers.{opening_given}
@@ -54,30 +56,6 @@ use Rattle.wh_plan.proofs.MovedFacts.{on_line}
 use Rattle.wh_rows.proofs.MovedKeys.{keys_for, own_keys, owner_is, same_as_itself, sold_same}
 use Rattle.wh_plan.proofs.MovedLists.{found_has, idle_left_out, none_left}
 use Rattle.wh_plan.proofs.PlanPremises.{days_after, days_before}
-
--- ---- the earliest day
-
-earliest_first : (cs : List Change) → AllByRecursion (λ (d : Change). earliest cs ≤ d.day) cs
-earliest_first [] = tt
-earliest_first (c ∷ cs) =
-    let rest = earliest_first cs in
-    elim (cases_lt c.day (earliest cs)) [
-      | inl less ↦ subst (λ b. AllByRecursion (λ (d : Change). cond b c.day (earliest cs) ≤ d.day) (c ∷ cs)) (sym (lt-ltb c.day (earliest cs) less))
-          (omega arith, all_weaker (λ (d : Change). earliest cs ≤ d.day) (λ (d : Change). c.day ≤ d.day) (λ d late. omega (arith, late, less)) cs rest)
-      | inr late ↦ subst (λ b. AllByRecursion (λ (d : Change). cond b c.day (earliest cs) ≤ d.day) (c ∷ cs)) (sym (le-ltb c.day (earliest cs) late)) (late, rest)
-    ]
-
--- ---- the latest day
-
-latest_last : (cs : List Change) → AllByRecursion (λ (d : Change). d.day ≤ latest_day cs) cs
-latest_last [] = tt
-latest_last (c ∷ cs) =
-    let rest = latest_last cs in
-    elim (cases_lt (latest_day cs) c.day) [
-      | inl more ↦ subst (λ b. AllByRecursion (λ (d : Change). d.day ≤ cond b c.day (latest_day cs)) (c ∷ cs)) (sym (lt-ltb (latest_day cs) c.day more))
-          (omega arith, all_weaker (λ (d : Change). d.day ≤ latest_day cs) (λ (d : Change). d.day ≤ c.day) (λ d early. omega (arith, early, more)) cs rest)
-      | inr less ↦ subst (λ b. AllByRecursion (λ (d : Change). d.day ≤ cond b c.day (latest_day cs)) (c ∷ cs)) (sym (le-ltb (latest_day cs) c.day less)) (less, rest)
-    ]
 
 -- ---- between
 

@@ -15,6 +15,7 @@ use Rattle.wh_history.specs.Dated.{dated}
 use Rattle.wh_history.specs.Laws.{governs}
 use Rattle.wh_history.specs.Facts.{key_in, rekeyed_fact}
 use Rattle.wh_history.specs.Known.{KnowsEnough}
+use Rattle.wh_history.specs.MovingDays.{moves_since, moves_until, before_record, latest_day}
 use Rattle.wh_history.specs.Profiles.{profile_number, profile_now_by}
 use Rattle.wh_history.specs.Rows.{holds, row as row_of, rows, rows_by, spans, starts}
 use Rattle.wh_history.specs.Shapes.{Shape, rendered_in, shape_after}
@@ -31,7 +32,7 @@ use Rattle.wh_history.proofs.Stays.{policy_last}
 use Rattle.wh_rows.specs.Rows as row
 use Rattle.wh_rows.specs.Tables.{Tables}
 use Rattle.wh_rows.specs.Defined.{AreOf, fact_at}
-use Rattle.wh_plan.specs.MovedFacts.{facts_with, facts_between, rekeyed_facts, moves_since, moves_until, before_record, latest_day, moved_of_touched, moves_of_member, moves_of_members}
+use Rattle.wh_plan.specs.MovedFacts.{facts_with, facts_between, rekeyed_facts, moved_of_touched, moves_of_member, moves_of_members}
 use Rattle.wh_plan.specs.BatchRows.{AreFacts, AreRekeyed}
 use Rattle.wh_plan.specs.NewRows.{members_among, naturals_told}
 use Rattle.wh_rows.specs.Sound.{AreTypes, IsAccepted}

@@ -1,19 +1,16 @@
 -- Which stored facts a batch of records moves.
-use Rattle.std.specs.Prelude.{◌≡◌, ℕ, nat_lt, ◌==◌, if◌then◌else◌, ◌&&◌, Bool, List, [], ◌∷◌, ◌++◌, drop, length, find, filter, filter_map, flat_map, Option, unwrap_or}
-use Rattle.std.specs.List.{list_any}
+use Rattle.std.specs.Prelude.{◌≡◌, ℕ, nat_lt, if◌then◌else◌, ◌&&◌, List, [], ◌∷◌, ◌++◌, filter, filter_map, flat_map, Option}
 use Rattle.std.specs.FinMap.{FinMap, values}
-use Rattle.std.specs.Option.{option_and_then}
 use Rattle.std.specs.Ordering.{eq_by_cmp, is_ge, is_le, nat_cmp}
-use Rattle.wh_day.specs.Day.{first_day, last_day, checked_day_before}
 use Rattle.wh_policy.specs.declared.attribute.Dim.{Dim}
 use Rattle.wh_policy.specs.declared.attribute.Dim.TheVariants.{Product, Store, Customer}
 use Rattle.wh_policy.specs.declared.record.DimensionRecord.{DimensionRecord}
 use Rattle.wh_history.specs.Accepted.{Accepted, Describes, member_of, durable_key}
-use Rattle.wh_history.specs.Facts.{key_in, rekeyed_fact}
-use Rattle.wh_history.specs.Shapes.{Shape, RenderedMember, shape_after, rendered_in}
+use Rattle.wh_history.specs.Facts.{rekeyed_fact}
+use Rattle.wh_history.specs.MovingDays.{moves_since, moves_until}
+use Rattle.wh_history.specs.Shapes.{Shape, shape_after, rendered_in}
 use Rattle.wh_history.specs.Tables.{Limits}
 use Rattle.wh_history.specs.declared.facts.Fact.{Fact}
-use Rattle.wh_history.specs.declared.member.Change.{Change}
 use Rattle.wh_history.specs.declared.member.Member.{Member}
 use Rattle.wh_rows.specs.Rows as row
 use Rattle.wh_rows.specs.Tables.{Tables}
@@ -35,41 +32,6 @@ facts_with table dim durable = filter (λ f. eq_by_cmp nat_cmp durable (durable_
 -- of some facts those that move by the rows of a member, with their new keys
 abbrev pub rekeyed_facts : Shape → Member → List Fact → List Fact
 rekeyed_facts shape m facts = filter_map (rekeyed_fact shape (rendered_in shape m)) facts
-
--- the earliest day of changes, and the last day of all where there is none
-abbrev pub earliest : List Change → ℕ
-earliest [] = last_day
-earliest (c ∷ cs) = if nat_lt c.day (earliest cs) then c.day else earliest cs
-
--- The day since which the facts of a member can move, by its changes before a batch and with it: where one is of an earlier day than
--- all new ones, the earliest day of these, since before it nothing changes. Before the earliest change of all, that one says what holds.
-abbrev pub since_first : List Change → ℕ → ℕ
-since_first stored first = if list_any (λ c. nat_lt c.day first) stored then first else first_day
-
-abbrev pub moves_since : List Change → List Change → ℕ
-moves_since stored changes = since_first stored (earliest (drop (length stored) changes))
-
--- the latest day of changes, and the first day of all where there is none
-abbrev pub latest_day : List Change → ℕ
-latest_day [] = first_day
-latest_day (c ∷ cs) = if nat_lt (latest_day cs) c.day then c.day else latest_day cs
-
--- whether a member's row of a day is the same as it is stored and as it will be
-abbrev pub keeps_row : RenderedMember → RenderedMember → ℕ → Bool
-keeps_row stored after day = key_in stored.rows day == key_in after.rows day
-
--- of a member's records that are of a later day, by the days, the first whose day keeps its row, if one does
-abbrev pub first_kept : RenderedMember → RenderedMember → ℕ → Option Change
-first_kept stored after last = find (λ c. nat_lt last c.day && keeps_row stored after c.day) stored.dated
-
--- the day before that of a record, and the last day of all where there is none
-abbrev pub before_record : Option Change → ℕ
-before_record kept = unwrap_or (option_and_then (λ c. checked_day_before c.day) kept) last_day
-
--- The last day whose facts can move: from the day of the first stored record on that is later than all new ones and whose day keeps its row,
--- nothing changes.
-abbrev pub moves_until : RenderedMember → RenderedMember → ℕ
-moves_until stored after = before_record (first_kept stored after (latest_day (drop (length stored.member.changes) after.member.changes)))
 
 -- of those facts the ones from one day to another
 abbrev pub facts_between : FinMap row.fact.order Fact → Dim → ℕ → ℕ → ℕ → List Fact

@@ -1,15 +1,15 @@
 //! The stored facts that a batch of dimension records moves.
 
-ghost use Rattle.std.specs.Prelude.{◌≡◌, ◌++◌, ◌∷◌, [], drop, flat_map, length, map, nat_lt, IfOk};
-ghost use Rattle.std.specs.List.{list_any, AllByRecursion};
-ghost use Rattle.std.specs.Option.{option_copied};
+ghost use Rattle.std.specs.Prelude.{◌≡◌, ◌++◌, ◌∷◌, [], flat_map, map, IfOk};
+ghost use Rattle.std.specs.List.{AllByRecursion};
 ghost use Rattle.wh_history.specs.Accepted.{Accepted, Describes, member_of, profiles_of};
 ghost use Rattle.wh_history.specs.Known.{number_in, KnowsEnough};
+ghost use Rattle.wh_history.specs.MovingDays.{moves_since, moves_until};
 ghost use Rattle.wh_history.specs.Shapes.{rendered_in, shape_of, shown};
 ghost use Rattle.wh_history.specs.Touched.{touched_by};
 ghost use Rattle.wh_rows.specs.Defined.{fact_at};
 ghost use Rattle.wh_plan.specs.BatchRows.{AreFacts, AreRekeyed};
-ghost use Rattle.wh_plan.specs.MovedFacts.{before_record, earliest, first_kept, latest_day, moves_since, moves_until, moved_of_touched, pair_of};
+ghost use Rattle.wh_plan.specs.MovedFacts.{moved_of_touched, pair_of};
 ghost use Rattle.wh_plan.specs.NewRows.{Records, naturals_told};
 ghost use Rattle.wh_store.specs.Reads.{ReadsOnly, state_of};
 ghost use Rattle.wh_plan.specs.Reads.{Finds, Tells};
@@ -18,118 +18,9 @@ ghost use Rattle.wh_rows.specs.Sound.{AreTypes, IsAccepted};
 use crate::touched::{TouchedMember, touched_pairs};
 use sqlite::Alter;
 use std::alloc::{AllocError, Global};
-use wh_day::Day;
-use wh_history::{Change, Dimension, Fact, Member, Rendered, key_in};
+use wh_history::{Dimension, Fact, Member, Rendered, moves_since};
 use wh_rows::tables;
 use wh_store::{ReadFault, SalesBetween, Tables};
-
-/// The earliest day of changes, and the last day of all where there is none.
-fn earliest(changes: &[Change]) -> Day
-    ensures { result ≡ earliest changes.now }
-{
-    let mut day = Day::last();
-    let mut left = changes.len();
-    while left > 0 {
-        left -= 1;
-        if changes[left].day < day {
-            day = changes[left].day;
-        }
-    }
-    day
-}
-
-/// The latest day of changes, and the first day of all where there is none.
-fn latest_day(changes: &[Change]) -> Day
-    ensures { result ≡ latest_day changes.now }
-{
-    let mut day = Day::first();
-    let mut left = changes.len();
-    while left > 0 {
-        left -= 1;
-        if day < changes[left].day {
-            day = changes[left].day;
-        }
-    }
-    day
-}
-
-/// What a batch adds to the changes that are stored.
-fn new_changes<'a>(stored: &[Change], changes: &'a [Change]) -> &'a [Change]
-    ensures { result.now ≡ drop (length stored.now) changes.now }
-{
-    if changes.len() < stored.len() {
-        return &[];
-    }
-    &changes[stored.len()..]
-}
-
-/// Whether a change is of an earlier day.
-fn has_earlier(changes: &[Change], first: Day) -> bool
-    ensures { result ≡ list_any (λ c. nat_lt c.day first) changes.now }
-{
-    changes.iter().any(|change| change.day < first)
-}
-
-/// The day since which a member's facts can move, by its changes before a batch and with it: the first of the new ones,
-/// where an older one is of an earlier day.
-fn moves_since(stored: &[Change], changes: &[Change]) -> Day
-    ensures { result ≡ moves_since stored.now changes.now }
-{
-    let first = earliest(new_changes(stored, changes));
-    if has_earlier(stored, first) {
-        return first;
-    }
-    Day::first()
-}
-
-/// Whether a change is of a later day.
-fn has_later(changes: &[Change], last: Day) -> bool
-    ensures { result ≡ list_any (λ c. nat_lt last c.day) changes.now }
-{
-    changes.iter().any(|change| last < change.day)
-}
-
-/// Of a member's records that are of a later day, by the days, the first whose day keeps its row.
-fn first_kept<'a>(stored: &Rendered<'a>, after: &Rendered, last: Day) -> Option<&'a Change>
-    ensures { option_copied result ≡ first_kept (shown stored.now) (shown after.now) last }
-{
-    for change in &stored.dated {
-        let day = change.day;
-        if last < day && key_in(&stored.rows, day) == key_in(&after.rows, day) {
-            return Some(*change);
-        }
-    }
-    None
-}
-
-/// The day before that of a record, and the last day of all where there is none.
-fn before_record(kept: Option<&Change>) -> Day
-    ensures { result ≡ before_record (option_copied kept.entry) }
-{
-    match kept {
-        Some(change) => change.day.before().unwrap_or(Day::last()),
-        None => Day::last(),
-    }
-}
-
-/// The last day whose facts can move, of a member as it is stored and as it is after a batch. Where none of its records is
-/// of a later day than the new ones, it isn't rendered as it is stored.
-fn moves_until(
-    alloc: Global,
-    dimension: &Dimension,
-    stored: &Member,
-    after: &Rendered,
-) -> Result<Day, AllocError>
-    ensures { IfOk result (λ day. day ≡ moves_until (rendered_in (shape_of dimension.now) stored.now) (shown after.now)) }
-{
-    let changes = stored.changes.as_slice();
-    let last = latest_day(new_changes(changes, after.member.changes.as_slice()));
-    if !has_later(changes, last) {
-        return Ok(Day::last());
-    }
-    let stored = dimension.rendered(alloc, stored)?;
-    Ok(before_record(first_kept(&stored, after, last)))
-}
 
 /// The question for the facts that can move, of a member as it is stored and as it is after a batch.
 fn facts_to_ask(
@@ -144,7 +35,7 @@ fn facts_to_ask(
         dim: dimension.dim,
         durable: after.member.durable,
         from: moves_since(stored.changes.as_slice(), after.member.changes.as_slice()),
-        to: moves_until(alloc, dimension, stored, after)?,
+        to: dimension.moves_until(alloc, stored, after)?,
     })
 }
 

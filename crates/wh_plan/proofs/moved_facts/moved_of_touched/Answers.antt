@@ -2,10 +2,11 @@ use Rattle.std.proofs.Common.{◌<◌, cond, nat_lt, List, [], sym, ◌∙◌, a
 use Rattle.std.specs.Prelude.{filter_map}
 use Rattle.std.proofs.lemmas.Bool.{lt-ltb}
 use Rattle.wh_history.specs.Facts.{rekeyed_fact}
+use Rattle.wh_history.specs.MovingDays.{moves_since, moves_until}
 use Rattle.wh_history.specs.Shapes.{RenderedMember, rendered_in, shape_of}
 use Rattle.wh_history.specs.declared.facts.Fact.{Fact}
 use Rattle.wh_sql.specs.declared.questions.SalesBetween.{SalesBetween}
-use Rattle.wh_plan.specs.MovedFacts.{facts_between, rekeyed_facts, moves_since, moves_until}
+use Rattle.wh_plan.specs.MovedFacts.{facts_between, rekeyed_facts}
 use Rattle.wh_plan.proofs.moved_facts.moved_of_touched.Goals as goal
 
 pub returns-then-touched-eq0-clause-moved : goal.returns-then-touched-eq0-clause-moved

@@ -5,8 +5,8 @@ use Rattle.wh_history.specs.Dated.{dated}
 use Rattle.wh_history.specs.Shapes.{rendered_in, shape_of, shown}
 use Rattle.wh_history.specs.declared.member.Change.{Change}
 use Rattle.wh_history.proofs.Joins.{all_dated}
-use Rattle.wh_plan.specs.MovedFacts.{before_record, first_kept, keeps_row, latest_day}
-use Rattle.wh_plan.proofs.moved_facts.moves_until.Goals as goal
+use Rattle.wh_history.specs.MovingDays.{before_record, first_kept, keeps_row, latest_day}
+use Rattle.wh_history.proofs.dimension.Dimension.moves_until.Goals as goal
 
 each_fails : (p : Change → Bool) (cs : List Change) → list_any p cs ≡ false → AllByRecursion (λ c. p c ≡ false) cs
 each_fails p [] none = tt
@@ -27,7 +27,7 @@ none_later p keeps cs none = none_found p keeps (dated cs) (all_dated (λ c. p c
 pub returns-then-not-has_later : goal.returns-then-not-has_later
 returns-then-not-has_later c =
     let stored = c.args.stored.now in
-    let before = rendered_in (shape_of c.args.dimension.now) stored in
+    let before = rendered_in (shape_of c.args.self.now) stored in
     let after = shown c.args.after.now in
     let new = drop (length stored.changes) after.member.changes in
     let last : c.latest_day-last.result ≡ latest_day new =

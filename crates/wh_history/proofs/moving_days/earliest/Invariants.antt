@@ -1,11 +1,11 @@
 use Rattle.std.proofs.Common.{◌≡◌, ◌≤◌, drop, length}
-use Rattle.wh_plan.specs.MovedFacts.{latest_day}
-use Rattle.wh_plan.proofs.moved_facts.latest_day.Given as goal
+use Rattle.wh_history.specs.MovingDays.{earliest}
+use Rattle.wh_history.proofs.moving_days.earliest.Given as goal
 
 abbrev pub invariant-loop-left : goal.invariant-loop-left
 invariant-loop-left l = record {
   within : l.left ≤ length l.changes;
-  day : l.day ≡ latest_day (drop l.left l.changes);
+  day : l.day ≡ earliest (drop l.left l.changes);
 }
 
 abbrev pub decreases-loop-left : goal.decreases-loop-left

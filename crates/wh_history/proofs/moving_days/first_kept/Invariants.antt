@@ -2,8 +2,8 @@ use Rattle.std.proofs.Common.{◌≡◌, ◌&&◌, map, drop, nat_lt, Bor}
 use Rattle.std.specs.Prelude.{find}
 use Rattle.wh_history.specs.Shapes.{shown}
 use Rattle.wh_history.specs.declared.member.Change.{Change}
-use Rattle.wh_plan.specs.MovedFacts.{first_kept, keeps_row}
-use Rattle.wh_plan.proofs.moved_facts.first_kept.Given as goal
+use Rattle.wh_history.specs.MovingDays.{first_kept, keeps_row}
+use Rattle.wh_history.proofs.moving_days.first_kept.Given as goal
 
 -- what is left has the first of all
 abbrev pub invariant-loop-change : goal.invariant-loop-change
