@@ -11,6 +11,7 @@ pub mod DefinedTexts
 pub mod FoundTexts
 pub mod Counted
 pub mod Entries
+pub mod KeyedSums
 pub mod Lines
 pub mod Prefixes
 pub mod Reports

@@ -1,6 +1,6 @@
 -- Lines in order of their labels, with one sale more.
-use Rattle.std.proofs.Common.{◌≡◌, ℕ, ◌+◌, ◌≤◌, Bool, true, false, cond, ◌||◌, List, [], ◌∷◌, ◌++◌, map, length, Some, unwrap_or, refl, sym, ◌∙◌, ap, arith, ℤ, ◌+ℤ◌, length-append}
-use Rattle.std.specs.List.{list_any}
+use Rattle.std.proofs.Common.{◌≡◌, ℕ, ◌+◌, ◌<◌, ◌≤◌, Bool, true, false, cond, ◌||◌, List, [], ◌∷◌, ◌++◌, map, length, Some, unwrap_or, refl, sym, ◌∙◌, ap, arith, inl, inr, ℤ, ◌+ℤ◌, length-append}
+use Rattle.std.specs.List.{list_any, AllByRecursion}
 use Rattle.std.specs.Prelude.{String, string_bytes, bytes_eq}
 use Rattle.std.specs.String.{string_cmp}
 use Rattle.std.specs.Map.{lookup}
@@ -9,15 +9,16 @@ use Rattle.std.specs.declared.cmp.Ordering.{Ordering}
 use Rattle.std.specs.declared.cmp.Ordering.TheVariants.{Less, Equal, Greater}
 use Rattle.std.specs.BTreeMap.{is_at, insert_entry}
 use Rattle.std.specs.BTreeSet.{insert_key}
+use Rattle.std.proofs.lemmas.Bool.{cases_lt}
 use Rattle.std.proofs.lemmas.Int.{ints}
-use Rattle.std.proofs.lemmas.Cmp.{nat_list_cmp_total}
+use Rattle.std.proofs.lemmas.Cmp.{nat_list_cmp_total, tied_itself}
 use Rattle.std.proofs.lemmas.Map.Text.{is_eq-slice_cmp}
 use Rattle.std.specs.Cmp.Lexicographic.{nat_list_eq_equiv}
 use Rattle.std.proofs.lemmas.List.{append-nil}
 use Rattle.std.proofs.lemmas.Slice.Eq.{bytes_eq-Decides}
 use Rattle.std.proofs.lemmas.List.Elements.{filter-append}
-use Rattle.wh_report.specs.Sums.{Measured, Figures, nothing, with_line}
-use Rattle.wh_report.specs.Summary.{Sold, Summed, by_bytes, sum_of, totals, sold_as, labels_with, labels, summed}
+use Rattle.wh_report.specs.Sums.{Measured, Figures, nothing, plus, with_line}
+use Rattle.wh_report.specs.Summary.{Sold, Summed, AreSoldAs, by_bytes, sum_of, totals, sold_as, labels_with, labels, summed}
 use Rattle.wh_report.specs.Maps.{by_text}
 use Rattle.wh_report.specs.Laws.{Rises, Rise}
 
@@ -213,7 +214,7 @@ lines_are : (old : Summed) (sales : List Sold) → old ≡ summed sales → old.
 unfolding summed
 lines_are old sales e = ap (λ (s : Summed). s.lines) e
 
-total_is : (old : Summed) (sales : List Sold) → old ≡ summed sales → old.total ≡ totals sales
+pub total_is : (old : Summed) (sales : List Sold) → old ≡ summed sales → old.total ≡ totals sales
 unfolding summed
 total_is old sales e = ap (λ (s : Summed). s.total) e
 
@@ -227,6 +228,91 @@ one_more old new sums sales s e found put added =
     let total = total_is old sales e in
     summed_parts new (sales ++ s ∷ []) (rw (lines, figures) at put ∙ lines-append sales s) (added ∙ ap (with_line s.measures) total ∙ sym (totals-append sales s))
 
+-- ---- some sales of one label more
+
+pub sum_of-append_all : (measure : Measured → ℤ) (sales more : List Sold) → sum_of measure (sales ++ more) ≡ sum_of measure sales +ℤ sum_of measure more
+sum_of-append_all measure [] more = omega (arith, ints)
+sum_of-append_all measure (t ∷ sales) more = let rest = sum_of-append_all measure sales more in omega (arith, ints, rest)
+
+pub totals-append_all : (sales more : List Sold) → totals (sales ++ more) ≡ plus (totals sales) (totals more)
+totals-append_all sales more =
+    let n : length (sales ++ more) ≡ length sales + length more = length-append sales more in
+    let q = sum_of-append_all (λ m. m.quantity) sales more in
+    let a = sum_of-append_all (λ m. m.amount) sales more in
+    let k = sum_of-append_all (λ m. m.cost) sales more in
+    rw (n, q, a, k) refl
+
+labels_with-append : (known : List (List ℕ)) (sales more : List Sold) → labels_with known (sales ++ more) ≡ labels_with (labels_with known sales) more
+labels_with-append known [] more = refl
+labels_with-append known (t ∷ sales) more = labels_with-append (insert_key by_bytes known t.label) sales more
+
+same_itself : (k : List ℕ) → by_bytes k k ≡ Equal
+same_itself k = tied_itself nat_list_cmp_total k
+
+-- a label that is there isn't put a second time
+put_again : (k : List ℕ) (ls : List (List ℕ)) → insert_key by_bytes (insert_key by_bytes ls k) k ≡ insert_key by_bytes ls k
+put_again k [] = rw (same_itself k) refl
+put_again k (l ∷ ls) =
+    elim (by_bytes k l) as (λ o. (by_bytes k l ≡ o) → insert_key by_bytes (match_ordering o (k ∷ l ∷ ls) (l ∷ ls) (l ∷ insert_key by_bytes ls k)) k ≡ match_ordering o (k ∷ l ∷ ls) (l ∷ ls) (l ∷ insert_key by_bytes ls k)) [
+      | Less ↦ λ e. rw (same_itself k) refl
+      | Equal ↦ λ e. rw e refl
+      | Greater ↦ λ e. rw (e, put_again k ls) refl
+    ] refl
+
+one_label : (k : List ℕ) (known : List (List ℕ)) (more : List Sold) → AllByRecursion (λ (s : Sold). s.label ≡ k) more → labels_with (insert_key by_bytes known k) more ≡ insert_key by_bytes known k
+one_label k known [] all = refl
+one_label k known (s ∷ more) all =
+    ap (λ l. labels_with (insert_key by_bytes (insert_key by_bytes known k) l) more) all.0
+    ∙ ap (λ ls. labels_with ls more) (put_again k known)
+    ∙ one_label k known more all.1
+
+labels_put : (k : List ℕ) (known : List (List ℕ)) (more : List Sold) → 0 < length more → AllByRecursion (λ (s : Sold). s.label ≡ k) more → labels_with known more ≡ insert_key by_bytes known k
+labels_put k known [] some all = absurd (omega arith)
+labels_put k known (s ∷ more) some all = ap (λ l. labels_with (insert_key by_bytes known l) more) all.0 ∙ one_label k known more all.1
+
+all_sold : (k : List ℕ) (more : List Sold) → AllByRecursion (λ (s : Sold). s.label ≡ k) more → sold_as k more ≡ more
+all_sold k [] all = refl
+all_sold k (s ∷ more) all =
+    let test : bytes_eq s.label k ≡ true = (bytes_eq-Decides s.label k).1 all.0 in
+    rw (test, all_sold k more all.1) refl
+
+none_of : (k l : List ℕ) (more : List Sold) → bytes_eq k l ≡ false → AllByRecursion (λ (s : Sold). s.label ≡ k) more → sold_as l more ≡ []
+none_of k l [] differs all = refl
+none_of k l (s ∷ more) differs all =
+    let test : bytes_eq s.label l ≡ false = ap (λ b. bytes_eq b l) all.0 ∙ differs in
+    rw (test, none_of k l more differs all.1) refl
+
+module _ (k : List ℕ) (figures : Figures) (sales more : List Sold) (are : AreSoldAs k figures more) where
+  abbrev all : List Sold
+  all = sales ++ more
+
+  label_here : of_label all k ≡ plus (of_label sales k) figures
+  label_here =
+      ap totals (filter-append (λ (t : Sold). bytes_eq t.label k) sales more ∙ ap (λ ts. sold_as k sales ++ ts) (all_sold k more are.labelled))
+      ∙ totals-append_all (sold_as k sales) more
+      ∙ ap (plus (of_label sales k)) (sym are.made)
+
+  label_elsewhere : (l : List ℕ) → bytes_eq k l ≡ false → of_label all l ≡ of_label sales l
+  label_elsewhere l differs =
+      ap totals (filter-append (λ (t : Sold). bytes_eq t.label l) sales more ∙ ap (λ ts. sold_as l sales ++ ts) (none_of k l more differs are.labelled) ∙ append-nil (sold_as l sales))
+
+  labels_all : labels all ≡ insert_key by_bytes (labels sales) k
+  labels_all = labels_with-append [] sales more ∙ labels_put k (labels sales) more are.some are.labelled
+
+  lines-append_all : insert_entry by_bytes (lines_by (of_label sales) (labels sales)) k (plus (of_label sales k) figures) ≡ lines_by (of_label all) (labels all)
+  lines-append_all =
+      ap (insert_entry by_bytes (lines_by (of_label sales) (labels sales)) k) (sym label_here)
+      ∙ lines-insert (of_label sales) (of_label all) k (labels sales) label_elsewhere (Rise-labels [] sales tt)
+      ∙ ap (lines_by (of_label all)) (sym labels_all)
+
+  pub label_more : (old new : Summed) (line : Figures) → old ≡ summed sales → line ≡ plus (unwrap_or (lookup (is_at (by_bytes k)) old.lines) nothing) figures → new.lines ≡ insert_entry by_bytes old.lines k line → new.total ≡ plus old.total figures → new ≡ summed all
+  label_more old new line e is put added =
+      let found = figures_are old (unwrap_or (lookup (is_at (by_bytes k)) old.lines) nothing) k sales e refl in
+      let at : line ≡ plus (of_label sales k) figures = is ∙ ap (λ f. plus f figures) found in
+      summed_parts new all
+      (put ∙ ap (λ (es : List (List ℕ × Figures)). insert_entry by_bytes es k line) (lines_are old sales e) ∙ ap (insert_entry by_bytes (lines_by (of_label sales) (labels sales)) k) at ∙ lines-append_all)
+      (added ∙ ap (λ t. plus t figures) (total_is old sales e) ∙ ap (plus (totals sales)) are.made ∙ sym (totals-append_all sales more))
+
 few_sold : (k : List ℕ) (sales : List Sold) → length (sold_as k sales) ≤ length sales
 few_sold k [] = omega arith
 few_sold k (s ∷ sales) =
@@ -236,10 +322,24 @@ few_sold k (s ∷ sales) =
       | false ↦ omega (arith, rest)
     ]
 
-pub total_full : (old : Summed) (sales : List Sold) → old ≡ summed sales → 4_294_967_295 ≤ old.total.lines → 4_294_967_295 ≤ length sales
-total_full old sales e full = rw (total_is old sales e) at full
+module _ (k : List ℕ) (figures : Figures) (sales more : List Sold) (are : AreSoldAs k figures more) (old : Summed) (e : old ≡ summed sales) where
+  how_many : length (sales ++ more) ≡ length sales + figures.lines
+  how_many = length-append sales more ∙ ap (λ (t : Figures). length sales + t.lines) (sym are.made)
 
-pub label_full : (old : Summed) (sums : Figures) (k : List ℕ) (sales : List Sold) → old ≡ summed sales → sums ≡ unwrap_or (lookup (is_at (by_bytes k)) old.lines) nothing → 4_294_967_295 ≤ sums.lines → 4_294_967_295 ≤ length sales
-label_full old sums k sales e found full =
-    let few : 4_294_967_295 ≤ length (sold_as k sales) = rw (figures_are old sums k sales e found) at full in
-    omega (arith, few, few_sold k sales)
+  pub total_full : 4_294_967_295 < old.total.lines + figures.lines → 4_294_967_295 ≤ length (sales ++ more)
+  total_full full =
+      let n : old.total.lines ≡ length sales = ap (λ (t : Figures). t.lines) (total_is old sales e) in
+      omega (arith, how_many, n, full)
+
+  pub label_full : (sums : Figures) → sums ≡ unwrap_or (lookup (is_at (by_bytes k)) old.lines) nothing → 4_294_967_295 < sums.lines + figures.lines → 4_294_967_295 ≤ length (sales ++ more)
+  label_full sums found full =
+      let few = few_sold k sales in
+      let n : sums.lines ≡ length (sold_as k sales) = ap (λ (t : Figures). t.lines) (figures_are old sums k sales e found) in
+      omega (arith, how_many, n, few, full)
+
+-- what isn't at most this many is more
+pub more_than : (n : ℕ) → (n ≤ 4_294_967_295 → false ≡ true) → 4_294_967_295 < n
+more_than n refused = elim (cases_lt 4_294_967_295 n) [
+  | inl more ↦ more
+  | inr most ↦ absurd (let none = refused most in cc)
+]

@@ -13,7 +13,7 @@ use Rattle.wh_report.proofs.Lines.{one_more}
 use Rattle.wh_report.proofs.Reports.{moved}
 
 -- what sales come to with one more, by what they come to
-abbrev with_sale : Sold → Summed → Summed
+abbrev pub with_sale : Sold → Summed → Summed
 with_sale s sums = record {
   lines = insert_entry by_bytes sums.lines s.label (with_line s.measures (unwrap_or (lookup (is_at (by_bytes s.label)) sums.lines) nothing));
   total = with_line s.measures sums.total;
@@ -22,7 +22,7 @@ with_sale s sums = record {
 one_behind : (sales : List Sold) (s : Sold) → with_sale s (summed sales) ≡ summed (sales ++ s ∷ [])
 one_behind sales s = one_more (summed sales) (with_sale s (summed sales)) (unwrap_or (lookup (is_at (by_bytes s.label)) (summed sales).lines) nothing) sales s refl refl refl refl
 
-one_before : (sales : List Sold) (s : Sold) → with_sale s (summed sales) ≡ summed (s ∷ sales)
+pub one_before : (sales : List Sold) (s : Sold) → with_sale s (summed sales) ≡ summed (s ∷ sales)
 one_before sales s = one_behind sales s ∙ moved sales [] s ∙ ap (λ xs. summed (s ∷ xs)) (append-nil sales)
 
 -- the element at a place, between those before it and those after

@@ -1,6 +1,6 @@
 -- What was read of any tables, as a report of them.
-use Rattle.std.proofs.Common.{◌≡◌, inl, inr, ℕ, List, [], ◌∷◌, true, cond, Option, Some, None, Ok, Err, refl, sym, ◌∙◌, ap}
-use Rattle.std.specs.Prelude.{filter_map, option_map, is_some}
+use Rattle.std.proofs.Common.{◌≡◌, inl, inr, ℕ, List, [], ◌∷◌, true, cond, Option, Some, None, Ok, Err, refl, sym, ◌∙◌, ap, subst}
+use Rattle.std.specs.Prelude.{filter_map, option_map, is_some, IsSome}
 use Rattle.std.specs.Option.{option_and_then}
 use Rattle.std.specs.List.{cons_option}
 use Rattle.std.specs.FinMap.{values}
@@ -11,8 +11,9 @@ use Rattle.wh_history.specs.declared.facts.Fact.{Fact}
 use Rattle.wh_history.proofs.Basics.{some_is}
 use Rattle.wh_rows.specs.KeyedSales.{keyed}
 use Rattle.wh_rows.specs.Tables.{Tables}
+use Rattle.wh_rows.specs.declared.keyed_sale.KeyedSale.{KeyedSale}
 use Rattle.wh_report.specs.Asked.{Asked}
-use Rattle.wh_report.specs.Counting.{counted, measures_of}
+use Rattle.wh_report.specs.Counting.{counted, measures_of, sales_of, AreLabelled}
 use Rattle.wh_report.specs.Joined.{column_of, fact_key, key_by}
 use Rattle.wh_report.specs.Label.{text_asked}
 use Rattle.wh_report.specs.Labels.{AreLabels, labels_in, text_of}
@@ -37,15 +38,19 @@ module _ (r : Asked) (column : LabelColumn) (t : Tables) (labels : List (ℕ × 
   pub counted_read : filter_map (counted r column (text_of labels)) (values t.fact) ≡ sold_by_keys r column t
   counted_read = counted_same r column (text_of labels) (text_at column t) are.found (values t.fact)
 
-  pub text_read : (text : Vec ℕ Global) → text.items ≡ text_asked r (filter_map (counted r column (text_of labels)) (values t.fact)) → ReportsTables r column t (Ok text)
-  text_read text is = is ∙ ap (text_asked r) counted_read
+  labelled_read : (sales : List KeyedSale) → AreLabelled (text_of labels) sales → AreLabelled (text_at column t) sales
+  labelled_read [] all = tt
+  labelled_read (s ∷ sales) all = (subst IsSome (are.found s.key) all.0, labelled_read sales all.1)
+
+  pub text_read : (text : Vec ℕ Global) → text.items ≡ text_asked r (filter_map (counted r column (text_of labels)) (values t.fact)) → AreLabelled (text_of labels) (sales_of r column (values t.fact)) → ReportsTables r column t (Ok text)
+  text_read text is all = (is ∙ ap (text_asked r) counted_read, labelled_read (sales_of r column (values t.fact)) all)
 
   -- or they can't be counted
   pub fault_read : (fault : ReportFault) → IsSummed r column (text_of labels) (values t.fact) (Err fault) → ReportsTables r column t (Err fault)
   fault_read Write cut = tt
   fault_read (Warehouse fault) cut = tt
   fault_read (Inconsistent found) cut = elim cut [
-    | inl lacks ↦ inl (lacks.0, record { fact = lacks.1.fact; there = lacks.1.there; asked = lacks.1.asked; none = sym (are.found (fact_key column lacks.1.fact)) ∙ lacks.1.none })
+    | inl lacks ↦ inl (lacks.0, record { sale = lacks.1.sale; there = lacks.1.there; none = sym (are.found lacks.1.sale.key) ∙ lacks.1.none })
     | inr many ↦ inr many
   ]
 

@@ -25,6 +25,7 @@ use Rattle.wh_rows.specs.Rows as row
 use Rattle.wh_rows.specs.Tables.{Tables}
 use Rattle.wh_rows.proofs.Orders.{line_cmp_total}
 use Rattle.wh_rows.specs.declared.key.LineKey.{LineKey}
+use Rattle.wh_rows.specs.declared.keyed_sale.KeyedSale.{KeyedSale}
 use Rattle.wh_rows.specs.declared.rows.ProfileRow.{ProfileRow}
 use Rattle.wh_rows.specs.declared.table.Table.{Table}
 use Rattle.wh_rows.specs.Defined.{AreOf, calendar_at, day_at, fact_at, profile_at}
@@ -45,13 +46,13 @@ use Rattle.wh_engine.proofs.Admitted.{admitted_sound}
 use Rattle.wh_engine.proofs.Decisions.{policy_in_force, sound_in_force}
 use Rattle.wh_engine.proofs.FoundFacts.{facts_counted}
 use Rattle.wh_report.specs.Asked.{Asked}
-use Rattle.wh_report.specs.Counting.{counted}
+use Rattle.wh_report.specs.Counting.{counted, sales_of, HasNoLabel}
 use Rattle.wh_report.specs.Defined.{AreRowsOf, AreDefined}
 use Rattle.wh_report.specs.Joined.{column_of, fact_key}
 use Rattle.wh_report.specs.Label.{label, report, text_asked}
 use Rattle.wh_report.specs.Laws.{Reads}
 use Rattle.wh_report.specs.Output.{IsOfTables, of_warehouse}
-use Rattle.wh_report.specs.Reported.{column_asked, rows_of_dim, label_rows, text_at, sold_by_keys, LacksLabel, IsInconsistent, ReportsTables, report_of, Reports}
+use Rattle.wh_report.specs.Reported.{column_asked, rows_of_dim, label_rows, text_at, sold_by_keys, IsInconsistent, ReportsTables, report_of, Reports}
 use Rattle.wh_report.specs.Subject.{subject_in, reading_of}
 use Rattle.wh_report.specs.Summary.{Sold, summed}
 use Rattle.wh_report.specs.Text.{report_text}
@@ -65,6 +66,7 @@ use Rattle.wh_report.proofs.DatedSales.{admitted_sales_are_dated}
 use Rattle.wh_report.proofs.MappedRows.{are_rows, each_under_key, sums_of_sales}
 use Rattle.wh_report.proofs.ReadReports.{asks_of}
 use Rattle.wh_report.proofs.ReportLaws.{counted_as, each_of, sales_labelled}
+use Rattle.wh_report.proofs.SummedFacts.{sale_of_fact}
 
 -- ---- sales that come to the same
 
@@ -150,15 +152,17 @@ module _ (limits : Limits) (commands : List Accepted) (admitted : AreAdmitted li
       ∙ ap (λ o. unwrap_or (option_map (λ w. report commands subject w r) o) []) shows
 
   -- no fact lacks its label
-  none_lacks : LacksLabel r column (text_at column t) (values t.fact) → ⊥
+  none_lacks : HasNoLabel (text_at column t) (sales_of r column (values t.fact)) → ⊥
   none_lacks lacks =
+      let from = sale_of_fact r column (values t.fact) lacks.sale lacks.there in
+      let f : Fact = from.fact in
       let each = each_under_key row.line_cmp line_cmp_total row.fact.key (fact_at commands) (fact_keyed commands) t.fact are.fact in
-      let stands = each_of (λ (f : Fact). fact_at commands (row.fact.key f) ≡ Some f) (values t.fact) lacks.fact each lacks.there in
-      let key : LineKey = row.fact.key lacks.fact in
-      let made = made_of (fact_of commands) (find (on_line key) (sold commands)) lacks.fact stands in
+      let stands = each_of (λ (f : Fact). fact_at commands (row.fact.key f) ≡ Some f) (values t.fact) f each from.there in
+      let key : LineKey = row.fact.key f in
+      let made = made_of (fact_of commands) (find (on_line key) (sold commands)) f stands in
       let has : IsLabelled made.0 = found_is IsLabelled (on_line key) (sold commands) made.0 each_labelled made.1 in
-      let labelled : text_at column t (fact_key column lacks.fact) ≡ Some (label commands subject which made.0) = ap (λ (f : Fact). text_at column t (fact_key column f)) made.2 ∙ has in
-      let none : text_at column t (fact_key column lacks.fact) ≡ None = lacks.none in
+      let labelled : text_at column t (fact_key column f) ≡ Some (label commands subject which made.0) = ap (λ (f : Fact). text_at column t (fact_key column f)) made.2 ∙ has in
+      let none : text_at column t (fact_key column f) ≡ None = subst (λ (s : KeyedSale). text_at column t s.key ≡ None) from.is lacks.none in
       cc
 
   -- nor are there too many
@@ -175,7 +179,7 @@ module _ (limits : Limits) (commands : List Accepted) (admitted : AreAdmitted li
   consistent found (inr many) = few many.1
 
   reported : (result : Result (Vec ℕ Global) ReportFault) → ReportsTables r column t result → IfErr result IsOfTables → ((fault : Fault) → result ≡ Err (Warehouse fault) → IsWanting fault) → Reports commands r result
-  reported (Ok text) says only wants = says ∙ told ∙ sym is_report
+  reported (Ok text) says only wants = says.0 ∙ told ∙ sym is_report
   reported (Err (Warehouse fault)) says only wants = wants fault refl
   reported (Err (Inconsistent found)) says only wants = absurd (consistent found says)
   reported (Err Write) says only wants = absurd only

@@ -1,6 +1,6 @@
 -- What is counted of facts, in whatever order they come.
-use Rattle.std.proofs.Common.{◌≡◌, inl, inr, ℕ, ℤ, pos, negsuc, ◌+◌, ◌≤◌, ◌&&◌, Bool, true, List, [], ◌∷◌, ◌++◌, map, length, Option, Some, None, Ok, Err, Result, refl, sym, ◌∙◌, ap, subst, subst₂, arith, length-append, zero, suc, ◌<◌}
-use Rattle.std.specs.Prelude.{filter_map, flat_map, Contains, IsTrue, is_some, false}
+use Rattle.std.proofs.Common.{◌≡◌, inl, inr, ℕ, ℤ, pos, negsuc, ◌+◌, ◌≤◌, ◌&&◌, ◌⊎◌, Bool, true, cond, List, [], ◌∷◌, ◌++◌, map, length, Option, Some, None, Ok, Err, Result, refl, sym, ◌∙◌, ap, subst, subst₂, arith, length-append, zero, suc, ◌<◌}
+use Rattle.std.specs.Prelude.{filter_map, flat_map, Contains, IsSome, IsTrue, is_some, false}
 use Rattle.std.specs.FinMap.{values, entries}
 use Rattle.std.specs.List.{AllByRecursion, cons_option}
 use Rattle.std.specs.List.Sorted.{IsPermutation}
@@ -23,16 +23,20 @@ use Rattle.wh_rows.specs.Types.{is_key, is_line, is_measure, is_number}
 use Rattle.wh_rows.specs.declared.keyed_sale.FactKey.{FactKey}
 use Rattle.wh_rows.specs.declared.keyed_sale.KeyedSale.{KeyedSale}
 use Rattle.wh_report.specs.Asked.{Asked}
-use Rattle.wh_report.specs.Counting.{counted, counted_sale, measures_of}
+use Rattle.wh_report.specs.Counting.{counted, counted_sale, fault_of, measures_of, sales_asked, sales_of, AreLabelled, HasNoLabel}
 use Rattle.wh_report.specs.Joined.{key_by}
+use Rattle.wh_report.specs.KeySums.{AreKeySums, IsLabelled}
 use Rattle.wh_report.specs.Request.{is_asked_of}
 use Rattle.wh_report.specs.Reported.{IsSummed, uncounted}
 use Rattle.wh_report.specs.Summary.{Sold, Summed, summed}
-use Rattle.wh_report.specs.Sums.{IsMeasured, IsUpTo}
-use Rattle.wh_report.specs.Tallied.{IsTally}
+use Rattle.wh_report.specs.Sums.{Figures, IsMeasured, IsUpTo}
+use Rattle.wh_report.specs.Tallied.{IsCounted, IsTally}
 use Rattle.wh_report.specs.declared.column.LabelColumn.{LabelColumn}
 use Rattle.wh_report.specs.declared.fact.FactFault.{FactFault}
-use Rattle.wh_report.specs.declared.fact.FactFault.TheVariants.{Memory, NoLabel, Damaged}
+use Rattle.wh_report.specs.declared.fact.FactFault.TheVariants as uncountable
+use Rattle.wh_report.specs.declared.summary.AddError.{AddError}
+use Rattle.wh_report.specs.declared.summary.AddError.TheVariants.{Memory, Damaged}
+use Rattle.wh_report.proofs.Counted.{asked_counted, few_asked, one_asked, passed_over}
 use Rattle.wh_report.proofs.Orders.{any_order}
 
 -- ---- one sale more
@@ -45,44 +49,41 @@ last_of : {X : Type 0} (P : X → Type 0) (xs : List X) (x : X) → AllByRecursi
 last_of P [] x all = all.0
 last_of P (y ∷ xs) x all = last_of P xs x all.1
 
--- what can't be counted can't be with one more
-pub stays_cut : (r : Asked) (labels : ℕ → Option (List ℕ)) (sales : List KeyedSale) (s : KeyedSale) (sums : Summed) (fault : FactFault) → IsTally r labels sales sums (Some fault) → IsTally r labels (sales ++ s ∷ []) sums (Some fault)
-stays_cut r labels sales s sums Memory cut = tt
-stays_cut r labels sales s sums NoLabel cut = record { sale = cut.sale; there = Contains-append_left sales (s ∷ []) cut.sale cut.there; asked = cut.asked; none = cut.none }
-stays_cut r labels sales s sums Damaged cut = λ all.
-    let many = cut (all_before (λ x. IsMeasured (measures_of x)) sales s all) in
+-- where a sale was refused, or is of another day, one more changes nothing
+pub not_counted : (r : Asked) (sales : List KeyedSale) (s : KeyedSale) (sums : List (ℕ × Figures)) (fault : Option AddError) → is_some fault ≡ true ⊎ (is_asked_of r s.day ≡ false) → IsTally r sales sums fault → IsTally r (sales ++ s ∷ []) sums fault
+not_counted r sales s sums None (inl there) tally = absurd cc
+not_counted r sales s sums None (inr other) tally = subst (AreKeySums sums) (sym (passed_over r sales s other)) tally
+not_counted r sales s sums (Some Memory) why tally = tt
+not_counted r sales s sums (Some Damaged) why tally = λ all.
+    let many = tally (all_before (λ x. IsMeasured (measures_of x)) sales s all) in
     omega (arith, length-append sales (s ∷ []))
 
-counted_few : (r : Asked) (labels : ℕ → Option (List ℕ)) (sales : List KeyedSale) → length (filter_map (counted_sale r labels) sales) ≤ length sales
-counted_few r labels [] = omega arith
-counted_few r labels (s ∷ sales) =
-    let rest = counted_few r labels sales in
-    elim (counted_sale r labels s) as (λ o. length (cons_option o (filter_map (counted_sale r labels) sales)) ≤ suc (length sales)) [ None ↦ omega arith | Some s ↦ omega arith ]
+-- one of the range is counted
+pub one_counted : (r : Asked) (sales : List KeyedSale) (s : KeyedSale) (old new : List (ℕ × Figures)) (fault : Option AddError) → is_some fault ≡ false → is_asked_of r s.day ≡ true → IsTally r sales old fault
+    → (AreKeySums old (sales_asked r sales) → AreKeySums new (sales_asked r sales ++ s ∷ [])) → IsTally r (sales ++ s ∷ []) new fault
+one_counted r sales s old new None none within tally put = subst (AreKeySums new) (sym (one_asked r sales s within)) (put tally)
+one_counted r sales s old new (Some fault) none within tally put = absurd cc
 
--- one sale can't be counted after others
-pub is_cut : (r : Asked) (labels : ℕ → Option (List ℕ)) (sales : List KeyedSale) (s : KeyedSale) (sums : Summed) (fault : FactFault) → (fault ≡ NoLabel → (is_asked_of r s.day ≡ true) × (labels s.key ≡ None))
-    → (fault ≡ Damaged → IsMeasured (measures_of s) → 4_294_967_295 ≤ length (filter_map (counted_sale r labels) sales)) → IsTally r labels (sales ++ s ∷ []) sums (Some fault)
-is_cut r labels sales s sums Memory lacks many = tt
-is_cut r labels sales s sums NoLabel lacks many =
-    let why = lacks refl in
-    record { sale = s; there = Contains-append_right sales (s ∷ []) s (0, omega arith, refl); asked = why.0; none = why.1 }
-is_cut r labels sales s sums Damaged lacks many = λ all.
-    let most = many refl (last_of (λ x. IsMeasured (measures_of x)) sales s all) in
-    let few = counted_few r labels sales in
+-- or refused
+pub one_refused : (r : Asked) (sales : List KeyedSale) (s : KeyedSale) (old new : List (ℕ × Figures)) (before : Option AddError) (fault : AddError) → is_some before ≡ false → IsTally r sales old before
+    → (AreKeySums old (sales_asked r sales) → fault ≡ Damaged → IsMeasured (measures_of s) → 4_294_967_295 ≤ length (sales_asked r sales)) → IsTally r (sales ++ s ∷ []) new (Some fault)
+one_refused r sales s old new (Some other) fault none tally many = absurd cc
+one_refused r sales s old new None Memory none tally many = tt
+one_refused r sales s old new None Damaged none tally many = λ all.
+    let most = many tally refl (last_of (λ x. IsMeasured (measures_of x)) sales s all) in
+    let few = few_asked r sales in
     omega (arith, length-append sales (s ∷ []))
 
--- what was cut stays so, where a fault is there
-pub still_cut : (r : Asked) (labels : ℕ → Option (List ℕ)) (sales : List KeyedSale) (s : KeyedSale) (sums : Summed) (fault : Option FactFault) → is_some fault ≡ true → IsTally r labels sales sums fault → IsTally r labels (sales ++ s ∷ []) sums fault
-still_cut r labels sales s sums None there tally = absurd cc
-still_cut r labels sales s sums (Some fault) there tally = stays_cut r labels sales s sums fault tally
+-- what the sales come to by their labels
+pub by_labels : (r : Asked) (labels : ℕ → Option (List ℕ)) (sales : List KeyedSale) (result : Result Summed FactFault) → IsLabelled labels (sales_asked r sales) result → IsCounted r labels sales result
+by_labels r labels sales (Ok sums) are = are
+by_labels r labels sales (Err uncountable.Memory) are = tt
+by_labels r labels sales (Err uncountable.NoLabel) are = are
+by_labels r labels sales (Err uncountable.Damaged) are = λ all. let few = few_asked r sales in omega (arith, few, are)
 
-pub one_cut : (r q : Asked) (labels others : ℕ → Option (List ℕ)) (sales : List KeyedSale) (s : KeyedSale) (old new : Summed) (before : Option FactFault) (fault : FactFault) → q ≡ r → others ≡ labels → is_some before ≡ false → IsTally r labels sales old before
-    → (fault ≡ NoLabel → (is_asked_of q s.day ≡ true) × (others s.key ≡ None))
-    → (old ≡ summed (filter_map (counted_sale q others) sales) → fault ≡ Damaged → IsMeasured (measures_of s) → 4_294_967_295 ≤ length (filter_map (counted_sale q others) sales)) → IsTally r labels (sales ++ s ∷ []) new (Some fault)
-one_cut r q labels others sales s old new (Some other) fault same alike none tally lacks many = absurd cc
-one_cut r q labels others sales s old new None fault same alike none tally lacks many =
-    is_cut r labels sales s new fault (subst₂ (λ (a : Asked) (l : ℕ → Option (List ℕ)). fault ≡ NoLabel → (is_asked_of a s.day ≡ true) × (l s.key ≡ None)) same alike lacks)
-    (subst₂ (λ (a : Asked) (l : ℕ → Option (List ℕ)). old ≡ summed (filter_map (counted_sale a l) sales) → fault ≡ Damaged → IsMeasured (measures_of s) → 4_294_967_295 ≤ length (filter_map (counted_sale a l) sales)) same alike many tally)
+pub not_by_labels : (r : Asked) (labels : ℕ → Option (List ℕ)) (sales : List KeyedSale) (sums : List (ℕ × Figures)) (fault : AddError) → IsTally r sales sums (Some fault) → IsCounted r labels sales (Err (fault_of fault))
+not_by_labels r labels sales sums Memory tally = tt
+not_by_labels r labels sales sums Damaged tally = tally
 
 -- ---- facts at rest have measures that a sale may have
 
@@ -124,34 +125,98 @@ as_flat_map h (x ∷ xs) = elim (h x) as (λ o. cons_option o (filter_map h xs) 
 reordered : {X Y : Type 0} (h : X → Option Y) (xs ys : List X) → IsPermutation xs ys → IsPermutation (filter_map h xs) (filter_map h ys)
 reordered h xs ys same = rw (as_flat_map h xs, as_flat_map h ys) (IsPermutation-flat_map (λ x. option_to_list (h x)) xs ys same)
 
--- a sale of the facts is that of one of them
-keyed_from : (column : LabelColumn) (facts : List Fact) (s : KeyedSale) → Contains (map (keyed (key_by column)) facts) s → (f : Fact) × Contains facts f × (s ≡ keyed (key_by column) f)
-keyed_from column [] s there = let within = there.1 in absurd (omega arith)
-keyed_from column (f ∷ facts) s (zero, within, is) = (f, (0, omega arith, refl), sym is)
-keyed_from column (f ∷ facts) s (suc k, within, is) =
-    let found = keyed_from column facts s (k, omega arith, is) in
-    (found.0, (suc found.1.0, (let less = found.1.1 in omega arith), found.1.2), found.2)
+-- a sale of the range is that of a fact
+pub record IsOfFact (r : Asked) (column : LabelColumn) (facts : List Fact) (s : KeyedSale) : Type 0 where
+  pub fact : Fact
+  pub there : Contains facts fact
+  pub asked : is_asked_of r fact.day ≡ true
+  pub is : s ≡ keyed (key_by column) fact
 
-module _ (r : Asked) (column : LabelColumn) (labels : ℕ → Option (List ℕ)) (st : State) (t : Tables) (at : IsAtRest (Some t) st) (which : FactKey) (leads : which ≡ key_by column) (ordered : List Fact) (same : IsPermutation ordered (values t.fact)) (sums : Summed) (fault : Option FactFault)
-    (tally : IsTally r labels (map (keyed which) ordered) sums fault) where
-  told : (other : Option FactFault) → fault ≡ other → IsTally r labels (map (keyed (key_by column)) ordered) sums other
-  told other is = subst₂ (λ (w : FactKey) (o : Option FactFault). IsTally r labels (map (keyed w) ordered) sums o) leads is tally
+further : (r : Asked) (column : LabelColumn) (f : Fact) (facts : List Fact) (s : KeyedSale) → IsOfFact r column facts s → IsOfFact r column (f ∷ facts) s
+further r column f facts s rest = record { fact = rest.fact; there = Contains-append_right (f ∷ []) facts rest.fact rest.there; asked = rest.asked; is = rest.is }
+
+first_or : (r : Asked) (column : LabelColumn) (f : Fact) (facts : List Fact) (s : KeyedSale) → is_asked_of r f.day ≡ true → (Contains (sales_of r column facts) s → IsOfFact r column facts s) → Contains (keyed (key_by column) f ∷ sales_of r column facts) s → IsOfFact r column (f ∷ facts) s
+first_or r column f facts s asked later (zero, within, is) = record { fact = f; there = (0, omega arith, refl); asked = asked; is = sym is }
+first_or r column f facts s asked later (suc k, within, is) = further r column f facts s (later (k, omega arith, is))
+
+pub sale_of_fact : (r : Asked) (column : LabelColumn) (facts : List Fact) (s : KeyedSale) → Contains (sales_of r column facts) s → IsOfFact r column facts s
+sale_of_fact r column [] s there = let within = there.1 in absurd (omega arith)
+sale_of_fact r column (f ∷ facts) s there =
+    elim (is_asked_of r f.day) as (λ b. (is_asked_of r f.day ≡ b) → Contains (cond b (keyed (key_by column) f ∷ sales_of r column facts) (sales_of r column facts)) s → IsOfFact r column (f ∷ facts) s) [
+      | true ↦ λ within here. first_or r column f facts s within (sale_of_fact r column facts s) here
+      | false ↦ λ other later. further r column f facts s (sale_of_fact r column facts s later)
+    ] refl there
+
+-- and each fact of the range has its sale
+fact_in_sales : (r : Asked) (column : LabelColumn) (facts : List Fact) (f : Fact) → Contains facts f → is_asked_of r f.day ≡ true → Contains (sales_of r column facts) (keyed (key_by column) f)
+fact_in_sales r column [] f there asked = let within = there.1 in absurd (omega arith)
+fact_in_sales r column (g ∷ facts) f (zero, within, is) asked =
+    subst (λ (h : Fact). Contains (cond (is_asked_of r h.day) (keyed (key_by column) h ∷ sales_of r column facts) (sales_of r column facts)) (keyed (key_by column) f)) (sym is)
+    (subst (λ b. Contains (cond b (keyed (key_by column) f ∷ sales_of r column facts) (sales_of r column facts)) (keyed (key_by column) f)) (sym asked) (0, omega arith, refl))
+fact_in_sales r column (g ∷ facts) f (suc k, within, is) asked =
+    let rest = fact_in_sales r column facts f (k, omega arith, is) asked in
+    elim (is_asked_of r g.day) as (λ b. Contains (cond b (keyed (key_by column) g ∷ sales_of r column facts) (sales_of r column facts)) (keyed (key_by column) f)) [
+      | true ↦ Contains-append_right (keyed (key_by column) g ∷ []) (sales_of r column facts) (keyed (key_by column) f) rest
+      | false ↦ rest
+    ]
+
+-- a fact of the range leads to a label
+abbrev HasLabel : Asked → LabelColumn → (ℕ → Option (List ℕ)) → Fact → Type 0
+HasLabel r column labels f = is_asked_of r f.day ≡ true → IsSome (labels (keyed (key_by column) f).key)
+
+facts_labelled : (r : Asked) (column : LabelColumn) (labels : ℕ → Option (List ℕ)) (facts : List Fact) → AreLabelled labels (sales_of r column facts) → AllByRecursion (HasLabel r column labels) facts
+facts_labelled r column labels [] all = tt
+facts_labelled r column labels (f ∷ facts) all =
+    elim (is_asked_of r f.day) as (λ b. AreLabelled labels (cond b (keyed (key_by column) f ∷ sales_of r column facts) (sales_of r column facts)) → (b ≡ true → IsSome (labels (keyed (key_by column) f).key)) × AllByRecursion (HasLabel r column labels) facts) [
+      | true ↦ λ own. (λ _. own.0, facts_labelled r column labels facts own.1)
+      | false ↦ λ own. (λ is. absurd cc, facts_labelled r column labels facts own)
+    ] all
+
+sales_labelled : (r : Asked) (column : LabelColumn) (labels : ℕ → Option (List ℕ)) (facts : List Fact) → AllByRecursion (HasLabel r column labels) facts → AreLabelled labels (sales_of r column facts)
+sales_labelled r column labels [] all = tt
+sales_labelled r column labels (f ∷ facts) all =
+    elim (is_asked_of r f.day) as (λ b. (b ≡ true → IsSome (labels (keyed (key_by column) f).key)) → AreLabelled labels (cond b (keyed (key_by column) f ∷ sales_of r column facts) (sales_of r column facts))) [
+      | true ↦ λ own. (own refl, sales_labelled r column labels facts all.1)
+      | false ↦ λ own. sales_labelled r column labels facts all.1
+    ] all.0
+
+module _ (r : Asked) (column : LabelColumn) (labels : ℕ → Option (List ℕ)) (st : State) (t : Tables) (at : IsAtRest (Some t) st) (which : FactKey) (leads : which ≡ key_by column) (ordered : List Fact) (same : IsPermutation ordered (values t.fact)) where
+  labelled_too : AreLabelled labels (sales_of r column ordered) → AreLabelled labels (sales_of r column (values t.fact))
+  labelled_too all =
+      sales_labelled r column labels (values t.fact) (recursion_from_All (HasLabel r column labels) (values t.fact)
+      (All-permutation (HasLabel r column labels) ordered (values t.fact) same (All-from_recursion (HasLabel r column labels) ordered (facts_labelled r column labels ordered all))))
+
+  lacks_too : HasNoLabel labels (sales_of r column ordered) → HasNoLabel labels (sales_of r column (values t.fact))
+  lacks_too lacks =
+      let from = sale_of_fact r column ordered lacks.sale lacks.there in
+      let there = fact_in_sales r column (values t.fact) from.fact (Contains-permutation ordered (values t.fact) from.fact same from.there) from.asked in
+      record { sale = lacks.sale; there = subst (Contains (sales_of r column (values t.fact))) (sym from.is) there; none = lacks.none }
 
   -- the facts come to what was counted of them
-  pub facts_summed : fault ≡ None → IsSummed r column labels (values t.fact) (Ok sums)
-  facts_summed none =
-      told None none ∙ ap summed (through r column labels ordered)
+  facts_summed : (sums : Summed) → IsLabelled labels (sales_of r column ordered) (Ok sums) → IsSummed r column labels (values t.fact) (Ok sums)
+  facts_summed sums are =
+      (are.0 ∙ ap summed (asked_counted r labels (map (keyed (key_by column)) ordered) ∙ through r column labels ordered)
       ∙ sym (any_order (filter_map (counted r column labels) ordered) (filter_map (counted r column labels) (values t.fact)) (reordered (counted r column labels) ordered (values t.fact) same))
+      , labelled_too are.1)
 
   -- or they can't be counted
-  pub facts_cut : (f : FactFault) → fault ≡ Some f → IsSummed r column labels (values t.fact) (Err (uncounted column f))
-  facts_cut Memory is = tt
-  facts_cut NoLabel is =
-      let lacks = told (Some NoLabel) is in
-      let from = keyed_from column ordered lacks.sale lacks.there in
-      inl (refl, record { fact = from.0; there = Contains-permutation ordered (values t.fact) from.0 same from.1; asked = subst (λ (s : KeyedSale). is_asked_of r s.day ≡ true) from.2 lacks.asked; none = subst (λ (s : KeyedSale). labels s.key ≡ None) from.2 lacks.none })
-  facts_cut Damaged is =
+  facts_cut : (f : FactFault) → IsCounted r labels (map (keyed (key_by column)) ordered) (Err f) → IsSummed r column labels (values t.fact) (Err (uncounted column f))
+  facts_cut uncountable.Memory cut = tt
+  facts_cut uncountable.NoLabel cut = inl (refl, lacks_too cut)
+  facts_cut uncountable.Damaged cut =
       let valid : AllByRecursion (λ (f : Fact). IsTrue (is_fact f)) (values t.fact) = all_values (λ (f : Fact). IsTrue (is_fact f)) (entries t.fact) at.now.tables.fact.valid in
       let all = all_keyed column ordered (recursion_from_All (λ (f : Fact). IsTrue (is_fact f)) ordered (All-permutation (λ (f : Fact). IsTrue (is_fact f)) (values t.fact) ordered (IsPermutation-sym ordered (values t.fact) same) (All-from_recursion (λ (f : Fact). IsTrue (is_fact f)) (values t.fact) valid))) in
-      let most = told (Some Damaged) is all in
-      inr (refl, omega (arith, length_permutation ordered (values t.fact) same, length-map ordered (keyed (key_by column))))
+      let most = cut all in
+      inr (refl, omega (arith, length_permutation ordered (values t.fact) same, length-map ordered (keyed (key_by column)), most))
+
+  module _ (q : Asked) (same_request : q ≡ r) (sums : List (ℕ × Figures)) (fault : Option AddError) (tally : IsTally r (map (keyed which) ordered) sums fault) (result : Result Summed FactFault) (told : (sales : List KeyedSale) → IsTally q sales sums fault → IsCounted q labels sales result) where
+    counted_by_labels : IsCounted r labels (map (keyed (key_by column)) ordered) result
+    counted_by_labels =
+        subst₂ (λ (a : Asked) (w : FactKey). IsCounted a labels (map (keyed w) ordered) result) same_request leads
+        (told (map (keyed which) ordered) (subst (λ (a : Asked). IsTally a (map (keyed which) ordered) sums fault) (sym same_request) tally))
+
+    pub summed_by_labels : (made : Summed) → result ≡ Ok made → IsSummed r column labels (values t.fact) (Ok made)
+    summed_by_labels made is = facts_summed made (subst (IsCounted r labels (map (keyed (key_by column)) ordered)) is counted_by_labels)
+
+    pub cut_by_labels : (f : FactFault) → result ≡ Err f → IsSummed r column labels (values t.fact) (Err (uncounted column f))
+    cut_by_labels f is = facts_cut f (subst (IsCounted r labels (map (keyed (key_by column)) ordered)) is counted_by_labels)

@@ -11,6 +11,7 @@ pub mod Label
 pub mod Joined
 pub mod Labels
 pub mod Counting
+pub mod KeySums
 pub mod Defined
 pub mod Dump
 pub mod Output

@@ -1,5 +1,5 @@
 -- What a report reads of a warehouse, and what it says.
-use Rattle.std.specs.Prelude.{◌≡◌, ◌≤◌, ◌⊎◌, ℕ, true, List, [], Option, None, Result, Ok, Err, option_map, unwrap_or, filter_map, length, Contains, ⊤}
+use Rattle.std.specs.Prelude.{◌≡◌, ◌≤◌, ◌⊎◌, ℕ, true, List, [], Option, None, Result, Ok, Err, option_map, unwrap_or, filter_map, length, ⊤}
 use Rattle.std.specs.Option.{option_and_then}
 use Rattle.std.specs.FinMap.{values}
 use Rattle.std.specs.declared.alloc.Global.{Global}
@@ -20,8 +20,8 @@ use Rattle.wh_engine.specs.Admission.{current_policy}
 use Rattle.wh_engine.specs.Scanned.{IsWanting}
 use Rattle.wh_engine.specs.declared.fault.Fault.TheVariants as faults
 use Rattle.wh_report.specs.Asked.{Asked}
-use Rattle.wh_report.specs.Counting.{counted}
-use Rattle.wh_report.specs.Joined.{column_of, fact_key, table_of}
+use Rattle.wh_report.specs.Counting.{counted, sales_of, AreLabelled, HasNoLabel}
+use Rattle.wh_report.specs.Joined.{column_of, table_of}
 use Rattle.wh_report.specs.Label.{report, text_asked}
 use Rattle.wh_report.specs.Labels.{LabelRows, labels_in, first_text}
 use Rattle.wh_report.specs.Request.{is_asked_of}
@@ -69,20 +69,13 @@ text_at column t key = first_text key (labels_in column (label_rows column t))
 abbrev pub sold_by_keys : Asked → LabelColumn → Tables → List Sold
 sold_by_keys r column t = filter_map (counted r column (text_at column t)) (values t.fact)
 
--- a fact of the range whose key leads to no label
-pub record LacksLabel (r : Asked) (column : LabelColumn) (labels : ℕ → Option (List ℕ)) (facts : List Fact) : Type 0 where
-  pub fact : Fact
-  pub there : Contains facts fact
-  pub asked : is_asked_of r fact.day ≡ true
-  pub none : labels (fact_key column fact) ≡ None
-
 -- a row that a fact of the range names is missing in the table that is found; or that is the facts', and it has more than can be counted
 abbrev pub IsInconsistent : Asked → LabelColumn → (ℕ → Option (List ℕ)) → List Fact → Table → Type 0
-IsInconsistent r column labels facts found = ((found ≡ table_of column) × LacksLabel r column labels facts) ⊎ ((found ≡ table.Fact) × (4_294_967_295 ≤ length facts))
+IsInconsistent r column labels facts found = ((found ≡ table_of column) × HasNoLabel labels (sales_of r column facts)) ⊎ ((found ≡ table.Fact) × (4_294_967_295 ≤ length facts))
 
--- what the facts come to, or that they can't be counted
+-- what the facts come to, none of the range being passed over, or that they can't be counted
 abbrev pub IsSummed : Asked → LabelColumn → (ℕ → Option (List ℕ)) → List Fact → Result Summed ReportFault → Type 0
-IsSummed r column labels facts (Ok sums) = sums ≡ summed (filter_map (counted r column labels) facts)
+IsSummed r column labels facts (Ok sums) = (sums ≡ summed (filter_map (counted r column labels) facts)) × AreLabelled labels (sales_of r column facts)
 IsSummed r column labels facts (Err (Inconsistent found)) = IsInconsistent r column labels facts found
 IsSummed r column labels facts (Err fault) = ⊤
 
@@ -92,9 +85,9 @@ uncounted column uncountable.Memory = Warehouse faults.Memory
 uncounted column uncountable.NoLabel = Inconsistent (table_of column)
 uncounted column uncountable.Damaged = Inconsistent table.Fact
 
--- what a report of any tables says
+-- what a report of any tables says; each fact of the range is in it, under the label that its key leads to
 abbrev pub ReportsTables : Asked → LabelColumn → Tables → Result (Vec ℕ Global) ReportFault → Type 0
-ReportsTables r column t (Ok text) = text.items ≡ text_asked r (sold_by_keys r column t)
+ReportsTables r column t (Ok text) = (text.items ≡ text_asked r (sold_by_keys r column t)) × AreLabelled (text_at column t) (sales_of r column (values t.fact))
 ReportsTables r column t (Err (Inconsistent found)) = IsInconsistent r column (text_at column t) (values t.fact) found
 ReportsTables r column t (Err fault) = ⊤
 

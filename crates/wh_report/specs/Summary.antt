@@ -1,5 +1,6 @@
 -- What sales come to by their labels.
-use Rattle.std.specs.Prelude.{ℕ, ℤ, pos, ◌+ℤ◌, List, [], ◌∷◌, map, filter, length, bytes_eq}
+use Rattle.std.specs.Prelude.{◌≡◌, ◌<◌, ℕ, ℤ, pos, ◌+ℤ◌, List, [], ◌∷◌, map, filter, length, bytes_eq}
+use Rattle.std.specs.List.{AllByRecursion}
 use Rattle.std.specs.Ordering.{nat_cmp}
 use Rattle.std.specs.declared.cmp.Ordering.{Ordering}
 use Rattle.std.specs.Cmp.Lexicographic.{slice_cmp}
@@ -49,3 +50,9 @@ labels = labels_with []
 -- a line for each label that a sale has, and one for all sales
 unfoldable pub summed : List Sold → Summed
 summed sales = record { lines = map (λ label. (label, totals (sold_as label sales))) (labels sales); total = totals sales }
+
+-- some sales of one label, which come to these figures
+pub record AreSoldAs (label : List ℕ) (figures : Figures) (sales : List Sold) : Type 0 where
+  pub some : 0 < length sales
+  pub labelled : AllByRecursion (λ s. s.label ≡ label) sales
+  pub made : figures ≡ totals sales

@@ -26,6 +26,15 @@ with_line m t = record {
   cost = t.cost +ℤ m.cost;
 }
 
+-- the figures of both
+abbrev pub plus : Figures → Figures → Figures
+plus t u = record {
+  lines = t.lines + u.lines;
+  quantity = t.quantity +ℤ u.quantity;
+  amount = t.amount +ℤ u.amount;
+  cost = t.cost +ℤ u.cost;
+}
+
 -- amount less cost
 abbrev pub margin : Figures → ℤ
 margin t = t.amount -ℤ t.cost

@@ -1,19 +1,22 @@
 //! Counting the facts of the warehouse for a report.
 
-ghost use Rattle.std.specs.Prelude.{◌≡◌, [], IfErr};
+ghost use Rattle.std.specs.Prelude.{◌≡◌, List, IfErr};
 ghost use Rattle.std.specs.FinMap.{values};
 ghost use Rattle.wh_engine.specs.Scanned.{ReadsThrough};
+ghost use Rattle.wh_rows.specs.declared.keyed_sale.KeyedSale.{KeyedSale};
 ghost use Rattle.wh_store.specs.Reads.{SaysAtRest, state_of};
 ghost use Rattle.wh_report.specs.Labels.{text_of};
 ghost use Rattle.wh_report.specs.Output.{IsOfTables, of_warehouse};
 ghost use Rattle.wh_report.specs.Reported.{IsSummed, uncounted};
+ghost use Rattle.wh_report.specs.Tallied.{IsTally, IsCounted};
 
 use crate::column::LabelColumn;
 use crate::fact::FactFault;
+use crate::key_sums::KeySums;
 use crate::labels::Labels;
 use crate::output::ReportFault;
 use crate::request::Request;
-use crate::summary::Summary;
+use crate::summary::{AddError, Summary};
 use sqlite::Alter;
 use std::alloc::Global;
 use wh_engine::{Engine, Fault};
@@ -32,13 +35,12 @@ fn uncounted(column: LabelColumn, fault: FactFault) -> ReportFault
     }
 }
 
-/// What the sales that were counted come to by their labels, and why one wasn't: then no further one is.
+/// What the sales that were counted come to by their keys, and why one wasn't: then no further one is.
 #[derive(Drop)]
 struct FactSums<'r> {
     request: &'r Request,
-    labels: &'r Labels,
-    summary: Summary,
-    fault: Option<FactFault>,
+    sums: KeySums,
+    fault: Option<AddError>,
 }
 
 impl Tally for FactSums<'_> {
@@ -47,11 +49,23 @@ impl Tally for FactSums<'_> {
     ghost counts = { λ first sales now. HasTallied first sales now };
 
     fn count(&mut self, sale: KeyedSale) {
-        if self.fault.is_some() {
+        if self.fault.is_some() || !self.request.contains(sale.day) {
             return;
         }
-        if let Err(fault) = self.summary.add_sale(self.request, self.labels, sale) {
+        if let Err(fault) = self.sums.add(sale) {
             self.fault = Some(fault);
+        }
+    }
+}
+
+impl FactSums<'_> {
+    /// What the sales come to by the labels that their keys lead to.
+    fn by_label(&self, alloc: Global, labels: &Labels) -> Result<Summary, FactFault>
+        ensures { (sales : List KeyedSale) → IsTally self.now.request.now sales self.now.sums self.now.fault → IsCounted self.now.request.now (text_of labels.now) sales result }
+    {
+        match self.fault {
+            Some(fault) => Err(FactFault::from(fault)),
+            None => self.sums.by_label(alloc, labels),
         }
     }
 }
@@ -71,13 +85,12 @@ pub(crate) fn summary_of<S: Alter>(
 {
     let mut sums = FactSums {
         request,
-        labels,
-        summary: Summary::new(alloc),
+        sums: KeySums::new(alloc),
         fault: None,
     };
     engine.tally_facts(column.fact_key(), &mut sums)?;
-    match sums.fault {
-        None => Ok(sums.summary),
-        Some(fault) => Err(uncounted(column, fault)),
+    match sums.by_label(alloc, labels) {
+        Ok(summary) => Ok(summary),
+        Err(fault) => Err(uncounted(column, fault)),
     }
 }

@@ -6,6 +6,7 @@ mod column_labels;
 mod dumps;
 mod fact;
 mod fact_sums;
+mod key_sums;
 mod labels;
 pub mod laws;
 mod mode;

@@ -5,29 +5,37 @@ ghost use Rattle.std.specs.Map.{lookup};
 ghost use Rattle.std.specs.BTreeMap.{is_at, insert_entry};
 ghost use Rattle.wh_report.specs.Sums.{nothing};
 ghost use Rattle.wh_report.specs.Maps.{by_text};
-ghost use Rattle.wh_report.specs.Summary.{Sold, summed, by_bytes};
-ghost use Rattle.wh_report.specs.declared.summary.AddError.TheVariants.{Memory, Full};
+ghost use Rattle.wh_report.specs.Summary.{Sold, AreSoldAs, summed, by_bytes};
+ghost use Rattle.wh_report.specs.declared.summary.AddError.TheVariants.{Memory, Damaged};
 
-use crate::totals::{Measures, Totals};
-use std::alloc::{AllocError, Global};
+use crate::totals::Totals;
+use std::alloc::{AllocError, AllocFailed, Global};
 use std::collections::BTreeMap;
 use std::marker::Model;
 use thiserror::Error;
 
-/// Why a sale wasn't counted.
+/// Why sales weren't counted.
 #[derive(Clone, Copy, Debug, PartialEq, Eq, Error)]
 pub enum AddError {
     #[error("memory ran out")]
     Memory,
-    /// 4,294,967,295 sales were counted, far more than a warehouse keeps.
-    #[error("too many sales")]
-    Full,
+    /// There are more than 4,294,967,295 sales, or the measures of one are out of range: no warehouse keeps such ones.
+    #[error("a sale is out of range, or there are too many")]
+    Damaged,
 }
 
 impl From<AllocError> for AddError {
     ghost from_gives = { λ _ e. e ≡ Memory };
 
     fn from(_e: AllocError) -> AddError {
+        AddError::Memory
+    }
+}
+
+impl<T: Drop> From<AllocFailed<T>> for AddError {
+    ghost from_gives = { λ _ e. e ≡ Memory };
+
+    fn from(_e: AllocFailed<T>) -> AddError {
         AddError::Memory
     }
 }
@@ -62,22 +70,20 @@ impl Summary {
         }
     }
 
-    /// Counts a sale that has the label. After an error the summary is of no use.
-    pub fn add(&mut self, label: &str, measures: Measures) -> Result<(), AddError>
-        // After a list of sales it is what they come to with one more.
-        ensures sums { (sales : List Sold) → self.old ≡ summed sales → OnOk result (self.new ≡ summed (sales ++ record { label = label.now; measures = measures } ∷ [])) }
-        ensures full { (sales : List Sold) → self.old ≡ summed sales → IfErr result (λ e. e ≡ Full → 4_294_967_295 ≤ length sales) }
+    /// Adds what sales of a label come to, one at least. After an error the summary is of no use.
+    pub fn add(&mut self, label: &str, figures: Totals) -> Result<(), AddError>
+        // After a list of sales it is what they come to with these.
+        ensures sums { (sales more : List Sold) → self.old ≡ summed sales → AreSoldAs label.now figures more → OnOk result (self.new ≡ summed (sales ++ more)) }
+        ensures damaged { (sales more : List Sold) → self.old ≡ summed sales → AreSoldAs label.now figures more → IfErr result (λ e. e ≡ Damaged → 4_294_967_295 ≤ length (sales ++ more)) }
     {
-        let mut figures = figures_of(&self.lines, label);
-        if self.total.is_full() {
-            return Err(AddError::Full);
-        }
-        if figures.is_full() {
-            return Err(AddError::Full);
-        }
-        figures.add(measures);
-        put(self.alloc, &mut self.lines, label, figures)?;
-        self.total.add(measures);
+        let Some(line) = figures_of(&self.lines, label).checked_add(figures) else {
+            return Err(AddError::Damaged);
+        };
+        let Some(total) = self.total.checked_add(figures) else {
+            return Err(AddError::Damaged);
+        };
+        put(self.alloc, &mut self.lines, label, line)?;
+        self.total = total;
         Ok(())
     }
 }

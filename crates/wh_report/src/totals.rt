@@ -1,7 +1,7 @@
 //! The measures of a sale, and what sales come to.
 
-ghost use Rattle.std.specs.Prelude.{◌≡◌, ◌<◌, ◌≤◌, ◌↔◌, IsTrue, IfSome, IsSome};
-ghost use Rattle.wh_report.specs.Sums.{nothing, with_line, margin, IsUpTo, IsMeasured};
+ghost use Rattle.std.specs.Prelude.{◌≡◌, ◌+◌, ◌<◌, ◌≤◌, ◌↔◌, IsTrue, IfSome, IsSome};
+ghost use Rattle.wh_report.specs.Sums.{nothing, with_line, plus, margin, IsUpTo, IsMeasured};
 
 use std::marker::Model;
 
@@ -119,6 +119,20 @@ impl Totals {
             amount: self.amount + measures.amount,
             cost: self.cost + measures.cost,
         }
+    }
+
+    /// The figures of both, where so many lines can be counted.
+    pub fn checked_add(self, other: Totals) -> Option<Totals>
+        ensures some { IsSome result ↔ self.lines + other.lines ≤ 4_294_967_295 }
+        ensures value { IfSome result (λ t. t ≡ plus self other) }
+    {
+        let lines = self.lines.checked_add(other.lines)?;
+        Some(Totals {
+            lines,
+            quantity: self.quantity + other.quantity,
+            amount: self.amount + other.amount,
+            cost: self.cost + other.cost,
+        })
     }
 
     /// How many lines of tickets there are.

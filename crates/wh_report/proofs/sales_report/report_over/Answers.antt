@@ -20,7 +20,7 @@ returns-in_err-summary-clause-tables g c clean t at =
     let second = c.in_err-summary.ensures in
     let before = second.reads.spares.clean clean in
     let p = err_from_is_err_and c.from_residual-in_err-summary.result c.from_residual-in_err-summary.ensures.1 in
-    rw (p.1, p.2) (fault_read _ _ t _ (first.labels before t at) _ (second.sums clean t (first.reads.spares.same before t at tt)))
+    rw (p.1, p.2) (fault_read c.args.request.now c.args.column t _ (first.labels before t at) _ (second.sums clean t (first.reads.spares.same before t at tt)))
 
 pub returns-in_err-text-clause-reads : goal.returns-in_err-text-clause-reads
 returns-in_err-text-clause-reads g c =
@@ -36,4 +36,4 @@ returns-clause-tables g c clean t at =
     let second = c.in_ok-summary.ensures in
     let before = second.reads.spares.clean clean in
     let sums = second.sums clean t (first.reads.spares.same before t at tt) in
-    text_read _ _ t _ (first.labels before t at) c.into_bytes.result (ap (λ v. v.items) c.into_bytes.ensures.value ∙ c.in_ok-text.ensures _ sums)
+    text_read _ _ t _ (first.labels before t at) c.into_bytes.result (ap (λ v. v.items) c.into_bytes.ensures.value ∙ c.in_ok-text.ensures _ sums.0) sums.1

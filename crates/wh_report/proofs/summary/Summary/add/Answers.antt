@@ -1,12 +1,13 @@
-use Rattle.std.proofs.Common.{◌∙◌}
-use Rattle.wh_report.proofs.Lines.{one_more, total_full, label_full}
+use Rattle.std.proofs.Common.{◌∙◌, ap}
+use Rattle.wh_report.specs.Sums.{plus}
+use Rattle.wh_report.proofs.Lines.{label_more, label_full, more_than, total_full}
 use Rattle.wh_report.proofs.summary.Summary.add.Goals as goal
 
-pub returns-then-is_full-clause-full : goal.returns-then-is_full-clause-full
-returns-then-is_full-clause-full c = λ sales e _. total_full _ sales (c.self.view_is ∙ e) (c.is_full.ensures.0 c.if-is_full.true)
+pub returns-in_default-clause-damaged : goal.returns-in_default-clause-damaged
+returns-in_default-clause-damaged c = λ sales more is are _. label_full c.args.label.now c.args.figures sales more are _ (c.self.view_is ∙ is) c.figures_of.result c.figures_of.ensures (more_than _ c.in_default.ensures.some.1)
 
-pub returns-then-is_full-2-clause-full : goal.returns-then-is_full-2-clause-full
-returns-then-is_full-2-clause-full c = λ sales e _. label_full _ _ c.args.label.now sales (c.self.view_is ∙ e) c.figures_of-figures.ensures (c.is_full-2.ensures.0 c.if-is_full-2.true)
+pub returns-in_default-checked_add-clause-damaged : goal.returns-in_default-checked_add-clause-damaged
+returns-in_default-checked_add-clause-damaged c = λ sales more is are _. total_full c.args.label.now c.args.figures sales more are _ (c.self.view_is ∙ is) (more_than _ c.in_default-checked_add.ensures.some.1)
 
 pub returns-clause-sums : goal.returns-clause-sums
-returns-clause-sums c = λ sales e. one_more _ _ c.figures_of-figures.result sales (record { label = c.args.label.now; measures = c.args.measures }) (c.self.view_is ∙ e) c.figures_of-figures.ensures (cc c.in_ok-put.ensures) c.add-2.ensures
+returns-clause-sums c = λ sales more is are. label_more c.args.label.now c.args.figures sales more are _ _ c.in-Some.line (c.self.view_is ∙ is) (c.in-Some.ensures.value ∙ ap (λ t. plus t c.args.figures) c.figures_of.ensures) (cc c.in_ok-put.ensures) c.in-Some-checked_add.ensures.value
