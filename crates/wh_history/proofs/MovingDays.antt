@@ -1,5 +1,5 @@
 -- All changes are since the earliest day and until the latest.
-use Rattle.std.proofs.Common.{◌≡◌, ◌≤◌, cond, List, [], ◌∷◌, sym, subst, arith, inl, inr}
+use Rattle.std.proofs.Common.{◌≤◌, cond, List, [], ◌∷◌, sym, subst, arith, inl, inr}
 use Rattle.std.specs.List.{AllByRecursion}
 use Rattle.std.proofs.lemmas.Bool.{cases_lt, lt-ltb, le-ltb}
 use Rattle.wh_history.specs.MovingDays.{earliest, latest_day}

@@ -1,6 +1,6 @@
 -- The sales of the range, with the labels that their keys lead to.
-use Rattle.std.proofs.Common.{◌≡◌, ℕ, ◌≤◌, true, false, cond, List, [], ◌∷◌, ◌++◌, length, Option, Some, None, Err, refl, ◌∙◌, ap, arith, suc}
-use Rattle.std.specs.Prelude.{filter, filter_map}
+use Rattle.std.proofs.Common.{◌≡◌, ℕ, ◌≤◌, true, false, cond, List, [], ◌∷◌, ◌++◌, length, Option, None, refl, ◌∙◌, ap, arith, suc}
+use Rattle.std.specs.Prelude.{filter_map}
 use Rattle.std.specs.List.{cons_option}
 use Rattle.std.proofs.lemmas.List.{append-nil}
 use Rattle.std.proofs.lemmas.List.Elements.{filter-append}

@@ -1,5 +1,5 @@
 -- What is counted of facts, in whatever order they come.
-use Rattle.std.proofs.Common.{◌≡◌, inl, inr, ℕ, ℤ, pos, negsuc, ◌+◌, ◌≤◌, ◌&&◌, ◌⊎◌, Bool, true, cond, List, [], ◌∷◌, ◌++◌, map, length, Option, Some, None, Ok, Err, Result, refl, sym, ◌∙◌, ap, subst, subst₂, arith, length-append, zero, suc, ◌<◌}
+use Rattle.std.proofs.Common.{◌≡◌, inl, inr, ℕ, ℤ, pos, negsuc, ◌≤◌, ◌&&◌, ◌⊎◌, Bool, true, cond, List, [], ◌∷◌, ◌++◌, map, length, Option, Some, None, Ok, Err, Result, refl, sym, ◌∙◌, ap, subst, subst₂, arith, length-append, zero, suc}
 use Rattle.std.specs.Prelude.{filter_map, flat_map, Contains, IsSome, IsTrue, is_some, false}
 use Rattle.std.specs.FinMap.{values, entries}
 use Rattle.std.specs.List.{AllByRecursion, cons_option}
@@ -9,7 +9,7 @@ use Rattle.std.proofs.lemmas.List.{length-map}
 use Rattle.std.proofs.lemmas.Bool.{and_parts}
 use Rattle.std.proofs.lemmas.Bool.Decides.{nat_tests}
 use Rattle.std.proofs.lemmas.Int.{ints}
-use Rattle.std.proofs.lemmas.List.Elements.{Contains-append_left, Contains-append_right, All-from_recursion, recursion_from_All}
+use Rattle.std.proofs.lemmas.List.Elements.{Contains-append_right, All-from_recursion, recursion_from_All}
 use Rattle.std.proofs.lemmas.List.Sorted.{Contains-permutation, length_permutation, IsPermutation-sym, All-permutation}
 use Rattle.sqlite.specs.State.{State}
 use Rattle.sqlite_keyed.proofs.ListLemmas.{IsPermutation-flat_map}
@@ -28,7 +28,7 @@ use Rattle.wh_report.specs.Joined.{key_by}
 use Rattle.wh_report.specs.KeySums.{AreKeySums, IsLabelled}
 use Rattle.wh_report.specs.Request.{is_asked_of}
 use Rattle.wh_report.specs.Reported.{IsSummed, uncounted}
-use Rattle.wh_report.specs.Summary.{Sold, Summed, summed}
+use Rattle.wh_report.specs.Summary.{Summed, summed}
 use Rattle.wh_report.specs.Sums.{Figures, IsMeasured, IsUpTo}
 use Rattle.wh_report.specs.Tallied.{IsCounted, IsTally}
 use Rattle.wh_report.specs.declared.column.LabelColumn.{LabelColumn}
@@ -194,10 +194,11 @@ module _ (r : Asked) (column : LabelColumn) (labels : ℕ → Option (List ℕ))
 
   -- the facts come to what was counted of them
   facts_summed : (sums : Summed) → IsLabelled labels (sales_of r column ordered) (Ok sums) → IsSummed r column labels (values t.fact) (Ok sums)
-  facts_summed sums are =
-      (are.0 ∙ ap summed (asked_counted r labels (map (keyed (key_by column)) ordered) ∙ through r column labels ordered)
-      ∙ sym (any_order (filter_map (counted r column labels) ordered) (filter_map (counted r column labels) (values t.fact)) (reordered (counted r column labels) ordered (values t.fact) same))
-      , labelled_too are.1)
+  facts_summed sums are = (
+    are.0 ∙ ap summed (asked_counted r labels (map (keyed (key_by column)) ordered) ∙ through r column labels ordered)
+        ∙ sym (any_order (filter_map (counted r column labels) ordered) (filter_map (counted r column labels) (values t.fact)) (reordered (counted r column labels) ordered (values t.fact) same)),
+    labelled_too are.1,
+  )
 
   -- or they can't be counted
   facts_cut : (f : FactFault) → IsCounted r labels (map (keyed (key_by column)) ordered) (Err f) → IsSummed r column labels (values t.fact) (Err (uncounted column f))

@@ -1,5 +1,5 @@
 -- What a report reads of a warehouse, and what it says.
-use Rattle.std.specs.Prelude.{◌≡◌, ◌≤◌, ◌⊎◌, ℕ, true, List, [], Option, None, Result, Ok, Err, option_map, unwrap_or, filter_map, length, ⊤}
+use Rattle.std.specs.Prelude.{◌≡◌, ◌≤◌, ◌⊎◌, ℕ, List, [], Option, Result, Ok, Err, option_map, unwrap_or, filter_map, length, ⊤}
 use Rattle.std.specs.Option.{option_and_then}
 use Rattle.std.specs.FinMap.{values}
 use Rattle.std.specs.declared.alloc.Global.{Global}
@@ -24,7 +24,6 @@ use Rattle.wh_report.specs.Counting.{counted, sales_of, AreLabelled, HasNoLabel}
 use Rattle.wh_report.specs.Joined.{column_of, table_of}
 use Rattle.wh_report.specs.Label.{report, text_asked}
 use Rattle.wh_report.specs.Labels.{LabelRows, labels_in, first_text}
-use Rattle.wh_report.specs.Request.{is_asked_of}
 use Rattle.wh_report.specs.Subject.{subject_in, reading_of}
 use Rattle.wh_report.specs.Summary.{Sold, Summed, summed}
 use Rattle.wh_report.specs.declared.column.LabelColumn.{LabelColumn}

@@ -1,5 +1,5 @@
 -- The statements on calendar.
-use Rattle.std.proofs.Common.{Bool, ℕ, List, [], ◌∷◌, codes, map, drop, pos, true, ◌&&◌, refl, ◌∙◌, sym, ap}
+use Rattle.std.proofs.Common.{ℕ, List, [], ◌∷◌, codes, map, drop, pos, true, ◌&&◌, refl, ◌∙◌, sym, ap}
 use Rattle.std.specs.Ordering.{eq_by_cmp}
 use Rattle.sqlite_value.specs.declared.value.Value.TheVariants.{Null, Int}
 use Rattle.sqlite_value.specs.declared.keys.Key.{Key}
@@ -10,7 +10,7 @@ use Rattle.sqlite_sql.specs.declared.ops.CompareOp.TheVariants.{Eq}
 use Rattle.sqlite_schema.specs.Rules.{equal}
 use Rattle.sqlite_tied.specs.Compute.{everything}
 use Rattle.sqlite.specs.Collation.TheVariants.{Binary}
-use Rattle.sqlite.specs.Order.{Row, column}
+use Rattle.sqlite.specs.Order.{column}
 use Rattle.sqlite.specs.Term.{Term, lit, col, op2}
 use Rattle.sqlite.specs.Listing.{understood}
 use Rattle.wh_rows.specs.Rows as row

@@ -15,8 +15,7 @@ use Rattle.std.specs.Ordering.{ordering_then}
 use Rattle.std.proofs.lemmas.Bool.{or_parts}
 use Rattle.sqlite_rules.specs.Lists.{Has}
 use Rattle.sqlite_sql.specs.Ops.{binary, truth, from_truth, is_true, or3}
-use Rattle.sqlite_sql.specs.declared.ops.BinaryOp.TheVariants.{Compare, Or}
-use Rattle.sqlite_sql.specs.declared.ops.CompareOp.TheVariants.{Gt}
+use Rattle.sqlite_sql.specs.declared.ops.BinaryOp.TheVariants.{Or}
 use Rattle.sqlite_value.specs.declared.value.Value.{Value}
 use Rattle.sqlite_schema.specs.Rules.{equal, differ}
 use Rattle.wh_rows.specs.Questions.{at_least, at_most, greater}

@@ -1,5 +1,5 @@
 -- The statements on member.
-use Rattle.std.proofs.Common.{Bool, ℕ, List, [], ◌∷◌, codes, map, pos, true, ◌&&◌, refl, sym, ap, ap₂, ◌∙◌, drop, inl, inr}
+use Rattle.std.proofs.Common.{ℕ, List, [], ◌∷◌, codes, map, pos, true, ◌&&◌, refl, sym, ap, ap₂, ◌∙◌, drop, inl, inr}
 use Rattle.std.specs.Ordering.{is_eq, eq_by_cmp, nat_cmp, ordering_then}
 use Rattle.std.specs.Cmp.Lexicographic.{slice_cmp}
 use Rattle.sqlite_value.specs.declared.value.Value.TheVariants.{Null, Int, Text}
@@ -14,7 +14,7 @@ use Rattle.sqlite_schema.specs.Rules.{equal}
 use Rattle.sqlite_rules.specs.Edit.{next_rowid}
 use Rattle.sqlite_tied.specs.Compute.{everything}
 use Rattle.sqlite.specs.Collation.TheVariants.{Binary}
-use Rattle.sqlite.specs.Order.{Row, column}
+use Rattle.sqlite.specs.Order.{column}
 use Rattle.sqlite.specs.Term.{Term, lit, col, op1, op2}
 use Rattle.sqlite.specs.Listing.{understood}
 use Rattle.wh_policy.specs.declared.attribute.Dim.{Dim}

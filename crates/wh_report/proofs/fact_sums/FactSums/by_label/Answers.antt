@@ -1,4 +1,4 @@
-use Rattle.std.proofs.Common.{◌≡◌, None, subst}
+use Rattle.std.proofs.Common.{subst}
 use Rattle.wh_report.specs.Labels.{text_of}
 use Rattle.wh_report.specs.Tallied.{IsTally}
 use Rattle.wh_report.proofs.SummedFacts.{by_labels}

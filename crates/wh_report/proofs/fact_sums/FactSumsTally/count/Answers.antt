@@ -1,6 +1,6 @@
-use Rattle.std.proofs.Common.{inl, inr, sym, subst, ◌∙◌, ap}
+use Rattle.std.proofs.Common.{inl, inr, sym, ◌∙◌, ap}
 use Rattle.wh_report.specs.Request.{is_asked_of}
-use Rattle.wh_report.proofs.SummedFacts.{not_counted, one_counted, one_refused}
+use Rattle.wh_report.proofs.SummedFacts.{not_counted, one_refused}
 use Rattle.wh_report.proofs.fact_sums.FactSumsTally.count.Goals as goal
 use Rattle.wh_report.proofs.fact_sums.FactSumsTally.count.Goals.{then-is_some-via-then-is_some, then-is_some-via-else-is_some+then-not-contains}
 

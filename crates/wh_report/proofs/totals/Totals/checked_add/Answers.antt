@@ -1,4 +1,4 @@
-use Rattle.std.proofs.Common.{arith, ◌≡◌, ◌+◌, ap, ◌+ℤ◌, to_z, of_z, w64, refl}
+use Rattle.std.proofs.Common.{arith, ◌≡◌, ◌+◌, ◌+ℤ◌, to_z, of_z, w64, refl}
 use Rattle.std.proofs.lemmas.Int.{ints}
 use Rattle.wh_report.proofs.totals.Totals.checked_add.Goals as goal
 
