@@ -9,7 +9,7 @@ use crate::engine::initiated;
 use crate::engine::tables::{Answer, all_over, look_over};
 use crate::trouble::Trouble;
 use crate::words::push_number;
-use sqlite::{Alter, Connection, Files, Options};
+use sqlite::{Alter, Connection, FileStore, Files, Options};
 use sqlite_disk::{Crash, Disk, Fuse, Memory};
 use std::alloc::Global;
 use wh_engine::{
@@ -480,16 +480,28 @@ fn over_a_crash<D: Crash + Drop>(
     command: &Command,
     out: &mut String,
 ) -> Result<(), Trouble> {
+    match made_over(alloc, files, name) {
+        Ok(engine) => push_again(
+            alloc,
+            redeliver(alloc, engine, command, Options::new(1)),
+            out,
+        ),
+        Err(trouble) => Err(trouble),
+    }
+}
+
+/// A warehouse that is made in blank files.
+fn made_over<D: Crash + Drop>(
+    alloc: Global,
+    files: Files<D>,
+    name: &str,
+) -> Result<Engine<FileStore<D>>, Trouble> {
     if !files.may_be_used() {
         return Err(Trouble);
     }
     match Connection::open_files(alloc, files, Options::new(1)) {
         Ok(conn) => match initiated(alloc, conn, name, Limits::greatest()) {
-            Ok(engine) => push_again(
-                alloc,
-                redeliver(alloc, engine, command, Options::new(1)),
-                out,
-            ),
+            Ok(engine) => Ok(engine),
             Err(_) => Err(Trouble),
         },
         Err(_) => Err(Trouble),
@@ -530,19 +542,13 @@ fn delivered_over_a_crash<D: Crash + Drop>(
     commands: &[Command],
     out: &mut String,
 ) -> Result<(), Trouble> {
-    if !files.may_be_used() {
-        return Err(Trouble);
-    }
-    match Connection::open_files(alloc, files, Options::new(1)) {
-        Ok(conn) => match initiated(alloc, conn, name, Limits::greatest()) {
-            Ok(engine) => push_both(
-                alloc,
-                deliver_again(alloc, engine, commands, Options::new(1)),
-                out,
-            ),
-            Err(_) => Err(Trouble),
-        },
-        Err(_) => Err(Trouble),
+    match made_over(alloc, files, name) {
+        Ok(engine) => push_both(
+            alloc,
+            deliver_again(alloc, engine, commands, Options::new(1)),
+            out,
+        ),
+        Err(trouble) => Err(trouble),
     }
 }
 
