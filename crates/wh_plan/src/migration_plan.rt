@@ -4,6 +4,7 @@ ghost use Rattle.std.specs.Prelude.{◌≡◌, ◌++◌, ◌∷◌, [], suc, tru
 ghost use Rattle.wh_policy.specs.Names.{fits};
 ghost use Rattle.wh_policy.specs.Written.{IsSound};
 ghost use Rattle.wh_history.specs.Accepted.{Accepted, Governs, policy_after};
+ghost use Rattle.wh_history.specs.declared.plan.Edit.TheVariants.{Put};
 ghost use Rattle.wh_rows.specs.Defined.{command_at};
 ghost use Rattle.wh_plan.specs.Edits.{AreEdits};
 ghost use Rattle.wh_plan.specs.Reads.{Finds};
@@ -12,15 +13,42 @@ ghost use Rattle.wh_store.specs.Reads.{ReadsOnly, state_of};
 
 use crate::all_members::read_dimensions;
 use crate::calendar_plan::calendar_edits;
-use crate::edits::Edits;
-use crate::migrated::{migrated_facts, migrated_rows};
+use crate::edits::{Edits, FactEdit};
+use crate::migrated::{MigratedRows, migrated_facts, migrated_rows};
 use crate::profile_plan::renumbered_profiles;
 use sqlite::Alter;
-use std::alloc::Global;
+use std::alloc::{AllocError, Global};
+use wh_day::{DateRow, Day};
 use wh_history::Edit;
 use wh_policy::Policy;
-use wh_rows::CommandRow;
+use wh_rows::{CommandRow, ProfileRow};
 use wh_store::{ReadFault, Tables};
+
+/// The edits of a migration, with its own row. Members and changes stay.
+fn with_own_row(
+    alloc: Global,
+    command: CommandRow,
+    rows: MigratedRows,
+    profiles: Vec<Edit<ProfileRow, u64>>,
+    calendar: Vec<Edit<DateRow, Day>>,
+    facts: Vec<FactEdit>,
+) -> Result<Edits, AllocError>
+    ensures { IfOk result (λ e. e ≡ record { commands = Put command ∷ []; members = []; changes = []; products = rows.products.items; stores = rows.stores.items; customers = rows.customers.items; profiles = profiles.items; calendar = calendar.items; facts = facts.items }) }
+{
+    let mut commands = Vec::new(alloc);
+    commands.push(Edit::Put(command))?;
+    Ok(Edits {
+        commands,
+        members: Vec::new(alloc),
+        changes: Vec::new(alloc),
+        products: rows.products,
+        stores: rows.stores,
+        customers: rows.customers,
+        profiles,
+        calendar,
+        facts,
+    })
+}
 
 /// What a migration writes: its own row, and the edits of each table whose rows are others under the new policy, which fits
 /// the one in force. All members and all facts are read.
@@ -40,17 +68,5 @@ pub fn plan_migration<S: Alter>(
     let rows = migrated_rows(tables, alloc, &read, &profiles.known)?;
     let facts = migrated_facts(tables, alloc, &read, &profiles.known)?;
     let calendar = calendar_edits(alloc, older, newer)?;
-    let mut commands = Vec::new(alloc);
-    commands.push(Edit::Put(command))?;
-    Ok(Edits {
-        commands,
-        members: Vec::new(alloc),
-        changes: Vec::new(alloc),
-        products: rows.products,
-        stores: rows.stores,
-        customers: rows.customers,
-        profiles: profiles.edits,
-        calendar,
-        facts,
-    })
+    Ok(with_own_row(alloc, command, rows, profiles.edits, calendar, facts)?)
 }

@@ -1,10 +1,7 @@
-use Rattle.std.proofs.Common.{List, [], ◌∷◌, ◌++◌, None, refl, ◌∙◌, ap}
+use Rattle.std.proofs.Common.{[], ◌∷◌, ◌++◌, None, refl, sym, ◌∙◌, ap, subst}
 use Rattle.wh_policy.specs.declared.attribute.Dim.TheVariants.{Customer}
 use Rattle.wh_history.specs.Laws.{governs}
-use Rattle.wh_history.specs.declared.plan.Edit.{Edit}
-use Rattle.wh_history.specs.declared.plan.Edit.TheVariants.{Put}
-use Rattle.wh_rows.specs.declared.rows.CommandRow.{CommandRow}
-use Rattle.std.proofs.Common.{ℕ}
+use Rattle.wh_plan.specs.Edits.{AreEdits}
 use Rattle.wh_plan.proofs.AllMembers.{types_anew}
 use Rattle.wh_rows.proofs.GovernedLists.{policy_governed}
 use Rattle.wh_plan.proofs.MigrationPlans.{migration_edits}
@@ -29,5 +26,5 @@ returns-clause-edits g c clean limits commands t are at d ok is governed sound f
     }) in
     let rows = c.in_ok-rows.ensures.edits third limits commands t are at_second (commands ++ d ∷ []) (days_after limits commands d ok) members anew.known in
     let facts = c.in_ok-facts.ensures.edits clean limits commands t are at_third d (ap governs is) members anew.known in
-    let own = c.in_ok-push.ensures.items ∙ ap (λ (es : List (Edit CommandRow ℕ)). es ++ Put c.args.command ∷ []) c.new-commands.ensures.items in
-    migration_edits commands d newer is c.args.older.now c.args.command c.in_ok-rows.rows _ governed stands rows anew.edits (c.in_ok-calendar.ensures fit) facts own c.new.ensures.items c.new-2.ensures.items refl refl refl
+    subst (AreEdits commands (commands ++ d ∷ [])) (sym c.in_ok-with_own_row.ensures)
+    (migration_edits commands d newer is c.args.older.now c.args.command c.in_ok-rows.rows _ governed stands rows anew.edits (c.in_ok-calendar.ensures fit) facts refl refl refl refl refl refl)
