@@ -21,10 +21,10 @@ use Rattle.wh_rows.specs.Rows as row
 use Rattle.wh_rows.specs.declared.key.ChangeKey.{ChangeKey}
 use Rattle.wh_rows.specs.declared.key.MemberKey.{MemberKey}
 use Rattle.wh_rows.specs.declared.rows.CommandRow.{CommandRow}
-use Rattle.wh_rows.specs.Defined.{command_at, member_at, change_at, profile_at, calendar_at, fact_at, day_at}
-use Rattle.wh_plan.specs.Edits.{Edits, AreEdits, IsTablePlan, IsFactPlan, rows_of_dimension}
+use Rattle.wh_rows.specs.Defined.{command_at, member_at, change_at, profile_at, calendar_at, day_at}
+use Rattle.wh_plan.specs.Edits.{Edits, AreEdits, IsTablePlan, rows_of_dimension}
 use Rattle.wh_plan.specs.Migrated.{ArePlannedAnew}
-use Rattle.wh_plan.specs.declared.migrated.MigratedRows.{MigratedRows}
+use Rattle.wh_plan.specs.declared.migrated.MigratedTables.{MigratedTables}
 use Rattle.wh_rows.proofs.GovernedLists.{members_governed, policy_governed}
 use Rattle.wh_rows.proofs.GrownChanges.{changes_grow}
 use Rattle.wh_rows.proofs.GrownCommands.{command_keyed, command_grows}
@@ -65,14 +65,13 @@ module _ (commands : List Accepted) (c : Accepted) (policy : Policy) (is : c.con
     | inr added ↦ let above = added.above in let within = added.within in absurd (omega arith)
   ]
 
-  pub migration_edits : (older : Policy) (own : CommandRow) (rows : MigratedRows) (edits : Edits) → policy_after None commands ≡ Some older → command_at (commands ++ c ∷ []) (suc (length commands)) ≡ Some own
-      → ArePlannedAnew commands (commands ++ c ∷ []) rows
+  pub migration_edits : (older : Policy) (own : CommandRow) (migrated : MigratedTables) (edits : Edits) → policy_after None commands ≡ Some older → command_at (commands ++ c ∷ []) (suc (length commands)) ≡ Some own
+      → ArePlannedAnew commands (commands ++ c ∷ []) migrated
       → IsTablePlan row.profile (profile_at commands) (profile_at (commands ++ c ∷ [])) edits.profiles
       → IsTablePlan row.calendar (day_at older) (day_at policy) edits.calendar
-      → IsFactPlan (fact_at commands) (fact_at (commands ++ c ∷ [])) edits.facts
-      → edits.commands ≡ Put own ∷ [] → edits.members ≡ [] → edits.changes ≡ [] → edits.products ≡ rows.products.items → edits.stores ≡ rows.stores.items → edits.customers ≡ rows.customers.items
+      → edits.commands ≡ Put own ∷ [] → edits.members ≡ [] → edits.changes ≡ [] → edits.products ≡ migrated.products.items → edits.stores ≡ migrated.stores.items → edits.customers ≡ migrated.customers.items → edits.facts ≡ migrated.facts.items
       → AreEdits commands (commands ++ c ∷ []) edits
-  migration_edits older own rows edits governed stands planned profiles days facts command_is no_members no_changes products_are stores_are customers_are = record {
+  migration_edits older own migrated edits governed stands planned profiles days command_is no_members no_changes products_are stores_are customers_are facts_are = record {
     commands = rw command_is (command_plan own stands);
     members = rw no_members (empty_plan row.member member_cmp_total (member_at commands) (member_at after) same_member);
     changes = rw no_changes (empty_plan row.change change_cmp_total (change_at commands) (change_at after) same_change);
@@ -80,7 +79,7 @@ module _ (commands : List Accepted) (c : Accepted) (policy : Policy) (is : c.con
     profiles = profiles;
     calendar = same_plan (day_at older) (day_at policy) (calendar_at commands) (calendar_at after) edits.calendar
         (λ day. sym (ap (option_and_then (λ p. day_at p day)) governed)) (λ day. sym (ap (option_and_then (λ p. day_at p day)) (policy_governed None commands c policy is))) days;
-    facts = facts;
+    facts = rw facts_are planned.facts;
   }
     where
       of_dimension : (dim : Dim) → IsRowPlan (dimension_row commands dim) (dimension_row after dim) (rows_of_dimension dim edits)

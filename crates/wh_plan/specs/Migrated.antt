@@ -17,12 +17,16 @@ use Rattle.wh_history.specs.declared.facts.MemberKeys.{MemberKeys}
 use Rattle.wh_history.specs.declared.member.Member.{Member}
 use Rattle.wh_history.specs.declared.profiles.Numbered.{Numbered}
 use Rattle.wh_history.specs.declared.rows.DimRow.{DimRow}
+use Rattle.wh_rows.specs.Defined.{fact_at}
+use Rattle.wh_plan.specs.Edits.{IsFactPlan}
+use Rattle.wh_plan.specs.Migration.{IsRenumbered}
 use Rattle.wh_plan.specs.SoldMembers.{no_keys}
 use Rattle.wh_plan.specs.declared.all_members.DimensionMembers.{DimensionMembers}
 use Rattle.wh_plan.specs.declared.all_members.WarehouseMembers.{WarehouseMembers}
-use Rattle.wh_plan.specs.declared.migrated.MigratedRows.{MigratedRows}
+use Rattle.wh_plan.specs.declared.migrated.MigratedTables.{MigratedTables}
 use Rattle.wh_plan.specs.declared.migrated.ShownDimension.{ShownDimension}
 use Rattle.wh_plan.specs.declared.migrated.ShownDimensions.{ShownDimensions}
+use Rattle.wh_plan.specs.declared.migration_plan.ShownAnew.{ShownAnew}
 
 -- all members of a dimension, in order of their durable keys
 abbrev pub all_members : Dim → List Accepted → List Member
@@ -46,11 +50,12 @@ pub record IsMigrated (commands : List Accepted) (d : Dimension) (ms : List Memb
   pub profiles_are : d.profiles.now ≡ all_numbered (profiles_of commands)
   pub members_are : ms ≡ all_members d.dim commands
 
--- the edits lead from the rows of the dimensions under some commands to those under others
-pub record ArePlannedAnew (before after : List Accepted) (planned : MigratedRows) : Type 0 where
+-- the edits lead from the rows of the dimensions and the facts under some commands to those under others
+pub record ArePlannedAnew (before after : List Accepted) (planned : MigratedTables) : Type 0 where
   pub products : IsRowPlan (dimension_row before Product) (dimension_row after Product) planned.products.items
   pub stores : IsRowPlan (dimension_row before Store) (dimension_row after Store) planned.stores.items
   pub customers : IsRowPlan (dimension_row before Customer) (dimension_row after Customer) planned.customers.items
+  pub facts : IsFactPlan (fact_at before) (fact_at after) planned.facts.items
 
 -- the rows of a dimension's table: those of each member, one member after the other, after that of sales without a card
 abbrev pub all_rows : Shape → List Member → List DimRow
@@ -89,3 +94,8 @@ keys_anew d f = keys_by (keys_given (showing d.stores) f.store_durable f.day) (k
 -- of some facts those whose keys change, with the new ones
 abbrev pub moved_anew : ShownDimensions → List Fact → List Fact
 moved_anew d facts = filter_map (λ f. rekeyed_to f (keys_anew d f)) facts
+
+-- what was read to be shown anew are all members, and the profiles under the numbers that they have after a command
+pub record IsShownAnew (before after : List Accepted) (anew : ShownAnew) : Type 0 where
+  pub members : AreWarehouseMembers after anew.members
+  pub profiles : IsRenumbered before after anew.profiles

@@ -100,34 +100,6 @@ fn rows_of<S: Alter>(
     row_edits(tables, alloc, &dimension, &read.members)
 }
 
-/// The edits of the rows of the three dimensions.
-#[derive(Drop)]
-pub(crate) struct MigratedRows {
-    pub(crate) products: Vec<Edit<DimRow, u64>>,
-    pub(crate) stores: Vec<Edit<DimRow, u64>>,
-    pub(crate) customers: Vec<Edit<DimRow, u64>>,
-}
-
-/// The edits of the rows of the three dimensions, whose members were read.
-pub(crate) fn migrated_rows<S: Alter>(
-    tables: &mut Tables<S>,
-    alloc: Global,
-    read: &WarehouseMembers,
-    profiles: &Profiles,
-) -> Result<MigratedRows, ReadFault>
-    ensures reads { ReadsOnly (state_of S.Store tables.old) (state_of S.Store tables.new) result }
-    ensures edits { Finds (state_of S.Store tables.old) (state_of S.Store tables.new) (λ _ commands. (after : List Accepted) → RecordsHaveDays after → AreWarehouseMembers after read.now → profiles.now ≡ all_numbered (profiles_of after) → IfOk result (ArePlannedAnew commands after)) }
-{
-    let products = rows_of(tables, alloc, &read.products, profiles)?;
-    let stores = rows_of(tables, alloc, &read.stores, profiles)?;
-    let customers = rows_of(tables, alloc, &read.customers, profiles)?;
-    Ok(MigratedRows {
-        products,
-        stores,
-        customers,
-    })
-}
-
 /// A dimension with its members as it shows them, in order of their durable keys.
 #[derive(Drop)]
 struct ShownDimension<'a> {
@@ -268,7 +240,7 @@ fn shown_dimensions<'a>(
 }
 
 /// The edits that give all stored facts the keys by their members, which were read.
-pub(crate) fn migrated_facts<S: Alter>(
+fn migrated_facts<S: Alter>(
     tables: &mut Tables<S>,
     alloc: Global,
     read: &WarehouseMembers,
@@ -281,4 +253,35 @@ pub(crate) fn migrated_facts<S: Alter>(
     let shown = shown_dimensions(alloc, read, profiles)?;
     let moved = shown.moved_facts(tables, alloc)?;
     Ok(fact_rekeys(alloc, moved)?)
+}
+
+/// The edits of the rows of the three dimensions and of the facts.
+#[derive(Drop)]
+pub(crate) struct MigratedTables {
+    pub(crate) products: Vec<Edit<DimRow, u64>>,
+    pub(crate) stores: Vec<Edit<DimRow, u64>>,
+    pub(crate) customers: Vec<Edit<DimRow, u64>>,
+    pub(crate) facts: Vec<FactEdit>,
+}
+
+/// The edits of the rows of the three dimensions, whose members were read, and of the facts.
+pub(crate) fn migrated_tables<S: Alter>(
+    tables: &mut Tables<S>,
+    alloc: Global,
+    read: &WarehouseMembers,
+    profiles: &Profiles,
+) -> Result<MigratedTables, ReadFault>
+    ensures reads { ReadsOnly (state_of S.Store tables.old) (state_of S.Store tables.new) result }
+    ensures edits { Finds (state_of S.Store tables.old) (state_of S.Store tables.new) (λ limits commands. (c : Accepted) → IsAccepted limits (commands ++ c ∷ []) → governs c.content ≡ true → AreWarehouseMembers (commands ++ c ∷ []) read.now → profiles.now ≡ all_numbered (profiles_of (commands ++ c ∷ [])) → IfOk result (ArePlannedAnew commands (commands ++ c ∷ []))) }
+{
+    let products = rows_of(tables, alloc, &read.products, profiles)?;
+    let stores = rows_of(tables, alloc, &read.stores, profiles)?;
+    let customers = rows_of(tables, alloc, &read.customers, profiles)?;
+    let facts = migrated_facts(tables, alloc, read, profiles)?;
+    Ok(MigratedTables {
+        products,
+        stores,
+        customers,
+        facts,
+    })
 }

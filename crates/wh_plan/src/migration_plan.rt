@@ -7,33 +7,54 @@ ghost use Rattle.wh_history.specs.Accepted.{Accepted, Governs, policy_after};
 ghost use Rattle.wh_history.specs.declared.plan.Edit.TheVariants.{Put};
 ghost use Rattle.wh_rows.specs.Defined.{command_at};
 ghost use Rattle.wh_plan.specs.Edits.{AreEdits};
+ghost use Rattle.wh_plan.specs.Migrated.{IsShownAnew};
 ghost use Rattle.wh_plan.specs.Reads.{Finds};
 ghost use Rattle.wh_rows.specs.Sound.{IsAccepted};
 ghost use Rattle.wh_store.specs.Reads.{ReadsOnly, state_of};
 
-use crate::all_members::read_dimensions;
+use crate::all_members::{WarehouseMembers, read_dimensions};
 use crate::calendar_plan::calendar_edits;
-use crate::edits::{Edits, FactEdit};
-use crate::migrated::{MigratedRows, migrated_facts, migrated_rows};
-use crate::profile_plan::renumbered_profiles;
+use crate::edits::Edits;
+use crate::migrated::{MigratedTables, migrated_tables};
+use crate::profile_plan::{Renumbered, renumbered_profiles};
 use sqlite::Alter;
 use std::alloc::{AllocError, Global};
 use wh_day::{DateRow, Day};
 use wh_history::Edit;
 use wh_policy::Policy;
-use wh_rows::{CommandRow, ProfileRow};
+use wh_rows::CommandRow;
 use wh_store::{ReadFault, Tables};
+
+/// What is shown anew: all members, and the profiles under new numbers.
+#[derive(Drop)]
+struct ShownAnew {
+    members: WarehouseMembers,
+    profiles: Renumbered,
+}
+
+/// All members and profiles, as a policy that takes the place of the one in force shows them.
+fn shown_anew<S: Alter>(
+    tables: &mut Tables<S>,
+    alloc: Global,
+    newer: &Policy,
+) -> Result<ShownAnew, ReadFault>
+    ensures reads { ReadsOnly (state_of S.Store tables.old) (state_of S.Store tables.new) result }
+    ensures shown { Finds (state_of S.Store tables.old) (state_of S.Store tables.new) (λ limits commands. (c : Accepted) → IsAccepted limits (commands ++ c ∷ []) → c.content ≡ Governs newer.now → IsSound newer.now → IfOk result (IsShownAnew commands (commands ++ c ∷ []))) }
+{
+    let members = read_dimensions(tables, alloc, newer)?;
+    let profiles = renumbered_profiles(tables, alloc, &members.customers.types)?;
+    Ok(ShownAnew { members, profiles })
+}
 
 /// The edits of a migration, with its own row. Members and changes stay.
 fn with_own_row(
     alloc: Global,
     command: CommandRow,
-    rows: MigratedRows,
-    profiles: Vec<Edit<ProfileRow, u64>>,
+    migrated: MigratedTables,
+    profiles: Renumbered,
     calendar: Vec<Edit<DateRow, Day>>,
-    facts: Vec<FactEdit>,
 ) -> Result<Edits, AllocError>
-    ensures { IfOk result (λ e. e ≡ record { commands = Put command ∷ []; members = []; changes = []; products = rows.products.items; stores = rows.stores.items; customers = rows.customers.items; profiles = profiles.items; calendar = calendar.items; facts = facts.items }) }
+    ensures { IfOk result (λ e. e ≡ record { commands = Put command ∷ []; members = []; changes = []; products = migrated.products.items; stores = migrated.stores.items; customers = migrated.customers.items; profiles = profiles.edits.items; calendar = calendar.items; facts = migrated.facts.items }) }
 {
     let mut commands = Vec::new(alloc);
     commands.push(Edit::Put(command))?;
@@ -41,12 +62,12 @@ fn with_own_row(
         commands,
         members: Vec::new(alloc),
         changes: Vec::new(alloc),
-        products: rows.products,
-        stores: rows.stores,
-        customers: rows.customers,
-        profiles,
+        products: migrated.products,
+        stores: migrated.stores,
+        customers: migrated.customers,
+        profiles: profiles.edits,
         calendar,
-        facts,
+        facts: migrated.facts,
     })
 }
 
@@ -63,10 +84,8 @@ pub fn plan_migration<S: Alter>(
     ensures edits { Finds (state_of S.Store tables.old) (state_of S.Store tables.new) (λ limits commands. (c : Accepted) → IsAccepted limits (commands ++ c ∷ []) → c.content ≡ Governs newer.now → policy_after None commands ≡ Some older.now → IsSound newer.now → fits older.now newer.now ≡ true
         → command_at (commands ++ c ∷ []) (suc (length commands)) ≡ Some command → IfOk result (AreEdits commands (commands ++ c ∷ []))) }
 {
-    let read = read_dimensions(tables, alloc, newer)?;
-    let profiles = renumbered_profiles(tables, alloc, &read.customers.types)?;
-    let rows = migrated_rows(tables, alloc, &read, &profiles.known)?;
-    let facts = migrated_facts(tables, alloc, &read, &profiles.known)?;
+    let anew = shown_anew(tables, alloc, newer)?;
+    let migrated = migrated_tables(tables, alloc, &anew.members, &anew.profiles.known)?;
     let calendar = calendar_edits(alloc, older, newer)?;
-    Ok(with_own_row(alloc, command, rows, profiles.edits, calendar, facts)?)
+    Ok(with_own_row(alloc, command, migrated, anew.profiles, calendar)?)
 }
