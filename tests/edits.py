@@ -25,7 +25,9 @@ from typing import NamedTuple
 
 ROOT = Path(__file__).resolve().parent.parent
 FUNCTION = re.compile(r"( *)(?:pub(?:\([^)]*\))? )?(?:const |final )*fn (\w+)")
-IMPL = re.compile(r"impl(?:<.*?>)? (.+?)(?: for (.+?))?(?: \{| where|$)")
+IMPL = re.compile(r"impl(<.*?>)? (.+?)(?: for (.+?))?(?: \{| where|$)")
+PARAMETER = re.compile(r"[<,] *(\w+) *(?=[:,>])")
+WORD = re.compile(r"(?<!')\b[A-Za-z]\w*")
 TRAIT = re.compile(r"(?:pub(?:\([^)]*\))? )?trait (\w+)")
 ANSWER = re.compile(r"^fn (\S+): (.*)$", re.M)
 ERROR = re.compile(r"^(?:\./)?(src/\S+?):(\d+):\d+: error", re.M)
@@ -51,16 +53,19 @@ class Edit(NamedTuple):
     function: Function
 
 
-def last_word(path):
-    return re.match(r"\W*(?:\w+::)*(\w*)", path)[1]
+def joined(text, parameters):
+    """The words of a type, as the prover joins them in a name, without lifetimes and parameters."""
+    return "".join(it[0].upper() + it[1:] for it in WORD.findall(text) if it not in parameters)
 
 
 def owner_at(lines, row):
     """What the prover writes before the name of a method: its type, and a trait behind it, or the trait alone."""
     for line in reversed(lines[:row]):
         if impl := IMPL.match(line):
-            subject, trait = (impl[2], impl[1]) if impl[2] else (impl[1], "")
-            return last_word(subject) + last_word(trait) + "::"
+            subject, trait = (impl[3], impl[2]) if impl[3] else (impl[2], "")
+            name, _, given = trait.partition("<")
+            parameters = PARAMETER.findall(impl[1] or "")
+            return "".join(joined(it, parameters) for it in (subject, name.rpartition("::")[2], given)) + "::"
         if trait := TRAIT.match(line):
             return trait[1] + "::"
     return ""
