@@ -49,41 +49,72 @@ for line in sqlite3.connect(sys.argv[1]).iterdump(): print(line)' "$1"
     fi | LC_ALL=C sort
 }
 
-# name of the work; what it is told again where it was kept; one growth in how many; the words. The file before the work is
-# $work/NAME.before, or there is none.
-refuse_all() {
-    local name=$1 kept=$2 step=$3 number=1 refused=0 short=0 stopped=0 answered
+# the file before the work of that name, or none
+restore() {
+    rm -f "$work/file" "$work/file-wal"
+    if [ -e "$work/$1.before" ]; then cp "$work/$1.before" "$work/file"; fi
+}
+
+# name of the work; one growth in how many; what judges a run by its text, its status ($answered) and the words; the words
+refuse_each() {
+    local name=$1 step=$2 judge=$3 number=1 refused=0
+    short=0 stopped=0
     shift 3
     [ -z "$alone" ] || [ "$alone" = "$name" ] || return 0
-    rm -f "$work/file" "$work/file-wal"
-    if [ -e "$work/$name.before" ]; then cp "$work/$name.before" "$work/file"; fi
+    restore "$name"
     "$program" "$@" > "$work/ample" || fail "$name: $(cat "$work/ample")"
     rows "$work/file" > "$work/rows"
     while true; do
-        rm -f "$work/refused" "$work/file" "$work/file-wal"
-        if [ -e "$work/$name.before" ]; then cp "$work/$name.before" "$work/file"; fi
+        rm -f "$work/refused"
+        restore "$name"
+        where="$name, growth $number refused"
         answered=0
         LD_PRELOAD="$work/refuse.so" REFUSED_ALLOCATION=$number REFUSED_NOTE="$work/refused" "$program" "$@" > "$work/text" || answered=$?
         [ -e "$work/refused" ] || break
-        "$program" "$@" > "$work/again" || true
-        if cmp -s "$work/text" "$work/ample" && [ $answered = 0 ]; then
-            [ "$(cat "$work/again")" = "$kept" ] || fail "$name, growth $number refused and the work done: then $(cat "$work/again")"
-        elif cmp -s "$work/text" "$work/short" && [ $answered = 3 ]; then
-            cmp -s "$work/again" "$work/ample" || fail "$name, growth $number refused and E8: then $(cat "$work/again")"
-            short=$((short + 1))
-        elif cmp -s "$work/text" "$work/stopped" && [ $answered = 3 ]; then
-            [ "$(cat "$work/again")" = "$kept" ] || cmp -s "$work/again" "$work/ample" || fail "$name, growth $number refused and E9: then $(cat "$work/again")"
-            stopped=$((stopped + 1))
-        else
-            fail "$name, growth $number refused: status $answered and $(cat "$work/text")"
-        fi
+        "$judge" "$@"
         rows "$work/file" > "$work/found"
-        cmp -s "$work/found" "$work/rows" || fail "$name, growth $number refused: the rows differ"
+        cmp -s "$work/found" "$work/rows" || fail "$where: the rows differ"
         refused=$((refused + 1))
         number=$((number + step))
     done
     [ $refused -gt 0 ] || fail "$name: no growth was refused"
     echo "$name: $refused growths refused, $short answered with E8, $stopped with E9, the others as with ample memory"
+}
+
+# Counts the fault of a run that ended with one, and compares the text of one that didn't with that of ample memory.
+count_fault() {
+    case "$answered/$(grep '^failed: ' "$work/text" || true)" in
+        0/) cmp -s "$work/text" "$work/ample" || fail "$where: $(cat "$work/text")" ;;
+        "3/failed: E8 memory") short=$((short + 1)) ;;
+        "3/failed: E9 store, memory") stopped=$((stopped + 1)) ;;
+        *) fail "$where: status $answered and $(cat "$work/text")" ;;
+    esac
+}
+
+# What is printed before a fault's line is a beginning of what ample memory prints.
+begins_as_with_ample_memory() {
+    grep -v '^failed: ' "$work/text" > "$work/told" || true
+    head -n "$(wc -l < "$work/told")" "$work/ample" | cmp -s - "$work/told" || fail "$where: $(cat "$work/text")"
+}
+
+# One answer; the same words again are answered as with ample memory after E8, and with $kept where the work was done.
+judge_work() {
+    [ "$(wc -l < "$work/text")" = 1 ] || fail "$where: status $answered and $(cat "$work/text")"
+    count_fault
+    "$program" "$@" > "$work/again" || true
+    case "$(cat "$work/text")" in
+        "failed: E8 memory") cmp -s "$work/again" "$work/ample" ;;
+        "failed: E9 store, memory") cmp -s "$work/again" "$work/ample" || [ "$(cat "$work/again")" = "$kept" ] ;;
+        *) [ "$(cat "$work/again")" = "$kept" ] ;;
+    esac || fail "$where: $(cat "$work/text"), then $(cat "$work/again")"
+}
+
+# name of the work; what it is told again where it was kept; one growth in how many; the words
+refuse_all() {
+    local name=$1 step=$3
+    kept=$2
+    shift 3
+    refuse_each "$name" "$step" judge_work "$@"
 }
 
 refuse_all making 'refused: E11 not empty' $((step * 10)) init "$work/file" "$work/policy.toml"
@@ -105,75 +136,27 @@ cp "$work/late.before" "$work/migration.before"
 "$program" load "$work/migration.before" product p2 "$work/second.csv" > "$work/told" || fail "$(cat "$work/told")"
 refuse_all migration 'already 5 m1: 0 records, 0 placeholders' "$step" migrate "$work/file" m1 "$work/newer.toml"
 
-# The same of a delivery: what it prints is a beginning of what ample memory prints, and where it stopped the fault's line. The same manifest again gives
-# each command its receipt, accepted or already there.
-refuse_delivery() {
-    local step=$1 number=1 refused=0 short=0 stopped=0 answered
-    [ -z "$alone" ] || [ "$alone" = delivery ] || return 0
-    printf 'sales,s1,%s\nsales,s2,%s\nproduct,p2,%s\n' "$work/known.csv" "$work/unknown.csv" "$work/second.csv" > "$work/night.csv"
-    cp "$work/load.before" "$work/file"
-    "$program" deliver "$work/file" "$work/night.csv" > "$work/ample" || fail "delivery: $(cat "$work/ample")"
-    sed 's/^accepted //' "$work/ample" > "$work/receipts"
-    rows "$work/file" > "$work/rows"
-    while true; do
-        rm -f "$work/refused" "$work/file" "$work/file-wal"
-        cp "$work/load.before" "$work/file"
-        answered=0
-        LD_PRELOAD="$work/refuse.so" REFUSED_ALLOCATION=$number REFUSED_NOTE="$work/refused" "$program" deliver "$work/file" "$work/night.csv" > "$work/text" || answered=$?
-        [ -e "$work/refused" ] || break
-        grep -v '^failed: ' "$work/text" > "$work/told" || true
-        head -n "$(wc -l < "$work/told")" "$work/ample" | cmp -s - "$work/told" || fail "delivery, growth $number refused: $(cat "$work/text")"
-        case "$answered/$(grep '^failed: ' "$work/text" || true)" in
-            0/) cmp -s "$work/text" "$work/ample" || fail "delivery, growth $number refused: $(cat "$work/text")" ;;
-            "3/failed: E8 memory") short=$((short + 1)) ;;
-            "3/failed: E9 store, memory") stopped=$((stopped + 1)) ;;
-            *) fail "delivery, growth $number refused: status $answered and $(cat "$work/text")" ;;
-        esac
-        "$program" deliver "$work/file" "$work/night.csv" > "$work/again" || fail "delivery, growth $number refused: then $(cat "$work/again")"
-        sed 's/^accepted //; s/^already //' "$work/again" | cmp -s - "$work/receipts" || fail "delivery, growth $number refused: then $(cat "$work/again")"
-        rows "$work/file" > "$work/found"
-        cmp -s "$work/found" "$work/rows" || fail "delivery, growth $number refused: the rows differ"
-        refused=$((refused + 1))
-        number=$((number + step))
-    done
-    [ $refused -gt 0 ] || fail "delivery: no growth was refused"
-    echo "delivery: $refused growths refused, $short answered with E8, $stopped with E9, the others as with ample memory"
+# A delivery stops at the fault. The same manifest again gives each command its receipt, accepted or already there.
+judge_delivery() {
+    begins_as_with_ample_memory
+    count_fault
+    "$program" "$@" > "$work/again" || fail "$where: then $(cat "$work/again")"
+    sed 's/^accepted //; s/^already //' "$work/again" > "$work/receipts"
+    sed 's/^accepted //' "$work/ample" | cmp -s - "$work/receipts" || fail "$where: then $(cat "$work/again")"
 }
 
-refuse_delivery "$step"
+printf 'sales,s1,%s\nsales,s2,%s\nproduct,p2,%s\n' "$work/known.csv" "$work/unknown.csv" "$work/second.csv" > "$work/night.csv"
+cp "$work/load.before" "$work/delivery.before"
+refuse_each delivery "$step" judge_delivery deliver "$work/file" "$work/night.csv"
 
-# The same of words that read: what is printed is that of ample memory, or a beginning of it and the fault's line, of a report that line alone; the file
-# keeps its rows.
-refuse_reading() {
-    local name=$1 step=$2 number=1 refused=0 short=0 stopped=0 answered
-    shift 2
-    [ -z "$alone" ] || [ "$alone" = "$name" ] || return 0
-    cp "$work/late.before" "$work/file"
-    rm -f "$work/file-wal"
-    "$program" "$name" "$work/file" "$@" > "$work/ample" || fail "$name: $(cat "$work/ample")"
-    rows "$work/file" > "$work/rows"
-    while true; do
-        rm -f "$work/refused"
-        answered=0
-        LD_PRELOAD="$work/refuse.so" REFUSED_ALLOCATION=$number REFUSED_NOTE="$work/refused" "$program" "$name" "$work/file" "$@" > "$work/text" || answered=$?
-        [ -e "$work/refused" ] || break
-        grep -v '^failed: ' "$work/text" > "$work/told" || true
-        head -n "$(wc -l < "$work/told")" "$work/ample" | cmp -s - "$work/told" || fail "$name, growth $number refused: $(cat "$work/text")"
-        case "$answered/$(grep '^failed: ' "$work/text" || true)" in
-            0/) cmp -s "$work/text" "$work/ample" || fail "$name, growth $number refused: $(cat "$work/text")" ;;
-            "3/failed: E8 memory") short=$((short + 1)) ;;
-            "3/failed: E9 store, memory") stopped=$((stopped + 1)) ;;
-            *) fail "$name, growth $number refused: status $answered and $(cat "$work/text")" ;;
-        esac
-        [ "$name" != report ] || [ $answered = 0 ] || [ ! -s "$work/told" ] || fail "$name, growth $number refused: $(cat "$work/text")"
-        rows "$work/file" > "$work/found"
-        cmp -s "$work/found" "$work/rows" || fail "$name, growth $number refused: the rows differ"
-        refused=$((refused + 1))
-        number=$((number + step))
-    done
-    [ $refused -gt 0 ] || fail "$name: no growth was refused"
-    echo "$name: $refused growths refused, $short answered with E8, $stopped with E9, the others as with ample memory"
+# Words that read print what ample memory prints, or a beginning of it and the fault's line, a report that line alone.
+judge_reading() {
+    begins_as_with_ample_memory
+    count_fault
+    [ "$1" != report ] || [ $answered = 0 ] || [ ! -s "$work/told" ] || fail "$where: $(cat "$work/text")"
 }
 
-refuse_reading report "$step" product.brand was 2024-01-01 2024-12-31
-refuse_reading dump "$step" product
+cp "$work/late.before" "$work/report.before"
+cp "$work/late.before" "$work/dump.before"
+refuse_each report "$step" judge_reading report "$work/file" product.brand was 2024-01-01 2024-12-31
+refuse_each dump "$step" judge_reading dump "$work/file" product
