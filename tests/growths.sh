@@ -15,8 +15,6 @@ alone=${3:-}
 work=$(mktemp -d)
 trap 'rm -rf "$work"' EXIT
 cc -O1 -shared -fPIC -o "$work/refuse.so" tests/refuse_allocation.c -ldl
-printf 'failed: E8 memory\n' > "$work/short"
-printf 'failed: E9 store, memory\n' > "$work/stopped"
 
 fail() {
     echo "$*"
