@@ -4,16 +4,18 @@
 Usage: tests/edits.py [--must-fail] CRATE..     (as tests/edits.py wh_day wh_policy)
 
 A function is proved from its own body and from the contracts of what it calls, so edits of different functions don't
-disturb one another. They are tried together, in rounds, each of them one check over what is proved already. An edit
-counts as refused where the prover refuses its own function, and not where that function only waits for another one's
-proof. An edit whose answer isn't clear is tried again without those that are refused, and in the end alone, as is one that
-stands outside of functions. Where a check ends before it answers for any function, its edits are tried in two parts, those
-that its errors point at and the others, or two halves: so an edit that doesn't compile is found. It is a BAD EDIT, which
-says nothing. All is done on a copy of the repository; a crate with no kept work in out/ is proved there first. The last
-line counts the edits, and the status is 1 where one is bad or not refused.
+disturb one another. They are tried together, in rounds, each of them one check over what is proved of the crate without
+any edit. But a function with answers of its own in proofs/ waits until all that it reaches is proved, so an edit of the
+one isn't tried beside an edit of the other. An edit counts as refused where the prover refuses its own function, and not
+where that function only waits for another one's proof. An edit whose answer isn't clear is tried again without those that
+are refused, and in the end alone, as is one that stands outside of functions. Where a check ends before it answers for any
+function, its edits are tried in two parts, those that its errors point at and the others, or two halves: so an edit that
+doesn't compile is found. It is a BAD EDIT, which says nothing. All is done on a copy of the repository; a crate with no
+kept work in out/ is proved there first. The last line counts the edits, and the status is 1 where one is bad or not refused.
 """
 
 import argparse
+import os
 import re
 import resource
 import shutil
@@ -28,6 +30,8 @@ FUNCTION = re.compile(r"( *)(?:pub(?:\([^)]*\))? )?(?:const |final )*fn (\w+)")
 IMPL = re.compile(r"impl(<.*?>)? (.+?)(?: for (.+?))?(?: \{| where|$)")
 PARAMETER = re.compile(r"[<,] *(\w+) *(?=[:,>])")
 WORD = re.compile(r"(?<!')\b[A-Za-z]\w*")
+CALL = re.compile(r"(?<![.\w])((?:\w+::)*\w+)(?:::<[^()]*>)?\(")
+CALL_OF_SELF = re.compile(r"\bself\.(\w+)(?:::<[^()]*>)?\(")
 TRAIT = re.compile(r"(?:pub(?:\([^)]*\))? )?trait (\w+)")
 ANSWER = re.compile(r"^fn (\S+): (.*)$", re.M)
 ERROR = re.compile(r"^(?:\./)?(src/\S+?):(\d+):\d+: error", re.M)
@@ -35,15 +39,18 @@ WAITS = re.compile(r"it calls `|it passes the block `|a call of `|waits for the 
 
 
 class Function(NamedTuple):
-    """A function of a file: its name behind that of its module, its first line, and the line past its last."""
+    """A function of a file: its name behind that of its module, its first line, the line past its last, and the names
+    by which it calls others."""
 
     name: str
     first: int
     past: int
+    calls: frozenset
 
 
 class Edit(NamedTuple):
-    """The lines of a file that an edit replaces, those in their place, and the function around them, if one is."""
+    """The lines of a file that an edit replaces, those in their place, the function around them, if one is, and the names
+    of those for whose proofs its own waits."""
 
     label: str
     file: str
@@ -51,6 +58,7 @@ class Edit(NamedTuple):
     past: int
     lines: list
     function: Function
+    awaited: set
 
 
 def joined(text, parameters):
@@ -71,6 +79,12 @@ def owner_at(lines, row):
     return ""
 
 
+def called(path):
+    """The name of the function that a path names: behind that of its type, where it has one."""
+    words = path.split("::")
+    return "::".join(words[-2:] if words[-2:-1] and words[-2][0].isupper() else words[-1:])
+
+
 def functions_of(lines):
     """The functions that have a body."""
     heads = [(row, head) for row, line in enumerate(lines) if (head := FUNCTION.match(line))]
@@ -78,16 +92,38 @@ def functions_of(lines):
     for (row, head), (bound, _) in zip(heads, heads[1:] + [(len(lines), None)]):
         end = next((at for at in range(row, bound) if lines[at] == head[1] + "}"), None)
         if end is not None:
-            owner = owner_at(lines, row) if head[1] else ""
-            found.append(Function(owner + head[2], row, end + 1))
+            owner, body = owner_at(lines, row) if head[1] else "", "\n".join(lines[row + 1 : end])
+            calls = [called(it) for it in CALL.findall(body)] + [owner + it for it in CALL_OF_SELF.findall(body)]
+            found.append(Function(owner + head[2], row, end + 1, frozenset(calls)))
     return found
+
+
+def calls_in(crate):
+    """The names of the crate's functions, each with those that functions of that name call."""
+    calls = {}
+    for file in crate.glob("src/**/*.rt"):
+        for function in functions_of(file.read_text().split("\n")):
+            calls.setdefault(function.name, set()).update(function.calls)
+    return calls
+
+
+def awaited_by(function, file, crate, calls):
+    """The names of functions that a function reaches, where answers of its own are written: the prover takes these when what
+    it calls is proved."""
+    if not crate.joinpath("proofs", *Path(file).with_suffix("").parts[1:], *function.name.split("::")).exists():
+        return set()
+    reached, ahead = set(), set(function.calls)
+    while ahead := {it for it in ahead if it in calls and it not in reached}:
+        reached |= ahead
+        ahead = set().union(*(calls[it] for it in ahead))
+    return reached
 
 
 def same_in_front(some, other):
     return next((at for at, (a, b) in enumerate(zip(some, other)) if a != b), min(len(some), len(other)))
 
 
-def read(crate, path):
+def read(crate, path, calls):
     """The edit of a file, None where a text of it doesn't stand once."""
     text = path.read_text()
     file = re.search(r"^file: (.*?) *$", text, re.M)[1]
@@ -100,8 +136,14 @@ def read(crate, path):
     first = same_in_front(before, after)
     behind = same_in_front(before[first:][::-1], after[first:][::-1])
     past, lines = len(before) - behind, after[first : len(after) - behind]
-    around = [it for it in functions_of(before) if it.first <= first and past <= it.past]
-    return Edit("/".join(path.parts[-3:]), file, first, past, lines, around[0] if around else None)
+    around = next((it for it in functions_of(before) if it.first <= first and past <= it.past), None)
+    awaited = awaited_by(around, file, crate, calls) if around else set()
+    return Edit("/".join(path.parts[-3:]), file, first, past, lines, around, awaited)
+
+
+def copy_work(source, target):
+    """Copies the prover's work: links to the files of checked modules, which it never writes to, and copies of others."""
+    shutil.copytree(source, target, copy_function=lambda old, new: (os.link if old.endswith(".oantt") else shutil.copy2)(old, new))
 
 
 def check(crate):
@@ -111,7 +153,10 @@ def check(crate):
 
 
 def check_with(crate, edits):
-    """What the check says of a crate with edits whose lines don't meet. The files are put back."""
+    """What the check says of a crate with edits whose lines don't meet. It begins with what was proved of the crate without
+    any: else it would prove again each function that was edited in the check before. The files are put back."""
+    shutil.rmtree(crate / "out/incremental")
+    copy_work(crate / "out/kept", crate / "out/incremental")
     files = {edit.file: (crate / edit.file).read_text() for edit in edits}
     for file, text in files.items():
         lines = text.split("\n")
@@ -152,7 +197,8 @@ def is_refused_among(crate, edit, said):
 
 def place_after(edit, edits):
     """The first line, and the line past the last, of an edit's function, or else of its lines, where all of the edits are made."""
-    first, past = edit.function[1:] if edit.function else (edit.first, edit.past)
+    whole = edit.function or edit
+    first, past = whole.first, whole.past
     longer = [(it.first, len(it.lines) - (it.past - it.first)) for it in edits if it.file == edit.file]
     return first + sum(by for at, by in longer if at < first), past + sum(by for at, by in longer if at < past)
 
@@ -190,19 +236,36 @@ def try_round(crate, edits):
     return Round(some.refused + others.refused, some.bad + others.bad, some.checks + others.checks + 1)
 
 
+def disturbs(some, other):
+    """Whether two edits stand in one function, or in one for whose proof the other's waits."""
+    same = (some.file, some.function) == (other.file, other.function)
+    return same or some.function.name in other.awaited or other.function.name in some.awaited
+
+
+def rounds_of(edits):
+    """Edits that don't disturb one another together, in few rounds: placed are those first that disturb most others."""
+    rounds = []
+    for edit in sorted(edits, key=lambda it: -sum(disturbs(it, other) for other in edits)):
+        fitting = [it for it in rounds if not any(disturbs(edit, other) for other in it)]
+        if fitting:
+            fitting[0].append(edit)
+        else:
+            rounds.append([edit])
+    return rounds
+
+
 def try_together(crate, edits):
-    """Tries edits in rounds, of each function one, while a round refuses some. Gives those that are left, and the bad ones."""
-    left, bad, number = edits, [], 0
-    while len(left) > 1:
-        chosen, number = list({(it.file, it.function): it for it in left}.values()), number + 1
+    """Tries edits in rounds, until each is refused or bad, or was in a round that made nothing clear. Gives these, and the bad ones."""
+    left, unclear, bad, number = edits, [], [], 0
+    while left:
+        chosen, number = rounds_of(left)[0], number + 1
         tried = try_round(crate, chosen)
         print(f"{crate.name}: round {number}: {len(tried.refused)} of {len(chosen)} refused, {tried.checks} checks, {seconds():.0f} s so far", flush=True)
         bad += tried.bad
         known = tried.refused + [it for it, _ in tried.bad]
-        left = [it for it in left if it not in known]
-        if not tried.refused:
-            break
-    return left, bad
+        unclear += [] if known else chosen
+        left = [it for it in left if it not in known + unclear]
+    return unclear, bad
 
 
 def try_alone(crate, edit):
@@ -214,9 +277,9 @@ def try_alone(crate, edit):
 
 
 def seconds():
-    """The processor time of all checks so far."""
-    used = resource.getrusage(resource.RUSAGE_CHILDREN)
-    return used.ru_utime + used.ru_stime
+    """The processor time so far, this program's and that of its checks."""
+    used = [resource.getrusage(it) for it in (resource.RUSAGE_SELF, resource.RUSAGE_CHILDREN)]
+    return sum(it.ru_utime + it.ru_stime for it in used)
 
 
 def why_bad(said):
@@ -228,7 +291,9 @@ def try_crate(crate, folders):
     start, paths = seconds(), sorted(it for folder in folders for it in (crate / folder).glob("*.edit"))
     if "\nlogic=proved " not in check(crate):
         sys.exit(f"{crate.name} is not proved, so its edits say nothing")
-    edits = [read(crate, path) for path in paths]
+    copy_work(crate / "out/incremental", crate / "out/kept")
+    calls = calls_in(crate)
+    edits = [read(crate, path, calls) for path in paths]
     missed = [f"BAD EDIT: {path}: a text of it isn't once in its file" for path, it in zip(paths, edits) if not it]
     good = [it for it in edits if it]
     left, bad = try_together(crate, [it for it in good if it.function])
