@@ -291,6 +291,7 @@ def try_crate(crate, folders):
     start, paths = seconds(), sorted(it for folder in folders for it in (crate / folder).glob("*.edit"))
     if "\nlogic=proved " not in check(crate):
         sys.exit(f"{crate.name} is not proved, so its edits say nothing")
+    print(f"{crate.name}: {seconds() - start:.0f} s for the check without an edit", flush=True)
     copy_work(crate / "out/incremental", crate / "out/kept")
     calls = calls_in(crate)
     edits = [read(crate, path, calls) for path in paths]
