@@ -6,12 +6,13 @@ Usage: tests/edits.py [--must-fail] CRATE..     (as tests/edits.py wh_day wh_pol
 A function is proved from its own body and from the contracts of what it calls, so edits of different functions don't
 disturb one another. They are tried together, in rounds, each of them one check over what is proved of the crate without
 any edit. But a function with answers of its own in proofs/ waits until all that it reaches is proved, so an edit of the
-one isn't tried beside an edit of the other, as far as calls of functions and of methods of self tell. An edit counts as refused where the prover refuses its own function, and not
-where that function only waits for another one's proof. An edit whose answer isn't clear is tried again without those that
-are refused, and in the end alone, as is one that stands outside of functions. Where a check ends before it answers for any
-function, its edits are tried in two parts, those that its errors point at and the others, or two halves: so an edit that
-doesn't compile is found. It is a BAD EDIT, which says nothing. All is done on a copy of the repository; a crate with no
-kept work in out/ is proved there first. The last line counts the edits, and the status is 1 where one is bad or not refused.
+one isn't tried beside an edit of the other, as far as calls of functions and of methods of self tell. An edit counts as
+refused where the prover refuses its own function, and not where that function only waits for another one's proof. An edit
+whose answer isn't clear is tried again without those that are refused, and in the end alone, as is one that stands outside
+of functions. Where a check ends before it answers for any function, its edits are tried in two parts, those that its errors
+point at and the others, or two halves: so an edit that doesn't compile is found. It is a BAD EDIT, which says nothing. All
+is done on a copy of the repository; a crate with no kept work in out/ is proved there first. The last line counts the
+edits, and the status is 1 where one is bad or not refused.
 """
 
 import argparse
