@@ -1,18 +1,24 @@
 #!/usr/bin/env python3
 """Tries wrong bodies: the prover has to refuse each edit of a crate's edits/, with --must-fail those of must-fail/ too.
 
-Usage: tests/edits.py [--must-fail] CRATE..     (as tests/edits.py wh_day wh_policy)
+Usage: tests/edits.py [--must-fail] [--copies] CRATE..     (as tests/edits.py wh_day wh_policy)
 
-A function is proved from its own body and from the contracts of what it calls, so edits of different functions don't
-disturb one another. They are tried together, in rounds, each of them one check over what is proved of the crate without
-any edit. But a function with answers of its own in proofs/ waits until all that it reaches is proved, so an edit of the
-one isn't tried beside an edit of the other, as far as calls of functions and of methods of self tell. An edit counts as
-refused where the prover refuses its own function, and not where that function only waits for another one's proof. An edit
-whose answer isn't clear is tried again without those that are refused, and in the end alone, as is one that stands outside
-of functions. Where a check ends before it answers for any function, its edits are tried in two parts, those that its errors
-point at and the others, or two halves: so an edit that doesn't compile is found. It is a BAD EDIT, which says nothing. All
-is done on a copy of the repository; a crate with no kept work in out/ is proved there first. The last line counts the
-edits, and the status is 1 where one is bad or not refused.
+A function is proved from its own body and from the contracts of what it calls. So an edit is made in a copy of its function,
+which stands beside it under a name of its own, with the same contract, over the same callees, and with the same answers, where
+proofs/ has some: nothing waits for a copy, and the edits of a crate are tried together, in one check over what is proved of
+the crate without any. Where an edit names a clause that it breaks, its copy ensures that one and the first other, and no more:
+what isn't proved to meet these isn't proved to meet all. A method of a trait can't have a copy, so it is edited in its place,
+with one edit of it at a time.
+
+--copies tries, in place of the edits, a copy without an edit of each function that has some, with the clauses that they name:
+the prover has to prove each, or its refusals would say nothing.
+
+An edit counts as refused where the prover refuses its function, and not where that only waits for another one's proof. An edit
+whose answer isn't clear is tried again without those that are refused, and in the end alone and in its place, as is one that
+stands outside of functions. Where a check ends before it answers for any function, its edits are tried in two parts, those
+that its errors point at and the others, or two halves: so an edit that doesn't compile is found. It is a BAD EDIT, which says
+nothing. All is done on a copy of the repository; a crate with no kept work in out/ is proved there first. The last line counts
+the edits, and the status is 1 where one is bad or not refused.
 """
 
 import argparse
@@ -31,27 +37,29 @@ FUNCTION = re.compile(r"( *)(?:pub(?:\([^)]*\))? )?(?:const |final )*fn (\w+)")
 IMPL = re.compile(r"impl(<.*?>)? (.+?)(?: for (.+?))?(?: \{| where|$)")
 PARAMETER = re.compile(r"[<,] *(\w+) *(?=[:,>])")
 WORD = re.compile(r"(?<!')\b[A-Za-z]\w*")
-CALL = re.compile(r"(?<![.\w])((?:\w+::)*\w+)(?:::<[^()]*>)?\(")
-CALL_OF_SELF = re.compile(r"\bself\.(\w+)(?:::<[^()]*>)?\(")
 TRAIT = re.compile(r"(?:pub(?:\([^)]*\))? )?trait (\w+)")
 ANSWER = re.compile(r"^fn (\S+): (.*)$", re.M)
 ERROR = re.compile(r"^(?:\./)?(src/\S+?):(\d+):\d+: error", re.M)
+ENSURES = re.compile(r" *ensures(?: (\w+))? ?\{")
+CLAUSE = re.compile(r" +(?:ensures|requires|ghost|//)")
+GOAL = re.compile(r"(?:abbrev )?(?:pub )?([a-z][^ :]*)")
 WAITS = re.compile(r"it calls `|it passes the block `|a call of `|waits for the proof of `")
 
 
 class Function(NamedTuple):
-    """A function of a file: its name behind that of its module, its first line, the line past its last, and the names
-    by which it calls others."""
+    """A function of a file: its name behind that of its module, the lines of its first attribute and of its head, the line
+    past its last, and whether it is a trait's or of an impl of one."""
 
     name: str
-    first: int
+    top: int
+    head: int
     past: int
-    calls: frozenset
+    is_of_trait: bool
 
 
 class Edit(NamedTuple):
-    """The lines of a file that an edit replaces, those in their place, the function around them, if one is, and the names
-    of those for whose proofs its own waits."""
+    """The lines of a file that an edit replaces, those in their place, and the function around them, if one is. The clause
+    that the edit breaks, where it names one. What the name of a copy of it ends in, if the edit is made in one."""
 
     label: str
     file: str
@@ -59,7 +67,8 @@ class Edit(NamedTuple):
     past: int
     lines: list
     function: Function
-    awaited: set
+    clause: str
+    copy: str
 
 
 def joined(text, parameters):
@@ -68,22 +77,17 @@ def joined(text, parameters):
 
 
 def owner_at(lines, row):
-    """What the prover writes before the name of a method: its type, and a trait behind it, or the trait alone."""
+    """What the prover writes before the name of a method: its type, and a trait behind it, or the trait alone. And whether
+    there is a trait."""
     for line in reversed(lines[:row]):
         if impl := IMPL.match(line):
             subject, trait = (impl[3], impl[2]) if impl[3] else (impl[2], "")
             name, _, given = trait.partition("<")
             parameters = PARAMETER.findall(impl[1] or "")
-            return "".join(joined(it, parameters) for it in (subject, name.rpartition("::")[2], given)) + "::"
+            return "".join(joined(it, parameters) for it in (subject, name.rpartition("::")[2], given)) + "::", bool(trait)
         if trait := TRAIT.match(line):
-            return trait[1] + "::"
-    return ""
-
-
-def called(path):
-    """The name of the function that a path names: behind that of its type, where it has one."""
-    words = path.split("::")
-    return "::".join(words[-2:] if words[-2:-1] and words[-2][0].isupper() else words[-1:])
+            return trait[1] + "::", True
+    return "", False
 
 
 def functions_of(lines):
@@ -93,38 +97,26 @@ def functions_of(lines):
     for (row, head), (bound, _) in zip(heads, heads[1:] + [(len(lines), None)]):
         end = next((at for at in range(row, bound) if lines[at] == head[1] + "}"), None)
         if end is not None:
-            owner, body = owner_at(lines, row) if head[1] else "", "\n".join(lines[row + 1 : end])
-            calls = [called(it) for it in CALL.findall(body)] + [owner + it for it in CALL_OF_SELF.findall(body)]
-            found.append(Function(owner + head[2], row, end + 1, frozenset(calls)))
+            owner, is_of_trait = owner_at(lines, row) if head[1] else ("", False)
+            top = next(at for at in range(row, -1, -1) if not lines[at - 1].startswith(head[1] + "#["))
+            found.append(Function(owner + head[2], top, row, end + 1, is_of_trait))
     return found
 
 
-def calls_in(crate):
-    """The names of the crate's functions, each with those that functions of that name call."""
-    calls = {}
-    for file in crate.glob("src/**/*.rt"):
-        for function in functions_of(file.read_text().split("\n")):
-            calls.setdefault(function.name, set()).update(function.calls)
-    return calls
+def path_to(function, file):
+    """The names of a function's modules, its type's and its own."""
+    return [*Path(file).with_suffix("").parts[1:], *function.name.split("::")]
 
 
-def awaited_by(function, file, crate, calls):
-    """The names of functions that a function reaches, where answers of its own are written: the prover takes these when what
-    it calls is proved."""
-    if not crate.joinpath("proofs", *Path(file).with_suffix("").parts[1:], *function.name.split("::")).exists():
-        return set()
-    reached, ahead = set(), set(function.calls)
-    while ahead := {it for it in ahead if it in calls and it not in reached}:
-        reached |= ahead
-        ahead = set().union(*(calls[it] for it in ahead))
-    return reached
+def has_answers(crate, function, file):
+    return crate.joinpath("proofs", *path_to(function, file)).exists()
 
 
 def same_in_front(some, other):
     return next((at for at, (a, b) in enumerate(zip(some, other)) if a != b), min(len(some), len(other)))
 
 
-def read(crate, path, calls):
+def read(crate, path):
     """The edit of a file, None where a text of it doesn't stand once."""
     text = path.read_text()
     file = re.search(r"^file: (.*?) *$", text, re.M)[1]
@@ -137,9 +129,86 @@ def read(crate, path, calls):
     first = same_in_front(before, after)
     behind = same_in_front(before[first:][::-1], after[first:][::-1])
     past, lines = len(before) - behind, after[first : len(after) - behind]
-    around = next((it for it in functions_of(before) if it.first <= first and past <= it.past), None)
-    awaited = awaited_by(around, file, crate, calls) if around else set()
-    return Edit("/".join(path.parts[-3:]), file, first, past, lines, around, awaited)
+    around = next((it for it in functions_of(before) if it.top <= first and past <= it.past), None)
+    clause = re.search(r"^clause: (\w+)", text, re.M)
+    copy = f"_as_{path.stem}" if around and around.head < first and not around.is_of_trait else ""
+    return Edit("/".join(path.parts[-3:]), file, first, past, lines, around, clause[1] if clause else "", copy)
+
+
+def body_of(lines, function):
+    """The row below a function's contract."""
+    indent = lines[function.past - 1].removesuffix("}")
+    return next((at for at in range(function.head, function.past) if lines[at] == indent + "{"), function.head + 1)
+
+
+def clauses_left_out(lines, edit):
+    """The names of what a function ensures, without the clause that an edit names and the first other one: of a clause that
+    stands alone the prover states its goals in another form, which the function's answers wouldn't fit. None where the edit
+    names no clause."""
+    if not edit.clause:
+        return set()
+    contract = lines[edit.function.head + 1 : body_of(lines, edit.function)]
+    names = [it[1] for line in contract if (it := ENSURES.match(line))]
+    if edit.clause not in names:
+        sys.exit(f"{edit.label} names no clause of what {edit.function.name} ensures")
+    return set([it for it in names if it != edit.clause][1:])
+
+
+def without_clauses(contract, left_out):
+    """The lines of a contract without those clauses of what it ensures."""
+    kept, is_kept = [], True
+    for line in contract:
+        if CLAUSE.match(line):
+            ensures = ENSURES.match(line)
+            is_kept = not ensures or ensures[1] not in left_out
+        kept += [line] if is_kept else []
+    return kept
+
+
+def lines_of_copy(lines, edit):
+    """A function with an edit and a name of its own, of its file's lines."""
+    at, left_out = edit.function, clauses_left_out(lines, edit)
+    short, body = at.name.rpartition("::")[2], body_of(lines, at) if left_out else at.head + 1
+    head = re.sub(r"\bpub(\([^)]*\))? ", "", lines[at.head].replace(f"fn {short}", f"fn {short}{edit.copy}", 1), count=1)
+    contract = without_clauses(lines[at.head + 1 : body], left_out)
+    return ["", *lines[at.top : at.head], head, *contract, *lines[body : edit.first], *edit.lines, *lines[edit.past : at.past]]
+
+
+def edited(lines, edits):
+    """A file's lines with edits, and for each the place in it of the function, or of the lines alone."""
+    made, places, at = [], {}, 0
+    for edit in sorted(edits, key=lambda it: it.function.past if it.copy else it.first):
+        around = edit.function
+        first, past = (around.past, around.past) if edit.copy else (edit.first, edit.past)
+        new = lines_of_copy(lines, edit) if edit.copy else edit.lines
+        in_front, behind = (first - around.head, around.past - past) if around and not edit.copy else (0, 0)
+        made += lines[at:first]
+        places[edit.label] = (len(made) - in_front, len(made) + len(new) + behind)
+        made, at = made + new, past
+    return made + lines[at:], places
+
+
+def with_answers(lines, left_out):
+    """The lines of answers, without those for goals of clauses that are left out."""
+    kept, is_kept = [], True
+    for line in lines:
+        if goal := GOAL.match(line):
+            is_kept = "-clause-" not in goal[1] or goal[1].rpartition("-clause-")[2] not in left_out
+        kept += [line] if is_kept else []
+    return kept
+
+
+def copy_answers(crate, edit):
+    """Copies the answers of a function for the copy of it: they name its goals by its own path."""
+    path = path_to(edit.function, edit.file)
+    source, own = crate.joinpath("proofs", *path), "proofs." + ".".join(path)
+    left_out = clauses_left_out((crate / edit.file).read_text().split("\n"), edit)
+    target = source.with_name(source.name + edit.copy)
+    shutil.copytree(source, target)
+    for file in target.rglob("*.antt"):
+        text = re.sub(re.escape(own) + r"(?=[.\s])", own + edit.copy, file.read_text())
+        file.write_text("\n".join(with_answers(text.split("\n"), left_out)))
+    return target
 
 
 def copy_work(source, target):
@@ -147,27 +216,33 @@ def copy_work(source, target):
     shutil.copytree(source, target, copy_function=lambda old, new: (os.link if old.endswith(".oantt") else shutil.copy2)(old, new))
 
 
-def check(crate):
-    """What the check says of a crate, over its kept work."""
-    how = {"stdin": subprocess.DEVNULL, "stdout": subprocess.PIPE, "stderr": subprocess.STDOUT}
-    return subprocess.run(["rt", "check", "--jobs", "1"], cwd=crate, text=True, errors="replace", **how).stdout
+class Said(NamedTuple):
+    """What a check says, and where its edits stand."""
+
+    text: str
+    places: dict
 
 
-def check_with(crate, edits):
+def check(crate, edits):
     """What the check says of a crate with edits whose lines don't meet. It begins with what was proved of the crate without
-    any: else it would prove again each function that was edited in the check before. The files are put back."""
-    shutil.rmtree(crate / "out/incremental")
-    copy_work(crate / "out/kept", crate / "out/incremental")
-    files = {edit.file: (crate / edit.file).read_text() for edit in edits}
+    any, where that is kept: else it would prove again each function that was edited in the check before. All is put back."""
+    if (crate / "out/kept").exists():
+        shutil.rmtree(crate / "out/incremental")
+        copy_work(crate / "out/kept", crate / "out/incremental")
+    answers = [copy_answers(crate, it) for it in edits if it.copy and has_answers(crate, it.function, it.file)]
+    files = {it.file: (crate / it.file).read_text() for it in edits}
+    places = {}
     for file, text in files.items():
-        lines = text.split("\n")
-        for edit in sorted((it for it in edits if it.file == file), key=lambda it: -it.first):
-            lines[edit.first : edit.past] = edit.lines
-        (crate / file).write_text("\n".join(lines))
-    said = check(crate)
+        made, found = edited(text.split("\n"), [it for it in edits if it.file == file])
+        (crate / file).write_text("\n".join(made))
+        places.update(found)
+    how = {"stdin": subprocess.DEVNULL, "stdout": subprocess.PIPE, "stderr": subprocess.STDOUT}
+    said = subprocess.run(["rt", "check", "--jobs", "1"], cwd=crate, text=True, errors="replace", **how).stdout
     for file, text in files.items():
         (crate / file).write_text(text)
-    return said
+    for folder in answers:
+        shutil.rmtree(folder)
+    return Said(said, places)
 
 
 def is_refusal(reason):
@@ -184,35 +259,28 @@ def is_of(answer, name):
 
 
 def is_of_method(answer, name):
-    """Whether an answer is for the method, which is named behind its type, and the type behind the module that it stands in, not the method's own."""
+    """Whether an answer is for the method, which is named behind its type, and the type behind the module that it stands in,
+    not the method's own."""
     words, name = answer.split("::"), name.split("::")
     return len(name) > 1 and any(words[at : at + len(name)] == name for at in range(len(words)))
 
 
-def is_refused_among(crate, edit, said):
+def answers_for(crate, edit, said):
+    """What the check says of the function that is edited, and of closures in it."""
     module = "::".join([crate.name, *Path(edit.file).with_suffix("").parts[1:]])
-    name = edit.function.name
-    answers = ANSWER.findall(said)
-    return any((is_of(it, f"{module}::{name}") or is_of_method(it, name)) and is_refusal(reason) for it, reason in answers)
+    name = edit.function.name + edit.copy
+    return [reason for it, reason in ANSWER.findall(said.text) if is_of(it, f"{module}::{name}") or is_of_method(it, name)]
 
 
-def place_after(edit, edits):
-    """The first line, and the line past the last, of an edit's function, or else of its lines, where all of the edits are made."""
-    whole = edit.function or edit
-    first, past = whole.first, whole.past
-    longer = [(it.first, len(it.lines) - (it.past - it.first)) for it in edits if it.file == edit.file]
-    return first + sum(by for at, by in longer if at < first), past + sum(by for at, by in longer if at < past)
-
-
-def is_blamed(edit, edits, said):
+def is_blamed(edit, said):
     """Whether an error points into the edit's function."""
-    first, past = place_after(edit, edits)
-    return any(file == edit.file and first < int(line) <= past for file, line in ERROR.findall(said))
+    first, past = said.places[edit.label]
+    return any(file == edit.file and first < int(line) <= past for file, line in ERROR.findall(said.text))
 
 
 def parted(edits, said):
     """Two parts of edits with which a check ended early: those that its errors point at and the others, or halves."""
-    blamed = [it for it in edits if is_blamed(it, edits, said)]
+    blamed = [it for it in edits if is_blamed(it, said)]
     if not 0 < len(blamed) < len(edits):
         blamed = edits[: len(edits) // 2]
     return blamed, [it for it in edits if it not in blamed]
@@ -227,41 +295,29 @@ class Round(NamedTuple):
 
 
 def try_round(crate, edits):
-    """Tries edits of different functions together."""
-    said = check_with(crate, edits)
-    if ANSWER.search(said):
-        return Round([it for it in edits if is_refused_among(crate, it, said)], [], 1)
+    """Tries edits together."""
+    said = check(crate, edits)
+    if ANSWER.search(said.text):
+        return Round([it for it in edits if any(is_refusal(reason) for reason in answers_for(crate, it, said))], [], 1)
     if len(edits) == 1:
         return Round([], [(edits[0], said)], 1)
     some, others = (try_round(crate, part) for part in parted(edits, said))
     return Round(some.refused + others.refused, some.bad + others.bad, some.checks + others.checks + 1)
 
 
-def disturbs(some, other):
-    """Whether two edits stand in one function, or in one for whose proof the other's waits."""
-    same = (some.file, some.function) == (other.file, other.function)
-    return same or some.function.name in other.awaited or other.function.name in some.awaited
-
-
-def rounds_of(edits):
-    """Edits that don't disturb one another together, in few rounds: placed are those first that disturb most others."""
-    rounds = []
-    for edit in sorted(edits, key=lambda it: -sum(disturbs(it, other) for other in edits)):
-        fitting = [it for it in rounds if not any(disturbs(edit, other) for other in it)]
-        if fitting:
-            fitting[0].append(edit)
-        else:
-            rounds.append([edit])
-    return rounds
+def fitting(edits):
+    """Edits that can be made together: of those that are made in their place, one of a function."""
+    return list({(it.file, it.function, it.copy): it for it in reversed(edits)}.values())[::-1]
 
 
 def try_together(crate, edits):
     """Tries edits in rounds, until each is refused or bad, or was in a round that made nothing clear. Gives these, and the bad ones."""
     left, unclear, bad, number = edits, [], [], 0
     while left:
-        chosen, number = rounds_of(left)[0], number + 1
+        chosen, number = fitting(left), number + 1
         tried = try_round(crate, chosen)
-        print(f"{crate.name}: round {number}: {len(tried.refused)} of {len(chosen)} refused, {tried.checks} checks, {seconds():.0f} s so far", flush=True)
+        refused = f"{len(tried.refused)} of {len(chosen)} refused, {tried.checks} checks"
+        print(f"{crate.name}: round {number}: {refused}, {seconds():.0f} s so far", flush=True)
         bad += tried.bad
         known = tried.refused + [it for it, _ in tried.bad]
         unclear += [] if known else chosen
@@ -270,9 +326,9 @@ def try_together(crate, edits):
 
 
 def try_alone(crate, edit):
-    """Whether an edit is refused, alone, and whether it is bad."""
-    said = check_with(crate, [edit])
-    answers = ANSWER.findall(said)
+    """Whether an edit is refused, alone and in its place, and whether it is bad."""
+    said = check(crate, [edit._replace(copy="")])
+    answers = ANSWER.findall(said.text)
     refused = any(is_refusal(reason) for _, reason in answers)
     return refused, [] if answers else [(edit, said)]
 
@@ -284,32 +340,54 @@ def seconds():
 
 
 def why_bad(said):
-    return next((line[:200] for line in said.split("\n") if "error" in line), "its check ends with no answer")
+    return next((line[:200] for line in said.text.split("\n") if "error" in line), "its check ends with no answer")
 
 
-def try_crate(crate, folders):
-    """How many edits there are, and how many are not refused."""
-    start, paths = seconds(), sorted(it for folder in folders for it in (crate / folder).glob("*.edit"))
-    if "\nlogic=proved " not in check(crate):
-        sys.exit(f"{crate.name} is not proved, so its edits say nothing")
-    print(f"{crate.name}: {seconds() - start:.0f} s for the check without an edit", flush=True)
-    copy_work(crate / "out/incremental", crate / "out/kept")
-    calls = calls_in(crate)
-    edits = [read(crate, path, calls) for path in paths]
-    missed = [f"BAD EDIT: {path}: a text of it isn't once in its file" for path, it in zip(paths, edits) if not it]
-    good = [it for it in edits if it]
-    left, bad = try_together(crate, [it for it in good if it.function])
-    left += [it for it in good if not it.function]
+def try_edits(crate, edits):
+    """Prints the edits that are not refused, or bad, and gives their number."""
+    left, bad = try_together(crate, [it for it in edits if it.function])
+    left, missed = left + [it for it in edits if not it.function], []
     for edit in left:
         refused, worse = try_alone(crate, edit)
         bad += worse
         missed += [f"NOT REFUSED: {edit.label}"] if not refused and not worse else []
     missed += [f"BAD EDIT: {edit.label}: {why_bad(said)}" for edit, said in bad]
-    spent = seconds() - start
-    print(f"{crate.name}: {len(edits)} edits, {len(left)} of them alone, {spent:.0f} s, {spent / max(len(edits), 1):.1f} an edit", flush=True)
     for line in missed:
         print(line, flush=True)
-    return len(edits), len(missed)
+    return len(missed)
+
+
+def try_copies(crate, edits):
+    """Tries a copy without an edit of each function that edits are made in copies of, with each clause that they name. Prints
+    those that are not proved, and gives their number."""
+    copied = {(it.file, it.function, it.clause): it for it in edits if it.copy}
+    unedited = []
+    for (_, function, clause), it in copied.items():
+        label, body = f"{function.name} of {crate.name}, {clause or 'all clauses'}", function.past - 1
+        unedited += [it._replace(label=label, first=body, past=body, lines=[], copy=f"_unedited_{clause}".rstrip("_"))]
+    said = check(crate, unedited)
+    missed = [it for it in unedited if set(answers_for(crate, it, said)) != {"proved"}]
+    print(f"{crate.name}: {len(unedited) - len(missed)} of {len(unedited)} copies without an edit are proved", flush=True)
+    for edit in missed:
+        print(f"NOT PROVED AS A COPY: {edit.label}", flush=True)
+    return len(missed)
+
+
+def try_crate(crate, folders, tried):
+    """How many edits there are, and how many were missed."""
+    start, paths = seconds(), sorted(it for folder in folders for it in (crate / folder).glob("*.edit"))
+    if "\nlogic=proved " not in check(crate, []).text:
+        sys.exit(f"{crate.name} is not proved, so its edits say nothing")
+    print(f"{crate.name}: {seconds() - start:.0f} s for the check without an edit", flush=True)
+    copy_work(crate / "out/incremental", crate / "out/kept")
+    edits = [read(crate, path) for path in paths]
+    gone = [path for path, it in zip(paths, edits) if not it]
+    for path in gone:
+        print(f"BAD EDIT: {path}: a text of it isn't once in its file", flush=True)
+    missed = len(gone) + tried(crate, [it for it in edits if it])
+    spent = seconds() - start
+    print(f"{crate.name}: {len(edits)} edits, {spent:.0f} s, {spent / max(len(edits), 1):.1f} an edit", flush=True)
+    return len(edits), missed
 
 
 def copy_to(room, names):
@@ -327,14 +405,19 @@ def copy_to(room, names):
 def main():
     words = argparse.ArgumentParser(description="Tries wrong bodies, each of which the prover has to refuse.")
     words.add_argument("--must-fail", action="store_true", help="those of must-fail/ too")
+    words.add_argument("--copies", action="store_true", help="try copies of the functions without an edit, which have to be proved")
     words.add_argument("crate", nargs="+")
     given = words.parse_args()
     folders = ["edits", "must-fail"] if given.must_fail else ["edits"]
     with tempfile.TemporaryDirectory(prefix="wh-edits-") as room:
         copy_to(Path(room, "wh"), given.crate)
-        counts = [try_crate(Path(room, "wh", "crates", name), folders) for name in given.crate]
+        tried = try_copies if given.copies else try_edits
+        counts = [try_crate(Path(room, "wh", "crates", name), folders, tried) for name in given.crate]
     edits, missed = (sum(it) for it in zip(*counts))
-    print(f"{edits - missed} refused, {missed} not refused, {seconds():.0f} s of processor time")
+    if given.copies:
+        print(f"{missed} copies not proved, {seconds():.0f} s of processor time")
+    else:
+        print(f"{edits - missed} refused, {missed} not refused, {seconds():.0f} s of processor time")
     return 1 if missed else 0
 
 
