@@ -43,6 +43,7 @@ ERROR = re.compile(r"^(?:\./)?(src/\S+?):(\d+):\d+: error", re.M)
 ENSURES = re.compile(r" *ensures(?: (\w+))? ?\{")
 CLAUSE = re.compile(r" +(?:ensures|requires|ghost|//)")
 GOAL = re.compile(r"(?:abbrev )?(?:pub )?([a-z][^ :]*)")
+ANSWER_FOR_ALL = re.compile(r"^pub returns(?:(?!-clause-)[^ :])* :", re.M)
 WAITS = re.compile(r"it calls `|it passes the block `|a call of `|waits for the proof of `")
 
 
@@ -207,7 +208,10 @@ def copy_answers(crate, edit):
     shutil.copytree(source, target)
     for file in target.rglob("*.antt"):
         text = re.sub(re.escape(own) + r"(?=[.\s])", own + edit.copy, file.read_text())
-        file.write_text("\n".join(with_answers(text.split("\n"), left_out)))
+        kept = "\n".join(with_answers(text.split("\n"), left_out))
+        if left_out and (left_out & set(re.findall(r"-clause-(\w+)", kept)) or ANSWER_FOR_ALL.search(kept)):
+            sys.exit(f"{edit.label} can name no clause: an answer for one of {edit.function.name} is for others too, or cites theirs")
+        file.write_text(kept)
     return target
 
 
