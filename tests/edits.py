@@ -104,13 +104,13 @@ def functions_of(lines):
     return found
 
 
-def path_to(function, file):
-    """The names of a function's modules, its type's and its own."""
-    return [*Path(file).with_suffix("").parts[1:], *function.name.split("::")]
-
-
-def has_answers(crate, function, file):
-    return crate.joinpath("proofs", *path_to(function, file)).exists()
+def answers_of(crate, edit):
+    """The folder of the answers for an edit's function, if it has some: under its module's, or, as a method's type may stand in
+    another module, under any."""
+    module, names = Path(edit.file).with_suffix("").parts[1:], edit.function.name.split("::")
+    here = crate.joinpath("proofs", *module, *names)
+    elsewhere = crate.glob("proofs/**/" + "/".join(names)) if len(names) > 1 else []
+    return here if here.exists() else next(iter(elsewhere), None)
 
 
 def same_in_front(some, other):
@@ -201,8 +201,8 @@ def with_answers(lines, left_out):
 
 def copy_answers(crate, edit):
     """Copies the answers of a function for the copy of it: they name its goals by its own path."""
-    path = path_to(edit.function, edit.file)
-    source, own = crate.joinpath("proofs", *path), "proofs." + ".".join(path)
+    source = answers_of(crate, edit)
+    own = ".".join(source.relative_to(crate).parts)
     left_out = clauses_left_out((crate / edit.file).read_text().split("\n"), edit)
     target = source.with_name(source.name + edit.copy)
     shutil.copytree(source, target)
@@ -233,7 +233,7 @@ def check(crate, edits):
     if (crate / "out/kept").exists():
         shutil.rmtree(crate / "out/incremental")
         copy_work(crate / "out/kept", crate / "out/incremental")
-    answers = [copy_answers(crate, it) for it in edits if it.copy and has_answers(crate, it.function, it.file)]
+    answers = [copy_answers(crate, it) for it in edits if it.copy and answers_of(crate, it)]
     files = {it.file: (crate / it.file).read_text() for it in edits}
     places = {}
     for file, text in files.items():
