@@ -1,0 +1,1 @@
+"""A mirror of a warehouse's tables in PostgreSQL."""

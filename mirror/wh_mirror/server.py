@@ -1,0 +1,124 @@
+"""A connection to a PostgreSQL server, in the one transaction of a mirror."""
+
+from collections.abc import Iterator, Sequence
+from contextlib import contextmanager
+from typing import Any
+
+import psycopg
+
+from wh_mirror.faults import Failed, Refused
+
+_SETTINGS = {
+    # joins of whole tables and the making of indexes stay in memory
+    "work_mem": "'256MB'",
+    "maintenance_work_mem": "'256MB'",
+    # a server whose mirror was killed notices it, and takes its changes back
+    "client_connection_check_interval": "'1s'",
+    # as long as it waits for another mirror of the schema to end
+    "lock_timeout": "'60s'",
+}
+
+
+def quoted(name: str) -> str:
+    """A name as SQL writes it."""
+    return '"' + name.replace('"', '""') + '"'
+
+
+def literal(text: str) -> str:
+    """A text as SQL writes it, whatever the server's settings are."""
+    return "E'" + text.replace("\\", "\\\\").replace("'", "''") + "'"
+
+
+def listed(names: Sequence[str], prefix: str = "") -> str:
+    """Columns, separated by commas."""
+    return ", ".join(prefix + quoted(name) for name in names)
+
+
+def comment_on(server: "Server", thing: str, text: str | None) -> None:
+    """Puts a comment on a thing, where there is one."""
+    if text:
+        server.run(f"COMMENT ON {thing} IS {literal(text)}")
+
+
+class Server:
+    """An open connection. It is a context manager; what wasn't committed is taken back at its end."""
+
+    def __init__(self, dsn: str) -> None:
+        self.dsn = dsn
+        try:
+            self._connection = psycopg.connect(dsn, client_encoding="utf8", application_name="wh-mirror")
+        except (psycopg.Error, UnicodeError) as error:
+            raise Failed(f"server: {_first_line(error)}") from error
+        try:
+            for name, value in _SETTINGS.items():
+                self.run(f"SET {name} = {value}")
+            if self.value("SHOW server_encoding") != "UTF8":
+                raise Refused("the encoding of the database isn't UTF8")
+        except BaseException:
+            self.close()
+            raise
+
+    def parameters(self) -> dict[str, str]:
+        """What the connection was made with, as a connection string names it."""
+        info = self._connection.info
+        return {"user": info.user} | info.get_parameters() | ({"password": info.password} if info.password else {})
+
+    def close(self) -> None:
+        """Takes back what wasn't committed."""
+        self._connection.close()
+
+    def commit(self) -> None:
+        """Makes all changes seen at once."""
+        with self._telling():
+            self._connection.commit()
+
+    def run(self, text: str, values: Sequence[Any] | None = None) -> int:
+        """Runs a statement, and answers how many rows it concerned."""
+        with self._telling():
+            return self._connection.execute(text.encode(), values).rowcount
+
+    def rows(self, text: str, values: Sequence[Any] | None = None) -> list[tuple[Any, ...]]:
+        """The rows of a question."""
+        with self._telling():
+            return self._connection.execute(text.encode(), values).fetchall()
+
+    def value(self, text: str, values: Sequence[Any] | None = None) -> Any:
+        """The first value of the only row of a question."""
+        return self.rows(text, values)[0][0]
+
+    def copy(self, target: str, names: Sequence[str], lines: Iterator[bytes]) -> None:
+        """Copies lines in the text format of COPY into a table."""
+        with self._telling(), self._connection.cursor() as cursor:
+            with cursor.copy(f"COPY {target} ({listed(names)}) FROM STDIN".encode()) as copy:
+                for some in lines:
+                    copy.write(some)
+
+    def insert(self, target: str, rows: Sequence[tuple[Any, ...]]) -> None:
+        """Puts a few rows of numbers into a table."""
+        with self._telling(), self._connection.cursor() as cursor:
+            with cursor.copy(f"COPY {target} FROM STDIN".encode()) as copy:
+                for row in rows:
+                    copy.write_row(row)
+
+    def lock(self, name: str) -> None:
+        """Waits until no other mirror has this name, and keeps it to the end of the transaction."""
+        try:
+            self._connection.execute(b"SELECT pg_advisory_xact_lock(hashtextextended(%s, 0))", (f"wh-mirror {name}",))
+        except psycopg.errors.LockNotAvailable as error:
+            raise Refused(f"another mirror of {name} is running") from error
+
+    @contextmanager
+    def _telling(self) -> Iterator[None]:
+        """Tells what the server refuses in one line."""
+        try:
+            yield
+        except (psycopg.errors.IntegrityError, psycopg.errors.DataError) as error:
+            raise Failed(f"a row isn't what the star promises: {_first_line(error)}") from error
+        except psycopg.Error as error:
+            raise Failed(f"server: {_first_line(error)}") from error
+
+
+def _first_line(error: Exception) -> str:
+    """What a server says, without the lines that explain it further."""
+    diagnosed = getattr(getattr(error, "diag", None), "message_primary", None)
+    return diagnosed or (str(error).strip().splitlines() or [type(error).__name__])[0]

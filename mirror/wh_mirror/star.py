@@ -1,0 +1,284 @@
+"""The tables of a star in one schema of one server, and what brings them to the rows of a file.
+
+The rows of a table that isn't there yet are copied straight into it. Those of a table that is there are copied into a
+temporary one beside it (`staged_NAME`); one full join of the two finds the rows that differ (`difference_NAME`), and
+only these are written.
+"""
+
+import re
+from collections.abc import Iterable, Iterator
+from dataclasses import dataclass
+
+from wh_mirror.comments import Comments
+from wh_mirror.progress import Progress
+from wh_mirror.server import Server, comment_on, listed, quoted
+from wh_mirror.tables import Table
+from wh_mirror.warehouse import Warehouse
+
+
+@dataclass(frozen=True)
+class Counts:
+    """How many rows of a table were put, changed and taken away."""
+
+    put: int
+    changed: int
+    removed: int
+
+    def __add__(self, other: "Counts") -> "Counts":
+        return Counts(self.put + other.put, self.changed + other.changed, self.removed + other.removed)
+
+
+NOTHING = Counts(0, 0, 0)
+
+
+def total(counts: Iterable[Counts]) -> Counts:
+    """The sum of some counts."""
+    return sum(counts, NOTHING)
+
+
+@dataclass(frozen=True)
+class Scope:
+    """Which rows of a table are compared: a condition for the file, and one for the mirror."""
+
+    in_file: str = "true"
+    in_mirror: str = "true"
+
+
+EVERYTHING = Scope()
+
+# by the name of the table; a table that isn't there is compared whole
+Scopes = dict[str, Scope]
+
+
+@dataclass(frozen=True)
+class Share:
+    """Which months a star holds: all of them, or on a shard every so many-th."""
+
+    number: int = 0
+    of: int = 1
+
+    def holds(self, month: int) -> bool:
+        """Whether a month, as YYYYMM, belongs to it."""
+        return (month // 100 * 12 + month % 100) % self.of == self.number
+
+    @property
+    def condition(self) -> str:
+        """The same of the day of a sale, in SQL."""
+        return f"(day / 10000 * 12 + day / 100 % 100) % {self.of} = {self.number}"
+
+
+EVERY_MONTH = Share()
+
+
+def partition_of(table: str, month: int) -> str:
+    """The name of the partition with the sales of a month, which is YYYYMM."""
+    return f"{table}_{month // 100:04}_{month % 100:02}"
+
+
+def bounds_of(month: int) -> str:
+    """The days of a month as the bounds of a partition; the days are numbers YYYYMMDD."""
+    return f"FOR VALUES FROM ({month * 100}) TO ({(month + 1) * 100})"
+
+
+class Star:
+    """Tables in a schema."""
+
+    def __init__(
+        self, server: Server, schema: str, tables: Iterable[Table], comments: Comments, share: Share = EVERY_MONTH
+    ) -> None:
+        self.server = server
+        self.schema = schema
+        self.tables = tuple(tables)
+        self._comments = comments
+        self._share = share
+        self._made: list[Table] = []
+
+    def place(self, name: str) -> str:
+        """A table of the schema as SQL names it."""
+        return f"{quoted(self.schema)}.{quoted(name)}"
+
+    def relations(self) -> set[str]:
+        """The names of the tables and views in the schema."""
+        return {
+            name
+            for (name,) in self.server.rows(
+                "SELECT relname FROM pg_catalog.pg_class WHERE relkind IN ('r', 'p', 'v', 'f')"
+                " AND relnamespace = (SELECT oid FROM pg_catalog.pg_namespace WHERE nspname = %s)",
+                (self.schema,),
+            )
+        }
+
+    def make_tables(self) -> None:
+        """Makes the tables that aren't there, with their keys."""
+        there = self.relations()
+        self._made = [table for table in self.tables if table.name not in there]
+        for table in self._made:
+            keys = [f"PRIMARY KEY ({listed(table.mirror_key)})"]
+            keys += [f"UNIQUE ({listed(names)}) DEFERRABLE INITIALLY DEFERRED" for names in table.unique]
+            self._make_table(table, keys)
+
+    def make_parent(self, table: Table) -> None:
+        """Makes a table of sales whose partitions stand on other servers, so that no key can be declared."""
+        self._make_table(table, [])
+
+    def _make_table(self, table: Table, keys: list[str]) -> None:
+        place = self.place(table.name)
+        columns = [f"{quoted(it.name)} {it.kind.declared} NOT NULL" for it in table.columns]
+        parted = " PARTITION BY RANGE (day)" if table.is_sales else ""
+        self.server.run(f"CREATE TABLE {place} ({', '.join(columns + keys)}){parted}")
+        comment_on(self.server, f"TABLE {place}", self._comments.get((table.name, None)))
+        for name in table.names:
+            comment_on(self.server, f"COLUMN {place}.{quoted(name)}", self._comments.get((table.name, name)))
+
+    def drop_tables(self, tables: Iterable[Table]) -> None:
+        """Drops tables, those that name others first."""
+        for table in reversed(tuple(tables)):
+            self.server.run(f"DROP TABLE IF EXISTS {self.place(table.name)}")
+
+    def months_of(self, table: Table) -> list[int]:
+        """The months, as YYYYMM, that have a partition."""
+        digits = re.compile(rf"{table.name}_(\d{{4}})_(\d\d)")
+        found = filter(None, map(digits.fullmatch, sorted(self.relations())))
+        return [int(year) * 100 + int(month) for year, month in (it.groups() for it in found)]
+
+    def _make_partitions(self, table: Table, months: Iterable[int]) -> None:
+        """Makes the partitions of these months that aren't there. Attaching them doesn't make readers wait."""
+        there = self.relations()
+        whole = self.place(table.name)
+        for month in filter(self._share.holds, months):
+            if partition_of(table.name, month) not in there:
+                part = self.place(partition_of(table.name, month))
+                self.server.run(f"CREATE TABLE {part} (LIKE {whole})")
+                self.server.run(f"ALTER TABLE {whole} ATTACH PARTITION {part} {bounds_of(month)}")
+
+    def _finish_tables(self) -> None:
+        """Makes the indexes and foreign keys of the tables that were made, now that they have their rows."""
+        for table in self._made:
+            place = self.place(table.name)
+            for names in table.indexes:
+                self.server.run(f"CREATE INDEX ON {place} ({listed(names)})")
+            for key in table.foreign_keys:
+                self.server.run(
+                    f"ALTER TABLE {place} ADD FOREIGN KEY ({listed(key.columns)})"
+                    f" REFERENCES {self.place(key.table)} ({listed(key.target)})"
+                )
+
+    def copy(self, warehouse: Warehouse, scopes: Scopes, progress: Progress) -> None:
+        """Copies the rows of the file to the server."""
+        for table in self.tables:
+            if table.is_sales:
+                self._make_partitions(table, warehouse.months(table))
+            target = self.place(table.name)
+            if table not in self._made:
+                target = _staged(table)
+                self.server.run(f"CREATE TEMP TABLE {target} (LIKE {self.place(table.name)}) ON COMMIT DROP")
+            condition = scopes.get(table.name, EVERYTHING).in_file
+            if table.is_sales:
+                condition = f"({condition}) AND {self._share.condition}"
+            self.server.copy(target, table.names, self._lines(warehouse, table, condition, progress))
+
+    def _lines(self, warehouse: Warehouse, table: Table, condition: str, progress: Progress) -> Iterator[bytes]:
+        copied = 0
+        for many, some in warehouse.copy_lines(table, condition):
+            yield some
+            copied += many
+            progress.show(f"{table.name}: {copied:,} rows read")
+
+    def write(self, scopes: Scopes, progress: Progress) -> dict[str, Counts]:
+        """Writes the rows that differ, and answers for each table how many they were.
+
+        A row is put after those that it names, and taken away before them.
+        """
+        counts = {}
+        for table in self.tables:
+            progress.show(f"{table.name}: comparing")
+            counts[table.name] = self._compare(table, scopes.get(table.name, EVERYTHING))
+            progress.show(f"{table.name}: writing")
+            self._put_and_change(table, counts[table.name])
+        for table in reversed(self.tables):
+            self._remove(table, counts[table.name])
+        self._finish_tables()
+        for table in self.tables:
+            if counts[table.name] != NOTHING and self._has_grown(table):
+                progress.show(f"{table.name}: counting for good plans")
+                self.server.run(f"ANALYZE {self.place(table.name)}")
+        return counts
+
+    def _has_grown(self, table: Table) -> bool:
+        """Whether a table has a fifth more rows than when the server last looked at them, or is new.
+
+        The server looks itself at all but partitioned tables.
+        """
+        counted = self.server.value("SELECT reltuples FROM pg_catalog.pg_class WHERE oid = to_regclass(%s)", (self.place(table.name),))
+        return self.count(table) > counted * 1.2
+
+    def _compare(self, table: Table, scope: Scope) -> Counts:
+        """Finds the rows that differ, and answers how many; nothing is written yet."""
+        if table in self._made:
+            return Counts(self.count(table), 0, 0)
+        staged, kept, difference = _staged(table), self.place(table.name), _difference(table)
+        on = " AND ".join(f"new.{quoted(name)} = old.{quoted(name)}" for name in table.mirror_key)
+        old_key = ", ".join(f"old.{quoted(name)} AS {quoted('old_' + name)}" for name in table.mirror_key)
+        new_row, old_row = listed(table.names, "new."), listed(table.names, "old.")
+        self.server.run(f"ANALYZE {staged}")
+        self.server.run(
+            f"CREATE TEMP TABLE {difference} ON COMMIT DROP AS SELECT {old_key}, new.*"
+            f" FROM {staged} AS new FULL JOIN (SELECT * FROM {kept} WHERE {scope.in_mirror}) AS old ON {on}"
+            f" WHERE ROW({new_row}) IS DISTINCT FROM ROW({old_row})"
+        )
+        self.server.run(f"DROP TABLE {staged}")
+        self.server.run(f"ANALYZE {difference}")
+        was, will = _is_there(table, "old_"), _is_there(table)
+        counted = self.server.rows(
+            f"SELECT count(*) FILTER (WHERE NOT {was}), count(*) FILTER (WHERE {was} AND {will}),"
+            f" count(*) FILTER (WHERE NOT {will}) FROM {difference} AS difference"
+        )
+        return Counts(*counted[0])
+
+    def count(self, table: Table) -> int:
+        """How many rows a table of the mirror has."""
+        return self.server.value(f"SELECT count(*) FROM {self.place(table.name)}")
+
+    def _put_and_change(self, table: Table, counts: Counts) -> None:
+        """Puts the rows that are new, and gives those that changed their values."""
+        if table in self._made:
+            return
+        kept, difference = self.place(table.name), _difference(table)
+        if counts.changed:
+            values = ", ".join(f"{quoted(name)} = difference.{quoted(name)}" for name in table.values)
+            self.server.run(
+                f"UPDATE {kept} AS kept SET {values} FROM {difference} AS difference"
+                f" WHERE {_is_at(table, 'old_')} AND {_is_there(table)}"
+            )
+        if counts.put:
+            self.server.run(
+                f"INSERT INTO {kept} ({listed(table.names)}) SELECT {listed(table.names)}"
+                f" FROM {difference} AS difference"
+                f" WHERE NOT {_is_there(table, 'old_')}"
+            )
+
+    def _remove(self, table: Table, counts: Counts) -> None:
+        """Takes away the rows that the file hasn't got."""
+        if counts.removed:
+            self.server.run(
+                f"DELETE FROM {self.place(table.name)} AS kept USING {_difference(table)} AS difference"
+                f" WHERE {_is_at(table, 'old_')} AND NOT {_is_there(table)}"
+            )
+
+
+def _staged(table: Table) -> str:
+    return f"pg_temp.{quoted('staged_' + table.name)}"
+
+
+def _difference(table: Table) -> str:
+    return f"pg_temp.{quoted('difference_' + table.name)}"
+
+
+def _is_there(table: Table, prefix: str = "") -> str:
+    """Whether a row of the differences has the new key, or with the prefix the old one."""
+    return f"(difference.{quoted(prefix + table.mirror_key[0])} IS NOT NULL)"
+
+
+def _is_at(table: Table, prefix: str) -> str:
+    """Whether a kept row is that of a difference."""
+    return " AND ".join(f"kept.{quoted(name)} = difference.{quoted(prefix + name)}" for name in table.mirror_key)
