@@ -59,18 +59,21 @@ def _parser() -> argparse.ArgumentParser:
         action="store_true",
         help="follows the file also where the mirror is ahead of it, or was another file's",
     )
+    parser.add_argument(
+        "--wait", type=int, default=60, metavar="SECONDS", help="for another mirror, or readers in the way (60)"
+    )
     return parser
 
 
 def _request(words: Sequence[str]) -> tuple[Request, str | None]:
     """What is asked for, and the program that checks the file."""
     given = _parser().parse_args(words)
-    if not given.schema or not all(given.shards):
-        raise Mistaken("a schema or a shard has no name")
+    if not given.schema or not all(given.shards) or not 1 <= given.wait <= 86400:
+        raise Mistaken("a schema or a shard has no name, or the wait isn't from 1 to 86400 seconds")
     # the longest of the mirror's own names is some 20 bytes longer, and PostgreSQL keeps 63
     if len(given.schema.encode()) > 40 or given.schema.startswith("pg_"):
         raise Mistaken("the name of the schema is too long, or PostgreSQL's own")
-    request = Request(given.file, given.dsn, given.schema, given.shards, given.whole, given.restored)
+    request = Request(given.file, given.dsn, given.schema, given.shards, given.whole, given.restored, given.wait)
     return request, given.check
 
 

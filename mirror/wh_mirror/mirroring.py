@@ -32,6 +32,8 @@ class Request:
     is_whole: bool = False
     # follow the file also where the mirror is ahead of it, or is of other commands
     is_restored: bool = False
+    # seconds for other mirrors, and readers who are in the way
+    wait: int = 60
 
 
 @dataclass(frozen=True)
@@ -46,7 +48,7 @@ def mirror(request: Request, progress: Progress) -> Outcome:
     """Brings the mirror to the file. On any fault nothing is changed."""
     if not Path(request.path).is_file():
         raise Failed(f"{request.path}: no such file")
-    with closing(Server(request.dsn)) as server:
+    with closing(Server(request.dsn, request.wait)) as server:
         server.lock(request.schema)
         note = read_note(server, request.schema)
         if note is not None and note.shards != len(request.shards):
@@ -86,10 +88,14 @@ class _Mirroring:
             scopes = self._scopes(warehouse, commands, star)
             star.copy(warehouse, scopes, self._progress)
             if self._shards:
-                self._shards.connect(warehouse.tables, self._comments)
+                self._shards.connect(self._request.wait, warehouse.tables, self._comments)
                 self._shards.copy(warehouse, self._progress)
-        counts = star.write(scopes, self._progress)
         are_other_views = self._note is None or self._note.views != note.views
+        if star.lacks_partitions():
+            # a reader waits for a view before its tables, and so has a mirror to do
+            drop_views(self._server, self._request.schema)
+            are_other_views = True
+        counts = star.write(scopes, self._progress)
         if self._shards:
             own = views_of(self._shards.schema, note.format, attributes)
             counts |= self._shards.write(note, own, self._progress)

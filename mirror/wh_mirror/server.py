@@ -14,8 +14,6 @@ _SETTINGS = {
     "maintenance_work_mem": "'256MB'",
     # a server whose mirror was killed notices it, and takes its changes back
     "client_connection_check_interval": "'1s'",
-    # as long as it waits for another mirror of the schema to end
-    "lock_timeout": "'60s'",
 }
 
 
@@ -43,14 +41,14 @@ def comment_on(server: "Server", thing: str, text: str | None) -> None:
 class Server:
     """An open connection. It is a context manager; what wasn't committed is taken back at its end."""
 
-    def __init__(self, dsn: str) -> None:
-        self.dsn = dsn
+    def __init__(self, dsn: str, wait: int) -> None:
+        """Connects; a statement waits so many seconds at most for those who read or write the same."""
         try:
             self._connection = psycopg.connect(dsn, client_encoding="utf8", application_name="wh-mirror")
         except (psycopg.Error, UnicodeError) as error:
             raise Failed(f"server: {_first_line(error)}") from error
         try:
-            for name, value in _SETTINGS.items():
+            for name, value in (_SETTINGS | {"lock_timeout": f"'{wait}s'"}).items():
                 self.run(f"SET {name} = {value}")
             if self.value("SHOW server_encoding") != "UTF8":
                 raise Refused("the encoding of the database isn't UTF8")
@@ -102,16 +100,15 @@ class Server:
 
     def lock(self, name: str) -> None:
         """Waits until no other mirror has this name, and keeps it to the end of the transaction."""
-        try:
-            self._connection.execute(b"SELECT pg_advisory_xact_lock(hashtextextended(%s, 0))", (f"wh-mirror {name}",))
-        except psycopg.errors.LockNotAvailable as error:
-            raise Refused(f"another mirror of {name} is running") from error
+        self.run("SELECT pg_advisory_xact_lock(hashtextextended(%s, 0))", (f"wh-mirror {name}",))
 
     @contextmanager
     def _telling(self) -> Iterator[None]:
         """Tells what the server refuses in one line."""
         try:
             yield
+        except psycopg.errors.LockNotAvailable as error:
+            raise Refused("another mirror, or a reader, was waited for in vain; --wait tells how long") from error
         except (psycopg.errors.IntegrityError, psycopg.errors.DataError) as error:
             raise Failed(f"a row isn't what the star promises: {_first_line(error)}") from error
         except psycopg.Error as error:

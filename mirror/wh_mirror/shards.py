@@ -47,17 +47,19 @@ class Shards:
         self._front_schema = schema
         self._dsns = dsns
         self._shards: list[_Shard] = []
+        self._comments: Comments = {}
         self.side = side
         self.schema = f"{schema}_{side}"
 
     def __bool__(self) -> bool:
         return bool(self._dsns)
 
-    def connect(self, tables: Iterable[Table], comments: Comments) -> None:
+    def connect(self, wait: int, tables: Iterable[Table], comments: Comments) -> None:
         """Connects to the servers, and looks what stands there."""
+        self._comments = comments
         own = [table for table in tables if table.is_sales or table.name in DIMENSIONS]
         for place, dsn in enumerate(self._dsns):
-            server = Server(dsn)
+            server = Server(dsn, wait)
             star = Star(server, self.schema, own, comments, Share(place, len(self._dsns)))
             try:
                 server.lock(f"{self._front_schema}, shard")
@@ -121,7 +123,7 @@ class Shards:
 
     def show(self, views: list[View], are_other_views: bool) -> None:
         """Has the front show this side of the shards, in its transaction."""
-        front = Star(self._front, self._front_schema, self._sales, {})
+        front = Star(self._front, self._front_schema, self._sales, self._comments)
         self._wait_for_readers(front, views)
         self._make_servers()
         for table in self._sales:

@@ -92,6 +92,7 @@ class Star:
         self._comments = comments
         self._share = share
         self._made: list[Table] = []
+        self._months: list[int] = []
 
     def place(self, name: str) -> str:
         """A table of the schema as SQL names it."""
@@ -141,15 +142,24 @@ class Star:
         found = filter(None, map(digits.fullmatch, sorted(self.relations())))
         return [int(year) * 100 + int(month) for year, month in (it.groups() for it in found)]
 
-    def _make_partitions(self, table: Table, months: Iterable[int]) -> None:
-        """Makes the partitions of these months that aren't there. Attaching them doesn't make readers wait."""
+    def lacks_partitions(self) -> bool:
+        """Whether a table that is there gets new partitions, for which its readers will have to wait."""
+        return any(self._missing_months(table) for table in self.tables if table.is_sales)
+
+    def _missing_months(self, table: Table) -> list[int]:
         there = self.relations()
-        whole = self.place(table.name)
-        for month in filter(self._share.holds, months):
-            if partition_of(table.name, month) not in there:
-                part = self.place(partition_of(table.name, month))
-                self.server.run(f"CREATE TABLE {part} (LIKE {whole})")
-                self.server.run(f"ALTER TABLE {whole} ATTACH PARTITION {part} {bounds_of(month)}")
+        months = filter(self._share.holds, self._months)
+        return [month for month in months if partition_of(table.name, month) not in there]
+
+    def _make_partitions(self, table: Table) -> None:
+        """Makes the partitions that aren't there.
+
+        Until the transaction ends readers wait. One who had planned a question before, and asked it after, would
+        otherwise miss the rows of a new partition.
+        """
+        for month in self._missing_months(table):
+            part = self.place(partition_of(table.name, month))
+            self.server.run(f"CREATE TABLE {part} PARTITION OF {self.place(table.name)} {bounds_of(month)}")
 
     def _finish_tables(self) -> None:
         """Makes the indexes and foreign keys of the tables that were made, now that they have their rows."""
@@ -165,10 +175,11 @@ class Star:
 
     def copy(self, warehouse: Warehouse, scopes: Scopes, progress: Progress) -> None:
         """Copies the rows of the file to the server."""
+        self._months = warehouse.months()
         for table in self.tables:
-            if table.is_sales:
-                self._make_partitions(table, warehouse.months(table))
             target = self.place(table.name)
+            if table.is_sales and table in self._made:
+                self._make_partitions(table)
             if table not in self._made:
                 target = _staged(table)
                 self.server.run(f"CREATE TEMP TABLE {target} (LIKE {self.place(table.name)}) ON COMMIT DROP")
@@ -194,6 +205,8 @@ class Star:
             progress.show(f"{table.name}: comparing")
             counts[table.name] = self._compare(table, scopes.get(table.name, EVERYTHING))
             progress.show(f"{table.name}: writing")
+            if table.is_sales:
+                self._make_partitions(table)
             self._put_and_change(table, counts[table.name])
         for table in reversed(self.tables):
             self._remove(table, counts[table.name])

@@ -175,12 +175,12 @@ class Warehouse:
                 except TypeError as error:
                     raise self.damaged(table.name) from error
 
-    def months(self, table: Table) -> list[int]:
-        """The months that have sales, as YYYYMM."""
+    def months(self) -> list[int]:
+        """The months of the calendar, as YYYYMM."""
         with self._reading():
-            found = self._connection.execute(f"SELECT DISTINCT day / 100 FROM {table.name} ORDER BY 1").fetchall()
+            found = self._connection.execute("SELECT DISTINCT date_key / 100 FROM calendar ORDER BY 1").fetchall()
         if not all(isinstance(month, int) for (month,) in found):
-            raise self.damaged(table.name)
+            raise self.damaged("calendar")
         return [month for (month,) in found]
 
     def rows_expected(self, commands: CommandList) -> dict[str, int]:

@@ -1,0 +1,137 @@
+"""Databases on the servers that tests/mirror.sh starts, mirrors in them, and what they hold."""
+
+import csv
+import io
+import os
+import re
+import subprocess
+import time
+import unittest
+from functools import cache
+from pathlib import Path
+from tempfile import TemporaryDirectory
+
+import psycopg
+from shop import KEYS_IN_FILE, ROOT, Line, Shop
+
+MIRROR = str(ROOT / "mirror/wh-mirror")
+# folders with the sockets of three servers
+SOCKETS = os.environ["MIRROR_SOCKETS"].split(":")
+
+_made = 0
+
+
+def new_database(server: int = 0, options: str = "") -> str:
+    """The connection string of an empty database on a server."""
+    global _made
+    _made += 1
+    name = f"test_{_made}"
+    run(f"host={SOCKETS[server]} user=postgres dbname=postgres", f"CREATE DATABASE {name} {options}")
+    return f"host={SOCKETS[server]} user=postgres dbname={name}"
+
+
+def run_mirror(*words: str) -> subprocess.CompletedProcess[str]:
+    """Runs the program, and answers its status and what it printed."""
+    return subprocess.run([MIRROR, *words], capture_output=True, text=True)
+
+
+@cache
+def connected(dsn: str) -> psycopg.Connection:
+    """A connection of somebody else than the mirror, each of whose statements is a transaction."""
+    return psycopg.connect(dsn, autocommit=True)
+
+
+def ask(dsn: str, question: str) -> list[tuple]:
+    """The rows of a question."""
+    return connected(dsn).execute(question.encode()).fetchall()
+
+
+def run(dsn: str, statement: str) -> None:
+    """Runs a statement as somebody else than the mirror."""
+    connected(dsn).execute(statement.encode())
+
+
+def dump_of(dsn: str, table: str, columns: tuple[str, ...]) -> list[tuple[str, ...]]:
+    """The rows of a mirrored table in the form of the program's dump, with the columns in front."""
+    listed = ", ".join("encode(bytes, 'hex') AS bytes" if name == "bytes" else f'"{name}"' for name in columns)
+    order = ", ".join(KEYS_IN_FILE[table])
+    with connected(dsn).cursor() as cursor:
+        question = f"COPY (SELECT {listed} FROM wh.{table} ORDER BY {order}) TO STDOUT (FORMAT csv, HEADER)"
+        with cursor.copy(question.encode()) as copy:
+            text = b"".join(copy).decode()
+    return [tuple(row) for row in csv.reader(io.StringIO(text, newline=""))]
+
+
+def report_of(dsn: str, view: str, column: str) -> list[Line]:
+    """The lines of a report, asked of a view, that of the total last."""
+    sums = "count(*), sum(quantity), sum(amount), sum(cost), sum(margin)"
+    rows = ask(dsn, f"SELECT {column}, {sums} FROM wh.{view} GROUP BY 1 ORDER BY 1")
+    rows += ask(dsn, f"SELECT 'total', {sums} FROM wh.{view}")
+    return [Line(label, *map(str, sums)) for label, *sums in rows]
+
+
+def versions_of(dsn: str, tables: list[str], columns: dict[str, tuple[str, ...]]) -> dict[tuple, tuple[str, ...]]:
+    """By table and row the transaction that wrote it."""
+    found = {}
+    for table in tables:
+        listed = ", ".join(f'"{name}"' for name in columns[table])
+        rows = ask(dsn, f"SELECT xmin::text, {listed} FROM wh.{table}")
+        found |= {(table, *row): version for version, *row in rows}
+    return found
+
+
+def everything_in(dsn: str) -> str:
+    """All that a database holds, as text."""
+    text = subprocess.run(["pg_dump", "--dbname", dsn], capture_output=True, text=True, check=True).stdout
+    # newer ones put a word of chance into two of the lines
+    return re.sub(r"(?m)^\\(un)?restrict .*$", "", text)
+
+
+class MirrorTest(unittest.TestCase):
+    """What the tests have in common: a folder, and how a mirror is compared with its warehouse."""
+
+    maxDiff = 2000
+
+    def setUp(self) -> None:
+        folder = TemporaryDirectory()
+        self.addCleanup(folder.cleanup)
+        self.folder = Path(folder.name)
+
+    def mirrors(self, *words: str) -> str:
+        """What a mirror prints that has to succeed."""
+        done = run_mirror(*words)
+        self.assertEqual((done.returncode, done.stderr), (0, ""))
+        return done.stdout
+
+    def refuses(self, status: int, line: str, *words: str) -> None:
+        """A mirror has to end so."""
+        done = run_mirror(*words)
+        self.assertEqual((done.returncode, done.stdout), (status, ""))
+        self.assertRegex(done.stderr, rf"\A{line}\n\Z")
+
+    def assert_same_tables(self, shop: Shop, dsn: str) -> None:
+        """Each table of the mirror has the rows that the program dumps."""
+        for table in shop.tables:
+            expected = shop.dump(table)
+            self.assertEqual(sorted(dump_of(dsn, table, expected[0])), sorted(expected), table)
+
+    def assert_same_reports(self, shop: Shop, dsn: str) -> None:
+        """Each report has the lines that the program prints."""
+        for dimension, name, mode in shop.readings():
+            view = "sales_as_was" if mode == "was" else "sales_as_is"
+            column = f"{'prior_' if mode == 'prior' else ''}{dimension}_{name}"
+            expected = shop.report(f"{dimension}.{name}", mode)
+            self.assertEqual(report_of(dsn, view, column), expected, f"{column} {mode}")
+        for view in ("sales_as_was", "sales_as_is"):
+            self.assertEqual(report_of(dsn, view, "month"), shop.report("date.month", "was"))
+            self.assertEqual(report_of(dsn, view, "holiday"), shop.report("date.holiday", "was"))
+        rows = ask(dsn, "SELECT month, lines, quantity, amount, cost, margin FROM wh.sales_by_month ORDER BY month")
+        months = [Line(month, *map(str, sums)) for month, *sums in rows]
+        self.assertEqual(months, shop.report("date.month", "was")[:-1])
+
+
+def seconds_of(action) -> float:
+    """How long an action takes."""
+    began = time.monotonic()
+    action()
+    return time.monotonic() - began

@@ -1,0 +1,14 @@
+"""Runs the tests of this folder, and ends with the line `N passed, M failed`."""
+
+import sys
+import unittest
+from pathlib import Path
+
+if __name__ == "__main__":
+    names = sys.argv[1:]
+    loader = unittest.defaultTestLoader
+    tests = loader.loadTestsFromNames(names) if names else loader.discover(str(Path(__file__).parent))
+    result = unittest.TextTestRunner(verbosity=2).run(tests)
+    failed = len(result.failures) + len(result.errors)
+    print(f"{result.testsRun - failed} passed, {failed} failed")
+    sys.exit(1 if failed else 0)

@@ -1,0 +1,66 @@
+"""Mirrors that are killed at random moments: readers find the night before or the night after, and the next one ends it."""
+
+import random
+import subprocess
+import time
+
+from databases import MIRROR, MirrorTest, ask, new_database, seconds_of
+from shop import Shop
+from test_nights import totals_of
+
+KILLS = 20
+_TOTALS = "SELECT commands, count(*), sum(amount)::text FROM wh.mirror, wh.sales_as_was GROUP BY commands"
+
+
+def kill_after(seconds: float, *words: str) -> bool:
+    """Starts a mirror and kills it; answers whether it was still running."""
+    process = subprocess.Popen([MIRROR, *words], stdout=subprocess.DEVNULL, stderr=subprocess.DEVNULL)
+    time.sleep(seconds)
+    is_running = process.poll() is None
+    process.kill()
+    process.wait()
+    return is_running
+
+
+class Kills(MirrorTest):
+    """Twenty kills of mirrors of nights, and some of the first one."""
+
+    def killed_nights(self, nights: int, *words: str) -> None:
+        """Each night's mirror is killed at some moment, and then runs to its end."""
+        chance = random.Random(nights)
+        shop = Shop(self.folder)
+        shop.night()
+        dsn, *more = words
+        took = seconds_of(lambda: self.mirrors(shop.path, dsn, *more))
+        killed = 0
+        for night in range(nights):
+            before = totals_of(shop)
+            shop.night()
+            after = totals_of(shop)
+            with self.subTest(night=night):
+                killed += kill_after(chance.uniform(0.1, took), shop.path, dsn, *more)
+                self.assertIn(ask(dsn, _TOTALS)[0], (before, after))
+                took = seconds_of(lambda: self.mirrors(shop.path, dsn, *more))
+                self.assertEqual(ask(dsn, _TOTALS), [after])
+        self.assert_same_tables(shop, dsn)
+        self.assert_same_reports(shop, dsn)
+        self.assertGreater(killed, nights / 3)
+
+    def test_nights(self) -> None:
+        self.killed_nights(KILLS, new_database())
+
+    def test_nights_with_shards(self) -> None:
+        self.killed_nights(6, new_database(), "--shards", f"{new_database(1)},{new_database(2)}")
+
+    def test_first(self) -> None:
+        """There is no schema, or the whole mirror."""
+        chance, shop, dsn = random.Random(1), Shop(self.folder), new_database()
+        shop.night()
+        took = seconds_of(lambda: self.mirrors(shop.path, new_database()))
+        for _ in range(4):
+            kill_after(chance.uniform(0.2, took), shop.path, dsn)
+            there = ask(dsn, "SELECT count(*) FROM pg_class WHERE relnamespace = to_regnamespace('wh')")
+            if there != [(0,)]:
+                self.assertEqual(ask(dsn, _TOTALS), [totals_of(shop)])
+        self.mirrors(shop.path, dsn)
+        self.assert_same_tables(shop, dsn)
