@@ -4,6 +4,7 @@
 # examples/. In a block of code of no language a line that begins with `$ ` is a command, and the lines up to the next one, or to the end of the
 # block, are what it must print. A block of `sql` is handed to the program sqlite3, with the file shop.wh of that folder, and a block of `python`
 # to Python; either must answer the rows of the last report before it, as `label|lines|quantity|amount|cost|margin` with money in hundredths.
+# A block of `postgresql` is handed to psql, with the database shop, and must answer the same rows, with money in two decimals.
 
 passed=0
 failed=0
@@ -28,6 +29,14 @@ rows_of_report() {
     }'
 }
 
+# the same rows, whose last three figures have two decimals
+in_hundredths() {
+    awk -F '|' -v OFS='|' '{
+        for (place = NF - 2; place <= NF; place++) { sub(/[.]/, "", $place); $place = sprintf("%d", $place) }
+        print
+    }'
+}
+
 # Runs the command that was read, if there is one, and compares.
 run_command() {
     local told
@@ -44,6 +53,7 @@ run_block() {
     case "$1" in
         sql) told=$(sqlite3 -readonly shop.wh "$lines" 2>&1 < /dev/null) || true ;;
         python) told=$(python3 -c "$lines" 2>&1 < /dev/null) || true ;;
+        postgresql) told=$(psql -d shop -Atq -c "$lines" 2>&1 < /dev/null | in_hundredths) || true ;;
         *) return 0 ;;
     esac
     compare "$lines" "$told" "$(rows_of_report "$report")"

@@ -25,7 +25,7 @@ def new_database(server: int = 0, options: str = "") -> str:
     """The connection string of an empty database on a server."""
     global _made
     _made += 1
-    name = f"test_{_made}"
+    name = f"test_{os.getpid()}_{_made}"
     run(f"host={SOCKETS[server]} user=postgres dbname=postgres", f"CREATE DATABASE {name} {options}")
     return f"host={SOCKETS[server]} user=postgres dbname={name}"
 

@@ -169,7 +169,7 @@ class Servers(MirrorTest):
         self.unchanged(2, "refused: the schema wh is a mirror's of another layout than 1, or has no note")
 
     def test_another_encoding(self) -> None:
-        dsn = new_database(options="ENCODING 'LATIN1' TEMPLATE template0")
+        dsn = new_database(options="ENCODING 'LATIN1' LOCALE 'C' TEMPLATE template0")
         self.refuses(2, "refused: the encoding of the database isn't UTF8", self.shop.path, dsn)
 
     def test_a_mirror_that_is_ahead(self) -> None:
