@@ -3,6 +3,7 @@
 import os
 import sqlite3
 import stat
+from contextlib import closing
 from pathlib import Path
 
 import psycopg
@@ -118,6 +119,12 @@ class Files(MirrorTest):
         torn[4096 * 3 :] = os.urandom(len(torn) - 4096 * 3)
         Path(self.shop.path).write_bytes(torn)
         self.fails(r"failed: .*: (can't be read|not a warehouse) \(.*\)|failed: .*: damaged, .*")
+
+    def test_a_file_in_use(self) -> None:
+        with closing(sqlite3.connect(self.shop.path, isolation_level=None)) as connection:
+            connection.execute("PRAGMA locking_mode = exclusive")
+            connection.execute("BEGIN EXCLUSIVE")
+            self.refuses(3, r"failed: .*: can't be read \(database is locked\)", self.shop.path, self.dsn, "--wait", "1")
 
     def test_the_file_is_only_read(self) -> None:
         before = Path(self.shop.path).read_bytes()

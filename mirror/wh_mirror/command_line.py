@@ -60,7 +60,7 @@ def _parser() -> argparse.ArgumentParser:
         help="follows the file also where the mirror is ahead of it, or was another file's",
     )
     parser.add_argument(
-        "--wait", type=int, default=60, metavar="SECONDS", help="for another mirror, or readers in the way (60)"
+        "--wait", type=int, default=60, metavar="SECONDS", help="for `wh`, another mirror, or readers in the way (60)"
     )
     return parser
 

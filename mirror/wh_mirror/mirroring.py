@@ -32,7 +32,7 @@ class Request:
     is_whole: bool = False
     # follow the file also where the mirror is ahead of it, or is of other commands
     is_restored: bool = False
-    # seconds for other mirrors, and readers who are in the way
+    # seconds for `wh`, other mirrors, and readers who are in the way
     wait: int = 60
 
 
@@ -74,7 +74,7 @@ class _Mirroring:
 
     def run(self) -> Outcome:
         """Copies, compares, writes, notes and commits."""
-        with closing(Warehouse(self._request.path)) as warehouse:
+        with closing(Warehouse(self._request.path, self._request.wait)) as warehouse:
             commands = warehouse.command_list(self._note.commands if self._note else 0)
             self._refuse_other_commands(commands)
             attributes = warehouse.policy()

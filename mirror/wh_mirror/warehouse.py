@@ -81,13 +81,14 @@ def _field(column: Column) -> str:
 class Warehouse:
     """An open file, in one read transaction from here to its closing."""
 
-    def __init__(self, path: str) -> None:
+    def __init__(self, path: str, wait: int) -> None:
+        """Opens the file, and waits so many seconds at most for `wh` to leave it."""
         self._path = path
         if not Path(path).is_file():
             raise Failed(f"{path}: no such file")
         with self._reading():
             self._connection = sqlite3.connect(
-                f"file:{quote(str(Path(path).absolute()))}?mode=ro", uri=True, isolation_level=None
+                f"file:{quote(str(Path(path).absolute()))}?mode=ro", uri=True, isolation_level=None, timeout=wait
             )
         try:
             with self._reading():
