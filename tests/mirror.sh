@@ -14,7 +14,7 @@ WH=$(realpath "${WH:-crates/wh/out/wh}")
 servers=$(mktemp -d)
 trap 'stop_servers "$servers"; rm -rf "$servers"' EXIT
 start_servers "$servers" 3
-export WH MIRROR_SOCKETS=$servers/1:$servers/2:$servers/3 PGHOST=$servers/1 PGUSER=postgres PYTHONDONTWRITEBYTECODE=1 PATH=$PWD/mirror:$PATH
+export WH MIRROR_SOCKETS=$servers/1:$servers/2:$servers/3 PGHOST=$servers/1 PGUSER=postgres PATH=$PWD/mirror:$PATH
 
 passed=0
 failed=0

@@ -1,5 +1,6 @@
 """Databases on the servers that tests/mirror.sh starts, mirrors in them, and what they hold."""
 
+import atexit
 import csv
 import io
 import os
@@ -87,6 +88,15 @@ def everything_in(dsn: str) -> str:
     return re.sub(r"(?m)^\\(un)?restrict .*$", "", text)
 
 
+@cache
+def _shop_after_a_night() -> Shop:
+    folder = TemporaryDirectory()
+    atexit.register(folder.cleanup)
+    shop = Shop(Path(folder.name))
+    shop.night()
+    return shop
+
+
 class MirrorTest(unittest.TestCase):
     """What the tests have in common: a folder, and how a mirror is compared with its warehouse."""
 
@@ -96,6 +106,10 @@ class MirrorTest(unittest.TestCase):
         folder = TemporaryDirectory()
         self.addCleanup(folder.cleanup)
         self.folder = Path(folder.name)
+
+    def shop_after_a_night(self) -> Shop:
+        """A shop in the test's folder; the night is worked out once."""
+        return _shop_after_a_night().copy(self.folder)
 
     def mirrors(self, *words: str) -> str:
         """What a mirror prints that has to succeed."""

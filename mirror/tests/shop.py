@@ -4,11 +4,13 @@ under which each type from 0 to 7 occurs, and where the program knows the words 
 The warehouse is made by the program `wh`, whose dumps and reports are what a mirror is compared with.
 """
 
+import copy
 import csv
 import io
 import os
 import random
 import re
+import shutil
 import subprocess
 from dataclasses import dataclass
 from pathlib import Path
@@ -102,6 +104,15 @@ class Shop:
         self._is_migrated = False
         self._is_upgraded = False
         wh("init", self.path, self._written(self._policy_text()))
+
+    def copy(self, folder: Path) -> "Shop":
+        """The same shop in another folder, from where it goes on by itself."""
+        other = copy.deepcopy(self)
+        other.folder, other.path = folder, str(folder / Path(self.path).name)
+        for ending in ("", "-wal"):
+            if os.path.exists(self.path + ending):
+                shutil.copyfile(self.path + ending, other.path + ending)
+        return other
 
     def night(self) -> None:
         """One more night: each third one without records, and each sixth one with a migration."""

@@ -65,8 +65,7 @@ class Format2(MirrorTest):
         self.assertEqual(ask(dsn, "SELECT sum(lines) FROM wh.sales_by_month"), [expected[0][:1]])
 
     def nights(self, *more: str) -> None:
-        shop, dsn = Shop(self.folder), new_database()
-        shop.night()
+        shop, dsn = self.shop_after_a_night(), new_database()
         self.mirrors(shop.path, dsn, *more)
         backup = Path(shop.path).read_bytes()
         for statements in (_MADE, _VOIDED, _SOLD):

@@ -28,8 +28,7 @@ class Kills(MirrorTest):
     def killed_nights(self, nights: int, *words: str) -> None:
         """Each night's mirror is killed at some moment, and then runs to its end."""
         chance = random.Random(nights)
-        shop = Shop(self.folder)
-        shop.night()
+        shop = self.shop_after_a_night()
         dsn, *more = words
         took = seconds_of(lambda: self.mirrors(shop.path, dsn, *more))
         killed = 0
@@ -54,8 +53,7 @@ class Kills(MirrorTest):
 
     def test_first(self) -> None:
         """There is no schema, or the whole mirror."""
-        chance, shop, dsn = random.Random(1), Shop(self.folder), new_database()
-        shop.night()
+        chance, shop, dsn = random.Random(1), self.shop_after_a_night(), new_database()
         took = seconds_of(lambda: self.mirrors(shop.path, new_database()))
         for _ in range(4):
             kill_after(chance.uniform(0.2, took), shop.path, dsn)

@@ -2,7 +2,6 @@
 
 import threading
 import time
-from pathlib import Path
 
 import psycopg
 from databases import MirrorTest, ask, new_database, versions_of
@@ -42,7 +41,7 @@ class Reader(threading.Thread):
                     answer = (commands, *sums)
                 connection.rollback()
                 self.answers.add(answer)
-                time.sleep(0.002)
+                time.sleep(0.01)
 
     def end(self) -> None:
         self._is_ended.set()
@@ -89,8 +88,7 @@ class Nights(MirrorTest):
         self.assertGreater(len(reader.answers), NIGHTS / 3)
 
     def test_nothing_new(self) -> None:
-        shop, dsn = Shop(self.folder), new_database()
-        shop.night()
+        shop, dsn = self.shop_after_a_night(), new_database()
         self.mirrors(shop.path, dsn)
         self.assertEqual(self.mirrors(shop.path, dsn), f"nothing new: {shop.status()['commands']} commands\n")
 
@@ -116,8 +114,7 @@ class Nights(MirrorTest):
 
     def test_promises(self) -> None:
         """The keys that the star promises are declared, and each table and column says what it is."""
-        shop, dsn = Shop(self.folder), new_database()
-        shop.night()
+        shop, dsn = self.shop_after_a_night(), new_database()
         self.mirrors(shop.path, dsn)
         keys = ask(
             dsn,
@@ -152,9 +149,3 @@ class Nights(MirrorTest):
         )
         days = {f"fact_{day[:4]}_{day[4:6]}" for _, _, day, *_ in shop.dump("fact")[1:]}
         self.assertEqual([name for (name,) in months], sorted(days))
-
-
-def backup_of(shop: Shop, path: Path) -> Path:
-    """A copy of the warehouse's file."""
-    path.write_bytes(Path(shop.path).read_bytes())
-    return path

@@ -1,13 +1,15 @@
 """What is told where a mirror can't be: one line and a status, and nothing is changed."""
 
 import os
+import pty
 import sqlite3
 import stat
+import subprocess
 from contextlib import closing
 from pathlib import Path
 
 import psycopg
-from databases import MirrorTest, ask, everything_in, new_database, run, run_mirror
+from databases import MIRROR, MirrorTest, ask, everything_in, new_database, run, run_mirror
 from shop import Shop
 
 NO_SERVER = "host=/nonexistent dbname=none"
@@ -18,8 +20,7 @@ class Files(MirrorTest):
 
     def setUp(self) -> None:
         super().setUp()
-        self.shop, self.dsn = Shop(self.folder), new_database()
-        self.shop.night()
+        self.shop, self.dsn = self.shop_after_a_night(), new_database()
 
     def fails(self, line: str, path: str | None = None) -> None:
         """The mirror of a file fails, whether there is one already or not."""
@@ -137,8 +138,7 @@ class Servers(MirrorTest):
 
     def setUp(self) -> None:
         super().setUp()
-        self.shop, self.dsn = Shop(self.folder), new_database()
-        self.shop.night()
+        self.shop, self.dsn = self.shop_after_a_night(), new_database()
 
     def unchanged(self, status: int, line: str, *words: str, shop: Shop | None = None) -> None:
         """The mirror ends so, and the database holds what it held."""
@@ -237,6 +237,31 @@ class Servers(MirrorTest):
         self.unchanged(3, r"failed: server: .*", "--shards", f"{new_database(1)},{NO_SERVER}")
 
 
+class Users(MirrorTest):
+    """Users who aren't superusers."""
+
+    def test_a_writer_and_a_reader(self) -> None:
+        shop, dsn = Shop(self.folder), new_database()
+        name = dsn.partition("dbname=")[2]
+        for role in (f"{name}_writer", f"{name}_reader"):
+            run(dsn, f"CREATE ROLE {role} LOGIN")
+        run(dsn, f"GRANT CREATE ON DATABASE {name} TO {name}_writer")
+        writer, reader = (dsn.replace("user=postgres", f"user={name}_{word}") for word in ("writer", "reader"))
+        shop.night()
+        self.mirrors(shop.path, writer)
+        with self.assertRaises(psycopg.errors.InsufficientPrivilege):
+            ask(reader, "SELECT count(*) FROM wh.sales_as_was")
+        run(writer, f"GRANT USAGE ON SCHEMA wh TO {name}_reader")
+        run(writer, f"GRANT SELECT ON ALL TABLES IN SCHEMA wh TO {name}_reader")
+        run(writer, f"ALTER DEFAULT PRIVILEGES IN SCHEMA wh GRANT SELECT ON TABLES TO {name}_reader")
+        for _ in range(6):
+            shop.night()
+        self.mirrors(shop.path, writer)
+        self.assertEqual(ask(reader, "SELECT count(*) FROM wh.sales_as_was"), [(7 * 40,)])
+        self.assert_same_reports(shop, reader)
+        self.refuses(3, "failed: server: permission denied for .*", shop.path, reader)
+
+
 class Words(MirrorTest):
     """The command line."""
 
@@ -255,6 +280,18 @@ class Words(MirrorTest):
         self.mirrors(shop.path, dsn, "--check", self.checker('[ "$1" = check ] && [ -f "$2" ]'))
         self.refuses(3, "failed: /nonexistent: No such file or directory", shop.path, dsn, "--check", "/nonexistent")
 
+    def test_progress(self) -> None:
+        """A terminal is told how far the mirror is, and is left with an empty line."""
+        shop, dsn = Shop(self.folder), new_database()
+        reading, terminal = pty.openpty()
+        done = subprocess.run([MIRROR, shop.path, dsn], stdout=subprocess.PIPE, stderr=terminal)
+        os.close(terminal)
+        shown = os.read(reading, 100_000).decode()
+        os.close(reading)
+        self.assertEqual(done.returncode, 0)
+        self.assertIn("\rcalendar: 731 rows read", shown)
+        self.assertRegex(shown, r"\r +\r\Z")
+
     def test_help(self) -> None:
         self.assertIn("exit status:", self.mirrors("--help"))
 
@@ -264,5 +301,5 @@ class Words(MirrorTest):
                 done = run_mirror(*words)
                 self.assertEqual((done.returncode, done.stdout), (4, ""))
                 self.assertRegex(done.stderr, r"\Aerror: .*\n\Z")
-        for words in (["--shards", "a,"], ["--schema", "pg_mine"], ["--schema", "a" * 41], ["--wait", "0"]):
+        for words in (["--shards", "a,"], ["--shards", "a,b,a"], ["--schema", "pg_mine"], ["--schema", "a" * 41], ["--wait", "0"]):
             self.refuses(4, "error: .*", "a", "b", *words)

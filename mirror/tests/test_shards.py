@@ -18,7 +18,7 @@ class ShardsTest(MirrorTest):
         reader = Reader(dsn, has_shards=True)
         reader.start()
         self.addCleanup(reader.end)
-        for night in range(2, 9):
+        for night in range(2, 8):
             shop.night()
             self.mirrors(*words)
             expected.add(totals_of(shop))

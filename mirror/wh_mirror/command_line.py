@@ -70,6 +70,8 @@ def _request(words: Sequence[str]) -> tuple[Request, str | None]:
     given = _parser().parse_args(words)
     if not given.schema or not all(given.shards) or not 1 <= given.wait <= 86400:
         raise Mistaken("a schema or a shard has no name, or the wait isn't from 1 to 86400 seconds")
+    if len(set(given.shards)) < len(given.shards):
+        raise Mistaken("a shard is given twice")
     # the longest of the mirror's own names is some 20 bytes longer, and PostgreSQL keeps 63
     if len(given.schema.encode()) > 40 or given.schema.startswith("pg_"):
         raise Mistaken("the name of the schema is too long, or PostgreSQL's own")
@@ -108,6 +110,10 @@ def main(words: Sequence[str]) -> int:
         progress.clear()
         print(f"{fault.word}: {fault}", file=sys.stderr)
         return fault.status
+    except KeyboardInterrupt:
+        progress.clear()
+        print("failed: interrupted", file=sys.stderr)
+        return Failed.status
     progress.clear()
     _tell(outcome)
     return 0

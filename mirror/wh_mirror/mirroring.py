@@ -8,6 +8,7 @@ from pathlib import Path
 from wh_mirror.comments import Comments, read_comments
 from wh_mirror.faults import Failed, Refused
 from wh_mirror.note import LAYOUT, Note, make_note, read_note, write_note
+from wh_mirror.policy import Attribute
 from wh_mirror.progress import Progress
 from wh_mirror.server import Server
 from wh_mirror.shards import Shards, other_side
@@ -78,9 +79,7 @@ class _Mirroring:
             commands = warehouse.command_list(self._note.commands if self._note else 0)
             self._refuse_other_commands(commands)
             attributes = warehouse.policy()
-            views = views_of(self._request.schema, warehouse.format, attributes)
-            shown = self._shards.views(views) if self._shards else views
-            note = self._note_of(warehouse, commands, shown)
+            note = self._note_of(warehouse, commands, attributes)
             if self._is_continued and note == self._note:
                 return self._keep(note, {})
             expected = warehouse.rows_expected(commands)
@@ -97,17 +96,22 @@ class _Mirroring:
             are_other_views = True
         counts = star.write(scopes, self._progress)
         if self._shards:
-            own = views_of(self._shards.schema, note.format, attributes)
-            counts |= self._shards.write(note, own, self._progress)
+            own_views = views_of(self._shards.schema, note.format, attributes)
+            counts |= self._shards.write(note, own_views, self._progress)
         for name, rows in expected.items():
             self._compare_count(star, name, rows)
         if self._shards:
             self._shards.commit()
-            self._shards.show(views, are_other_views)
+            self._shards.show(views_of(self._request.schema, note.format, attributes), are_other_views)
             note = replace(note, side=self._shards.side)
         if are_other_views:
-            make_views(self._server, self._request.schema, shown)
+            make_views(self._server, self._request.schema, self._views(note.format, attributes))
         return self._keep(note, counts)
+
+    def _views(self, warehouse_format: int, attributes: list[Attribute]) -> list[View]:
+        """The views of the mirror's own server."""
+        views = views_of(self._request.schema, warehouse_format, attributes)
+        return self._shards.views(views) if self._shards else views
 
     @cached_property
     def _comments(self) -> Comments:
@@ -129,14 +133,15 @@ class _Mirroring:
                 " --restored makes it this file's"
             )
 
-    def _note_of(self, warehouse: Warehouse, commands: CommandList, shown: list[View]) -> Note:
+    def _note_of(self, warehouse: Warehouse, commands: CommandList, attributes: list[Attribute]) -> Note:
+        """What the mirror will note of the file, while it shows the side that it shows."""
         return Note(
             layout=LAYOUT,
             owner=self._request.schema,
             format=warehouse.format,
             commands=commands.last,
             digest=commands.digest,
-            views=digest_of(shown),
+            views=digest_of(self._views(warehouse.format, attributes)),
             shards=len(self._request.shards),
             side=self._note.side if self._note else "",
         )

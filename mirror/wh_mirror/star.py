@@ -61,10 +61,9 @@ class Share:
         """Whether a month, as YYYYMM, belongs to it."""
         return (month // 100 * 12 + month % 100) % self.of == self.number
 
-    @property
     def condition(self) -> str:
         """The same of the day of a sale, in SQL."""
-        return f"(day / 10000 * 12 + day / 100 % 100) % {self.of} = {self.number}"
+        return f"(day / 10000 * 12 + day / 100 % 100) % {self.of} = {self.number}" if self.of > 1 else "true"
 
 
 EVERY_MONTH = Share()
@@ -177,15 +176,16 @@ class Star:
         """Copies the rows of the file to the server."""
         self._months = warehouse.months()
         for table in self.tables:
-            target = self.place(table.name)
-            if table.is_sales and table in self._made:
-                self._make_partitions(table)
-            if table not in self._made:
+            if table in self._made:
+                target = self.place(table.name)
+                if table.is_sales:
+                    self._make_partitions(table)
+            else:
                 target = _staged(table)
                 self.server.run(f"CREATE TEMP TABLE {target} (LIKE {self.place(table.name)}) ON COMMIT DROP")
             condition = scopes.get(table.name, EVERYTHING).in_file
             if table.is_sales:
-                condition = f"({condition}) AND {self._share.condition}"
+                condition = f"({condition}) AND {self._share.condition()}"
             self.server.copy(target, table.names, self._lines(warehouse, table, condition, progress))
 
     def _lines(self, warehouse: Warehouse, table: Table, condition: str, progress: Progress) -> Iterator[bytes]:
@@ -222,7 +222,9 @@ class Star:
 
         The server looks itself at all but partitioned tables.
         """
-        counted = self.server.value("SELECT reltuples FROM pg_catalog.pg_class WHERE oid = to_regclass(%s)", (self.place(table.name),))
+        counted = self.server.value(
+            "SELECT reltuples FROM pg_catalog.pg_class WHERE oid = to_regclass(%s)", (self.place(table.name),)
+        )
         return self.count(table) > counted * 1.2
 
     def _compare(self, table: Table, scope: Scope) -> Counts:
@@ -255,6 +257,7 @@ class Star:
     def _put_and_change(self, table: Table, counts: Counts) -> None:
         """Puts the rows that are new, and gives those that changed their values."""
         if table in self._made:
+            # its rows were copied into it
             return
         kept, difference = self.place(table.name), _difference(table)
         if counts.changed:
@@ -266,8 +269,7 @@ class Star:
         if counts.put:
             self.server.run(
                 f"INSERT INTO {kept} ({listed(table.names)}) SELECT {listed(table.names)}"
-                f" FROM {difference} AS difference"
-                f" WHERE NOT {_is_there(table, 'old_')}"
+                f" FROM {difference} AS difference WHERE NOT {_is_there(table, 'old_')}"
             )
 
     def _remove(self, table: Table, counts: Counts) -> None:
