@@ -8,11 +8,13 @@ import re
 import subprocess
 import time
 import unittest
+from collections.abc import Callable
 from functools import cache
 from pathlib import Path
 from tempfile import TemporaryDirectory
 
 import psycopg
+from reader import Reader
 from shop import KEYS_IN_FILE, ROOT, Line, Shop
 
 MIRROR = str(ROOT / "mirror/wh-mirror")
@@ -65,19 +67,20 @@ def dump_of(dsn: str, table: str, columns: tuple[str, ...]) -> list[tuple[str, .
 
 def report_of(dsn: str, view: str, column: str) -> list[Line]:
     """The lines of a report, asked of a view, that of the total last."""
-    sums = "count(*), sum(quantity), sum(amount), sum(cost), sum(margin)"
-    rows = ask(dsn, f"SELECT {column}, {sums} FROM wh.{view} GROUP BY 1 ORDER BY 1")
-    rows += ask(dsn, f"SELECT 'total', {sums} FROM wh.{view}")
+    rows = ask(
+        dsn,
+        f"SELECT coalesce({column}, 'total'), count(*), sum(quantity), sum(amount), sum(cost), sum(margin)"
+        f" FROM wh.{view} GROUP BY ROLLUP ({column}) ORDER BY grouping({column}), {column}",
+    )
     return [Line(label, *map(str, sums)) for label, *sums in rows]
 
 
-def versions_of(dsn: str, tables: list[str], columns: dict[str, tuple[str, ...]]) -> dict[tuple, tuple[str, ...]]:
+def versions_of(dsn: str, tables: list[str]) -> dict[tuple, str]:
     """By table and row the transaction that wrote it."""
     found = {}
     for table in tables:
-        listed = ", ".join(f'"{name}"' for name in columns[table])
-        rows = ask(dsn, f"SELECT xmin::text, {listed} FROM wh.{table}")
-        found |= {(table, *row): version for version, *row in rows}
+        rows = ask(dsn, f"SELECT xmin::text, it::text FROM wh.{table} AS it")
+        found |= {(table, row): version for version, row in rows}
     return found
 
 
@@ -143,8 +146,15 @@ class MirrorTest(unittest.TestCase):
         months = [Line(month, *map(str, sums)) for month, *sums in rows]
         self.assertEqual(months, shop.report("date.month", "was")[:-1])
 
+    def assert_found_nights(self, reader: Reader, expected: set[tuple | None], least: int) -> None:
+        """A reader found whole nights only, and so many of them at least."""
+        reader.end()
+        self.assertIsNone(reader.fault)
+        self.assertLessEqual(reader.answers, expected)
+        self.assertGreater(len(reader.answers), least)
 
-def seconds_of(action) -> float:
+
+def seconds_of(action: Callable[[], object]) -> float:
     """How long an action takes."""
     began = time.monotonic()
     action()

@@ -5,11 +5,9 @@ import subprocess
 import time
 
 from databases import MIRROR, MirrorTest, ask, new_database, seconds_of
-from shop import Shop
-from test_nights import totals_of
+from reader import TOTALS, totals_of
 
 KILLS = 20
-_TOTALS = "SELECT commands, count(*), sum(amount)::text FROM wh.mirror, wh.sales_as_was GROUP BY commands"
 
 
 def kill_after(seconds: float, *words: str) -> bool:
@@ -38,9 +36,9 @@ class Kills(MirrorTest):
             after = totals_of(shop)
             with self.subTest(night=night):
                 killed += kill_after(chance.uniform(0.1, took), shop.path, dsn, *more)
-                self.assertIn(ask(dsn, _TOTALS)[0], (before, after))
+                self.assertIn(ask(dsn, TOTALS)[0], (before, after))
                 took = seconds_of(lambda: self.mirrors(shop.path, dsn, *more))
-                self.assertEqual(ask(dsn, _TOTALS), [after])
+                self.assertEqual(ask(dsn, TOTALS), [after])
         self.assert_same_tables(shop, dsn)
         self.assert_same_reports(shop, dsn)
         self.assertGreater(killed, nights / 3)
@@ -59,6 +57,6 @@ class Kills(MirrorTest):
             kill_after(chance.uniform(0.2, took), shop.path, dsn)
             there = ask(dsn, "SELECT count(*) FROM pg_class WHERE relnamespace = to_regnamespace('wh')")
             if there != [(0,)]:
-                self.assertEqual(ask(dsn, _TOTALS), [totals_of(shop)])
+                self.assertEqual(ask(dsn, TOTALS), [totals_of(shop)])
         self.mirrors(shop.path, dsn)
         self.assert_same_tables(shop, dsn)

@@ -1,91 +1,34 @@
 """A mirror after each of thirty nights: the same tables and reports, nothing written twice, no reader in between."""
 
-import threading
-import time
-
-import psycopg
 from databases import MirrorTest, ask, new_database, versions_of
+from reader import Reader, totals_of
 from shop import Shop
 
 NIGHTS = 30
-_TOTALS = "SELECT commands, count(*), sum(amount)::text FROM wh.mirror, wh.sales_as_was GROUP BY commands"
-
-
-class Reader(threading.Thread):
-    """Asks again and again, and keeps each answer; every other time in two statements of one snapshot.
-
-    With shards such a transaction begins with a lock, as docs/mirror.md says.
-    """
-
-    def __init__(self, dsn: str, has_shards: bool = False) -> None:
-        super().__init__()
-        self._dsn = dsn
-        self._has_shards = has_shards
-        self._is_ended = threading.Event()
-        self.answers: set[tuple] = set()
-        self.times = 0
-
-    def run(self) -> None:
-        with psycopg.connect(self._dsn) as connection:
-            while not self._is_ended.is_set():
-                self.times += 1
-                if self.times % 2:
-                    connection.isolation_level = psycopg.IsolationLevel.READ_COMMITTED
-                    answer = connection.execute(_TOTALS.encode()).fetchone()
-                else:
-                    connection.isolation_level = psycopg.IsolationLevel.REPEATABLE_READ
-                    if self._has_shards:
-                        connection.execute(b"LOCK TABLE wh.fact IN ACCESS SHARE MODE")
-                    (commands,) = connection.execute(b"SELECT commands FROM wh.mirror").fetchone()
-                    sums = connection.execute(b"SELECT count(*), sum(amount)::text FROM wh.sales_as_is").fetchone()
-                    answer = (commands, *sums)
-                connection.rollback()
-                self.answers.add(answer)
-                time.sleep(0.01)
-
-    def end(self) -> None:
-        self._is_ended.set()
-        self.join()
-
-
-def totals_of(shop: Shop) -> tuple[int, int, str]:
-    """What a reader may find after a night: commands, lines and amount, as the program prints them."""
-    total = shop.report("date.month", "was")[-1]
-    return shop.status()["commands"], int(total.lines), total.amount
-
-
 class Nights(MirrorTest):
     """Thirty nights of a shop."""
 
     def test_every_night(self) -> None:
         shop, dsn = Shop(self.folder), new_database()
         self.mirrors(shop.path, dsn)
-        nights = [shop.status()["commands"]]
-        expected = set()
-        before: dict[tuple, str] = {}
-        reader = None
+        before = versions_of(dsn, shop.tables)
+        reader = Reader(dsn)
+        # what a reader finds before the first sale
+        expected = {None, (1, 0, None)}
+        reader.start()
+        self.addCleanup(reader.end)
         for night in range(1, NIGHTS + 1):
             shop.night()
-            if night == 1:
-                self.mirrors(shop.path, dsn)
-                reader = Reader(dsn)
-                reader.start()
-                self.addCleanup(reader.end)
-            else:
-                self.mirrors(shop.path, dsn)
-            nights.append(shop.status()["commands"])
+            self.mirrors(shop.path, dsn)
             expected.add(totals_of(shop))
             with self.subTest(night=night):
                 self.assert_same_tables(shop, dsn)
                 self.assert_same_reports(shop, dsn)
-                columns = {table: shop.dump(table)[0] for table in shop.tables}
-                after = versions_of(dsn, shop.tables, columns)
+                after = versions_of(dsn, shop.tables)
                 same = before.keys() & after.keys()
                 self.assertEqual([row for row in same if before[row] != after[row]], [], "written again")
                 before = after
-        reader.end()
-        self.assertLessEqual(reader.answers, expected)
-        self.assertGreater(len(reader.answers), NIGHTS / 3)
+        self.assert_found_nights(reader, expected, NIGHTS // 3)
 
     def test_nothing_new(self) -> None:
         shop, dsn = self.shop_after_a_night(), new_database()

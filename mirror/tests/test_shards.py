@@ -1,8 +1,8 @@
 """Sales on two other servers, the mirror's own being the third."""
 
 from databases import MirrorTest, ask, new_database
+from reader import Reader, totals_of
 from shop import Shop
-from test_nights import Reader, totals_of
 
 
 class ShardsTest(MirrorTest):
@@ -25,9 +25,7 @@ class ShardsTest(MirrorTest):
             with self.subTest(night=night):
                 self.assert_same_tables(shop, dsn)
                 self.assert_same_reports(shop, dsn)
-        reader.end()
-        self.assertLessEqual(reader.answers, expected)
-        self.assertGreater(len(reader.answers), 3)
+        self.assert_found_nights(reader, expected, 3)
         self.assertEqual(self.mirrors(*words), f"nothing new: {shop.status()['commands']} commands\n")
         self.months_stand_on_one_shard_each(shop, dsn, shards)
         self.rows_are_sought_where_they_are(dsn)
