@@ -34,7 +34,17 @@ KEYS_IN_FILE = {
 }
 
 # Texts that COPY, CSV and SQL write in a form of their own.
-_VALUES = ["plain", "C:\\new\\table", "\\N", "\\.", 'with "quotes", and a comma', "it's", "Käse 100 % ☕", " apart ", ""]
+_VALUES = [
+    "plain",
+    "C:\\new\\table",
+    "\\N",
+    "\\.",
+    'with "quotes", and a comma',
+    "it's",
+    "Käse 100 % ☕",
+    " apart ",
+    "",
+]
 
 # Dimension, name, and its type under each of the policies in turn.
 _TYPES = [

@@ -1,4 +1,4 @@
-"""Mirrors that are killed at random moments: readers find the night before or the night after, and the next one ends it."""
+"""Mirrors that are killed at random moments: readers find a whole night, and the next mirror ends it."""
 
 import random
 import subprocess
@@ -49,14 +49,20 @@ class Kills(MirrorTest):
     def test_nights_with_shards(self) -> None:
         self.killed_nights(6, new_database(), "--shards", f"{new_database(1)},{new_database(2)}")
 
-    def test_first(self) -> None:
+    def killed_first(self, *words: str) -> None:
         """There is no schema, or the whole mirror."""
         chance, shop, dsn = random.Random(1), self.shop_after_a_night(), new_database()
         took = seconds_of(lambda: self.mirrors(shop.path, new_database()))
         for _ in range(4):
-            kill_after(chance.uniform(0.2, took), shop.path, dsn)
+            kill_after(chance.uniform(0.2, took), shop.path, dsn, *words)
             there = ask(dsn, "SELECT count(*) FROM pg_class WHERE relnamespace = to_regnamespace('wh')")
             if there != [(0,)]:
                 self.assertEqual(ask(dsn, TOTALS), [totals_of(shop)])
-        self.mirrors(shop.path, dsn)
+        self.mirrors(shop.path, dsn, *words)
         self.assert_same_tables(shop, dsn)
+
+    def test_first(self) -> None:
+        self.killed_first()
+
+    def test_first_with_shards(self) -> None:
+        self.killed_first("--shards", f"{new_database(1)},{new_database(2)}")

@@ -1,5 +1,7 @@
 """A mirror after each of thirty nights: the same tables and reports, nothing written twice, no reader in between."""
 
+import re
+
 from databases import MirrorTest, ask, new_database, versions_of
 from reader import Reader, totals_of
 from shop import Shop
@@ -38,14 +40,15 @@ class Nights(MirrorTest):
     def test_counts(self) -> None:
         """A late record puts a command, a change and perhaps a row, and is told so."""
         shop, dsn = Shop(self.folder), new_database()
-        shop.load("product", "id,day,description,brand,category,department,launched,supplier\nP1,2023-01-01,a,b,c,d,e,f\n")
+        header = "id,day,description,brand,category,department,launched,supplier\n"
+        shop.load("product", header + "P1,2023-01-01,a,b,c,d,e,f\n")
         shop.load(
             "sales",
             "ticket,line,day,store,product,customer,quantity,amount,cost\n"
             "T1,1,2023-01-31,S1,P1,,1,2.00,1.00\nT1,2,2023-03-01,S1,P1,,1,2.00,1.00\n",
         )
         self.mirrors(shop.path, dsn)
-        shop.load("product", "id,day,description,brand,category,department,launched,supplier\nP1,2023-02-01,a,B,c,d,e,f\n")
+        shop.load("product", header + "P1,2023-02-01,a,B,c,d,e,f\n")
         self.assertEqual(
             self.mirrors(shop.path, dsn),
             "command: 1 put, 0 changed, 0 removed\n"
@@ -56,13 +59,14 @@ class Nights(MirrorTest):
         )
 
     def test_promises(self) -> None:
-        """The keys that the star promises are declared, and each table and column says what it is."""
+        """Keys are declared, tables and columns say what they are, and months are read by themselves."""
         shop, dsn = self.shop_after_a_night(), new_database()
         self.mirrors(shop.path, dsn)
         keys = ask(
             dsn,
             "SELECT conrelid::regclass::text, confrelid::regclass::text, count(*) FROM pg_constraint"
-            " WHERE contype = 'f' AND conparentid = 0 AND connamespace = 'wh'::regnamespace GROUP BY 1, 2 ORDER BY 1, 2",
+            " WHERE contype = 'f' AND conparentid = 0 AND connamespace = 'wh'::regnamespace"
+            " GROUP BY 1, 2 ORDER BY 1, 2",
         )
         self.assertEqual(
             keys,
@@ -92,3 +96,10 @@ class Nights(MirrorTest):
         )
         days = {f"fact_{day[:4]}_{day[4:6]}" for _, _, day, *_ in shop.dump("fact")[1:]}
         self.assertEqual([name for (name,) in months], sorted(days))
+        plan = "\n".join(
+            line
+            for (line,) in ask(
+                dsn, "EXPLAIN SELECT sum(amount) FROM wh.sales_as_was WHERE day BETWEEN 20240301 AND 20240430"
+            )
+        )
+        self.assertEqual(set(re.findall(r"fact_\d{4}_\d\d", plan)), {"fact_2024_03", "fact_2024_04"})

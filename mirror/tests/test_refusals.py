@@ -125,7 +125,8 @@ class Files(MirrorTest):
         with closing(sqlite3.connect(self.shop.path, isolation_level=None)) as connection:
             connection.execute("PRAGMA locking_mode = exclusive")
             connection.execute("BEGIN EXCLUSIVE")
-            self.refuses(3, r"failed: .*: can't be read \(database is locked\)", self.shop.path, self.dsn, "--wait", "1")
+            line = r"failed: .*: can't be read \(database is locked\)"
+            self.refuses(3, line, self.shop.path, self.dsn, "--wait", "1")
 
     def test_the_file_is_only_read(self) -> None:
         before = Path(self.shop.path).read_bytes()
@@ -296,10 +297,13 @@ class Words(MirrorTest):
         self.assertIn("exit status:", self.mirrors("--help"))
 
     def test_mistakes(self) -> None:
-        for words in ([], ["a"], ["a", "b", "c"], ["a", "b", "--what"], ["a", "b", "--schema", ""], ["a", "b", "--wait", "x"]):
-            with self.subTest(words=words):
+        for text in ("", "a", "a b c", "a b --what", "a b --wait x", "a b --wait"):
+            with self.subTest(text=text):
+                words = text.split()
                 done = run_mirror(*words)
                 self.assertEqual((done.returncode, done.stdout), (4, ""))
                 self.assertRegex(done.stderr, r"\Aerror: .*\n\Z")
-        for words in (["--shards", "a,"], ["--shards", "a,b,a"], ["--schema", "pg_mine"], ["--schema", "a" * 41], ["--wait", "0"]):
-            self.refuses(4, "error: .*", "a", "b", *words)
+        schemas = [["--schema", name] for name in ("", "pg_mine", "a" * 41)]
+        for words in (*schemas, ["--shards", "a,"], ["--shards", "a,b,a"], ["--wait", "0"]):
+            with self.subTest(words=words):
+                self.refuses(4, "error: .*", "a", "b", *words)

@@ -53,7 +53,9 @@ def _parser() -> argparse.ArgumentParser:
         help="puts the sales on these servers, a month on each in turn; the same ones in the same order each time",
     )
     parser.add_argument("--check", metavar="PROGRAM", help="first asks `PROGRAM check FILE`, and mirrors no wrong file")
-    parser.add_argument("--whole", action="store_true", help="compares all rows, where somebody else wrote to the mirror")
+    parser.add_argument(
+        "--whole", action="store_true", help="compares all rows, where somebody else wrote to the mirror"
+    )
     parser.add_argument(
         "--restored",
         action="store_true",

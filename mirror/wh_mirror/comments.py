@@ -20,7 +20,7 @@ def _columns_of(cell: str) -> list[str]:
 
 
 def read_comments() -> Comments:
-    """The text of each table (with no column) and of each column, as the page has them; none where the page isn't there.
+    """The text of each table (with no column) and of each column; none where the page isn't there.
 
     A table's text is what its heading says of it, or else the line below the heading.
     """

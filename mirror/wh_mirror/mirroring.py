@@ -161,7 +161,7 @@ class _Mirroring:
 
     def _scopes(self, warehouse: Warehouse, commands: CommandList, star: Star) -> Scopes:
         """What is compared of the tables that aren't compared whole."""
-        if not self._is_continued:
+        if self._note is None or not self._is_continued:
             return {}
         after = self._note.commands
         scopes = {}

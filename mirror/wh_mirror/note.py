@@ -6,7 +6,7 @@ It tells a mirror's schema from any other, and how far the mirror is.
 from dataclasses import astuple, dataclass, fields
 
 from wh_mirror.faults import Refused
-from wh_mirror.server import Server, listed, literal, quoted
+from wh_mirror.server import Server, comment_on, listed, quoted
 
 LAYOUT = 1
 
@@ -60,10 +60,10 @@ def read_note(server: Server, schema: str) -> Note | None:
 def make_note(server: Server, schema: str) -> None:
     """Makes the schema, and the table of the note."""
     server.run(f"CREATE SCHEMA IF NOT EXISTS {quoted(schema)}")
-    server.run(f"COMMENT ON SCHEMA {quoted(schema)} IS {literal('A mirror of a warehouse, which wh-mirror alone writes')}")
+    comment_on(server, f"SCHEMA {quoted(schema)}", "A mirror of a warehouse, which wh-mirror alone writes")
     columns = ", ".join(f"{quoted(field.name)} {_TYPES[field.type]} NOT NULL" for field in fields(Note))
     server.run(f"CREATE TABLE {quoted(schema)}.mirror ({columns}, mirrored_at timestamp with time zone NOT NULL)")
-    server.run(f"COMMENT ON TABLE {quoted(schema)}.mirror IS {literal('how far the mirror is: one row')}")
+    comment_on(server, f"TABLE {quoted(schema)}.mirror", "how far the mirror is: one row")
 
 
 def write_note(server: Server, schema: str, note: Note) -> None:

@@ -40,7 +40,7 @@ class _Shard:
 
 
 class Shards:
-    """The other servers of a mirror, and the side of them that is brought to the file. It is false where there are none."""
+    """The other servers of a mirror, and the side of them that is brought to the file. It is false without any."""
 
     def __init__(self, front: Server, schema: str, side: str, dsns: tuple[str, ...]) -> None:
         self._front = front
@@ -166,22 +166,26 @@ class Shards:
             name = self._server_of(shard)
             given = shard.server.parameters()
             options = {key: given[key] for key in _OPTIONS_OF_A_SERVER if key in given} | _MORE_OPTIONS
-            kept = dict(
-                self._front.rows(
-                    "SELECT option_name, option_value FROM pg_catalog.pg_foreign_server,"
-                    " pg_catalog.pg_options_to_table(srvoptions) WHERE srvname = %s",
-                    (f"{self._front_schema}_shard_{shard.number}",),
-                )
-            )
+            kept = self._options_of_a_server(f"{self._front_schema}_shard_{shard.number}")
             if not kept:
                 self._front.run(f"CREATE SERVER {name} FOREIGN DATA WRAPPER postgres_fdw {_options(options)}")
             elif kept != options:
-                changes = {f"DROP {key}": None for key in kept if key not in options}
-                changes |= {f"{'SET' if key in kept else 'ADD'} {key}": value for key, value in options.items()}
+                changes: dict[str, str | None] = {f"DROP {key}": None for key in kept if key not in options}
+                for key, value in options.items():
+                    changes[f"{'SET' if key in kept else 'ADD'} {key}"] = value
                 self._front.run(f"ALTER SERVER {name} {_options(changes)}")
             login = {key: given[key] for key in ("user", "password") if key in given}
             self._front.run(f"DROP USER MAPPING IF EXISTS FOR CURRENT_USER SERVER {name}")
             self._front.run(f"CREATE USER MAPPING FOR CURRENT_USER SERVER {name} {_options(login)}")
+
+    def _options_of_a_server(self, name: str) -> dict[str, str]:
+        """What the front knows of a shard; nothing where it doesn't know it."""
+        rows = self._front.rows(
+            "SELECT option_name, option_value FROM pg_catalog.pg_foreign_server,"
+            " pg_catalog.pg_options_to_table(srvoptions) WHERE srvname = %s",
+            (name,),
+        )
+        return {str(key): str(value) for key, value in rows}
 
     def _make_foreign_partitions(self, front: Star, shard: _Shard, table: Table) -> None:
         there = front.relations()

@@ -219,7 +219,8 @@ class Warehouse:
         members = "SELECT durable FROM temp.touched WHERE dim ="
         return (
             "(ticket, line) IN (SELECT ticket, line FROM temp.new_line)"
-            f" OR product_durable IN ({members} 1) OR store_durable IN ({members} 2) OR customer_durable IN ({members} 3)"
+            f" OR product_durable IN ({members} 1) OR store_durable IN ({members} 2)"
+            f" OR customer_durable IN ({members} 3)"
         )
 
     def _lines_of(self, written: bytes) -> Iterator[tuple[str, int]]:
