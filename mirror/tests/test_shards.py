@@ -20,7 +20,9 @@ class ShardsTest(MirrorTest):
         self.addCleanup(reader.end)
         for night in range(2, 8):
             shop.night()
-            self.mirrors(*words)
+            # once by other connection strings to the same servers
+            way = " connect_timeout=9" if night == 4 else ""
+            self.mirrors(shop.path, dsn, "--shards", ",".join(it + way for it in shards))
             expected.add(totals_of(shop))
             with self.subTest(night=night):
                 self.assert_same_tables(shop, dsn)
