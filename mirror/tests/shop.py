@@ -145,10 +145,6 @@ class Shop:
         """Loads a batch."""
         wh("load", self.path, kind, self._id(), self._written(batch))
 
-    def late_record(self) -> None:
-        """A record of a product on a day long before the last."""
-        self.load("product", _csv([self._header("product"), self._record("product", "P1", "2023-02-03")]))
-
     def dump(self, table: str) -> list[tuple[str, ...]]:
         """The rows of a table as the program writes them, with its columns in front."""
         return [tuple(row) for row in csv.reader(io.StringIO(wh("dump", self.path, table), newline=""))]
@@ -206,7 +202,7 @@ class Shop:
         holidays = '[[holiday]]\nday = "2024-12-25"\nname = "Christmas Day"\n'
         if self._policy % 2:
             holidays += '[[holiday]]\nday = "2024-05-01"\nname = "May Day"\n'
-        return f"first_year = 2023\nlast_year = {last_year}\n{''.join(tables)}{holidays}"
+        return f"first_year = 2024\nlast_year = {last_year}\n{''.join(tables)}{holidays}"
 
     def _header(self, dimension: str) -> list[str]:
         return ["id", "day", *self._names(dimension)]
@@ -214,20 +210,22 @@ class Shop:
     def _record(self, dimension: str, member: str, day: str) -> list[str]:
         return [member, day, *(self._chance.choice(_VALUES) for _ in self._names(dimension))]
 
-    def _day(self) -> str:
-        year = self._chance.choice(["2023", "2024"])
+    def _day(self, year: str) -> str:
         return f"{year}-{self._chance.randrange(1, 13):02}-{self._chance.randrange(1, 29):02}"
 
     def _records(self, dimension: str) -> str:
         members = {"product": 15, "store": 4, "customer": 12}[dimension]
-        days = {(f"{dimension[0].upper()}{self._chance.randrange(members)}", self._day()) for _ in range(6)}
-        return _csv([self._header(dimension), *(self._record(dimension, *it) for it in sorted(days))])
+        chosen = set()
+        for _ in range(6):
+            member = f"{dimension[0].upper()}{self._chance.randrange(members)}"
+            chosen.add((member, self._day(self._chance.choice(["2023", "2024"]))))
+        return _csv([self._header(dimension), *(self._record(dimension, *it) for it in sorted(chosen))])
 
     def _sales(self) -> str:
         header = "ticket,line,day,store,product,customer,quantity,amount,cost".split(",")
         rows = [header + (["discount"] if self._is_upgraded else [])]
         for number in range(20):
-            ticket, day, chance = f"T{self._night}-{number}", self._day(), self._chance
+            ticket, day, chance = f"T{self._night}-{number}", self._day("2024"), self._chance
             self._tickets.append(ticket)
             for line in range(1, 3):
                 card = f"C{chance.randrange(14)}" if number % 3 else ""

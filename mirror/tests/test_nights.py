@@ -41,14 +41,14 @@ class Nights(MirrorTest):
         """A late record puts a command, a change and perhaps a row, and is told so."""
         shop, dsn = Shop(self.folder), new_database()
         header = "id,day,description,brand,category,department,launched,supplier\n"
-        shop.load("product", header + "P1,2023-01-01,a,b,c,d,e,f\n")
+        shop.load("product", header + "P1,2024-01-01,a,b,c,d,e,f\n")
         shop.load(
             "sales",
             "ticket,line,day,store,product,customer,quantity,amount,cost\n"
-            "T1,1,2023-01-31,S1,P1,,1,2.00,1.00\nT1,2,2023-03-01,S1,P1,,1,2.00,1.00\n",
+            "T1,1,2024-01-31,S1,P1,,1,2.00,1.00\nT1,2,2024-03-01,S1,P1,,1,2.00,1.00\n",
         )
         self.mirrors(shop.path, dsn)
-        shop.load("product", header + "P1,2023-02-01,a,B,c,d,e,f\n")
+        shop.load("product", header + "P1,2024-02-01,a,B,c,d,e,f\n")
         self.assertEqual(
             self.mirrors(shop.path, dsn),
             "command: 1 put, 0 changed, 0 removed\n"

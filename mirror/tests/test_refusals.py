@@ -290,7 +290,7 @@ class Words(MirrorTest):
         shown = os.read(reading, 100_000).decode()
         os.close(reading)
         self.assertEqual(done.returncode, 0)
-        self.assertIn("\rcalendar: 731 rows read", shown)
+        self.assertIn("\rcalendar: 366 rows read", shown)
         self.assertRegex(shown, r"\r +\r\Z")
 
     def test_help(self) -> None:

@@ -48,7 +48,7 @@ class ShardsTest(MirrorTest):
 
     def rows_are_sought_where_they_are(self, dsn: str) -> None:
         plan = ask(
-            dsn, "EXPLAIN VERBOSE SELECT sum(amount) FROM wh.sales_as_was WHERE store = 'S1' AND day < 20240101"
+            dsn, "EXPLAIN VERBOSE SELECT sum(amount) FROM wh.sales_as_was WHERE store = 'S1' AND day < 20240401"
         )
         remote = [line for (line,) in plan if "Remote SQL" in line]
         self.assertEqual(len(remote), 2, plan)
