@@ -21,7 +21,7 @@ as_server() {
 
 # Starts a server in a folder that is there: its data in data, its socket in the folder itself. It keeps nothing over a crash of the machine.
 start_server() {
-    local options="-c listen_addresses= -c unix_socket_directories=$1 -c fsync=off -c max_connections=50"
+    local options="-c listen_addresses= -c unix_socket_directories=$1 -c fsync=off"
     as_server pg_ctl -D "$1/data" -w -s -l "$1/log" -o "$options" start || { cat "$1/log"; return 1; }
 }
 

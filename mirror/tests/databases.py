@@ -21,6 +21,7 @@ MIRROR = str(ROOT / "mirror/wh-mirror")
 # folders with the sockets of three servers
 SOCKETS = os.environ["MIRROR_SOCKETS"].split(":")
 
+_connections: dict[str, psycopg.Connection] = {}
 _made = 0
 
 
@@ -38,10 +39,17 @@ def run_mirror(*words: str) -> subprocess.CompletedProcess[str]:
     return subprocess.run([MIRROR, *words], capture_output=True, text=True)
 
 
-@cache
 def connected(dsn: str) -> psycopg.Connection:
     """A connection of somebody else than the mirror, each of whose statements is a transaction."""
-    return psycopg.connect(dsn, autocommit=True)
+    if dsn not in _connections:
+        _connections[dsn] = psycopg.connect(dsn, autocommit=True)
+    return _connections[dsn]
+
+
+def disconnect() -> None:
+    """Closes all connections."""
+    while _connections:
+        _connections.popitem()[1].close()
 
 
 def ask(dsn: str, question: str) -> list[tuple]:
@@ -108,6 +116,7 @@ class MirrorTest(unittest.TestCase):
     def setUp(self) -> None:
         folder = TemporaryDirectory()
         self.addCleanup(folder.cleanup)
+        self.addCleanup(disconnect)
         self.folder = Path(folder.name)
 
     def shop_after_a_night(self) -> Shop:

@@ -74,6 +74,7 @@ class Files(MirrorTest):
             ("fact", "UPDATE fact SET ticket = x'4142' WHERE ticket = 'T1-1' AND line = 1"),
             ("product", "UPDATE product SET a1 = 'a' || char(0) || 'b'"),
             ("command", "UPDATE command SET bytes = 'a text' WHERE number = 2"),
+            ("command", "UPDATE command SET records = 'many' WHERE number = 2"),
         ):
             with self.subTest(statement=statement):
                 kept = Path(self.shop.path).read_bytes()

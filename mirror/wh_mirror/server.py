@@ -39,7 +39,7 @@ def comment_on(server: "Server", thing: str, text: str | None) -> None:
 
 
 class Server:
-    """An open connection. It is a context manager; what wasn't committed is taken back at its end."""
+    """An open connection; what wasn't committed is taken back when it is closed."""
 
     def __init__(self, dsn: str, wait: int) -> None:
         """Connects; a statement waits so many seconds at most for those who read or write the same."""
@@ -48,6 +48,8 @@ class Server:
         except (psycopg.Error, UnicodeError) as error:
             raise Failed(f"server: {_first_line(error)}") from error
         try:
+            # what another mirror committed while its lock was waited for is seen then
+            self._connection.isolation_level = psycopg.IsolationLevel.READ_COMMITTED
             for name, value in (_SETTINGS | {"lock_timeout": f"'{wait}s'"}).items():
                 self.run(f"SET {name} = {value}")
             if self.value("SHOW server_encoding") != "UTF8":

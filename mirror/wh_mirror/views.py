@@ -95,7 +95,7 @@ _DAY_COLUMNS = (
 
 def _natural_key(dimension: Dimension) -> ViewColumn:
     comment = f"the natural key of the {dimension}" + (", or (no card)" if dimension is Dimension.CUSTOMER else "")
-    return ViewColumn(dimension, 'text COLLATE "C"', f"{dimension}.{quoted('natural')}", comment)
+    return ViewColumn(dimension.value, 'text COLLATE "C"', f"{dimension}.{quoted('natural')}", comment)
 
 
 def _measures(warehouse_format: int) -> tuple[ViewColumn, ...]:

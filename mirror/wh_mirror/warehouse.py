@@ -84,8 +84,6 @@ class Warehouse:
     def __init__(self, path: str, wait: int) -> None:
         """Opens the file, and waits so many seconds at most for `wh` to leave it."""
         self._path = path
-        if not Path(path).is_file():
-            raise Failed(f"{path}: no such file")
         with self._reading():
             self._connection = sqlite3.connect(
                 f"file:{quote(str(Path(path).absolute()))}?mode=ro", uri=True, isolation_level=None, timeout=wait
@@ -114,7 +112,7 @@ class Warehouse:
         """Tells what SQLite refuses as a fault of the file."""
         try:
             yield
-        except sqlite3.DatabaseError as error:
+        except (sqlite3.DatabaseError, OverflowError) as error:
             what = "not a warehouse" if "not a database" in str(error) else "can't be read"
             raise Failed(f"{self._path}: {what} ({error})") from error
 
@@ -144,14 +142,15 @@ class Warehouse:
             rows = self._connection.execute(
                 "SELECT number, id, kind, records, placeholders, length(bytes), bytes FROM command ORDER BY number"
             )
-            for place, (number, *words, written) in enumerate(rows, start=1):
-                if number != place or not isinstance(written, bytes):
+            for place, (*words, written) in enumerate(rows, start=1):
+                number, _, kind, records, *_ = words
+                if number != place or not isinstance(records, int) or not isinstance(written, bytes):
                     raise self.damaged("command")
-                digest.update(repr((number, *words)).encode())
+                digest.update(repr(words).encode())
                 digest.update(written)
                 if place == beginning:
                     digest_of_beginning = digest.digest()
-                commands.append(Command(number, kind=words[1], records=words[2]))
+                commands.append(Command(number, kind, records))
         return CommandList(tuple(commands), digest.digest(), digest_of_beginning)
 
     def policy(self) -> list[Attribute]:
@@ -171,10 +170,10 @@ class Warehouse:
         with self._reading():
             rows = self._connection.execute(f"SELECT {_line_of(table)} FROM {table.name} WHERE {condition}")
             while found := rows.fetchmany(many):
-                try:
-                    yield len(found), b"".join(line for (line,) in found)
-                except TypeError as error:
-                    raise self.damaged(table.name) from error
+                lines = [line for (line,) in found]
+                if None in lines:
+                    raise self.damaged(table.name)
+                yield len(lines), b"".join(lines)
 
     def months(self) -> list[int]:
         """The months of the calendar, as YYYYMM."""
