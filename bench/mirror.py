@@ -2,8 +2,8 @@
 """Times `wh-mirror` (build the program first: `rt run` in crates/wh). mirror.py DSN [PROGRAM]: DSN names an empty database, in which the
 schemas `first` and `night` are made.
 
-A warehouse of 995,000 facts is made and mirrored; then come a batch of 5,000 sales and one of 5,000 late product records, and these are
-mirrored, and once more as a first mirror of 1,000,000 facts. Prints seconds by the clock, and what the mirror says of the night."""
+A warehouse of 990,000 facts is made and mirrored; then come a night of 5,000 sales, and one of 5,000 sales and 5,000 late product records,
+each mirrored, and at last a first mirror of 1,000,000 facts. Prints what the mirror says of each, and seconds by the clock."""
 import os
 import subprocess
 import sys
@@ -15,7 +15,7 @@ import deliver
 TOP = os.path.join(os.path.dirname(os.path.abspath(__file__)), "..")
 DSN = sys.argv[1]
 PROGRAM = sys.argv[2] if len(sys.argv) > 2 else os.path.join(TOP, "crates", "wh", "out", "wh")
-BATCHES = 199
+BATCHES = 198
 
 
 def run(*words):
@@ -35,8 +35,21 @@ def send(folder, path, commands):
     run(PROGRAM, "deliver", path, manifest)
 
 
-def mirror(path, schema):
-    return run(os.path.join(TOP, "mirror", "wh-mirror"), path, DSN, "--schema", schema)
+def mirror(what, path, schema):
+    """Mirrors, and prints what that said and took."""
+    told, seconds = run(os.path.join(TOP, "mirror", "wh-mirror"), path, DSN, "--schema", schema)
+    print(f"{told}{what}: {seconds:.1f} s\n", flush=True)
+
+
+def night(folder, path, turn, is_late):
+    """Delivers a batch of 5,000 sales, and one of as many late records."""
+    sold, late = os.path.join(folder, "night.csv"), os.path.join(folder, "late.csv")
+    deliver.sales(sold, turn)
+    commands = [("sales", f"s{turn}", sold)]
+    if is_late:
+        deliver.products(late, range(deliver.SIZE), "2024-07-15", turn)
+        commands.append(("product", f"late{turn}", late))
+    send(folder, path, commands)
 
 
 def main():
@@ -44,18 +57,14 @@ def main():
         path = os.path.join(folder, "shop.wh")
         run(PROGRAM, "init", path, deliver.POLICY)
         send(folder, path, deliver.commands(folder, BATCHES))
-        _, seconds = mirror(path, "night")
-        print(f"the first mirror, {BATCHES * deliver.SIZE:,} facts: {seconds:.1f} s")
-        sold, late = os.path.join(folder, "night.csv"), os.path.join(folder, "late.csv")
-        deliver.sales(sold, BATCHES)
-        deliver.products(late, range(deliver.SIZE), "2024-07-15", BATCHES)
-        send(folder, path, [("sales", "night", sold), ("product", "late", late)])
-        told, seconds = mirror(path, "night")
-        print(f"{told}a night of 5,000 sales and 5,000 late records: {seconds:.1f} s")
-        _, seconds = mirror(path, "night")
-        print(f"nothing new: {seconds:.1f} s")
-        _, seconds = mirror(path, "first")
-        print(f"the first mirror, {(BATCHES + 1) * deliver.SIZE:,} facts: {seconds:.1f} s")
+        mirror("the first mirror, 990,000 facts", path, "night")
+        night(folder, path, BATCHES, is_late=False)
+        mirror("a night of 5,000 sales", path, "night")
+        night(folder, path, BATCHES + 1, is_late=True)
+        mirror("a night of 5,000 sales and 5,000 late records", path, "night")
+        mirror("once more", path, "night")
+        mirror("the first mirror, 1,000,000 facts", path, "first")
 
 
-main()
+if __name__ == "__main__":
+    main()

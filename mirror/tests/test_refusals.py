@@ -5,12 +5,13 @@ import pty
 import sqlite3
 import stat
 import subprocess
+import unittest
 from contextlib import closing
 from pathlib import Path
 
 import psycopg
 from databases import MIRROR, MirrorTest, ask, everything_in, new_database, run, run_mirror
-from shop import Shop
+from shop import PROGRAM, Shop, knows
 
 NO_SERVER = "host=/nonexistent dbname=none"
 
@@ -281,6 +282,14 @@ class Words(MirrorTest):
         self.assertEqual(ask(dsn, "SELECT to_regnamespace('wh')::text"), [(None,)])
         self.mirrors(shop.path, dsn, "--check", self.checker('[ "$1" = check ] && [ -f "$2" ]'))
         self.refuses(3, "failed: /nonexistent: No such file or directory", shop.path, dsn, "--check", "/nonexistent")
+
+    @unittest.skipUnless(knows("check"), "the program doesn't know the word check")
+    def test_check_by_the_program(self) -> None:
+        shop, dsn = self.shop_after_a_night(), new_database()
+        self.mirrors(shop.path, dsn, "--check", PROGRAM)
+        with closing(sqlite3.connect(shop.path)) as connection, connection:
+            connection.execute("UPDATE product SET a2 = 'another' WHERE surrogate = 1")
+        self.refuses(2, r"refused: .*: the check says: wrong: product", shop.path, dsn, "--check", PROGRAM)
 
     def test_progress(self) -> None:
         """A terminal is told how far the mirror is, and is left with an empty line."""

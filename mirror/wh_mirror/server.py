@@ -12,6 +12,8 @@ _SETTINGS = {
     # joins of whole tables and the making of indexes stay in memory
     "work_mem": "'256MB'",
     "maintenance_work_mem": "'256MB'",
+    # to compile a question over many partitions takes longer than it saves
+    "jit": "off",
     # a server whose mirror was killed notices it, and takes its changes back
     "client_connection_check_interval": "'1s'",
 }

@@ -12,7 +12,7 @@ from dataclasses import dataclass
 from wh_mirror.comments import Comments
 from wh_mirror.progress import Progress
 from wh_mirror.server import Server, comment_on, listed, quoted
-from wh_mirror.tables import Table
+from wh_mirror.tables import Kind, Table
 from wh_mirror.warehouse import Warehouse
 
 
@@ -127,8 +127,12 @@ class Star:
         parted = " PARTITION BY RANGE (day)" if table.is_sales else ""
         self.server.run(f"CREATE TABLE {place} ({', '.join(columns + keys)}){parted}")
         comment_on(self.server, f"TABLE {place}", self._comments.get((table.name, None)))
-        for name in table.names:
-            comment_on(self.server, f"COLUMN {place}.{quoted(name)}", self._comments.get((table.name, name)))
+        for column in table.columns:
+            if column.kind is Kind.BYTES:
+                # to press batches together would take longer than to copy everything else
+                self.server.run(f"ALTER TABLE {place} ALTER COLUMN {quoted(column.name)} SET STORAGE EXTERNAL")
+            text = self._comments.get((table.name, column.name))
+            comment_on(self.server, f"COLUMN {place}.{quoted(column.name)}", text)
 
     def drop_tables(self, tables: Iterable[Table]) -> None:
         """Drops tables, those that name others first."""
@@ -176,13 +180,14 @@ class Star:
         """Copies the rows of the file to the server."""
         self._months = warehouse.months()
         for table in self.tables:
+            place = self.place(table.name)
             if table in self._made:
-                target = self.place(table.name)
+                target = place
                 if table.is_sales:
                     self._make_partitions(table)
             else:
                 target = _staged(table)
-                self.server.run(f"CREATE TEMP TABLE {target} (LIKE {self.place(table.name)}) ON COMMIT DROP")
+                self.server.run(f"CREATE TEMP TABLE {target} (LIKE {place} INCLUDING STORAGE) ON COMMIT DROP")
             condition = scopes.get(table.name, EVERYTHING).in_file
             if table.is_sales:
                 condition = f"({condition}) AND {self._share.condition()}"

@@ -215,11 +215,14 @@ class Warehouse:
             ).fetchall()
             for (written,) in batches:
                 self._connection.executemany("INSERT INTO temp.new_line VALUES (?, ?)", self._lines_of(written))
-        members = "SELECT durable FROM temp.touched WHERE dim ="
+            members = self._connection.execute("SELECT count(*) FROM member").fetchone()[0]
+        # where many members are touched, all sales are looked at in turn: a plus keeps SQLite from using an index
+        plus = "+" if len(touched) * 10 > members else ""
+        of_dimension = "SELECT durable FROM temp.touched WHERE dim ="
         return (
-            "(ticket, line) IN (SELECT ticket, line FROM temp.new_line)"
-            f" OR product_durable IN ({members} 1) OR store_durable IN ({members} 2)"
-            f" OR customer_durable IN ({members} 3)"
+            f"({plus}ticket, {plus}line) IN (SELECT ticket, line FROM temp.new_line)"
+            f" OR {plus}product_durable IN ({of_dimension} 1) OR {plus}store_durable IN ({of_dimension} 2)"
+            f" OR {plus}customer_durable IN ({of_dimension} 3)"
         )
 
     def _lines_of(self, written: bytes) -> Iterator[tuple[str, int]]:
