@@ -4,7 +4,7 @@ import random
 import subprocess
 import time
 
-from databases import MIRROR, MirrorTest, ask, new_database, seconds_of
+from databases import MIRROR, MirrorTest, ask, new_database, run_mirror, seconds_of
 from reader import TOTALS, totals_of
 
 KILLS = 20
@@ -28,7 +28,7 @@ class Kills(MirrorTest):
         chance = random.Random(nights)
         shop = self.shop_after_a_night()
         dsn, *more = words
-        took = seconds_of(lambda: self.mirrors(shop.path, dsn, *more))
+        took = seconds_of(lambda: run_mirror(shop.path, dsn, *more))
         killed = 0
         for night in range(nights):
             before = totals_of(shop)
@@ -37,7 +37,7 @@ class Kills(MirrorTest):
             with self.subTest(night=night):
                 killed += kill_after(chance.uniform(0.1, took), shop.path, dsn, *more)
                 self.assertIn(ask(dsn, TOTALS)[0], (before, after))
-                took = seconds_of(lambda: self.mirrors(shop.path, dsn, *more))
+                took = seconds_of(lambda: run_mirror(shop.path, dsn, *more))
                 self.assertEqual(ask(dsn, TOTALS), [after])
         self.assert_same_tables(shop, dsn)
         self.assert_same_reports(shop, dsn)
@@ -52,7 +52,7 @@ class Kills(MirrorTest):
     def killed_first(self, *words: str) -> None:
         """There is no schema, or the whole mirror."""
         chance, shop, dsn = random.Random(1), self.shop_after_a_night(), new_database()
-        took = seconds_of(lambda: self.mirrors(shop.path, new_database()))
+        took = seconds_of(lambda: run_mirror(shop.path, new_database()))
         for _ in range(4):
             kill_after(chance.uniform(0.2, took), shop.path, dsn, *words)
             there = ask(dsn, "SELECT count(*) FROM pg_class WHERE relnamespace = to_regnamespace('wh')")

@@ -304,7 +304,9 @@ class Words(MirrorTest):
         self.assertRegex(shown, r"\r +\r\Z")
 
     def test_help(self) -> None:
-        self.assertIn("exit status:", self.mirrors("--help"))
+        done = run_mirror("--help")
+        self.assertEqual((done.returncode, done.stderr), (0, ""))
+        self.assertIn("exit status:", done.stdout)
 
     def test_mistakes(self) -> None:
         for text in ("", "a", "a b c", "a b --what", "a b --wait x", "a b --wait"):
