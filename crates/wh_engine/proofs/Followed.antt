@@ -1,6 +1,6 @@
 -- A warehouse that is sent the commands of the rows accepts those that come next, with the receipts that the rows say, and no other.
 use Rattle.std.proofs.Common.{◌≡◌, ◌≢◌, ℕ, suc, ◌==◌, nat_eq, Bool, true, false, ◌&&◌, List, [], ◌∷◌, ◌++◌, length, Some, None, Result, Ok, Err, refl, sym, ap, subst, ◌∙◌, arith}
-use Rattle.std.specs.Prelude.{find, bytes_eq, codes, option_map, slice_get}
+use Rattle.std.specs.Prelude.{find, bytes_eq, codes}
 use Rattle.std.proofs.lemmas.Bool.{and_parts}
 use Rattle.std.proofs.lemmas.Slice.Eq.{bytes_eq-Decides}
 use Rattle.wh_policy.specs.Policy.{policy_at}

@@ -1,14 +1,10 @@
 -- The tables of a warehouse that was just made are those of its one command.
-use Rattle.std.proofs.Common.{◌≡◌, ◌≢◌, inl, inr, ℕ, zero, suc, true, cond, List, [], ◌∷◌, Some, None, refl, sym, ◌∙◌, ap, subst, arith, pos}
-use Rattle.std.specs.Prelude.{codes, bytes_eq}
+use Rattle.std.proofs.Common.{◌≡◌, ◌≢◌, ℕ, zero, suc, cond, List, [], ◌∷◌, Some, None, refl, sym, ◌∙◌, ap, arith}
 use Rattle.std.specs.Cmp.{unsigned_tied}
-use Rattle.std.specs.Cmp.Lexicographic.{slice_cmp, nat_list_cmp_total}
 use Rattle.std.specs.FinMap.{FinMap, empty, insert, get, get-empty, get-insert}
-use Rattle.std.specs.Ordering.{nat_cmp, eq_by_cmp}
-use Rattle.std.proofs.lemmas.Bool.{cases_Bool, ne_eqb, eq-eqb}
+use Rattle.std.specs.Ordering.{nat_cmp}
+use Rattle.std.proofs.lemmas.Bool.{ne_eqb, eq-eqb}
 use Rattle.std.proofs.lemmas.Cmp.{nat_cmp_total}
-use Rattle.std.proofs.lemmas.Map.Text.{is_eq-slice_cmp}
-use Rattle.std.proofs.lemmas.Slice.Eq.{bytes_eq-Decides}
 use Rattle.wh_day.specs.Value.{no_card_text, unknown_text}
 use Rattle.wh_policy.specs.Policy.{types_of}
 use Rattle.wh_policy.specs.declared.attribute.Dim.{Dim}
@@ -21,11 +17,10 @@ use Rattle.wh_rows.specs.Rows as row
 use Rattle.wh_rows.specs.Tables.{Tables}
 use Rattle.wh_rows.specs.declared.key.MemberKey.{MemberKey}
 use Rattle.wh_rows.specs.declared.key.ChangeKey.{ChangeKey}
-use Rattle.wh_rows.specs.declared.rows.MetaRow.{MetaRow}
 use Rattle.wh_rows.specs.declared.rows.ProfileRow.{ProfileRow}
 use Rattle.wh_store.specs.Meta.{made_with}
 use Rattle.wh_check.proofs.MadeMeta.{meta_made}
-use Rattle.wh_rows.specs.Defined.{meta_at, command_at, member_at, change_at, profile_at, AreOf}
+use Rattle.wh_rows.specs.Defined.{command_at, member_at, change_at, profile_at, AreOf}
 use Rattle.wh_plan.specs.FirstRows.{making_row, profile_of, first_profiles, calendar_rows, with_first}
 use Rattle.wh_rows.specs.Sound.{making_of}
 use Rattle.wh_engine.proofs.MadeCalendar.{calendar_made}

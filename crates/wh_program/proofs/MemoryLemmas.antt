@@ -1,5 +1,5 @@
 -- A warehouse in memory.
-use Rattle.std.proofs.Common.{◌≡◌, refl, sym, ap, subst, Option, Some, None}
+use Rattle.std.proofs.Common.{◌≡◌, refl, sym, ap, subst, Option, None}
 use Rattle.sqlite.specs.Held.{Held, state}
 use Rattle.sqlite.specs.Steps.{over_memory, IsEmpty}
 use Rattle.sqlite.specs.Effect.{Database, IsDatabase}
