@@ -2,11 +2,10 @@
 """Times `wh deliver` of a manifest of 260 commands that make 1,000,000 facts, and the same commands sent one by one (build the program
 first: `rt run` in crates/wh). deliver.py [--facts N] [--single] [PROGRAM]. The commands are a batch of 8,000 products in two, one of 2,000
 customers, a batch of 5,000 sales for each 5,000 facts, and late records of products and of customers between them. Prints processor time,
-the greatest memory, and the sizes of the file and of the log beside it; with --single what the same commands take one by one, which open
+the greatest memory, and the sizes of the file and of the log beside it, and what an open (`wh status`) and `wh check` of that file take; with --single what the same commands take one by one, which open
 the file anew each time."""
 import argparse
 import os
-import resource
 import shutil
 import subprocess
 import sys
@@ -69,11 +68,12 @@ def commands(folder, batches):
 
 
 def run(program, *words):
-    """What it prints, and its processor seconds."""
-    before = resource.getrusage(resource.RUSAGE_CHILDREN)
-    done = subprocess.run([program, *words], stdout=subprocess.PIPE)
-    after = resource.getrusage(resource.RUSAGE_CHILDREN)
-    return done.stdout.decode(), after.ru_utime + after.ru_stime - before.ru_utime - before.ru_stime
+    """What it prints, its processor seconds, and its greatest memory in MB."""
+    with subprocess.Popen([program, *words], stdout=subprocess.PIPE) as child:
+        text = child.stdout.read().decode()
+        _, status, used = os.wait4(child.pid, 0)
+        child.returncode = os.waitstatus_to_exitcode(status)
+    return text, used.ru_utime + used.ru_stime, used.ru_maxrss / 1024
 
 
 class Sizes(threading.Thread):
@@ -108,13 +108,16 @@ def main():
         sizes = Sizes(path)
         sizes.start()
         began = time.time()
-        text, spent = run(given.program, "deliver", path, manifest)
-        clock, memory = time.time() - began, resource.getrusage(resource.RUSAGE_CHILDREN).ru_maxrss / 1024
+        text, spent, memory = run(given.program, "deliver", path, manifest)
+        clock = time.time() - began
         sizes.stopped.set()
         lines = text.splitlines()
         if len(lines) != len(sent) or not all(line.startswith("accepted") for line in lines):
             sys.exit(text)
         print(f"{len(sent)} commands, {given.facts} facts: {spent:.1f} s of processor time, {clock:.1f} s by the clock, {memory:.0f} MB, a file of {os.path.getsize(path) / 1e6:.0f} MB, a log of at most {sizes.most / 1e6:.0f} MB")
+        _, opened, of_open = run(given.program, "status", path)
+        said, checked, of_check = run(given.program, "check", path)
+        print(f"status: {opened:.1f} s, {of_open:.0f} MB; check: {said.strip()}, {checked:.1f} s, {of_check:.0f} MB, so {(checked - opened) / spent:.2f} times the delivery beside the open")
         if given.single:
             total = sum(run(given.program, *(("load", empty, kind, name, file)))[1] for kind, name, file in sent)
             print(f"the same one by one: {total:.1f} s of processor time")

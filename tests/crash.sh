@@ -4,8 +4,8 @@
 #
 # One file is made and loaded with no kill, and another with each load killed (`kill -9`) at some moment of the time that
 # the first one took. Afterwards `status` has to find the commands before the load, or those and the load (these alone
-# where the load was told that it is accepted); the same load again has to answer with its number. In the end both files
-# have to hold the same rows in the ten tables, and to be sound.
+# where the load was told that it is accepted), and `check` finds it clean; the same load again has to answer with its
+# number. In the end both files have to hold the same rows in the ten tables, and to be sound.
 set -eu
 cd "$(dirname "$0")/.."
 loads=${1:-50}
@@ -58,6 +58,7 @@ while [ $number -lt $((loads + 3)) ] && [ $SECONDS -lt $seconds ]; do
 
     "$program" status "$killed" > "$work/status" || fail "status behind load $number: $(cat "$work/status")"
     kept=$(sed -n 's/^commands //p' "$work/status")
+    "$program" check "$killed" > "$work/verdict" || fail "check behind load $number: $(cat "$work/verdict")"
     case "$kept/$(cat "$work/told")" in
         "$((number + 1))/accepted $receipt" | "$((number + 1))/") word=already ;;
         "$number/") word=accepted ;;

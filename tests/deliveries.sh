@@ -4,7 +4,7 @@
 #
 # A manifest names 40 commands of all five kinds. One file is delivered it with no kill. In each round another is made, and its delivery is killed
 # (`kill -9`) twice, each time at some moment of the time that the first one took. What is printed of it is a beginning of what is printed
-# without a kill. Afterwards the same manifest has to end as without a kill: each command with its receipt, accepted or already there, and
+# without a kill, and `check` finds the file clean. Afterwards the same manifest has to end as without a kill: each command with its receipt, accepted or already there, and
 # the same rows in the ten tables.
 set -eu
 cd "$(dirname "$0")/.."
@@ -50,6 +50,7 @@ while [ $round -lt "$rounds" ] && [ $SECONDS -lt $seconds ]; do
         sleep "$(moment $took)"
         kill -9 $process 2> /dev/null || true
         wait $process 2> /dev/null || stopped=$((stopped + 1))
+        "$program" check "$work/killed" > "$work/verdict" || fail "round $round, check after the $night night: $(cat "$work/verdict")"
         sed 's/^accepted //; s/^already //' "$work/told" > "$work/found"
         head -c "$(wc -c < "$work/found")" "$work/receipts" | cmp -s - "$work/found" || fail "round $round, the $night night: $(cat "$work/told")"
     done

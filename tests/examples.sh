@@ -46,10 +46,13 @@ line "accepted 3 s1: 2 records, 1 placeholders" 0 load "$work/shop.wh" sales s1 
 line "refused: E11 not empty" 2 init "$work/shop.wh" examples/flat.toml
 line "$(printf 'format 1\ncommands 3\nchanges 3\nfacts 2\nmembers product 1 store 1 customer 0')" 0 status "$work/shop.wh"
 line "accepted 4 m1: 0 records, 0 placeholders" 0 migrate "$work/shop.wh" m1 examples/overwritten.toml
+line "clean" 0 check "$work/shop.wh"
 line "accepted 1 init: 0 records, 0 placeholders" 0 init "$work/night.wh" examples/flat.toml
 example night.txt 2 deliver "$work/night.wh" examples/night.csv
+line "clean" 0 check "$work/night.wh"
 line "refused: M1 bad manifest, record 1" 2 deliver "$work/night.wh" examples/sales.csv
 line "failed: N1 not a warehouse" 3 status "$work/none.wh"
+line "failed: N1 not a warehouse" 3 check "$work/none.wh"
 line "failed: N1 not a warehouse" 3 load "$work/none.wh" product p1 examples/late.csv
 line "failed: N1 not a warehouse" 3 deliver "$work/none.wh" examples/night.csv
 # A mistyped name leaves no file.
@@ -57,7 +60,7 @@ if [ -z "$(find "$work" -name 'none.wh*')" ]; then
     passed=$((passed + 1))
 else
     failed=$((failed + 1))
-    echo "status, load or deliver of a name that isn't there left a file"
+    echo "status, check, load or deliver of a name that isn't there left a file"
 fi
 echo "$passed passed, $failed failed"
 [ "$failed" = 0 ]

@@ -1,8 +1,8 @@
 #!/usr/bin/env bash
 # Refuses each growth of memory of a load in turn, and of one making, in the built program, and looks at what its file then holds.
 # Build the program first (`rt run` in crates/wh). growths.sh [STEP] [PROGRAM] [NAME]: every growth of a load of records, of a load of sales and of
-# a load of a late record that moves a sale, of a migration, of a delivery of these three, of a report and of a dump, or one in STEP of them, and of the making, which has more, one in ten times as many; with NAME (making, load, sales, late,
-# migration, delivery, report, dump) of that one alone.
+# a load of a late record that moves a sale, of a migration, of a delivery of these three, of a report, of a dump and of a check, or one in STEP of them, and of the making, which has more, one in ten times as many; with NAME (making, load, sales, late,
+# migration, delivery, report, dump, check) of that one alone.
 #
 # A run is answered as with ample memory, with `failed: E8 memory`, or with `failed: E9 store, memory`. After E8 the file holds what it
 # held; the same words again are answered as accepted. After E9 they are answered as accepted or, of a load that was kept, as already
@@ -156,5 +156,7 @@ judge_reading() {
 
 cp "$work/late.before" "$work/report.before"
 cp "$work/late.before" "$work/dump.before"
+cp "$work/late.before" "$work/check.before"
 refuse_each report "$step" judge_reading report "$work/file" product.brand was 2024-01-01 2024-12-31
 refuse_each dump "$step" judge_reading dump "$work/file" product
+refuse_each check "$step" judge_reading check "$work/file"

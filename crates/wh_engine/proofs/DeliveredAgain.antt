@@ -6,14 +6,14 @@ use Rattle.sqlite.specs.Tree.{Trees}
 use Rattle.sqlite.specs.State.{State}
 use Rattle.wh_history.specs.Accepted.{Accepted}
 use Rattle.wh_history.specs.Tables.{Limits}
-use Rattle.wh_engine.specs.Admission.{answer, accepted_after, accepted_after_all}
+use Rattle.wh_admission.specs.Admission.{answer, accepted_after, accepted_after_all}
 use Rattle.wh_engine.specs.Answered.{AreTreesOf, LeavesOneOf, IsReady, IsStopped}
 use Rattle.wh_engine.specs.Delivered.{answers_to, AreAnswers, AreAsMany, IsDelivered}
 use Rattle.wh_engine.specs.Redelivered.{receipt_answered, TellReceipts, IsDeliveredAgain}
-use Rattle.wh_engine.specs.declared.command.Command.{Command}
-use Rattle.wh_engine.specs.declared.command.Receipt.{Receipt}
-use Rattle.wh_engine.specs.declared.command.Refused.{Refused}
-use Rattle.wh_engine.specs.declared.command.Reply.{Reply}
+use Rattle.wh_admission.specs.declared.command.Command.{Command}
+use Rattle.wh_admission.specs.declared.command.Receipt.{Receipt}
+use Rattle.wh_admission.specs.declared.command.Refused.{Refused}
+use Rattle.wh_admission.specs.declared.command.Reply.{Reply}
 use Rattle.wh_engine.specs.declared.fault.Fault.{Fault}
 use Rattle.wh_engine.specs.declared.fault.Fault.TheVariants as faults
 use Rattle.wh_engine.specs.declared.session.Session.{Session}
@@ -21,7 +21,7 @@ use Rattle.wh_engine.proofs.Delivering.{answers_join, as_many_answers}
 use Rattle.wh_engine.proofs.Nights.{IsBeginning, goes_on, rest_ends}
 use Rattle.wh_engine.proofs.Receipts.{told_again, refused_again}
 use Rattle.wh_engine.proofs.Redelivered.{left_of}
-use Rattle.wh_engine.proofs.Repeats.{acts_once}
+use Rattle.wh_admission.proofs.Repeats.{acts_once}
 
 pub at_most_all : (sent : List Command) (answers : List (Result Reply Refused)) (stop : Option Fault) → AreAsMany sent answers stop → length answers ≤ length sent
 at_most_all sent answers None many = omega (arith, many)

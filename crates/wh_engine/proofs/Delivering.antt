@@ -3,16 +3,16 @@ use Rattle.std.proofs.Common.{◌≡◌, ◌≢◌, ℕ, suc, ◌<◌, false, in
 use Rattle.sqlite.specs.State.{State}
 use Rattle.wh_history.specs.Accepted.{Accepted}
 use Rattle.wh_history.specs.Tables.{Limits}
-use Rattle.wh_engine.specs.Admission.{answer, after_answer, accepted_after, accepted_after_all}
+use Rattle.wh_admission.specs.Admission.{answer, after_answer, accepted_after, accepted_after_all}
 use Rattle.wh_policy.specs.declared.policy.Policy.{Policy}
 use Rattle.wh_engine.specs.Answered.{IsReady, IsStopped, IsAnswered, IsGoverned, KeepsNothing, IsNotAccepted, IsWritten}
 use Rattle.wh_engine.specs.Delivered.{answers_to, answer_or_stop, AcceptsNothing, AcceptNothing, AreAsMany, AreGoverned, IsDelivered, IsLastWritten, as_called, is_of_the_store}
 use Rattle.wh_engine.specs.Faults.{stops}
 use Rattle.wh_engine.specs.Nights.{DeliveriesJoin}
-use Rattle.wh_engine.specs.declared.command.Command.{Command}
-use Rattle.wh_engine.specs.declared.command.Refused.{Refused}
-use Rattle.wh_engine.specs.declared.command.Reply.{Reply}
-use Rattle.wh_engine.specs.declared.command.Reply.TheVariants.{Accepted as Accepts, Already}
+use Rattle.wh_admission.specs.declared.command.Command.{Command}
+use Rattle.wh_admission.specs.declared.command.Refused.{Refused}
+use Rattle.wh_admission.specs.declared.command.Reply.{Reply}
+use Rattle.wh_admission.specs.declared.command.Reply.TheVariants.{Accepted as Accepts, Already}
 use Rattle.wh_engine.specs.declared.fault.Fault.{Fault}
 use Rattle.wh_engine.specs.declared.fault.Fault.TheVariants as faults
 use Rattle.wh_engine.specs.declared.session.Session.{Session}

@@ -7,15 +7,15 @@ use Rattle.wh_history.specs.Accepted.{Accepted, Content}
 use Rattle.wh_history.specs.Tables.{Limits}
 use Rattle.wh_rows.specs.Types.{is_key}
 use Rattle.wh_batch.specs.Kind.{command_word}
-use Rattle.wh_engine.specs.Admission.{content_of, current_policy, accepted_as, already, by_id, number_for, answer_with, when_read, answer, with_content, after_answer, accepted_after, accepted_after_all}
+use Rattle.wh_admission.specs.Admission.{content_of, current_policy, accepted_as, already, by_id, number_for, answer_with, when_read, answer, with_content, after_answer, accepted_after, accepted_after_all}
 use Rattle.wh_engine.specs.Nights.{RefusesNone}
-use Rattle.wh_engine.specs.declared.command.Command.{Command}
-use Rattle.wh_engine.specs.declared.command.Receipt.{Receipt}
-use Rattle.wh_engine.specs.declared.command.Reply.{Reply}
-use Rattle.wh_engine.specs.declared.command.Reply.TheVariants.{Accepted as Accepts, Already}
-use Rattle.wh_engine.specs.declared.command.Refused.{Refused}
-use Rattle.wh_engine.specs.declared.command.Refused.TheVariants.{BadId, Reused}
-use Rattle.wh_engine.proofs.Repeats.{first_or, find_last, new_id}
+use Rattle.wh_admission.specs.declared.command.Command.{Command}
+use Rattle.wh_admission.specs.declared.command.Receipt.{Receipt}
+use Rattle.wh_admission.specs.declared.command.Reply.{Reply}
+use Rattle.wh_admission.specs.declared.command.Reply.TheVariants.{Accepted as Accepts, Already}
+use Rattle.wh_admission.specs.declared.command.Refused.{Refused}
+use Rattle.wh_admission.specs.declared.command.Refused.TheVariants.{BadId, Reused}
+use Rattle.wh_admission.proofs.Repeats.{first_or, find_last, new_id}
 
 -- an accepted command has this one's id, kind and bytes
 pub record IsKnown (commands : List Accepted) (c : Command) : Type 0 where

@@ -6,11 +6,11 @@ use Rattle.std.proofs.Math.Seq.{take-add}
 use Rattle.std.specs.Prelude.{IsTrue}
 use Rattle.wh_history.specs.Accepted.{Accepted}
 use Rattle.wh_history.specs.Tables.{Limits}
-use Rattle.wh_engine.specs.Admission.{accepted_after, accepted_after_all}
+use Rattle.wh_admission.specs.Admission.{accepted_after, accepted_after_all}
 use Rattle.wh_engine.specs.Nights.{Night, Morning, left_by, after_night, after_nights, before_any, RefusesNone, AreAllowed, RedeliveryEndsTheSame, ReopeningFindsABeginning}
-use Rattle.wh_engine.specs.declared.command.Command.{Command}
+use Rattle.wh_admission.specs.declared.command.Command.{Command}
 use Rattle.wh_engine.proofs.Delivering.{deliveries_join}
-use Rattle.wh_engine.proofs.Repeats.{acts_once}
+use Rattle.wh_admission.proofs.Repeats.{acts_once}
 use Rattle.wh_engine.proofs.Known.{none_of_first, changes_nothing}
 
 -- the less of two numbers, and what is missing to the greater

@@ -23,7 +23,7 @@ use Rattle.wh_store.specs.Reads.{SparesRows, SparesStore as RefusesNothing}
 use Rattle.wh_sql.specs.declared.fault.ReadFault.{ReadFault}
 use Rattle.wh_sql.specs.declared.fault.ReadFault.TheVariants as reading
 use Rattle.wh_store.specs.declared.fault.OpenFault.{OpenFault}
-use Rattle.wh_engine.specs.Admission.{current_policy, AreAdmitted}
+use Rattle.wh_admission.specs.Admission.{current_policy, AreAdmitted}
 use Rattle.wh_engine.specs.Answered.{Rests, IsReady}
 use Rattle.wh_rows.specs.Defined.{AreOf, meta_at}
 use Rattle.wh_rows.specs.Sound.{making_of}

@@ -9,7 +9,7 @@ use Rattle.wh_history.specs.Accepted.{Accepted, policy_after}
 use Rattle.wh_history.specs.Tables.{Limits}
 use Rattle.wh_rows.specs.AtRest.{AreTrees, IsAtRest, Leaves}
 use Rattle.wh_rows.specs.Tables.{Tables}
-use Rattle.wh_engine.specs.Admission.{accepted_as, answer, accepted_after, current_policy, AreAdmitted}
+use Rattle.wh_admission.specs.Admission.{accepted_as, answer, accepted_after, current_policy, AreAdmitted}
 use Rattle.wh_engine.specs.Answered.{AreTreesOf, LeavesOneOf, IsReady, IsAnswered, IsPerformed, IsWritten, IsForeseen, IsForetold}
 use Rattle.wh_engine.specs.Decided.{IsHeld, IsEffectOf, Decides}
 use Rattle.wh_rows.specs.Defined.{AreOf}
@@ -17,10 +17,10 @@ use Rattle.wh_engine.specs.Faults.{IsServed, Judges, stops}
 use Rattle.wh_plan.specs.Edits.{Edits, AreEdits, no_edits, edit_count, with_all_edits}
 use Rattle.wh_rows.specs.Sound.{IsAccepted}
 use Rattle.wh_plan.specs.Writable.{MayBeWritten}
-use Rattle.wh_engine.specs.declared.command.Command.{Command}
-use Rattle.wh_engine.specs.declared.command.Receipt.{Receipt}
-use Rattle.wh_engine.specs.declared.command.Reply.{Reply}
-use Rattle.wh_engine.specs.declared.command.Reply.TheVariants.{Accepted as Accepts, Already}
+use Rattle.wh_admission.specs.declared.command.Command.{Command}
+use Rattle.wh_admission.specs.declared.command.Receipt.{Receipt}
+use Rattle.wh_admission.specs.declared.command.Reply.{Reply}
+use Rattle.wh_admission.specs.declared.command.Reply.TheVariants.{Accepted as Accepts, Already}
 use Rattle.wh_engine.specs.declared.decision.Decision.{Decision}
 use Rattle.wh_engine.specs.declared.decision.Decision.TheVariants.{Repeat, Accept}
 use Rattle.wh_engine.specs.declared.fault.Fault.{Fault}
@@ -28,9 +28,9 @@ use Rattle.wh_engine.specs.declared.fault.Fault.TheVariants as faults
 use Rattle.wh_engine.specs.declared.session.Session.{Session}
 use Rattle.wh_engine.proofs.Decisions.{judged_ok, after_repeat, after_accepted}
 use Rattle.wh_plan.proofs.MayBeWritten.{a_command_may_be_written}
-use Rattle.wh_engine.proofs.Migrated.{policy_with, newer_in_force}
-use Rattle.wh_engine.proofs.StaysAccepted.{stays_accepted}
-use Rattle.wh_engine.proofs.Admitted.{admitted_sound, admitted_after}
+use Rattle.wh_admission.proofs.Migrated.{policy_with, newer_in_force}
+use Rattle.wh_admission.proofs.StaysAccepted.{stays_accepted}
+use Rattle.wh_admission.proofs.Admitted.{admitted_sound, admitted_after}
 use Rattle.wh_plan.proofs.WrittenEdits.{edits_are_written, exact_edits_are_one, no_edits_stay}
 
 held_as : (limits : Limits) (commands : List Accepted) (session : Session) (t : Tables) → session ≡ record { limits = limits; policy = current_policy commands; must_reopen = false } → IsAccepted limits commands → AreOf limits commands t → IsHeld session commands t

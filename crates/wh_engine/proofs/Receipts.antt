@@ -2,20 +2,20 @@
 use Rattle.std.proofs.Common.{◌≡◌, ℕ, suc, true, false, cond, List, [], ◌∷◌, ◌++◌, length, map, Option, None, Result, Ok, Err, refl, sym, ◌∙◌, ap}
 use Rattle.std.specs.Prelude.{find, bytes_eq}
 use Rattle.std.proofs.lemmas.Slice.Eq.{bytes_eq-Decides}
-use Rattle.wh_engine.proofs.StaysAccepted.{receipt_is}
+use Rattle.wh_admission.proofs.StaysAccepted.{receipt_is}
 use Rattle.wh_history.specs.Accepted.{Accepted, Content}
 use Rattle.wh_history.specs.Keys.{place, after_one}
 use Rattle.wh_history.specs.Tables.{Limits}
 use Rattle.wh_rows.specs.Types.{is_key}
 use Rattle.wh_batch.specs.Kind.{command_word}
-use Rattle.wh_engine.specs.Admission.{content_of, current_policy, accepted_as, receipt_of, when_read, answer, with_content, after_answer, accepted_after}
+use Rattle.wh_admission.specs.Admission.{content_of, current_policy, accepted_as, receipt_of, when_read, answer, with_content, after_answer, accepted_after}
 use Rattle.wh_engine.specs.Redelivered.{receipt_told, HasReceipt}
-use Rattle.wh_engine.specs.declared.command.Command.{Command}
-use Rattle.wh_engine.specs.declared.command.Receipt.{Receipt}
-use Rattle.wh_engine.specs.declared.command.Reply.{Reply}
-use Rattle.wh_engine.specs.declared.command.Reply.TheVariants.{Accepted as Accepts, Already}
-use Rattle.wh_engine.specs.declared.command.Refused.{Refused}
-use Rattle.wh_engine.proofs.Repeats.{first_or, find_last, new_id}
+use Rattle.wh_admission.specs.declared.command.Command.{Command}
+use Rattle.wh_admission.specs.declared.command.Receipt.{Receipt}
+use Rattle.wh_admission.specs.declared.command.Reply.{Reply}
+use Rattle.wh_admission.specs.declared.command.Reply.TheVariants.{Accepted as Accepts, Already}
+use Rattle.wh_admission.specs.declared.command.Refused.{Refused}
+use Rattle.wh_admission.proofs.Repeats.{first_or, find_last, new_id}
 
 -- an id that is new stands last
 placed_last : (id : List ℕ) (commands : List Accepted) (x : Accepted) → find (λ (a : Accepted). bytes_eq a.id id) commands ≡ None → bytes_eq x.id id ≡ true

@@ -4,16 +4,16 @@ use Rattle.sqlite.specs.Tree.{Trees}
 use Rattle.sqlite.specs.State.{State}
 use Rattle.wh_history.specs.Accepted.{Accepted}
 use Rattle.wh_history.specs.Tables.{Limits}
-use Rattle.wh_engine.specs.Admission.{accepted_after, after_answer}
+use Rattle.wh_admission.specs.Admission.{accepted_after, after_answer}
 use Rattle.wh_engine.specs.Answered.{AreTreesOf, LeavesOneOf, Rests, IsReady, IsStopped, IsAnswered}
 use Rattle.wh_engine.specs.Redelivered.{IsRedelivered}
-use Rattle.wh_engine.specs.declared.command.Command.{Command}
-use Rattle.wh_engine.specs.declared.command.Reply.{Reply}
+use Rattle.wh_admission.specs.declared.command.Command.{Command}
+use Rattle.wh_admission.specs.declared.command.Reply.{Reply}
 use Rattle.wh_engine.specs.declared.fault.Fault.{Fault}
 use Rattle.wh_engine.specs.declared.fault.Fault.TheVariants as faults
 use Rattle.wh_engine.specs.declared.session.Session.{Session}
 use Rattle.wh_engine.proofs.Receipts.{told_again, refused_again}
-use Rattle.wh_engine.proofs.Repeats.{acts_once}
+use Rattle.wh_admission.proofs.Repeats.{acts_once}
 
 pub left_of : (limits : Limits) (commands : List Accepted) (s : State) (trees : Trees) → Rests limits commands s → s.may_leave trees → AreTreesOf limits commands trees
 left_of limits commands s trees rests may = record { tables = rests.tables; are = rests.are; trees_are = rests.rests.left.each trees may }

@@ -13,15 +13,15 @@ use Rattle.wh_batch.specs.Batch.{at}
 use Rattle.wh_batch.proofs.OnLiterals.{batch_on_literals}
 use Rattle.wh_history.specs.Accepted.{Accepted, Governs, Describes, Sells}
 use Rattle.wh_history.specs.Tables.{Limits}
-use Rattle.wh_engine.specs.Admission.{answer, accepted_after}
+use Rattle.wh_admission.specs.Admission.{answer, accepted_after}
 use Rattle.wh_engine.specs.Delivered.{answers_to}
 use Rattle.wh_engine.specs.Nights.{after_night, before_any}
-use Rattle.wh_engine.specs.declared.command.Command.{Command}
+use Rattle.wh_admission.specs.declared.command.Command.{Command}
 use Rattle.wh_batch.specs.declared.kind.CommandKind.TheVariants.{Batch}
-use Rattle.wh_engine.specs.declared.command.Receipt.{Receipt}
-use Rattle.wh_engine.specs.declared.command.Reply.TheVariants.{Accepted as Accepts, Already}
-use Rattle.wh_engine.specs.declared.command.Refused.TheVariants.{BadId, Reused, Batch as BadBatch, LineThere, Full}
-use Rattle.wh_engine.specs.declared.command.Limit.TheVariants.{Commands, Changes}
+use Rattle.wh_admission.specs.declared.command.Receipt.{Receipt}
+use Rattle.wh_admission.specs.declared.command.Reply.TheVariants.{Accepted as Accepts, Already}
+use Rattle.wh_admission.specs.declared.command.Refused.TheVariants.{BadId, Reused, Batch as BadBatch, LineThere, Full}
+use Rattle.wh_admission.specs.declared.command.Limit.TheVariants.{Commands, Changes}
 
 abbrev limits : ℕ → ℕ → ℕ → Limits
 limits commands changes facts = record { commands = commands; changes = changes; facts = facts }

@@ -5,13 +5,13 @@ use Rattle.sqlite.specs.State.{State}
 use Rattle.wh_history.specs.Accepted.{Accepted}
 use Rattle.wh_history.specs.Tables.{Limits}
 use Rattle.wh_rows.specs.Raw.{Stored, HasDamageIn}
-use Rattle.wh_engine.specs.Admission.{answer, accepted_after, accepted_after_all}
+use Rattle.wh_admission.specs.Admission.{answer, accepted_after, accepted_after_all}
 use Rattle.wh_policy.specs.declared.policy.Policy.{Policy}
 use Rattle.wh_engine.specs.Answered.{IsReady, IsStopped, IsGoverned, IsWritten}
-use Rattle.wh_engine.specs.declared.command.Command.{Command}
-use Rattle.wh_engine.specs.declared.command.Refused.{Refused as Refusal}
-use Rattle.wh_engine.specs.declared.command.Reply.{Reply}
-use Rattle.wh_engine.specs.declared.command.Reply.TheVariants as replies
+use Rattle.wh_admission.specs.declared.command.Command.{Command}
+use Rattle.wh_admission.specs.declared.command.Refused.{Refused as Refusal}
+use Rattle.wh_admission.specs.declared.command.Reply.{Reply}
+use Rattle.wh_admission.specs.declared.command.Reply.TheVariants as replies
 use Rattle.wh_engine.specs.declared.fault.Fault.{Fault}
 use Rattle.wh_engine.specs.declared.fault.Fault.TheVariants.{Refused, Damaged, Memory, Store, Reopen}
 use Rattle.wh_engine.specs.declared.session.Session.{Session}

@@ -3,7 +3,7 @@ use Rattle.std.specs.Prelude.{◌≡◌, Bool, true, false, Result, Ok, Err, ⊤
 use Rattle.wh_rows.specs.Raw.{Stored, HasDamageIn}
 use Rattle.wh_sql.specs.declared.fault.ReadFault.{ReadFault}
 use Rattle.wh_sql.specs.declared.fault.ReadFault.TheVariants as reading
-use Rattle.wh_engine.specs.declared.command.Refused.{Refused}
+use Rattle.wh_admission.specs.declared.command.Refused.{Refused}
 use Rattle.wh_engine.specs.declared.fault.Fault.{Fault}
 use Rattle.wh_engine.specs.declared.fault.Fault.TheVariants as faults
 

@@ -1,4 +1,3 @@
-pub mod Admission
 pub mod Faults
 pub mod Decided
 pub mod Answered
@@ -10,3 +9,6 @@ pub mod Delivered
 pub mod Nights
 pub mod Scanned
 pub mod Fresh
+pub mod Checked
+pub mod Replica
+pub mod Judging

@@ -3,9 +3,9 @@ use Rattle.std.specs.Prelude.{◌≡◌, ◌⊎◌, ℕ, suc, ◌+◌, max, Bool
 use Rattle.std.specs.List.{AllByRecursion}
 use Rattle.wh_history.specs.Accepted.{Accepted}
 use Rattle.wh_history.specs.Tables.{Limits}
-use Rattle.wh_engine.specs.Admission.{accepted_after_all}
+use Rattle.wh_admission.specs.Admission.{accepted_after_all}
 use Rattle.wh_engine.specs.Delivered.{answers_to}
-use Rattle.wh_engine.specs.declared.command.Command.{Command}
+use Rattle.wh_admission.specs.declared.command.Command.{Command}
 
 -- One night: whether it begins at the list's start again, or else at the first command that isn't acknowledged; how many commands it acknowledges before it
 -- ends, or all that remain where they are fewer; and whether it left the next one accepted as well, without an answer.

@@ -10,13 +10,13 @@ use Rattle.wh_history.specs.Tables.{Limits}
 use Rattle.wh_rows.specs.Raw.{Stored, RestsOn, LeavesStored}
 use Rattle.wh_store.specs.InFiles.{AreStoredIn, AreUnopened}
 use Rattle.wh_store.specs.Opening.{SparesStore}
-use Rattle.wh_engine.specs.Admission.{accepted_after_all}
+use Rattle.wh_admission.specs.Admission.{accepted_after_all}
 use Rattle.wh_engine.specs.Answered.{AreTreesOf}
 use Rattle.wh_engine.specs.Delivered.{AreAnswers}
 use Rattle.wh_engine.specs.Opened.{IsNotOpened, IsUnopened}
-use Rattle.wh_engine.specs.declared.command.Command.{Command}
-use Rattle.wh_engine.specs.declared.command.Refused.{Refused as Refusal}
-use Rattle.wh_engine.specs.declared.command.Reply.{Reply}
+use Rattle.wh_admission.specs.declared.command.Command.{Command}
+use Rattle.wh_admission.specs.declared.command.Refused.{Refused as Refusal}
+use Rattle.wh_admission.specs.declared.command.Reply.{Reply}
 use Rattle.wh_engine.specs.declared.reopen.NotReopened.{NotReopened}
 use Rattle.wh_engine.specs.declared.reopen.NotReopened.TheVariants as left
 

@@ -8,17 +8,17 @@ ghost use Rattle.wh_history.specs.Accepted.{Accepted, Content, Sells, sold, sold
 ghost use Rattle.wh_rows.specs.AtRest.{IsAtRest};
 ghost use Rattle.wh_rows.specs.Tables.{Tables as TenTables};
 ghost use Rattle.wh_store.specs.Reads.{ReadsOnly, Spares, SaysAsStored, state_of};
-ghost use Rattle.wh_engine.specs.Admission.{changes_in, first_line_there, number_for};
+ghost use Rattle.wh_admission.specs.Admission.{changes_in, first_line_there, number_for};
 ghost use Rattle.wh_engine.specs.Decided.{receipt_of_known};
 ghost use Rattle.wh_rows.specs.Defined.{AreOf};
 ghost use Rattle.wh_engine.specs.Faults.{IsServed, BlamesDamage, IsWorkedOut, Judges};
 ghost use Rattle.wh_plan.specs.Reads.{Finds, Tells};
 ghost use Rattle.wh_rows.specs.Sound.{IsAccepted, same_line};
 
-use crate::command::{Command, Limit, Receipt, Refused};
 use crate::fault::Fault;
 use sqlite::Alter;
 use std::alloc::Global;
+use wh_admission::{Command, Limit, Receipt, Refused};
 use wh_day::Value;
 use wh_policy::SaleRecord;
 use wh_rows::{CommandRow, Limits, LineKey, tables};

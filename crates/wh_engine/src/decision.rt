@@ -6,7 +6,7 @@ ghost use Rattle.wh_policy.specs.declared.policy.Policy.{Policy};
 ghost use Rattle.wh_history.specs.Accepted.{Accepted, Sells};
 ghost use Rattle.wh_rows.specs.Raw.{Stored};
 ghost use Rattle.wh_rows.specs.Types.{is_key};
-ghost use Rattle.wh_engine.specs.Admission.{answer, content_of, current_policy, policy_told, records_told, sales_told};
+ghost use Rattle.wh_admission.specs.Admission.{answer, content_of, current_policy, policy_told, records_told, sales_told};
 ghost use Rattle.wh_engine.specs.Decided.{row_of_command, IsNew, reply_to_known, Brings, Decides};
 ghost use Rattle.wh_batch.specs.declared.kind.CommandKind.TheVariants.{Batch, Migration};
 ghost use Rattle.wh_engine.specs.Faults.{IsServed, BlamesDamage, IsWorkedOut, Judges};
@@ -14,12 +14,12 @@ ghost use Rattle.wh_store.specs.Reads.{Spares, SaysAsStored, state_of};
 ghost use Rattle.wh_engine.specs.Serving.{Works};
 
 use crate::admission::{number_for_records, number_for_sales, receipt_of_known};
-use crate::command::{Command, Receipt, Refused};
 use crate::fault::Fault;
 use crate::session::Session;
 use sqlite::Alter;
 use sqlite_value::value::Bytes;
 use std::alloc::{AllocError, Global};
+use wh_admission::{Command, Receipt, Refused};
 use wh_batch::{
     CommandKind, DimensionRecords, Format, Kind, SaleRecords, dimension_records, sale_records,
 };

@@ -11,11 +11,11 @@ ghost use Rattle.wh_store.specs.Reads.{SaysAsStored, state_of};
 ghost use Rattle.wh_engine.specs.Answered.{IsReady};
 ghost use Rattle.wh_engine.specs.Delivered.{answer_or_stop, is_of_the_store, AcceptNothing, AreAsMany, BlamesStored, IsDelivered, IsDeliveryNoted, IsDeliveryWritten, IsNoRefusal};
 
-use crate::command::{Command, Refused, Reply};
 use crate::engine::Engine;
 use crate::fault::Fault;
 use sqlite::Alter;
 use std::alloc::Global;
+use wh_admission::{Command, Refused, Reply};
 
 /// The answers to commands that are delivered one after the other.
 #[derive(Debug, Drop)]

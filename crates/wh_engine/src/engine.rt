@@ -11,13 +11,13 @@ ghost use Rattle.wh_store.specs.Reads.{SaysAsStored, state_of};
 ghost use Rattle.wh_engine.specs.Answered.{IsReady, IsAnswered, IsPerformed, IsWritten, IsGoverned, IsNotAccepted, IsNoted, KeepsNothing};
 ghost use Rattle.wh_engine.specs.Faults.{BlamesDamage, IsWorkedOut};
 
-use crate::command::{Command, Reply};
 use crate::decision::{Decision, decide};
 use crate::fault::{Fault, stops};
 use crate::session::Session;
 use crate::write::commit_edits;
 use sqlite::{Alter, Connection};
 use std::alloc::Global;
+use wh_admission::{Command, Reply};
 use wh_policy::Policy;
 use wh_store::Tables;
 

@@ -4,9 +4,9 @@ ghost use Rattle.std.specs.Prelude.{◌≡◌};
 ghost use Rattle.wh_engine.specs.Faults.{of_reading, stops};
 ghost use Rattle.wh_engine.specs.declared.fault.Fault.TheVariants as faults;
 
-use crate::command::Refused;
 use std::alloc::AllocError;
 use thiserror::Error;
+use wh_admission::Refused;
 use wh_rows::{Cause, Table};
 use wh_store::ReadFault;
 

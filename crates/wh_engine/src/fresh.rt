@@ -6,12 +6,12 @@ ghost use Rattle.sqlite.specs.State.{HasCleanDisk};
 ghost use Rattle.sqlite.specs.Steps.{over_memory};
 ghost use Rattle.wh_engine.specs.Fresh.{IsDeliveredFresh};
 
-use crate::command::Command;
 use crate::delivery::Replies;
 use crate::engine::Engine;
 use crate::opening::InitFault;
 use sqlite::{Connection, MemStore};
 use std::alloc::Global;
+use wh_admission::Command;
 use wh_rows::Limits;
 use wh_store::open_fresh;
 

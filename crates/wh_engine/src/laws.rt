@@ -4,9 +4,9 @@ ghost use Rattle.std.specs.Prelude.{◌≡◌, List};
 ghost use Rattle.wh_history.specs.Accepted.{Accepted};
 ghost use Rattle.wh_history.specs.Tables.{Limits};
 ghost use Rattle.wh_plan.specs.FirstRows.{PoliciesAreGood};
-ghost use Rattle.wh_engine.specs.Admission.{accepted_after, AcceptedListsStaySound, AdmittedListsAreSound, ContentsAreRead};
+ghost use Rattle.wh_admission.specs.Admission.{accepted_after, AcceptedListsStaySound, AdmittedListsAreSound, ContentsAreRead};
 ghost use Rattle.wh_engine.specs.Nights.{DeliveriesJoin, RedeliveryEndsTheSame, ReopeningFindsABeginning};
-ghost use Rattle.wh_engine.specs.declared.command.Command.{Command};
+ghost use Rattle.wh_admission.specs.declared.command.Command.{Command};
 
 /// A command that is sent twice acts once.
 pub fn acts_once()

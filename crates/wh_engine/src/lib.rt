@@ -2,7 +2,7 @@
 #![tactic(auto)]
 
 mod admission;
-mod command;
+mod checking;
 mod counts;
 mod decision;
 mod delivery;
@@ -14,12 +14,12 @@ mod making;
 mod opening;
 mod planning;
 mod reopen;
+mod replica;
 mod scan;
 mod session;
 mod tally;
 mod write;
 
-pub use command::{Command, Limit, Receipt, Refused, Reply};
 pub use counts::Counts;
 pub use delivery::Replies;
 pub use engine::Engine;
@@ -29,6 +29,8 @@ pub use making::write_making;
 pub use opening::InitFault;
 pub use reopen::{NotReopened, deliver_again, redeliver, restart};
 pub use scan::Scan;
+pub use wh_admission::{Command, Limit, Receipt, Refused, Reply};
 pub use wh_batch::CommandKind;
+pub use wh_check::Verdict;
 pub use wh_store::OpenFault;
 pub use write::write_edits;

@@ -16,7 +16,7 @@ ghost use Rattle.wh_engine.specs.Answered.{Rests, IsReady};
 ghost use Rattle.wh_plan.specs.FirstRows.{IsGoodPolicy};
 ghost use Rattle.wh_rows.specs.Sound.{making_of};
 ghost use Rattle.wh_engine.specs.Opened.{of_command, last_policy_in, session_in, opened, IsTold, IsRead, PolicyIs, IsPolicyless, SessionIs, IsSessionless, IsUnopened, IsNotOpened, LeavesMaking, IsNotMade, NothingIsWritten, LeavesMade};
-ghost use Rattle.wh_engine.specs.Admission.{AreAdmitted};
+ghost use Rattle.wh_admission.specs.Admission.{AreAdmitted};
 ghost use Rattle.wh_store.specs.declared.fault.OpenFault.TheVariants.{Store};
 ghost use Rattle.wh_rows.specs.declared.cause.Cause.{Cause};
 

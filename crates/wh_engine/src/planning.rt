@@ -11,13 +11,13 @@ ghost use Rattle.wh_store.specs.Reads.{Spares, SaysAsStored, state_of};
 ghost use Rattle.wh_engine.specs.Answered.{IsReady, IsForeseen, IsForetold};
 ghost use Rattle.wh_engine.specs.Faults.{BlamesDamage, IsServed, IsWorkedOut, stops};
 
-use crate::command::Command;
 use crate::decision::{Decision, decide};
 use crate::engine::Engine;
 use crate::fault::{Fault, stops};
 use crate::session::Session;
 use sqlite::Alter;
 use std::alloc::Global;
+use wh_admission::Command;
 use wh_plan::Edits;
 use wh_store::Tables;
 

@@ -8,17 +8,17 @@ ghost use Rattle.wh_history.specs.Tables.{Limits as LimitCounts};
 ghost use Rattle.wh_engine.specs.Answered.{LeavesOneOf, IsReady};
 ghost use Rattle.wh_engine.specs.Redelivered.{IsRedelivered, IsDeliveredAgain};
 ghost use Rattle.wh_engine.specs.Reopened.{IsNotReady, IsNotReadyOn, IsNotDeliveredAgain};
-ghost use Rattle.wh_engine.specs.Admission.{AreAdmitted, accepted_after};
+ghost use Rattle.wh_admission.specs.Admission.{AreAdmitted, accepted_after};
 ghost use Rattle.wh_engine.specs.Delivered.{AreAsMany, IsNoRefusal};
 ghost use Rattle.wh_rows.specs.Raw.{Stored, LeavesStored};
 
-use crate::command::{Command, Reply};
 use crate::delivery::Replies;
 use crate::engine::Engine;
 use crate::fault::Fault;
 use sqlite::{Connection, Error, FileStore, Leftover, Options};
 use sqlite_disk::{Crash, Disk};
 use std::alloc::Global;
+use wh_admission::{Command, Reply};
 use wh_store::{OpenFault, restart as restart_connection};
 
 /// Why a warehouse wasn't opened again, and what is left of it.

@@ -3,7 +3,7 @@ use Rattle.std.proofs.Common.{◌≡◌, [], ◌∷◌, refl, sym, true, false, 
 use Rattle.clap.specs.Words.{is_simple, takes, subcommand_of, Text}
 use Rattle.clap.specs.Lexer.{long_of, short_of}
 use Rattle.clap.proofs.OnLiterals.{clap_on_literals}
-use Rattle.wh_program.specs.CommandLine.{CommandLine, Trial, Init, Load, Migrate, Deliver, Plan, Report, Dump, Status, program_app, words_of, is_operand, has_operands, named}
+use Rattle.wh_program.specs.CommandLine.{CommandLine, Trial, Init, Load, Migrate, Deliver, Plan, Report, Dump, Check, Status, program_app, words_of, is_operand, has_operands, named}
 
 not-true : (b : Bool) → not b ≡ true → b ≡ false
 not-true true h = cc
@@ -105,6 +105,14 @@ dump_named : (f t : Text) → IsPlain f → IsPlain t → named (subcommand_of p
 unfolding clap_on_literals
 dump_named f t f-is t-is = rw (f-is.no_end, f-is.no_long, f-is.no_short, t-is.no_end, t-is.no_long, t-is.no_short) (refl {a = Some (Dump f t)})
 
+check_taken : (f : Text) → IsPlain f → takes program_app (words_of (Check f)) ≡ true
+unfolding clap_on_literals
+check_taken f f-is = rw (f-is.no_end, f-is.no_long, f-is.no_short) refl
+
+check_named : (f : Text) → IsPlain f → named (subcommand_of program_app (words_of (Check f))) ≡ Some (Check f)
+unfolding clap_on_literals
+check_named f f-is = rw (f-is.no_end, f-is.no_long, f-is.no_short) refl
+
 status_taken : (f : Text) → IsPlain f → takes program_app (words_of (Status f)) ≡ true
 unfolding clap_on_literals
 status_taken f f-is = rw (f-is.no_end, f-is.no_long, f-is.no_short) refl
@@ -146,6 +154,7 @@ taken (Report f a m d t) is =
     let d-is = both (is_operand d) _ m-is.1 in
     report_taken f a m d t (plain f f-is.0) (plain a a-is.0) (plain m m-is.0) (plain d d-is.0) (plain t d-is.1)
 taken (Dump f t) is = let f-is = both (is_operand f) _ is in dump_taken f t (plain f f-is.0) (plain t f-is.1)
+taken (Check f) is = check_taken f (plain f is)
 taken (Status f) is = status_taken f (plain f is)
 
 -- and finds the command with its operands
@@ -181,4 +190,5 @@ found (Report f a m d t) is =
     let d-is = both (is_operand d) _ m-is.1 in
     report_named f a m d t (plain f f-is.0) (plain a a-is.0) (plain m m-is.0) (plain d d-is.0) (plain t d-is.1)
 found (Dump f t) is = let f-is = both (is_operand f) _ is in dump_named f t (plain f f-is.0) (plain t f-is.1)
+found (Check f) is = check_named f (plain f is)
 found (Status f) is = status_named f (plain f is)

@@ -6,11 +6,11 @@ use Rattle.sqlite.specs.State.{State}
 use Rattle.wh_batch.specs.declared.manifest.ManifestEntry.{ManifestEntry}
 use Rattle.wh_history.specs.Accepted.{Accepted}
 use Rattle.wh_history.specs.Tables.{Limits}
-use Rattle.wh_engine.specs.Admission.{accepted_after_all}
+use Rattle.wh_admission.specs.Admission.{accepted_after_all}
 use Rattle.wh_engine.specs.Delivered.{IsDelivered as EngineDelivered}
-use Rattle.wh_engine.specs.declared.command.Command.{Command}
-use Rattle.wh_engine.specs.declared.command.Refused.{Refused}
-use Rattle.wh_engine.specs.declared.command.Reply.{Reply}
+use Rattle.wh_admission.specs.declared.command.Command.{Command}
+use Rattle.wh_admission.specs.declared.command.Refused.{Refused}
+use Rattle.wh_admission.specs.declared.command.Reply.{Reply}
 use Rattle.wh_engine.specs.declared.fault.Fault.{Fault}
 use Rattle.wh_engine.specs.declared.fault.Fault.TheVariants as fault
 use Rattle.wh_engine.specs.declared.session.Session.{Session}

@@ -6,6 +6,7 @@ pub mod InputLemmas
 pub mod OutputLemmas
 pub mod ReadingLemmas
 pub mod WarehouseLemmas
+pub mod CheckLemmas
 pub mod DeliveryLemmas
 pub mod NamedLemmas
 pub mod MemoryLemmas

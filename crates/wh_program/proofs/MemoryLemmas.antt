@@ -1,19 +1,12 @@
 -- A warehouse in memory.
-use Rattle.std.proofs.Common.{◌≡◌, refl, sym, ap, subst, Option, Some, None}
+use Rattle.std.proofs.Common.{◌≡◌, refl, sym, ap, subst, Option, None}
 use Rattle.sqlite.specs.Held.{Held, state}
-use Rattle.sqlite.specs.State.{HasCleanDisk}
 use Rattle.sqlite.specs.Steps.{over_memory, IsEmpty}
 use Rattle.sqlite.specs.Effect.{Database, IsDatabase}
-use Rattle.sqlite_trees.specs.View.{doubt}
 use Rattle.sqlite_trees.specs.declared.memory.MemStore.{MemStore}
 use Rattle.wh_rows.specs.Schema.{no_schema}
 use Rattle.wh_rows.specs.AtRest.{AreTrees, IsAtRest}
 use Rattle.wh_program.specs.Standing.{Content, Nothing, Standing, Unknown, Rests, LeftAt, IsAt, IsKept}
-
--- memory never fails
-pub is_clean : (c : Held MemStore) → HasCleanDisk (state over_memory c)
-unfolding doubt
-is_clean c = refl
 
 -- a database with no object in it
 trees_are : (db : Database) → IsDatabase db → db.schema ≡ no_schema → AreTrees None db.trees

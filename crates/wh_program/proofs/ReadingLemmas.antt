@@ -12,7 +12,7 @@ use Rattle.wh_policy.specs.declared.policy.Policy.{Policy}
 use Rattle.wh_history.specs.Accepted.{Accepted}
 use Rattle.wh_history.specs.Tables.{Limits}
 use Rattle.wh_rows.specs.AtRest.{IsAtRest}
-use Rattle.wh_engine.specs.Admission.{current_policy, AreAdmitted}
+use Rattle.wh_admission.specs.Admission.{current_policy, AreAdmitted}
 use Rattle.wh_engine.specs.Answered as engine
 use Rattle.wh_engine.specs.Answered.{IsReady}
 use Rattle.wh_engine.specs.Scanned.{IsServing}
@@ -34,7 +34,7 @@ use Rattle.wh_program.specs.Answer.{done, refused}
 use Rattle.wh_program.specs.Reply.{request_line, report_answer}
 use Rattle.wh_program.specs.Readings.{LeavesRead, asked_under, asked_answer, IsReported, behind, TellsText, SaysStop}
 use Rattle.wh_program.specs.Run.{Prints}
-use Rattle.wh_program.specs.Standing.{Content, Nothing, Holds, Standing, Rests, LeftAt, IsAt, Stands}
+use Rattle.wh_program.specs.Standing.{Content, Nothing, Holds, Keeps, IsOfCommands, Standing, Unknown, Rests, LeftAt, IsAt, Stands}
 use Rattle.wh_program.specs.Task.{ReportWords}
 use Rattle.wh_program.specs.Warehouse.{Told, printed, Opens}
 use Rattle.wh_program.proofs.RunLemmas.{prints-behind, prints-cut}
@@ -56,10 +56,11 @@ pub opened-printing : (does : Limits → List Accepted → Told → Standing →
     → ((limits : Limits) (commands : List Accepted) → AreAdmitted limits commands → engine.Rests limits commands s0 → IsReady limits commands first s1)
     → ((limits : Limits) (commands : List Accepted) → IsReady limits commands first s1 → (after : Standing) × ((told : Told) × does limits commands told after × prints told) × Stands after s2)
     → (IsAtRest None s0 → ⊥)
-    → IsAt content s0 → (after : Standing) × ((told : Told) × Opens does content told after × prints told) × Stands after s2
-opened-printing does prints content first s0 s1 s2 opens works missing at = elim content as (λ what. IsAt what s0 → (after : Standing) × ((told : Told) × Opens does what told after × prints told) × Stands after s2) [
+    → IsAt content s0 → (after : Standing) × (IsOfCommands content → (told : Told) × Opens does content told after × prints told) × Stands after s2
+opened-printing does prints content first s0 s1 s2 opens works missing at = elim content as (λ what. IsAt what s0 → (after : Standing) × (IsOfCommands what → (told : Told) × Opens does what told after × prints told) × Stands after s2) [
   | Nothing ↦ λ at. absurd (missing at)
-  | Holds limits commands ↦ λ at. let worked = works limits commands (opens limits commands at.0 at.1) in (worked.0, (worked.1.0, inl worked.1.1, worked.1.2), worked.2)
+  | Holds limits commands ↦ λ at. let worked = works limits commands (opens limits commands at.0 at.1) in (worked.0, (λ _. (worked.1.0, inl worked.1.1, worked.1.2)), worked.2)
+  | Keeps stored ↦ λ at. (Unknown, (λ none. absurd none), tt)
 ] at
 
 -- ---- what is asked

@@ -5,7 +5,7 @@ use Rattle.std.specs.declared.alloc.Global.{Global}
 use Rattle.std.specs.declared.vec.Vec.{Vec}
 use Rattle.wh_program.specs.Answer.{Printed}
 use Rattle.wh_program.specs.Room.{TellsIn}
-use Rattle.wh_program.specs.Standing.{Content, Nothing, Holds, Standing}
+use Rattle.wh_program.specs.Standing.{Content, Nothing, Holds, Keeps, Standing}
 use Rattle.wh_program.specs.Warehouse.{Told, printed, Opens}
 use Rattle.wh_history.specs.Accepted.{Accepted}
 use Rattle.wh_history.specs.Tables.{Limits}
@@ -27,6 +27,7 @@ pub opens_with : (room : Type 0) (does : Limits → List Accepted → Told → S
 opens_with room does Nothing told after opens has = opens
 opens_with room does (Holds limits commands) told after (inl did) has = inl (did has)
 opens_with room does (Holds limits commands) told after (inr other) has = inr other
+opens_with room does (Keeps stored) told after opens has = opens
 
 -- the same of what a visit leaves
 pub left_with : (room : Type 0) (does : Limits → List Accepted → Told → Standing → Type 0) (content : Content) (told : Told) (stands : Standing → Type 0)

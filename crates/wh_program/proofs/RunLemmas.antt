@@ -9,7 +9,7 @@ use Rattle.wh_program.specs.Answer.{Printed, done, status_code, write_line}
 use Rattle.wh_program.specs.Inputs.{Files}
 use Rattle.wh_program.specs.Readings.{behind}
 use Rattle.wh_program.specs.Run.{Prints}
-use Rattle.wh_program.specs.Task.{Task, Trial, Init, Load, Migrate, Deliver, Plan, Report, Dump, Status}
+use Rattle.wh_program.specs.Task.{Task, Trial, Init, Load, Migrate, Deliver, Plan, Report, Dump, Check, Status}
 use Rattle.wh_program.specs.Tasks.{Stores, Runs}
 use Rattle.wh_program.specs.Warehouse.{Told}
 use Rattle.wh_program.specs.declared.answer.Status.{Status as Ending}
@@ -60,5 +60,6 @@ not_run holds before prints e (Migrate file id policy) p = λ content stood. (Er
 not_run holds before prints e (Deliver file manifest) p = λ content stood. (Err e, inr (record { same = stood; tells = tt }), p)
 not_run holds before prints e (Plan file kind id path) p = λ content stood. (Err e, inr (record { same = stood; tells = tt }), p)
 not_run holds before prints e (Report file words) p = λ content stood. (Err e, inr (record { same = stood; tells = tt }), p)
-not_run holds before prints e (Dump file table) p = λ content stood. (Err e, inr (record { same = stood; tells = tt }), p)
+not_run holds before prints e (Dump file table) p = λ content of_commands stood. (Err e, inr (record { same = stood; tells = tt }), p)
+not_run holds before prints e (Check file) p = λ content stood. (Err e, inr (record { same = stood; tells = tt }), p)
 not_run holds before prints e (Status file) p = λ content stood. (Err e, inr (record { same = stood; tells = tt }), p)

@@ -16,30 +16,49 @@ use Rattle.wh_sql.specs.Present.{are_all_there, is_any_taken}
 use Rattle.wh_sql.proofs.Worked.{taken_in_a_warehouse, taken_in_none}
 use Rattle.wh_plan.specs.Edits.{Edits}
 use Rattle.wh_rows.specs.Sound.{making_of}
-use Rattle.wh_engine.specs.Admission.{accepted_after, AreAdmitted}
+use Rattle.wh_admission.specs.Admission.{accepted_after, AreAdmitted}
 use Rattle.wh_engine.specs.Answered as engine
 use Rattle.wh_engine.specs.Answered.{IsReady, IsAnswered, IsForetold as EngineForetold, IsCounted as EngineCounted}
-use Rattle.wh_engine.specs.Opened.{IsNotOpened, IsNotMade, NothingIsWritten, LeavesMade}
-use Rattle.wh_engine.specs.declared.command.Command.{Command}
-use Rattle.wh_engine.specs.declared.command.Reply.{Reply}
+use Rattle.wh_engine.specs.Opened.{SessionIs, IsUnopened as UnopenedBy, IsNotOpened, IsNotMade, NothingIsWritten, LeavesMade}
+use Rattle.wh_admission.specs.declared.command.Command.{Command}
+use Rattle.wh_admission.specs.declared.command.Reply.{Reply}
 use Rattle.wh_engine.specs.declared.counts.Counts.{Counts}
 use Rattle.wh_engine.specs.declared.fault.Fault.{Fault}
 use Rattle.wh_engine.specs.declared.fault.Fault.TheVariants as fault
 use Rattle.wh_engine.specs.declared.opening.InitFault.{InitFault}
 use Rattle.wh_engine.specs.declared.opening.InitFault.TheVariants as making
+use Rattle.wh_rows.specs.Raw.{Stored, RestsOn, LeavesStored}
+use Rattle.wh_store.specs.Opening.{SparesStore}
+use Rattle.wh_store.specs.Raw.{FormatIs}
 use Rattle.wh_store.specs.declared.fault.OpenFault.{OpenFault}
 use Rattle.wh_store.specs.declared.fault.OpenFault.TheVariants as opening
 use Rattle.wh_engine.specs.declared.session.Session.{Session}
 use Rattle.wh_program.specs.Answer.{done, failed, no_file_line}
 use Rattle.wh_program.specs.Inputs.{Files}
 use Rattle.wh_program.specs.Reply.{sent_answer, plan_answer, opening_answer, status_answer, making_answer, made_line}
-use Rattle.wh_program.specs.Standing.{Content, Nothing, Holds, Standing, Rests, LeftAt, IsAt, Stands}
-use Rattle.wh_program.specs.Warehouse.{Told, printed, Opens, IsReplied, IsForetold, IsCounted, Makes, AnswersWith, IsTried, IsNotConnected}
+use Rattle.wh_program.specs.Standing.{Content, Nothing, Holds, Keeps, Standing, Unknown, Rests, LeftAt, IsAt, Stands}
+use Rattle.wh_program.specs.Warehouse.{Told, printed, Opens, IsOpenedBy, IsUnread, IsReplied, IsForetold, IsCounted, Makes, AnswersWith, IsTried, IsNotConnected}
 
 -- where no object is, the ten tables are not all there
 pub none_there : are_all_there no_schema ≡ false
 unfolding are_all_there
 none_there = refl
+
+-- ---- rows that anybody wrote
+
+pub opened_by : (stored : Stored) (session : Session) (s : State) → FormatIs stored (Ok tt) × SessionIs stored session × RestsOn stored s → IsOpenedBy stored
+opened_by stored session s found = record { session = session; format = found.0; says = found.1 }
+
+-- what is left of them where no warehouse was opened
+pub unread : (stored : Stored) (told : Told) (why : OpenFault) (s : State) → IfOk told (λ a. a ≡ opening_answer why) → UnopenedBy stored why × LeavesStored stored s × (SparesStore why → RestsOn stored s)
+    → (after : Standing) × IsUnread stored told after × Stands after s
+unread stored told opening.NotAWarehouse s tells bad = (Rests (Keeps stored), record { why = opening.NotAWarehouse; unopened = bad.0; leaves = refl; tells = tells }, bad.2 tt)
+unread stored told opening.OldFormat s tells bad = (Rests (Keeps stored), record { why = opening.OldFormat; unopened = bad.0; leaves = refl; tells = tells }, bad.2 tt)
+unread stored told opening.NewFormat s tells bad = (Rests (Keeps stored), record { why = opening.NewFormat; unopened = bad.0; leaves = refl; tells = tells }, bad.2 tt)
+unread stored told (opening.Damaged table) s tells bad = (Rests (Keeps stored), record { why = opening.Damaged table; unopened = bad.0; leaves = refl; tells = tells }, bad.2 tt)
+unread stored told opening.Memory s tells bad = (Rests (Keeps stored), record { why = opening.Memory; unopened = bad.0; leaves = refl; tells = tells }, bad.2 tt)
+unread stored told (opening.Store cause) s tells bad =
+    (LeftAt (Keeps stored) (Keeps stored), record { why = opening.Store cause; unopened = bad.0; leaves = refl; tells = tells }, record { each = λ trees may. inl (bad.1.each trees may) })
 
 -- ---- a warehouse that is opened
 
@@ -49,10 +68,12 @@ module _ (does : Limits → List Accepted → Told → Standing → Type 0) (con
       → ((limits : Limits) (commands : List Accepted) → AreAdmitted limits commands → engine.Rests limits commands s0 → IsReady limits commands first s1)
       → ((limits : Limits) (commands : List Accepted) → IsReady limits commands first s1 → (after : Standing) × does limits commands told after × Stands after s2)
       → (IsAtRest None s0 → ⊥)
+      → ((stored : Stored) → RestsOn stored s0 → FormatIs stored (Ok tt) × SessionIs stored first × RestsOn stored s1)
       → IsAt content s0 → (after : Standing) × Opens does content told after × Stands after s2
-  opened first s0 s1 s2 opens works missing at = elim content as (λ what. IsAt what s0 → (after : Standing) × Opens does what told after × Stands after s2) [
+  opened first s0 s1 s2 opens works missing found at = elim content as (λ what. IsAt what s0 → (after : Standing) × Opens does what told after × Stands after s2) [
     | Nothing ↦ λ at. absurd (missing at)
     | Holds limits commands ↦ λ at. let worked = works limits commands (opens limits commands at.0 at.1) in (worked.0, inl worked.1, worked.2)
+    | Keeps stored ↦ λ at. (Unknown, inl (opened_by stored first s1 (found stored at), refl), tt)
   ] at
 
   not_opened : (limits : Limits) (commands : List Accepted) (why : OpenFault) (s : State) → IfOk told (λ a. a ≡ opening_answer why) → AreAdmitted limits commands → IsNotOpened limits commands why s
@@ -70,11 +91,13 @@ module _ (does : Limits → List Accepted → Told → Standing → Type 0) (con
   pub unopened : (why : OpenFault) (s0 s1 : State)
       → ((limits : Limits) (commands : List Accepted) → AreAdmitted limits commands → engine.Rests limits commands s0 → IsNotOpened limits commands why s1)
       → (IsAtRest None s0 → (why ≡ opening.NotAWarehouse) × IsAt Nothing s1)
+      → ((stored : Stored) → RestsOn stored s0 → UnopenedBy stored why × LeavesStored stored s1 × (SparesStore why → RestsOn stored s1))
       → IfOk told (λ a. a ≡ opening_answer why)
       → IsAt content s0 → (after : Standing) × Opens does content told after × Stands after s1
-  unopened why s0 s1 refused missing tells at = elim content as (λ what. IsAt what s0 → (after : Standing) × Opens does what told after × Stands after s1) [
+  unopened why s0 s1 refused missing bad tells at = elim content as (λ what. IsAt what s0 → (after : Standing) × Opens does what told after × Stands after s1) [
     | Nothing ↦ λ at. let m = missing at in (Rests Nothing, (refl, subst (λ w. IfOk told (λ a. a ≡ opening_answer w)) m.0 tells), m.1)
     | Holds limits commands ↦ λ at. not_opened limits commands why s1 tells at.0 (refused limits commands at.0 at.1)
+    | Keeps stored ↦ λ at. let left = unread stored told why s1 tells (bad stored at) in (left.0, inr left.1, left.2)
   ] at
 
 -- ---- load
@@ -134,6 +157,9 @@ pub made_ok : (content : Content) (bytes : List ℕ) (told : Told) (policy : Pol
 made_ok Nothing bytes told policy limits session s0 s1 most reads makes free tells at =
     let ready = subst (λ l. IsReady l (making_of policy bytes ∷ []) session s1) most (makes at) in
     (Rests (Holds greatest_limits (making_of policy bytes ∷ [])), inl (record { policy = policy; reads = reads; then_is = refl; tells = tells }), (ready.admitted, ready.rests))
+made_ok (Keeps stored) bytes told policy limits session s0 s1 most reads makes free tells at =
+    let taken : is_any_taken s0.now.schema ≡ true = ap is_any_taken at.now.schema ∙ taken_in_a_warehouse in
+    absurd (cc (free, taken))
 made_ok (Holds l cs) bytes told policy limits session s0 s1 most reads makes free tells at =
     let taken : is_any_taken s0.now.schema ≡ true = ap is_any_taken at.1.rests.now.schema ∙ taken_in_a_warehouse in
     absurd (cc (free, taken))
@@ -172,10 +198,14 @@ unmade Nothing bytes told why limits s0 s1 most refused same left kept tells at 
 unmade (Holds l cs) bytes told why limits s0 s1 most refused same left kept tells at =
     let taken : is_any_taken s0.now.schema ≡ true = ap is_any_taken at.1.rests.now.schema ∙ taken_in_a_warehouse in
     (Rests (Holds l cs), record { why = why; refused = subst (λ b. IsNotMade bytes b why) taken refused; same = refl; tells = tells }, kept taken (Holds l cs) at)
+unmade (Keeps stored) bytes told why limits s0 s1 most refused same left kept tells at =
+    let taken : is_any_taken s0.now.schema ≡ true = ap is_any_taken at.now.schema ∙ taken_in_a_warehouse in
+    (Rests (Keeps stored), record { why = why; refused = subst (λ b. IsNotMade bytes b why) taken refused; same = refl; tells = tells }, kept taken (Keeps stored) at)
 
 -- no memory for the line
 pub not_begun : (content : Content) (bytes : List ℕ) (e : AllocError) (s : State) → IsAt content s → (after : Standing) × Makes bytes content (Err e) after × Stands after s
 not_begun Nothing bytes e s at = (Rests Nothing, inr (record { why = making.Memory; leaves = (tt, refl); tells = refl }), at)
+not_begun (Keeps stored) bytes e s at = (Rests (Keeps stored), record { why = making.Memory; refused = tt; same = refl; tells = refl }, at)
 not_begun (Holds l cs) bytes e s at = (Rests (Holds l cs), record { why = making.Memory; refused = tt; same = refl; tells = refl }, at)
 
 -- ---- a visit

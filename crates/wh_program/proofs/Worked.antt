@@ -6,12 +6,12 @@ use Rattle.wh_policy.specs.declared.attribute.Dim.{Dim}
 use Rattle.wh_policy.specs.declared.attribute.Dim.TheVariants.{Product, Customer}
 use Rattle.wh_day.specs.declared.calendar.DateRow.{DateRow}
 use Rattle.wh_batch.specs.declared.kind.CommandKind.TheVariants.{Migration}
-use Rattle.wh_engine.specs.declared.command.Command.{Command}
-use Rattle.wh_engine.specs.declared.command.Receipt.{Receipt}
-use Rattle.wh_engine.specs.declared.command.Refused.{Refused}
-use Rattle.wh_engine.specs.declared.command.Refused.TheVariants.{BadId}
-use Rattle.wh_engine.specs.declared.command.Reply.{Reply}
-use Rattle.wh_engine.specs.declared.command.Reply.TheVariants.{Accepted, Already}
+use Rattle.wh_admission.specs.declared.command.Command.{Command}
+use Rattle.wh_admission.specs.declared.command.Receipt.{Receipt}
+use Rattle.wh_admission.specs.declared.command.Refused.{Refused}
+use Rattle.wh_admission.specs.declared.command.Refused.TheVariants.{BadId}
+use Rattle.wh_admission.specs.declared.command.Reply.{Reply}
+use Rattle.wh_admission.specs.declared.command.Reply.TheVariants.{Accepted, Already}
 use Rattle.wh_engine.specs.declared.fault.Fault.TheVariants.{Memory, Store}
 use Rattle.wh_rows.specs.declared.cause.Cause.TheVariants.{Disk}
 use Rattle.wh_history.specs.declared.plan.Edit.TheVariants.{Put, Remove}

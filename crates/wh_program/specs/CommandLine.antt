@@ -48,6 +48,9 @@ report_app = command_app (codes "report") (codes "FILE" ∷ codes "ATTRIBUTE" �
 abbrev pub dump_app : App
 dump_app = command_app (codes "dump") (codes "FILE" ∷ codes "TABLE" ∷ [])
 
+abbrev pub check_app : App
+check_app = command_app (codes "check") (codes "FILE" ∷ [])
+
 abbrev pub status_app : App
 status_app = command_app (codes "status") (codes "FILE" ∷ [])
 
@@ -62,7 +65,7 @@ with_commands app (command ∷ rest) = with_commands (with_subcommand app comman
 
 -- the whole program
 abbrev pub program_app : App
-program_app = with_commands top_app (trial_app ∷ init_app ∷ load_app ∷ migrate_app ∷ deliver_app ∷ plan_app ∷ report_app ∷ dump_app ∷ status_app ∷ [])
+program_app = with_commands top_app (trial_app ∷ init_app ∷ load_app ∷ migrate_app ∷ deliver_app ∷ plan_app ∷ report_app ∷ dump_app ∷ check_app ∷ status_app ∷ [])
 
 -- the words of a trial, under its own policy or the one in a file
 abbrev pub trial_words : List ℕ → List ℕ → Option (List ℕ) → List (List ℕ)
@@ -88,6 +91,7 @@ pub data CommandLine : Type 0 where
   Plan : (file kind id path : List ℕ) → CommandLine
   Report : (file attribute mode from to : List ℕ) → CommandLine
   Dump : (file table : List ℕ) → CommandLine
+  Check : (file : List ℕ) → CommandLine
   Status : (file : List ℕ) → CommandLine
 
 -- the words of a command
@@ -100,6 +104,7 @@ words_of (Deliver file manifest) = codes "deliver" ∷ file ∷ manifest ∷ []
 words_of (Plan file kind id path) = codes "plan" ∷ file ∷ kind ∷ id ∷ path ∷ []
 words_of (Report file attribute mode from to) = codes "report" ∷ file ∷ attribute ∷ mode ∷ from ∷ to ∷ []
 words_of (Dump file table) = codes "dump" ∷ file ∷ table ∷ []
+words_of (Check file) = codes "check" ∷ file ∷ []
 words_of (Status file) = codes "status" ∷ file ∷ []
 
 -- no operand is an option
@@ -112,6 +117,7 @@ has_operands (Deliver file manifest) = is_operand file && is_operand manifest
 has_operands (Plan file kind id path) = is_operand file && (is_operand kind && (is_operand id && is_operand path))
 has_operands (Report file attribute mode from to) = is_operand file && (is_operand attribute && (is_operand mode && (is_operand from && is_operand to)))
 has_operands (Dump file table) = is_operand file && is_operand table
+has_operands (Check file) = is_operand file
 has_operands (Status file) = is_operand file
 
 -- the words are those of a command, and none of its operands is an option
@@ -161,6 +167,9 @@ named_report rows = option_and_then (λ f. option_and_then (λ a. option_and_the
 abbrev pub named_dump : List Row → Option CommandLine
 named_dump rows = option_and_then (λ f. option_map (λ t. Dump f t) (first_of (codes "TABLE") rows)) (first_of (codes "FILE") rows)
 
+abbrev pub named_check : List Row → Option CommandLine
+named_check rows = option_map (λ f. Check f) (first_of (codes "FILE") rows)
+
 abbrev pub named_status : List Row → Option CommandLine
 named_status rows = option_map (λ f. Status f) (first_of (codes "FILE") rows)
 
@@ -175,6 +184,7 @@ named_by name rows =
     else if bytes_eq name (codes "plan") then named_plan rows
     else if bytes_eq name (codes "report") then named_report rows
     else if bytes_eq name (codes "dump") then named_dump rows
+    else if bytes_eq name (codes "check") then named_check rows
     else if bytes_eq name (codes "status") then named_status rows
     else None
 

@@ -10,11 +10,11 @@ use Rattle.wh_batch.specs.declared.manifest.BadManifest.{BadManifest}
 use Rattle.wh_batch.specs.declared.manifest.ManifestEntry.{ManifestEntry}
 use Rattle.wh_history.specs.Accepted.{Accepted}
 use Rattle.wh_history.specs.Tables.{Limits}
-use Rattle.wh_engine.specs.Admission.{accepted_after_all}
+use Rattle.wh_admission.specs.Admission.{accepted_after_all}
 use Rattle.wh_engine.specs.Delivered.{answers_to, AreAnswers}
-use Rattle.wh_engine.specs.declared.command.Command.{Command}
-use Rattle.wh_engine.specs.declared.command.Refused.{Refused as Refusal}
-use Rattle.wh_engine.specs.declared.command.Reply.{Reply}
+use Rattle.wh_admission.specs.declared.command.Command.{Command}
+use Rattle.wh_admission.specs.declared.command.Refused.{Refused as Refusal}
+use Rattle.wh_admission.specs.declared.command.Reply.{Reply}
 use Rattle.wh_engine.specs.declared.fault.Fault.{Fault}
 use Rattle.wh_engine.specs.declared.fault.Fault.TheVariants as fault
 use Rattle.wh_program.specs.Answer.{Printed, refused, failed, line, no_file_line, status_code}

@@ -4,7 +4,7 @@ use Rattle.wh_policy.specs.Policy.{policy_at}
 use Rattle.wh_policy.specs.declared.attribute.Dim.{Dim}
 use Rattle.wh_policy.specs.declared.policy.Policy.{Policy}
 use Rattle.wh_batch.specs.declared.kind.CommandKind.{CommandKind}
-use Rattle.wh_engine.specs.Admission.{content_of}
+use Rattle.wh_admission.specs.Admission.{content_of}
 use Rattle.wh_program.specs.Answer.{trial_rows}
 use Rattle.wh_program.specs.Inputs.{batch_limit, policy_limit, input_limit}
 

@@ -8,6 +8,7 @@ pub mod Reply
 pub mod Run
 pub mod Standing
 pub mod Warehouse
+pub mod Check
 pub mod Room
 pub mod Delivery
 pub mod Readings

@@ -7,7 +7,7 @@ use Rattle.wh_history.specs.Tables.{Limits}
 use Rattle.wh_rows.specs.Tables.{Tables}
 use Rattle.wh_rows.specs.declared.table.Table.{Table}
 use Rattle.wh_rows.specs.Defined.{AreOf}
-use Rattle.wh_engine.specs.Admission.{current_policy}
+use Rattle.wh_admission.specs.Admission.{current_policy}
 use Rattle.wh_engine.specs.declared.fault.Fault.{Fault}
 use Rattle.wh_engine.specs.declared.fault.Fault.TheVariants as fault
 use Rattle.wh_report.specs.Asked.{Asked}

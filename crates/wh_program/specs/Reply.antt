@@ -5,13 +5,15 @@ use Rattle.std.specs.declared.alloc.Global.{Global}
 use Rattle.std.specs.declared.vec.Vec.{Vec}
 use Rattle.wh_policy.specs.declared.attribute.AttributeType.{AttributeType}
 use Rattle.wh_policy.specs.Types.{type_number}
-use Rattle.wh_engine.specs.declared.command.Receipt.{Receipt}
-use Rattle.wh_engine.specs.declared.command.Reply.{Reply}
-use Rattle.wh_engine.specs.declared.command.Reply.TheVariants.{Accepted, Already}
-use Rattle.wh_engine.specs.declared.command.Limit.{Limit}
-use Rattle.wh_engine.specs.declared.command.Limit.TheVariants.{Commands, Changes, Facts}
-use Rattle.wh_engine.specs.declared.command.Refused.{Refused}
-use Rattle.wh_engine.specs.declared.command.Refused.TheVariants as refusal
+use Rattle.wh_admission.specs.declared.command.Receipt.{Receipt}
+use Rattle.wh_admission.specs.declared.command.Reply.{Reply}
+use Rattle.wh_admission.specs.declared.command.Reply.TheVariants.{Accepted, Already}
+use Rattle.wh_admission.specs.declared.command.Limit.{Limit}
+use Rattle.wh_admission.specs.declared.command.Limit.TheVariants.{Commands, Changes, Facts}
+use Rattle.wh_admission.specs.declared.command.Refused.{Refused}
+use Rattle.wh_admission.specs.declared.command.Refused.TheVariants as refusal
+use Rattle.wh_check.specs.declared.verdict.Verdict.{Verdict}
+use Rattle.wh_check.specs.declared.verdict.Verdict.TheVariants.{Clean, Wrong}
 use Rattle.wh_engine.specs.declared.counts.Counts.{Counts}
 use Rattle.wh_engine.specs.declared.fault.Fault.{Fault}
 use Rattle.wh_engine.specs.declared.fault.Fault.TheVariants as fault
@@ -89,6 +91,16 @@ sent_answer id (Err fault) = fault_answer fault
 abbrev pub plan_answer : Result Edits Fault → Printed
 plan_answer (Ok edits) = done (plan_text edits)
 plan_answer (Err fault) = fault_answer fault
+
+-- ---- a check
+
+abbrev pub wrong_line : Table → List ℕ
+wrong_line table = line (codes "wrong: " ++ table_name table)
+
+abbrev pub verdict_answer : Result Verdict Fault → Printed
+verdict_answer (Ok Clean) = done (line (codes "clean"))
+verdict_answer (Ok (Wrong table)) = failed (wrong_line table)
+verdict_answer (Err fault) = fault_answer fault
 
 -- ---- reports
 

@@ -32,6 +32,7 @@ line_of (operands.Deliver file manifest) = line.Deliver file.now manifest.now
 line_of (operands.Plan s) = line.Plan s.file.now s.kind.now s.id.now s.path.now
 line_of (operands.Report r) = line.Report r.file.now r.attribute.now r.mode.now r.from.now r.to.now
 line_of (operands.Dump file table) = line.Dump file.now table.now
+line_of (operands.Check file) = line.Check file.now
 line_of (operands.Status file) = line.Status file.now
 
 abbrev pub report_words : AskedReport → ReportWords
@@ -47,6 +48,7 @@ task_in (found.Deliver file manifest) = task.Deliver file.now manifest.now
 task_in (found.Plan file kind id path) = task.Plan file.now kind id.now path.now
 task_in (found.Report file asked) = task.Report file.now (report_words asked)
 task_in (found.Dump file table) = task.Dump file.now table
+task_in (found.Check file) = task.Check file.now
 task_in (found.Status file) = task.Status file.now
 
 -- what a request asks for, or the line that says what is wrong; help is neither

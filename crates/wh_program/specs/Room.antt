@@ -2,7 +2,7 @@
 use Rattle.std.specs.Prelude.{ℕ, ◌≡◌, ◌+◌, ◌<◌, ◌≤◌, List, [], ◌∷◌, length, Result, IfOk, OnOk, OnErr, vec_len, vec_capacity}
 use Rattle.std.specs.declared.alloc.Global.{Global}
 use Rattle.std.specs.declared.vec.Vec.{Vec}
-use Rattle.wh_engine.specs.declared.command.Command.{Command}
+use Rattle.wh_admission.specs.declared.command.Command.{Command}
 use Rattle.wh_program.specs.Answer.{Printed}
 use Rattle.wh_program.specs.Warehouse.{Told}
 

@@ -29,6 +29,7 @@ pub data Task : Type 0 where
   Plan : (file : List ℕ) → CommandKind → (id path : List ℕ) → Task
   Report : (file : List ℕ) → ReportWords → Task
   Dump : (file : List ℕ) → Table → Task
+  Check : (file : List ℕ) → Task
   Status : (file : List ℕ) → Task
 
 -- what is there, or else the line that says what is wrong
@@ -61,4 +62,5 @@ task_of (line.Deliver file manifest) = Ok (Deliver file manifest)
 task_of (line.Plan file kind id path) = plan_asked file kind id path
 task_of (line.Report file attribute mode from to) = report_asked file attribute mode from to
 task_of (line.Dump file table) = dump_asked file table
+task_of (line.Check file) = Ok (Check file)
 task_of (line.Status file) = Ok (Status file)

@@ -2,11 +2,12 @@
 use Rattle.std.specs.Prelude.{ℕ, List, IfOk}
 use Rattle.wh_batch.specs.declared.kind.CommandKind.TheVariants.{Batch, Migration}
 use Rattle.wh_program.specs.Answer.{AnswersTrial}
+use Rattle.wh_program.specs.Check.{AnswersCheck}
 use Rattle.wh_program.specs.Delivery.{AnswersDelivery}
 use Rattle.wh_program.specs.Inputs.{Files, up_to, batch_limit, policy_limit, input_limit}
 use Rattle.wh_program.specs.Readings.{AnswersReport, AnswersDump}
-use Rattle.wh_program.specs.Standing.{Content, Standing, Rests}
-use Rattle.wh_program.specs.Task.{Task, Trial, Init, Load, Migrate, Deliver, Plan, Report, Dump, Status}
+use Rattle.wh_program.specs.Standing.{Content, IsOfCommands, Standing, Rests}
+use Rattle.wh_program.specs.Task.{Task, Trial, Init, Load, Migrate, Deliver, Plan, Report, Dump, Check, Status}
 use Rattle.wh_program.specs.Warehouse.{Told, Makes, Sends, Plans, AnswersWith, AnswersStatus}
 
 -- what a host stores under its names
@@ -17,6 +18,10 @@ Stores = List ℕ → Standing → Type 0
 abbrev pub RunsOver : Stores → (file : List ℕ) → (Content → Told → Type 0) → (Told → Type 0) → Type 0
 RunsOver before file answers prints = (content : Content) → before file (Rests content) → (told : Told) × answers content told × prints told
 
+-- the same over what accepted commands left there
+abbrev pub RunsOverCommands : Stores → (file : List ℕ) → (Content → Told → Type 0) → (Told → Type 0) → Type 0
+RunsOverCommands before file answers prints = (content : Content) → IsOfCommands content → before file (Rests content) → (told : Told) × answers content told × prints told
+
 -- What is answered and printed, by the files that a host holds, each as far as it is read, and by what it stores before and after.
 abbrev pub Runs : Files → (before after : Stores) → (prints : Told → Type 0) → Task → Type 0
 Runs holds before after prints (Trial dim path policy) = (told : Told) × IfOk told (AnswersTrial holds dim path policy) × prints told
@@ -26,5 +31,6 @@ Runs holds before after prints (Migrate file id policy) = RunsOver before file (
 Runs holds before after prints (Deliver file manifest) = RunsOver before file (λ content told. AnswersDelivery holds (after file) content file manifest told) prints
 Runs holds before after prints (Plan file kind id path) = RunsOver before file (λ content told. AnswersWith (up_to (input_limit kind) holds) (after file) (Plans kind id) content file path told) prints
 Runs holds before after prints (Report file words) = RunsOver before file (λ content told. AnswersReport (after file) content file words told) prints
-Runs holds before after prints (Dump file table) = RunsOver before file (λ content told. AnswersDump (after file) content file table told) prints
+Runs holds before after prints (Dump file table) = RunsOverCommands before file (λ content told. AnswersDump (after file) content file table told) prints
+Runs holds before after prints (Check file) = RunsOver before file (λ content told. AnswersCheck (after file) content file told) prints
 Runs holds before after prints (Status file) = RunsOver before file (λ content told. AnswersStatus (after file) content file told) prints

@@ -6,26 +6,29 @@ use Rattle.wh_policy.specs.declared.policy.Policy.{Policy}
 use Rattle.wh_history.specs.Accepted.{Accepted}
 use Rattle.wh_history.specs.Tables.{Limits}
 use Rattle.wh_rows.specs.Limits.{greatest_limits}
+use Rattle.wh_rows.specs.Raw.{Stored}
 use Rattle.wh_plan.specs.Edits.{Edits, AreEdits}
 use Rattle.wh_rows.specs.Sound.{making_of}
-use Rattle.wh_engine.specs.Admission.{answer, accepted_after}
+use Rattle.wh_admission.specs.Admission.{answer, accepted_after}
 use Rattle.wh_engine.specs.Answered.{counts_of}
-use Rattle.wh_engine.specs.Opened.{IsNotMade}
-use Rattle.wh_engine.specs.declared.command.Command.{Command}
+use Rattle.wh_engine.specs.Opened.{IsNotMade, SessionIs, IsUnopened as UnopenedBy}
+use Rattle.wh_admission.specs.declared.command.Command.{Command}
 use Rattle.wh_batch.specs.declared.kind.CommandKind.{CommandKind}
-use Rattle.wh_engine.specs.declared.command.Reply.{Reply}
+use Rattle.wh_admission.specs.declared.command.Reply.{Reply}
 use Rattle.wh_engine.specs.declared.counts.Counts.{Counts}
 use Rattle.wh_engine.specs.declared.fault.Fault.{Fault}
 use Rattle.wh_engine.specs.declared.fault.Fault.TheVariants as fault
 use Rattle.wh_engine.specs.declared.opening.InitFault.{InitFault}
 use Rattle.wh_engine.specs.declared.opening.InitFault.TheVariants as making
+use Rattle.wh_engine.specs.declared.session.Session.{Session}
+use Rattle.wh_store.specs.Raw.{FormatIs}
 use Rattle.wh_store.specs.declared.fault.OpenFault.{OpenFault}
 use Rattle.wh_store.specs.declared.fault.OpenFault.TheVariants as opening
 use Rattle.wh_program.specs.Answer.{Printed, done, failed, no_file_line}
 use Rattle.wh_program.specs.Inputs.{Files, up_to, input_limit}
 use Rattle.wh_program.specs.Reply.{sent_answer, plan_answer, opening_answer, status_answer, making_answer, made_line}
 use Rattle.wh_program.specs.Run.{out_of_memory}
-use Rattle.wh_program.specs.Standing.{Content, Nothing, Holds, Standing, Rests, LeftAt}
+use Rattle.wh_program.specs.Standing.{Content, Nothing, Holds, Keeps, Standing, Unknown, Rests, LeftAt}
 
 -- an answer, where there is memory for one
 abbrev pub Told : Type 0
@@ -49,10 +52,30 @@ pub record IsUnopened (limits : Limits) (commands : List Accepted) (told : Told)
   pub leaves : LeavesUnopened limits commands why after
   pub tells : IfOk told (λ a. a ≡ opening_answer why)
 
--- What opens what stands and does this to a warehouse: where there is none, that is the answer, and nothing changed.
+-- What is left of rows that anybody wrote, where the warehouse wasn't opened.
+abbrev pub LeavesUnread : Stored → OpenFault → Standing → Type 0
+LeavesUnread stored (opening.Store cause) after = after ≡ LeftAt (Keeps stored) (Keeps stored)
+LeavesUnread stored why after = after ≡ Rests (Keeps stored)
+
+-- They say no warehouse that is opened, and just that is printed.
+pub record IsUnread (stored : Stored) (told : Told) (after : Standing) : Type 0 where
+  pub why : OpenFault
+  pub unopened : UnopenedBy stored why
+  pub leaves : LeavesUnread stored why after
+  pub tells : IfOk told (λ a. a ≡ opening_answer why)
+
+-- They say a format that is read, limits, and a policy in force.
+pub record IsOpenedBy (stored : Stored) : Type 0 where
+  pub session : Session
+  pub format : FormatIs stored (Ok tt)
+  pub says : SessionIs stored session
+
+-- What opens what stands and does this to a warehouse: where there is none, that is the answer, and nothing changed. Over rows that anybody wrote it says whether they
+-- are opened, and here nothing of what is done then.
 abbrev pub Opens : (Limits → List Accepted → Told → Standing → Type 0) → Content → Told → Standing → Type 0
 Opens does Nothing told after = (after ≡ Rests Nothing) × IfOk told (λ a. a ≡ opening_answer opening.NotAWarehouse)
 Opens does (Holds limits commands) told after = does limits commands told after ⊎ IsUnopened limits commands told after
+Opens does (Keeps stored) told after = (IsOpenedBy stored × (after ≡ Unknown)) ⊎ IsUnread stored told after
 
 -- ---- load and migrate
 
@@ -121,7 +144,7 @@ pub record IsUnmade (bytes : List ℕ) (told : Told) (after : Standing) : Type 0
   pub leaves : LeavesUnmade bytes why after
   pub tells : printed told ≡ making_answer why
 
--- a warehouse is there, so none is made, and nothing changed
+-- the tables of a warehouse are there, so none is made, and nothing changed
 pub record IsNotEmpty (bytes : List ℕ) (content : Content) (told : Told) (after : Standing) : Type 0 where
   pub why : InitFault
   pub refused : IsNotMade bytes true why
@@ -131,7 +154,7 @@ pub record IsNotEmpty (bytes : List ℕ) (content : Content) (told : Told) (afte
 -- a making in what stands
 abbrev pub Makes : List ℕ → Content → Told → Standing → Type 0
 Makes bytes Nothing told after = IsMade bytes told after ⊎ IsUnmade bytes told after
-Makes bytes (Holds limits commands) told after = IsNotEmpty bytes (Holds limits commands) told after
+Makes bytes content told after = IsNotEmpty bytes content told after
 
 -- ---- a word
 

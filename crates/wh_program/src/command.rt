@@ -4,7 +4,7 @@ ghost use Rattle.std.specs.Prelude.{◌≡◌, IfOk, IfErr, IsErr, Some, Ok, Err
 ghost use Rattle.clap.specs.Words.{first_of, found_of, rows_of, subcommand_rows_of, kind_of, takes, subcommand_of};
 ghost use Rattle.clap.specs.declared.error.ErrorKind.TheVariants.{OutOfMemory};
 ghost use Rattle.wh_rows.specs.Names.{table_named};
-ghost use Rattle.wh_program.specs.CommandLine.{CommandLine, program_app, words_of, has_operands, named, named_trial, named_init, named_sent, named_load, named_migrate, named_deliver, named_plan, named_report, named_dump, named_status};
+ghost use Rattle.wh_program.specs.CommandLine.{CommandLine, program_app, words_of, has_operands, named, named_trial, named_init, named_sent, named_load, named_migrate, named_deliver, named_plan, named_report, named_dump, named_check, named_status};
 ghost use Rattle.wh_program.specs.Request.{text_of, sent_of, line_of, asked_in, Asks};
 ghost use Rattle.wh_program.specs.Task.{trial_asked, load_asked, plan_asked, report_asked, dump_asked};
 
@@ -70,6 +70,10 @@ pub enum Task<'a> {
     Dump {
         file: &'a str,
         table: Table,
+    },
+    /// Whether the warehouse in `file` is what its commands define.
+    Check {
+        file: &'a str,
     },
     /// How much the warehouse in `file` holds.
     Status {
@@ -150,6 +154,9 @@ enum Operands<'a> {
     Dump {
         file: &'a str,
         table: &'a str,
+    },
+    Check {
+        file: &'a str,
     },
     Status {
         file: &'a str,
@@ -246,6 +253,14 @@ fn dump_operands<'a>(inner: &ArgMatches<'a>) -> Option<Operands<'a>>
     })
 }
 
+fn check_operands<'a>(inner: &ArgMatches<'a>) -> Option<Operands<'a>>
+    ensures { option_map line_of result ≡ named_check (rows_of (found_of inner.now)) }
+{
+    Some(Operands::Check {
+        file: value_of(inner, "FILE")?,
+    })
+}
+
 fn status_operands<'a>(inner: &ArgMatches<'a>) -> Option<Operands<'a>>
     ensures { option_map line_of result ≡ named_status (rows_of (found_of inner.now)) }
 {
@@ -268,6 +283,7 @@ fn operands_of<'a>(matches: &ArgMatches<'a>) -> Option<Operands<'a>>
         "plan" => plan_operands(inner),
         "report" => report_operands(inner),
         "dump" => dump_operands(inner),
+        "check" => check_operands(inner),
         "status" => status_operands(inner),
         _ => None,
     }
@@ -391,6 +407,7 @@ fn requested<'a>(alloc: Global, operands: Operands<'a>) -> Result<Request<'a>, A
         Operands::Plan(sent) => plan_request(alloc, sent),
         Operands::Report(words) => report_request(alloc, words),
         Operands::Dump { file, table } => dump_request(alloc, file, table),
+        Operands::Check { file } => Ok(Request::Task(Task::Check { file })),
         Operands::Status { file } => Ok(Request::Task(Task::Status { file })),
     }
 }

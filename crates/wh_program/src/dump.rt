@@ -9,7 +9,7 @@ ghost use Rattle.wh_store.specs.Reads.{state_of};
 ghost use Rattle.wh_program.specs.Answer.{status_code};
 ghost use Rattle.wh_program.specs.Readings.{SaysStop, IsDumped, AnswersDump};
 ghost use Rattle.wh_program.specs.Run.{Prints};
-ghost use Rattle.wh_program.specs.Standing.{Content, Standing, Rests, Stands};
+ghost use Rattle.wh_program.specs.Standing.{Content, IsOfCommands, Standing, Rests, Stands};
 ghost use Rattle.wh_program.specs.Warehouse.{Told, Opens, printed};
 
 use crate::answer::Status;
@@ -60,7 +60,7 @@ struct Dumping {
 impl Visitor for Dumping {
     type Output = Status;
 
-    ghost promises = { λ dumping content status old new after. (told : Told) × Opens (IsDumped dumping.table) content told after × Prints old new (status_code status) (printed told) };
+    ghost promises = { λ dumping content status old new after. IsOfCommands content → (told : Told) × Opens (IsDumped dumping.table) content told after × Prints old new (status_code status) (printed told) };
 
     fn visit<T: Alter + Drop, W: Write>(
         self,
@@ -89,7 +89,7 @@ pub fn print_dump<H: Host, W: Write>(
     host: &mut H,
     out: &mut W,
 ) -> Status
-    ensures { (content : Content) → H.stores host.old file.now (Rests content)
+    ensures { (content : Content) → IsOfCommands content → H.stores host.old file.now (Rests content)
         → (told : Told) × AnswersDump (H.stores host.new file.now) content file.now table told × Prints (W.contents out.old) (W.contents out.new) (status_code result) (printed told) }
 {
     match host.with_existing(alloc, file, Dumping { table }, out) {

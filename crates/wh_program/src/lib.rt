@@ -17,6 +17,7 @@ mod plan_text;
 mod program;
 mod report;
 mod trial;
+mod verdict;
 mod warehouse;
 mod words;
 

@@ -5,14 +5,16 @@ ghost use Rattle.std.specs.Fmt.{decimal};
 ghost use Rattle.wh_program.specs.Answer.{status_code, done, refused, failed, line, no_file_line, batch_line, batch_fault_name, policy_line, policy_fault_name};
 ghost use Rattle.wh_program.specs.Delivery.{manifest_line};
 ghost use Rattle.wh_program.specs.Room.{Fits, TellsIn, longest_line, longest_answer, longest_delivery};
-ghost use Rattle.wh_program.specs.Reply.{receipt_line, reply_answer, limit_name, full_line, sale_there_line, refused_line, damaged_line, cause_name, store_line, fault_answer, sent_answer, plan_answer, made_line, making_answer, opening_answer, members_line, totals_text, counts_text, status_answer};
+ghost use Rattle.wh_program.specs.Reply.{receipt_line, reply_answer, limit_name, full_line, sale_there_line, refused_line, damaged_line, cause_name, store_line, fault_answer, sent_answer, plan_answer, wrong_line, verdict_answer, made_line, making_answer, opening_answer, members_line, totals_text, counts_text, status_answer};
 
 use crate::answer::{Answer, Status};
 use crate::plan_text::{plan_text, push_number};
 use itoa::Buffer;
 use std::alloc::{AllocError, Global};
 use wh_batch::{BadManifest, BatchFault, FaultKind};
-use wh_engine::{Command, Counts, Fault, InitFault, Limit, OpenFault, Receipt, Refused, Reply};
+use wh_engine::{
+    Command, Counts, Fault, InitFault, Limit, OpenFault, Receipt, Refused, Reply, Verdict,
+};
 use wh_plan::Edits;
 use wh_policy::PolicyFault;
 use wh_rows::{Cause, Table};
@@ -389,6 +391,25 @@ pub fn plan_answer(alloc: Global, edits: Result<Edits, Fault>) -> Result<Answer,
 {
     match edits {
         Ok(edits) => Ok(Answer::new(Status::Done, plan_text(alloc, &edits)?)),
+        Err(fault) => fault_answer(alloc, fault),
+    }
+}
+
+fn wrong(alloc: Global, table: Table) -> Result<Answer, AllocError>
+    ensures { IfOk result (λ answer. answer ≡ failed (wrong_line table)) }
+{
+    let mut line = Vec::new(alloc);
+    push_named_line(&mut line, "wrong: ", table.name())?;
+    Ok(Answer::new(Status::Failed, line))
+}
+
+/// The answer to a check.
+pub fn verdict_answer(alloc: Global, verdict: Result<Verdict, Fault>) -> Result<Answer, AllocError>
+    ensures { IfOk result (λ answer. answer ≡ verdict_answer verdict) }
+{
+    match verdict {
+        Ok(Verdict::Clean) => told(alloc, Status::Done, "clean\n"),
+        Ok(Verdict::Wrong(table)) => wrong(alloc, table),
         Err(fault) => fault_answer(alloc, fault),
     }
 }

@@ -18,6 +18,7 @@ use crate::lines::{MEMORY_LINE, NO_TEXT_LINE};
 use crate::output::{print, print_told, print_usage};
 use crate::report::told_report;
 use crate::trial::trial;
+use crate::verdict::check;
 use crate::warehouse::{init, plan, send, status};
 use std::alloc::Global;
 use std::convert::AsStr;
@@ -56,6 +57,7 @@ fn run_task<H: Host, W: Write>(alloc: Global, task: Task, host: &mut H, out: &mu
         } => print_told(out, plan(alloc, file, kind, id, path, host)),
         Task::Report { file, asked } => print_told(out, told_report(alloc, file, asked, host)),
         Task::Dump { file, table } => print_dump(alloc, file, table, host, out),
+        Task::Check { file } => print_told(out, check(alloc, file, host)),
         Task::Status { file } => print_told(out, status(alloc, file, host)),
     }
 }

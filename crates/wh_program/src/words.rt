@@ -107,6 +107,12 @@ const SUBCOMMANDS: &[Subcommand<'static>] = &[
         ],
     },
     Subcommand {
+        name: "check",
+        about: "Tells whether a warehouse is exactly what its commands define",
+        example: "Example: wh check shop.wh",
+        operands: &[FILE],
+    },
+    Subcommand {
         name: "status",
         about: "Prints how much a warehouse holds",
         example: "Example: wh status shop.wh",

@@ -12,7 +12,7 @@ pub fn check<D: Driver>(
     driver: D,
     scenario: &str,
 ) -> Result<(), Fail> {
-    let found = difference(alloc, driver, scenario)?;
+    let found = difference(alloc, driver, &[scenario])?;
     let line = match &found {
         Some(line) => line.as_str(),
         None => "",
@@ -62,7 +62,7 @@ const TOLD: [(&str, &str); 7] = [
 
 /// What went wrong in a scenario, empty where each step answers what it must.
 fn told(alloc: Global, scenario: &str) -> Result<String, AllocError> {
-    match difference(alloc, Echo, scenario) {
+    match difference(alloc, Echo, &[scenario]) {
         Ok(None) => Ok(String::new(alloc)),
         Ok(Some(line)) => Ok(line),
         Err(NotMade) => String::from_str(alloc, "no scenario"),

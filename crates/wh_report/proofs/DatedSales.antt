@@ -28,15 +28,15 @@ use Rattle.wh_history.proofs.Joins.{all_append, all_weaker}
 use Rattle.wh_rows.specs.Defined.{calendar_at, day_at}
 use Rattle.wh_rows.specs.Sound.{making_of}
 use Rattle.wh_rows.specs.Sound.{IsGoodSale}
-use Rattle.wh_engine.specs.Admission.{current_policy, of_batch, of_file, records_told, content_of, accepted_as, answer, with_content, after_answer, accepted_after, accepted_after_all}
-use Rattle.wh_engine.specs.declared.command.Command.{Command}
+use Rattle.wh_admission.specs.Admission.{current_policy, of_batch, of_file, records_told, content_of, accepted_as, answer, with_content, after_answer, accepted_after, accepted_after_all}
+use Rattle.wh_admission.specs.declared.command.Command.{Command}
 use Rattle.wh_batch.specs.declared.kind.CommandKind.{CommandKind}
 use Rattle.wh_batch.specs.declared.kind.CommandKind.TheVariants.{Batch, Migration}
-use Rattle.wh_engine.specs.declared.command.Reply.{Reply}
-use Rattle.wh_engine.specs.declared.command.Reply.TheVariants.{Accepted as Accepts, Already}
-use Rattle.wh_engine.specs.declared.command.Refused.{Refused}
-use Rattle.wh_engine.specs.declared.command.Refused.TheVariants.{Unfit}
-use Rattle.wh_engine.proofs.Admitted.{admitted_sound}
+use Rattle.wh_admission.specs.declared.command.Reply.{Reply}
+use Rattle.wh_admission.specs.declared.command.Reply.TheVariants.{Accepted as Accepts, Already}
+use Rattle.wh_admission.specs.declared.command.Refused.{Refused}
+use Rattle.wh_admission.specs.declared.command.Refused.TheVariants.{Unfit}
+use Rattle.wh_admission.proofs.Admitted.{admitted_sound}
 use Rattle.wh_report.specs.Laws.{AdmittedSalesAreDated}
 
 -- the sales lie in these years

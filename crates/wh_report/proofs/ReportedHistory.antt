@@ -36,13 +36,13 @@ use Rattle.wh_rows.proofs.GrownKeys.{found_is}
 use Rattle.wh_rows.proofs.GrownProfiles.{profile_keyed}
 use Rattle.wh_rows.proofs.ValidTables.{made_of}
 use Rattle.wh_rows.proofs.Listed.{len-values}
-use Rattle.wh_engine.specs.Admission.{current_policy, AreAdmitted}
+use Rattle.wh_admission.specs.Admission.{current_policy, AreAdmitted}
 use Rattle.wh_engine.specs.Answered.{IsReady}
 use Rattle.wh_engine.specs.Scanned.{ReadsThrough, IsServing, IsWanting}
 use Rattle.wh_engine.specs.declared.fault.Fault.{Fault}
 use Rattle.wh_engine.specs.declared.fault.Fault.TheVariants as faults
 use Rattle.wh_engine.specs.declared.session.Session.{Session}
-use Rattle.wh_engine.proofs.Admitted.{admitted_sound}
+use Rattle.wh_admission.proofs.Admitted.{admitted_sound}
 use Rattle.wh_engine.proofs.Decisions.{policy_in_force, sound_in_force}
 use Rattle.wh_engine.proofs.FoundFacts.{facts_counted}
 use Rattle.wh_report.specs.Asked.{Asked}

@@ -9,7 +9,7 @@ use Rattle.wh_history.specs.Accepted.{Accepted, policy_after, sold}
 use Rattle.wh_history.specs.Tables.{Limits, fact_of}
 use Rattle.wh_rows.specs.Defined.{calendar_at}
 use Rattle.wh_rows.specs.Sound.{IsAccepted}
-use Rattle.wh_engine.specs.Admission.{AreAdmitted}
+use Rattle.wh_admission.specs.Admission.{AreAdmitted}
 use Rattle.wh_report.specs.Asked.{Asked}
 use Rattle.wh_report.specs.Counting.{counted}
 use Rattle.wh_report.specs.Defined.{AreDefined}

@@ -16,7 +16,7 @@ use Rattle.wh_rows.specs.declared.table.Table.{Table}
 use Rattle.wh_rows.specs.declared.table.Table.TheVariants as table
 use Rattle.wh_store.specs.Scan.{rows_left}
 use Rattle.wh_store.specs.declared.scan.Cursor.{Cursor}
-use Rattle.wh_engine.specs.Admission.{current_policy}
+use Rattle.wh_admission.specs.Admission.{current_policy}
 use Rattle.wh_engine.specs.Scanned.{IsWanting}
 use Rattle.wh_engine.specs.declared.fault.Fault.TheVariants as faults
 use Rattle.wh_report.specs.Asked.{Asked}

@@ -1,5 +1,5 @@
 -- The stored rows after a key, whoever wrote them, and those after the last row of a part of them.
-use Rattle.std.proofs.Common.{◌≡◌, ◌≢◌, ◌+◌, ◌<◌, ◌≤◌, List, [], ◌∷◌, ◌++◌, map, filter, drop, length, Bool, true, false, cond, Option, None, Some, refl, sym, ap, subst, ◌∙◌, arith, Ordering, Less, Equal, Greater}
+use Rattle.std.proofs.Common.{ℕ, ◌≡◌, ◌≢◌, ◌+◌, ◌<◌, ◌≤◌, List, [], ◌∷◌, ◌++◌, map, filter, drop, length, Bool, true, false, cond, Option, None, Some, refl, sym, ap, subst, ◌∙◌, arith, Ordering, Less, Equal, Greater}
 use Rattle.std.proofs.lemmas.List.{take-append-drop, length-map}
 use Rattle.std.proofs.lemmas.List.Sorted.{length_permutation, IsPermutation-sym, IsPermutation-trans, IsPermutation-append_right}
 use Rattle.std.specs.List.{AllByRecursion}
@@ -13,7 +13,7 @@ use Rattle.sqlite_sql.proofs.QueryLemmas.{key_cmp_total}
 use Rattle.sqlite.specs.Order.{Row}
 use Rattle.wh_rows.specs.Holds.{Layout}
 use Rattle.wh_rows.specs.Raw.{stored_cmp, IsFrontOf}
-use Rattle.wh_rows.specs.Parts.{a_part, stands_behind, IsKeyed, IsArranged}
+use Rattle.wh_rows.specs.Parts.{forward, stands_behind, IsKeyed, IsArranged}
 use Rattle.wh_rows.proofs.Behind.{all_at, kept_all, narrower, few_taken, gt_is, tie_is}
 
 -- ---- lists
@@ -125,21 +125,21 @@ module _ {K V : Type 0} (layout : Layout K V) (bind : K → Row) (stands_at : K 
   abbrev behind_key : Option K → Row → Bool
   behind_key after = stands_behind layout bind after
 
-  module _ (after : Option K) (read : List V) (front : IsFrontOf a_part layout.table (filter (behind_key after) stored) (map layout.encode read)) where
+  module _ (most : ℕ) (after : Option K) (read : List V) (front : IsFrontOf (forward most) layout.table (filter (behind_key after) stored) (map layout.encode read)) where
     abbrev later : List Row
-    later = drop a_part.most front.ordered
+    later = drop most front.ordered
 
     whole : front.ordered ≡ map layout.encode read ++ later
-    whole = sym (take-append-drop a_part.most front.ordered) ∙ ap (λ l. l ++ later) (sym front.first)
+    whole = sym (take-append-drop most front.ordered) ∙ ap (λ l. l ++ later) (sym front.first)
 
     up : IsAscending NotBelow front.ordered
     up = ascending_from_sorted cmp total front.ordered front.sorted
 
     -- a part that isn't full is all that is after the key
-    pub short_part : length read < a_part.most → IsArranged layout.table (filter (behind_key after) stored) (map layout.encode read)
+    pub short_part : length read < most → IsArranged layout.table (filter (behind_key after) stored) (map layout.encode read)
     short_part few =
         let long : length (map layout.encode read) ≡ length read = length-map read layout.encode in
-        let none : later ≡ [] = few_taken a_part.most front.ordered (subst (λ l. length l < a_part.most) front.first (omega (arith, few, long))) in
+        let none : later ≡ [] = few_taken most front.ordered (subst (λ l. length l < most) front.first (omega (arith, few, long))) in
         let all : front.ordered ≡ map layout.encode read = whole ∙ ap (λ l. map layout.encode read ++ l) none ∙ nil_after (map layout.encode read) in
         record { same = subst (IsPermutation (filter (behind_key after) stored)) all front.same; in_order = subst (IsAscending NotBelow) all up }
 

@@ -30,7 +30,7 @@ use Rattle.wh_rows.specs.Meaning.{command_of, passes}
 use Rattle.wh_rows.specs.Firsts.{reading_first}
 use Rattle.wh_rows.specs.Raw.{stored_cmp, ReadsFrontStored}
 use Rattle.wh_rows.specs.Questions.{at_least, greater}
-use Rattle.wh_rows.specs.Parts.{a_part, PartTexts, stands_behind, is_behind, ReadsParts, IsKeyed}
+use Rattle.wh_rows.specs.Parts.{forward, PartTexts, stands_behind, is_behind, ReadsParts, IsKeyed}
 use Rattle.wh_rows.specs.Parts as texts
 use Rattle.wh_rows.proofs.ColumnLemmas.{both}
 use Rattle.wh_rows.proofs.Keys.{and-true, or_true, sorted-Nat, then_after, then_tied}
@@ -118,26 +118,26 @@ past_two a g h o p least first second =
 -- ---- a text that shows a part
 
 -- what it computes to, whatever rows are stored
-record ShowsPart {K V : Type 0} (layout : Layout K V) (params : Row) (stands : Row → Bool) (text : List ℕ) : Type 0 where
+record ShowsPart {K V : Type 0} (most : ℕ) (layout : Layout K V) (params : Row) (stands : Row → Bool) (text : List ℕ) : Type 0 where
   tests : List Term
   project : List Term
   order : List (Term × Key)
   names : List (List ℕ)
-  command : command_of (understood warehouse text) ≡ Select (record { lets = []; body = reading_first a_part.most layout.table.tree tests project order }) names
+  command : command_of (understood warehouse text) ≡ Select (record { lets = []; body = reading_first most layout.table.tree tests project order }) names
   plain : IsPlain (understood warehouse text)
   unlisted : reads_listing warehouse text ≡ false
   hits : (r : Row) → passes params tests r ≡ stands (values_of layout.table r)
   sorted_by : Row → Row
-  shows : (r : Row) → ◌≡◌ {A = Output} (output (reading_first a_part.most layout.table.tree tests project order) (params ∷ r ∷ [])) (sorted_by (values_of layout.table r), values_of layout.table r)
-  in_order : (r s : Row) → output_cmp (reading_first a_part.most layout.table.tree tests project order) (sorted_by r, r) (sorted_by s, s) ≡ stored_cmp layout.table false r s
+  shows : (r : Row) → ◌≡◌ {A = Output} (output (reading_first most layout.table.tree tests project order) (params ∷ r ∷ [])) (sorted_by (values_of layout.table r), values_of layout.table r)
+  in_order : (r s : Row) → output_cmp (reading_first most layout.table.tree tests project order) (sorted_by r, r) (sorted_by s, s) ≡ stored_cmp layout.table false r s
 
 module _ {K V : Type 0} (layout : Layout K V) (bind : K → Row) (stands_at : K → Row → Bool) (keyed : IsKeyed layout bind stands_at) where
   agrees : (after : Option K) (v : V) → stands_behind layout bind after (layout.encode v) ≡ is_behind layout after v
   agrees None v = refl
   agrees (Some k) v = ap is_gt (keyed.ordered v k)
 
-  part_of : (params : Row) (text : List ℕ) (after : Option K) → ShowsPart layout params (stands_behind layout bind after) text → ReadsFrontStored a_part layout params (stands_behind layout bind after) (is_behind layout after) text
-  part_of params text after it = record {
+  part_of : (most : ℕ) (params : Row) (text : List ℕ) (after : Option K) → ShowsPart most layout params (stands_behind layout bind after) text → ReadsFrontStored (forward most) layout params (stands_behind layout bind after) (is_behind layout after) text
+  part_of most params text after it = record {
     reads = record {
       tests = it.tests;
       project = it.project;
@@ -157,9 +157,9 @@ module _ {K V : Type 0} (layout : Layout K V) (bind : K → Row) (stands_at : K 
     in_order = it.in_order;
   }
 
-  parts : (texts : PartTexts) → ShowsPart layout [] (λ r. true) texts.first → ((k : K) → ShowsPart layout (bind k) (λ r. is_gt (stored_cmp layout.table false r (bind k))) texts.after) → ReadsParts layout bind texts
-  parts texts first after None = part_of [] texts.first None first
-  parts texts first after (Some k) = part_of (bind k) texts.after (Some k) (after k)
+  parts : (texts : PartTexts) → ShowsPart texts.most layout [] (λ r. true) texts.first → ((k : K) → ShowsPart texts.most layout (bind k) (λ r. is_gt (stored_cmp layout.table false r (bind k))) texts.after) → ReadsParts layout bind texts
+  parts texts first after None = part_of texts.most [] texts.first None first
+  parts texts first after (Some k) = part_of texts.most (bind k) texts.after (Some k) (after k)
 
 -- ---- keys of one number, which is the rowid
 
@@ -169,15 +169,15 @@ by_rowid = (col 1 0, ascending Binary) ∷ []
 abbrev rowid_past : List Term
 rowid_past = op2 (Compare Gt Binary) (col 1 0) (col 0 0) ∷ []
 
-abbrev IsPastNumber : {V : Type 0} → Layout ℕ V → ℕ → List ℕ → Type 0
-IsPastNumber layout k text = ShowsPart layout (bind_number k) (λ r. is_gt (stored_cmp layout.table false r (bind_number k))) text
+abbrev IsPastNumber : {V : Type 0} → ℕ → Layout ℕ V → ℕ → List ℕ → Type 0
+IsPastNumber most layout k text = ShowsPart most layout (bind_number k) (λ r. is_gt (stored_cmp layout.table false r (bind_number k))) text
 
 -- command
 
 abbrev command_shown : List Term
 command_shown = col 1 0 ∷ col 1 2 ∷ col 1 3 ∷ col 1 4 ∷ col 1 5 ∷ col 1 6 ∷ []
 
-command_first : ShowsPart row.command [] (λ r. true) texts.command.first
+command_first : ShowsPart texts.command.most row.command [] (λ r. true) texts.command.first
 unfolding understood everything
 command_first = record {
   tests = [];
@@ -193,7 +193,7 @@ command_first = record {
   in_order = λ r s. refl;
 }
 
-command_after : (k : ℕ) → IsPastNumber row.command k texts.command.after
+command_after : (k : ℕ) → IsPastNumber texts.command.most row.command k texts.command.after
 unfolding understood everything
 command_after k = record {
   tests = rowid_past;
@@ -224,7 +224,7 @@ command = parts row.command bind_number stands_at_number command_keyed texts.com
 abbrev dimension_shown : List Term
 dimension_shown = col 1 0 ∷ col 1 2 ∷ col 1 3 ∷ col 1 4 ∷ col 1 5 ∷ col 1 6 ∷ col 1 7 ∷ col 1 8 ∷ col 1 9 ∷ col 1 10 ∷ col 1 11 ∷ col 1 12 ∷ col 1 13 ∷ col 1 14 ∷ col 1 15 ∷ col 1 16 ∷ col 1 17 ∷ col 1 18 ∷ col 1 19 ∷ []
 
-product_first : ShowsPart row.product [] (λ r. true) texts.product.first
+product_first : ShowsPart texts.product.most row.product [] (λ r. true) texts.product.first
 unfolding understood everything
 product_first = record {
   tests = [];
@@ -240,7 +240,7 @@ product_first = record {
   in_order = λ r s. refl;
 }
 
-product_after : (k : ℕ) → IsPastNumber row.product k texts.product.after
+product_after : (k : ℕ) → IsPastNumber texts.product.most row.product k texts.product.after
 unfolding understood everything
 product_after k = record {
   tests = rowid_past;
@@ -268,7 +268,7 @@ product = parts row.product bind_number stands_at_number product_keyed texts.pro
 
 -- store
 
-store_first : ShowsPart row.store [] (λ r. true) texts.store.first
+store_first : ShowsPart texts.store.most row.store [] (λ r. true) texts.store.first
 unfolding understood everything
 store_first = record {
   tests = [];
@@ -284,7 +284,7 @@ store_first = record {
   in_order = λ r s. refl;
 }
 
-store_after : (k : ℕ) → IsPastNumber row.store k texts.store.after
+store_after : (k : ℕ) → IsPastNumber texts.store.most row.store k texts.store.after
 unfolding understood everything
 store_after k = record {
   tests = rowid_past;
@@ -312,7 +312,7 @@ store = parts row.store bind_number stands_at_number store_keyed texts.store sto
 
 -- customer
 
-customer_first : ShowsPart row.customer [] (λ r. true) texts.customer.first
+customer_first : ShowsPart texts.customer.most row.customer [] (λ r. true) texts.customer.first
 unfolding understood everything
 customer_first = record {
   tests = [];
@@ -328,7 +328,7 @@ customer_first = record {
   in_order = λ r s. refl;
 }
 
-customer_after : (k : ℕ) → IsPastNumber row.customer k texts.customer.after
+customer_after : (k : ℕ) → IsPastNumber texts.customer.most row.customer k texts.customer.after
 unfolding understood everything
 customer_after k = record {
   tests = rowid_past;
@@ -359,7 +359,7 @@ customer = parts row.customer bind_number stands_at_number customer_keyed texts.
 abbrev profile_shown : List Term
 profile_shown = col 1 0 ∷ col 1 2 ∷ col 1 3 ∷ col 1 4 ∷ col 1 5 ∷ col 1 6 ∷ col 1 7 ∷ []
 
-profile_first : ShowsPart row.profile [] (λ r. true) texts.profile.first
+profile_first : ShowsPart texts.profile.most row.profile [] (λ r. true) texts.profile.first
 unfolding understood everything
 profile_first = record {
   tests = [];
@@ -375,7 +375,7 @@ profile_first = record {
   in_order = λ r s. refl;
 }
 
-profile_after : (k : ℕ) → IsPastNumber row.profile k texts.profile.after
+profile_after : (k : ℕ) → IsPastNumber texts.profile.most row.profile k texts.profile.after
 unfolding understood everything
 profile_after k = record {
   tests = rowid_past;
@@ -406,7 +406,7 @@ profile = parts row.profile bind_number stands_at_number profile_keyed texts.pro
 abbrev calendar_shown : List Term
 calendar_shown = col 1 0 ∷ col 1 2 ∷ col 1 3 ∷ col 1 4 ∷ col 1 5 ∷ col 1 6 ∷ col 1 7 ∷ col 1 8 ∷ col 1 9 ∷ col 1 10 ∷ col 1 11 ∷ []
 
-calendar_first : ShowsPart row.calendar [] (λ r. true) texts.calendar.first
+calendar_first : ShowsPart texts.calendar.most row.calendar [] (λ r. true) texts.calendar.first
 unfolding understood everything
 calendar_first = record {
   tests = [];
@@ -422,7 +422,7 @@ calendar_first = record {
   in_order = λ r s. refl;
 }
 
-calendar_after : (k : ℕ) → IsPastNumber row.calendar k texts.calendar.after
+calendar_after : (k : ℕ) → IsPastNumber texts.calendar.most row.calendar k texts.calendar.after
 unfolding understood everything
 calendar_after k = record {
   tests = rowid_past;
@@ -456,7 +456,7 @@ by_text = (col 1 1, ascending Binary) ∷ []
 abbrev meta_shown : List Term
 meta_shown = col 1 1 ∷ col 1 2 ∷ []
 
-meta_first : ShowsPart row.meta [] (λ r. true) texts.meta.first
+meta_first : ShowsPart texts.meta.most row.meta [] (λ r. true) texts.meta.first
 unfolding understood everything
 meta_first = record {
   tests = [];
@@ -472,7 +472,7 @@ meta_first = record {
   in_order = λ r s. refl;
 }
 
-meta_after : (k : List ℕ) → ShowsPart row.meta (bind_text k) (λ r. is_gt (stored_cmp row.meta.table false r (bind_text k))) texts.meta.after
+meta_after : (k : List ℕ) → ShowsPart texts.meta.most row.meta (bind_text k) (λ r. is_gt (stored_cmp row.meta.table false r (bind_text k))) texts.meta.after
 unfolding understood everything
 meta_after k = record {
   tests = op2 (Compare Gt Binary) (col 1 1) (col 0 0) ∷ [];
@@ -511,7 +511,7 @@ two_past first second = op2 (Compare Ge Binary) (col 1 1) first ∷ op2 Or (op2 
 abbrev member_shown : List Term
 member_shown = col 1 1 ∷ col 1 2 ∷ col 1 3 ∷ col 1 4 ∷ []
 
-member_first : ShowsPart row.member [] (λ r. true) texts.member.first
+member_first : ShowsPart texts.member.most row.member [] (λ r. true) texts.member.first
 unfolding understood everything
 member_first = record {
   tests = [];
@@ -527,7 +527,7 @@ member_first = record {
   in_order = λ r s. refl;
 }
 
-member_after : (k : MemberKey) → ShowsPart row.member (bind_member k) (λ r. is_gt (stored_cmp row.member.table false r (bind_member k))) texts.member.after
+member_after : (k : MemberKey) → ShowsPart texts.member.most row.member (bind_member k) (λ r. is_gt (stored_cmp row.member.table false r (bind_member k))) texts.member.after
 unfolding understood everything unary
 member_after k = record {
   tests = two_past (op1 ToNumeric (col 0 0)) (op1 ToNumeric (col 0 1));
@@ -558,7 +558,7 @@ member = parts row.member bind_member stands_at_member member_keyed texts.member
 abbrev change_shown : List Term
 change_shown = col 1 1 ∷ col 1 2 ∷ col 1 3 ∷ col 1 4 ∷ col 1 5 ∷ col 1 6 ∷ col 1 7 ∷ col 1 8 ∷ col 1 9 ∷ col 1 10 ∷ col 1 11 ∷ col 1 12 ∷ []
 
-change_first : ShowsPart row.change [] (λ r. true) texts.change.first
+change_first : ShowsPart texts.change.most row.change [] (λ r. true) texts.change.first
 unfolding understood everything
 change_first = record {
   tests = [];
@@ -574,7 +574,7 @@ change_first = record {
   in_order = λ r s. refl;
 }
 
-change_after : (k : ChangeKey) → ShowsPart row.change (bind_change k) (λ r. is_gt (stored_cmp row.change.table false r (bind_change k))) texts.change.after
+change_after : (k : ChangeKey) → ShowsPart texts.change.most row.change (bind_change k) (λ r. is_gt (stored_cmp row.change.table false r (bind_change k))) texts.change.after
 unfolding understood everything unary
 change_after k = record {
   tests = two_past (op1 ToNumeric (col 0 0)) (op1 ToNumeric (col 0 1));
@@ -605,7 +605,7 @@ change = parts row.change bind_change stands_at_change change_keyed texts.change
 abbrev fact_shown : List Term
 fact_shown = col 1 1 ∷ col 1 2 ∷ col 1 3 ∷ col 1 4 ∷ col 1 5 ∷ col 1 6 ∷ col 1 7 ∷ col 1 8 ∷ col 1 9 ∷ col 1 10 ∷ col 1 11 ∷ col 1 12 ∷ col 1 13 ∷ []
 
-fact_first : ShowsPart row.fact [] (λ r. true) texts.fact.first
+fact_first : ShowsPart texts.fact.most row.fact [] (λ r. true) texts.fact.first
 unfolding understood everything
 fact_first = record {
   tests = [];
@@ -621,7 +621,7 @@ fact_first = record {
   in_order = λ r s. refl;
 }
 
-fact_after : (k : LineKey) → ShowsPart row.fact (bind_line k) (λ r. is_gt (stored_cmp row.fact.table false r (bind_line k))) texts.fact.after
+fact_after : (k : LineKey) → ShowsPart texts.fact.most row.fact (bind_line k) (λ r. is_gt (stored_cmp row.fact.table false r (bind_line k))) texts.fact.after
 unfolding understood everything unary
 fact_after k = record {
   tests = two_past (col 0 0) (op1 ToNumeric (col 0 1));

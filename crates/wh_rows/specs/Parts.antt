@@ -1,5 +1,5 @@
 -- Reading a table in the order of its keys, a part at a time.
-use Rattle.std.specs.Prelude.{◌≡◌, ◌≤◌, ℕ, List, [], filter, length, Bool, true, false, codes, Option, None, Some}
+use Rattle.std.specs.Prelude.{◌≡◌, refl, nat_lt, ◌≤◌, ℕ, List, [], filter, length, Bool, true, false, codes, Option, None, Some}
 use Rattle.std.specs.List.Sorted.{IsPermutation}
 use Rattle.std.specs.Ordering.{is_gt}
 use Rattle.std.specs.declared.cmp.Ordering.TheVariants.{Equal}
@@ -12,14 +12,16 @@ use Rattle.wh_rows.specs.Holds.{Layout}
 use Rattle.wh_rows.specs.Firsts.{Front}
 use Rattle.wh_rows.specs.Raw.{Stored, IsStored, stored_cmp, ReadsFrontStored}
 
--- so many rows are a part
-abbrev pub a_part : Front
-a_part = record { most = 256; backwards = false }
+-- so many rows, in the order of their keys
+abbrev pub forward : ℕ → Front
+forward most = record { most = most; backwards = false }
 
--- the texts that show the first part of a table, and the part after a key
+-- the texts that show the first part of a table, and the part after a key, and how many rows are a part
 pub record PartTexts : Type 0 where
   pub first : List ℕ
   pub after : List ℕ
+  pub most : ℕ
+  pub some : nat_lt 0 most ≡ true
 
 -- ---- the part after a key, or the first where there is no key
 
@@ -43,7 +45,7 @@ stands_behind layout bind (Some key) row = is_gt (stored_cmp layout.table false 
 
 -- what the two texts of a table have to mean
 abbrev pub ReadsParts : {K V : Type 0} → Layout K V → (K → Row) → PartTexts → Type 0
-ReadsParts {K = K} layout bind texts = (after : Option K) → ReadsFrontStored a_part layout (bind_part bind after) (stands_behind layout bind after) (is_behind layout after) (part_text texts after)
+ReadsParts {K = K} layout bind texts = (after : Option K) → ReadsFrontStored (forward texts.most) layout (bind_part bind after) (stands_behind layout bind after) (is_behind layout after) (part_text texts after)
 
 -- ---- keys, and the columns that they are
 
@@ -68,58 +70,79 @@ abbrev pub meta : PartTexts
 meta = record {
   first = codes "SELECT * FROM meta ORDER BY name LIMIT 256";
   after = codes "SELECT * FROM meta WHERE name > ?1 ORDER BY name LIMIT 256";
+  most = 256;
+  some = refl;
 }
 
+-- A command may be a megabyte long, so these are read one at a time.
 abbrev pub command : PartTexts
 command = record {
-  first = codes "SELECT * FROM command ORDER BY number LIMIT 256";
-  after = codes "SELECT * FROM command WHERE number > ?1 ORDER BY number LIMIT 256";
+  first = codes "SELECT * FROM command ORDER BY number LIMIT 1";
+  after = codes "SELECT * FROM command WHERE number > ?1 ORDER BY number LIMIT 1";
+  most = 1;
+  some = refl;
 }
 
 abbrev pub member : PartTexts
 member = record {
   first = codes "SELECT * FROM member ORDER BY dim, durable LIMIT 256";
   after = codes "SELECT * FROM member WHERE dim >= ?1 AND (dim > ?1 OR durable > ?2) ORDER BY dim, durable LIMIT 256";
+  most = 256;
+  some = refl;
 }
 
 abbrev pub change : PartTexts
 change = record {
   first = codes "SELECT * FROM change ORDER BY command, record LIMIT 256";
   after = codes "SELECT * FROM change WHERE command >= ?1 AND (command > ?1 OR record > ?2) ORDER BY command, record LIMIT 256";
+  most = 256;
+  some = refl;
 }
 
 abbrev pub product : PartTexts
 product = record {
   first = codes "SELECT * FROM product ORDER BY surrogate LIMIT 256";
   after = codes "SELECT * FROM product WHERE surrogate > ?1 ORDER BY surrogate LIMIT 256";
+  most = 256;
+  some = refl;
 }
 
 abbrev pub store : PartTexts
 store = record {
   first = codes "SELECT * FROM store ORDER BY surrogate LIMIT 256";
   after = codes "SELECT * FROM store WHERE surrogate > ?1 ORDER BY surrogate LIMIT 256";
+  most = 256;
+  some = refl;
 }
 
 abbrev pub customer : PartTexts
 customer = record {
   first = codes "SELECT * FROM customer ORDER BY surrogate LIMIT 256";
   after = codes "SELECT * FROM customer WHERE surrogate > ?1 ORDER BY surrogate LIMIT 256";
+  most = 256;
+  some = refl;
 }
 
 abbrev pub profile : PartTexts
 profile = record {
   first = codes "SELECT * FROM profile ORDER BY number LIMIT 256";
   after = codes "SELECT * FROM profile WHERE number > ?1 ORDER BY number LIMIT 256";
+  most = 256;
+  some = refl;
 }
 
 abbrev pub calendar : PartTexts
 calendar = record {
   first = codes "SELECT * FROM calendar ORDER BY date_key LIMIT 256";
   after = codes "SELECT * FROM calendar WHERE date_key > ?1 ORDER BY date_key LIMIT 256";
+  most = 256;
+  some = refl;
 }
 
 abbrev pub fact : PartTexts
 fact = record {
   first = codes "SELECT * FROM fact ORDER BY ticket, line LIMIT 256";
   after = codes "SELECT * FROM fact WHERE ticket >= ?1 AND (ticket > ?1 OR line > ?2) ORDER BY ticket, line LIMIT 256";
+  most = 256;
+  some = refl;
 }

@@ -2,6 +2,7 @@
 //! those of `answers`.
 
 pub mod answers;
+pub mod checks;
 pub mod deliveries;
 pub mod reports;
 pub mod trials;

@@ -21,7 +21,7 @@ impl<T: Drop> From<AllocFailed<T>> for NotMade {
 /// A step of a scenario.
 #[derive(Drop)]
 pub struct Step<'a> {
-    /// Which line of the scenario it is, from 1.
+    /// Which line of its text it is, from 1.
     number: usize,
     pub words: &'a str,
     /// The lines that it is handed, each ended.
@@ -69,13 +69,21 @@ fn read_line<'a>(
     Ok(())
 }
 
-/// The steps of a scenario.
-fn steps_of(alloc: Global, text: &str) -> Result<Vec<Step<'_>>, NotMade> {
-    let mut steps = Vec::new(alloc);
+/// Adds the steps of a text.
+fn add_steps<'a>(alloc: Global, steps: &mut Vec<Step<'a>>, text: &'a str) -> Result<(), NotMade> {
     for (place, line) in text.lines().enumerate() {
         if !line.is_empty() && !line.starts_with('#') {
-            read_line(alloc, &mut steps, place.saturating_add(1), line)?;
+            read_line(alloc, steps, place.saturating_add(1), line)?;
         }
+    }
+    Ok(())
+}
+
+/// The steps of a scenario, whose texts follow one another.
+fn steps_of<'a>(alloc: Global, texts: &[&'a str]) -> Result<Vec<Step<'a>>, NotMade> {
+    let mut steps = Vec::new(alloc);
+    for text in texts {
+        add_steps(alloc, &mut steps, text)?;
     }
     Ok(steps)
 }
@@ -115,13 +123,13 @@ fn told_not_made(alloc: Global, step: &Step<'_>) -> Result<String, AllocError> {
 }
 
 /// Makes the steps of a scenario in turn, up to the first that answers otherwise than it must, and tells how its first such line
-/// differs. A text that begins with an answer is no scenario.
+/// differs. A scenario is one text, or several that follow one another; one that begins with an answer is none.
 pub fn difference<D: Driver>(
     alloc: Global,
     mut driver: D,
-    text: &str,
+    texts: &[&str],
 ) -> Result<Option<String>, NotMade> {
-    let steps = steps_of(alloc, text)?;
+    let steps = steps_of(alloc, texts)?;
     for step in &steps {
         let mut answer = String::new(alloc);
         driver = match driver.perform(alloc, step, &mut answer) {

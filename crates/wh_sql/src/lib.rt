@@ -27,7 +27,7 @@ pub use part::Part;
 pub use question::{Question, ask};
 pub use questions::{CommandOf, LastPolicy, MemberOf, ProfileOf, RecordsOf, RowsOf, SalesBetween};
 pub use read::{all, count, get};
-pub use scanned::{PART, PartStatements, Scanned};
+pub use scanned::{PartStatements, Scanned};
 pub use schema::{create, has_tables, has_taken_name};
 pub use tally::{Tally, tally_facts};
 pub use write::{put, rekey, remove};

@@ -7,7 +7,7 @@ use sqlite::types::ValueRef;
 use std::alloc::Global;
 use wh_rows::Cause;
 
-/// The part of a table that stands after a key, or its first part: up to 256 rows in the order of their keys.
+/// The part of a table that stands after a key, or its first part: some rows in the order of their keys.
 #[derive(Debug, Drop)]
 pub struct Part<K> {
     pub after: Option<K>,
@@ -15,12 +15,12 @@ pub struct Part<K> {
 
 impl<T: Scanned> Question<T> for Part<T::Key> {
     ghost use Rattle.std.specs.Prelude.{Some};
-    ghost use Rattle.wh_rows.specs.Parts.{a_part, part_text, bind_part, is_behind, stands_behind};
+    ghost use Rattle.wh_rows.specs.Parts.{forward, part_text, bind_part, is_behind, stands_behind};
     ghost use Rattle.wh_sql.specs.Part.{HasKey};
 
     ghost keep = { λ q. is_behind T.StoredTable.layout q.after };
 
-    ghost front = { Some a_part };
+    ghost front = { Some (forward T.part_texts.most) };
 
     ghost bind = { λ q. bind_part T.Keeps.bind q.after };
 

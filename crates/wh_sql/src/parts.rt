@@ -25,6 +25,7 @@ impl Scanned for tables::Meta {
         PartStatements {
             first: "SELECT * FROM meta ORDER BY name LIMIT 256",
             after: "SELECT * FROM meta WHERE name > ?1 ORDER BY name LIMIT 256",
+            most: 256,
         }
     }
 
@@ -48,8 +49,9 @@ impl Scanned for tables::Command {
 
     fn part_statements() -> PartStatements {
         PartStatements {
-            first: "SELECT * FROM command ORDER BY number LIMIT 256",
-            after: "SELECT * FROM command WHERE number > ?1 ORDER BY number LIMIT 256",
+            first: "SELECT * FROM command ORDER BY number LIMIT 1",
+            after: "SELECT * FROM command WHERE number > ?1 ORDER BY number LIMIT 1",
+            most: 1,
         }
     }
 
@@ -75,6 +77,7 @@ impl Scanned for tables::Member {
         PartStatements {
             first: "SELECT * FROM member ORDER BY dim, durable LIMIT 256",
             after: "SELECT * FROM member WHERE dim >= ?1 AND (dim > ?1 OR durable > ?2) ORDER BY dim, durable LIMIT 256",
+            most: 256,
         }
     }
 
@@ -103,6 +106,7 @@ impl Scanned for tables::Change {
         PartStatements {
             first: "SELECT * FROM change ORDER BY command, record LIMIT 256",
             after: "SELECT * FROM change WHERE command >= ?1 AND (command > ?1 OR record > ?2) ORDER BY command, record LIMIT 256",
+            most: 256,
         }
     }
 
@@ -131,6 +135,7 @@ impl Scanned for tables::Product {
         PartStatements {
             first: "SELECT * FROM product ORDER BY surrogate LIMIT 256",
             after: "SELECT * FROM product WHERE surrogate > ?1 ORDER BY surrogate LIMIT 256",
+            most: 256,
         }
     }
 
@@ -156,6 +161,7 @@ impl Scanned for tables::Store {
         PartStatements {
             first: "SELECT * FROM store ORDER BY surrogate LIMIT 256",
             after: "SELECT * FROM store WHERE surrogate > ?1 ORDER BY surrogate LIMIT 256",
+            most: 256,
         }
     }
 
@@ -181,6 +187,7 @@ impl Scanned for tables::Customer {
         PartStatements {
             first: "SELECT * FROM customer ORDER BY surrogate LIMIT 256",
             after: "SELECT * FROM customer WHERE surrogate > ?1 ORDER BY surrogate LIMIT 256",
+            most: 256,
         }
     }
 
@@ -206,6 +213,7 @@ impl Scanned for tables::Profile {
         PartStatements {
             first: "SELECT * FROM profile ORDER BY number LIMIT 256",
             after: "SELECT * FROM profile WHERE number > ?1 ORDER BY number LIMIT 256",
+            most: 256,
         }
     }
 
@@ -231,6 +239,7 @@ impl Scanned for tables::Calendar {
         PartStatements {
             first: "SELECT * FROM calendar ORDER BY date_key LIMIT 256",
             after: "SELECT * FROM calendar WHERE date_key > ?1 ORDER BY date_key LIMIT 256",
+            most: 256,
         }
     }
 
@@ -256,6 +265,7 @@ impl Scanned for tables::Fact {
         PartStatements {
             first: "SELECT * FROM fact ORDER BY ticket, line LIMIT 256",
             after: "SELECT * FROM fact WHERE ticket >= ?1 AND (ticket > ?1 OR line > ?2) ORDER BY ticket, line LIMIT 256",
+            most: 256,
         }
     }
 

@@ -6,14 +6,12 @@ ghost use Rattle.wh_rows.specs.Parts.{PartTexts, ReadsParts, IsKeyed, StandsOnce
 use crate::keeps::Keeps;
 use std::alloc::AllocError;
 
-/// So many rows are a part.
-pub const PART: usize = 256;
-
-/// The texts that show the first part of a table, and the part after a key.
+/// The texts that show the first part of a table, and the part after a key, and how many rows are a part at the most.
 #[derive(Drop)]
 pub struct PartStatements {
     pub first: &'static str,
     pub after: &'static str,
+    pub most: usize,
 }
 
 /// A table that can be read in the order of its keys, a part at a time.
@@ -21,7 +19,7 @@ pub trait Scanned: Keeps {
     ghost part_texts: { PartTexts };
 
     fn part_statements() -> PartStatements
-        ensures { (result.first.now ≡ part_texts.first) × (result.after.now ≡ part_texts.after) };
+        ensures { (result.first.now ≡ part_texts.first) × (result.after.now ≡ part_texts.after) × (result.most ≡ part_texts.most) };
 
     /// The key at which the row stands.
     fn key_of(row: &Self::Row) -> Result<Self::Key, AllocError>

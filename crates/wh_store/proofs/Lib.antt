@@ -5,3 +5,4 @@ mod Reopened
 pub mod Opened
 pub mod Scanning
 pub mod ScanningStored
+pub mod InMemory

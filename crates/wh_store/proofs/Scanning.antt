@@ -8,7 +8,7 @@ use Rattle.wh_rows.specs.Place.{IsPlaced}
 use Rattle.wh_rows.specs.Tables.{Tables}
 use Rattle.wh_rows.specs.AtRest.{IsAtRest}
 use Rattle.wh_rows.specs.Firsts.{part}
-use Rattle.wh_rows.specs.Parts.{a_part, is_behind}
+use Rattle.wh_rows.specs.Parts.{forward, is_behind}
 use Rattle.wh_rows.proofs.Behind.{part_and_rest}
 use Rattle.std.specs.List.{list_all}
 use Rattle.std.proofs.lemmas.Bool.{and_parts}
@@ -17,11 +17,11 @@ use Rattle.wh_store.specs.Scan.{HandsOut}
 
 module _ {K V : Type 0} (layout : Layout K V) (rows : Tables → FinMap layout.order V) (with_rows : FinMap layout.order V → Tables → Tables) (placed : IsPlaced layout rows with_rows) (s : State) (t : Tables) (at : IsAtRest (Some t) s) where
   -- a part that was read and what is after its last row are what was left
-  pub part_read : (after next : Option K) (read : List V) (n : ℕ) → read ≡ part (Some a_part) (filter (is_behind layout after) (values (rows t))) → next ≡ option_map layout.key (slice_get read (length read - 1)) → n ≡ length read
-      → read ++ (if nat_lt n 256 then [] else filter (is_behind layout next) (values (rows t))) ≡ filter (is_behind layout after) (values (rows t))
-  part_read after next read n are last long =
-      ap (λ (k : Option K). read ++ (if nat_lt n 256 then [] else filter (is_behind layout k) (values (rows t)))) last
-      ∙ part_and_rest layout placed.total (rows t) (placed.held s.now t at.now.tables).keyed after 256 (omega arith) read are (nat_lt n 256) (λ short. grind (arith, long, short)) (λ full. grind (arith, long, full))
+  pub part_read : (most : ℕ) → nat_lt 0 most ≡ true → (after next : Option K) (read : List V) (n : ℕ) → read ≡ part (Some (forward most)) (filter (is_behind layout after) (values (rows t))) → next ≡ option_map layout.key (slice_get read (length read - 1)) → n ≡ length read
+      → read ++ (if nat_lt n most then [] else filter (is_behind layout next) (values (rows t))) ≡ filter (is_behind layout after) (values (rows t))
+  part_read most some after next read n are last long =
+      ap (λ (k : Option K). read ++ (if nat_lt n most then [] else filter (is_behind layout k) (values (rows t)))) last
+      ∙ part_and_rest layout placed.total (rows t) (placed.held s.now t at.now.tables).keyed after most (grind (arith, some)) read are (nat_lt n most) (λ short. grind (arith, long, short)) (λ full. grind (arith, long, full))
 
 -- the first of the rows that were read ahead is handed out
 pub handed : {V : Type 0} (found : Option V) (items rest unread : List V) (is_over : Bool) → items ≡ option_to_list found ++ rest → (items ≡ [] → is_over ≡ true) → (found ≡ None → rest ≡ [])

@@ -4,7 +4,7 @@ use Rattle.std.specs.Option.{option_to_list}
 use Rattle.sqlite.specs.Order.{Row}
 use Rattle.wh_rows.specs.Holds.{Layout}
 use Rattle.wh_rows.specs.Raw.{IsFrontOf}
-use Rattle.wh_rows.specs.Parts.{a_part, stands_behind, IsKeyed, IsArranged}
+use Rattle.wh_rows.specs.Parts.{forward, stands_behind, IsKeyed, IsArranged}
 use Rattle.wh_rows.proofs.Edits.{filter_all}
 use Rattle.wh_rows.proofs.Behind.{ends_in}
 use Rattle.wh_rows.proofs.BehindStored.{short_part, part_then_rest, nil_after}
@@ -12,23 +12,23 @@ use Rattle.wh_store.specs.Scan.{AreUnread, AreAheadOf, HandsOutSo}
 
 module _ {K V : Type 0} (layout : Layout K V) (bind : K → Row) (stands_at : K → Row → Bool) (keyed : IsKeyed layout bind stands_at) (stored : List Row) (once : (k : K) → length (filter (stands_at k) stored) ≤ 1) where
   -- a part that was read, and what is after its last row, are what was left
-  pub part_left : (after next : Option K) (read : List V) (n : ℕ) → IsFrontOf a_part layout.table (filter (stands_behind layout bind after) stored) (map layout.encode read)
-      → next ≡ option_map layout.key (slice_get read (length read - 1)) → n ≡ length read → (unread : List Row) → AreUnread layout bind stored next (nat_lt n 256) unread
+  pub part_left : (most : ℕ) → nat_lt 0 most ≡ true → (after next : Option K) (read : List V) (n : ℕ) → IsFrontOf (forward most) layout.table (filter (stands_behind layout bind after) stored) (map layout.encode read)
+      → next ≡ option_map layout.key (slice_get read (length read - 1)) → n ≡ length read → (unread : List Row) → AreUnread layout bind stored next (nat_lt n most) unread
       → IsArranged layout.table (filter (stands_behind layout bind after) stored) (map layout.encode read ++ unread)
-  part_left after next read n front last long unread are = go (nat_lt n 256) refl read front last long are
+  part_left most some after next read n front last long unread are = go (nat_lt n most) refl read front last long are
     where
-      go : (is_short : Bool) → nat_lt n 256 ≡ is_short → (vs : List V) → IsFrontOf a_part layout.table (filter (stands_behind layout bind after) stored) (map layout.encode vs)
+      go : (is_short : Bool) → nat_lt n most ≡ is_short → (vs : List V) → IsFrontOf (forward most) layout.table (filter (stands_behind layout bind after) stored) (map layout.encode vs)
           → next ≡ option_map layout.key (slice_get vs (length vs - 1)) → n ≡ length vs → AreUnread layout bind stored next is_short unread
           → IsArranged layout.table (filter (stands_behind layout bind after) stored) (map layout.encode vs ++ unread)
       go true is vs front last long are =
-          let few : length vs < 256 = grind (arith, long, is) in
+          let few : length vs < most = grind (arith, long, is) in
           subst (IsArranged layout.table (filter (stands_behind layout bind after) stored)) (sym (nil_after (map layout.encode vs)) ∙ ap (λ l. map layout.encode vs ++ l) (sym are))
-          (short_part layout bind stands_at keyed stored once after vs front few)
-      go false is [] front last long are = absurd (let full : 256 ≤ n = grind (arith, is) in omega (arith, full, long))
+          (short_part layout bind stands_at keyed stored once most after vs front few)
+      go false is [] front last long are = absurd (let full : most ≤ n = grind (arith, is) in let one : 0 < most = grind (arith, some) in omega (arith, full, one, long))
       go false is (v ∷ vs) front last long are =
           let end = ends_in v vs in
           let next_is : next ≡ Some (layout.key end.last) = last ∙ ap (option_map layout.key) end.found in
-          part_then_rest layout bind stands_at keyed stored once after (v ∷ vs) front end.before end.last end.is unread
+          part_then_rest layout bind stands_at keyed stored once most after (v ∷ vs) front end.before end.last end.is unread
           (subst (λ (k : Option K). IsArranged layout.table (filter (stands_behind layout bind k) stored) unread) next_is are)
 
 module _ {K V : Type 0} (layout : Layout K V) (bind : K → Row) (stored : List Row) (after : Option K) (is_over : Bool) where

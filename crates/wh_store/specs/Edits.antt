@@ -1,5 +1,5 @@
 -- Edits of one table, one after the other.
-use Rattle.std.specs.Prelude.{◌≡◌, ℕ, List, [], ◌∷◌, IsTrue, ⊤}
+use Rattle.std.specs.Prelude.{◌≡◌, ℕ, List, IsTrue, ⊤}
 use Rattle.std.specs.FinMap.{FinMap, remove}
 use Rattle.sqlite.specs.Order.{Row}
 use Rattle.wh_history.specs.declared.plan.Edit.{Edit}

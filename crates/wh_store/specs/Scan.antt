@@ -1,5 +1,6 @@
 -- The rows that a scan has still to hand out.
 use Rattle.std.specs.Prelude.{◌≡◌, List, [], ◌∷◌, ◌++◌, map, filter, Bool, true, false, Option, None, Some, if◌then◌else◌, IsTrue}
+use Rattle.std.specs.List.{list_all}
 use Rattle.std.specs.FinMap.{FinMap, values}
 use Rattle.std.specs.Vec.Iter.{into_iter_items}
 use Rattle.sqlite.specs.Order.{Row}
@@ -42,3 +43,7 @@ HandsOutSo layout bind stored ahead after is_over (Some row) WasLeft = (left : L
 
 abbrev pub HandsOutOf : {K V : Type 0} → Layout K V → (K → Row) → List Row → Cursor K V → Option V → Cursor K V → Type 0
 HandsOutOf layout bind stored before found after = HandsOutSo layout bind stored (into_iter_items after.ahead) after.unread.after after.is_over found (AreLeft layout bind stored before)
+
+-- those that were read ahead are of their types
+abbrev pub AreValid : {K V : Type 0} → Layout K V → Cursor K V → Type 0
+AreValid layout cursor = IsTrue (list_all layout.is_valid (into_iter_items cursor.ahead))

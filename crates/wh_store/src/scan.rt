@@ -1,24 +1,24 @@
 //! The rows of a table, one at a time.
 
-ghost use Rattle.std.specs.Prelude.{◌≡◌, List, [], ◌-◌, false, Ok, None, Some, Option, option_map, slice_get, length, filter, IsTrue, IfOk, IfErr, OnErr};
+ghost use Rattle.std.specs.Prelude.{◌≡◌, List, [], ◌-◌, false, Ok, None, Some, Option, option_map, slice_get, length, filter, IsTrue, IfSome, IfOk, IfErr, OnErr};
 ghost use Rattle.std.specs.FinMap.{FinMap, values};
 ghost use Rattle.std.specs.Vec.Iter.{into_iter_items};
 ghost use Rattle.sqlite.specs.State.{HasCleanDisk};
 ghost use Rattle.wh_rows.specs.Holds.{Layout};
 ghost use Rattle.wh_rows.specs.Tables.{Tables as TenTables};
-ghost use Rattle.wh_rows.specs.Parts.{a_part, part_text, bind_part, stands_behind, IsArranged};
+ghost use Rattle.wh_rows.specs.Parts.{forward, part_text, bind_part, stands_behind, IsArranged};
 ghost use Rattle.wh_rows.specs.Raw.{Stored};
 ghost use Rattle.sqlite.specs.Order.{Row as Columns};
 ghost use Rattle.wh_sql.specs.Part.{HasKey};
 ghost use Rattle.wh_sql.specs.Reads.{ReadsOnly, IsOfAskedDamage, FailsToShow};
 ghost use Rattle.wh_store.specs.Reads.{state_of, SaysAtRest, SaysAsStored};
-ghost use Rattle.wh_store.specs.Scan.{rows_left, HandsOut, IsOver, AreLeft, HandsOutOf};
+ghost use Rattle.wh_store.specs.Scan.{rows_left, HandsOut, IsOver, AreLeft, HandsOutOf, AreValid};
 
 use crate::tables::Tables;
 use sqlite::Alter;
 use std::alloc::{AllocError, Global};
 use std::vec::IntoIter;
-use wh_sql::{PART, Part, ReadFault, Scanned};
+use wh_sql::{Part, ReadFault, Scanned};
 
 /// How far a scan of a table has come.
 #[derive(Drop)]
@@ -70,9 +70,11 @@ fn read_ahead<T: Scanned, S: Alter>(
     ensures stored { SaysAsStored (state_of S.Store tables.old) (state_of S.Store tables.new) (λ stored. IfOk result (λ _. cursor.old.is_over ≡ false → into_iter_items cursor.old.ahead ≡ [] → (left : List Columns)
         → AreLeft T.StoredTable.layout T.Keeps.bind (stored T.Keeps.name) cursor.new left → AreLeft T.StoredTable.layout T.Keeps.bind (stored T.Keeps.name) cursor.old left)) }
     // A row of the part that is damaged is reported.
-    ensures damaged { SaysAsStored (state_of S.Store tables.old) (state_of S.Store tables.new) (λ stored. IfErr result (IsOfAskedDamage (Some a_part) T.StoredTable.layout T.Keeps.name (filter (stands_behind T.StoredTable.layout T.Keeps.bind cursor.old.unread.after) (stored T.Keeps.name)))) }
+    ensures damaged { SaysAsStored (state_of S.Store tables.old) (state_of S.Store tables.new) (λ stored. IfErr result (IsOfAskedDamage (Some (forward T.part_texts.most)) T.StoredTable.layout T.Keeps.name (filter (stands_behind T.StoredTable.layout T.Keeps.bind cursor.old.unread.after) (stored T.Keeps.name)))) }
     ensures refused { HasCleanDisk (state_of S.Store tables.new) → HasKey T.StoredTable.layout cursor.old.unread.after → IfErr result (FailsToShow T.StoredTable.layout T.Keeps.name (part_text T.part_texts cursor.old.unread.after) (bind_part T.Keeps.bind cursor.old.unread.after) (state_of S.Store tables.old) (state_of S.Store tables.new)) }
     ensures keyed { SaysAsStored (state_of S.Store tables.old) (state_of S.Store tables.new) (λ _. IfOk result (λ _. HasKey T.StoredTable.layout cursor.new.unread.after)) }
+    // All that is read ahead is of its type.
+    ensures valid { SaysAsStored (state_of S.Store tables.old) (state_of S.Store tables.new) (λ _. IfOk result (λ _. AreValid T.StoredTable.layout cursor.new)) }
     // Nothing is read ahead only where nothing is left.
     ensures short { IfOk result (λ _. into_iter_items cursor.new.ahead ≡ [] → IsTrue cursor.new.is_over) }
     ensures ended { into_iter_items cursor.old.ahead ≡ [] → OnErr result (IsOver cursor.new) }
@@ -80,7 +82,7 @@ fn read_ahead<T: Scanned, S: Alter>(
     cursor.is_over = true;
     let rows = tables.ask::<T, Part<T::Key>>(alloc, &cursor.unread)?;
     let after = last_key::<T>(&rows)?;
-    let is_over = rows.len() < PART;
+    let is_over = rows.len() < T::part_statements().most;
     cursor.ahead = rows.into_iter();
     cursor.unread = Part { after };
     cursor.is_over = is_over;
@@ -97,8 +99,10 @@ pub fn next_row<T: Scanned, S: Alter>(
     ensures rows { SaysAtRest (state_of S.Store tables.old) (state_of S.Store tables.new) (λ t. IfOk result (λ found. HandsOut (rows_left T.StoredTable.layout (T.StoredTable.rows t) cursor.old) found (rows_left T.StoredTable.layout (T.StoredTable.rows t) cursor.new))) }
     // Of any rows, whoever wrote them, none is missed and none comes twice.
     ensures stored { SaysAsStored (state_of S.Store tables.old) (state_of S.Store tables.new) (λ stored. IfOk result (λ found. HandsOutOf T.StoredTable.layout T.Keeps.bind (stored T.Keeps.name) cursor.old found cursor.new)) }
+    // What is handed out is of its type.
+    ensures valid { SaysAsStored (state_of S.Store tables.old) (state_of S.Store tables.new) (λ _. AreValid T.StoredTable.layout cursor.old → IfOk result (λ found. IfSome found (λ row. IsTrue (T.StoredTable.layout.is_valid row)) × AreValid T.StoredTable.layout cursor.new)) }
     // A damaged row is reported with the part that it is in.
-    ensures damaged { SaysAsStored (state_of S.Store tables.old) (state_of S.Store tables.new) (λ stored. IfErr result (IsOfAskedDamage (Some a_part) T.StoredTable.layout T.Keeps.name (filter (stands_behind T.StoredTable.layout T.Keeps.bind cursor.old.unread.after) (stored T.Keeps.name)))) }
+    ensures damaged { SaysAsStored (state_of S.Store tables.old) (state_of S.Store tables.new) (λ stored. IfErr result (IsOfAskedDamage (Some (forward T.part_texts.most)) T.StoredTable.layout T.Keeps.name (filter (stands_behind T.StoredTable.layout T.Keeps.bind cursor.old.unread.after) (stored T.Keeps.name)))) }
     ensures refused { HasCleanDisk (state_of S.Store tables.new) → HasKey T.StoredTable.layout cursor.old.unread.after → IfErr result (FailsToShow T.StoredTable.layout T.Keeps.name (part_text T.part_texts cursor.old.unread.after) (bind_part T.Keeps.bind cursor.old.unread.after) (state_of S.Store tables.old) (state_of S.Store tables.new)) }
     ensures keyed { SaysAsStored (state_of S.Store tables.old) (state_of S.Store tables.new) (λ _. HasKey T.StoredTable.layout cursor.old.unread.after → IfOk result (λ _. HasKey T.StoredTable.layout cursor.new.unread.after)) }
     ensures ended { OnErr result (IsOver cursor.new) }
@@ -131,7 +135,7 @@ impl<'t, S: Alter, T: Scanned> Scan<'t, S, T> {
         // Of any rows, whoever wrote them, none is missed and none comes twice.
         ensures stored { SaysAsStored (state_of S.Store self.old.tables.now) (state_of S.Store self.new.tables.now) (λ stored. IfOk result (λ found. HandsOutOf T.StoredTable.layout T.Keeps.bind (stored T.Keeps.name) self.old.cursor found self.new.cursor)) }
         // A damaged row is reported with the part that it is in.
-        ensures damaged { SaysAsStored (state_of S.Store self.old.tables.now) (state_of S.Store self.new.tables.now) (λ stored. IfErr result (IsOfAskedDamage (Some a_part) T.StoredTable.layout T.Keeps.name (filter (stands_behind T.StoredTable.layout T.Keeps.bind self.old.cursor.unread.after) (stored T.Keeps.name)))) }
+        ensures damaged { SaysAsStored (state_of S.Store self.old.tables.now) (state_of S.Store self.new.tables.now) (λ stored. IfErr result (IsOfAskedDamage (Some (forward T.part_texts.most)) T.StoredTable.layout T.Keeps.name (filter (stands_behind T.StoredTable.layout T.Keeps.bind self.old.cursor.unread.after) (stored T.Keeps.name)))) }
         ensures refused { HasCleanDisk (state_of S.Store self.new.tables.now) → HasKey T.StoredTable.layout self.old.cursor.unread.after → IfErr result (FailsToShow T.StoredTable.layout T.Keeps.name (part_text T.part_texts self.old.cursor.unread.after) (bind_part T.Keeps.bind self.old.cursor.unread.after) (state_of S.Store self.old.tables.now) (state_of S.Store self.new.tables.now)) }
         ensures keyed { SaysAsStored (state_of S.Store self.old.tables.now) (state_of S.Store self.new.tables.now) (λ _. HasKey T.StoredTable.layout self.old.cursor.unread.after → IfOk result (λ _. HasKey T.StoredTable.layout self.new.cursor.unread.after)) }
         ensures ended { OnErr result (IsOver self.new.cursor) }

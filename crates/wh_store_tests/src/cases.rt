@@ -21,7 +21,7 @@ use wh_scenarios::difference;
 
 /// Fails where a step of a scenario answers otherwise than it must, with the first line that differs.
 fn check_store(rt: &impl Abort, alloc: Global, scenario: &str) -> Result<(), Fail> {
-    let found = difference(alloc, StoreDriver::new(), scenario)?;
+    let found = difference(alloc, StoreDriver::new(), &[scenario])?;
     let line = match &found {
         Some(line) => line.as_str(),
         None => "",

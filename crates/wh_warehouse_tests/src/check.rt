@@ -10,7 +10,7 @@ pub fn check<D: Driver>(
     rt: &impl Abort,
     alloc: Global,
     driver: D,
-    scenario: &str,
+    scenario: &[&str],
 ) -> Result<(), Fail> {
     let found = difference(alloc, driver, scenario)?;
     let line = match &found {

@@ -15,7 +15,7 @@
 //! - `batch p1`: one of the batches of `batches`, by its id; `load p0 p8`: those from one to another, of which it answers those that aren't
 //!   accepted;
 //! - `plan KIND ID`: what such a command would write, a line an edit; `writes`: how many keys the last command wrote;
-//! - `counts`; `policy`: the last year, and how many attributes a product has;
+//! - `counts`; `check`; `policy`: the last year, and how many attributes a product has;
 //! - `table NAME`: the rows of a table; `command NUMBER`: the row of a command;
 //! - `mark`: remembers all ten tables; `same`: whether they are as they were then;
 //! - `close`, which leaves the database.
@@ -24,7 +24,7 @@
 //!
 //! Files take what a warehouse does but `mark`, `same` and `close`, each step over a connection of its own, `init POLICY`, and
 //! - `stops log STEP`, `stops database STEP`: the disk of the log or of the database file stops at each call of the step in turn, which is an
-//!   `init`, a `send` or a `deliver`, and then the machine crashes. What is found is as before, or, where it was answered so, as after, and between the two only for a delivery;
+//!   `init`, a `send`, a `deliver` or a `check`, and then the machine crashes. What is found is clean, and as before, or, where it was answered so, as after, and between the two only for a delivery;
 //!   the step made again leads to what it leads to with no stop; and an engine whose store refused a call answers nothing more.
 //!
 //! Two stand alone. For `redeliver POLICY KIND ID` a warehouse is made in files, is sent a command, the machine crashes, and the command is sent again.

@@ -6,7 +6,7 @@
 //! - `many NAME NUMBER`: a batch of so many products; `long NAME NUMBER`: so many letters.
 //!
 //! A run has the words of its step, parted by blanks, and then those that it is handed, each a line. A file's name is no warehouse's.
-//! - `run WORDS` answers the lines that were printed, and the status; `lines WORDS` how many lines they are, and the status; `ended WORDS`
+//! - `run WORDS` answers the lines that were printed, and the status, and, of a warehouse that it wrote to, what a check prints where it isn't clean; `lines WORDS` how many lines they are, and the status; `ended WORDS`
 //!   the status, and whether anything was printed.
 //! - `breaks BYTES WORDS` makes the run again and again, on a page that takes so many bytes a call and fails from a call on, or at a call
 //!   alone. It answers how many calls there are, and what was written.

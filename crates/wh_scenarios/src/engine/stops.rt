@@ -115,3 +115,37 @@ stops database send migrate m1
 > small-overwritten
 = before, or after
 ";
+
+pub const CHECK_LOG: &str = "\
+files
+init small
+= made
+send product p1
+> id,day,brand
+> P1,2024-02-01,Acme
+= accepted 2: 1 records, 0 placeholders
+send sales s1
+> ticket,line,day,store,product,customer,quantity,amount,cost
+> T1,1,2024-03-05,S1,P1,,1,2.50,1.60
+= accepted 3: 1 records, 1 placeholders
+check
+= clean
+stops log check
+= before, or after
+";
+
+pub const CHECK_DATABASE: &str = "\
+files
+init small
+= made
+send product p1
+> id,day,brand
+> P1,2024-02-01,Acme
+= accepted 2: 1 records, 0 placeholders
+send sales s1
+> ticket,line,day,store,product,customer,quantity,amount,cost
+> T1,1,2024-03-05,S1,P1,,1,2.50,1.60
+= accepted 3: 1 records, 1 placeholders
+stops database check
+= before, or after
+";

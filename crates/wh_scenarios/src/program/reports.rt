@@ -1,6 +1,7 @@
 //! Reports and dumps of a warehouse.
 
-pub const WORKED: &str = r#"
+/// The policies and the batches of the worked scenarios.
+pub const FILES: &str = r#"
 # The policy, the same with a brand that is overwritten, and with two attributes exchanged.
 policy policy.toml name = "tier"|type = 2->name = "tier"|type = 2|[[customer]]|name = "age_band"|type = 5|[[customer]]|name = "spend_band"|type = 5
 policy m1.toml name = "brand"|type = 2->name = "brand"|type = 1 and name = "tier"|type = 2->name = "tier"|type = 2|[[customer]]|name = "age_band"|type = 5|[[customer]]|name = "spend_band"|type = 5
@@ -71,7 +72,10 @@ file s5.csv
 file s6.csv
 > ticket,line,day,store,product,customer,quantity,amount,cost
 > T5,1,2027-01-01,S1,P1,,1,2.50,1.60
+"#;
 
+/// After the files.
+pub const WORKED: &str = r#"
 # A warehouse is made once. A batch without records, and one of no bytes.
 run init w policy.toml
 = accepted 1 init: 0 records, 0 placeholders

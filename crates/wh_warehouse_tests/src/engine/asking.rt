@@ -13,10 +13,11 @@ use wh_batch::Kind;
 use wh_day::Value;
 use wh_engine::{
     Command, CommandKind, Counts, Engine, Fault, InitFault, OpenFault, Receipt, Refused, Reply,
+    Verdict,
 };
 use wh_policy::{Dim, Policy};
 use wh_scenarios::engine::policies::policy;
-use wh_scenarios::parted;
+use wh_scenarios::{parted, push_line};
 
 fn kind_of(word: &str) -> Result<CommandKind, Trouble> {
     match word {
@@ -81,6 +82,7 @@ pub fn ask<S: Alter>(
         "plan" => plan(alloc, engine, rest, handed, out),
         "writes" => Ok(push_count(out, "written", engine.writes())?),
         "counts" => counts(alloc, engine, out),
+        "check" => check(alloc, engine, out),
         "policy" => push_policy(out, engine.policy()),
         _ => Err(Trouble),
     }
@@ -166,6 +168,15 @@ pub fn counts<S: Alter>(
 ) -> Result<(), Trouble> {
     match engine.counts(alloc) {
         Ok(counts) => Ok(push_counts(out, &counts)?),
+        Err(fault) => Ok(write!(out, "{fault:?}\n")?),
+    }
+}
+
+/// What a check finds.
+fn check<S: Alter>(alloc: Global, engine: &mut Engine<S>, out: &mut String) -> Result<(), Trouble> {
+    match engine.check(alloc) {
+        Ok(Verdict::Clean) => Ok(push_line(out, "clean")?),
+        Ok(Verdict::Wrong(table)) => Ok(write!(out, "wrong: {table:?}\n")?),
         Err(fault) => Ok(write!(out, "{fault:?}\n")?),
     }
 }

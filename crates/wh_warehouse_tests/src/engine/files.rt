@@ -13,7 +13,7 @@ use sqlite::{Alter, Connection, FileStore, Files, Options};
 use sqlite_disk::{Crash, Disk, Fuse, Memory};
 use std::alloc::Global;
 use wh_engine::{
-    Command, Engine, Fault, InitFault, OpenFault, Replies, Reply, deliver_again, redeliver,
+    Command, Engine, Fault, InitFault, OpenFault, Replies, Reply, Verdict, deliver_again, redeliver,
 };
 use wh_rows::Limits;
 use wh_scenarios::{parted, push_line};
@@ -41,7 +41,7 @@ enum Task<'a> {
     Init(&'a str),
     /// What a table holds is told.
     Look(&'a str),
-    /// All ten tables are told, and nothing where there is no warehouse.
+    /// All ten tables are told, which must be clean, and nothing where there is no warehouse.
     Find,
     /// A work is tried: `done`, `refused`, `stopped` by the store, or `served` in spite of that.
     Attempt(Work<'a>),
@@ -58,7 +58,7 @@ fn perform<S: Alter + Drop>(
         Task::Ask(work) => ask_over(alloc, conn, work),
         Task::Init(name) => init_over(alloc, conn, name),
         Task::Look(words) => look_over(alloc, conn, words),
-        Task::Find => find_over(alloc, conn),
+        Task::Find => find_clean(alloc, conn),
         Task::Attempt(work) => attempt_over(alloc, conn, work),
         Task::Recover(work, run) => recover_over(alloc, conn, work, run),
     }
@@ -113,6 +113,18 @@ fn find_over<S: Alter + Drop>(alloc: Global, conn: Connection<S>) -> (Connection
     }
 }
 
+/// The same, where a warehouse must be clean.
+fn find_clean<S: Alter + Drop>(alloc: Global, conn: Connection<S>) -> (Connection<S>, Answer) {
+    match Engine::open(alloc, conn) {
+        Ok(mut engine) => match engine.check(alloc) {
+            Ok(Verdict::Clean) => all_over(alloc, engine.close()),
+            _ => (engine.close(), Err(Trouble)),
+        },
+        Err((OpenFault::NotAWarehouse, conn)) => (conn, word(alloc, "")),
+        Err((_, conn)) => (conn, Err(Trouble)),
+    }
+}
+
 fn attempt_over<S: Alter + Drop>(
     alloc: Global,
     conn: Connection<S>,
@@ -123,6 +135,7 @@ fn attempt_over<S: Alter + Drop>(
         "init" => try_making(alloc, conn, rest),
         "send" => try_sending(alloc, conn, rest, work.handed),
         "deliver" => try_delivering(alloc, conn, work.handed),
+        "check" => try_checking(alloc, conn),
         _ => (conn, Err(Trouble)),
     }
 }
@@ -172,6 +185,36 @@ fn try_delivering<S: Alter + Drop>(
             (engine.close(), answer)
         }
         Err((_, conn)) => (conn, Err(Trouble)),
+    }
+}
+
+fn try_checking<S: Alter + Drop>(alloc: Global, conn: Connection<S>) -> (Connection<S>, Answer) {
+    match Engine::open(alloc, conn) {
+        Ok(mut engine) => {
+            let verdict = engine.check(alloc);
+            let word_of = word_of_verdict(alloc, &mut engine, verdict);
+            (engine.close(), word(alloc, word_of))
+        }
+        Err((_, conn)) => (conn, Err(Trouble)),
+    }
+}
+
+/// What a check came to. Where the store refused a call, the engine must answer `Reopen` from then on.
+fn word_of_verdict<S: Alter>(
+    alloc: Global,
+    engine: &mut Engine<S>,
+    verdict: Result<Verdict, Fault>,
+) -> &'static str {
+    match verdict {
+        Ok(Verdict::Clean) => "done",
+        Err(Fault::Store(_)) => {
+            if counts_nothing(alloc, engine) && must_reopen(&engine.check(alloc)) {
+                "stopped"
+            } else {
+                "served"
+            }
+        }
+        _ => "refused",
     }
 }
 
@@ -238,14 +281,14 @@ fn word_of<S: Alter>(
     }
 }
 
-/// What is found of a work, which is then done again and must lead to what it led to with no stop.
+/// What is found of a work, clean, which is then done again and must lead to what it led to with no stop.
 fn recover_over<S: Alter + Drop>(
     alloc: Global,
     conn: Connection<S>,
     work: Work<'_>,
     run: &Run,
 ) -> (Connection<S>, Answer) {
-    let (conn, found) = find_over(alloc, conn);
+    let (conn, found) = find_clean(alloc, conn);
     let (conn, answer) = attempt_over(alloc, conn, work);
     let (conn, again) = find_over(alloc, conn);
     (conn, word(alloc, judged(run, &found, &answer, &again)))

@@ -22,5 +22,5 @@ use std::test::Fail;
 
 /// Fails where a step of a scenario answers something else.
 fn check_engine(rt: &impl Abort, alloc: Global, text: &str) -> Result<(), Fail> {
-    check(rt, alloc, EngineDriver::new(alloc), text)
+    check(rt, alloc, EngineDriver::new(alloc), &[text])
 }

@@ -64,7 +64,36 @@ pub fn run_step(
     let words = words_of(alloc, line, handed)?;
     let (status, printed) = run_on(alloc, host, &words);
     push_printed(out, &printed)?;
-    Ok(push_status(out, status)?)
+    push_status(out, status)?;
+    if status == 0 {
+        push_unclean(alloc, host, &words, out)?;
+    }
+    Ok(())
+}
+
+/// The file of a warehouse that such words write to.
+fn written_file<'a>(words: &[&'a str]) -> Option<&'a str> {
+    match words {
+        ["init" | "load" | "migrate" | "deliver", file, ..] => Some(*file),
+        _ => None,
+    }
+}
+
+/// What a check prints of a warehouse that was written to, where it isn't clean.
+fn push_unclean(
+    alloc: Global,
+    host: &mut MemoryHost,
+    words: &[&str],
+    out: &mut String,
+) -> Result<(), AllocError> {
+    let Some(file) = written_file(words) else {
+        return Ok(());
+    };
+    let (_, printed) = run_on(alloc, host, &["check", file]);
+    if printed.as_slice() == b"clean\n".as_slice() {
+        return Ok(());
+    }
+    push_printed(out, &printed)
 }
 
 /// `lines WORDS`.

@@ -1,6 +1,7 @@
 //! The scenarios of `wh_scenarios::program`, each with its test.
 
 mod answers;
+mod checks;
 mod deliveries;
 mod reports;
 mod trials;
@@ -13,6 +14,6 @@ use std::process::Abort;
 use std::test::Fail;
 
 /// Fails where a step of a scenario answers otherwise than it must.
-fn check_program(rt: &impl Abort, alloc: Global, text: &str) -> Result<(), Fail> {
-    check(rt, alloc, ProgramDriver::new(alloc), text)
+fn check_program(rt: &impl Abort, alloc: Global, texts: &[&str]) -> Result<(), Fail> {
+    check(rt, alloc, ProgramDriver::new(alloc), texts)
 }

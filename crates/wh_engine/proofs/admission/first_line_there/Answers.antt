@@ -1,8 +1,8 @@
 use Rattle.std.proofs.Common.{◌∙◌, ◌+◌, ◌∷◌, drop, sym, ap}
 use Rattle.std.proofs.lemmas.List.{at_drop_all, at_drop_more}
 use Rattle.wh_history.specs.Accepted.{sold}
-use Rattle.wh_engine.specs.Admission.{first_line_there}
-use Rattle.wh_engine.proofs.SameLines.{none_first, this_first}
+use Rattle.wh_admission.specs.Admission.{first_line_there}
+use Rattle.wh_admission.proofs.SameLines.{none_first, this_first}
 use Rattle.wh_engine.proofs.admission.first_line_there.Goals as goal
 
 pub returns-then-branch-clause-there : goal.returns-then-branch-clause-there

@@ -2,7 +2,7 @@ use Rattle.std.proofs.Common.{◌≡◌, ◌+◌, drop, Ok}
 use Rattle.wh_history.specs.Accepted.{sold}
 use Rattle.wh_store.specs.Reads.{ReadsOnly, state_of}
 use Rattle.wh_plan.specs.Reads.{Finds}
-use Rattle.wh_engine.specs.Admission.{first_line_there}
+use Rattle.wh_admission.specs.Admission.{first_line_there}
 use Rattle.wh_engine.proofs.admission.first_line_there.Given as goal
 
 -- the first line among the sales that are left, counted on, is the first among all

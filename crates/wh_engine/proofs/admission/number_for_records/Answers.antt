@@ -2,7 +2,7 @@ use Rattle.std.proofs.Common.{◌≡◌, ◌∙◌, ◌<◌, ◌≤◌, ◌+◌,
 use Rattle.std.specs.FinMap.{len}
 use Rattle.std.proofs.lemmas.Bool.{leb-true, leb-false}
 use Rattle.wh_history.specs.Accepted.{sold_by}
-use Rattle.wh_engine.specs.Admission.{changes_in}
+use Rattle.wh_admission.specs.Admission.{changes_in}
 use Rattle.wh_rows.specs.Sound.{changes_kept}
 use Rattle.wh_plan.proofs.FoundCommands.{commands_counted}
 use Rattle.wh_rows.proofs.ListedChanges.{changes_counted}

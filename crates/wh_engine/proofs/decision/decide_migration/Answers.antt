@@ -1,10 +1,10 @@
 use Rattle.std.proofs.Common.{◌≡◌, ◌∙◌, ℕ, sym, ap, refl, Ok, Some}
 use Rattle.wh_policy.proofs.FileLaws.{policies_are_sound}
 use Rattle.wh_history.specs.Accepted.{Governs}
-use Rattle.wh_engine.specs.Admission.{current_policy, accepted_as, answer, number_for, policy_told}
+use Rattle.wh_admission.specs.Admission.{current_policy, accepted_as, answer, number_for, policy_told}
 use Rattle.wh_engine.specs.Decided.{Decides}
 use Rattle.wh_engine.proofs.Decisions.{judged_ok, judged_err, number_refused, policy_content, command_accepted, list_accepted, own_row, policy_in_force}
-use Rattle.wh_engine.proofs.Migrated.{policy_taken}
+use Rattle.wh_admission.proofs.Migrated.{policy_taken}
 use Rattle.wh_engine.proofs.Scanning.{still_served}
 use Rattle.wh_engine.proofs.decision.decide_migration.Goals as goal
 

@@ -1,7 +1,7 @@
 use Rattle.std.proofs.Common.{◌≡◌, ◌∙◌, ℕ, sym, ap, subst, refl, Ok, Some, length}
 use Rattle.wh_policy.specs.Written.{IsSound}
 use Rattle.wh_history.specs.Accepted.{Describes}
-use Rattle.wh_engine.specs.Admission.{current_policy, accepted_as, answer, number_for, records_told}
+use Rattle.wh_admission.specs.Admission.{current_policy, accepted_as, answer, number_for, records_told}
 use Rattle.wh_engine.specs.Decided.{Decides, row_of_command}
 use Rattle.wh_engine.proofs.Decisions.{judged_ok, judged_err, number_refused, records_content, command_accepted, list_accepted, own_row, policy_in_force, sound_in_force}
 use Rattle.wh_engine.proofs.decision.decide_records.Goals as goal

@@ -1,11 +1,11 @@
 use Rattle.std.proofs.Common.{◌≡◌, ◌∙◌, ◌++◌, ◌∷◌, [], ℕ, suc, refl, sym, ap, subst, Ok, Some, length, arith}
 use Rattle.wh_policy.specs.Written.{IsSound}
 use Rattle.wh_history.specs.Accepted.{Sells, placeholders_by}
-use Rattle.wh_engine.specs.Admission.{accepted_as, answer, number_for}
+use Rattle.wh_admission.specs.Admission.{accepted_as, answer, number_for}
 use Rattle.wh_engine.specs.Decided.{Decides, row_of_command}
 use Rattle.wh_rows.specs.declared.rows.CommandRow.{CommandRow}
 use Rattle.wh_plan.specs.Edits.{Edits}
-use Rattle.wh_engine.specs.declared.command.Reply.TheVariants.{Accepted as Accepts}
+use Rattle.wh_admission.specs.declared.command.Reply.TheVariants.{Accepted as Accepts}
 use Rattle.wh_engine.proofs.Decisions.{judged_ok, judged_err, number_refused, command_accepted, next_number, list_accepted, own_row, policy_in_force, sound_in_force}
 use Rattle.wh_plan.proofs.SalePremises.{members_counted}
 use Rattle.wh_engine.proofs.decision.decide_sold.Goals as goal

@@ -1,4 +1,4 @@
-use Rattle.wh_engine.proofs.Admitted.{contents_are_read}
+use Rattle.wh_admission.proofs.Admitted.{contents_are_read}
 use Rattle.wh_engine.proofs.laws.contents_are_read.Goals as goal
 
 pub returns : goal.returns

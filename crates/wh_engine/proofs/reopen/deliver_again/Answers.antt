@@ -4,10 +4,10 @@ use Rattle.std.proofs.Math.Logic.{∥∥₁_map}
 use Rattle.sqlite.specs.Files.{file_state}
 use Rattle.sqlite.specs.State.{HasCleanDisk}
 use Rattle.wh_history.specs.Accepted.{Accepted}
-use Rattle.wh_engine.specs.Admission.{accepted_after_all}
+use Rattle.wh_admission.specs.Admission.{accepted_after_all}
 use Rattle.wh_engine.specs.Answered.{IsReady}
 use Rattle.wh_engine.specs.Delivered.{AreAnswers, IsDelivered}
-use Rattle.wh_engine.proofs.Admitted.{admitted_after_all}
+use Rattle.wh_admission.proofs.Admitted.{admitted_after_all}
 use Rattle.wh_engine.proofs.DeliveredAgain.{at_most_all, are_answers, delivery_leaves, delivered_again}
 use Rattle.wh_engine.proofs.Reopened.{known_of}
 use Rattle.wh_engine.proofs.reopen.deliver_again.Goals as goal

@@ -3,9 +3,9 @@ use Rattle.std.specs.Bool.{⊤}
 use Rattle.std.proofs.Math.Logic.{∥∥₁_map}
 use Rattle.sqlite.specs.Files.{file_state}
 use Rattle.sqlite.specs.State.{HasCleanDisk}
-use Rattle.wh_engine.specs.Admission.{accepted_after}
+use Rattle.wh_admission.specs.Admission.{accepted_after}
 use Rattle.wh_engine.proofs.Redelivered.{answered_leaves, from_before, from_after}
-use Rattle.wh_engine.proofs.Admitted.{admitted_after}
+use Rattle.wh_admission.proofs.Admitted.{admitted_after}
 use Rattle.wh_engine.proofs.Reopened.{known_of}
 use Rattle.wh_engine.proofs.reopen.redeliver.Goals as goal
 

@@ -45,3 +45,13 @@ fn migrations_log(rt: HostRuntime) -> Result<(), Fail> {
 fn migrations_database(rt: HostRuntime) -> Result<(), Fail> {
     check_engine(&rt, rt.alloc(), stops::MIGRATIONS_DATABASE)
 }
+
+#[test]
+fn check_log(rt: HostRuntime) -> Result<(), Fail> {
+    check_engine(&rt, rt.alloc(), stops::CHECK_LOG)
+}
+
+#[test]
+fn check_database(rt: HostRuntime) -> Result<(), Fail> {
+    check_engine(&rt, rt.alloc(), stops::CHECK_DATABASE)
+}

@@ -7,5 +7,5 @@ use wh_scenarios::program::answers;
 
 #[test]
 fn answers(rt: HostRuntime) -> Result<(), Fail> {
-    check(&rt, rt.alloc(), AnswerDriver, answers::ANSWERS)
+    check(&rt, rt.alloc(), AnswerDriver, &[answers::ANSWERS])
 }

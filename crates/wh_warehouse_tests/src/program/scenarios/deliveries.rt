@@ -6,10 +6,10 @@ use wh_scenarios::program::deliveries;
 
 #[test]
 fn nights(rt: HostRuntime) -> Result<(), Fail> {
-    check_program(&rt, rt.alloc(), deliveries::NIGHTS)
+    check_program(&rt, rt.alloc(), &[deliveries::NIGHTS])
 }
 
 #[test]
 fn undelivered(rt: HostRuntime) -> Result<(), Fail> {
-    check_program(&rt, rt.alloc(), deliveries::UNDELIVERED)
+    check_program(&rt, rt.alloc(), &[deliveries::UNDELIVERED])
 }

@@ -6,15 +6,15 @@ use wh_scenarios::program::reports;
 
 #[test]
 fn worked(rt: HostRuntime) -> Result<(), Fail> {
-    check_program(&rt, rt.alloc(), reports::WORKED)
+    check_program(&rt, rt.alloc(), &[reports::FILES, reports::WORKED])
 }
 
 #[test]
 fn refused(rt: HostRuntime) -> Result<(), Fail> {
-    check_program(&rt, rt.alloc(), reports::REFUSED)
+    check_program(&rt, rt.alloc(), &[reports::REFUSED])
 }
 
 #[test]
 fn tables(rt: HostRuntime) -> Result<(), Fail> {
-    check_program(&rt, rt.alloc(), reports::TABLES)
+    check_program(&rt, rt.alloc(), &[reports::TABLES])
 }

@@ -6,20 +6,20 @@ use wh_scenarios::program::trials;
 
 #[test]
 fn tables(rt: HostRuntime) -> Result<(), Fail> {
-    check_program(&rt, rt.alloc(), trials::TABLES)
+    check_program(&rt, rt.alloc(), &[trials::TABLES])
 }
 
 #[test]
 fn faults(rt: HostRuntime) -> Result<(), Fail> {
-    check_program(&rt, rt.alloc(), trials::FAULTS)
+    check_program(&rt, rt.alloc(), &[trials::FAULTS])
 }
 
 #[test]
 fn policies(rt: HostRuntime) -> Result<(), Fail> {
-    check_program(&rt, rt.alloc(), trials::POLICIES)
+    check_program(&rt, rt.alloc(), &[trials::POLICIES])
 }
 
 #[test]
 fn words(rt: HostRuntime) -> Result<(), Fail> {
-    check_program(&rt, rt.alloc(), trials::WORDS)
+    check_program(&rt, rt.alloc(), &[trials::WORDS])
 }

@@ -6,10 +6,10 @@ use wh_scenarios::program::warehouses;
 
 #[test]
 fn loads(rt: HostRuntime) -> Result<(), Fail> {
-    check_program(&rt, rt.alloc(), warehouses::LOADS)
+    check_program(&rt, rt.alloc(), &[warehouses::LOADS])
 }
 
 #[test]
 fn other_files(rt: HostRuntime) -> Result<(), Fail> {
-    check_program(&rt, rt.alloc(), warehouses::OTHERS)
+    check_program(&rt, rt.alloc(), &[warehouses::OTHERS])
 }

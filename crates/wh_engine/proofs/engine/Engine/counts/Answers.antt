@@ -1,6 +1,6 @@
 use Rattle.sqlite.specs.Held.{state}
 use Rattle.wh_engine.proofs.FoundCounts.{counted}
-use Rattle.wh_engine.proofs.Admitted.{admitted_sound}
+use Rattle.wh_admission.proofs.Admitted.{admitted_sound}
 use Rattle.wh_engine.proofs.engine.Engine.counts.Goals as goal
 
 pub returns-clause-counted : goal.returns-clause-counted

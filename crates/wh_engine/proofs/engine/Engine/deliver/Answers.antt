@@ -2,7 +2,7 @@ use Rattle.std.proofs.Common.{◌≡◌, ◌<◌, ◌++◌, ◌∷◌, [], ◌+�
 use Rattle.std.proofs.lemmas.Grind.{common_steps}
 use Rattle.std.proofs.lemmas.List.{take_more, take-append-drop}
 use Rattle.sqlite.specs.Held.{state}
-use Rattle.wh_engine.specs.Admission.{accepted_after_all}
+use Rattle.wh_admission.specs.Admission.{accepted_after_all}
 use Rattle.wh_engine.specs.Answered.{IsReady, IsAnswered, IsGoverned, KeepsNothing, IsNotAccepted, IsWritten}
 use Rattle.wh_engine.specs.Delivered.{answers_to, answer_or_stop, as_called, AcceptNothing, AreGoverned, IsLastWritten}
 use Rattle.wh_engine.proofs.Delivering.{deliveries_join, answers_join, goes_on, not_stopped, keeps, keeps_at_stop, stop_is, stopped_at, nothing_before, called, last_written, policy_stays, governed_on, governed_among, flag_at_stop, many_at_stop}

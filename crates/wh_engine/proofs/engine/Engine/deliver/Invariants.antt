@@ -7,7 +7,7 @@ use Rattle.wh_history.specs.Tables.{Limits}
 use Rattle.wh_rows.specs.AtRest.{IsAtRest}
 use Rattle.wh_rows.specs.Raw.{Stored, RestsOn}
 use Rattle.wh_rows.specs.Tables.{Tables}
-use Rattle.wh_engine.specs.Admission.{accepted_after_all}
+use Rattle.wh_admission.specs.Admission.{accepted_after_all}
 use Rattle.wh_engine.specs.Answered.{IsReady}
 use Rattle.wh_engine.specs.Delivered.{answers_to, AcceptNothing, AreGoverned, IsLastWritten}
 use Rattle.wh_engine.proofs.engine.Engine.deliver.Given as goal

@@ -4,7 +4,7 @@ use Rattle.wh_store.specs.Reads.{are_all_there}
 use Rattle.wh_sql.proofs.Worked.{all_of_a_warehouse}
 use Rattle.wh_engine.proofs.OpenedTables.{format_known, not_opened, opened_ready, opened_refused}
 use Rattle.wh_engine.proofs.OpenedStored.{format_refused, session_refused}
-use Rattle.wh_engine.proofs.Admitted.{admitted_sound}
+use Rattle.wh_admission.proofs.Admitted.{admitted_sound}
 use Rattle.wh_engine.proofs.engine.Engine.open.Goals as goal
 
 pub returns-in-Err-clause-fault : goal.returns-in-Err-clause-fault

@@ -24,7 +24,8 @@ returns-in-Ok g c = rw c.close.ensures (λ clean content at.
     c.deliver-replies.new.self.session (state g.T.Store c.deliver-replies.new.self.tables.conn)
     (λ enough. printed_in (longest_delivery commands) c.args.self.room c.delivery_answer-answer.result (delivery_answer commands replies.answers.items replies.stop) enough tells)
     (done clean limits kept ready))
-    (λ rests. let e = c.in-Ok.ensures.missing rests.autocommit (rw rests.now.schema none_there) in cc) at
+    (λ rests. let e = c.in-Ok.ensures.missing rests.autocommit (rw rests.now.schema none_there) in cc)
+    (c.in-Ok.ensures.found_stored (c.deliver-replies.ensures.clean clean)) at
     ))
 
 pub returns-in-Err : goal.returns-in-Err
@@ -34,5 +35,6 @@ returns-in-Err g c = λ clean content at.
     unopened (λ limits kept told after. has → IsDelivered c.args.self.commands.items limits kept told after) content c.opening_answer.result c.in-Err.fault (state g.T.Store c.args.connection) (state g.T.Store c.in-Err.connection)
     (c.in-Err.ensures.refused clean)
     (λ rests. let e = c.in-Err.ensures.missing rests.autocommit (rw rests.now.schema none_there) in search rules)
+    (c.in-Err.ensures.fault_stored clean)
     c.opening_answer.ensures at
     )

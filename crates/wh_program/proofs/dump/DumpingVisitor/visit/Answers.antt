@@ -22,5 +22,6 @@ returns-in-Err g c = λ clean content at.
     let left = unopened (IsDumped c.args.self.table) content c.opening_answer.result c.in-Err.fault (state g.T.Store c.args.connection) (state g.T.Store c.in-Err.connection)
     (c.in-Err.ensures.refused clean)
     (λ rests. let e = c.in-Err.ensures.missing rests.autocommit (rw rests.now.schema none_there) in search rules)
+    (c.in-Err.ensures.fault_stored clean)
     c.opening_answer.ensures at in
-    (left.0, (c.opening_answer.result, left.1, c.print_told-status.ensures), left.2)
+    (left.0, (λ _. (c.opening_answer.result, left.1, c.print_told-status.ensures)), left.2)

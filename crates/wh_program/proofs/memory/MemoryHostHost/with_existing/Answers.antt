@@ -1,7 +1,7 @@
 use Rattle.std.proofs.Common.{◌≡◌, Some, sym, subst}
 use Rattle.wh_program.specs.Memory.{kept_named}
 use Rattle.wh_program.specs.Standing.{IsKept}
-use Rattle.wh_program.proofs.MemoryLemmas.{is_clean}
+use Rattle.wh_store.proofs.InMemory.{is_clean}
 use Rattle.wh_program.proofs.memory.MemoryHostHost.with_existing.Goals as goal
 
 pub returns-clause-visited : goal.returns-clause-visited

@@ -20,7 +20,8 @@ returns-in-Ok g c = rw c.close.ensures (λ clean content at.
     (c.in-Ok.ensures.ready (c.apply-reply.ensures.clean clean))
     (λ limits commands ready. replied has c.args.self.command limits commands c.sent_answer-answer.result c.apply-reply.result c.apply-reply.new.self.session (state g.T.Store c.apply-reply.new.self.tables.conn)
     (λ enough. printed_in (longest_answer id) c.args.self.room c.sent_answer-answer.result (sent_answer id c.apply-reply.result) enough tells) (c.apply-reply.ensures.answered clean limits commands ready))
-    (λ rests. let e = c.in-Ok.ensures.missing rests.autocommit (rw rests.now.schema none_there) in cc) at
+    (λ rests. let e = c.in-Ok.ensures.missing rests.autocommit (rw rests.now.schema none_there) in cc)
+    (c.in-Ok.ensures.found_stored (c.apply-reply.ensures.clean clean)) at
     ))
 
 pub returns-in-Err : goal.returns-in-Err
@@ -30,5 +31,6 @@ returns-in-Err g c = λ clean content at.
     unopened (λ limits commands told after. has → IsReplied c.args.self.command limits commands told after) content c.opening_answer.result c.in-Err.fault (state g.T.Store c.args.connection) (state g.T.Store c.in-Err.connection)
     (c.in-Err.ensures.refused clean)
     (λ rests. let e = c.in-Err.ensures.missing rests.autocommit (rw rests.now.schema none_there) in search rules)
+    (c.in-Err.ensures.fault_stored clean)
     c.opening_answer.ensures at
     )

@@ -1,0 +1,146 @@
+-- Each sale of a batch that is read is good, and no two of them have one line.
+use Rattle.std.proofs.Common.{◌≡◌, ℕ, zero, suc, ◌^◌, ◌≤◌, ◌<◌, ℤ, pos, neg_ℤ, true, false, List, [], ◌∷◌, length, map, Option, Some, Result, Ok, refl, sym, ap, ◌∙◌, subst, arith}
+use Rattle.std.specs.Prelude.{unsigned_abs}
+use Rattle.std.specs.List.{AllByRecursion, IsDistinct}
+use Rattle.std.proofs.lemmas.Bool.{le-leb}
+use Rattle.std.proofs.lemmas.List.{length-map}
+use Rattle.wh_day.specs.Day.{is_day, read_day}
+use Rattle.wh_day.proofs.Texts.{text_is}
+use Rattle.wh_policy.specs.declared.attribute.Dim.{Dim}
+use Rattle.wh_policy.specs.declared.attribute.Dim.TheVariants.{Product, Store, Customer}
+use Rattle.wh_policy.specs.declared.policy.Policy.{Policy}
+use Rattle.wh_policy.specs.declared.record.SaleRecord.{SaleRecord}
+use Rattle.wh_batch.specs.Batch.{is_same_key}
+use Rattle.wh_batch.specs.Fields.{key_at, customer_at, day_at}
+use Rattle.wh_batch.specs.Grammar.{WritesDigits, WritesLine, WritesHundredths, WritesSigned}
+use Rattle.wh_batch.specs.Layouts.{sale_record, sale_key, sales_layout, sale_records}
+use Rattle.wh_batch.specs.Numbers.{read_line, read_quantity, read_amount, line_at, quantity_at, amount_at}
+use Rattle.wh_batch.specs.declared.fault.FaultKind.{FaultKind}
+use Rattle.wh_batch.specs.declared.fault.FaultKind.TheVariants.{BadDay, BadNumber}
+use Rattle.wh_batch.specs.declared.kind.Format.TheVariants.{One}
+use Rattle.wh_batch.proofs.GoodLemmas.{bind_ok, reads_batches}
+use Rattle.wh_batch.proofs.GrammarLemmas.{reads_lines, reads_quantities, reads_amounts}
+use Rattle.wh_batch.proofs.NumberLemmas.{digits-bound}
+use Rattle.wh_history.specs.Accepted.{member_of_sale}
+use Rattle.wh_history.proofs.Basics.{some_is}
+use Rattle.wh_rows.specs.Types.{is_key, is_line, is_measure}
+use Rattle.wh_rows.specs.Sound.{IsGoodSale, same_line}
+use Rattle.wh_admission.proofs.GoodRecords.{read_ok, good_key, all_read}
+use Rattle.wh_rows.proofs.SameLines.{same_either}
+
+-- ---- the numbers
+
+digits_below : (least most : ℕ) (text : List ℕ) (n : ℕ) → WritesDigits least most text n → n < 10 ^ most
+digits_below least most text n w = subst (λ m. m < 10 ^ most) w.value (digits-bound most text w.digits w.few)
+
+good_line : (field : List ℕ) (n : ℕ) → line_at field ≡ Ok n → is_line n ≡ true
+good_line field n h =
+    let line : WritesLine field n = (reads_lines field n).0 (read_ok BadNumber (read_line field) n h) in
+    let below = digits_below 1 4 field n line.digits in
+    rw (le-leb 1 n line.positive, le-leb n 9999 (omega arith)) refl
+
+abs_minus : (n : ℕ) → unsigned_abs (neg_ℤ (pos n)) ≡ n
+abs_minus zero = refl
+abs_minus (suc n) = refl
+
+-- a number up to the most, with a minus or without
+signed_measure : (most : ℕ) (Writes : List ℕ → ℕ → Type 0) → ((text : List ℕ) (n : ℕ) → Writes text n → n ≤ most) → (text : List ℕ) (x : ℤ) → WritesSigned Writes text x → is_measure most x ≡ true
+signed_measure most Writes up _ _ (WritesSigned.plain text n w) = le-leb n most (up text n w)
+signed_measure most Writes up _ _ (WritesSigned.minus text n w) = rw (abs_minus n) (le-leb n most (up text n w))
+
+few_pieces : (text : List ℕ) (n : ℕ) → WritesDigits 1 4 text n → n ≤ 9999
+few_pieces text n w = let below = digits_below 1 4 text n w in omega arith
+
+good_quantity : (field : List ℕ) (x : ℤ) → quantity_at field ≡ Ok x → is_measure 9999 x ≡ true
+good_quantity field x h = signed_measure 9999 (WritesDigits 1 4) few_pieces field x ((reads_quantities field x).0 (read_ok BadNumber (read_quantity field) x h))
+
+few_hundredths : (text : List ℕ) (n : ℕ) → WritesHundredths text n → n ≤ 999999999
+few_hundredths _ _ (WritesHundredths.whole text n w) = let below = digits_below 1 7 text n w in omega arith
+few_hundredths _ _ (WritesHundredths.tenths text part n m w v) = let below = digits_below 1 7 text n w in let last = digits_below 1 1 part m v in omega arith
+few_hundredths _ _ (WritesHundredths.hundredths text part n m w v) = let below = digits_below 1 7 text n w in let last = digits_below 2 2 part m v in omega arith
+
+good_amount : (field : List ℕ) (x : ℤ) → amount_at field ≡ Ok x → is_measure 999999999 x ≡ true
+good_amount field x h = signed_measure 999999999 WritesHundredths few_hundredths field x ((reads_amounts field x).0 (read_ok BadNumber (read_amount field) x h))
+
+-- ---- the members and the day
+
+sale_day : (field : List ℕ) (number : ℕ) → day_at field ≡ Ok number → is_day number ≡ true
+unfolding day_at
+sale_day field number h = (text_is field number (read_ok BadDay (read_day field) number h)).0
+
+customer_key : (field : List ℕ) (customer : Option (List ℕ)) → customer_at field ≡ Ok customer → (natural : List ℕ) → customer ≡ Some natural → is_key 32 natural ≡ true
+unfolding customer_at
+customer_key [] customer h natural is = absurd cc
+customer_key (first ∷ rest) customer h natural is =
+    let (key, read, more) = bind_ok (key_at 32 (first ∷ rest)) _ customer h in
+    let same : key ≡ natural = cc in
+    subst (λ text. is_key 32 text ≡ true) same (good_key 32 (first ∷ rest) key read)
+
+-- the members that a sale mentions have well formed keys
+named_well : (s : SaleRecord) → is_key 32 s.store ≡ true → is_key 32 s.product ≡ true → ((natural : List ℕ) → s.customer ≡ Some natural → is_key 32 natural ≡ true)
+    → (dim : Dim) (natural : List ℕ) → member_of_sale dim s ≡ Some natural → is_key 32 natural ≡ true
+named_well s store product customer Product natural is = subst (λ text. is_key 32 text ≡ true) (some_is s.product natural is) product
+named_well s store product customer Store natural is = subst (λ text. is_key 32 text ≡ true) (some_is s.store natural is) store
+named_well s store product customer Customer natural is = customer natural is
+
+-- ---- a sale
+
+abbrev sale_read : SaleRecord → Result SaleRecord FaultKind
+sale_read s = Ok s
+
+read_is : (x y : SaleRecord) → sale_read x ≡ sale_read y → x ≡ y
+read_is x y h = cc
+
+good_sale : (fields : List (List ℕ)) (s : SaleRecord) → sale_record fields ≡ Ok s → IsGoodSale s
+unfolding sale_record
+good_sale (ticket ∷ line ∷ day ∷ store ∷ product ∷ customer ∷ quantity ∷ amount ∷ cost ∷ []) s h =
+    let (ticket_key, ticket_is, h1) = bind_ok (key_at 20 ticket) _ s h in
+    let (number, line_is, h2) = bind_ok (line_at line) _ s h1 in
+    let (sold_on, day_is, h3) = bind_ok (day_at day) _ s h2 in
+    let (store_key, store_is, h4) = bind_ok (key_at 32 store) _ s h3 in
+    let (product_key, product_is, h5) = bind_ok (key_at 32 product) _ s h4 in
+    let (customer_is, customer_read, h6) = bind_ok (customer_at customer) _ s h5 in
+    let (pieces, quantity_is, h7) = bind_ok (quantity_at quantity) _ s h6 in
+    let (paid, amount_is, h8) = bind_ok (amount_at amount) _ s h7 in
+    let (spent, cost_is, h9) = bind_ok (amount_at cost) _ s h8 in
+    let made : SaleRecord = record { ticket = ticket_key; line = number; day = sold_on; store = store_key; product = product_key; customer = customer_is; quantity = pieces; amount = paid; cost = spent } in
+    let e : made ≡ s = read_is made s h9 in
+    rw (← e) (record {
+      ticket = good_key 20 ticket ticket_key ticket_is;
+      line = good_line line number line_is;
+      day = sale_day day sold_on day_is;
+      members = named_well made (good_key 32 store store_key store_is) (good_key 32 product product_key product_is) (customer_key customer customer_is customer_read);
+      quantity = good_quantity quantity pieces quantity_is;
+      amount = good_amount amount paid amount_is;
+      cost = good_amount cost spent cost_is;
+    })
+good_sale _ s h = absurd cc
+
+-- ---- a batch of sales
+
+pub good_sales : (policy : Policy) (bytes : List ℕ) (sales : List SaleRecord) → sale_records policy One bytes ≡ Ok sales → AllByRecursion IsGoodSale sales
+unfolding sale_records
+good_sales policy bytes sales h =
+    let batch = (reads_batches (sales_layout policy.years) bytes sales).0 h in
+    all_read sale_record IsGoodSale good_sale batch.rows sales batch.each
+
+pub few_sales : (policy : Policy) (bytes : List ℕ) (sales : List SaleRecord) → sale_records policy One bytes ≡ Ok sales → length sales ≤ 5000
+unfolding sale_records
+few_sales policy bytes sales h =
+    let layout = sales_layout policy.years in
+    let batch = (reads_batches layout bytes sales).0 h in
+    let as_many : length batch.rows ≡ length sales = sym (length-map batch.rows layout.read) ∙ ap length batch.each ∙ length-map sales (λ (s : SaleRecord). Ok s) in
+    omega (arith, as_many, batch.few)
+
+none_like : (s : SaleRecord) (sales : List SaleRecord) → AllByRecursion (λ k. is_same_key (sale_key s) k ≡ false) (map sale_key sales) → AllByRecursion (λ t. same_line s t ≡ false) sales
+none_like s [] all = tt
+none_like s (t ∷ sales) all = (same_either s t ∙ all.0, none_like s sales all.1)
+
+each_once : (sales : List SaleRecord) → IsDistinct is_same_key (map sale_key sales) → IsDistinct same_line sales
+unfolding IsDistinct
+each_once [] once = tt
+each_once (s ∷ sales) once = (none_like s sales once.0, each_once sales once.1)
+
+pub sales_once : (policy : Policy) (bytes : List ℕ) (sales : List SaleRecord) → sale_records policy One bytes ≡ Ok sales → IsDistinct same_line sales
+unfolding sale_records
+sales_once policy bytes sales h = let batch = (reads_batches (sales_layout policy.years) bytes sales).0 h in each_once sales batch.distinct

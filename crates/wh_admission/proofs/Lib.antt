@@ -1,0 +1,13 @@
+pub mod Repeats
+pub mod GoodRecords
+pub mod SameLines
+pub mod GoodSales
+pub mod Migrated
+pub mod StaysAccepted
+pub mod Admitted
+pub mod CommandRows
+pub mod ListedCommands
+pub mod AdmittedSteps
+pub mod StoredMaps
+pub mod CheckedTables
+pub mod SoundTables

@@ -1,0 +1,182 @@
+-- The answer to a command, and the list of those that are accepted.
+use Rattle.std.specs.Prelude.{◌≡◌, ⊤, true, ℕ, suc, ◌+◌, ◌&&◌, nat_le, nat_lt, if◌then◌else◌, List, [], ◌∷◌, ◌++◌, length, map, find, Option, Some, None, unwrap_or, bytes_eq, Result, Ok, Err}
+use Rattle.std.specs.List.{list_any}
+use Rattle.wh_day.specs.Reading.{◌>>=◌}
+use Rattle.wh_policy.specs.Names.{fits}
+use Rattle.wh_policy.specs.Policy.{trial_policy, policy_at}
+use Rattle.wh_policy.specs.declared.attribute.Dim.{Dim}
+use Rattle.wh_policy.specs.declared.fault.PolicyFault.{PolicyFault}
+use Rattle.wh_policy.specs.declared.policy.Policy.{Policy}
+use Rattle.wh_policy.specs.declared.record.DimensionRecord.{DimensionRecord}
+use Rattle.wh_policy.specs.declared.record.SaleRecord.{SaleRecord}
+use Rattle.wh_batch.specs.Kind.{command_word}
+use Rattle.wh_batch.specs.Layouts.{dimension_records, sale_records}
+use Rattle.wh_batch.specs.declared.kind.Kind.TheVariants.{Dimension, Sales}
+use Rattle.wh_batch.specs.declared.kind.Format.TheVariants.{One}
+use Rattle.wh_batch.specs.declared.fault.BatchFault.{BatchFault}
+use Rattle.wh_history.specs.Keys.{place}
+use Rattle.wh_history.specs.Accepted.{Accepted, Content, Governs, Describes, Sells, policy_after, sold, sold_by, records_by, placeholders_by}
+use Rattle.wh_history.specs.Tables.{Limits}
+use Rattle.wh_rows.specs.Types.{is_key}
+use Rattle.wh_rows.specs.Limits.{are_limits}
+use Rattle.wh_rows.specs.Sound.{making_of}
+use Rattle.wh_rows.specs.Sound.{IsAccepted, changes_kept, same_line}
+use Rattle.wh_admission.specs.declared.command.Command.{Command}
+use Rattle.wh_batch.specs.declared.kind.CommandKind.{CommandKind}
+use Rattle.wh_batch.specs.declared.kind.CommandKind.TheVariants.{Batch, Migration}
+use Rattle.wh_admission.specs.declared.command.Receipt.{Receipt}
+use Rattle.wh_admission.specs.declared.command.Reply.{Reply}
+use Rattle.wh_admission.specs.declared.command.Reply.TheVariants.{Accepted as Accepts, Already}
+use Rattle.wh_admission.specs.declared.command.Refused.{Refused}
+use Rattle.wh_admission.specs.declared.command.Refused.TheVariants.{BadId, Reused, Batch as BadBatch, Policy as BadPolicy, Unfit, LineThere, Full}
+use Rattle.wh_admission.specs.declared.command.Limit.TheVariants.{Commands, Changes, Facts}
+
+-- the policy in force; a list of accepted commands begins with a making, so it has one
+abbrev pub current_policy : List Accepted → Policy
+current_policy commands = unwrap_or (policy_after None commands) trial_policy
+
+-- what was read of a batch, or its first fault
+abbrev pub of_batch : {A : Type 0} → Result A BatchFault → Result A Refused
+of_batch (Ok read) = Ok read
+of_batch (Err fault) = Err (BadBatch fault)
+
+abbrev pub records_told : Dim → Policy → List ℕ → Result (List DimensionRecord) Refused
+records_told dim policy bytes = of_batch (dimension_records dim policy One bytes)
+
+abbrev pub sales_told : Policy → List ℕ → Result (List SaleRecord) Refused
+sales_told policy bytes = of_batch (sale_records policy One bytes)
+
+-- what was read of a policy file, or its first fault
+abbrev pub of_file : Result Policy PolicyFault → Result Policy Refused
+of_file (Ok policy) = Ok policy
+of_file (Err fault) = Err (BadPolicy fault)
+
+-- the policy that takes the place of another: the one that the bytes write, where it fits
+abbrev pub policy_told : Policy → List ℕ → Result Policy Refused
+policy_told older bytes = of_file (policy_at bytes) >>= λ newer. if fits older newer then Ok newer else Err Unfit
+
+-- what the bytes of a command say under a policy, or why they are refused
+abbrev pub content_of : CommandKind → Policy → List ℕ → Result Content Refused
+content_of (Batch (Dimension dim)) policy bytes = records_told dim policy bytes >>= λ records. Ok (Describes dim records)
+content_of (Batch Sales) policy bytes = sales_told policy bytes >>= λ sales. Ok (Sells sales)
+content_of Migration policy bytes = policy_told policy bytes >>= λ newer. Ok (Governs newer)
+
+-- the policy that is in force once such a command is accepted: a batch leaves the one that is, a migration brings its own
+abbrev pub policy_brought : CommandKind → Policy → List ℕ → Result Policy Refused
+policy_brought (Batch kind) policy bytes = Ok policy
+policy_brought Migration policy bytes = policy_told policy bytes
+
+-- a command with what it says
+abbrev pub accepted_as : Command → Content → Accepted
+accepted_as c content = record { id = c.id; kind = command_word c.kind; bytes = c.bytes; content = content }
+
+-- the receipt of a command of the list
+abbrev pub receipt_of : List Accepted → ℕ → Content → Receipt
+receipt_of commands number content = record { number = number; records = records_by content; placeholders = placeholders_by commands number content }
+
+-- the first sale whose ticket and line are those of a sale before
+abbrev pub first_line_there : List SaleRecord → ℕ → List SaleRecord → Option ℕ
+first_line_there before number [] = None
+first_line_there before number (s ∷ sales) =
+    if list_any (λ t. same_line t s) before then Some number else first_line_there before (suc number) sales
+
+-- how many dimension records a content holds
+abbrev pub changes_in : Content → ℕ
+changes_in (Governs policy) = 0
+changes_in (Describes dim records) = length records
+changes_in (Sells sales) = 0
+
+-- the number of the next command where this content has no line that is there
+abbrev pub number_past_lines : Limits → List Accepted → Content → Option ℕ → Result ℕ Refused
+number_past_lines limits commands content (Some number) = Err (LineThere number)
+number_past_lines limits commands content None =
+    if nat_lt limits.changes (changes_kept commands + changes_in content) then Err (Full Changes)
+    else if nat_lt limits.facts (length (sold commands) + length (sold_by content)) then Err (Full Facts)
+    else Ok (suc (length commands))
+
+-- the number of the next command where there is room for it and for this content, and no line of it is there
+abbrev pub number_for : Limits → List Accepted → Content → Result ℕ Refused
+number_for limits commands content =
+    if nat_le limits.commands (length commands) then Err (Full Commands) else number_past_lines limits commands content (first_line_there (sold commands) 1 (sold_by content))
+
+-- the answer with its number, or why there is none
+abbrev pub answer_with : List Accepted → Command → Content → Result ℕ Refused → Result Reply Refused
+answer_with commands c content (Ok number) = Ok (Accepts (receipt_of (commands ++ accepted_as c content ∷ []) number content))
+answer_with commands c content (Err why) = Err why
+
+abbrev pub when_read : Limits → List Accepted → Command → Result Content Refused → Result Reply Refused
+when_read limits commands c (Err why) = Err why
+when_read limits commands c (Ok content) = answer_with commands c content (number_for limits commands content)
+
+-- a command whose id is known comes again where kind and bytes are the same too, and has the receipt that was kept
+abbrev pub receipt_again : (kind bytes : List ℕ) → Command → Receipt → Result Receipt Refused
+receipt_again kind bytes c kept = if bytes_eq kind (command_word c.kind) && bytes_eq bytes c.bytes then Ok kept else Err Reused
+
+-- and the answer with it
+abbrev pub already : Result Receipt Refused → Result Reply Refused
+already (Ok receipt) = Ok (Already receipt)
+already (Err why) = Err why
+
+abbrev pub when_known : List Accepted → Command → Accepted → Result Reply Refused
+when_known commands c a = already (receipt_again a.kind a.bytes c (receipt_of commands (place bytes_eq c.id (map (λ (b : Accepted). b.id) commands)) a.content))
+
+abbrev pub by_id : Limits → List Accepted → Command → Option Accepted → Result Reply Refused
+by_id limits commands c (Some a) = when_known commands c a
+by_id limits commands c None = when_read limits commands c (content_of c.kind (current_policy commands) c.bytes)
+
+-- the first case that applies
+abbrev pub answer : Limits → List Accepted → Command → Result Reply Refused
+answer limits commands c = if is_key 40 c.id then by_id limits commands c (find (λ (a : Accepted). bytes_eq a.id c.id) commands) else Err BadId
+
+-- the list with what was read of a command
+abbrev pub with_content : List Accepted → Command → Result Content Refused → List Accepted
+with_content commands c (Ok content) = commands ++ accepted_as c content ∷ []
+with_content commands c (Err why) = commands
+
+-- the list after a command: with it where it is accepted
+abbrev pub after_answer : List Accepted → Command → Result Reply Refused → List Accepted
+after_answer commands c (Ok (Accepts receipt)) = with_content commands c (content_of c.kind (current_policy commands) c.bytes)
+after_answer commands c (Ok (Already receipt)) = commands
+after_answer commands c (Err why) = commands
+
+abbrev pub accepted_after : Limits → List Accepted → Command → List Accepted
+accepted_after limits commands c = after_answer commands c (answer limits commands c)
+
+-- After a command, accepted or not, the list of accepted commands is again one that a warehouse can have accepted.
+abbrev pub AcceptedListsStaySound : Type 0
+AcceptedListsStaySound = (limits : Limits) (commands : List Accepted) (c : Command) → IsAccepted limits commands → IsAccepted limits (accepted_after limits commands c)
+
+-- ---- from the making on
+
+-- the list after commands that come one after the other
+abbrev pub accepted_after_all : Limits → List Accepted → List Command → List Accepted
+accepted_after_all limits commands [] = commands
+accepted_after_all limits commands (c ∷ sent) = accepted_after_all limits (accepted_after limits commands c) sent
+
+-- The list is one that a warehouse with these limits has after a making and some commands, of which those are in it that were accepted.
+pub record AreAdmitted (limits : Limits) (commands : List Accepted) : Type 0 where
+  pub limited : are_limits limits ≡ true
+  pub policy : Policy
+  pub bytes : List ℕ
+  pub written : policy_at bytes ≡ Ok policy
+  pub sent : List Command
+  pub admitted : commands ≡ accepted_after_all limits (making_of policy bytes ∷ []) sent
+
+-- Such a list is one that a warehouse can have accepted.
+abbrev pub AdmittedListsAreSound : Type 0
+AdmittedListsAreSound = (limits : Limits) (commands : List Accepted) → AreAdmitted limits commands → IsAccepted limits commands
+
+-- what the command says is what its kind and bytes give under the policy that was in force before it
+pub record IsOfItsBytes (before : List Accepted) (a : Accepted) : Type 0 where
+  pub kind : CommandKind
+  pub kind_is : a.kind ≡ command_word kind
+  pub content_is : content_of kind (current_policy before) a.bytes ≡ Ok a.content
+
+-- so it is of each command that came after these
+abbrev pub AreOfTheirBytes : List Accepted → List Accepted → Type 0
+AreOfTheirBytes before [] = ⊤
+AreOfTheirBytes before (a ∷ later) = IsOfItsBytes before a × AreOfTheirBytes (before ++ a ∷ []) later
+
+-- In an admitted list what each command after the making says is what its kind and bytes give.
+abbrev pub ContentsAreRead : Type 0
+ContentsAreRead = (limits : Limits) (making : Accepted) (later : List Accepted) → AreAdmitted limits (making ∷ later) → AreOfTheirBytes (making ∷ []) later

@@ -1,0 +1,4 @@
+pub mod Admission
+pub mod Steps
+pub mod Checked
+pub mod Sound

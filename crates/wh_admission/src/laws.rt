@@ -1,0 +1,30 @@
+//! Laws of admission and of what is stored. They speak of the definitions alone and do nothing.
+
+ghost use Rattle.wh_admission.specs.Steps.{AdmittedIsStepped};
+ghost use Rattle.wh_admission.specs.Checked.{SoundIsEachRight, DamageIsWrong, CommandsAreOne};
+ghost use Rattle.wh_admission.specs.Sound.{SoundIsOfCommands};
+
+/// A list was admitted exactly where it begins with a making and each other command comes after those before it.
+pub fn admitted_is_stepped()
+    ensures { AdmittedIsStepped }
+{}
+
+/// What is stored says one list of commands at most.
+pub fn commands_are_one()
+    ensures { CommandsAreOne }
+{}
+
+/// What is stored is sound exactly where each table is as it should be.
+pub fn sound_is_each_right()
+    ensures { SoundIsEachRight }
+{}
+
+/// What is stored is sound exactly where it is the ten tables of commands that were admitted, in whatever order the rows are stored.
+pub fn sound_is_of_commands()
+    ensures { SoundIsOfCommands }
+{}
+
+/// A table that stores a damaged row isn't as it should be.
+pub fn damage_is_wrong()
+    ensures { DamageIsWrong }
+{}

@@ -1,0 +1,7 @@
+//! Commands, which of them a warehouse accepts, and whether what is stored is what they define.
+#![tactic(auto)]
+
+mod command;
+pub mod laws;
+
+pub use command::{Command, Limit, Receipt, Refused, Reply};

@@ -1,0 +1,97 @@
+//! The stored rows of a table against those of a warehouse in memory.
+
+ghost use Rattle.std.specs.Prelude.{Some, IfOk, IfErr, OnOk};
+ghost use Rattle.std.specs.FinMap.{get};
+ghost use Rattle.sqlite.specs.Steps.{over_memory};
+ghost use Rattle.wh_rows.specs.AtRest.{IsAtRest};
+ghost use Rattle.wh_rows.specs.Tables.{Tables as TenTables};
+ghost use Rattle.wh_sql.specs.Reads.{IsOfDamage};
+ghost use Rattle.wh_store.specs.Reads.{ReadsOnly, state_of, SaysAsStored};
+ghost use Rattle.wh_store.specs.Scan.{rows_left, HandsOut};
+ghost use Rattle.wh_check.specs.Compared.{IsNext, IsEnd, AreRowsOrNot};
+
+use crate::alike::{Plain, are_alike};
+use sqlite::{Alter, MemStore};
+use std::alloc::{AllocError, Global};
+use wh_store::{Cursor, ReadFault, Tables, next_row};
+
+/// The next row of a warehouse in memory.
+fn next_expected<T: Plain>(
+    expected: &mut Tables<MemStore>,
+    alloc: Global,
+    ahead: &mut Cursor<T::Key, T::Row>,
+) -> Result<Option<T::Row>, AllocError>
+    ensures rests { (t : TenTables) → IsAtRest (Some t) (state_of over_memory expected.old) → OnOk result (IsAtRest (Some t) (state_of over_memory expected.new)) }
+    ensures row { (t : TenTables) → IsAtRest (Some t) (state_of over_memory expected.old)
+        → IfOk result (λ found. HandsOut (rows_left T.StoredTable.layout (T.StoredTable.rows t) ahead.old) found (rows_left T.StoredTable.layout (T.StoredTable.rows t) ahead.new)) }
+{
+    match next_row::<T, MemStore>(expected, alloc, ahead) {
+        Ok(found) => Ok(found),
+        Err(_) => Err(AllocError),
+    }
+}
+
+/// Whether the next row of a warehouse in memory stands in the same columns as this one.
+fn is_next<T: Plain>(
+    expected: &mut Tables<MemStore>,
+    alloc: Global,
+    ahead: &mut Cursor<T::Key, T::Row>,
+    row: &T::Row,
+) -> Result<bool, AllocError>
+    ensures rests { (t : TenTables) → IsAtRest (Some t) (state_of over_memory expected.old) → OnOk result (IsAtRest (Some t) (state_of over_memory expected.new)) }
+    ensures next { (t : TenTables) → IsAtRest (Some t) (state_of over_memory expected.old)
+        → IfOk result (IsNext T.StoredTable.layout (rows_left T.StoredTable.layout (T.StoredTable.rows t) ahead.old) row.now (rows_left T.StoredTable.layout (T.StoredTable.rows t) ahead.new)) }
+{
+    match next_expected::<T>(expected, alloc, ahead)? {
+        Some(there) => are_alike::<T>(alloc, &there, row),
+        None => Ok(false),
+    }
+}
+
+/// Whether a warehouse in memory has no further row.
+fn is_end<T: Plain>(
+    expected: &mut Tables<MemStore>,
+    alloc: Global,
+    ahead: &mut Cursor<T::Key, T::Row>,
+) -> Result<bool, AllocError>
+    ensures rests { (t : TenTables) → IsAtRest (Some t) (state_of over_memory expected.old) → OnOk result (IsAtRest (Some t) (state_of over_memory expected.new)) }
+    ensures end { (t : TenTables) → IsAtRest (Some t) (state_of over_memory expected.old) → IfOk result (IsEnd (rows_left T.StoredTable.layout (T.StoredTable.rows t) ahead.old)) }
+{
+    let found = next_expected::<T>(expected, alloc, ahead)?;
+    Ok(found.is_none())
+}
+
+/// Whether a table stores what the same table of a warehouse in memory holds, and nothing else. Both are read a part at a time, what
+/// is stored to its end, so that a damaged row is met wherever it stands.
+pub fn holds_the_same<T: Plain, S: Alter>(
+    tables: &mut Tables<S>,
+    alloc: Global,
+    expected: &mut Tables<MemStore>,
+) -> Result<bool, ReadFault>
+    ensures reads { ReadsOnly (state_of S.Store tables.old) (state_of S.Store tables.new) result }
+    ensures rests { (t : TenTables) → IsAtRest (Some t) (state_of over_memory expected.old) → OnOk result (IsAtRest (Some t) (state_of over_memory expected.new)) }
+    ensures same { SaysAsStored (state_of S.Store tables.old) (state_of S.Store tables.new) (λ stored. (t : TenTables) → IsAtRest (Some t) (state_of over_memory expected.old)
+        → IfOk result (AreRowsOrNot T.StoredTable.layout (get (T.StoredTable.rows t)) (stored T.Keeps.name))) }
+    ensures damaged { SaysAsStored (state_of S.Store tables.old) (state_of S.Store tables.new) (λ stored. IfErr result (IsOfDamage T.StoredTable.layout T.Keeps.name (stored T.Keeps.name))) }
+{
+    let mut cursor = Cursor::new(alloc);
+    let mut ahead = Cursor::new(alloc);
+    let mut same = true;
+    'rows: for _ in 0..u64::MAX {
+        match next_row::<T, S>(tables, alloc, &mut cursor)? {
+            Some(row) => {
+                if same {
+                    same = is_next::<T>(expected, alloc, &mut ahead, &row)?;
+                }
+            }
+            None => {
+                if !same {
+                    return Ok(false);
+                }
+                let end = is_end::<T>(expected, alloc, &mut ahead)?;
+                return Ok(end);
+            }
+        }
+    }
+    Err(ReadFault::Memory)
+}

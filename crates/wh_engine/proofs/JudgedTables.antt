@@ -1,0 +1,130 @@
+-- One table after the other, to a verdict.
+use Rattle.std.proofs.Common.{◌≡◌, ◌≤◌, ◌<◌, ℕ, suc, Bool, true, false, cond, nat_eq, List, Some, None, Ok, Err, Result, refl, sym, ap, subst, ◌∙◌, arith}
+use Rattle.std.specs.Prelude.{nat_lt}
+use Rattle.wh_history.specs.Accepted.{Accepted}
+use Rattle.wh_history.specs.Tables.{Limits}
+use Rattle.wh_rows.specs.Raw.{Stored, HasDamageIn}
+use Rattle.wh_rows.specs.declared.table.Table.{Table}
+use Rattle.wh_rows.specs.declared.table.Table.TheVariants.{Meta, Command, Member, Change, Product, Store, Customer, Profile, Calendar, Fact}
+use Rattle.wh_sql.specs.declared.fault.ReadFault.{ReadFault}
+use Rattle.wh_sql.specs.declared.fault.ReadFault.TheVariants.{Memory, Damaged, Store as Refuses}
+use Rattle.wh_admission.specs.Checked.{IsDefined, SaysLimits, SaysCommands, table_place, IsFirstWrong}
+use Rattle.wh_check.specs.Judged.{IsJudged}
+use Rattle.wh_check.specs.declared.verdict.Verdict.{Verdict}
+use Rattle.wh_check.specs.declared.verdict.Verdict.TheVariants.{Clean, Wrong}
+use Rattle.sqlite_trees.specs.declared.memory.MemStore.{MemStore}
+use Rattle.wh_rows.specs.Rows as row
+use Rattle.wh_sql.specs.Reads.{IsOfDamage}
+use Rattle.wh_store.specs.declared.tables.Tables.{Tables}
+use Rattle.wh_check.proofs.Assembling.{damaged_first, none_before_meta, meta_wrong, meta_before_command, command_wrong, defined_before, table_wrong, all_clean}
+use Rattle.wh_check.specs.Meta.{AreLimitsSaid}
+use Rattle.wh_engine.specs.Judging.{IsDefinedIn, IsOfDamageIn}
+use Rattle.wh_engine.specs.Replica.{HoldsAll, IsReplicated}
+
+-- ---- places
+
+of_place : ℕ → Table
+of_place n =
+    cond (nat_eq n 0) Meta (cond (nat_eq n 1) Command (cond (nat_eq n 2) Member (cond (nat_eq n 3) Change (cond (nat_eq n 4) Product (cond (nat_eq n 5) Store (cond (nat_eq n 6) Customer (cond (nat_eq n 7) Profile (cond (nat_eq n 8) Calendar Fact))))))))
+
+placed_back : (t : Table) → of_place (table_place t) ≡ t
+unfolding of_place
+placed_back Meta = refl
+placed_back Command = refl
+placed_back Member = refl
+placed_back Change = refl
+placed_back Product = refl
+placed_back Store = refl
+placed_back Customer = refl
+placed_back Profile = refl
+placed_back Calendar = refl
+placed_back Fact = refl
+
+same_place : (a b : Table) → table_place a ≡ table_place b → a ≡ b
+same_place a b same = sym (placed_back a) ∙ ap of_place same ∙ placed_back b
+
+below_ten : (t : Table) → table_place t < 10
+below_ten Meta = omega arith
+below_ten Command = omega arith
+below_ten Member = omega arith
+below_ten Change = omega arith
+below_ten Product = omega arith
+below_ten Store = omega arith
+below_ten Customer = omega arith
+below_ten Profile = omega arith
+below_ten Calendar = omega arith
+below_ten Fact = omega arith
+
+is_lt : (m n : ℕ) → nat_lt m n ≡ true → m < n
+is_lt m n h = grind (arith, h)
+
+not_lt : (m n : ℕ) → nat_lt m n ≡ false → n ≤ m
+not_lt m n h = grind (arith, h)
+
+-- the tables before a place, but for meta and the commands, are as they are defined
+abbrev pub AreDefinedTo : Limits → List Accepted → Stored → ℕ → Type 0
+AreDefinedTo limits commands stored place = (earlier : Table) → 2 ≤ table_place earlier → table_place earlier < place → IsDefined limits commands stored earlier
+
+pub none_yet : (limits : Limits) (commands : List Accepted) (stored : Stored) → AreDefinedTo limits commands stored 2
+none_yet limits commands stored earlier from to = absurd (omega (arith, from, to))
+
+pub one_more : (limits : Limits) (commands : List Accepted) (stored : Stored) (place next : ℕ) (table : Table) → next ≡ suc place → table_place table ≡ place → AreDefinedTo limits commands stored place → IsDefined limits commands stored table → AreDefinedTo limits commands stored next
+one_more limits commands stored place next table follows is before here earlier from to = go (nat_lt (table_place earlier) place) refl
+  where
+    go : (b : Bool) → nat_lt (table_place earlier) place ≡ b → IsDefined limits commands stored earlier
+    go true less = before earlier from (is_lt (table_place earlier) place less)
+    go false more =
+        let least = not_lt (table_place earlier) place more in
+        let at : table_place table ≡ table_place earlier = omega (arith, least, to, follows, is) in
+        subst (IsDefined limits commands stored) (same_place table earlier at) here
+
+module _ (limits : Limits) (commands : List Accepted) (stored : Stored) (said : SaysCommands stored limits commands) where
+  with_first : (place : ℕ) → AreDefinedTo limits commands stored place → (earlier : Table) → table_place earlier < place → IsDefined limits commands stored earlier
+  with_first place rest Meta less = said.said.defined
+  with_first place rest Command less = said.defined
+  with_first place rest Member less = rest Member (omega arith) less
+  with_first place rest Change less = rest Change (omega arith) less
+  with_first place rest Product less = rest Product (omega arith) less
+  with_first place rest Store less = rest Store (omega arith) less
+  with_first place rest Customer less = rest Customer (omega arith) less
+  with_first place rest Profile less = rest Profile (omega arith) less
+  with_first place rest Calendar less = rest Calendar (omega arith) less
+  with_first place rest Fact less = rest Fact (omega arith) less
+
+  pub clean_judged : AreDefinedTo limits commands stored 10 → IsJudged stored (Ok Clean)
+  clean_judged rest = all_clean stored limits said.said commands said (λ table. with_first 10 rest table (below_ten table))
+
+  module _ (table : Table) (rest : AreDefinedTo limits commands stored (table_place table)) where
+    pub wrong_judged : IsDefinedIn limits commands stored table false → IsJudged stored (Ok (Wrong table))
+    wrong_judged isnt = (table_wrong stored limits said.said commands said table (with_first (table_place table) rest) isnt.0, isnt.1)
+
+    pub fault_judged : (fault : ReadFault) → IsOfDamageIn stored table fault → IsJudged stored (Err fault)
+    fault_judged Memory is = tt
+    fault_judged (Refuses why) is = tt
+    fault_judged (Damaged which) is =
+        let damage = is.1 in
+        let wrong = damaged_first stored table (defined_before stored limits said.said commands said table (with_first (table_place table) rest)) damage in
+        subst (λ t. IsFirstWrong stored t × HasDamageIn stored t) (sym is.0) (wrong, damage)
+
+-- ---- meta and the commands
+
+pub meta_fault : (stored : Stored) (fault : ReadFault) → IsOfDamage row.meta Meta (stored Meta) fault → IsJudged stored (Err fault)
+meta_fault stored Memory is = tt
+meta_fault stored (Refuses why) is = tt
+meta_fault stored (Damaged which) is = subst (λ t. IsFirstWrong stored t × HasDamageIn stored t) (sym is.0) (damaged_first stored Meta (none_before_meta stored) is.1, is.1)
+
+pub meta_none : (stored : Stored) → AreLimitsSaid stored None → IsJudged stored (Ok (Wrong Meta))
+meta_none stored none = (meta_wrong stored none.0, none.1)
+
+module _ (stored : Stored) (limits : Limits) (meta : SaysLimits stored limits) where
+  pub command_fault : (fault : ReadFault) → IsOfDamage row.command Command (stored Command) fault → IsJudged stored (Err fault)
+  command_fault Memory is = tt
+  command_fault (Refuses why) is = tt
+  command_fault (Damaged which) is = subst (λ t. IsFirstWrong stored t × HasDamageIn stored t) (sym is.0) (damaged_first stored Command (meta_before_command stored limits meta) is.1, is.1)
+
+  pub command_none : IsReplicated stored limits None → IsJudged stored (Ok (Wrong Command))
+  command_none none = (command_wrong stored limits meta none.0, none.1)
+
+  pub rest_judged : (tables : Tables MemStore) (result : Result Verdict ReadFault) → IsReplicated stored limits (Some tables)
+      → ((others : Limits) (commands : List Accepted) → HoldsAll others commands tables → SaysCommands stored others commands → IsJudged stored result) → IsJudged stored result
+  rest_judged tables result is judged = judged limits is.0 is.3 (record { said = meta; admitted = is.1; defined = is.2 })

@@ -1,0 +1,141 @@
+//! Whether what is stored is what its commands define: a second warehouse in memory is sent them, and its tables are compared with those that are stored.
+
+ghost use Rattle.std.specs.Prelude.{◌≡◌, ◌≤◌, ◌<◌, List, false, Some, Err, IsTrue, IfOk, IfErr};
+ghost use Rattle.sqlite.specs.State.{HasCleanDisk};
+ghost use Rattle.sqlite.specs.Steps.{over_memory};
+ghost use Rattle.wh_history.specs.Accepted.{Accepted};
+ghost use Rattle.wh_history.specs.Tables.{Limits as LimitCounts};
+ghost use Rattle.wh_rows.specs.AtRest.{IsAtRest};
+ghost use Rattle.wh_rows.specs.Tables.{Tables as TenTables};
+ghost use Rattle.wh_rows.specs.Raw.{Stored, RestsOn, LeavesStored};
+ghost use Rattle.wh_sql.specs.Reads.{IsServed as IsServedRead};
+ghost use Rattle.wh_store.specs.Reads.{ReadsOnly, Spares, state_of, SaysAsStored};
+ghost use Rattle.wh_admission.specs.Checked.{SaysCommands, table_place};
+ghost use Rattle.wh_check.specs.Judged.{IsJudged};
+ghost use Rattle.wh_engine.specs.Answered.{IsReady};
+ghost use Rattle.wh_engine.specs.Faults.{IsServed, IsWorkedOut, stops};
+ghost use Rattle.wh_engine.specs.Checked.{IsChecked, IsCheckedOf};
+ghost use Rattle.wh_engine.specs.Replica.{HoldsAll};
+ghost use Rattle.wh_engine.specs.Judging.{IsDefinedIn, IsOfDamageIn};
+
+use crate::engine::Engine;
+use crate::fault::{Fault, stops};
+use crate::replica::make_replica;
+use sqlite::{Alter, MemStore};
+use std::alloc::Global;
+use wh_check::{Verdict, holds_the_same, limits_said};
+use wh_rows::{Table, tables};
+use wh_store::{ReadFault, Tables};
+
+/// Whether a table stores what the commands define whose tables are in memory.
+fn is_defined_in<S: Alter>(
+    tables: &mut Tables<S>,
+    alloc: Global,
+    replica: &mut Tables<MemStore>,
+    table: Table,
+) -> Result<bool, ReadFault>
+    ensures reads { ReadsOnly (state_of S.Store tables.old) (state_of S.Store tables.new) result }
+    ensures rests { (t : TenTables) → IsAtRest (Some t) (state_of over_memory replica.old) → IfOk result (λ _. IsAtRest (Some t) (state_of over_memory replica.new)) }
+    ensures defined { SaysAsStored (state_of S.Store tables.old) (state_of S.Store tables.new) (λ stored. (limits : LimitCounts) (commands : List Accepted) → HoldsAll limits commands replica.old → IfOk result (IsDefinedIn limits commands stored table)) }
+    ensures damaged { SaysAsStored (state_of S.Store tables.old) (state_of S.Store tables.new) (λ stored. IfErr result (IsOfDamageIn stored table)) }
+{
+    match table {
+        Table::Meta => holds_the_same::<tables::Meta, S>(tables, alloc, replica),
+        Table::Command => holds_the_same::<tables::Command, S>(tables, alloc, replica),
+        Table::Member => holds_the_same::<tables::Member, S>(tables, alloc, replica),
+        Table::Change => holds_the_same::<tables::Change, S>(tables, alloc, replica),
+        Table::Product => holds_the_same::<tables::Product, S>(tables, alloc, replica),
+        Table::Store => holds_the_same::<tables::Store, S>(tables, alloc, replica),
+        Table::Customer => holds_the_same::<tables::Customer, S>(tables, alloc, replica),
+        Table::Profile => holds_the_same::<tables::Profile, S>(tables, alloc, replica),
+        Table::Calendar => holds_the_same::<tables::Calendar, S>(tables, alloc, replica),
+        Table::Fact => holds_the_same::<tables::Fact, S>(tables, alloc, replica),
+    }
+}
+
+/// The table at a place, from 0, in the order in which they are checked.
+fn table_at(place: u8) -> Table
+    ensures { place ≤ 9 → table_place result ≡ place }
+{
+    match place {
+        0 => Table::Meta,
+        1 => Table::Command,
+        2 => Table::Member,
+        3 => Table::Change,
+        4 => Table::Product,
+        5 => Table::Store,
+        6 => Table::Customer,
+        7 => Table::Profile,
+        8 => Table::Calendar,
+        _ => Table::Fact,
+    }
+}
+
+/// The first table after the commands that isn't what they define.
+fn judge_tables<S: Alter>(
+    tables: &mut Tables<S>,
+    alloc: Global,
+    mut replica: Tables<MemStore>,
+) -> Result<Verdict, ReadFault>
+    ensures reads { ReadsOnly (state_of S.Store tables.old) (state_of S.Store tables.new) result }
+    ensures judged { SaysAsStored (state_of S.Store tables.old) (state_of S.Store tables.new) (λ stored. (limits : LimitCounts) (commands : List Accepted) → HoldsAll limits commands replica → SaysCommands stored limits commands → IsJudged stored result) }
+{
+    'tables: for place in 2..10u8 {
+        let table = table_at(place);
+        if !is_defined_in(tables, alloc, &mut replica, table)? {
+            return Ok(Verdict::Wrong(table));
+        }
+    }
+    Ok(Verdict::Clean)
+}
+
+/// What is found of the ten tables.
+fn judge<S: Alter>(tables: &mut Tables<S>, alloc: Global) -> Result<Verdict, ReadFault>
+    ensures reads { Spares (state_of S.Store tables.old) (state_of S.Store tables.new) (IsServedRead result) }
+    ensures judged { SaysAsStored (state_of S.Store tables.old) (state_of S.Store tables.new) (λ stored. IsJudged stored result) }
+{
+    let Some(limits) = limits_said(tables, alloc)? else {
+        return Ok(Verdict::Wrong(Table::Meta));
+    };
+    let Some(replica) = make_replica(tables, alloc, limits)? else {
+        return Ok(Verdict::Wrong(Table::Command));
+    };
+    judge_tables(tables, alloc, replica)
+}
+
+/// The same, with the engine's faults.
+fn check_tables<S: Alter>(tables: &mut Tables<S>, alloc: Global) -> Result<Verdict, Fault>
+    ensures reads { Spares (state_of S.Store tables.old) (state_of S.Store tables.new) (IsServed result) }
+    ensures checked { SaysAsStored (state_of S.Store tables.old) (state_of S.Store tables.new) (λ stored. IsChecked stored result) }
+    ensures work { IsWorkedOut result }
+{
+    let verdict = judge(tables, alloc)?;
+    Ok(verdict)
+}
+
+impl<S: Alter> Engine<S> {
+    /// Whether the tables are what their commands define: clean, or the first table that is wrong. `Damaged` names that table where it
+    /// stores a row out of its type. Anybody may have written the rows. A warehouse in memory is made anew for it, and dropped. After a refusal of the store
+    /// it answers `Reopen`.
+    pub fn check(&mut self, alloc: Global) -> Result<Verdict, Fault>
+        ensures clean { HasCleanDisk (state_of S.Store self.new.tables) → HasCleanDisk (state_of S.Store self.old.tables) }
+        ensures checked { self.old.session.must_reopen ≡ false → SaysAsStored (state_of S.Store self.old.tables) (state_of S.Store self.new.tables) (λ stored. IsChecked stored result) }
+        ensures sound { HasCleanDisk (state_of S.Store self.new.tables) → (limits : LimitCounts) (commands : List Accepted) → IsReady limits commands self.old.session (state_of S.Store self.old.tables)
+            → IsCheckedOf limits commands result self.new.session (state_of S.Store self.new.tables) }
+        ensures untouched { HasCleanDisk (state_of S.Store self.new.tables) → (t : TenTables) → IsAtRest (Some t) (state_of S.Store self.old.tables) → IsServed result → IsAtRest (Some t) (state_of S.Store self.new.tables) }
+        ensures untouched_stored { HasCleanDisk (state_of S.Store self.new.tables) → (stored : Stored) → RestsOn stored (state_of S.Store self.old.tables) → IsServed result → RestsOn stored (state_of S.Store self.new.tables) }
+        // A crash leaves what was stored, whatever is answered.
+        ensures leaves { HasCleanDisk (state_of S.Store self.new.tables) → (stored : Stored) → RestsOn stored (state_of S.Store self.old.tables) → LeavesStored stored (state_of S.Store self.new.tables) }
+        ensures reopen { IsTrue self.old.session.must_reopen → (result ≡ Err Fault.Reopen) × (self.new.tables ≡ self.old.tables) × (self.new.session ≡ self.old.session) }
+        ensures only { result ≡ Err Fault.Reopen → IsTrue self.old.session.must_reopen }
+        ensures noted { self.old.session.must_reopen ≡ false → self.new.session ≡ record (self.old.session) { must_reopen = stops result } }
+        ensures writes { self.new.writes ≡ self.old.writes }
+    {
+        if self.session.must_reopen {
+            return Err(Fault::Reopen);
+        }
+        let verdict = check_tables(&mut self.tables, alloc);
+        self.session.must_reopen = stops(&verdict);
+        verdict
+    }
+}

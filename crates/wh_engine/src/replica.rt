@@ -1,0 +1,161 @@
+//! A second warehouse, in memory: it is made anew and sent each command that the command table tells, so that it holds what these define.
+
+ghost use Rattle.std.specs.Prelude.{◌≡◌, ◌&&◌, ◌==◌, List, [], true, Some, IfOk, IfErr};
+ghost use Rattle.sqlite.specs.Steps.{over_memory};
+ghost use Rattle.wh_history.specs.Accepted.{Accepted};
+ghost use Rattle.wh_history.specs.Tables.{Limits as LimitCounts};
+ghost use Rattle.wh_rows.specs.Rows as row;
+ghost use Rattle.wh_rows.specs.declared.table.Table.TheVariants.{Command as OfCommand};
+ghost use Rattle.wh_sql.specs.Reads.{IsOfDamage};
+ghost use Rattle.wh_store.specs.Reads.{ReadsOnly, state_of, SaysAsStored};
+ghost use Rattle.wh_admission.specs.Steps.{IsBegunWith};
+ghost use Rattle.wh_engine.specs.Replica.{is_making_row, IsOpenFor, IsReplica, IsFollowed, IsMadeOrNot, IsReplicated, IsEndOf};
+
+use crate::engine::Engine;
+use crate::fault::Fault;
+use crate::opening::InitFault;
+use sqlite::{Alter, MemStore};
+use std::alloc::{AllocError, Global};
+use wh_admission::{Command, Receipt, Reply};
+use wh_batch::CommandKind;
+use wh_rows::{CommandRow, Limits, tables};
+use wh_store::{Cursor, ReadFault, Tables, next_row, open_fresh};
+
+/// Whether a row says of the making what it has to, but for its bytes.
+fn is_making_row(row: &CommandRow) -> bool
+    ensures { result ≡ is_making_row row.now }
+{
+    row.id.as_str() == "init"
+        && row.kind.as_str() == "init"
+        && row.number == 1
+        && row.records == 0
+        && row.placeholders == 0
+}
+
+/// A warehouse in memory that is made as a row says, if it is the row of a making.
+fn made(
+    alloc: Global,
+    limits: Limits,
+    row: &CommandRow,
+) -> Result<Option<Engine<MemStore>>, AllocError>
+    ensures { IfOk result (IsMadeOrNot limits row.now) }
+{
+    if !is_making_row(row) {
+        return Ok(None);
+    }
+    let connection = open_fresh(alloc)?;
+    match Engine::init(alloc, connection, row.bytes.as_slice(), limits) {
+        Ok(engine) => Ok(Some(engine)),
+        Err((InitFault::Policy(_), _)) => Ok(None),
+        Err(_) => Err(AllocError),
+    }
+}
+
+/// Whether a receipt says this.
+fn says(receipt: Receipt, number: u64, records: u64, placeholders: u64) -> bool
+    ensures { result ≡ ((receipt.number == number) && (receipt.records == records) && (receipt.placeholders == placeholders)) }
+{
+    receipt.number == number && receipt.records == records && receipt.placeholders == placeholders
+}
+
+/// Sends a warehouse in memory the command of a row, and tells whether it is the next one, and this its row.
+fn follow(engine: &mut Engine<MemStore>, alloc: Global, row: CommandRow) -> Result<bool, AllocError>
+    ensures { (limits : LimitCounts) (commands : List Accepted) → IsOpenFor limits commands engine.old → IfOk result (IsFollowed limits commands row (λ list. IsOpenFor limits list engine.new)) }
+{
+    let Some(kind) = CommandKind::from_word(row.kind.as_str()) else {
+        return Ok(false);
+    };
+    let CommandRow {
+        number,
+        id,
+        kind: _word,
+        bytes,
+        records,
+        placeholders,
+    } = row;
+    let command = Command { id, kind, bytes };
+    match engine.apply(alloc, &command) {
+        Ok(Reply::Accepted(receipt)) => Ok(says(receipt, number, records, placeholders)),
+        Ok(Reply::Already(_)) => Ok(false),
+        Err(Fault::Refused(_)) => Ok(false),
+        Err(_) => Err(AllocError),
+    }
+}
+
+/// The warehouse in memory, once the first command came.
+#[derive(Drop)]
+pub(crate) struct Replica {
+    limits: Limits,
+    engine: Option<Engine<MemStore>>,
+}
+
+impl Replica {
+    /// No command yet.
+    fn new(limits: Limits) -> Replica
+        ensures { IsReplica limits [] result }
+    {
+        Replica {
+            limits,
+            engine: None,
+        }
+    }
+
+    /// Whether a row is that of the next command that is accepted. If it is, the warehouse has it; if not, or after an `Err`,
+    /// nothing is known any more.
+    fn take_row(&mut self, alloc: Global, row: CommandRow) -> Result<bool, AllocError>
+        ensures { (limits : LimitCounts) (commands : List Accepted) → IsReplica limits commands self.old → IfOk result (IsFollowed limits commands row (λ list. IsReplica limits list self.new)) }
+    {
+        if let Some(engine) = &mut self.engine {
+            return follow(engine, alloc, row);
+        }
+        match made(alloc, self.limits, &row)? {
+            Some(engine) => {
+                self.engine = Some(engine);
+                Ok(true)
+            }
+            None => Ok(false),
+        }
+    }
+}
+
+/// The tables of the warehouse, where it has a command and each row was that of the next.
+fn tables_of(is_list: bool, replica: Replica) -> Option<Tables<MemStore>>
+    ensures { IsEndOf is_list replica result }
+{
+    if !is_list {
+        return None;
+    }
+    match replica.engine {
+        Some(engine) => Some(engine.tables),
+        None => None,
+    }
+}
+
+/// Tables in memory that are those of the commands which the command table tells, where it tells a list that was admitted under
+/// these limits, with the receipts that were kept. It is read to its end, so that a damaged row is met wherever it stands.
+pub(crate) fn make_replica<S: Alter>(
+    tables: &mut Tables<S>,
+    alloc: Global,
+    limits: Limits,
+) -> Result<Option<Tables<MemStore>>, ReadFault>
+    ensures reads { ReadsOnly (state_of S.Store tables.old) (state_of S.Store tables.new) result }
+    ensures replicated { SaysAsStored (state_of S.Store tables.old) (state_of S.Store tables.new) (λ stored. IfOk result (IsReplicated stored limits)) }
+    ensures damaged { SaysAsStored (state_of S.Store tables.old) (state_of S.Store tables.new) (λ stored. IfErr result (IsOfDamage row.command OfCommand (stored OfCommand))) }
+{
+    // Each is from 1 to its greatest, as these calls say.
+    let _each = (limits.commands(), limits.changes(), limits.facts());
+    let mut cursor = Cursor::new(alloc);
+    let mut replica = Replica::new(limits);
+    let mut is_list = true;
+    'rows: for _ in 0..u64::MAX {
+        match next_row::<tables::Command, S>(tables, alloc, &mut cursor)? {
+            Some(row) => {
+                if is_list {
+                    is_list = replica.take_row(alloc, row)?;
+                }
+            }
+            None => return Ok(tables_of(is_list, replica)),
+        }
+    }
+    Err(ReadFault::Memory)
+}

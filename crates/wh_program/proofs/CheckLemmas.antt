@@ -1,0 +1,90 @@
+-- What a check of a warehouse's file leaves of what stood.
+use Rattle.std.proofs.Common.{◌≡◌, inl, inr, refl, List, None, Result, Ok, Err}
+use Rattle.std.specs.Prelude.{IfOk}
+use Rattle.sqlite.specs.State.{State}
+use Rattle.wh_history.specs.Accepted.{Accepted}
+use Rattle.wh_history.specs.Tables.{Limits}
+use Rattle.wh_rows.specs.AtRest.{IsAtRest}
+use Rattle.wh_rows.specs.Raw.{Stored, RestsOn, LeavesStored}
+use Rattle.wh_store.specs.Opening.{SparesStore}
+use Rattle.wh_store.specs.Raw.{FormatIs}
+use Rattle.wh_store.specs.declared.fault.OpenFault.{OpenFault}
+use Rattle.wh_store.specs.declared.fault.OpenFault.TheVariants as opening
+use Rattle.wh_admission.specs.Admission.{AreAdmitted}
+use Rattle.wh_check.specs.declared.verdict.Verdict.{Verdict}
+use Rattle.wh_engine.specs.Answered as engine
+use Rattle.wh_engine.specs.Answered.{IsReady}
+use Rattle.wh_engine.specs.Checked.{IsChecked, IsCheckedOf}
+use Rattle.wh_engine.specs.Faults.{IsServed}
+use Rattle.wh_engine.specs.Opened.{SessionIs, IsNotOpened, IsUnopened as UnopenedBy}
+use Rattle.wh_engine.specs.declared.fault.Fault.{Fault}
+use Rattle.wh_engine.specs.declared.fault.Fault.TheVariants as fault
+use Rattle.wh_engine.specs.declared.session.Session.{Session}
+use Rattle.wh_program.specs.Check.{IsFoundClean, IsVerdictOn, Checks}
+use Rattle.wh_program.specs.Reply.{opening_answer, verdict_answer}
+use Rattle.wh_program.specs.Standing.{Content, Nothing, Holds, Keeps, Standing, Rests, LeftAt, IsAt, Stands}
+use Rattle.wh_program.specs.Warehouse.{Told, IsOpenedBy}
+use Rattle.wh_program.proofs.WarehouseLemmas.{opened, unopened, opened_by, unread}
+
+-- of accepted commands
+found_clean : (limits : Limits) (commands : List Accepted) (told : Told) (verdict : Result Verdict Fault) (session : Session) (s : State)
+    → IfOk told (λ a. a ≡ verdict_answer verdict) → IsCheckedOf limits commands verdict session s
+    → (after : Standing) × IsFoundClean limits commands told after × Stands after s
+found_clean limits commands told (Ok verdict) session s tells (is, ready) =
+    (Rests (Holds limits commands), record { verdict = Ok verdict; leaves = (is, refl); tells = tells }, (ready.admitted, ready.rests))
+found_clean limits commands told (Err (fault.Refused why)) session s tells none = absurd none
+found_clean limits commands told (Err (fault.Damaged table)) session s tells none = absurd none
+found_clean limits commands told (Err fault.Memory) session s tells ready =
+    (Rests (Holds limits commands), record { verdict = Err fault.Memory; leaves = refl; tells = tells }, (ready.admitted, ready.rests))
+found_clean limits commands told (Err (fault.Store cause)) session s tells stopped =
+    (LeftAt (Holds limits commands) (Holds limits commands), record { verdict = Err (fault.Store cause); leaves = refl; tells = tells }, record { each = stopped.left.each })
+found_clean limits commands told (Err fault.Reopen) session s tells none = absurd none
+
+-- of rows that anybody wrote
+judged : (stored : Stored) (told : Told) (verdict : Result Verdict Fault) (s : State)
+    → IfOk told (λ a. a ≡ verdict_answer verdict) → IsOpenedBy stored → IsChecked stored verdict → (IsServed verdict → RestsOn stored s) → LeavesStored stored s
+    → (after : Standing) × IsVerdictOn stored told after × Stands after s
+judged stored told (Ok verdict) s tells opened due rests left = (Rests (Keeps stored), record { opened = opened; verdict = Ok verdict; due = due; leaves = refl; tells = tells }, rests tt)
+judged stored told (Err (fault.Refused why)) s tells opened due rests left = absurd due
+judged stored told (Err (fault.Damaged table)) s tells opened due rests left =
+    (Rests (Keeps stored), record { opened = opened; verdict = Err (fault.Damaged table); due = due; leaves = refl; tells = tells }, rests tt)
+judged stored told (Err fault.Memory) s tells opened due rests left = (Rests (Keeps stored), record { opened = opened; verdict = Err fault.Memory; due = due; leaves = refl; tells = tells }, rests tt)
+judged stored told (Err (fault.Store cause)) s tells opened due rests left =
+    (LeftAt (Keeps stored) (Keeps stored), record { opened = opened; verdict = Err (fault.Store cause); due = due; leaves = refl; tells = tells }, record { each = λ trees may. inl (left.each trees may) })
+judged stored told (Err fault.Reopen) s tells opened due rests left = absurd due
+
+module _ (content : Content) (told : Told) where
+  -- a file that was opened and checked
+  pub checked : (verdict : Result Verdict Fault) (first last : Session) (s0 s1 s2 : State)
+      → ((limits : Limits) (commands : List Accepted) → AreAdmitted limits commands → engine.Rests limits commands s0 → IsReady limits commands first s1)
+      → ((limits : Limits) (commands : List Accepted) → IsReady limits commands first s1 → IsCheckedOf limits commands verdict last s2)
+      → (IsAtRest None s0 → ⊥)
+      → ((stored : Stored) → RestsOn stored s0 → FormatIs stored (Ok tt) × SessionIs stored first × RestsOn stored s1)
+      → ((stored : Stored) → RestsOn stored s1 → IsChecked stored verdict)
+      → ((stored : Stored) → RestsOn stored s1 → IsServed verdict → RestsOn stored s2)
+      → ((stored : Stored) → RestsOn stored s1 → LeavesStored stored s2)
+      → IfOk told (λ a. a ≡ verdict_answer verdict)
+      → IsAt content s0 → (after : Standing) × Checks content told after × Stands after s2
+  checked verdict first last s0 s1 s2 opens sound missing found due rests left tells at = elim content as (λ what. IsAt what s0 → (after : Standing) × Checks what told after × Stands after s2) [
+    | Nothing ↦ λ at. absurd (missing at)
+    | Holds limits commands ↦ λ at.
+        let it = found_clean limits commands told verdict last s2 tells (sound limits commands (opens limits commands at.0 at.1)) in
+        (it.0, inl it.1, it.2)
+    | Keeps stored ↦ λ at.
+        let here = found stored at in
+        let it = judged stored told verdict s2 tells (opened_by stored first s1 here) (due stored here.2) (rests stored here.2) (left stored here.2) in
+        (it.0, inl it.1, it.2)
+  ] at
+
+  -- or one that was not opened
+  pub unchecked : (why : OpenFault) (s0 s1 : State)
+      → ((limits : Limits) (commands : List Accepted) → AreAdmitted limits commands → engine.Rests limits commands s0 → IsNotOpened limits commands why s1)
+      → (IsAtRest None s0 → (why ≡ opening.NotAWarehouse) × IsAt Nothing s1)
+      → ((stored : Stored) → RestsOn stored s0 → UnopenedBy stored why × LeavesStored stored s1 × (SparesStore why → RestsOn stored s1))
+      → IfOk told (λ a. a ≡ opening_answer why)
+      → IsAt content s0 → (after : Standing) × Checks content told after × Stands after s1
+  unchecked why s0 s1 refused missing bad tells at = elim content as (λ what. IsAt what s0 → (after : Standing) × Checks what told after × Stands after s1) [
+    | Nothing ↦ λ at. unopened IsFoundClean Nothing told why s0 s1 refused missing bad tells at
+    | Holds limits commands ↦ λ at. unopened IsFoundClean (Holds limits commands) told why s0 s1 refused missing bad tells at
+    | Keeps stored ↦ λ at. let it = unread stored told why s1 tells (bad stored at) in (it.0, inr it.1, it.2)
+  ] at

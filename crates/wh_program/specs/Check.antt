@@ -1,0 +1,53 @@
+-- What a check of a warehouse's file answers and leaves.
+use Rattle.std.specs.Prelude.{◌≡◌, ◌⊎◌, ℕ, List, Result, Ok, Err, IfOk}
+use Rattle.wh_history.specs.Accepted.{Accepted}
+use Rattle.wh_history.specs.Tables.{Limits}
+use Rattle.wh_rows.specs.Raw.{Stored}
+use Rattle.wh_check.specs.declared.verdict.Verdict.{Verdict}
+use Rattle.wh_check.specs.declared.verdict.Verdict.TheVariants.{Clean}
+use Rattle.wh_engine.specs.Checked.{IsChecked}
+use Rattle.wh_engine.specs.declared.fault.Fault.{Fault}
+use Rattle.wh_engine.specs.declared.fault.Fault.TheVariants as fault
+use Rattle.wh_program.specs.Reply.{verdict_answer}
+use Rattle.wh_program.specs.Standing.{Content, Nothing, Holds, Keeps, Standing, Rests, LeftAt}
+use Rattle.wh_program.specs.Warehouse.{Told, Opens, IsOpenedBy, IsUnread, IsTried, IsNotConnected}
+
+-- ---- of accepted commands
+
+-- What a check leaves of a warehouse with these commands: they are as they were, and it is clean.
+abbrev pub LeavesClean : Limits → List Accepted → Result Verdict Fault → Standing → Type 0
+LeavesClean limits commands (Ok verdict) after = (verdict ≡ Clean) × (after ≡ Rests (Holds limits commands))
+LeavesClean limits commands (Err fault.Memory) after = after ≡ Rests (Holds limits commands)
+LeavesClean limits commands (Err (fault.Store cause)) after = after ≡ LeftAt (Holds limits commands) (Holds limits commands)
+LeavesClean limits commands (Err _) after = ⊥
+
+pub record IsFoundClean (limits : Limits) (commands : List Accepted) (told : Told) (after : Standing) : Type 0 where
+  pub verdict : Result Verdict Fault
+  pub leaves : LeavesClean limits commands verdict after
+  pub tells : IfOk told (λ a. a ≡ verdict_answer verdict)
+
+-- ---- of rows that anybody wrote
+
+-- What a check leaves of them: they are as they were.
+abbrev pub LeavesJudged : Stored → Result Verdict Fault → Standing → Type 0
+LeavesJudged stored (Err (fault.Store cause)) after = after ≡ LeftAt (Keeps stored) (Keeps stored)
+LeavesJudged stored verdict after = after ≡ Rests (Keeps stored)
+
+-- they are opened, the verdict is the one that is due, and just that is printed
+pub record IsVerdictOn (stored : Stored) (told : Told) (after : Standing) : Type 0 where
+  pub opened : IsOpenedBy stored
+  pub verdict : Result Verdict Fault
+  pub due : IsChecked stored verdict
+  pub leaves : LeavesJudged stored verdict after
+  pub tells : IfOk told (λ a. a ≡ verdict_answer verdict)
+
+-- ---- the word
+
+-- What opens what stands and checks it.
+abbrev pub Checks : Content → Told → Standing → Type 0
+Checks Nothing told after = Opens IsFoundClean Nothing told after
+Checks (Holds limits commands) told after = Opens IsFoundClean (Holds limits commands) told after
+Checks (Keeps stored) told after = IsVerdictOn stored told after ⊎ IsUnread stored told after
+
+abbrev pub AnswersCheck : (Standing → Type 0) → Content → (file : List ℕ) → Told → Type 0
+AnswersCheck stands content file told = IsTried stands (Checks content) told ⊎ IsNotConnected stands content file told
