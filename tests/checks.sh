@@ -44,7 +44,7 @@ UPDATE command SET placeholders = placeholders + 1 WHERE id = 'sales2'|wrong: co
 UPDATE command SET bytes = 'text' WHERE id = 'store2'|failed: E7 damaged, command
 DELETE FROM command WHERE id = 'product3'|wrong: command
 UPDATE member SET opening = opening + 1 WHERE dim = 1 AND durable = 7|wrong: member
-UPDATE change SET v1 = v1 || '!' WHERE command = 3 AND record = 5|wrong: change
+UPDATE change SET v1 = 'Other' WHERE command = 3 AND record = 5|wrong: change
 UPDATE product SET to_day = from_day WHERE surrogate = (SELECT max(surrogate) FROM product)|wrong: product
 UPDATE store SET a1 = x'41' WHERE surrogate = 1|failed: E7 damaged, store
 DELETE FROM customer WHERE surrogate = 0|wrong: customer
