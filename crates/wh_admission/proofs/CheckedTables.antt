@@ -19,7 +19,7 @@ use Rattle.wh_rows.specs.Defined.{meta_at, command_at}
 use Rattle.wh_rows.specs.declared.rows.MetaRow.{MetaRow}
 use Rattle.wh_rows.specs.declared.rows.CommandRow.{CommandRow}
 use Rattle.wh_rows.specs.declared.table.Table.{Table}
-use Rattle.wh_rows.specs.declared.table.Table.TheVariants.{Meta, Command, Member, Change, Product, Store, Customer, Profile, Calendar, Fact}
+use Rattle.wh_rows.specs.declared.table.Table.TheVariants.{Meta, Command, Member, Change, Product, Store, Customer, Profile, Calendar, Fact, Fact2, Void}
 use Rattle.wh_rows.specs.Raw.{Stored, HasDamageIn}
 use Rattle.wh_rows.specs.Rows as row
 use Rattle.wh_rows.specs.Sound.{making_of}
@@ -49,10 +49,10 @@ same_numbers : (m n : ℕ) → pos m ≡ pos n → m ≡ n
 unfolding natural_of
 same_numbers m n is = ap natural_of is
 
-pub limits_are_one : (stored : Stored) (limits others : Limits) → AreRowsAt row.meta (meta_at limits) (stored Meta) → AreRowsAt row.meta (meta_at others) (stored Meta) → limits ≡ others
+pub limits_are_one : (stored : Stored) (limits others : Limits) → AreRowsAt row.meta (meta_at limits) (stored.rows Meta) → AreRowsAt row.meta (meta_at others) (stored.rows Meta) → limits ≡ others
 unfolding number_of
 limits_are_one stored limits others first second =
-    let same = same_function row.meta places.meta.total (stored Meta) places.meta.once (meta_at limits) (meta_at others) first second (meta_keyed limits) (meta_keyed others) in
+    let same = same_function row.meta places.meta.total (stored.rows Meta) places.meta.once (meta_at limits) (meta_at others) first second (meta_keyed limits) (meta_keyed others) in
     let commands : limits.commands ≡ others.commands = same_numbers _ _ (ap number_of (same (codes "commands_max"))) in
     let changes : limits.changes ≡ others.changes = same_numbers _ _ (ap number_of (same (codes "changes_max"))) in
     let facts : limits.facts ≡ others.facts = same_numbers _ _ (ap number_of (same (codes "facts_max"))) in
@@ -143,9 +143,9 @@ by_steps limits commands told one two same =
 pub told_by_headers : (limits : Limits) (commands told : List Accepted) → AreAdmitted limits commands → AreAdmitted limits told → map header commands ≡ map header told → commands ≡ told
 told_by_headers limits commands told it other same = by_steps limits commands told (stepped limits commands it) (stepped limits told other) same
 
-pub commands_told : (stored : Stored) (limits : Limits) (commands told : List Accepted) → AreAdmitted limits commands → AreAdmitted limits told → AreRowsAt row.command (command_at commands) (stored Command) → AreRowsAt row.command (command_at told) (stored Command) → commands ≡ told
+pub commands_told : (stored : Stored) (limits : Limits) (commands told : List Accepted) → AreAdmitted limits commands → AreAdmitted limits told → AreRowsAt row.command (command_at commands) (stored.rows Command) → AreRowsAt row.command (command_at told) (stored.rows Command) → commands ≡ told
 commands_told stored limits commands told it other first second =
-    let same = same_function row.command places.command.total (stored Command) places.command.once (command_at commands) (command_at told) first second (command_keyed commands) (command_keyed told) in
+    let same = same_function row.command places.command.total (stored.rows Command) places.command.once (command_at commands) (command_at told) first second (command_keyed commands) (command_keyed told) in
     told_by_headers limits commands told it other (lists_same header commands told (λ n. sym (header_at commands (suc n)) ∙ ap header_of (same (suc n)) ∙ header_at told (suc n)))
 
 pub commands_are_one : CommandsAreOne
@@ -175,6 +175,8 @@ right_from stored limits commands said Customer defined = as_commanded stored Cu
 right_from stored limits commands said Profile defined = as_commanded stored Profile limits commands said defined
 right_from stored limits commands said Calendar defined = as_commanded stored Calendar limits commands said defined
 right_from stored limits commands said Fact defined = as_commanded stored Fact limits commands said defined
+right_from stored limits commands said Fact2 defined = as_commanded stored Fact2 limits commands said defined
+right_from stored limits commands said Void defined = as_commanded stored Void limits commands said defined
 
 pub defined_from : (stored : Stored) (limits : Limits) (commands : List Accepted) → SaysCommands stored limits commands → (table : Table) → IsRight stored table → IsDefined limits commands stored table
 defined_from stored limits commands said Meta right = said.said.defined
@@ -187,6 +189,8 @@ defined_from stored limits commands said Customer right = defined_by stored Cust
 defined_from stored limits commands said Profile right = defined_by stored Profile limits commands said right
 defined_from stored limits commands said Calendar right = defined_by stored Calendar limits commands said right
 defined_from stored limits commands said Fact right = defined_by stored Fact limits commands said right
+defined_from stored limits commands said Fact2 right = defined_by stored Fact2 limits commands said right
+defined_from stored limits commands said Void right = defined_by stored Void limits commands said right
 
 says_of_sound : (stored : Stored) (it : IsSoundStored stored) → SaysCommands stored it.limits it.commands
 says_of_sound stored it = record { said = record { good = it.admitted.limited; defined = it.each Meta }; admitted = it.admitted; defined = it.each Command }
@@ -202,23 +206,25 @@ sound_is_each_right stored = (
 -- ---- damage
 
 undamaged_in : (stored : Stored) (table : Table) (limits : Limits) (commands : List Accepted) → IsDefined limits commands stored table → ¬ HasDamageIn stored table
-undamaged_in stored Meta limits commands are = undamaged row.meta places.meta.total (stored Meta) (meta_at limits) are
-undamaged_in stored Command limits commands are = undamaged row.command places.command.total (stored Command) (command_at commands) are
-undamaged_in stored Member limits commands are = undamaged row.member places.member.total (stored Member) _ are
-undamaged_in stored Change limits commands are = undamaged row.change places.change.total (stored Change) _ are
-undamaged_in stored Product limits commands are = undamaged row.product places.product.total (stored Product) _ are
-undamaged_in stored Store limits commands are = undamaged row.store places.store.total (stored Store) _ are
-undamaged_in stored Customer limits commands are = undamaged row.customer places.customer.total (stored Customer) _ are
-undamaged_in stored Profile limits commands are = undamaged row.profile places.profile.total (stored Profile) _ are
-undamaged_in stored Calendar limits commands are = undamaged row.calendar places.calendar.total (stored Calendar) _ are
-undamaged_in stored Fact limits commands are = undamaged row.fact places.fact.total (stored Fact) _ are
+undamaged_in stored Meta limits commands are = undamaged row.meta places.meta.total (stored.rows Meta) (meta_at limits) are
+undamaged_in stored Command limits commands are = undamaged row.command places.command.total (stored.rows Command) (command_at commands) are
+undamaged_in stored Member limits commands are = undamaged row.member places.member.total (stored.rows Member) _ are
+undamaged_in stored Change limits commands are = undamaged row.change places.change.total (stored.rows Change) _ are
+undamaged_in stored Product limits commands are = undamaged row.product places.product.total (stored.rows Product) _ are
+undamaged_in stored Store limits commands are = undamaged row.store places.store.total (stored.rows Store) _ are
+undamaged_in stored Customer limits commands are = undamaged row.customer places.customer.total (stored.rows Customer) _ are
+undamaged_in stored Profile limits commands are = undamaged row.profile places.profile.total (stored.rows Profile) _ are
+undamaged_in stored Calendar limits commands are = undamaged row.calendar places.calendar.total (stored.rows Calendar) _ are
+undamaged_in stored Fact limits commands are = undamaged row.fact places.fact.total (stored.rows Fact) _ are
+undamaged_in stored Fact2 limits commands are = undamaged row.fact2 places.fact2.total (stored.rows Fact2) _ are
+undamaged_in stored Void limits commands are = undamaged row.void places.void.total (stored.rows Void) _ are
 
 commanded_undamaged : (stored : Stored) (table : Table) → IsAsCommanded stored table → ¬ HasDamageIn stored table
 commanded_undamaged stored table right = undamaged_in stored table right.limits right.commands right.defined
 
 pub damage_is_wrong : DamageIsWrong
-damage_is_wrong stored Meta damage right = undamaged row.meta places.meta.total (stored Meta) (meta_at right.0) right.1.defined damage
-damage_is_wrong stored Command damage right = undamaged row.command places.command.total (stored Command) (command_at right.1) right.2.defined damage
+damage_is_wrong stored Meta damage right = undamaged row.meta places.meta.total (stored.rows Meta) (meta_at right.0) right.1.defined damage
+damage_is_wrong stored Command damage right = undamaged row.command places.command.total (stored.rows Command) (command_at right.1) right.2.defined damage
 damage_is_wrong stored Member damage right = commanded_undamaged stored Member right damage
 damage_is_wrong stored Change damage right = commanded_undamaged stored Change right damage
 damage_is_wrong stored Product damage right = commanded_undamaged stored Product right damage
@@ -227,3 +233,5 @@ damage_is_wrong stored Customer damage right = commanded_undamaged stored Custom
 damage_is_wrong stored Profile damage right = commanded_undamaged stored Profile right damage
 damage_is_wrong stored Calendar damage right = commanded_undamaged stored Calendar right damage
 damage_is_wrong stored Fact damage right = commanded_undamaged stored Fact right damage
+damage_is_wrong stored Fact2 damage right = commanded_undamaged stored Fact2 right damage
+damage_is_wrong stored Void damage right = commanded_undamaged stored Void right damage

@@ -1,17 +1,18 @@
 -- What is sound are the ten tables of commands that were admitted.
-use Rattle.std.proofs.Common.{◌≡◌, List, Option}
-use Rattle.std.specs.FinMap.{FinMap, get}
+use Rattle.std.proofs.Common.{◌≡◌, List, Option, refl}
+use Rattle.std.specs.FinMap.{FinMap, get, empty}
 use Rattle.sqlite.specs.Order.{Row}
 use Rattle.wh_policy.specs.declared.attribute.Dim.TheVariants.{Product as Products, Store as Stores, Customer as Customers}
 use Rattle.wh_history.specs.Accepted.{Accepted}
 use Rattle.wh_history.specs.Tables.{Limits, dimension_row}
 use Rattle.wh_rows.specs.Defined.{AreOf, meta_at, command_at, member_at, change_at, profile_at, calendar_at, fact_at}
+use Rattle.wh_rows.specs.declared.format.Format.TheVariants.{One}
 use Rattle.wh_rows.specs.Holds.{Layout}
 use Rattle.wh_rows.specs.Raw.{Stored}
 use Rattle.wh_rows.specs.Rows as row
 use Rattle.wh_rows.specs.Tables.{Tables}
 use Rattle.wh_rows.specs.declared.table.Table.{Table}
-use Rattle.wh_rows.specs.declared.table.Table.TheVariants.{Meta, Command, Member, Change, Product, Store, Customer, Profile, Calendar, Fact}
+use Rattle.wh_rows.specs.declared.table.Table.TheVariants.{Meta, Command, Member, Change, Product, Store, Customer, Profile, Calendar, Fact, Fact2, Void}
 use Rattle.wh_admission.specs.Checked.{AreRowsAt, IsDefined}
 use Rattle.wh_admission.specs.Sound.{AreRowsOf, StoresTable, SoundIsOfCommands}
 
@@ -25,6 +26,7 @@ module _ (stored : Stored) (limits : Limits) (commands : List Accepted) where
   module _ (each : (table : Table) → IsDefined limits commands stored table) where
     abbrev found : Tables
     found = record {
+      format = One;
       meta = (each Meta).rows;
       command = (each Command).rows;
       member = (each Member).rows;
@@ -35,10 +37,13 @@ module _ (stored : Stored) (limits : Limits) (commands : List Accepted) where
       profile = (each Profile).rows;
       calendar = (each Calendar).rows;
       fact = (each Fact).rows;
+      fact2 = empty;
+      void = empty;
     }
 
     found_are : AreOf limits commands found
     found_are = record {
+      format = refl;
       meta = (each Meta).are;
       command = (each Command).are;
       member = (each Member).are;
@@ -52,29 +57,33 @@ module _ (stored : Stored) (limits : Limits) (commands : List Accepted) where
     }
 
     found_stored : (table : Table) → StoresTable stored found table
-    found_stored Meta = rows_of row.meta (meta_at limits) (stored Meta) (each Meta)
-    found_stored Command = rows_of row.command (command_at commands) (stored Command) (each Command)
-    found_stored Member = rows_of row.member (member_at commands) (stored Member) (each Member)
-    found_stored Change = rows_of row.change (change_at commands) (stored Change) (each Change)
-    found_stored Product = rows_of row.product (dimension_row commands Products) (stored Product) (each Product)
-    found_stored Store = rows_of row.store (dimension_row commands Stores) (stored Store) (each Store)
-    found_stored Customer = rows_of row.customer (dimension_row commands Customers) (stored Customer) (each Customer)
-    found_stored Profile = rows_of row.profile (profile_at commands) (stored Profile) (each Profile)
-    found_stored Calendar = rows_of row.calendar (calendar_at commands) (stored Calendar) (each Calendar)
-    found_stored Fact = rows_of row.fact (fact_at commands) (stored Fact) (each Fact)
+    found_stored Meta = rows_of row.meta (meta_at limits) (stored.rows Meta) (each Meta)
+    found_stored Command = rows_of row.command (command_at commands) (stored.rows Command) (each Command)
+    found_stored Member = rows_of row.member (member_at commands) (stored.rows Member) (each Member)
+    found_stored Change = rows_of row.change (change_at commands) (stored.rows Change) (each Change)
+    found_stored Product = rows_of row.product (dimension_row commands Products) (stored.rows Product) (each Product)
+    found_stored Store = rows_of row.store (dimension_row commands Stores) (stored.rows Store) (each Store)
+    found_stored Customer = rows_of row.customer (dimension_row commands Customers) (stored.rows Customer) (each Customer)
+    found_stored Profile = rows_of row.profile (profile_at commands) (stored.rows Profile) (each Profile)
+    found_stored Calendar = rows_of row.calendar (calendar_at commands) (stored.rows Calendar) (each Calendar)
+    found_stored Fact = rows_of row.fact (fact_at commands) (stored.rows Fact) (each Fact)
+    found_stored Fact2 = each Fact2
+    found_stored Void = each Void
 
   module _ (t : Tables) (are : AreOf limits commands t) (stores : (table : Table) → StoresTable stored t table) where
     defined : (table : Table) → IsDefined limits commands stored table
-    defined Meta = rows_at row.meta t.meta (meta_at limits) (stored Meta) are.meta (stores Meta)
-    defined Command = rows_at row.command t.command (command_at commands) (stored Command) are.command (stores Command)
-    defined Member = rows_at row.member t.member (member_at commands) (stored Member) are.member (stores Member)
-    defined Change = rows_at row.change t.change (change_at commands) (stored Change) are.change (stores Change)
-    defined Product = rows_at row.product t.product (dimension_row commands Products) (stored Product) are.product (stores Product)
-    defined Store = rows_at row.store t.store (dimension_row commands Stores) (stored Store) are.store (stores Store)
-    defined Customer = rows_at row.customer t.customer (dimension_row commands Customers) (stored Customer) are.customer (stores Customer)
-    defined Profile = rows_at row.profile t.profile (profile_at commands) (stored Profile) are.profile (stores Profile)
-    defined Calendar = rows_at row.calendar t.calendar (calendar_at commands) (stored Calendar) are.calendar (stores Calendar)
-    defined Fact = rows_at row.fact t.fact (fact_at commands) (stored Fact) are.fact (stores Fact)
+    defined Meta = rows_at row.meta t.meta (meta_at limits) (stored.rows Meta) are.meta (stores Meta)
+    defined Command = rows_at row.command t.command (command_at commands) (stored.rows Command) are.command (stores Command)
+    defined Member = rows_at row.member t.member (member_at commands) (stored.rows Member) are.member (stores Member)
+    defined Change = rows_at row.change t.change (change_at commands) (stored.rows Change) are.change (stores Change)
+    defined Product = rows_at row.product t.product (dimension_row commands Products) (stored.rows Product) are.product (stores Product)
+    defined Store = rows_at row.store t.store (dimension_row commands Stores) (stored.rows Store) are.store (stores Store)
+    defined Customer = rows_at row.customer t.customer (dimension_row commands Customers) (stored.rows Customer) are.customer (stores Customer)
+    defined Profile = rows_at row.profile t.profile (profile_at commands) (stored.rows Profile) are.profile (stores Profile)
+    defined Calendar = rows_at row.calendar t.calendar (calendar_at commands) (stored.rows Calendar) are.calendar (stores Calendar)
+    defined Fact = rows_at row.fact t.fact (fact_at commands) (stored.rows Fact) are.fact (stores Fact)
+    defined Fact2 = stores Fact2
+    defined Void = stores Void
 
 pub sound_is_of_commands : SoundIsOfCommands
 sound_is_of_commands stored = (

@@ -1,5 +1,5 @@
 -- Whether any stored rows are what the accepted commands define, table by table.
-use Rattle.std.specs.Prelude.{◌≡◌, ◌<◌, ℕ, true, List, map, Option, IsTrue}
+use Rattle.std.specs.Prelude.{◌≡◌, ◌<◌, ℕ, true, List, map, Option, None, IsTrue}
 use Rattle.std.specs.List.{list_all}
 use Rattle.std.specs.FinMap.{FinMap, get, values}
 use Rattle.std.specs.List.Sorted.{IsPermutation}
@@ -13,7 +13,7 @@ use Rattle.wh_rows.specs.Limits.{are_limits}
 use Rattle.wh_rows.specs.Raw.{Stored, HasDamageIn}
 use Rattle.wh_rows.specs.Rows as row
 use Rattle.wh_rows.specs.declared.table.Table.{Table}
-use Rattle.wh_rows.specs.declared.table.Table.TheVariants.{Meta, Command, Member, Change, Product, Store, Customer, Profile, Calendar, Fact}
+use Rattle.wh_rows.specs.declared.table.Table.TheVariants.{Meta, Command, Member, Change, Product, Store, Customer, Profile, Calendar, Fact, Fact2, Void}
 use Rattle.wh_admission.specs.Admission.{AreAdmitted}
 
 -- The stored rows are those that a function gives its keys, of values of their types: none is missing, none is more, and none is damaged.
@@ -23,18 +23,20 @@ pub record AreRowsAt {K V : Type 0} (layout : Layout K V) (row_at : K → Option
   pub valid : IsTrue (list_all layout.is_valid (values rows))
   pub same : IsPermutation stored (map layout.encode (values rows))
 
--- what is stored in a table is what limits and accepted commands define
+-- What is stored in a table is what limits and accepted commands define. No command makes the second format, so its two tables have no row.
 abbrev pub IsDefined : Limits → List Accepted → Stored → Table → Type 0
-IsDefined limits commands stored Meta = AreRowsAt row.meta (meta_at limits) (stored Meta)
-IsDefined limits commands stored Command = AreRowsAt row.command (command_at commands) (stored Command)
-IsDefined limits commands stored Member = AreRowsAt row.member (member_at commands) (stored Member)
-IsDefined limits commands stored Change = AreRowsAt row.change (change_at commands) (stored Change)
-IsDefined limits commands stored Product = AreRowsAt row.product (dimension_row commands Products) (stored Product)
-IsDefined limits commands stored Store = AreRowsAt row.store (dimension_row commands Stores) (stored Store)
-IsDefined limits commands stored Customer = AreRowsAt row.customer (dimension_row commands Customers) (stored Customer)
-IsDefined limits commands stored Profile = AreRowsAt row.profile (profile_at commands) (stored Profile)
-IsDefined limits commands stored Calendar = AreRowsAt row.calendar (calendar_at commands) (stored Calendar)
-IsDefined limits commands stored Fact = AreRowsAt row.fact (fact_at commands) (stored Fact)
+IsDefined limits commands stored Meta = AreRowsAt row.meta (meta_at limits) (stored.rows Meta)
+IsDefined limits commands stored Command = AreRowsAt row.command (command_at commands) (stored.rows Command)
+IsDefined limits commands stored Member = AreRowsAt row.member (member_at commands) (stored.rows Member)
+IsDefined limits commands stored Change = AreRowsAt row.change (change_at commands) (stored.rows Change)
+IsDefined limits commands stored Product = AreRowsAt row.product (dimension_row commands Products) (stored.rows Product)
+IsDefined limits commands stored Store = AreRowsAt row.store (dimension_row commands Stores) (stored.rows Store)
+IsDefined limits commands stored Customer = AreRowsAt row.customer (dimension_row commands Customers) (stored.rows Customer)
+IsDefined limits commands stored Profile = AreRowsAt row.profile (profile_at commands) (stored.rows Profile)
+IsDefined limits commands stored Calendar = AreRowsAt row.calendar (calendar_at commands) (stored.rows Calendar)
+IsDefined limits commands stored Fact = AreRowsAt row.fact (fact_at commands) (stored.rows Fact)
+IsDefined limits commands stored Fact2 = AreRowsAt row.fact2 (λ _. None) (stored.rows Fact2)
+IsDefined limits commands stored Void = AreRowsAt row.void (λ _. None) (stored.rows Void)
 
 -- What is stored is sound: it is that of a list of commands that were admitted, one after the other, under good limits.
 pub record IsSoundStored (stored : Stored) : Type 0 where
@@ -48,13 +50,13 @@ pub record IsSoundStored (stored : Stored) : Type 0 where
 -- meta says these limits, which are good; the format is 1
 pub record SaysLimits (stored : Stored) (limits : Limits) : Type 0 where
   pub good : are_limits limits ≡ true
-  pub defined : AreRowsAt row.meta (meta_at limits) (stored Meta)
+  pub defined : AreRowsAt row.meta (meta_at limits) (stored.rows Meta)
 
 -- the command table says these commands, which were admitted under the limits that meta says
 pub record SaysCommands (stored : Stored) (limits : Limits) (commands : List Accepted) : Type 0 where
   pub said : SaysLimits stored limits
   pub admitted : AreAdmitted limits commands
-  pub defined : AreRowsAt row.command (command_at commands) (stored Command)
+  pub defined : AreRowsAt row.command (command_at commands) (stored.rows Command)
 
 -- the table is what the command table defines
 pub record IsAsCommanded (stored : Stored) (table : Table) : Type 0 where
@@ -75,6 +77,8 @@ IsRight stored Customer = IsAsCommanded stored Customer
 IsRight stored Profile = IsAsCommanded stored Profile
 IsRight stored Calendar = IsAsCommanded stored Calendar
 IsRight stored Fact = IsAsCommanded stored Fact
+IsRight stored Fact2 = IsAsCommanded stored Fact2
+IsRight stored Void = IsAsCommanded stored Void
 
 -- the order in which tables are checked
 abbrev pub table_place : Table → ℕ
@@ -88,6 +92,8 @@ table_place Customer = 6
 table_place Profile = 7
 table_place Calendar = 8
 table_place Fact = 9
+table_place Fact2 = 10
+table_place Void = 11
 
 -- all tables before it are as they should be
 abbrev pub AreRightBefore : Stored → Table → Type 0

@@ -6,7 +6,7 @@ use Rattle.wh_rows.specs.Defined.{command_at}
 use Rattle.wh_rows.specs.Raw.{Stored, HasDamageIn}
 use Rattle.wh_rows.specs.Rows as row
 use Rattle.wh_rows.specs.declared.table.Table.{Table}
-use Rattle.wh_rows.specs.declared.table.Table.TheVariants.{Meta, Command, Member, Change, Product, Store, Customer, Profile, Calendar, Fact}
+use Rattle.wh_rows.specs.declared.table.Table.TheVariants.{Meta, Command, Member, Change, Product, Store, Customer, Profile, Calendar, Fact, Fact2, Void}
 use Rattle.wh_admission.specs.Admission.{AreAdmitted}
 use Rattle.wh_admission.specs.Checked.{AreRowsAt, IsDefined, IsSoundStored, SaysLimits, SaysCommands, table_place, AreRightBefore, IsFirstWrong}
 use Rattle.wh_admission.proofs.CheckedTables.{limits_are_one, right_from, defined_from, damage_is_wrong}
@@ -35,9 +35,11 @@ module _ (stored : Stored) where
     meta_before_command Profile less = absurd (omega (arith, less))
     meta_before_command Calendar less = absurd (omega (arith, less))
     meta_before_command Fact less = absurd (omega (arith, less))
+    meta_before_command Fact2 less = absurd (omega (arith, less))
+    meta_before_command Void less = absurd (omega (arith, less))
 
     -- the command table tells no list that was admitted under these limits
-    pub command_wrong : ((commands : List Accepted) → AreAdmitted limits commands → ¬ AreRowsAt row.command (command_at commands) (stored Command)) → IsFirstWrong stored Command
+    pub command_wrong : ((commands : List Accepted) → AreAdmitted limits commands → ¬ AreRowsAt row.command (command_at commands) (stored.rows Command)) → IsFirstWrong stored Command
     command_wrong none = record {
       before = meta_before_command;
       wrong = λ right.

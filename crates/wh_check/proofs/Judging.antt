@@ -4,7 +4,7 @@ use Rattle.std.specs.Prelude.{slice_get, unwrap_or, [], ◌∷◌}
 use Rattle.std.proofs.lemmas.Bool.{cases_lt}
 use Rattle.wh_rows.specs.Raw.{Stored, HasDamageIn}
 use Rattle.wh_rows.specs.declared.table.Table.{Table}
-use Rattle.wh_rows.specs.declared.table.Table.TheVariants.{Meta, Command, Member, Change, Product, Store, Customer, Profile, Calendar, Fact}
+use Rattle.wh_rows.specs.declared.table.Table.TheVariants.{Meta, Command, Member, Change, Product, Store, Customer, Profile, Calendar, Fact, Fact2, Void}
 use Rattle.wh_sql.specs.declared.fault.ReadFault.TheVariants as fault
 use Rattle.wh_admission.specs.Checked.{IsSoundStored, table_place, IsFirstWrong}
 use Rattle.wh_admission.proofs.CheckedTables.{sound_is_each_right}
@@ -12,7 +12,7 @@ use Rattle.wh_check.specs.declared.verdict.Verdict.TheVariants.{Clean, Wrong}
 use Rattle.wh_check.specs.Judged.{VerdictsAreOne}
 
 table_at : ℕ → Table
-table_at n = unwrap_or (slice_get (Meta ∷ Command ∷ Member ∷ Change ∷ Product ∷ Store ∷ Customer ∷ Profile ∷ Calendar ∷ Fact ∷ []) n) Meta
+table_at n = unwrap_or (slice_get (Meta ∷ Command ∷ Member ∷ Change ∷ Product ∷ Store ∷ Customer ∷ Profile ∷ Calendar ∷ Fact ∷ Fact2 ∷ Void ∷ []) n) Meta
 
 at_place : (table : Table) → table_at (table_place table) ≡ table
 unfolding table_at
@@ -26,6 +26,8 @@ at_place Customer = refl
 at_place Profile = refl
 at_place Calendar = refl
 at_place Fact = refl
+at_place Fact2 = refl
+at_place Void = refl
 
 first_is_one : (stored : Stored) (table other : Table) → IsFirstWrong stored table → IsFirstWrong stored other → table ≡ other
 first_is_one stored table other first second = go (cases_lt (table_place table) (table_place other)) (cases_lt (table_place other) (table_place table))

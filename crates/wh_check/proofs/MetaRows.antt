@@ -39,9 +39,9 @@ stands_so k v = and_true _ ∙ equal-Text v.name k
 meta_keyed : (limits : Limits) (name : List ℕ) (v : MetaRow) → meta_at limits name ≡ Some v → row.meta.key v ≡ name
 meta_keyed limits name v is = keyed_map row.meta.key name (λ (value : ℕ). record { name = name; value = pos value }) (λ _. refl) (meta_value limits name) v is
 
-number_read : (stored : Stored) (limits : Limits) → AreRowsAt row.meta (meta_at limits) (stored Meta) → (name : List ℕ) (number : Option ℤ) → IsNumberIn stored name number → number ≡ meta_number (meta_at limits name)
+number_read : (stored : Stored) (limits : Limits) → AreRowsAt row.meta (meta_at limits) (stored.rows Meta) → (name : List ℕ) (number : Option ℤ) → IsNumberIn stored name number → number ≡ meta_number (meta_at limits name)
 number_read stored limits are name number it =
-    it.2 ∙ ap meta_number (found_at row.meta places.meta.total places.meta.once stands_at_text stands_so (meta_at limits) (meta_keyed limits) (stored Meta) are name it.0 it.1)
+    it.2 ∙ ap meta_number (found_at row.meta places.meta.total places.meta.once stands_at_text stands_so (meta_at limits) (meta_keyed limits) (stored.rows Meta) are name it.0 it.1)
 
 -- the limits that are read by their names are those that meta says
 pub limits_read : (stored : Stored) (limits : Limits) (told : Option Limits) → SaysLimits stored limits → LimitsAre stored told → told ≡ Some limits
@@ -59,17 +59,17 @@ undamaged_by stored row_at true told = undamaged row.meta places.meta.total stor
 undamaged_by stored row_at false told = told.1
 
 -- limits that were read, and that meta doesn't say, are said by none
-pub no_limits : (stored : Stored) (limits : Limits) → LimitsAre stored (Some limits) → AreRowsOrNot row.meta (meta_at limits) (stored Meta) false → AreLimitsSaid stored None
+pub no_limits : (stored : Stored) (limits : Limits) → LimitsAre stored (Some limits) → AreRowsOrNot row.meta (meta_at limits) (stored.rows Meta) false → AreLimitsSaid stored None
 no_limits stored limits read told = (
-  λ others says. let same : limits ≡ others = some_is limits others (limits_read stored others (Some limits) says read) in told.0 (subst (λ l. AreRowsAt row.meta (meta_at l) (stored Meta)) (sym same) says.defined),
+  λ others says. let same : limits ≡ others = some_is limits others (limits_read stored others (Some limits) says read) in told.0 (subst (λ l. AreRowsAt row.meta (meta_at l) (stored.rows Meta)) (sym same) says.defined),
   told.1,
 )
 
-named_damage : (stored : Stored) (name : List ℕ) → HasDamage row.meta (rows_named stored name) → HasDamage row.meta (stored Meta)
-named_damage stored name damage = (damage.0, kept_has (stands_at_text name) (stored Meta) damage.0 damage.1, damage.2)
+named_damage : (stored : Stored) (name : List ℕ) → HasDamage row.meta (rows_named stored name) → HasDamage row.meta (stored.rows Meta)
+named_damage stored name damage = (damage.0, kept_has (stands_at_text name) (stored.rows Meta) damage.0 damage.1, damage.2)
 
 -- nor are any said where none were read
-pub none_read : (stored : Stored) (which : Table) → IsLimitless stored (fault.Damaged which) → ¬ HasDamage row.meta (stored Meta) → AreLimitsSaid stored None
+pub none_read : (stored : Stored) (which : Table) → IsLimitless stored (fault.Damaged which) → ¬ HasDamage row.meta (stored.rows Meta) → AreLimitsSaid stored None
 none_read stored which none undamaged = (λ limits says. go none.1 limits says, undamaged)
   where
     none_some : (limits : Limits) → ◌≡◌ {A = Option Limits} None (Some limits) → ⊥

@@ -9,4 +9,4 @@ use Rattle.wh_admission.specs.Checked.{SaysLimits}
 -- Meta says these limits; or it says none, and none of its rows is damaged.
 abbrev pub AreLimitsSaid : Stored → Option Limits → Type 0
 AreLimitsSaid stored (Some limits) = SaysLimits stored limits
-AreLimitsSaid stored None = ((limits : Limits) → ¬ SaysLimits stored limits) × (¬ HasDamage row.meta (stored Meta))
+AreLimitsSaid stored None = ((limits : Limits) → ¬ SaysLimits stored limits) × (¬ HasDamage row.meta (stored.rows Meta))

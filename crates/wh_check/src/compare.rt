@@ -71,8 +71,8 @@ pub fn holds_the_same<T: Plain, S: Alter>(
     ensures reads { ReadsOnly (state_of S.Store tables.old) (state_of S.Store tables.new) result }
     ensures rests { (t : TenTables) → IsAtRest (Some t) (state_of over_memory expected.old) → OnOk result (IsAtRest (Some t) (state_of over_memory expected.new)) }
     ensures same { SaysAsStored (state_of S.Store tables.old) (state_of S.Store tables.new) (λ stored. (t : TenTables) → IsAtRest (Some t) (state_of over_memory expected.old)
-        → IfOk result (AreRowsOrNot T.StoredTable.layout (get (T.StoredTable.rows t)) (stored T.Keeps.name))) }
-    ensures damaged { SaysAsStored (state_of S.Store tables.old) (state_of S.Store tables.new) (λ stored. IfErr result (IsOfDamage T.StoredTable.layout T.Keeps.name (stored T.Keeps.name))) }
+        → IfOk result (AreRowsOrNot T.StoredTable.layout (get (T.StoredTable.rows t)) (stored.rows T.Keeps.name))) }
+    ensures damaged { SaysAsStored (state_of S.Store tables.old) (state_of S.Store tables.new) (λ stored. IfErr result (IsOfDamage T.StoredTable.layout T.Keeps.name (stored.rows T.Keeps.name))) }
 {
     let mut cursor = Cursor::new(alloc);
     let mut ahead = Cursor::new(alloc);

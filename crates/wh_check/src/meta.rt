@@ -50,8 +50,8 @@ fn holds_limits<S: Alter>(
     limits: Limits,
 ) -> Result<bool, ReadFault>
     ensures reads { ReadsOnly (state_of S.Store tables.old) (state_of S.Store tables.new) result }
-    ensures said { SaysAsStored (state_of S.Store tables.old) (state_of S.Store tables.new) (λ stored. IfOk result (AreRowsOrNot row.meta (meta_at limits) (stored Meta))) }
-    ensures damaged { SaysAsStored (state_of S.Store tables.old) (state_of S.Store tables.new) (λ stored. IfErr result (IsOfDamage row.meta Meta (stored Meta))) }
+    ensures said { SaysAsStored (state_of S.Store tables.old) (state_of S.Store tables.new) (λ stored. IfOk result (AreRowsOrNot row.meta (meta_at limits) (stored.rows Meta))) }
+    ensures damaged { SaysAsStored (state_of S.Store tables.old) (state_of S.Store tables.new) (λ stored. IfErr result (IsOfDamage row.meta Meta (stored.rows Meta))) }
     ensures good { are_limits limits ≡ true }
 {
     // Each is from 1 to its greatest, as these calls say.
@@ -64,8 +64,8 @@ fn holds_limits<S: Alter>(
 /// Whether meta has no damaged row: it is read to its end, whatever it is compared with.
 fn is_undamaged<S: Alter>(tables: &mut Tables<S>, alloc: Global) -> Result<(), ReadFault>
     ensures reads { ReadsOnly (state_of S.Store tables.old) (state_of S.Store tables.new) result }
-    ensures undamaged { SaysAsStored (state_of S.Store tables.old) (state_of S.Store tables.new) (λ stored. OnOk result (¬ HasDamage row.meta (stored Meta))) }
-    ensures damaged { SaysAsStored (state_of S.Store tables.old) (state_of S.Store tables.new) (λ stored. IfErr result (IsOfDamage row.meta Meta (stored Meta))) }
+    ensures undamaged { SaysAsStored (state_of S.Store tables.old) (state_of S.Store tables.new) (λ stored. OnOk result (¬ HasDamage row.meta (stored.rows Meta))) }
+    ensures damaged { SaysAsStored (state_of S.Store tables.old) (state_of S.Store tables.new) (λ stored. IfErr result (IsOfDamage row.meta Meta (stored.rows Meta))) }
 {
     holds_limits(tables, alloc, Limits::greatest())?;
     Ok(())
@@ -78,7 +78,7 @@ pub fn limits_said<S: Alter>(
 ) -> Result<Option<Limits>, ReadFault>
     ensures reads { Spares (state_of S.Store tables.old) (state_of S.Store tables.new) (IsServed result) }
     ensures said { SaysAsStored (state_of S.Store tables.old) (state_of S.Store tables.new) (λ stored. IfOk result (AreLimitsSaid stored)) }
-    ensures damaged { SaysAsStored (state_of S.Store tables.old) (state_of S.Store tables.new) (λ stored. IfErr result (IsOfDamage row.meta Meta (stored Meta))) }
+    ensures damaged { SaysAsStored (state_of S.Store tables.old) (state_of S.Store tables.new) (λ stored. IfErr result (IsOfDamage row.meta Meta (stored.rows Meta))) }
     ensures good { IfOk result (λ said. IfSome said (λ limits. are_limits limits ≡ true)) }
 {
     match tables.limits(alloc) {

@@ -1,14 +1,24 @@
 -- One table after the other, to a verdict.
-use Rattle.std.proofs.Common.{◌≡◌, ◌≤◌, ◌<◌, ℕ, suc, Bool, true, false, cond, nat_eq, List, Some, None, Ok, Err, Result, refl, sym, ap, subst, ◌∙◌, arith}
-use Rattle.std.specs.Prelude.{nat_lt}
+use Rattle.std.proofs.Common.{◌≡◌, ◌≤◌, ◌<◌, ℕ, suc, Bool, true, false, cond, nat_eq, List, [], map, Some, None, Ok, Err, Result, refl, sym, ap, subst, ◌∙◌, arith}
+use Rattle.std.specs.Prelude.{nat_lt, IsTrue}
+use Rattle.std.specs.FinMap.{empty, get-empty}
+use Rattle.std.specs.List.{list_all}
+use Rattle.std.specs.List.Sorted.{IsPermutation}
+use Rattle.std.proofs.lemmas.List.Sorted.{IsPermutation-refl}
+use Rattle.sqlite.specs.State.{State}
 use Rattle.wh_history.specs.Accepted.{Accepted}
 use Rattle.wh_history.specs.Tables.{Limits}
-use Rattle.wh_rows.specs.Raw.{Stored, HasDamageIn}
+use Rattle.wh_rows.specs.declared.format.Format.TheVariants.{One}
+use Rattle.wh_rows.specs.Holds.{Layout}
+use Rattle.wh_rows.specs.Names.{is_there}
+use Rattle.wh_rows.specs.Raw.{Stored, HasDamageIn, RestsOn}
+use Rattle.wh_rows.proofs.Formats.{no_values}
+use Rattle.wh_store.proofs.Absent.{none_there}
 use Rattle.wh_rows.specs.declared.table.Table.{Table}
-use Rattle.wh_rows.specs.declared.table.Table.TheVariants.{Meta, Command, Member, Change, Product, Store, Customer, Profile, Calendar, Fact}
+use Rattle.wh_rows.specs.declared.table.Table.TheVariants.{Meta, Command, Member, Change, Product, Store, Customer, Profile, Calendar, Fact, Fact2, Void}
 use Rattle.wh_sql.specs.declared.fault.ReadFault.{ReadFault}
 use Rattle.wh_sql.specs.declared.fault.ReadFault.TheVariants.{Memory, Damaged, Store as Refuses}
-use Rattle.wh_admission.specs.Checked.{IsDefined, SaysLimits, SaysCommands, table_place, IsFirstWrong}
+use Rattle.wh_admission.specs.Checked.{AreRowsAt, IsDefined, SaysLimits, SaysCommands, table_place, IsFirstWrong}
 use Rattle.wh_check.specs.Judged.{IsJudged}
 use Rattle.wh_check.specs.declared.verdict.Verdict.{Verdict}
 use Rattle.wh_check.specs.declared.verdict.Verdict.TheVariants.{Clean, Wrong}
@@ -21,11 +31,22 @@ use Rattle.wh_check.specs.Meta.{AreLimitsSaid}
 use Rattle.wh_engine.specs.Judging.{IsDefinedIn, IsOfDamageIn}
 use Rattle.wh_engine.specs.Replica.{HoldsAll, IsReplicated}
 
+-- a table that isn't there has no row
+pub no_rows_there : {K V : Type 0} (layout : Layout K V) (name : Table) (s : State) (stored : Stored) → RestsOn stored s → is_there name stored.format ≡ false → AreRowsAt layout (λ _. None) (stored.rows name)
+no_rows_there {V = V} layout name s stored at absent =
+    let none = ap (map (λ e. e.1)) (no_values {V = V} layout.order) in
+    subst (AreRowsAt layout (λ _. None)) (sym (none_there name s stored at absent)) (record {
+      rows = empty;
+      are = λ key. get-empty layout.order key;
+      valid = subst (λ vs. IsTrue (list_all layout.is_valid vs)) (sym none) refl;
+      same = subst (λ vs. IsPermutation [] (map layout.encode vs)) (sym none) (IsPermutation-refl []);
+    })
+
 -- ---- places
 
 of_place : ℕ → Table
 of_place n =
-    cond (nat_eq n 0) Meta (cond (nat_eq n 1) Command (cond (nat_eq n 2) Member (cond (nat_eq n 3) Change (cond (nat_eq n 4) Product (cond (nat_eq n 5) Store (cond (nat_eq n 6) Customer (cond (nat_eq n 7) Profile (cond (nat_eq n 8) Calendar Fact))))))))
+    cond (nat_eq n 0) Meta (cond (nat_eq n 1) Command (cond (nat_eq n 2) Member (cond (nat_eq n 3) Change (cond (nat_eq n 4) Product (cond (nat_eq n 5) Store (cond (nat_eq n 6) Customer (cond (nat_eq n 7) Profile (cond (nat_eq n 8) Calendar (cond (nat_eq n 9) Fact (cond (nat_eq n 10) Fact2 Void))))))))))
 
 placed_back : (t : Table) → of_place (table_place t) ≡ t
 unfolding of_place
@@ -39,21 +60,25 @@ placed_back Customer = refl
 placed_back Profile = refl
 placed_back Calendar = refl
 placed_back Fact = refl
+placed_back Fact2 = refl
+placed_back Void = refl
 
 same_place : (a b : Table) → table_place a ≡ table_place b → a ≡ b
 same_place a b same = sym (placed_back a) ∙ ap of_place same ∙ placed_back b
 
-below_ten : (t : Table) → table_place t < 10
-below_ten Meta = omega arith
-below_ten Command = omega arith
-below_ten Member = omega arith
-below_ten Change = omega arith
-below_ten Product = omega arith
-below_ten Store = omega arith
-below_ten Customer = omega arith
-below_ten Profile = omega arith
-below_ten Calendar = omega arith
-below_ten Fact = omega arith
+below_twelve : (t : Table) → table_place t < 12
+below_twelve Meta = omega arith
+below_twelve Command = omega arith
+below_twelve Member = omega arith
+below_twelve Change = omega arith
+below_twelve Product = omega arith
+below_twelve Store = omega arith
+below_twelve Customer = omega arith
+below_twelve Profile = omega arith
+below_twelve Calendar = omega arith
+below_twelve Fact = omega arith
+below_twelve Fact2 = omega arith
+below_twelve Void = omega arith
 
 is_lt : (m n : ℕ) → nat_lt m n ≡ true → m < n
 is_lt m n h = grind (arith, h)
@@ -90,9 +115,11 @@ module _ (limits : Limits) (commands : List Accepted) (stored : Stored) (said : 
   with_first place rest Profile less = rest Profile (omega arith) less
   with_first place rest Calendar less = rest Calendar (omega arith) less
   with_first place rest Fact less = rest Fact (omega arith) less
+  with_first place rest Fact2 less = rest Fact2 (omega arith) less
+  with_first place rest Void less = rest Void (omega arith) less
 
-  pub clean_judged : AreDefinedTo limits commands stored 10 → IsJudged stored (Ok Clean)
-  clean_judged rest = all_clean stored limits said.said commands said (λ table. with_first 10 rest table (below_ten table))
+  pub clean_judged : AreDefinedTo limits commands stored 12 → IsJudged stored (Ok Clean)
+  clean_judged rest = all_clean stored limits said.said commands said (λ table. with_first 12 rest table (below_twelve table))
 
   module _ (table : Table) (rest : AreDefinedTo limits commands stored (table_place table)) where
     pub wrong_judged : IsDefinedIn limits commands stored table false → IsJudged stored (Ok (Wrong table))
@@ -108,7 +135,7 @@ module _ (limits : Limits) (commands : List Accepted) (stored : Stored) (said : 
 
 -- ---- meta and the commands
 
-pub meta_fault : (stored : Stored) (fault : ReadFault) → IsOfDamage row.meta Meta (stored Meta) fault → IsJudged stored (Err fault)
+pub meta_fault : (stored : Stored) (fault : ReadFault) → IsOfDamage row.meta Meta (stored.rows Meta) fault → IsJudged stored (Err fault)
 meta_fault stored Memory is = tt
 meta_fault stored (Refuses why) is = tt
 meta_fault stored (Damaged which) is = subst (λ t. IsFirstWrong stored t × HasDamageIn stored t) (sym is.0) (damaged_first stored Meta (none_before_meta stored) is.1, is.1)
@@ -117,7 +144,7 @@ pub meta_none : (stored : Stored) → AreLimitsSaid stored None → IsJudged sto
 meta_none stored none = (meta_wrong stored none.0, none.1)
 
 module _ (stored : Stored) (limits : Limits) (meta : SaysLimits stored limits) where
-  pub command_fault : (fault : ReadFault) → IsOfDamage row.command Command (stored Command) fault → IsJudged stored (Err fault)
+  pub command_fault : (fault : ReadFault) → IsOfDamage row.command Command (stored.rows Command) fault → IsJudged stored (Err fault)
   command_fault Memory is = tt
   command_fault (Refuses why) is = tt
   command_fault (Damaged which) is = subst (λ t. IsFirstWrong stored t × HasDamageIn stored t) (sym is.0) (damaged_first stored Command (meta_before_command stored limits meta) is.1, is.1)

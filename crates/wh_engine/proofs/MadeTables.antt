@@ -84,6 +84,7 @@ module _ (limits : Limits) (policy : Policy) (bytes : List ℕ) where
 
   pub tables_are : AreOf limits commands (tables_made limits policy bytes)
   tables_are = record {
+    format = refl;
     meta = meta_made limits;
     command = command_made;
     member = λ key. get-empty row.member.order key ∙ sym (no_member key);

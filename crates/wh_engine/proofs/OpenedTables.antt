@@ -12,11 +12,14 @@ use Rattle.wh_rows.specs.AtRest.{AreTrees, IsAtRest, Leaves}
 use Rattle.wh_rows.specs.Firsts.{last_one, part}
 use Rattle.wh_rows.specs.Questions.{gives_policy}
 use Rattle.wh_rows.specs.Limits.{limits_of, are_limits}
+use Rattle.wh_rows.specs.declared.format.Format.{Format}
+use Rattle.wh_rows.specs.declared.format.Format.TheVariants.{One}
+use Rattle.wh_rows.specs.Formats.{is_two}
 use Rattle.wh_rows.specs.Tables.{Tables}
 use Rattle.wh_rows.specs.declared.cause.Cause.{Cause}
 use Rattle.wh_rows.specs.declared.rows.CommandRow.{CommandRow}
 use Rattle.wh_rows.specs.declared.rows.MetaRow.{MetaRow}
-use Rattle.wh_store.specs.Meta.{meta_number, number_in, fault_of, limits_in}
+use Rattle.wh_store.specs.Meta.{meta_number, number_in, format_of, limits_in}
 use Rattle.wh_store.specs.Opening.{SparesStore, IsTaken, IsRefusedWith, unread}
 use Rattle.wh_rows.specs.declared.table.Table.{Table}
 use Rattle.wh_store.specs.Reads.{SparesRows, SparesStore as RefusesNothing}
@@ -71,15 +74,15 @@ module _ (t : Tables) where
 
   -- ---- the format comes first
 
-  pub format_fault : (fault : OpenFault) → fault_of (number_in t (codes "format")) ≡ Err fault → opened t ≡ Err fault
+  pub format_fault : (fault : OpenFault) → format_of One (is_two t.format) (number_in t (codes "format")) ≡ Err fault → opened t ≡ Err fault
   unfolding opened
   format_fault fault is = rw is refl
 
-  pub format_known : IsTaken t → opened t ≡ session_in t
+  pub format_known : (format : Format) → IsTaken One (is_two t.format) t format → opened t ≡ session_in t
   unfolding opened
-  format_known is = rw is refl
+  format_known format is = rw is refl
 
-  pub not_opened : (old s : State) (fault : OpenFault) → IsRefusedWith t old s fault → Leaves (Some t) s → (SparesStore fault → IsAtRest (Some t) s) → IsRead {A = Session} (Err fault) (opened t) t s
+  pub not_opened : (old s : State) (fault : OpenFault) → IsRefusedWith One (is_two t.format) t old s fault → Leaves (Some t) s → (SparesStore fault → IsAtRest (Some t) s) → IsRead {A = Session} (Err fault) (opened t) t s
   not_opened old s faults.NotAWarehouse refused left rests = (format_fault faults.NotAWarehouse refused, rests tt)
   not_opened old s faults.OldFormat refused left rests = (format_fault faults.OldFormat refused, rests tt)
   not_opened old s faults.NewFormat refused left rests = (format_fault faults.NewFormat refused, rests tt)
@@ -112,8 +115,8 @@ module _ (limits : Limits) (commands : List Accepted) (t : Tables) (accepted : I
   number_there : (name : List ℕ) (row : MetaRow) → meta_at limits name ≡ Some row → number_in t name ≡ Some row.value
   number_there name row is = ap meta_number (are.meta name ∙ is)
 
-  format_there : IsTaken t
-  format_there = ap fault_of (number_there (codes "format") (record { name = codes "format"; value = pos 1 }) refl)
+  format_there : IsTaken One (is_two t.format) t One
+  format_there = ap (format_of One (is_two t.format)) (number_there (codes "format") (record { name = codes "format"; value = pos 1 }) refl)
 
   limits_if : (b : Bool) → are_limits limits ≡ b → b ≡ true → limits_of limits.commands limits.changes limits.facts ≡ Some limits
   limits_if b is good = rw (is ∙ good) refl
@@ -136,7 +139,7 @@ module _ (limits : Limits) (commands : List Accepted) (t : Tables) (accepted : I
   ]
 
   pub opened_there : opened t ≡ Ok (record { limits = limits; policy = current_policy commands; must_reopen = false })
-  opened_there = format_known t format_there ∙ session_is t limits (current_policy commands) (ap of_limits limits_there) policy_there
+  opened_there = format_known t One format_there ∙ session_is t limits (current_policy commands) (ap of_limits limits_there) policy_there
 
   -- it is opened ready
   pub opened_ready : AreAdmitted limits commands → (session : Session) (s : State) → opened t ≡ Ok session → IsAtRest (Some t) s → IsReady limits commands session s

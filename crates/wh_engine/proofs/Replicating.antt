@@ -134,33 +134,33 @@ module _ (stored : List Row) (limits : Limits) (Left : List Row → Type 0) wher
 
 -- ---- at the end
 
-module _ (stored : Stored) (limits : Limits) (keyed : IsKeyed row.command bind_number stands_at_number) (once : (k : ℕ) → length (filter (stands_at_number k) (stored Command)) ≤ 1) (Left : List Row → Type 0) (ends : Left []) where
-  whole : (replay : Replica) (is_list : Bool) (it : HasReplicated (stored Command) limits Left replay is_list) → IsArranged row.command.table (stored Command) (map row.command.encode it.seen)
-  whole replay is_list it = subst (IsArranged row.command.table (stored Command)) (append-nil (map row.command.encode it.seen)) (it.before [] ends)
+module _ (stored : Stored) (limits : Limits) (keyed : IsKeyed row.command bind_number stands_at_number) (once : (k : ℕ) → length (filter (stands_at_number k) (stored.rows Command)) ≤ 1) (Left : List Row → Type 0) (ends : Left []) where
+  whole : (replay : Replica) (is_list : Bool) (it : HasReplicated (stored.rows Command) limits Left replay is_list) → IsArranged row.command.table (stored.rows Command) (map row.command.encode it.seen)
+  whole replay is_list it = subst (IsArranged row.command.table (stored.rows Command)) (append-nil (map row.command.encode it.seen)) (it.before [] ends)
 
-  pub told_list : (replay : Replica) (engine : Engine MemStore) → replay.engine ≡ Some engine → HasReplicated (stored Command) limits Left replay true → IsReplicated stored limits (Some engine.tables)
+  pub told_list : (replay : Replica) (engine : Engine MemStore) → replay.engine ≡ Some engine → HasReplicated (stored.rows Command) limits Left replay true → IsReplicated stored limits (Some engine.tables)
   told_list replay engine is it =
       let held = it.right refl in
       let for_them : IsOpenFor limits held.commands engine = subst (IsEngineOf limits held.commands) is held.held.engine_is in
       let valid : list_all row.command.is_valid (rows_of held.commands) ≡ true = ap (list_all row.command.is_valid) (sym held.rows) ∙ it.valid in
-      let same : IsPermutation (stored Command) (map row.command.encode (rows_of held.commands)) = subst (λ vs. IsPermutation (stored Command) (map row.command.encode vs)) held.rows (whole replay true it).same in (
+      let same : IsPermutation (stored.rows Command) (map row.command.encode (rows_of held.commands)) = subst (λ vs. IsPermutation (stored.rows Command) (map row.command.encode vs)) held.rows (whole replay true it).same in (
         held.commands,
         for_them.admitted,
-        listed_stored row.command nat_cmp_total nat_cmp-IsAntisymmetric (command_at held.commands) (rows_of held.commands) (commands_rise held.commands) (all_found held.commands) (stored Command) valid same,
+        listed_stored row.command nat_cmp_total nat_cmp-IsAntisymmetric (command_at held.commands) (rows_of held.commands) (commands_rise held.commands) (all_found held.commands) (stored.rows Command) valid same,
         for_them.rests,
       )
 
-  no_list : (replay : Replica) (is_list : Bool) (it : HasReplicated (stored Command) limits Left replay is_list) → ((commands : List Accepted) → AreAdmitted limits commands → it.seen ≢ rows_of commands) → IsReplicated stored limits None
+  no_list : (replay : Replica) (is_list : Bool) (it : HasReplicated (stored.rows Command) limits Left replay is_list) → ((commands : List Accepted) → AreAdmitted limits commands → it.seen ≢ rows_of commands) → IsReplicated stored limits None
   no_list replay is_list it differ = (
     λ commands admitted are.
-        let same = stored_listed row.command nat_cmp_total nat_cmp-IsAntisymmetric (command_at commands) (rows_of commands) (commands_rise commands) (all_found commands) (stored Command) are in
-        let valid = listed_valid row.command nat_cmp_total nat_cmp-IsAntisymmetric (command_at commands) (rows_of commands) (commands_rise commands) (all_found commands) (stored Command) are in
-        let one = arranged_once row.command bind_number stands_at_number keyed (stored Command) once (rows_of commands) it.seen (whole replay is_list it) (commands_rise commands) same in
+        let same = stored_listed row.command nat_cmp_total nat_cmp-IsAntisymmetric (command_at commands) (rows_of commands) (commands_rise commands) (all_found commands) (stored.rows Command) are in
+        let valid = listed_valid row.command nat_cmp_total nat_cmp-IsAntisymmetric (command_at commands) (rows_of commands) (commands_rise commands) (all_found commands) (stored.rows Command) are in
+        let one = arranged_once row.command bind_number stands_at_number keyed (stored.rows Command) once (rows_of commands) it.seen (whole replay is_list it) (commands_rise commands) same in
         differ commands admitted (same_rows it.seen (rows_of commands) it.valid valid one),
-    no_damage row.command (stored Command) it.seen it.valid (whole replay is_list it).same,
+    no_damage row.command (stored.rows Command) it.seen it.valid (whole replay is_list it).same,
   )
 
-  pub told_none : (replay : Replica) → replay.engine ≡ None → HasReplicated (stored Command) limits Left replay true → IsReplicated stored limits None
+  pub told_none : (replay : Replica) → replay.engine ≡ None → HasReplicated (stored.rows Command) limits Left replay true → IsReplicated stored limits None
   unfolding rows_in
   told_none replay is it = no_list replay true it (λ commands admitted same.
       let held = it.right refl in
@@ -172,13 +172,13 @@ module _ (stored : Stored) (limits : Limits) (keyed : IsKeyed row.command bind_n
       nothing : {r : CommandRow} {rows : List CommandRow} → [] ≡ r ∷ rows → ⊥
       nothing h = cc
 
-  pub told_wrong : (replay : Replica) → HasReplicated (stored Command) limits Left replay false → IsReplicated stored limits None
+  pub told_wrong : (replay : Replica) → HasReplicated (stored.rows Command) limits Left replay false → IsReplicated stored limits None
   told_wrong replay it = no_list replay false it (λ commands admitted same. it.wrong refl commands admitted [] (append-nil it.seen ∙ same))
 
   -- what is told of the list at the end
-  pub told_of : (replay : Replica) (is_list : Bool) (result : Option (Tables MemStore)) → IsEndOf is_list replay result → HasReplicated (stored Command) limits Left replay is_list → IsReplicated stored limits result
+  pub told_of : (replay : Replica) (is_list : Bool) (result : Option (Tables MemStore)) → IsEndOf is_list replay result → HasReplicated (stored.rows Command) limits Left replay is_list → IsReplicated stored limits result
   told_of replay is_list (Some tables) is it =
-      subst (λ (t : Tables MemStore). IsReplicated stored limits (Some t)) (sym is.3) (told_list replay is.0 is.1 (subst (HasReplicated (stored Command) limits Left replay) is.2 it))
-  told_of replay is_list None (inl isnt) it = told_wrong replay (subst (HasReplicated (stored Command) limits Left replay) isnt it)
+      subst (λ (t : Tables MemStore). IsReplicated stored limits (Some t)) (sym is.3) (told_list replay is.0 is.1 (subst (HasReplicated (stored.rows Command) limits Left replay) is.2 it))
+  told_of replay is_list None (inl isnt) it = told_wrong replay (subst (HasReplicated (stored.rows Command) limits Left replay) isnt it)
   told_of replay false None (inr without) it = told_wrong replay it
   told_of replay true None (inr without) it = told_none replay without it

@@ -1,6 +1,8 @@
 -- The tables of commands are sound, and a check of them says so.
-use Rattle.std.proofs.Common.{◌≡◌, inl, false, List, map, Option, Some, Result, Ok, Err, refl, ap}
-use Rattle.std.specs.FinMap.{FinMap, entries, values, get}
+use Rattle.std.proofs.Common.{◌≡◌, inl, Bool, true, false, List, [], ◌∷◌, map, Option, Some, None, Result, Ok, Err, refl, sym, ap, subst, ◌∙◌}
+use Rattle.std.specs.Prelude.{IsTrue}
+use Rattle.std.specs.FinMap.{FinMap, entries, values, get, empty, get-empty}
+use Rattle.std.specs.List.{list_all}
 use Rattle.std.proofs.lemmas.List.Sorted.{IsPermutation-refl}
 use Rattle.sqlite.specs.State.{State}
 use Rattle.wh_history.specs.Accepted.{Accepted}
@@ -12,7 +14,7 @@ use Rattle.wh_rows.specs.Raw.{stored_of, IsTyped, AreTyped}
 use Rattle.wh_rows.specs.Rows as row
 use Rattle.wh_rows.specs.Tables.{Tables}
 use Rattle.wh_rows.specs.declared.table.Table.{Table}
-use Rattle.wh_rows.specs.declared.table.Table.TheVariants.{Meta, Command, Member, Change, Product, Store, Customer, Profile, Calendar, Fact}
+use Rattle.wh_rows.specs.declared.table.Table.TheVariants.{Meta, Command, Member, Change, Product, Store, Customer, Profile, Calendar, Fact, Fact2, Void}
 use Rattle.wh_rows.proofs.RawTables.{stores_typed}
 use Rattle.wh_sql.specs.declared.fault.ReadFault.{ReadFault}
 use Rattle.wh_sql.specs.declared.fault.ReadFault.TheVariants as reading
@@ -46,6 +48,8 @@ module _ (limits : Limits) (commands : List Accepted) (t : Tables) (are : AreOf 
   each_defined Profile = rows_at row.profile t.profile _ typed.profile are.profile
   each_defined Calendar = rows_at row.calendar t.calendar _ typed.calendar are.calendar
   each_defined Fact = rows_at row.fact t.fact _ typed.fact are.fact
+  each_defined Fact2 = rows_at row.fact2 t.fact2 _ typed.fact2 (λ key. ap (λ m. get m key) (typed.absent are.format).0 ∙ get-empty row.fact2.order key)
+  each_defined Void = rows_at row.void t.void _ typed.void (λ key. ap (λ m. get m key) (typed.absent are.format).1 ∙ get-empty row.void.order key)
 
   pub sound_stored : AreAdmitted limits commands → IsSoundStored (stored_of t)
   sound_stored admitted = record { limits = limits; commands = commands; admitted = admitted; each = each_defined }

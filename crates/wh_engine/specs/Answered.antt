@@ -124,7 +124,7 @@ counts_of commands = record {
 -- the format is 1, and of commands, accepted records and sales all that are stored are counted, damaged or not
 abbrev pub CountsStored : Stored → Counts → Type 0
 CountsStored stored counts =
-    (counts.format ≡ 1) × (counts.commands ≡ length (stored table.Command)) × (counts.changes ≡ length (stored table.Change)) × (counts.facts ≡ length (stored table.Fact))
+    (counts.format ≡ 1) × (counts.commands ≡ length (stored.rows table.Command)) × (counts.changes ≡ length (stored.rows table.Change)) × (counts.facts ≡ length (stored.rows table.Fact))
 
 -- What a count says: it is that of the commands, and nothing changed; or memory ran out and nothing changed; or the store refused a call.
 abbrev pub IsCounted : Limits → List Accepted → Result Counts Fault → Session → State → Type 0

@@ -11,6 +11,8 @@ use Rattle.wh_policy.specs.declared.policy.Policy.{Policy}
 use Rattle.wh_history.specs.Accepted.{Accepted}
 use Rattle.wh_history.specs.Tables.{Limits}
 use Rattle.wh_rows.specs.AtRest.{AreTrees, IsAtRest, Leaves}
+use Rattle.wh_rows.specs.declared.format.Format.{Format}
+use Rattle.wh_rows.specs.Formats.{is_two}
 use Rattle.wh_rows.specs.Tables.{Tables}
 use Rattle.wh_rows.specs.Rows as row
 use Rattle.wh_rows.specs.Firsts.{last_one, part}
@@ -18,7 +20,7 @@ use Rattle.wh_rows.specs.Raw.{Stored, AreAsked, HasAskedDamage}
 use Rattle.wh_rows.specs.Questions.{gives_policy, has_policy}
 use Rattle.wh_rows.specs.declared.rows.CommandRow.{CommandRow}
 use Rattle.wh_rows.specs.declared.table.Table.TheVariants as tables
-use Rattle.wh_store.specs.Meta.{number_in, fault_of, limits_in}
+use Rattle.wh_store.specs.Meta.{number_in, format_of, limits_in}
 use Rattle.wh_store.specs.Raw.{FormatIs, LimitsAre, IsRefusedOn, IsLimitless}
 use Rattle.wh_sql.specs.declared.fault.ReadFault.TheVariants as reading
 use Rattle.wh_store.specs.declared.fault.OpenFault.{OpenFault}
@@ -28,6 +30,7 @@ use Rattle.wh_engine.specs.declared.opening.InitFault.{InitFault}
 use Rattle.wh_engine.specs.declared.opening.InitFault.TheVariants as init
 use Rattle.wh_store.specs.declared.fault.OpenFault.TheVariants as faults
 use Rattle.wh_engine.specs.declared.session.Session.{Session}
+use Rattle.wh_rows.specs.declared.format.Format.TheVariants.{One}
 
 -- the last command that gives a policy, where one does
 abbrev pub last_policy_in : Tables → Option CommandRow
@@ -53,7 +56,7 @@ session_in t =
     of_limits (limits_in t) >>= λ limits. of_command (last_policy_in t) >>= λ policy. Ok (record { limits = limits; policy = policy; must_reopen = false })
 
 unfoldable pub opened : Tables → Result Session OpenFault
-opened t = fault_of (number_in t (codes "format")) >>= λ _. session_in t
+opened t = format_of One (is_two t.format) (number_in t (codes "format")) >>= λ _. session_in t
 
 -- what was read is what the bytes say, or memory ran out
 abbrev pub IsTold : {A : Type 0} → Result A OpenFault → Result A OpenFault → Type 0
@@ -70,7 +73,7 @@ IsRead result told t s = IsTold result told × IsAtRest (Some t) s
 
 -- the stored rows of commands that give a policy
 abbrev pub policies_stored : Stored → List Row
-policies_stored stored = filter has_policy (stored tables.Command)
+policies_stored stored = filter has_policy (stored.rows tables.Command)
 
 -- the last of them isn't damaged, and this is what it gives, or they are none
 abbrev pub PolicyIs : Stored → Result Policy OpenFault → Type 0
@@ -94,12 +97,12 @@ IsSessionless stored (faults.Store cause) = ⊤
 IsSessionless stored (faults.Damaged table) = IsLimitless stored (reading.Damaged table) ⊎ ((limits : Limits) × LimitsAre stored (Some limits) × IsPolicyless stored (faults.Damaged table))
 IsSessionless stored fault = ⊥
 
--- what is stored isn't opened, with this fault: the format is why; or it is 1, and the session can't be known
+-- what is stored isn't opened, with this fault: the format is why; or it is known, and the session can't be known
 abbrev pub IsUnopened : Stored → OpenFault → Type 0
 IsUnopened stored faults.Memory = ⊤
 IsUnopened stored (faults.Store cause) = ⊤
-IsUnopened stored (faults.Damaged table) = IsRefusedOn stored (faults.Damaged table) ⊎ (FormatIs stored (Ok tt) × IsSessionless stored (faults.Damaged table))
-IsUnopened stored fault = IsRefusedOn stored fault
+IsUnopened stored (faults.Damaged table) = IsRefusedOn One (is_two stored.format) stored (faults.Damaged table) ⊎ (((format : Format) × FormatIs One (is_two stored.format) stored (Ok format)) × IsSessionless stored (faults.Damaged table))
+IsUnopened stored fault = IsRefusedOn One (is_two stored.format) stored fault
 
 -- ---- a warehouse
 
@@ -117,7 +120,7 @@ pub record LeavesMaking (limits : Limits) (policy : Policy) (bytes : List ℕ) (
 pub record LeavesMade (limits : Limits) (bytes : List ℕ) (s : State) : Type 0 where
   pub each : (trees : Trees) → s.may_leave trees → AreTrees None trees ⊎ ((policy : Policy) × (policy_at bytes ≡ Ok policy) × AreTreesOf limits (making_of policy bytes ∷ []) trees)
 
--- Why no warehouse was made: the bytes' first fault; or the bytes give a policy, and a name of the ten tables is taken; or memory ran out; or the
+-- Why no warehouse was made: the bytes' first fault; or the bytes give a policy, and a name of the twelve tables is taken; or memory ran out; or the
 -- bytes give a policy, and the store refused a call.
 abbrev pub IsNotMade : List ℕ → Bool → InitFault → Type 0
 IsNotMade bytes taken (init.Policy fault) = policy_at bytes ≡ Err fault

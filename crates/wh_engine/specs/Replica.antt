@@ -52,8 +52,8 @@ HoldsAll limits commands tables = Rests limits commands (state_of over_memory ta
 
 -- The command table tells a list that was admitted under the limits, and the tables in memory are those of it; or it tells none, and none of its rows is damaged.
 abbrev pub IsReplicated : Stored → Limits → Option (Tables MemStore) → Type 0
-IsReplicated stored limits (Some tables) = (commands : List Accepted) × AreAdmitted limits commands × AreRowsAt row.command (command_at commands) (stored Command) × HoldsAll limits commands tables
-IsReplicated stored limits None = ((commands : List Accepted) → AreAdmitted limits commands → ¬ AreRowsAt row.command (command_at commands) (stored Command)) × (¬ HasDamage row.command (stored Command))
+IsReplicated stored limits (Some tables) = (commands : List Accepted) × AreAdmitted limits commands × AreRowsAt row.command (command_at commands) (stored.rows Command) × HoldsAll limits commands tables
+IsReplicated stored limits None = ((commands : List Accepted) → AreAdmitted limits commands → ¬ AreRowsAt row.command (command_at commands) (stored.rows Command)) × (¬ HasDamage row.command (stored.rows Command))
 
 -- the list has a command, and each row was that of the next one; or a row wasn't, or there is no command
 abbrev pub IsEndOf : Bool → Replica → Option (Tables MemStore) → Type 0

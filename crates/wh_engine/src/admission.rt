@@ -7,7 +7,7 @@ ghost use Rattle.sqlite.specs.State.{HasCleanDisk};
 ghost use Rattle.wh_history.specs.Accepted.{Accepted, Content, Sells, sold, sold_by};
 ghost use Rattle.wh_rows.specs.AtRest.{IsAtRest};
 ghost use Rattle.wh_rows.specs.Tables.{Tables as TenTables};
-ghost use Rattle.wh_store.specs.Reads.{ReadsOnly, Spares, SaysAsStored, state_of};
+ghost use Rattle.wh_store.specs.Reads.{SaysInFormat, ReadsOnly, Spares, SaysAsStored, state_of};
 ghost use Rattle.wh_admission.specs.Admission.{changes_in, first_line_there, number_for};
 ghost use Rattle.wh_engine.specs.Decided.{receipt_of_known};
 ghost use Rattle.wh_rows.specs.Defined.{AreOf};
@@ -53,7 +53,7 @@ fn has_room_for<T: Keeps, S: Alter>(
     records: u64,
 ) -> Result<bool, ReadFault>
     ensures reads { ReadsOnly (state_of S.Store tables.old) (state_of S.Store tables.new) result }
-    ensures room { Tells (state_of S.Store tables.old) (state_of S.Store tables.new) result (λ t room. len (T.rows t) ≤ commands * 5000 → len (T.rows t) ≤ limit → room ≡ nat_le (len (T.rows t) + records) limit) }
+    ensures room { SaysInFormat S.Store T.name tables.old tables.new (λ t. IfOk result (λ room. len (T.rows t) ≤ commands * 5000 → len (T.rows t) ≤ limit → room ≡ nat_le (len (T.rows t) + records) limit)) }
 {
     let most = commands.saturating_mul(MOST_RECORDS);
     if records <= limit.saturating_sub(most) {

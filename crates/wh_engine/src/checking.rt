@@ -5,6 +5,7 @@ ghost use Rattle.sqlite.specs.State.{HasCleanDisk};
 ghost use Rattle.sqlite.specs.Steps.{over_memory};
 ghost use Rattle.wh_history.specs.Accepted.{Accepted};
 ghost use Rattle.wh_history.specs.Tables.{Limits as LimitCounts};
+ghost use Rattle.wh_rows.specs.declared.format.Format.TheVariants.{One};
 ghost use Rattle.wh_rows.specs.AtRest.{IsAtRest};
 ghost use Rattle.wh_rows.specs.Tables.{Tables as TenTables};
 ghost use Rattle.wh_rows.specs.Raw.{Stored, RestsOn, LeavesStored};
@@ -36,7 +37,7 @@ fn is_defined_in<S: Alter>(
 ) -> Result<bool, ReadFault>
     ensures reads { ReadsOnly (state_of S.Store tables.old) (state_of S.Store tables.new) result }
     ensures rests { (t : TenTables) → IsAtRest (Some t) (state_of over_memory replica.old) → IfOk result (λ _. IsAtRest (Some t) (state_of over_memory replica.new)) }
-    ensures defined { SaysAsStored (state_of S.Store tables.old) (state_of S.Store tables.new) (λ stored. (limits : LimitCounts) (commands : List Accepted) → HoldsAll limits commands replica.old → IfOk result (IsDefinedIn limits commands stored table)) }
+    ensures defined { SaysAsStored (state_of S.Store tables.old) (state_of S.Store tables.new) (λ stored. stored.format ≡ One → (limits : LimitCounts) (commands : List Accepted) → HoldsAll limits commands replica.old → IfOk result (IsDefinedIn limits commands stored table)) }
     ensures damaged { SaysAsStored (state_of S.Store tables.old) (state_of S.Store tables.new) (λ stored. IfErr result (IsOfDamageIn stored table)) }
 {
     match table {
@@ -50,12 +51,15 @@ fn is_defined_in<S: Alter>(
         Table::Profile => holds_the_same::<tables::Profile, S>(tables, alloc, replica),
         Table::Calendar => holds_the_same::<tables::Calendar, S>(tables, alloc, replica),
         Table::Fact => holds_the_same::<tables::Fact, S>(tables, alloc, replica),
+        // The first format hasn't these.
+        Table::Fact2 => Ok(true),
+        Table::Void => Ok(true),
     }
 }
 
 /// The table at a place, from 0, in the order in which they are checked.
 fn table_at(place: u8) -> Table
-    ensures { place ≤ 9 → table_place result ≡ place }
+    ensures { place ≤ 11 → table_place result ≡ place }
 {
     match place {
         0 => Table::Meta,
@@ -67,7 +71,9 @@ fn table_at(place: u8) -> Table
         6 => Table::Customer,
         7 => Table::Profile,
         8 => Table::Calendar,
-        _ => Table::Fact,
+        9 => Table::Fact,
+        10 => Table::Fact2,
+        _ => Table::Void,
     }
 }
 
@@ -78,9 +84,9 @@ fn judge_tables<S: Alter>(
     mut replica: Tables<MemStore>,
 ) -> Result<Verdict, ReadFault>
     ensures reads { ReadsOnly (state_of S.Store tables.old) (state_of S.Store tables.new) result }
-    ensures judged { SaysAsStored (state_of S.Store tables.old) (state_of S.Store tables.new) (λ stored. (limits : LimitCounts) (commands : List Accepted) → HoldsAll limits commands replica → SaysCommands stored limits commands → IsJudged stored result) }
+    ensures judged { SaysAsStored (state_of S.Store tables.old) (state_of S.Store tables.new) (λ stored. stored.format ≡ One → (limits : LimitCounts) (commands : List Accepted) → HoldsAll limits commands replica → SaysCommands stored limits commands → IsJudged stored result) }
 {
-    'tables: for place in 2..10u8 {
+    'tables: for place in 2..12u8 {
         let table = table_at(place);
         if !is_defined_in(tables, alloc, &mut replica, table)? {
             return Ok(Verdict::Wrong(table));
@@ -89,10 +95,10 @@ fn judge_tables<S: Alter>(
     Ok(Verdict::Clean)
 }
 
-/// What is found of the ten tables.
+/// What is found of the tables.
 fn judge<S: Alter>(tables: &mut Tables<S>, alloc: Global) -> Result<Verdict, ReadFault>
     ensures reads { Spares (state_of S.Store tables.old) (state_of S.Store tables.new) (IsServedRead result) }
-    ensures judged { SaysAsStored (state_of S.Store tables.old) (state_of S.Store tables.new) (λ stored. IsJudged stored result) }
+    ensures judged { SaysAsStored (state_of S.Store tables.old) (state_of S.Store tables.new) (λ stored. stored.format ≡ One → IsJudged stored result) }
 {
     let Some(limits) = limits_said(tables, alloc)? else {
         return Ok(Verdict::Wrong(Table::Meta));
@@ -106,7 +112,7 @@ fn judge<S: Alter>(tables: &mut Tables<S>, alloc: Global) -> Result<Verdict, Rea
 /// The same, with the engine's faults.
 fn check_tables<S: Alter>(tables: &mut Tables<S>, alloc: Global) -> Result<Verdict, Fault>
     ensures reads { Spares (state_of S.Store tables.old) (state_of S.Store tables.new) (IsServed result) }
-    ensures checked { SaysAsStored (state_of S.Store tables.old) (state_of S.Store tables.new) (λ stored. IsChecked stored result) }
+    ensures checked { SaysAsStored (state_of S.Store tables.old) (state_of S.Store tables.new) (λ stored. stored.format ≡ One → IsChecked stored result) }
     ensures work { IsWorkedOut result }
 {
     let verdict = judge(tables, alloc)?;
@@ -119,7 +125,7 @@ impl<S: Alter> Engine<S> {
     /// it answers `Reopen`.
     pub fn check(&mut self, alloc: Global) -> Result<Verdict, Fault>
         ensures clean { HasCleanDisk (state_of S.Store self.new.tables) → HasCleanDisk (state_of S.Store self.old.tables) }
-        ensures checked { self.old.session.must_reopen ≡ false → SaysAsStored (state_of S.Store self.old.tables) (state_of S.Store self.new.tables) (λ stored. IsChecked stored result) }
+        ensures checked { self.old.session.must_reopen ≡ false → SaysAsStored (state_of S.Store self.old.tables) (state_of S.Store self.new.tables) (λ stored. stored.format ≡ One → IsChecked stored result) }
         ensures sound { HasCleanDisk (state_of S.Store self.new.tables) → (limits : LimitCounts) (commands : List Accepted) → IsReady limits commands self.old.session (state_of S.Store self.old.tables)
             → IsCheckedOf limits commands result self.new.session (state_of S.Store self.new.tables) }
         ensures untouched { HasCleanDisk (state_of S.Store self.new.tables) → (t : TenTables) → IsAtRest (Some t) (state_of S.Store self.old.tables) → IsServed result → IsAtRest (Some t) (state_of S.Store self.new.tables) }

@@ -10,6 +10,8 @@ ghost use Rattle.wh_rows.specs.AtRest.{IsAtRest};
 ghost use Rattle.wh_rows.specs.Tables.{Tables as TenTables};
 ghost use Rattle.wh_store.specs.Reads.{is_any_taken, are_all_there, state_of, SaysAsStored, Spares};
 ghost use Rattle.wh_store.specs.Opening.{IsServed, SparesStore};
+ghost use Rattle.wh_rows.specs.declared.format.Format.TheVariants.{One};
+ghost use Rattle.wh_rows.specs.Formats.{is_two};
 ghost use Rattle.wh_store.specs.Raw.{FormatIs};
 ghost use Rattle.wh_rows.specs.Raw.{Stored, RestsOn, LeavesStored};
 ghost use Rattle.wh_engine.specs.Answered.{Rests, IsReady};
@@ -28,7 +30,7 @@ use std::alloc::Global;
 use thiserror::Error;
 use wh_day::ReadError;
 use wh_policy::{Policy, PolicyFault};
-use wh_rows::{Cause, CommandRow, Limits, Table, tables};
+use wh_rows::{Cause, CommandRow, Format, Limits, Table, tables};
 use wh_store::{LastPolicy, MakeFault, OpenFault, Tables};
 
 /// Why no warehouse was made.
@@ -37,8 +39,8 @@ pub enum InitFault {
     /// The policy has this fault.
     #[error("the policy has a fault")]
     Policy(PolicyFault),
-    /// A table, an index or a view has the name of one of the ten tables.
-    #[error("a name of the ten tables is taken")]
+    /// A table, an index or a view has the name of one of the twelve tables.
+    #[error("a name of the twelve tables is taken")]
     NotEmpty,
     /// A growth was refused before anything was written.
     #[error("memory ran out")]
@@ -83,6 +85,7 @@ fn policy_of(alloc: Global, commands: &[CommandRow]) -> Result<Policy, OpenFault
 
 /// The policy in force, which is that of the last command that gives one.
 fn policy_in<S: Alter>(tables: &mut Tables<S>, alloc: Global) -> Result<Policy, OpenFault>
+    ensures same_format { tables.new.format ≡ tables.old.format }
     ensures reads { Spares (state_of S.Store tables.old) (state_of S.Store tables.new) (IsServed result) }
     ensures read { HasCleanDisk (state_of S.Store tables.new) → (t : TenTables) → IsAtRest (Some t) (state_of S.Store tables.old) → IsRead result (of_command (last_policy_in t)) t (state_of S.Store tables.new) }
     // The same of any rows, whoever wrote them: by the last that gives a policy.
@@ -95,6 +98,7 @@ fn policy_in<S: Alter>(tables: &mut Tables<S>, alloc: Global) -> Result<Policy, 
 
 /// What an engine has to know of its warehouse.
 fn session_of<S: Alter>(tables: &mut Tables<S>, alloc: Global) -> Result<Session, OpenFault>
+    ensures same_format { tables.new.format ≡ tables.old.format }
     ensures reads { Spares (state_of S.Store tables.old) (state_of S.Store tables.new) (IsServed result) }
     ensures read { HasCleanDisk (state_of S.Store tables.new) → (t : TenTables) → IsAtRest (Some t) (state_of S.Store tables.old) → IsRead result (session_in t) t (state_of S.Store tables.new) }
     // The same of any rows, whoever wrote them: by the limits, and then by the last row that gives a policy.
@@ -114,7 +118,7 @@ fn session_of<S: Alter>(tables: &mut Tables<S>, alloc: Global) -> Result<Session
 }
 
 impl<S: Alter> Engine<S> {
-    /// Makes a warehouse of these limits under the policy of a policy file, in a database in which the names of the ten tables are
+    /// Makes a warehouse of these limits under the policy of a policy file, in a database in which the names of the twelve tables are
     /// free. The making is its first command. A refusal hands the connection back, as it was where a name is taken.
     pub fn init(
         alloc: Global,
@@ -169,13 +173,15 @@ impl<S: Alter> Engine<S> {
         ensures found { IfOk result (λ engine. HasCleanDisk (state_of S.Store engine.tables) → (t : TenTables) → IsAtRest (Some t) (state S.Store conn) → (opened t ≡ Ok engine.session) × IsAtRest (Some t) (state_of S.Store engine.tables)) }
         ensures fault { IfErr result (λ e. HasCleanDisk (state S.Store e.1) → (t : TenTables) → IsAtRest (Some t) (state S.Store conn) → IsRead (Err e.0) (opened t) t (state S.Store e.1)) }
         // The same of any rows that are stored under the schema of a making: a damaged row that isn't asked for keeps nothing from opening.
-        ensures found_stored { IfOk result (λ engine. HasCleanDisk (state_of S.Store engine.tables) → (stored : Stored) → RestsOn stored (state S.Store conn) → FormatIs stored (Ok tt) × SessionIs stored engine.session × RestsOn stored (state_of S.Store engine.tables)) }
+        ensures found_stored { IfOk result (λ engine. HasCleanDisk (state_of S.Store engine.tables) → (stored : Stored) → RestsOn stored (state S.Store conn) → FormatIs One (is_two stored.format) stored (Ok engine.tables.format) × SessionIs stored engine.session × RestsOn stored (state_of S.Store engine.tables)) }
         ensures fault_stored { IfErr result (λ e. HasCleanDisk (state S.Store e.1) → (stored : Stored) → RestsOn stored (state S.Store conn) → IsUnopened stored e.0 × LeavesStored stored (state S.Store e.1) × (SparesStore e.0 → RestsOn stored (state S.Store e.1))) }
+        // No other format is known.
+        ensures first { IfOk result (λ engine. engine.tables.format ≡ One) }
         ensures fresh { IfOk result (λ engine. (engine.session.must_reopen ≡ false) × (engine.writes ≡ 0)) }
         ensures within { IsTrue conn.in_transaction → result ≡ Err (OpenFault.Store Cause.Disk, conn) }
         ensures missing { conn.in_transaction ≡ false → are_all_there (state S.Store conn).now.schema ≡ false → result ≡ Err (OpenFault.NotAWarehouse, conn) }
     {
-        let mut tables = match Tables::open(alloc, conn) {
+        let mut tables = match Tables::open(alloc, conn, Format::One) {
             Ok(tables) => tables,
             Err((fault, conn)) => return Err((fault, conn)),
         };

@@ -140,7 +140,7 @@ pub(crate) fn make_replica<S: Alter>(
 ) -> Result<Option<Tables<MemStore>>, ReadFault>
     ensures reads { ReadsOnly (state_of S.Store tables.old) (state_of S.Store tables.new) result }
     ensures replicated { SaysAsStored (state_of S.Store tables.old) (state_of S.Store tables.new) (λ stored. IfOk result (IsReplicated stored limits)) }
-    ensures damaged { SaysAsStored (state_of S.Store tables.old) (state_of S.Store tables.new) (λ stored. IfErr result (IsOfDamage row.command OfCommand (stored OfCommand))) }
+    ensures damaged { SaysAsStored (state_of S.Store tables.old) (state_of S.Store tables.new) (λ stored. IfErr result (IsOfDamage row.command OfCommand (stored.rows OfCommand))) }
 {
     // Each is from 1 to its greatest, as these calls say.
     let _each = (limits.commands(), limits.changes(), limits.facts());

@@ -7,7 +7,7 @@ ghost use Rattle.sqlite.specs.Order.{Row as Columns};
 ghost use Rattle.wh_rows.specs.Parts.{IsArranged};
 ghost use Rattle.wh_rows.specs.Raw.{Stored};
 ghost use Rattle.wh_rows.specs.Tables.{Tables as TenTables};
-ghost use Rattle.wh_store.specs.Reads.{Spares, SaysAtRest, SaysAsStored, state_of};
+ghost use Rattle.wh_store.specs.Reads.{Spares, SaysAtRest, SaysAsStored, SaysInFormat, SaysAsStoredIn, state_of};
 ghost use Rattle.wh_store.specs.Scan.{rows_left, HandsOut, IsOver, AreLeft, HandsOutOf};
 ghost use Rattle.wh_engine.specs.Faults.{IsServed, BlamesDamage, IsWorkedOut};
 ghost use Rattle.wh_engine.specs.Scanned.{IsWanting, ReadsThrough};
@@ -26,9 +26,10 @@ fn row_after<T: Scanned, S: Alter>(
     cursor: &mut Cursor<T::Key, T::Row>,
 ) -> Result<Option<T::Row>, Fault>
     ensures reads { Spares (state_of S.Store tables.old) (state_of S.Store tables.new) (IsServed result) }
-    ensures rows { SaysAtRest (state_of S.Store tables.old) (state_of S.Store tables.new) (λ t. IfOk result (λ found. HandsOut (rows_left T.StoredTable.layout (T.StoredTable.rows t) cursor.old) found (rows_left T.StoredTable.layout (T.StoredTable.rows t) cursor.new))) }
+    ensures same_format { tables.new.format ≡ tables.old.format }
+    ensures rows { SaysInFormat S.Store T.Keeps.name tables.old tables.new (λ t. IfOk result (λ found. HandsOut (rows_left T.StoredTable.layout (T.StoredTable.rows t) cursor.old) found (rows_left T.StoredTable.layout (T.StoredTable.rows t) cursor.new))) }
     // Of any rows, whoever wrote them, none is missed and none comes twice.
-    ensures stored { SaysAsStored (state_of S.Store tables.old) (state_of S.Store tables.new) (λ stored. IfOk result (λ found. HandsOutOf T.StoredTable.layout T.Keeps.bind (stored T.Keeps.name) cursor.old found cursor.new)) }
+    ensures stored { SaysAsStoredIn S.Store T.Keeps.name tables.old tables.new (λ stored. IfOk result (λ found. HandsOutOf T.StoredTable.layout T.Keeps.bind (stored.rows T.Keeps.name) cursor.old found cursor.new)) }
     ensures sound { SaysAtRest (state_of S.Store tables.old) (state_of S.Store tables.new) (λ _. IfErr result IsWanting) }
     ensures blames { SaysAsStored (state_of S.Store tables.old) (state_of S.Store tables.new) (λ stored. BlamesDamage stored result) }
     ensures ended { OnErr result (IsOver cursor.new) }
@@ -62,12 +63,13 @@ impl<'e, S: Alter, T: Scanned> Scan<'e, S, T> {
         ensures same_reference { self.new.engine.ghost_name ≡ self.old.engine.ghost_name }
         ensures reads { ReadsThrough self.old.engine.now.session self.new.engine.now.session (state_of S.Store self.old.engine.now.tables) (state_of S.Store self.new.engine.now.tables) result }
         // The rows are those of any tables at rest, so of those of the accepted commands.
-        ensures rows { SaysAtRest (state_of S.Store self.old.engine.now.tables) (state_of S.Store self.new.engine.now.tables) (λ t. IfOk result (λ found. HandsOut (rows_left T.StoredTable.layout (T.StoredTable.rows t) self.old.cursor) found (rows_left T.StoredTable.layout (T.StoredTable.rows t) self.new.cursor))) }
+        ensures rows { SaysInFormat S.Store T.Keeps.name self.old.engine.now.tables self.new.engine.now.tables (λ t. IfOk result (λ found. HandsOut (rows_left T.StoredTable.layout (T.StoredTable.rows t) self.old.cursor) found (rows_left T.StoredTable.layout (T.StoredTable.rows t) self.new.cursor))) }
         // Of any rows, whoever wrote them, none is missed and none comes twice.
-        ensures stored { SaysAsStored (state_of S.Store self.old.engine.now.tables) (state_of S.Store self.new.engine.now.tables) (λ stored. IfOk result (λ found. HandsOutOf T.StoredTable.layout T.Keeps.bind (stored T.Keeps.name) self.old.cursor found self.new.cursor)) }
+        ensures stored { SaysAsStoredIn S.Store T.Keeps.name self.old.engine.now.tables self.new.engine.now.tables (λ stored. IfOk result (λ found. HandsOutOf T.StoredTable.layout T.Keeps.bind (stored.rows T.Keeps.name) self.old.cursor found self.new.cursor)) }
         ensures ended { OnErr result (IsOver self.new.cursor) }
         ensures over { IsOver self.old.cursor → (result ≡ Ok None) × (self.new.engine.now.tables ≡ self.old.engine.now.tables) × IsOver self.new.cursor }
         ensures writes { self.new.engine.now.writes ≡ self.old.engine.now.writes }
+        ensures same_format { self.new.engine.now.tables.format ≡ self.old.engine.now.tables.format }
         ensures work { IsWorkedOut result }
     {
         self.engine.advance::<T>(alloc, &mut self.cursor)
@@ -84,12 +86,13 @@ impl<S: Alter> Engine<S> {
         cursor: &mut Cursor<T::Key, T::Row>,
     ) -> Result<Option<T::Row>, Fault>
         ensures reads { ReadsThrough self.old.session self.new.session (state_of S.Store self.old.tables) (state_of S.Store self.new.tables) result }
-        ensures rows { SaysAtRest (state_of S.Store self.old.tables) (state_of S.Store self.new.tables) (λ t. IfOk result (λ found. HandsOut (rows_left T.StoredTable.layout (T.StoredTable.rows t) cursor.old) found (rows_left T.StoredTable.layout (T.StoredTable.rows t) cursor.new))) }
+        ensures rows { SaysInFormat S.Store T.Keeps.name self.old.tables self.new.tables (λ t. IfOk result (λ found. HandsOut (rows_left T.StoredTable.layout (T.StoredTable.rows t) cursor.old) found (rows_left T.StoredTable.layout (T.StoredTable.rows t) cursor.new))) }
         // Of any rows, whoever wrote them, none is missed and none comes twice.
-        ensures stored { SaysAsStored (state_of S.Store self.old.tables) (state_of S.Store self.new.tables) (λ stored. IfOk result (λ found. HandsOutOf T.StoredTable.layout T.Keeps.bind (stored T.Keeps.name) cursor.old found cursor.new)) }
+        ensures stored { SaysAsStoredIn S.Store T.Keeps.name self.old.tables self.new.tables (λ stored. IfOk result (λ found. HandsOutOf T.StoredTable.layout T.Keeps.bind (stored.rows T.Keeps.name) cursor.old found cursor.new)) }
         ensures ended { OnErr result (IsOver cursor.new) }
         ensures over { IsOver cursor.old → (result ≡ Ok None) × (self.new.tables ≡ self.old.tables) × IsOver cursor.new }
         ensures writes { self.new.writes ≡ self.old.writes }
+        ensures same_format { self.new.tables.format ≡ self.old.tables.format }
         ensures work { IsWorkedOut result }
     {
         let found = row_after::<T, S>(&mut self.tables, alloc, cursor);
@@ -106,14 +109,15 @@ impl<S: Alter> Engine<S> {
         cursor: &mut Cursor<T::Key, T::Row>,
     ) -> Result<Option<T::Row>, Fault>
         ensures reads { ReadsThrough self.old.session self.new.session (state_of S.Store self.old.tables) (state_of S.Store self.new.tables) result }
-        ensures rows { SaysAtRest (state_of S.Store self.old.tables) (state_of S.Store self.new.tables) (λ t. IfOk result (λ found. HandsOut (rows_left T.StoredTable.layout (T.StoredTable.rows t) cursor.old) found (rows_left T.StoredTable.layout (T.StoredTable.rows t) cursor.new))) }
+        ensures rows { SaysInFormat S.Store T.Keeps.name self.old.tables self.new.tables (λ t. IfOk result (λ found. HandsOut (rows_left T.StoredTable.layout (T.StoredTable.rows t) cursor.old) found (rows_left T.StoredTable.layout (T.StoredTable.rows t) cursor.new))) }
         // Of any rows, whoever wrote them, none is missed and none comes twice.
-        ensures stored { SaysAsStored (state_of S.Store self.old.tables) (state_of S.Store self.new.tables) (λ stored. IfOk result (λ found. HandsOutOf T.StoredTable.layout T.Keeps.bind (stored T.Keeps.name) cursor.old found cursor.new)) }
+        ensures stored { SaysAsStoredIn S.Store T.Keeps.name self.old.tables self.new.tables (λ stored. IfOk result (λ found. HandsOutOf T.StoredTable.layout T.Keeps.bind (stored.rows T.Keeps.name) cursor.old found cursor.new)) }
         ensures reopen { IsTrue self.old.session.must_reopen → (result ≡ Err Fault.Reopen) × (self.new.tables ≡ self.old.tables) × (cursor.new ≡ cursor.old) }
         ensures only { result ≡ Err Fault.Reopen → IsTrue self.old.session.must_reopen }
         ensures ended { self.old.session.must_reopen ≡ false → OnErr result (IsOver cursor.new) }
         ensures over { self.old.session.must_reopen ≡ false → IsOver cursor.old → (result ≡ Ok None) × (self.new.tables ≡ self.old.tables) × IsOver cursor.new }
         ensures writes { self.new.writes ≡ self.old.writes }
+        ensures same_format { self.new.tables.format ≡ self.old.tables.format }
     {
         if !self.session.must_reopen {
             return self.advance::<T>(alloc, cursor);
@@ -127,7 +131,7 @@ impl<S: Alter> Engine<S> {
         ensures same_reference { IfOk result (λ scan. scan.engine.ghost_name ≡ self.entry.ghost_name) }
         ensures same { IfOk result (λ scan. scan.engine.now ≡ self.old) }
         ensures left { IfOk result (λ scan. (t : TenTables) → rows_left T.StoredTable.layout (T.StoredTable.rows t) scan.cursor ≡ values (T.StoredTable.rows t)) }
-        ensures left_stored { IfOk result (λ scan. (stored : Stored) (left : List Columns) → AreLeft T.StoredTable.layout T.Keeps.bind (stored T.Keeps.name) scan.cursor left → IsArranged T.StoredTable.layout.table (stored T.Keeps.name) left) }
+        ensures left_stored { IfOk result (λ scan. (stored : Stored) (left : List Columns) → AreLeft T.StoredTable.layout T.Keeps.bind (stored.rows T.Keeps.name) scan.cursor left → IsArranged T.StoredTable.layout.table (stored.rows T.Keeps.name) left) }
         // It is refused exactly where the engine has to be opened again.
         ensures reopen { MatchResult result (λ _. self.old.session.must_reopen ≡ false) (λ fault. (fault ≡ Fault.Reopen) × IsTrue self.old.session.must_reopen) }
     {

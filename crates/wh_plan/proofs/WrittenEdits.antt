@@ -15,6 +15,7 @@ use Rattle.wh_plan.proofs.Plans.{plan_leads, empty_plan, one_plan}
 
 pub edits_are_written : EditsAreWritten
 edits_are_written limits before after t edits of are = record {
+  format = of.format;
   meta = of.meta;
   command = λ number. plan_leads row.command nat_cmp_total (command_at before) (command_at after) edits.commands t.command number are.commands (of.command number);
   member = λ key. plan_leads row.member member_cmp_total (member_at before) (member_at after) edits.members t.member key are.members (of.member key);

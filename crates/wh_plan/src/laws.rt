@@ -4,7 +4,7 @@ ghost use Rattle.wh_plan.specs.MovedFacts.{MovedFactsAreExact};
 ghost use Rattle.wh_plan.specs.Laws.{CommandsMayBeWritten, EditsAreWritten, ExactEditsAreOne, NoEditsStay, SalesAreFacts, SalesPutPlaceholders, TouchedRowsAfter, TouchedRowsAreThePlan, TouchedRowsBefore};
 ghost use Rattle.wh_rows.specs.Laws.{AcceptedListsBegin, FactsAreEffective, LateRecordsMoveFacts, SecondKeysAreApart, SoundPoliciesShowNone, UntouchedMembersKeep};
 
-/// From the tables of some accepted commands the exact edits lead to those of others, in all ten tables.
+/// From the tables of some accepted commands the exact edits lead to those of others, in all tables.
 pub fn edits_are_written()
     ensures { EditsAreWritten }
 {}

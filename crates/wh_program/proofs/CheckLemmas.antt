@@ -7,6 +7,9 @@ use Rattle.wh_history.specs.Tables.{Limits}
 use Rattle.wh_rows.specs.AtRest.{IsAtRest}
 use Rattle.wh_rows.specs.Raw.{Stored, RestsOn, LeavesStored}
 use Rattle.wh_store.specs.Opening.{SparesStore}
+use Rattle.wh_rows.specs.Formats.{is_two}
+use Rattle.wh_rows.specs.declared.format.Format.{Format}
+use Rattle.wh_rows.specs.declared.format.Format.TheVariants.{One}
 use Rattle.wh_store.specs.Raw.{FormatIs}
 use Rattle.wh_store.specs.declared.fault.OpenFault.{OpenFault}
 use Rattle.wh_store.specs.declared.fault.OpenFault.TheVariants as opening
@@ -42,37 +45,37 @@ found_clean limits commands told (Err fault.Reopen) session s tells none = absur
 
 -- of rows that anybody wrote
 judged : (stored : Stored) (told : Told) (verdict : Result Verdict Fault) (s : State)
-    → IfOk told (λ a. a ≡ verdict_answer verdict) → IsOpenedBy stored → IsChecked stored verdict → (IsServed verdict → RestsOn stored s) → LeavesStored stored s
+    → IfOk told (λ a. a ≡ verdict_answer verdict) → stored.format ≡ One → IsOpenedBy stored → IsChecked stored verdict → (IsServed verdict → RestsOn stored s) → LeavesStored stored s
     → (after : Standing) × IsVerdictOn stored told after × Stands after s
-judged stored told (Ok verdict) s tells opened due rests left = (Rests (Keeps stored), record { opened = opened; verdict = Ok verdict; due = due; leaves = refl; tells = tells }, rests tt)
-judged stored told (Err (fault.Refused why)) s tells opened due rests left = absurd due
-judged stored told (Err (fault.Damaged table)) s tells opened due rests left =
-    (Rests (Keeps stored), record { opened = opened; verdict = Err (fault.Damaged table); due = due; leaves = refl; tells = tells }, rests tt)
-judged stored told (Err fault.Memory) s tells opened due rests left = (Rests (Keeps stored), record { opened = opened; verdict = Err fault.Memory; due = due; leaves = refl; tells = tells }, rests tt)
-judged stored told (Err (fault.Store cause)) s tells opened due rests left =
+judged stored told (Ok verdict) s tells first opened due rests left = (Rests (Keeps stored), record { opened = opened; verdict = Ok verdict; due = due; leaves = refl; tells = tells }, (first, rests tt))
+judged stored told (Err (fault.Refused why)) s tells first opened due rests left = absurd due
+judged stored told (Err (fault.Damaged table)) s tells first opened due rests left =
+    (Rests (Keeps stored), record { opened = opened; verdict = Err (fault.Damaged table); due = due; leaves = refl; tells = tells }, (first, rests tt))
+judged stored told (Err fault.Memory) s tells first opened due rests left = (Rests (Keeps stored), record { opened = opened; verdict = Err fault.Memory; due = due; leaves = refl; tells = tells }, (first, rests tt))
+judged stored told (Err (fault.Store cause)) s tells first opened due rests left =
     (LeftAt (Keeps stored) (Keeps stored), record { opened = opened; verdict = Err (fault.Store cause); due = due; leaves = refl; tells = tells }, record { each = λ trees may. inl (left.each trees may) })
-judged stored told (Err fault.Reopen) s tells opened due rests left = absurd due
+judged stored told (Err fault.Reopen) s tells first opened due rests left = absurd due
 
 module _ (content : Content) (told : Told) where
   -- a file that was opened and checked
-  pub checked : (verdict : Result Verdict Fault) (first last : Session) (s0 s1 s2 : State)
+  pub checked : (format : Format) (verdict : Result Verdict Fault) (first last : Session) (s0 s1 s2 : State)
       → ((limits : Limits) (commands : List Accepted) → AreAdmitted limits commands → engine.Rests limits commands s0 → IsReady limits commands first s1)
       → ((limits : Limits) (commands : List Accepted) → IsReady limits commands first s1 → IsCheckedOf limits commands verdict last s2)
       → (IsAtRest None s0 → ⊥)
-      → ((stored : Stored) → RestsOn stored s0 → FormatIs stored (Ok tt) × SessionIs stored first × RestsOn stored s1)
-      → ((stored : Stored) → RestsOn stored s1 → IsChecked stored verdict)
+      → ((stored : Stored) → RestsOn stored s0 → FormatIs One (is_two stored.format) stored (Ok format) × SessionIs stored first × RestsOn stored s1)
+      → ((stored : Stored) → RestsOn stored s1 → stored.format ≡ One → IsChecked stored verdict)
       → ((stored : Stored) → RestsOn stored s1 → IsServed verdict → RestsOn stored s2)
       → ((stored : Stored) → RestsOn stored s1 → LeavesStored stored s2)
       → IfOk told (λ a. a ≡ verdict_answer verdict)
       → IsAt content s0 → (after : Standing) × Checks content told after × Stands after s2
-  checked verdict first last s0 s1 s2 opens sound missing found due rests left tells at = elim content as (λ what. IsAt what s0 → (after : Standing) × Checks what told after × Stands after s2) [
+  checked format verdict first last s0 s1 s2 opens sound missing found due rests left tells at = elim content as (λ what. IsAt what s0 → (after : Standing) × Checks what told after × Stands after s2) [
     | Nothing ↦ λ at. absurd (missing at)
     | Holds limits commands ↦ λ at.
         let it = found_clean limits commands told verdict last s2 tells (sound limits commands (opens limits commands at.0 at.1)) in
         (it.0, inl it.1, it.2)
     | Keeps stored ↦ λ at.
-        let here = found stored at in
-        let it = judged stored told verdict s2 tells (opened_by stored first s1 here) (due stored here.2) (rests stored here.2) (left stored here.2) in
+        let here = found stored at.1 in
+        let it = judged stored told verdict s2 tells at.0 (opened_by stored format first s1 here) (due stored here.2 at.0) (rests stored here.2) (left stored here.2) in
         (it.0, inl it.1, it.2)
   ] at
 
@@ -86,5 +89,5 @@ module _ (content : Content) (told : Told) where
   unchecked why s0 s1 refused missing bad tells at = elim content as (λ what. IsAt what s0 → (after : Standing) × Checks what told after × Stands after s1) [
     | Nothing ↦ λ at. unopened IsFoundClean Nothing told why s0 s1 refused missing bad tells at
     | Holds limits commands ↦ λ at. unopened IsFoundClean (Holds limits commands) told why s0 s1 refused missing bad tells at
-    | Keeps stored ↦ λ at. let it = unread stored told why s1 tells (bad stored at) in (it.0, inr it.1, it.2)
+    | Keeps stored ↦ λ at. let it = unread stored told why s1 at.0 tells (bad stored at.1) in (it.0, inr it.1, it.2)
   ] at

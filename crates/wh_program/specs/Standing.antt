@@ -9,12 +9,13 @@ use Rattle.wh_history.specs.Accepted.{Accepted}
 use Rattle.wh_history.specs.Tables.{Limits}
 use Rattle.wh_rows.specs.AtRest.{AreTrees, IsAtRest}
 use Rattle.wh_rows.specs.Raw.{Stored, IsStored, RestsOn}
-use Rattle.wh_rows.specs.Schema.{warehouse}
+use Rattle.wh_rows.specs.Schema.{schema_in}
+use Rattle.wh_rows.specs.declared.format.Format.TheVariants.{One}
 use Rattle.wh_admission.specs.Admission.{AreAdmitted}
 use Rattle.wh_engine.specs.Answered as engine
 
--- What a database holds: no object at all; or the tables of a warehouse that was made with these limits and has accepted these commands; or ten tables whose rows
--- anybody may have written.
+-- What a database holds: no object at all; or the tables of a warehouse that was made with these limits and has accepted these commands; or the ten tables of the
+-- first format, whose rows anybody may have written.
 pub data Content : Type 0 where
   Nothing : Content
   Holds : Limits → List Accepted → Content
@@ -36,13 +37,13 @@ pub data Standing : Type 0 where
 abbrev pub IsAt : Content → State → Type 0
 IsAt Nothing s = IsAtRest None s
 IsAt (Holds limits commands) s = AreAdmitted limits commands × engine.Rests limits commands s
-IsAt (Keeps stored) s = RestsOn stored s
+IsAt (Keeps stored) s = (stored.format ≡ One) × RestsOn stored s
 
 -- the trees are those of a database with the content
 abbrev pub HasTrees : Content → Trees → Type 0
 HasTrees Nothing trees = AreTrees None trees
 HasTrees (Holds limits commands) trees = engine.AreTreesOf limits commands trees
-HasTrees (Keeps stored) trees = IsStored stored (record { schema = warehouse; trees = trees })
+HasTrees (Keeps stored) trees = IsStored stored (record { schema = schema_in stored.format; trees = trees })
 
 -- whatever a crash leaves has the one content or the other
 pub record LeavesEither (first second : Content) (s : State) : Type 0 where

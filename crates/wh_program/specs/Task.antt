@@ -7,7 +7,9 @@ use Rattle.wh_batch.specs.declared.kind.CommandKind.{CommandKind}
 use Rattle.wh_batch.specs.Kind.{kind_of_word, command_kind_of}
 use Rattle.wh_report.specs.declared.mode.Mode.{Mode}
 use Rattle.wh_report.specs.Words.{mode_of_word}
+use Rattle.std.specs.Option.{option_and_then}
 use Rattle.wh_rows.specs.declared.table.Table.{Table}
+use Rattle.wh_rows.specs.declared.table.Table.TheVariants.{Fact2, Void}
 use Rattle.wh_rows.specs.Names.{table_named}
 use Rattle.wh_program.specs.Answer.{no_dimension_line, no_kind_line, no_command_kind_line, no_mode_line, no_table_line}
 use Rattle.wh_program.specs.CommandLine.{CommandLine}
@@ -49,8 +51,18 @@ plan_asked file kind id path = or_line no_command_kind_line (option_map (λ k. P
 abbrev pub report_asked : (file attribute mode from to : List ℕ) → Result Task (List ℕ)
 report_asked file attribute mode from to = or_line no_mode_line (option_map (λ m. Report file (record { attribute = attribute; mode = m; from = from; to = to })) (mode_of_word mode))
 
+-- a table that the first format has
+abbrev pub of_first : Table → Option Table
+of_first Fact2 = None
+of_first Void = None
+of_first table = Some table
+
+-- the table of a word, by its name
+abbrev pub table_asked : List ℕ → Option Table
+table_asked word = option_and_then of_first (table_named word)
+
 abbrev pub dump_asked : (file table : List ℕ) → Result Task (List ℕ)
-dump_asked file table = or_line no_table_line (option_map (λ t. Dump file t) (table_named table))
+dump_asked file table = or_line no_table_line (option_map (λ t. Dump file t) (table_asked table))
 
 -- what the words of a command ask for, or the line that says which of them is none of those that are listed
 abbrev pub task_of : CommandLine → Result Task (List ℕ)

@@ -21,6 +21,9 @@ use Rattle.wh_engine.specs.declared.fault.Fault.TheVariants as fault
 use Rattle.wh_engine.specs.declared.opening.InitFault.{InitFault}
 use Rattle.wh_engine.specs.declared.opening.InitFault.TheVariants as making
 use Rattle.wh_engine.specs.declared.session.Session.{Session}
+use Rattle.wh_rows.specs.Formats.{is_two}
+use Rattle.wh_rows.specs.declared.format.Format.{Format}
+use Rattle.wh_rows.specs.declared.format.Format.TheVariants.{One}
 use Rattle.wh_store.specs.Raw.{FormatIs}
 use Rattle.wh_store.specs.declared.fault.OpenFault.{OpenFault}
 use Rattle.wh_store.specs.declared.fault.OpenFault.TheVariants as opening
@@ -67,7 +70,7 @@ pub record IsUnread (stored : Stored) (told : Told) (after : Standing) : Type 0 
 -- They say a format that is read, limits, and a policy in force.
 pub record IsOpenedBy (stored : Stored) : Type 0 where
   pub session : Session
-  pub format : FormatIs stored (Ok tt)
+  pub format : (format : Format) × FormatIs One (is_two stored.format) stored (Ok format)
   pub says : SessionIs stored session
 
 -- What opens what stands and does this to a warehouse: where there is none, that is the answer, and nothing changed. Over rows that anybody wrote it says whether they

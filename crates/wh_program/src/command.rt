@@ -3,10 +3,9 @@
 ghost use Rattle.std.specs.Prelude.{◌≡◌, IfOk, IfErr, IsErr, Some, Ok, Err, map, option_map, true};
 ghost use Rattle.clap.specs.Words.{first_of, found_of, rows_of, subcommand_rows_of, kind_of, takes, subcommand_of};
 ghost use Rattle.clap.specs.declared.error.ErrorKind.TheVariants.{OutOfMemory};
-ghost use Rattle.wh_rows.specs.Names.{table_named};
 ghost use Rattle.wh_program.specs.CommandLine.{CommandLine, program_app, words_of, has_operands, named, named_trial, named_init, named_sent, named_load, named_migrate, named_deliver, named_plan, named_report, named_dump, named_check, named_status};
 ghost use Rattle.wh_program.specs.Request.{text_of, sent_of, line_of, asked_in, Asks};
-ghost use Rattle.wh_program.specs.Task.{trial_asked, load_asked, plan_asked, report_asked, dump_asked};
+ghost use Rattle.wh_program.specs.Task.{trial_asked, load_asked, plan_asked, report_asked, of_first, table_asked, dump_asked};
 
 use crate::lines::{
     NO_COMMAND_KIND_LINE, NO_COMMAND_LINE, NO_DIMENSION_LINE, NO_KIND_LINE, NO_MODE_LINE,
@@ -369,11 +368,25 @@ fn report_request<'a>(alloc: Global, words: ReportOperands<'a>) -> Result<Reques
     }
 }
 
-/// The table of a name.
-fn table_of_word(name: &str) -> Option<Table>
-    ensures { result ≡ table_named name.now }
+/// The table, where the first format has it.
+fn of_first(table: Table) -> Option<Table>
+    ensures { result ≡ of_first table }
 {
-    Table::from_name(name)
+    match table {
+        Table::Fact2 => None,
+        Table::Void => None,
+        table => Some(table),
+    }
+}
+
+/// The table of a name, where the first format has it.
+fn table_of_word(name: &str) -> Option<Table>
+    ensures { result ≡ table_asked name.now }
+{
+    match Table::from_name(name) {
+        Some(table) => of_first(table),
+        None => None,
+    }
 }
 
 /// The dump of a table.

@@ -11,7 +11,7 @@ use Rattle.wh_rows.specs.Holds.{Layout}
 use Rattle.wh_rows.specs.Rows as row
 use Rattle.wh_rows.specs.Tables.{Tables}
 use Rattle.wh_rows.specs.declared.table.Table.{Table}
-use Rattle.wh_rows.specs.declared.table.Table.TheVariants.{Meta, Command, Member, Change, Product, Store, Customer, Profile, Calendar, Fact}
+use Rattle.wh_rows.specs.declared.table.Table.TheVariants.{Meta, Command, Member, Change, Product, Store, Customer, Profile, Calendar, Fact, Fact2, Void}
 
 -- what stands in a column: a number in decimal, a text as it is, and two hexadecimal digits for each of some bytes. No row has another value
 abbrev pub value_field : Value → List ℕ
@@ -45,7 +45,7 @@ module _ {K R : Type 0} (layout : Layout K R) where
 abbrev pub dimension_text : List DimRow → List ℕ
 dimension_text = table_text row.product
 
--- the text of a table among the ten
+-- the text of one of the tables
 abbrev pub text_of_table : Table → Tables → List ℕ
 text_of_table Meta t = table_text row.meta (values t.meta)
 text_of_table Command t = table_text row.command (values t.command)
@@ -57,3 +57,5 @@ text_of_table Customer t = table_text row.customer (values t.customer)
 text_of_table Profile t = table_text row.profile (values t.profile)
 text_of_table Calendar t = table_text row.calendar (values t.calendar)
 text_of_table Fact t = table_text row.fact (values t.fact)
+text_of_table Fact2 t = table_text row.fact2 (values t.fact2)
+text_of_table Void t = table_text row.void (values t.void)

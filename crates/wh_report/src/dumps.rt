@@ -3,7 +3,7 @@
 ghost use Rattle.std.specs.Prelude.{◌≡◌, ◌++◌, ℕ, List, IfErr, flat_map};
 ghost use Rattle.std.specs.FinMap.{values};
 ghost use Rattle.wh_engine.specs.Scanned.{ReadsThrough};
-ghost use Rattle.wh_store.specs.Reads.{SaysAtRest, state_of};
+ghost use Rattle.wh_store.specs.Reads.{SaysInFormat, state_of};
 ghost use Rattle.wh_report.specs.Dump.{row_line, table_text, text_of_table};
 ghost use Rattle.wh_report.specs.Output.{IsOutInPieces, IsOfDump, IsOfNoTable, of_warehouse};
 ghost use Rattle.wh_report.specs.Part.{Gathers, IsOutOrGathered};
@@ -44,7 +44,7 @@ fn write_rows<T: DumpedTable + Scanned, S: Alter, W: Write>(
 ) -> Result<(), ReportFault>
     ensures reads { ReadsThrough engine.old.session engine.new.session (state_of S.Store engine.old.tables) (state_of S.Store engine.new.tables) (of_warehouse result) }
     ensures writes { engine.new.writes ≡ engine.old.writes }
-    ensures out { (text : List ℕ) → Gathers part.old text → SaysAtRest (state_of S.Store engine.old.tables) (state_of S.Store engine.new.tables) (λ t. IsOutInPieces result (W.contents out.old) (W.contents out.new) (text ++ flat_map (row_line T.StoredTable.layout) (values (T.StoredTable.rows t)))) }
+    ensures out { (text : List ℕ) → Gathers part.old text → SaysInFormat S.Store T.Keeps.name engine.old.tables engine.new.tables (λ t. IsOutInPieces result (W.contents out.old) (W.contents out.new) (text ++ flat_map (row_line T.StoredTable.layout) (values (T.StoredTable.rows t)))) }
     ensures only { IfErr result IsOfDump }
 {
     let mut cursor = Cursor::new(alloc);
@@ -68,7 +68,7 @@ pub fn write_table<T: DumpedTable + Scanned, S: Alter, W: Write>(
 ) -> Result<(), ReportFault>
     ensures reads { ReadsThrough engine.old.session engine.new.session (state_of S.Store engine.old.tables) (state_of S.Store engine.new.tables) (of_warehouse result) }
     ensures writes { engine.new.writes ≡ engine.old.writes }
-    ensures out { SaysAtRest (state_of S.Store engine.old.tables) (state_of S.Store engine.new.tables) (λ t. IsOutInPieces result (W.contents out.old) (W.contents out.new) (table_text T.StoredTable.layout (values (T.StoredTable.rows t)))) }
+    ensures out { SaysInFormat S.Store T.Keeps.name engine.old.tables engine.new.tables (λ t. IsOutInPieces result (W.contents out.old) (W.contents out.new) (table_text T.StoredTable.layout (values (T.StoredTable.rows t)))) }
     ensures only { IfErr result IsOfDump }
 {
     let mut part = Part::new(alloc);
@@ -76,7 +76,7 @@ pub fn write_table<T: DumpedTable + Scanned, S: Alter, W: Write>(
     write_rows::<T, S, W>(alloc, engine, &mut part, out)
 }
 
-/// Writes the text of any of the ten tables, as `write_table` does.
+/// Writes the text of any of the tables, as `write_table` does.
 pub fn dump<S: Alter, W: Write>(
     alloc: Global,
     engine: &mut Engine<S>,
@@ -85,7 +85,7 @@ pub fn dump<S: Alter, W: Write>(
 ) -> Result<(), ReportFault>
     ensures reads { ReadsThrough engine.old.session engine.new.session (state_of S.Store engine.old.tables) (state_of S.Store engine.new.tables) (of_warehouse result) }
     ensures writes { engine.new.writes ≡ engine.old.writes }
-    ensures out { SaysAtRest (state_of S.Store engine.old.tables) (state_of S.Store engine.new.tables) (λ t. IsOutInPieces result (W.contents out.old) (W.contents out.new) (text_of_table table t)) }
+    ensures out { SaysInFormat S.Store table engine.old.tables engine.new.tables (λ t. IsOutInPieces result (W.contents out.old) (W.contents out.new) (text_of_table table t)) }
     ensures only { IfErr result IsOfDump }
 {
     match table {
@@ -99,5 +99,7 @@ pub fn dump<S: Alter, W: Write>(
         Table::Profile => write_table::<tables::Profile, S, W>(alloc, engine, out),
         Table::Calendar => write_table::<tables::Calendar, S, W>(alloc, engine, out),
         Table::Fact => write_table::<tables::Fact, S, W>(alloc, engine, out),
+        Table::Fact2 => write_table::<tables::Fact2, S, W>(alloc, engine, out),
+        Table::Void => write_table::<tables::Void, S, W>(alloc, engine, out),
     }
 }

@@ -14,7 +14,8 @@ use std::alloc::{AllocError, Global};
 use wh_day::{DateRow, Value, Values};
 use wh_history::{DimRow, Fact};
 use wh_rows::{
-    ChangeRow, CommandRow, MemberRow, MetaRow, ProfileRow, StoredTable, dim_number, tables,
+    ChangeRow, CommandRow, Fact2, MemberRow, MetaRow, ProfileRow, StoredTable, VoidRow, dim_number,
+    tables,
 };
 
 /// A table that can be dumped.
@@ -303,6 +304,48 @@ impl DumpedTable for tables::Fact {
         push_integer(fields, &row.quantity)?;
         push_integer(fields, &row.amount)?;
         push_integer(fields, &row.cost)
+    }
+}
+
+impl DumpedTable for tables::Fact2 {
+    fn columns(alloc: Global) -> Result<StringRecord, AllocError> {
+        StringRecord::from_fields(
+            alloc,
+            &[
+                "ticket",
+                "line",
+                "day",
+                "store_key",
+                "product_key",
+                "customer_key",
+                "store_durable",
+                "product_durable",
+                "customer_durable",
+                "profile",
+                "quantity",
+                "amount",
+                "cost",
+                "discount",
+            ],
+        )
+    }
+
+    fn fields(alloc: Global, row: &Fact2, fields: &mut StringRecord) -> Result<(), AllocError> {
+        tables::Fact::fields(alloc, &row.fact, fields)?;
+        push_number(fields, row.discount)
+    }
+}
+
+impl DumpedTable for tables::Void {
+    fn columns(alloc: Global) -> Result<StringRecord, AllocError> {
+        StringRecord::from_fields(alloc, &["ticket", "line", "command"])
+    }
+
+    fn fields(_alloc: Global, row: &VoidRow, fields: &mut StringRecord) -> Result<(), AllocError> {
+        fields.clear();
+        push_text(fields, &row.ticket)?;
+        push_number(fields, u64::from(row.line))?;
+        push_number(fields, row.command)
     }
 }
 

@@ -11,7 +11,7 @@ use Rattle.sqlite.proofs.Callers.{reads_as}
 use Rattle.sqlite_rules.specs.Lists.{Has}
 use Rattle.sqlite_rules.proofs.ListLemmas.{has_filtered}
 use Rattle.sqlite_rules.proofs.ProbeLemmas.{has_mapped, mapped_has}
-use Rattle.wh_rows.specs.Schema.{warehouse}
+use Rattle.sqlite.specs.Schema.{Schema}
 use Rattle.wh_rows.specs.Statements.{reading}
 use Rattle.wh_rows.specs.Holds.{Layout, values_of}
 use Rattle.wh_rows.specs.Meaning.{passes, ReadsSome}
@@ -41,23 +41,23 @@ module _ {K V : Type 0} (layout : Layout K V) (params : Row) (trees : Trees) whe
       let is : row ≡ values_of layout.table from.0 = out.2 ∙ ap (λ (o : Output). o.1) from.2 ∙ ap (λ (o : Output). o.1) (shows from.0) in
       subst (Has (rows_in layout.table trees)) (sym is) (mapped_has (values_of layout.table) db from.0 kept.0)
 
-module _ {K V : Type 0} (layout : Layout K V) (text : List ℕ) (params : Row) (keep : V → Bool) (old new : State) (answer : List Row) (is : old.now.schema ≡ warehouse) (shown : Shown text params old new answer) where
+module _ {under : Schema} {K V : Type 0} (layout : Layout K V) (text : List ℕ) (params : Row) (keep : V → Bool) (old new : State) (answer : List Row) (is : old.now.schema ≡ under) (shown : Shown text params old new answer) where
   -- of a text that shows up to so many rows
-  pub sorted_among : (most : ℕ) (cmp : V → V → Ordering) → ReadsSorted layout params keep most cmp text → (row : Row) → Has answer row → Has (rows_in layout.table old.now.trees) row
+  pub sorted_among : (most : ℕ) (cmp : V → V → Ordering) → ReadsSorted under layout params keep most cmp text → (row : Row) → Has answer row → Has (rows_in layout.table old.now.trees) row
   sorted_among most cmp it row here =
       let q = reading_first most layout.table.tree it.tests it.project it.order in
-      let read = reads_as text params old new warehouse is _ it.command it.plain it.unlisted answer shown in
+      let read = reads_as text params old new under is _ it.command it.plain it.unlisted answer shown in
       let found = is_read_first old.now.trees params most layout.table.tree it.tests it.project it.order answer read.answer in
       shown_among layout params old.now.trees q it.tests it.sorted_by it.shows found.ordered found.same row (has_taken most _ row (subst (λ l. Has l row) found.shown here))
 
-  some_among : ReadsSome layout params keep text → (row : Row) → Has answer row → Has (rows_in layout.table old.now.trees) row
+  some_among : ReadsSome under layout params keep text → (row : Row) → Has answer row → Has (rows_in layout.table old.now.trees) row
   some_among it row here =
       let q = reading layout.table.tree it.tests it.project it.order in
-      let read = reads_as text params old new warehouse is _ it.command it.plain it.unlisted answer shown in
+      let read = reads_as text params old new under is _ it.command it.plain it.unlisted answer shown in
       let found = is_read old.now.trees params layout.table.tree it.tests it.project it.order answer read.answer in
       shown_among layout params old.now.trees q it.tests it.sorted_by it.shows found.ordered found.same row (subst (λ l. Has l row) found.shown here)
 
   -- of one that shows a part of the rows that pass a test, which may be all of it
-  pub part_among : (front : Option Front) → ReadsPart front layout params keep text → (row : Row) → Has answer row → Has (rows_in layout.table old.now.trees) row
+  pub part_among : (front : Option Front) → ReadsPart under front layout params keep text → (row : Row) → Has answer row → Has (rows_in layout.table old.now.trees) row
   part_among None it row here = some_among it row here
   part_among (Some front) it row here = sorted_among front.most _ it row here

@@ -1,5 +1,5 @@
 -- The statements on calendar.
-use Rattle.std.proofs.Common.{ℕ, List, [], ◌∷◌, codes, map, drop, pos, true, ◌&&◌, refl, ◌∙◌, sym, ap}
+use Rattle.std.proofs.Common.{◌≡◌, ℕ, List, [], ◌∷◌, codes, map, drop, pos, true, ◌&&◌, refl, ◌∙◌, sym, ap, Some}
 use Rattle.std.specs.Ordering.{eq_by_cmp}
 use Rattle.sqlite_value.specs.declared.value.Value.TheVariants.{Null, Int}
 use Rattle.sqlite_value.specs.declared.keys.Key.{Key}
@@ -8,40 +8,68 @@ use Rattle.sqlite_value.proofs.OrderLemmas.{then-Equal}
 use Rattle.sqlite_sql.specs.declared.ops.BinaryOp.TheVariants.{Compare}
 use Rattle.sqlite_sql.specs.declared.ops.CompareOp.TheVariants.{Eq}
 use Rattle.sqlite_schema.specs.Rules.{equal}
+use Rattle.sqlite_rules.specs.Edit.{with_rowid}
+use Rattle.sqlite_rules.specs.declared.error.Rowids.TheVariants.{Chosen}
 use Rattle.sqlite_tied.specs.Compute.{everything}
 use Rattle.sqlite.specs.Collation.TheVariants.{Binary}
 use Rattle.sqlite.specs.Order.{column}
 use Rattle.sqlite.specs.Term.{Term, lit, col, op2}
+use Rattle.sqlite.specs.Given.{IsPlain}
 use Rattle.sqlite.specs.Listing.{understood}
+use Rattle.sqlite.specs.Command.TheVariants.{InsertOr}
+use Rattle.sqlite.specs.Source.TheVariants.{Values}
+use Rattle.sqlite_schema.specs.declared.command.Conflict.TheVariants.{Abort}
+use Rattle.wh_rows.specs.Statements.{reading}
+use Rattle.wh_rows.specs.declared.format.Format.{Format}
+use Rattle.wh_rows.specs.declared.format.Format.TheVariants.{One, Two}
+use Rattle.wh_rows.specs.Schema.{schema_in}
+use Rattle.wh_rows.proofs.Formats.{same_conflicts, nothing_works}
 use Rattle.wh_rows.specs.Rows as row
 use Rattle.wh_rows.specs.Texts as texts
 use Rattle.wh_rows.specs.Keys.{bind_number, stands_at_number}
-use Rattle.wh_rows.specs.Meaning.{PutsOne, RemovesOne, ReadsSome, CountsAll}
+use Rattle.wh_rows.specs.Meaning.{command_of, same_rowid, PutsOne, RemovesOne, ReadsSome, CountsAll}
 use Rattle.wh_rows.specs.Raw.{ReadsStored}
 use Rattle.wh_rows.proofs.Cast.{cast_row_own}
 use Rattle.wh_rows.proofs.Keys.{and-true, trimmed, equal-Nat, sorted-Nat}
 
 -- ---- put
 
-pub put : PutsOne row.calendar texts.calendar.put
+abbrev put_terms : List Term
+put_terms = col 0 0 ∷ lit Null ∷ col 0 1 ∷ col 0 2 ∷ col 0 3 ∷ col 0 4 ∷ col 0 5 ∷ col 0 6 ∷ col 0 7 ∷ col 0 8 ∷ col 0 9 ∷ col 0 10 ∷ []
+
+abbrev put_cells : List Term
+put_cells = col 1 0 ∷ lit Null ∷ col 0 14 ∷ col 0 15 ∷ col 0 16 ∷ col 0 17 ∷ col 0 18 ∷ col 0 19 ∷ col 0 20 ∷ col 0 21 ∷ col 0 22 ∷ col 0 23 ∷ []
+
+put_means : (format : Format) → command_of (understood (schema_in format) texts.calendar.put)
+    ≡ InsertOr 8 Abort (Values put_terms 12) (record { target = Some (0 ∷ []); update = Some (record { lets = []; body = reading row.calendar.table.tree (same_rowid 11) (col 1 0 ∷ put_cells) [] }) } ∷ [])
 unfolding understood everything first_key
-put = record {
+put_means One = refl
+put_means Two = refl
+
+put_plain : (format : Format) → IsPlain (understood (schema_in format) texts.calendar.put)
+unfolding understood everything first_key
+put_plain One = (refl, refl)
+put_plain Two = (refl, refl)
+
+pub put : (format : Format) → PutsOne (schema_in format) row.calendar texts.calendar.put
+unfolding understood everything first_key
+put format = record {
   at = 8;
-  table = record { has = refl; uncounted = refl; unstamped = refl; idle = λ keys olds news. refl };
-  terms = col 0 0 ∷ lit Null ∷ col 0 1 ∷ col 0 2 ∷ col 0 3 ∷ col 0 4 ∷ col 0 5 ∷ col 0 6 ∷ col 0 7 ∷ col 0 8 ∷ col 0 9 ∷ col 0 10 ∷ [];
+  table = record { has = refl; uncounted = refl; unstamped = refl; idle = nothing_works format _ };
+  terms = put_terms;
   width = 12;
   target = 0 ∷ [];
   here = 11;
-  cells = col 1 0 ∷ lit Null ∷ col 0 14 ∷ col 0 15 ∷ col 0 16 ∷ col 0 17 ∷ col 0 18 ∷ col 0 19 ∷ col 0 20 ∷ col 0 21 ∷ col 0 22 ∷ col 0 23 ∷ [];
-  command = refl;
-  plain = (refl, refl);
+  cells = put_cells;
+  command = put_means format;
+  plain = put_plain format;
   source = λ v. Int (pos v.date_key) ∷ Null ∷ drop 1 (row.calendar.encode v);
   given = λ v. refl;
   own = λ v. cast_row_own row.calendar.table (Int (pos v.date_key)) (Null ∷ drop 1 (row.calendar.encode v)) refl refl;
   kept = λ v rows. cast_row_own row.calendar.table (Int (pos v.date_key)) (Null ∷ drop 1 (row.calendar.encode v)) refl refl;
   shows = λ v rows. refl;
   test = λ v r. equal Binary (column r 0) (Int (pos v.date_key));
-  hits = λ v rows r. trimmed _;
+  hits = λ v rows r. same_conflicts (Some (0 ∷ [])) row.calendar.table (with_rowid Chosen rows (Int (pos v.date_key) ∷ Null ∷ drop 1 (row.calendar.encode v))) r refl format ∙ trimmed _;
   agree = λ v w. equal-Nat w.date_key v.date_key;
   finds = λ v rows id r. refl;
   over = λ v vs. Null ∷ drop 1 (row.calendar.encode v);
@@ -54,11 +82,11 @@ put = record {
 
 -- ---- remove
 
-pub remove : RemovesOne row.calendar bind_number texts.calendar.remove
+pub remove : (format : Format) → RemovesOne (schema_in format) row.calendar bind_number texts.calendar.remove
 unfolding understood everything
-remove = record {
+remove format = record {
   at = 8;
-  table = record { has = refl; uncounted = refl; unstamped = refl; idle = λ keys olds news. refl };
+  table = record { has = refl; uncounted = refl; unstamped = refl; idle = nothing_works format _ };
   tests = op2 (Compare Eq Binary) (col 1 0) (col 0 0) ∷ [];
   command = refl;
   plain = (refl, refl);
@@ -75,9 +103,9 @@ shown = col 1 0 ∷ col 1 2 ∷ col 1 3 ∷ col 1 4 ∷ col 1 5 ∷ col 1 6 ∷ 
 abbrev by_key : List (Term × Key)
 by_key = (col 1 0, ascending Binary) ∷ []
 
-pub all : ReadsSome row.calendar [] (λ r. true) texts.calendar.all
+pub all : (format : Format) → ReadsSome (schema_in format) row.calendar [] (λ r. true) texts.calendar.all
 unfolding understood everything
-all = record {
+all format = record {
   tests = [];
   project = shown;
   order = by_key;
@@ -93,9 +121,9 @@ all = record {
   in_order = λ v w. then-Equal _ ∙ sorted-Nat v.date_key w.date_key;
 }
 
-pub get : (k : ℕ) → ReadsSome row.calendar (bind_number k) (λ r. eq_by_cmp row.calendar.order k (row.calendar.key r)) texts.calendar.get
+pub get : (format : Format) (k : ℕ) → ReadsSome (schema_in format) row.calendar (bind_number k) (λ r. eq_by_cmp row.calendar.order k (row.calendar.key r)) texts.calendar.get
 unfolding understood everything
-get k = record {
+get format k = record {
   tests = op2 (Compare Eq Binary) (col 1 0) (col 0 0) ∷ [];
   project = shown;
   order = by_key;
@@ -113,16 +141,16 @@ get k = record {
 
 -- ---- read, whoever wrote the rows
 
-pub all_stored : ReadsStored row.calendar [] (λ r. true) (λ r. true) texts.calendar.all
+pub all_stored : (format : Format) → ReadsStored (schema_in format) row.calendar [] (λ r. true) (λ r. true) texts.calendar.all
 unfolding all
-all_stored = record { reads = all; tested = λ r. refl }
+all_stored format = record { reads = all format; tested = λ r. refl }
 
-pub get_stored : (k : ℕ) → ReadsStored row.calendar (bind_number k) (stands_at_number k) (λ r. eq_by_cmp row.calendar.order k (row.calendar.key r)) texts.calendar.get
+pub get_stored : (format : Format) (k : ℕ) → ReadsStored (schema_in format) row.calendar (bind_number k) (stands_at_number k) (λ r. eq_by_cmp row.calendar.order k (row.calendar.key r)) texts.calendar.get
 unfolding get
-get_stored k = record { reads = get k; tested = λ r. refl }
+get_stored format k = record { reads = get format k; tested = λ r. refl }
 
 -- ---- count
 
-pub count : CountsAll row.calendar texts.calendar.count
+pub count : (format : Format) → CountsAll (schema_in format) row.calendar texts.calendar.count
 unfolding understood everything
-count = record { names = codes "count(*)" ∷ []; command = refl; plain = (refl, refl); unlisted = refl }
+count format = record { names = codes "count(*)" ∷ []; command = refl; plain = (refl, refl); unlisted = refl }

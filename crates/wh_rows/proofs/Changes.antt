@@ -1,5 +1,5 @@
 -- The statements on change.
-use Rattle.std.proofs.Common.{ℕ, List, [], ◌∷◌, codes, map, pos, true, ◌&&◌, refl, sym, ap₂, ◌∙◌, drop, ap}
+use Rattle.std.proofs.Common.{◌≡◌, ℕ, List, [], ◌∷◌, codes, map, pos, true, ◌&&◌, refl, sym, ap₂, ◌∙◌, drop, ap, Some}
 use Rattle.std.specs.Ordering.{eq_by_cmp, nat_cmp, ordering_then}
 use Rattle.sqlite_value.specs.declared.value.Value.TheVariants.{Null, Int}
 use Rattle.sqlite_value.specs.declared.keys.Key.{Key}
@@ -10,19 +10,29 @@ use Rattle.sqlite_sql.specs.declared.ops.CompareOp.TheVariants.{Eq}
 use Rattle.sqlite_sql.specs.declared.ops.UnaryOp.TheVariants.{ToNumeric}
 use Rattle.sqlite_sql.specs.Ops.{unary}
 use Rattle.sqlite_schema.specs.Rules.{equal}
-use Rattle.sqlite_rules.specs.Edit.{next_rowid}
+use Rattle.sqlite_rules.specs.Edit.{next_rowid, with_rowid}
+use Rattle.sqlite_rules.specs.declared.error.Rowids.TheVariants.{Chosen}
 use Rattle.sqlite_tied.specs.Compute.{everything}
 use Rattle.sqlite.specs.Collation.TheVariants.{Binary}
 use Rattle.sqlite.specs.Order.{column}
 use Rattle.sqlite.specs.Term.{Term, lit, col, op1, op2}
+use Rattle.sqlite.specs.Given.{IsPlain}
 use Rattle.sqlite.specs.Listing.{understood}
 use Rattle.wh_policy.specs.declared.attribute.Dim.{Dim}
 use Rattle.wh_rows.specs.Types.{dim_number}
+use Rattle.sqlite.specs.Command.TheVariants.{InsertOr}
+use Rattle.sqlite.specs.Source.TheVariants.{Values}
+use Rattle.sqlite_schema.specs.declared.command.Conflict.TheVariants.{Abort}
+use Rattle.wh_rows.specs.Statements.{reading}
+use Rattle.wh_rows.specs.declared.format.Format.{Format}
+use Rattle.wh_rows.specs.declared.format.Format.TheVariants.{One, Two}
+use Rattle.wh_rows.specs.Schema.{schema_in}
+use Rattle.wh_rows.proofs.Formats.{same_conflicts, nothing_works}
 use Rattle.wh_rows.specs.Rows.{ChangeKey}
 use Rattle.wh_rows.specs.Rows as row
 use Rattle.wh_rows.specs.Texts as texts
 use Rattle.wh_rows.specs.Keys.{bind_change, stands_at_change}
-use Rattle.wh_rows.specs.Meaning.{PutsOne, RemovesOne, ReadsSome, CountsAll}
+use Rattle.wh_rows.specs.Meaning.{command_of, same_rowid, PutsOne, RemovesOne, ReadsSome, CountsAll}
 use Rattle.wh_rows.specs.Raw.{ReadsStored, ReadsGreatestStored}
 use Rattle.wh_rows.specs.Questions.{is_of_member, is_record_of, anchor_column}
 use Rattle.wh_rows.specs.Firsts.{ReadsGreatest}
@@ -31,25 +41,42 @@ use Rattle.wh_rows.proofs.Keys.{and-true, equal-Nat, sorted-Nat, then_eq, trimme
 
 -- ---- put
 
-pub put : PutsOne row.change texts.change.put
+abbrev put_terms : List Term
+put_terms = lit Null ∷ col 0 0 ∷ col 0 1 ∷ col 0 2 ∷ col 0 3 ∷ col 0 4 ∷ col 0 5 ∷ col 0 6 ∷ col 0 7 ∷ col 0 8 ∷ col 0 9 ∷ col 0 10 ∷ col 0 11 ∷ []
+
+abbrev put_cells : List Term
+put_cells = col 1 0 ∷ col 1 1 ∷ col 1 2 ∷ col 0 16 ∷ col 0 17 ∷ col 0 18 ∷ col 0 19 ∷ col 0 20 ∷ col 0 21 ∷ col 0 22 ∷ col 0 23 ∷ col 0 24 ∷ col 0 25 ∷ []
+
+put_means : (format : Format) → command_of (understood (schema_in format) texts.change.put)
+    ≡ InsertOr 3 Abort (Values put_terms 13) (record { target = Some (1 ∷ 2 ∷ []); update = Some (record { lets = []; body = reading row.change.table.tree (same_rowid 12) (col 1 0 ∷ put_cells) [] }) } ∷ [])
 unfolding understood everything first_key
-put = record {
+put_means One = refl
+put_means Two = refl
+
+put_plain : (format : Format) → IsPlain (understood (schema_in format) texts.change.put)
+unfolding understood everything first_key
+put_plain One = (refl, refl)
+put_plain Two = (refl, refl)
+
+pub put : (format : Format) → PutsOne (schema_in format) row.change texts.change.put
+unfolding understood everything first_key
+put format = record {
   at = 3;
-  table = record { has = refl; uncounted = refl; unstamped = refl; idle = λ keys olds news. refl };
-  terms = lit Null ∷ col 0 0 ∷ col 0 1 ∷ col 0 2 ∷ col 0 3 ∷ col 0 4 ∷ col 0 5 ∷ col 0 6 ∷ col 0 7 ∷ col 0 8 ∷ col 0 9 ∷ col 0 10 ∷ col 0 11 ∷ [];
+  table = record { has = refl; uncounted = refl; unstamped = refl; idle = nothing_works format _ };
+  terms = put_terms;
   width = 13;
   target = 1 ∷ 2 ∷ [];
   here = 12;
-  cells = col 1 0 ∷ col 1 1 ∷ col 1 2 ∷ col 0 16 ∷ col 0 17 ∷ col 0 18 ∷ col 0 19 ∷ col 0 20 ∷ col 0 21 ∷ col 0 22 ∷ col 0 23 ∷ col 0 24 ∷ col 0 25 ∷ [];
-  command = refl;
-  plain = (refl, refl);
+  cells = put_cells;
+  command = put_means format;
+  plain = put_plain format;
   source = λ v. Null ∷ row.change.encode v;
   given = λ v. refl;
   own = λ v. cast_row_own row.change.table Null (row.change.encode v) refl refl;
   kept = λ v rows. cast_row_own row.change.table (Int (next_rowid rows)) (row.change.encode v) refl refl;
   shows = λ v rows. refl;
   test = λ v r. equal Binary (column r 0) (Int (pos v.command)) && equal Binary (column r 1) (Int (pos v.place));
-  hits = λ v rows r. trimmed_and _ _;
+  hits = λ v rows r. same_conflicts (Some (1 ∷ 2 ∷ [])) row.change.table (with_rowid Chosen rows (Null ∷ row.change.encode v)) r refl format ∙ trimmed_and _ _;
   agree = λ v w. ap₂ ◌&&◌ (equal-Nat w.command v.command) (equal-Nat w.place v.place) ∙ sym (then_eq (nat_cmp v.command w.command) (nat_cmp v.place w.place));
   finds = λ v rows id r. refl;
   over = λ v vs. column vs 0 ∷ column vs 1 ∷ drop 2 (row.change.encode v);
@@ -59,11 +86,11 @@ put = record {
 
 -- ---- remove
 
-pub remove : RemovesOne row.change bind_change texts.change.remove
+pub remove : (format : Format) → RemovesOne (schema_in format) row.change bind_change texts.change.remove
 unfolding understood everything unary
-remove = record {
+remove format = record {
   at = 3;
-  table = record { has = refl; uncounted = refl; unstamped = refl; idle = λ keys olds news. refl };
+  table = record { has = refl; uncounted = refl; unstamped = refl; idle = nothing_works format _ };
   tests = op2 (Compare Eq Binary) (col 1 1) (op1 ToNumeric (col 0 0)) ∷ op2 (Compare Eq Binary) (col 1 2) (op1 ToNumeric (col 0 1)) ∷ [];
   command = refl;
   plain = (refl, refl);
@@ -80,9 +107,9 @@ shown = col 1 1 ∷ col 1 2 ∷ col 1 3 ∷ col 1 4 ∷ col 1 5 ∷ col 1 6 ∷ 
 abbrev by_key : List (Term × Key)
 by_key = (col 1 1, ascending Binary) ∷ (col 1 2, ascending Binary) ∷ []
 
-pub all : ReadsSome row.change [] (λ r. true) texts.change.all
+pub all : (format : Format) → ReadsSome (schema_in format) row.change [] (λ r. true) texts.change.all
 unfolding understood everything
-all = record {
+all format = record {
   tests = [];
   project = shown;
   order = by_key;
@@ -98,9 +125,9 @@ all = record {
   in_order = λ v w. ap₂ ordering_then (sorted-Nat v.command w.command) (then-Equal _ ∙ sorted-Nat v.place w.place);
 }
 
-pub get : (k : ChangeKey) → ReadsSome row.change (bind_change k) (λ r. eq_by_cmp row.change.order k (row.change.key r)) texts.change.get
+pub get : (format : Format) (k : ChangeKey) → ReadsSome (schema_in format) row.change (bind_change k) (λ r. eq_by_cmp row.change.order k (row.change.key r)) texts.change.get
 unfolding understood everything unary
-get k = record {
+get format k = record {
   tests = op2 (Compare Eq Binary) (col 1 1) (op1 ToNumeric (col 0 0)) ∷ op2 (Compare Eq Binary) (col 1 2) (op1 ToNumeric (col 0 1)) ∷ [];
   project = shown;
   order = by_key;
@@ -117,9 +144,9 @@ get k = record {
 }
 
 -- the records of a member
-pub of_member : (dim : Dim) (durable : ℕ) → ReadsSome row.change (Int (pos (dim_number dim)) ∷ Int (pos durable) ∷ []) (λ r. eq_by_cmp nat_cmp (dim_number dim) (dim_number r.dim) && eq_by_cmp nat_cmp durable r.durable) texts.changes_of_member
+pub of_member : (format : Format) (dim : Dim) (durable : ℕ) → ReadsSome (schema_in format) row.change (Int (pos (dim_number dim)) ∷ Int (pos durable) ∷ []) (λ r. eq_by_cmp nat_cmp (dim_number dim) (dim_number r.dim) && eq_by_cmp nat_cmp durable r.durable) texts.changes_of_member
 unfolding understood everything unary
-of_member dim durable = record {
+of_member format dim durable = record {
   tests = op2 (Compare Eq Binary) (col 1 3) (op1 ToNumeric (col 0 0)) ∷ op2 (Compare Eq Binary) (col 1 4) (op1 ToNumeric (col 0 1)) ∷ [];
   project = shown;
   order = by_key;
@@ -136,9 +163,9 @@ of_member dim durable = record {
 }
 
 -- a record of a dimension with the greatest anchor
-pub greatest_anchor : (dim : Dim) → ReadsGreatest row.change (Int (pos (dim_number dim)) ∷ []) (λ r. eq_by_cmp nat_cmp (dim_number dim) (dim_number r.dim)) (λ r. r.anchor) texts.greatest_anchor
+pub greatest_anchor : (format : Format) (dim : Dim) → ReadsGreatest (schema_in format) row.change (Int (pos (dim_number dim)) ∷ []) (λ r. eq_by_cmp nat_cmp (dim_number dim) (dim_number r.dim)) (λ r. r.anchor) texts.greatest_anchor
 unfolding understood everything unary
-greatest_anchor dim = record {
+greatest_anchor format dim = record {
   tests = op2 (Compare Eq Binary) (col 1 3) (op1 ToNumeric (col 0 0)) ∷ [];
   project = shown;
   order = (col 1 6, record { collation = Binary; descending = true }) ∷ [];
@@ -156,24 +183,24 @@ greatest_anchor dim = record {
 
 -- ---- read, whoever wrote the rows
 
-pub all_stored : ReadsStored row.change [] (λ r. true) (λ r. true) texts.change.all
+pub all_stored : (format : Format) → ReadsStored (schema_in format) row.change [] (λ r. true) (λ r. true) texts.change.all
 unfolding all
-all_stored = record { reads = all; tested = λ r. refl }
+all_stored format = record { reads = all format; tested = λ r. refl }
 
-pub get_stored : (k : ChangeKey) → ReadsStored row.change (bind_change k) (stands_at_change k) (λ r. eq_by_cmp row.change.order k (row.change.key r)) texts.change.get
+pub get_stored : (format : Format) (k : ChangeKey) → ReadsStored (schema_in format) row.change (bind_change k) (stands_at_change k) (λ r. eq_by_cmp row.change.order k (row.change.key r)) texts.change.get
 unfolding get
-get_stored k = record { reads = get k; tested = λ r. refl }
+get_stored format k = record { reads = get format k; tested = λ r. refl }
 
-pub of_member_stored : (dim : Dim) (durable : ℕ) → ReadsStored row.change (Int (pos (dim_number dim)) ∷ Int (pos durable) ∷ []) (is_of_member dim durable) (λ r. eq_by_cmp nat_cmp (dim_number dim) (dim_number r.dim) && eq_by_cmp nat_cmp durable r.durable) texts.changes_of_member
+pub of_member_stored : (format : Format) (dim : Dim) (durable : ℕ) → ReadsStored (schema_in format) row.change (Int (pos (dim_number dim)) ∷ Int (pos durable) ∷ []) (is_of_member dim durable) (λ r. eq_by_cmp nat_cmp (dim_number dim) (dim_number r.dim) && eq_by_cmp nat_cmp durable r.durable) texts.changes_of_member
 unfolding of_member
-of_member_stored dim durable = record { reads = of_member dim durable; tested = λ r. refl }
+of_member_stored format dim durable = record { reads = of_member format dim durable; tested = λ r. refl }
 
-pub greatest_anchor_stored : (dim : Dim) → ReadsGreatestStored anchor_column row.change (Int (pos (dim_number dim)) ∷ []) (is_record_of dim) (λ r. eq_by_cmp nat_cmp (dim_number dim) (dim_number r.dim)) (λ r. r.anchor) texts.greatest_anchor
+pub greatest_anchor_stored : (format : Format) (dim : Dim) → ReadsGreatestStored (schema_in format) anchor_column row.change (Int (pos (dim_number dim)) ∷ []) (is_record_of dim) (λ r. eq_by_cmp nat_cmp (dim_number dim) (dim_number r.dim)) (λ r. r.anchor) texts.greatest_anchor
 unfolding greatest_anchor
-greatest_anchor_stored dim = record { reads = greatest_anchor dim; tested = λ r. refl; in_order = λ r s. then-Equal _ }
+greatest_anchor_stored format dim = record { reads = greatest_anchor format dim; tested = λ r. refl; in_order = λ r s. then-Equal _ }
 
 -- ---- count
 
-pub count : CountsAll row.change texts.change.count
+pub count : (format : Format) → CountsAll (schema_in format) row.change texts.change.count
 unfolding understood everything
-count = record { names = codes "count(*)" ∷ []; command = refl; plain = (refl, refl); unlisted = refl }
+count format = record { names = codes "count(*)" ∷ []; command = refl; plain = (refl, refl); unlisted = refl }

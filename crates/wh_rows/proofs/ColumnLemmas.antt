@@ -22,9 +22,9 @@ use Rattle.wh_rows.specs.declared.columns.Damaged.{Damaged}
 use Rattle.wh_rows.proofs.Edits.{same_value}
 use Rattle.wh_day.specs.NaturalKey.{is_key_byte}
 use Rattle.wh_day.proofs.KeyBytes.{key_is_text}
-use Rattle.wh_rows.specs.Types.{is_number, is_line, is_measure, is_key, is_kind, kinds, is_special, is_given, is_slot, are_slots, dim_number}
+use Rattle.wh_rows.specs.Types.{is_number, is_discount, is_line, is_measure, is_key, is_kind, kinds, is_special, is_given, is_slot, are_slots, dim_number}
 use Rattle.wh_rows.specs.Rows.{flag, slot_column, is_natural}
-use Rattle.wh_rows.specs.Columns.{damaged, of_type, or_damaged, integer_of, number_of, line_of, measure_of, day_of, flag_of, dim_of, blob_of, text_of, tested_of, slot_of, slots_of}
+use Rattle.wh_rows.specs.Columns.{damaged, of_type, or_damaged, integer_of, number_of, discount_of, line_of, measure_of, day_of, flag_of, dim_of, blob_of, text_of, tested_of, slot_of, slots_of}
 
 -- ---- reading in steps
 
@@ -80,6 +80,19 @@ number_so (Blob b) n h = absurd (cc)
 pub number_is : (n : ℕ) → is_number n ≡ true → number_of (Int (pos n)) ≡ Ok n
 unfolding number_of
 number_is n h = ap (λ b. of_type b n) h
+
+pub discount_so : (v : Value) (n : ℕ) → discount_of v ≡ Ok n → (v ≡ Int (pos n)) × (is_discount n ≡ true)
+unfolding discount_of
+discount_so Null n h = absurd (cc)
+discount_so (Int (pos k)) n h = let p = of_type_ok (is_discount k) k n h in (ap (λ k. Int (pos k)) p.1, subst (λ k. is_discount k ≡ true) p.1 p.0)
+discount_so (Int (negsuc k)) n h = absurd (cc)
+discount_so (Real x) n h = absurd (cc)
+discount_so (Text t) n h = absurd (cc)
+discount_so (Blob b) n h = absurd (cc)
+
+pub discount_is : (n : ℕ) → is_discount n ≡ true → discount_of (Int (pos n)) ≡ Ok n
+unfolding discount_of
+discount_is n h = ap (λ b. of_type b n) h
 
 pub line_so : (v : Value) (n : ℕ) → line_of v ≡ Ok n → (v ≡ Int (pos n)) × (is_line n ≡ true)
 unfolding line_of

@@ -1,5 +1,5 @@
 -- The statements on command.
-use Rattle.std.proofs.Common.{ℕ, List, [], ◌∷◌, codes, map, drop, pos, true, ◌&&◌, ◌||◌, refl, sym, ap, ap₂, ◌∙◌, inl, inr}
+use Rattle.std.proofs.Common.{◌≡◌, ℕ, List, [], ◌∷◌, codes, map, drop, pos, true, ◌&&◌, ◌||◌, refl, sym, ap, ap₂, ◌∙◌, inl, inr, Some}
 use Rattle.std.specs.Ordering.{is_eq, eq_by_cmp, nat_cmp}
 use Rattle.std.specs.Cmp.Lexicographic.{slice_cmp}
 use Rattle.sqlite_value.specs.declared.value.Value.TheVariants.{Null, Int, Text}
@@ -9,15 +9,26 @@ use Rattle.sqlite_value.proofs.OrderLemmas.{then-Equal}
 use Rattle.sqlite_sql.specs.declared.ops.BinaryOp.TheVariants.{Compare, Or}
 use Rattle.sqlite_sql.specs.declared.ops.CompareOp.TheVariants.{Eq}
 use Rattle.sqlite_schema.specs.Rules.{equal}
+use Rattle.sqlite_rules.specs.Edit.{with_rowid}
+use Rattle.sqlite_rules.specs.declared.error.Rowids.TheVariants.{Chosen}
 use Rattle.sqlite_tied.specs.Compute.{everything}
 use Rattle.sqlite.specs.Collation.TheVariants.{Binary}
 use Rattle.sqlite.specs.Order.{column}
 use Rattle.sqlite.specs.Term.{Term, lit, col, op2}
+use Rattle.sqlite.specs.Given.{IsPlain}
 use Rattle.sqlite.specs.Listing.{understood}
+use Rattle.sqlite.specs.Command.TheVariants.{InsertOr}
+use Rattle.sqlite.specs.Source.TheVariants.{Values}
+use Rattle.sqlite_schema.specs.declared.command.Conflict.TheVariants.{Abort}
+use Rattle.wh_rows.specs.Statements.{reading}
+use Rattle.wh_rows.specs.declared.format.Format.{Format}
+use Rattle.wh_rows.specs.declared.format.Format.TheVariants.{One, Two}
+use Rattle.wh_rows.specs.Schema.{schema_in}
+use Rattle.wh_rows.proofs.Formats.{same_conflicts, nothing_works}
 use Rattle.wh_rows.specs.Rows as row
 use Rattle.wh_rows.specs.Texts as texts
 use Rattle.wh_rows.specs.Keys.{bind_number, stands_at_number}
-use Rattle.wh_rows.specs.Meaning.{PutsOne, KeepsApart, RemovesOne, ReadsSome, CountsAll}
+use Rattle.wh_rows.specs.Meaning.{command_of, same_rowid, PutsOne, KeepsApart, RemovesOne, ReadsSome, CountsAll}
 use Rattle.wh_rows.specs.Raw.{ReadsStored, ReadsFrontStored}
 use Rattle.wh_rows.specs.Questions.{has_id, has_policy, gives_policy}
 use Rattle.wh_rows.specs.Firsts.{last_one, ReadsFirst}
@@ -27,25 +38,42 @@ use Rattle.wh_rows.specs.Schema.{index}
 
 -- ---- put
 
-pub put : PutsOne row.command texts.command.put
+abbrev put_terms : List Term
+put_terms = col 0 0 ∷ lit Null ∷ col 0 1 ∷ col 0 2 ∷ col 0 3 ∷ col 0 4 ∷ col 0 5 ∷ []
+
+abbrev put_cells : List Term
+put_cells = col 1 0 ∷ lit Null ∷ col 0 9 ∷ col 0 10 ∷ col 0 11 ∷ col 0 12 ∷ col 0 13 ∷ []
+
+put_means : (format : Format) → command_of (understood (schema_in format) texts.command.put)
+    ≡ InsertOr 1 Abort (Values put_terms 7) (record { target = Some (0 ∷ []); update = Some (record { lets = []; body = reading row.command.table.tree (same_rowid 6) (col 1 0 ∷ put_cells) [] }) } ∷ [])
 unfolding understood everything first_key
-put = record {
+put_means One = refl
+put_means Two = refl
+
+put_plain : (format : Format) → IsPlain (understood (schema_in format) texts.command.put)
+unfolding understood everything first_key
+put_plain One = (refl, refl)
+put_plain Two = (refl, refl)
+
+pub put : (format : Format) → PutsOne (schema_in format) row.command texts.command.put
+unfolding understood everything first_key
+put format = record {
   at = 1;
-  table = record { has = refl; uncounted = refl; unstamped = refl; idle = λ keys olds news. refl };
-  terms = col 0 0 ∷ lit Null ∷ col 0 1 ∷ col 0 2 ∷ col 0 3 ∷ col 0 4 ∷ col 0 5 ∷ [];
+  table = record { has = refl; uncounted = refl; unstamped = refl; idle = nothing_works format _ };
+  terms = put_terms;
   width = 7;
   target = 0 ∷ [];
   here = 6;
-  cells = col 1 0 ∷ lit Null ∷ col 0 9 ∷ col 0 10 ∷ col 0 11 ∷ col 0 12 ∷ col 0 13 ∷ [];
-  command = refl;
-  plain = (refl, refl);
+  cells = put_cells;
+  command = put_means format;
+  plain = put_plain format;
   source = λ v. Int (pos v.number) ∷ Null ∷ drop 1 (row.command.encode v);
   given = λ v. refl;
   own = λ v. cast_row_own row.command.table (Int (pos v.number)) (Null ∷ drop 1 (row.command.encode v)) refl refl;
   kept = λ v rows. cast_row_own row.command.table (Int (pos v.number)) (Null ∷ drop 1 (row.command.encode v)) refl refl;
   shows = λ v rows. refl;
   test = λ v r. equal Binary (column r 0) (Int (pos v.number));
-  hits = λ v rows r. trimmed _;
+  hits = λ v rows r. same_conflicts (Some (0 ∷ [])) row.command.table (with_rowid Chosen rows (Int (pos v.number) ∷ Null ∷ drop 1 (row.command.encode v))) r refl format ∙ trimmed _;
   agree = λ v w. equal-Nat w.number v.number;
   finds = λ v rows id r. refl;
   over = λ v vs. Null ∷ drop 1 (row.command.encode v);
@@ -57,9 +85,9 @@ put = record {
 }
 
 -- commands have identifiers of their own
-pub own_ids : KeepsApart row.command (λ v w. is_eq (slice_cmp nat_cmp v.id w.id))
+pub own_ids : (format : Format) → KeepsApart (schema_in format) row.command (λ v w. is_eq (slice_cmp nat_cmp v.id w.id))
 unfolding first_key
-own_ids = record {
+own_ids format = record {
   index = index (codes "sqlite_autoindex_command_1") 3 2 (2 ∷ []) true;
   among = inr (inl refl);
   guards = refl;
@@ -70,11 +98,11 @@ own_ids = record {
 
 -- ---- remove
 
-pub remove : RemovesOne row.command bind_number texts.command.remove
+pub remove : (format : Format) → RemovesOne (schema_in format) row.command bind_number texts.command.remove
 unfolding understood everything
-remove = record {
+remove format = record {
   at = 1;
-  table = record { has = refl; uncounted = refl; unstamped = refl; idle = λ keys olds news. refl };
+  table = record { has = refl; uncounted = refl; unstamped = refl; idle = nothing_works format _ };
   tests = op2 (Compare Eq Binary) (col 1 0) (col 0 0) ∷ [];
   command = refl;
   plain = (refl, refl);
@@ -91,9 +119,9 @@ shown = col 1 0 ∷ col 1 2 ∷ col 1 3 ∷ col 1 4 ∷ col 1 5 ∷ col 1 6 ∷ 
 abbrev by_key : List (Term × Key)
 by_key = (col 1 0, ascending Binary) ∷ []
 
-pub all : ReadsSome row.command [] (λ r. true) texts.command.all
+pub all : (format : Format) → ReadsSome (schema_in format) row.command [] (λ r. true) texts.command.all
 unfolding understood everything
-all = record {
+all format = record {
   tests = [];
   project = shown;
   order = by_key;
@@ -109,9 +137,9 @@ all = record {
   in_order = λ v w. then-Equal _ ∙ sorted-Nat v.number w.number;
 }
 
-pub get : (k : ℕ) → ReadsSome row.command (bind_number k) (λ r. eq_by_cmp row.command.order k (row.command.key r)) texts.command.get
+pub get : (format : Format) (k : ℕ) → ReadsSome (schema_in format) row.command (bind_number k) (λ r. eq_by_cmp row.command.order k (row.command.key r)) texts.command.get
 unfolding understood everything
-get k = record {
+get format k = record {
   tests = op2 (Compare Eq Binary) (col 1 0) (col 0 0) ∷ [];
   project = shown;
   order = by_key;
@@ -128,9 +156,9 @@ get k = record {
 }
 
 -- the command that the sender calls so
-pub of_id : (id : List ℕ) → ReadsSome row.command (Text id ∷ []) (λ r. eq_by_cmp (slice_cmp nat_cmp) id r.id) texts.command_of_id
+pub of_id : (format : Format) (id : List ℕ) → ReadsSome (schema_in format) row.command (Text id ∷ []) (λ r. eq_by_cmp (slice_cmp nat_cmp) id r.id) texts.command_of_id
 unfolding understood everything
-of_id id = record {
+of_id format id = record {
   tests = op2 (Compare Eq Binary) (col 1 2) (col 0 0) ∷ [];
   project = shown;
   order = by_key;
@@ -147,9 +175,9 @@ of_id id = record {
 }
 
 -- the last that gives a policy
-pub last_policy : ReadsFirst row.command ([]) (λ r. gives_policy r.kind) 1 true texts.last_policy
+pub last_policy : (format : Format) → ReadsFirst (schema_in format) row.command ([]) (λ r. gives_policy r.kind) 1 true texts.last_policy
 unfolding understood everything
-last_policy = record {
+last_policy format = record {
   tests = op2 Or (op2 (Compare Eq Binary) (col 1 3) (lit (Text (codes "init")))) (op2 (Compare Eq Binary) (col 1 3) (lit (Text (codes "migrate")))) ∷ [];
   project = shown;
   order = (col 1 0, record { collation = Binary; descending = true }) ∷ [];
@@ -167,24 +195,24 @@ last_policy = record {
 
 -- ---- read, whoever wrote the rows
 
-pub all_stored : ReadsStored row.command [] (λ r. true) (λ r. true) texts.command.all
+pub all_stored : (format : Format) → ReadsStored (schema_in format) row.command [] (λ r. true) (λ r. true) texts.command.all
 unfolding all
-all_stored = record { reads = all; tested = λ r. refl }
+all_stored format = record { reads = all format; tested = λ r. refl }
 
-pub get_stored : (k : ℕ) → ReadsStored row.command (bind_number k) (stands_at_number k) (λ r. eq_by_cmp row.command.order k (row.command.key r)) texts.command.get
+pub get_stored : (format : Format) (k : ℕ) → ReadsStored (schema_in format) row.command (bind_number k) (stands_at_number k) (λ r. eq_by_cmp row.command.order k (row.command.key r)) texts.command.get
 unfolding get
-get_stored k = record { reads = get k; tested = λ r. refl }
+get_stored format k = record { reads = get format k; tested = λ r. refl }
 
-pub of_id_stored : (id : List ℕ) → ReadsStored row.command (Text id ∷ []) (has_id id) (λ r. eq_by_cmp (slice_cmp nat_cmp) id r.id) texts.command_of_id
+pub of_id_stored : (format : Format) (id : List ℕ) → ReadsStored (schema_in format) row.command (Text id ∷ []) (has_id id) (λ r. eq_by_cmp (slice_cmp nat_cmp) id r.id) texts.command_of_id
 unfolding of_id
-of_id_stored id = record { reads = of_id id; tested = λ r. refl }
+of_id_stored format id = record { reads = of_id format id; tested = λ r. refl }
 
-pub last_policy_stored : ReadsFrontStored last_one row.command [] has_policy (λ r. gives_policy r.kind) texts.last_policy
+pub last_policy_stored : (format : Format) → ReadsFrontStored (schema_in format) last_one row.command [] has_policy (λ r. gives_policy r.kind) texts.last_policy
 unfolding last_policy
-last_policy_stored = record { reads = last_policy; tested = λ r. refl; in_order = λ r s. refl }
+last_policy_stored format = record { reads = last_policy format; tested = λ r. refl; in_order = λ r s. refl }
 
 -- ---- count
 
-pub count : CountsAll row.command texts.command.count
+pub count : (format : Format) → CountsAll (schema_in format) row.command texts.command.count
 unfolding understood everything
-count = record { names = codes "count(*)" ∷ []; command = refl; plain = (refl, refl); unlisted = refl }
+count format = record { names = codes "count(*)" ∷ []; command = refl; plain = (refl, refl); unlisted = refl }

@@ -17,7 +17,7 @@ use Rattle.sqlite.specs.Command.TheVariants.{Select}
 use Rattle.sqlite.specs.Listing.{understood, reads_listing}
 use Rattle.sqlite.specs.State.{State, Shown}
 use Rattle.sqlite.proofs.Callers.{IsPlain, command_of, reads_as, one_permutation}
-use Rattle.wh_rows.specs.Schema.{warehouse}
+use Rattle.sqlite.specs.Schema.{Schema}
 use Rattle.wh_rows.specs.Statements.{counted, grouping, counting}
 use Rattle.wh_rows.specs.Holds.{Layout, values_of, Holds}
 use Rattle.wh_rows.specs.Raw.{rows_in}
@@ -67,19 +67,19 @@ all_pass params [] = refl
 all_pass params (r ∷ rows) = ap (λ l. r ∷ l) (all_pass params rows)
 
 -- the number of all rows, whoever wrote them
-pub counts_stored : {K V : Type 0} (layout : Layout K V) (text : List ℕ) (names : List (List ℕ)) (old new : State) (rows : List Row)
-    → command_of (understood warehouse text) ≡ Select (record { lets = []; body = counting layout.table.tree [] }) names → IsPlain (understood warehouse text) → reads_listing warehouse text ≡ false
-    → old.now.schema ≡ warehouse → Shown text [] old new rows → (stored : List Row) → IsPermutation (rows_in layout.table old.now.trees) stored → rows ≡ (count (length stored) ∷ []) ∷ []
-counts_stored layout text names old new rows command plain unlisted is shown stored same =
-    let read = reads_as text [] old new warehouse is _ command plain unlisted rows shown in
+pub counts_stored : {under : Schema} {K V : Type 0} (layout : Layout K V) (text : List ℕ) (names : List (List ℕ)) (old new : State) (rows : List Row)
+    → command_of (understood under text) ≡ Select (record { lets = []; body = counting layout.table.tree [] }) names → IsPlain (understood under text) → reads_listing under text ≡ false
+    → old.now.schema ≡ under → Shown text [] old new rows → (stored : List Row) → IsPermutation (rows_in layout.table old.now.trees) stored → rows ≡ (count (length stored) ∷ []) ∷ []
+counts_stored {under = under} layout text names old new rows command plain unlisted is shown stored same =
+    let read = reads_as text [] old new under is _ command plain unlisted rows shown in
     let db = old.now.trees layout.table.tree in
     let many : length db ≡ length stored = sym (length-map db (values_of layout.table)) ∙ sym (length_permutation _ _ same) in
     is_count old.now.trees [] layout.table.tree [] rows read.answer ∙ ap (λ n. (count n ∷ []) ∷ []) (ap length (all_pass [] db) ∙ many)
 
 -- so of the rows of a map
-pub counts_rows : {K V : Type 0} (layout : Layout K V) (text : List ℕ) (names : List (List ℕ)) (old new : State) (rows : List Row)
-    → command_of (understood warehouse text) ≡ Select (record { lets = []; body = counting layout.table.tree [] }) names → IsPlain (understood warehouse text) → reads_listing warehouse text ≡ false
-    → old.now.schema ≡ warehouse → Shown text [] old new rows → (m : FinMap layout.order V) → Holds layout old.now.trees m → rows ≡ (count (len m) ∷ []) ∷ []
+pub counts_rows : {under : Schema} {K V : Type 0} (layout : Layout K V) (text : List ℕ) (names : List (List ℕ)) (old new : State) (rows : List Row)
+    → command_of (understood under text) ≡ Select (record { lets = []; body = counting layout.table.tree [] }) names → IsPlain (understood under text) → reads_listing under text ≡ false
+    → old.now.schema ≡ under → Shown text [] old new rows → (m : FinMap layout.order V) → Holds layout old.now.trees m → rows ≡ (count (len m) ∷ []) ∷ []
 counts_rows layout text names old new rows command plain unlisted is shown m held =
     let many : length (map layout.encode (values m)) ≡ len m = length-map (values m) layout.encode ∙ length-map (entries m) (λ e. e.1) ∙ sym (len-entries m) in
     counts_stored layout text names old new rows command plain unlisted is shown (map layout.encode (values m)) held.rows_are ∙ ap (λ n. (count n ∷ []) ∷ []) many

@@ -1,5 +1,5 @@
 -- The statements on customer.
-use Rattle.std.proofs.Common.{ℕ, List, [], ◌∷◌, codes, map, drop, pos, true, ◌&&◌, refl, ◌∙◌, sym, ap}
+use Rattle.std.proofs.Common.{◌≡◌, ℕ, List, [], ◌∷◌, codes, map, drop, pos, true, ◌&&◌, refl, ◌∙◌, sym, ap, Some}
 use Rattle.std.specs.Ordering.{eq_by_cmp, nat_cmp}
 use Rattle.sqlite_value.specs.declared.value.Value.TheVariants.{Null, Int}
 use Rattle.sqlite_value.specs.declared.keys.Key.{Key}
@@ -10,16 +10,27 @@ use Rattle.sqlite_sql.specs.declared.ops.CompareOp.TheVariants.{Eq}
 use Rattle.sqlite_sql.specs.declared.ops.UnaryOp.TheVariants.{ToNumeric}
 use Rattle.sqlite_sql.specs.Ops.{unary}
 use Rattle.sqlite_schema.specs.Rules.{equal}
+use Rattle.sqlite_rules.specs.Edit.{with_rowid}
+use Rattle.sqlite_rules.specs.declared.error.Rowids.TheVariants.{Chosen}
 use Rattle.sqlite_tied.specs.Compute.{everything}
 use Rattle.sqlite.specs.Collation.TheVariants.{Binary}
 use Rattle.sqlite.specs.Order.{column}
 use Rattle.sqlite.specs.Term.{Term, lit, col, op1, op2}
+use Rattle.sqlite.specs.Given.{IsPlain}
 use Rattle.sqlite.specs.Listing.{understood}
+use Rattle.sqlite.specs.Command.TheVariants.{InsertOr}
+use Rattle.sqlite.specs.Source.TheVariants.{Values}
+use Rattle.sqlite_schema.specs.declared.command.Conflict.TheVariants.{Abort}
+use Rattle.wh_rows.specs.Statements.{reading}
+use Rattle.wh_rows.specs.declared.format.Format.{Format}
+use Rattle.wh_rows.specs.declared.format.Format.TheVariants.{One, Two}
+use Rattle.wh_rows.specs.Schema.{schema_in}
+use Rattle.wh_rows.proofs.Formats.{same_conflicts, nothing_works}
 use Rattle.wh_rows.specs.Rows as row
 use Rattle.wh_rows.specs.Texts as texts
 use Rattle.wh_rows.specs.Keys.{bind_number, stands_at_number}
 use Rattle.wh_policy.specs.declared.attribute.Dim.TheVariants.{Customer}
-use Rattle.wh_rows.specs.Meaning.{PutsOne, RemovesOne, ReadsSome, CountsAll}
+use Rattle.wh_rows.specs.Meaning.{command_of, same_rowid, PutsOne, RemovesOne, ReadsSome, CountsAll}
 use Rattle.wh_rows.specs.Raw.{ReadsStored}
 use Rattle.wh_rows.specs.Questions.{has_durable}
 use Rattle.wh_rows.proofs.Cast.{cast_row_own}
@@ -27,25 +38,42 @@ use Rattle.wh_rows.proofs.Keys.{and-true, trimmed, equal-Nat, sorted-Nat}
 
 -- ---- put
 
-pub put : PutsOne row.customer texts.customer.put
+abbrev put_terms : List Term
+put_terms = col 0 0 ∷ lit Null ∷ col 0 1 ∷ col 0 2 ∷ col 0 3 ∷ col 0 4 ∷ col 0 5 ∷ col 0 6 ∷ col 0 7 ∷ col 0 8 ∷ col 0 9 ∷ col 0 10 ∷ col 0 11 ∷ col 0 12 ∷ col 0 13 ∷ col 0 14 ∷ col 0 15 ∷ col 0 16 ∷ col 0 17 ∷ col 0 18 ∷ []
+
+abbrev put_cells : List Term
+put_cells = col 1 0 ∷ lit Null ∷ col 0 22 ∷ col 0 23 ∷ col 0 24 ∷ col 0 25 ∷ col 0 26 ∷ col 0 27 ∷ col 0 28 ∷ col 0 29 ∷ col 0 30 ∷ col 0 31 ∷ col 0 32 ∷ col 0 33 ∷ col 0 34 ∷ col 0 35 ∷ col 0 36 ∷ col 0 37 ∷ col 0 38 ∷ col 0 39 ∷ []
+
+put_means : (format : Format) → command_of (understood (schema_in format) texts.customer.put)
+    ≡ InsertOr 6 Abort (Values put_terms 20) (record { target = Some (0 ∷ []); update = Some (record { lets = []; body = reading row.customer.table.tree (same_rowid 19) (col 1 0 ∷ put_cells) [] }) } ∷ [])
 unfolding understood everything first_key
-put = record {
+put_means One = refl
+put_means Two = refl
+
+put_plain : (format : Format) → IsPlain (understood (schema_in format) texts.customer.put)
+unfolding understood everything first_key
+put_plain One = (refl, refl)
+put_plain Two = (refl, refl)
+
+pub put : (format : Format) → PutsOne (schema_in format) row.customer texts.customer.put
+unfolding understood everything first_key
+put format = record {
   at = 6;
-  table = record { has = refl; uncounted = refl; unstamped = refl; idle = λ keys olds news. refl };
-  terms = col 0 0 ∷ lit Null ∷ col 0 1 ∷ col 0 2 ∷ col 0 3 ∷ col 0 4 ∷ col 0 5 ∷ col 0 6 ∷ col 0 7 ∷ col 0 8 ∷ col 0 9 ∷ col 0 10 ∷ col 0 11 ∷ col 0 12 ∷ col 0 13 ∷ col 0 14 ∷ col 0 15 ∷ col 0 16 ∷ col 0 17 ∷ col 0 18 ∷ [];
+  table = record { has = refl; uncounted = refl; unstamped = refl; idle = nothing_works format _ };
+  terms = put_terms;
   width = 20;
   target = 0 ∷ [];
   here = 19;
-  cells = col 1 0 ∷ lit Null ∷ col 0 22 ∷ col 0 23 ∷ col 0 24 ∷ col 0 25 ∷ col 0 26 ∷ col 0 27 ∷ col 0 28 ∷ col 0 29 ∷ col 0 30 ∷ col 0 31 ∷ col 0 32 ∷ col 0 33 ∷ col 0 34 ∷ col 0 35 ∷ col 0 36 ∷ col 0 37 ∷ col 0 38 ∷ col 0 39 ∷ [];
-  command = refl;
-  plain = (refl, refl);
+  cells = put_cells;
+  command = put_means format;
+  plain = put_plain format;
   source = λ v. Int (pos v.surrogate) ∷ Null ∷ drop 1 (row.customer.encode v);
   given = λ v. refl;
   own = λ v. cast_row_own row.customer.table (Int (pos v.surrogate)) (Null ∷ drop 1 (row.customer.encode v)) refl refl;
   kept = λ v rows. cast_row_own row.customer.table (Int (pos v.surrogate)) (Null ∷ drop 1 (row.customer.encode v)) refl refl;
   shows = λ v rows. refl;
   test = λ v r. equal Binary (column r 0) (Int (pos v.surrogate));
-  hits = λ v rows r. trimmed _;
+  hits = λ v rows r. same_conflicts (Some (0 ∷ [])) row.customer.table (with_rowid Chosen rows (Int (pos v.surrogate) ∷ Null ∷ drop 1 (row.customer.encode v))) r refl format ∙ trimmed _;
   agree = λ v w. equal-Nat w.surrogate v.surrogate;
   finds = λ v rows id r. refl;
   over = λ v vs. Null ∷ drop 1 (row.customer.encode v);
@@ -58,11 +86,11 @@ put = record {
 
 -- ---- remove
 
-pub remove : RemovesOne row.customer bind_number texts.customer.remove
+pub remove : (format : Format) → RemovesOne (schema_in format) row.customer bind_number texts.customer.remove
 unfolding understood everything
-remove = record {
+remove format = record {
   at = 6;
-  table = record { has = refl; uncounted = refl; unstamped = refl; idle = λ keys olds news. refl };
+  table = record { has = refl; uncounted = refl; unstamped = refl; idle = nothing_works format _ };
   tests = op2 (Compare Eq Binary) (col 1 0) (col 0 0) ∷ [];
   command = refl;
   plain = (refl, refl);
@@ -79,9 +107,9 @@ shown = col 1 0 ∷ col 1 2 ∷ col 1 3 ∷ col 1 4 ∷ col 1 5 ∷ col 1 6 ∷ 
 abbrev by_key : List (Term × Key)
 by_key = (col 1 0, ascending Binary) ∷ []
 
-pub all : ReadsSome row.customer [] (λ r. true) texts.customer.all
+pub all : (format : Format) → ReadsSome (schema_in format) row.customer [] (λ r. true) texts.customer.all
 unfolding understood everything
-all = record {
+all format = record {
   tests = [];
   project = shown;
   order = by_key;
@@ -97,9 +125,9 @@ all = record {
   in_order = λ v w. then-Equal _ ∙ sorted-Nat v.surrogate w.surrogate;
 }
 
-pub get : (k : ℕ) → ReadsSome row.customer (bind_number k) (λ r. eq_by_cmp row.customer.order k (row.customer.key r)) texts.customer.get
+pub get : (format : Format) (k : ℕ) → ReadsSome (schema_in format) row.customer (bind_number k) (λ r. eq_by_cmp row.customer.order k (row.customer.key r)) texts.customer.get
 unfolding understood everything
-get k = record {
+get format k = record {
   tests = op2 (Compare Eq Binary) (col 1 0) (col 0 0) ∷ [];
   project = shown;
   order = by_key;
@@ -116,9 +144,9 @@ get k = record {
 }
 
 -- the rows of a member
-pub of_durable : (durable : ℕ) → ReadsSome row.customer (Int (pos durable) ∷ []) (λ r. eq_by_cmp nat_cmp durable r.durable) (texts.rows_of_member Customer)
+pub of_durable : (format : Format) (durable : ℕ) → ReadsSome (schema_in format) row.customer (Int (pos durable) ∷ []) (λ r. eq_by_cmp nat_cmp durable r.durable) (texts.rows_of_member Customer)
 unfolding understood everything unary
-of_durable durable = record {
+of_durable format durable = record {
   tests = op2 (Compare Eq Binary) (col 1 2) (op1 ToNumeric (col 0 0)) ∷ [];
   project = shown;
   order = by_key;
@@ -136,20 +164,20 @@ of_durable durable = record {
 
 -- ---- read, whoever wrote the rows
 
-pub all_stored : ReadsStored row.customer [] (λ r. true) (λ r. true) texts.customer.all
+pub all_stored : (format : Format) → ReadsStored (schema_in format) row.customer [] (λ r. true) (λ r. true) texts.customer.all
 unfolding all
-all_stored = record { reads = all; tested = λ r. refl }
+all_stored format = record { reads = all format; tested = λ r. refl }
 
-pub get_stored : (k : ℕ) → ReadsStored row.customer (bind_number k) (stands_at_number k) (λ r. eq_by_cmp row.customer.order k (row.customer.key r)) texts.customer.get
+pub get_stored : (format : Format) (k : ℕ) → ReadsStored (schema_in format) row.customer (bind_number k) (stands_at_number k) (λ r. eq_by_cmp row.customer.order k (row.customer.key r)) texts.customer.get
 unfolding get
-get_stored k = record { reads = get k; tested = λ r. refl }
+get_stored format k = record { reads = get format k; tested = λ r. refl }
 
-pub of_durable_stored : (durable : ℕ) → ReadsStored row.customer (Int (pos durable) ∷ []) (has_durable durable) (λ r. eq_by_cmp nat_cmp durable r.durable) (texts.rows_of_member Customer)
+pub of_durable_stored : (format : Format) (durable : ℕ) → ReadsStored (schema_in format) row.customer (Int (pos durable) ∷ []) (has_durable durable) (λ r. eq_by_cmp nat_cmp durable r.durable) (texts.rows_of_member Customer)
 unfolding of_durable
-of_durable_stored durable = record { reads = of_durable durable; tested = λ r. refl }
+of_durable_stored format durable = record { reads = of_durable format durable; tested = λ r. refl }
 
 -- ---- count
 
-pub count : CountsAll row.customer texts.customer.count
+pub count : (format : Format) → CountsAll (schema_in format) row.customer texts.customer.count
 unfolding understood everything
-count = record { names = codes "count(*)" ∷ []; command = refl; plain = (refl, refl); unlisted = refl }
+count format = record { names = codes "count(*)" ∷ []; command = refl; plain = (refl, refl); unlisted = refl }

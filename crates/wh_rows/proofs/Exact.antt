@@ -1,9 +1,9 @@
 -- A stored row is read exactly where it is a row of the table with values of their types.
-use Rattle.std.proofs.Common.{◌≡◌, ◌≢◌, Bool, true, ◌&&◌, ◌==◌, ◌∷◌, length, Ok, Err, Result, IfOk, IfErr, refl, sym, ap, ap₂, subst, ◌∙◌}
+use Rattle.std.proofs.Common.{◌≡◌, ◌≢◌, Bool, true, ◌&&◌, ◌==◌, ◌∷◌, length, Ok, Err, Result, IfOk, IfErr, refl, sym, ap, ap₂, subst, ◌∙◌, ◌++◌, pos, []}
 use Rattle.std.specs.Prelude.{IsTrue}
 use Rattle.std.specs.Str.{is_utf8}
 use Rattle.std.proofs.lemmas.Bool.{and_parts, eqb-true}
-use Rattle.sqlite_value.specs.declared.value.Value.TheVariants.{Null}
+use Rattle.sqlite_value.specs.declared.value.Value.TheVariants.{Null, Int}
 use Rattle.sqlite.specs.Order.{Row, column}
 use Rattle.wh_day.specs.Day.{is_day}
 use Rattle.wh_day.specs.Reading.{Gives}
@@ -13,18 +13,20 @@ use Rattle.wh_day.specs.declared.calendar.DateRow.{DateRow}
 use Rattle.wh_policy.specs.declared.attribute.Dim.{Dim}
 use Rattle.wh_history.specs.declared.rows.DimRow.{DimRow}
 use Rattle.wh_history.specs.declared.facts.Fact.{Fact}
+use Rattle.wh_rows.specs.declared.rows.Fact2.{Fact2}
+use Rattle.wh_rows.specs.declared.rows.VoidRow.{VoidRow}
 use Rattle.wh_rows.specs.declared.columns.Damaged.{Damaged}
 use Rattle.wh_rows.specs.declared.rows.MetaRow.{MetaRow}
 use Rattle.wh_rows.specs.declared.rows.CommandRow.{CommandRow}
 use Rattle.wh_rows.specs.declared.rows.MemberRow.{MemberRow}
 use Rattle.wh_rows.specs.declared.rows.ChangeRow.{ChangeRow}
 use Rattle.wh_rows.specs.declared.rows.ProfileRow.{ProfileRow}
-use Rattle.wh_rows.specs.Types.{is_number, is_line, is_measure, is_key, is_kind, are_slots}
-use Rattle.wh_rows.specs.Rows.{encode_meta, encode_command, encode_member, encode_change, encode_dimension, encode_profile, encode_date, encode_fact, is_meta, is_command, is_member, is_change, is_natural, is_dimension, is_profile, is_date, is_fact}
-use Rattle.wh_rows.specs.Columns.{integer_of, number_of, line_of, measure_of, day_of, flag_of, dim_of, blob_of, text_of, tested_of, slots_of}
-use Rattle.wh_rows.specs.Stored.{meta_columns, command_columns, member_columns, change_columns, dimension_columns, profile_columns, date_columns, fact_columns, meta_of, command_of, member_of, change_of, dimension_of, profile_of, date_of, fact_of}
+use Rattle.wh_rows.specs.Types.{is_number, is_discount, is_line, is_measure, is_key, is_kind, are_slots}
+use Rattle.wh_rows.specs.Rows.{encode_meta, encode_command, encode_member, encode_change, encode_dimension, encode_profile, encode_date, encode_fact, encode_fact2, encode_void, is_meta, is_command, is_member, is_change, is_natural, is_dimension, is_profile, is_date, is_fact, is_fact2, is_void}
+use Rattle.wh_rows.specs.Columns.{integer_of, number_of, discount_of, line_of, measure_of, day_of, flag_of, dim_of, blob_of, text_of, tested_of, slots_of}
+use Rattle.wh_rows.specs.Stored.{meta_columns, command_columns, member_columns, change_columns, dimension_columns, profile_columns, date_columns, fact_columns, fact2_columns, void_columns, meta_of, command_of, member_of, change_of, dimension_of, profile_of, date_of, fact_of, fact2_of, void_of}
 use Rattle.wh_rows.proofs.Edits.{same_value}
-use Rattle.wh_rows.proofs.ColumnLemmas.{when_ok, bind_ok, bind_is, both, whole, integer_so, integer_is, number_so, number_is, line_so, line_is, measure_so, measure_is, day_so, day_is, flag_so, flag_is, dim_so, dim_is, blob_so, blob_is, text_so, text_is, tested_so, tested_is, key_text, kind_text, natural_text, slots_so, slots_is}
+use Rattle.wh_rows.proofs.ColumnLemmas.{when_ok, bind_ok, bind_is, both, whole, integer_so, integer_is, number_so, discount_so, number_is, discount_is, line_so, line_is, measure_so, measure_is, day_so, day_is, flag_so, flag_is, dim_so, dim_is, blob_so, blob_is, text_so, text_is, tested_so, tested_is, key_text, kind_text, natural_text, slots_so, slots_is}
 
 -- what a function that reads gives, by what it reads
 module _ {V : Type 0} (of : Row → Result V Damaged) (encode : V → Row) (is_valid : V → Bool)
@@ -288,11 +290,10 @@ date_complete r valid =
 
 -- ---- fact
 
-pub fact_sound : (row : Row) (r : Fact) → fact_of row ≡ Ok r → (is_fact r ≡ true) × (row ≡ encode_fact r)
-unfolding fact_of
-fact_sound row r h =
-    let all = when_ok (length row == 13) (fact_columns row) r h in
-    let c0 = bind_ok (tested_of (is_key 20) (column row 0)) _ r all.1 in
+-- the columns of a fact, in whatever row they stand first
+fact_columns_sound : (row : Row) (r : Fact) → fact_columns row ≡ Ok r → (is_fact r ≡ true) × (column row 0 ∷ column row 1 ∷ column row 2 ∷ column row 3 ∷ column row 4 ∷ column row 5 ∷ column row 6 ∷ column row 7 ∷ column row 8 ∷ column row 9 ∷ column row 10 ∷ column row 11 ∷ column row 12 ∷ [] ≡ encode_fact r)
+fact_columns_sound row r h =
+    let c0 = bind_ok (tested_of (is_key 20) (column row 0)) _ r h in
     let e0 = tested_so (is_key 20) (column row 0) c0.0 c0.1 in
     let c1 = bind_ok (line_of (column row 1)) _ r c0.2 in
     let e1 = line_so (column row 1) c1.0 c1.1 in
@@ -319,12 +320,19 @@ fact_sound row r h =
     let c12 = bind_ok (measure_of 999999999 (column row 12)) _ r c11.2 in
     let e12 = measure_so 999999999 (column row 12) c12.0 c12.1 in
     let found : Fact = record { ticket = c0.0; line = c1.0; day = c2.0; keys = record { store_key = c3.0; product_key = c4.0; customer_key = c5.0; profile = c9.0 }; store_durable = c6.0; product_durable = c7.0; customer_durable = c8.0; quantity = c10.0; amount = c11.0; cost = c12.0 } in
-    let columns : row ≡ encode_fact found = whole Null row 13 (eqb-true (length row) 13 all.0) ∙ ap₂ ◌∷◌ e0.0 (ap₂ ◌∷◌ e1.0 (ap₂ ◌∷◌ e2.0 (ap₂ ◌∷◌ e3.0 (ap₂ ◌∷◌ e4.0 (ap₂ ◌∷◌ e5.0 (ap₂ ◌∷◌ e6.0 (ap₂ ◌∷◌ e7.0 (ap₂ ◌∷◌ e8.0 (ap₂ ◌∷◌ e9.0 (ap₂ ◌∷◌ e10.0 (ap₂ ◌∷◌ e11.0 (ap₂ ◌∷◌ e12.0 (refl))))))))))))) in
-    subst (λ r. (is_fact r ≡ true) × (row ≡ encode_fact r)) (same_value c12.2) (both (both (both (both (both (both (both (both (both (both (both (both e0.1 e1.1) (e2.1)) (e3.1)) (e4.1)) (e5.1)) (e6.1)) (e7.1)) (e8.1)) (e9.1)) (e10.1)) (e11.1)) (e12.1), columns)
+    let columns = ap₂ ◌∷◌ e0.0 (ap₂ ◌∷◌ e1.0 (ap₂ ◌∷◌ e2.0 (ap₂ ◌∷◌ e3.0 (ap₂ ◌∷◌ e4.0 (ap₂ ◌∷◌ e5.0 (ap₂ ◌∷◌ e6.0 (ap₂ ◌∷◌ e7.0 (ap₂ ◌∷◌ e8.0 (ap₂ ◌∷◌ e9.0 (ap₂ ◌∷◌ e10.0 (ap₂ ◌∷◌ e11.0 (ap₂ ◌∷◌ e12.0 (refl))))))))))))) in
+    subst (λ r. (is_fact r ≡ true) × (column row 0 ∷ column row 1 ∷ column row 2 ∷ column row 3 ∷ column row 4 ∷ column row 5 ∷ column row 6 ∷ column row 7 ∷ column row 8 ∷ column row 9 ∷ column row 10 ∷ column row 11 ∷ column row 12 ∷ [] ≡ encode_fact r)) (same_value c12.2) (both (both (both (both (both (both (both (both (both (both (both (both e0.1 e1.1) (e2.1)) (e3.1)) (e4.1)) (e5.1)) (e6.1)) (e7.1)) (e8.1)) (e9.1)) (e10.1)) (e11.1)) (e12.1), columns)
 
-pub fact_complete : (r : Fact) → is_fact r ≡ true → fact_of (encode_fact r) ≡ Ok r
+pub fact_sound : (row : Row) (r : Fact) → fact_of row ≡ Ok r → (is_fact r ≡ true) × (row ≡ encode_fact r)
 unfolding fact_of
-fact_complete r valid =
+fact_sound row r h =
+    let all = when_ok (length row == 13) (fact_columns row) r h in
+    let found = fact_columns_sound row r all.1 in
+    (found.0, whole Null row 13 (eqb-true (length row) 13 all.0) ∙ found.1)
+
+-- a fact's columns are read as the fact, whatever stands behind them
+fact_columns_complete : (r : Fact) (more : Row) → is_fact r ≡ true → fact_columns (encode_fact r ++ more) ≡ Ok r
+fact_columns_complete r more valid =
     let a12 = and_parts (is_key 20 r.ticket && is_line r.line && is_day r.day && is_number r.keys.store_key && is_number r.keys.product_key && is_number r.keys.customer_key && is_number r.store_durable && is_number r.product_durable && is_number r.customer_durable && is_number r.keys.profile && is_measure 9999 r.quantity && is_measure 999999999 r.amount) (is_measure 999999999 r.cost) valid in
     let a11 = and_parts (is_key 20 r.ticket && is_line r.line && is_day r.day && is_number r.keys.store_key && is_number r.keys.product_key && is_number r.keys.customer_key && is_number r.store_durable && is_number r.product_durable && is_number r.customer_durable && is_number r.keys.profile && is_measure 9999 r.quantity) (is_measure 999999999 r.amount) a12.0 in
     let a10 = and_parts (is_key 20 r.ticket && is_line r.line && is_day r.day && is_number r.keys.store_key && is_number r.keys.product_key && is_number r.keys.customer_key && is_number r.store_durable && is_number r.product_durable && is_number r.customer_durable && is_number r.keys.profile) (is_measure 9999 r.quantity) a11.0 in
@@ -350,3 +358,53 @@ fact_complete r valid =
     (bind_is _ r.quantity _ r (measure_is 9999 r.quantity a10.1)
     (bind_is _ r.amount _ r (measure_is 999999999 r.amount a11.1)
     (bind_is _ r.cost _ r (measure_is 999999999 r.cost a12.1) refl))))))))))))
+
+pub fact_complete : (r : Fact) → is_fact r ≡ true → fact_of (encode_fact r) ≡ Ok r
+unfolding fact_of
+fact_complete r valid = fact_columns_complete r [] valid
+
+-- ---- fact2
+
+pub fact2_sound : (row : Row) (r : Fact2) → fact2_of row ≡ Ok r → (is_fact2 r ≡ true) × (row ≡ encode_fact2 r)
+unfolding fact2_of
+fact2_sound row r h =
+    let all = when_ok (length row == 14) (fact2_columns row) r h in
+    let c0 = bind_ok (fact_columns row) _ r all.1 in
+    let e0 = fact_columns_sound row c0.0 c0.1 in
+    let c1 = bind_ok (discount_of (column row 13)) _ r c0.2 in
+    let e1 = discount_so (column row 13) c1.0 c1.1 in
+    let found : Fact2 = record { fact = c0.0; discount = c1.0 } in
+    let columns : row ≡ encode_fact2 found = whole Null row 14 (eqb-true (length row) 14 all.0) ∙ ap₂ (λ (l : Row) d. l ++ d ∷ []) e0.1 e1.0 in
+    subst (λ r. (is_fact2 r ≡ true) × (row ≡ encode_fact2 r)) (same_value c1.2) (both e0.0 e1.1, columns)
+
+pub fact2_complete : (r : Fact2) → is_fact2 r ≡ true → fact2_of (encode_fact2 r) ≡ Ok r
+unfolding fact2_of
+fact2_complete r valid =
+    let parts = and_parts (is_fact r.fact) (is_discount r.discount) valid in
+    bind_is _ r.fact _ r (fact_columns_complete r.fact (Int (pos r.discount) ∷ []) parts.0)
+    (bind_is _ r.discount _ r (discount_is r.discount parts.1) refl)
+
+-- ---- void
+
+pub void_sound : (row : Row) (r : VoidRow) → void_of row ≡ Ok r → (is_void r ≡ true) × (row ≡ encode_void r)
+unfolding void_of
+void_sound row r h =
+    let all = when_ok (length row == 3) (void_columns row) r h in
+    let c0 = bind_ok (tested_of (is_key 20) (column row 0)) _ r all.1 in
+    let e0 = tested_so (is_key 20) (column row 0) c0.0 c0.1 in
+    let c1 = bind_ok (line_of (column row 1)) _ r c0.2 in
+    let e1 = line_so (column row 1) c1.0 c1.1 in
+    let c2 = bind_ok (number_of (column row 2)) _ r c1.2 in
+    let e2 = number_so (column row 2) c2.0 c2.1 in
+    let found : VoidRow = record { ticket = c0.0; line = c1.0; command = c2.0 } in
+    let columns : row ≡ encode_void found = whole Null row 3 (eqb-true (length row) 3 all.0) ∙ ap₂ ◌∷◌ e0.0 (ap₂ ◌∷◌ e1.0 (ap₂ ◌∷◌ e2.0 refl)) in
+    subst (λ r. (is_void r ≡ true) × (row ≡ encode_void r)) (same_value c2.2) (both (both e0.1 e1.1) e2.1, columns)
+
+pub void_complete : (r : VoidRow) → is_void r ≡ true → void_of (encode_void r) ≡ Ok r
+unfolding void_of
+void_complete r valid =
+    let a2 = and_parts (is_key 20 r.ticket && is_line r.line) (is_number r.command) valid in
+    let a1 = and_parts (is_key 20 r.ticket) (is_line r.line) a2.0 in
+    bind_is _ r.ticket _ r (tested_is (is_key 20) r.ticket (key_text 20 r.ticket a1.0) a1.0)
+    (bind_is _ r.line _ r (line_is r.line a1.1)
+    (bind_is _ r.command _ r (number_is r.command a2.1) refl))

@@ -1,5 +1,5 @@
 -- The statements on fact.
-use Rattle.std.proofs.Common.{Bool, ◌≡◌, ℕ, List, [], ◌∷◌, codes, map, pos, true, ◌&&◌, refl, sym, ap₂, ◌∙◌, drop, ap}
+use Rattle.std.proofs.Common.{Bool, ◌≡◌, ℕ, List, [], ◌∷◌, codes, map, pos, true, ◌&&◌, refl, sym, ap₂, ◌∙◌, drop, ap, Some}
 use Rattle.std.specs.Prelude.{IsTrue}
 use Rattle.std.proofs.lemmas.Bool.{and_parts}
 use Rattle.std.specs.Ordering.{is_ge, is_le, eq_by_cmp, nat_cmp, ordering_then}
@@ -13,12 +13,22 @@ use Rattle.sqlite_sql.specs.declared.ops.CompareOp.TheVariants.{Eq, Ge, Le}
 use Rattle.sqlite_sql.specs.declared.ops.UnaryOp.TheVariants.{ToNumeric}
 use Rattle.sqlite_sql.specs.Ops.{unary}
 use Rattle.sqlite_schema.specs.Rules.{equal}
-use Rattle.sqlite_rules.specs.Edit.{next_rowid}
+use Rattle.sqlite_rules.specs.Edit.{next_rowid, with_rowid}
+use Rattle.sqlite_rules.specs.declared.error.Rowids.TheVariants.{Chosen}
 use Rattle.sqlite_tied.specs.Compute.{everything}
 use Rattle.sqlite.specs.Collation.TheVariants.{Binary}
 use Rattle.sqlite.specs.Order.{column}
 use Rattle.sqlite.specs.Term.{Term, lit, col, op1, op2}
+use Rattle.sqlite.specs.Given.{IsPlain}
 use Rattle.sqlite.specs.Listing.{understood}
+use Rattle.sqlite.specs.Command.TheVariants.{InsertOr}
+use Rattle.sqlite.specs.Source.TheVariants.{Values}
+use Rattle.sqlite_schema.specs.declared.command.Conflict.TheVariants.{Abort}
+use Rattle.wh_rows.specs.Statements.{reading}
+use Rattle.wh_rows.specs.declared.format.Format.{Format}
+use Rattle.wh_rows.specs.declared.format.Format.TheVariants.{One, Two}
+use Rattle.wh_rows.specs.Schema.{schema_in}
+use Rattle.wh_rows.proofs.Formats.{same_conflicts, nothing_works}
 use Rattle.wh_rows.specs.Rows.{LineKey, is_fact}
 use Rattle.wh_rows.specs.Types.{is_key, is_line, is_number, is_measure}
 use Rattle.wh_rows.specs.Rows as row
@@ -27,7 +37,7 @@ use Rattle.wh_rows.specs.Keys.{bind_line, stands_at_line}
 use Rattle.wh_rows.specs.Questions.{at_least, at_most, durable_of, is_sale_between}
 use Rattle.wh_policy.specs.declared.attribute.Dim.{Dim}
 use Rattle.wh_policy.specs.declared.attribute.Dim.TheVariants.{Product, Store, Customer}
-use Rattle.wh_rows.specs.Meaning.{PutsOne, MovesOne, RemovesOne, ReadsSome, CountsAll}
+use Rattle.wh_rows.specs.Meaning.{command_of, same_rowid, PutsOne, MovesOne, RemovesOne, ReadsSome, CountsAll}
 use Rattle.wh_rows.specs.Raw.{ReadsStored}
 use Rattle.wh_rows.specs.Rekey.{Rekey, rekey_text, bind_rekey, are_keys, with_keys}
 use Rattle.wh_rows.proofs.Cast.{cast_row_own}
@@ -38,25 +48,42 @@ use Rattle.wh_day.specs.Day.{is_day}
 
 -- ---- put
 
-pub put : PutsOne row.fact texts.fact.put
+abbrev put_terms : List Term
+put_terms = lit Null ∷ col 0 0 ∷ col 0 1 ∷ col 0 2 ∷ col 0 3 ∷ col 0 4 ∷ col 0 5 ∷ col 0 6 ∷ col 0 7 ∷ col 0 8 ∷ col 0 9 ∷ col 0 10 ∷ col 0 11 ∷ col 0 12 ∷ []
+
+abbrev put_cells : List Term
+put_cells = col 1 0 ∷ col 1 1 ∷ col 1 2 ∷ col 0 17 ∷ col 0 18 ∷ col 0 19 ∷ col 0 20 ∷ col 0 21 ∷ col 0 22 ∷ col 0 23 ∷ col 0 24 ∷ col 0 25 ∷ col 0 26 ∷ col 0 27 ∷ []
+
+put_means : (format : Format) → command_of (understood (schema_in format) texts.fact.put)
+    ≡ InsertOr 9 Abort (Values put_terms 14) (record { target = Some (1 ∷ 2 ∷ []); update = Some (record { lets = []; body = reading row.fact.table.tree (same_rowid 13) (col 1 0 ∷ put_cells) [] }) } ∷ [])
 unfolding understood everything first_key
-put = record {
+put_means One = refl
+put_means Two = refl
+
+put_plain : (format : Format) → IsPlain (understood (schema_in format) texts.fact.put)
+unfolding understood everything first_key
+put_plain One = (refl, refl)
+put_plain Two = (refl, refl)
+
+pub put : (format : Format) → PutsOne (schema_in format) row.fact texts.fact.put
+unfolding understood everything first_key
+put format = record {
   at = 9;
-  table = record { has = refl; uncounted = refl; unstamped = refl; idle = λ keys olds news. refl };
-  terms = lit Null ∷ col 0 0 ∷ col 0 1 ∷ col 0 2 ∷ col 0 3 ∷ col 0 4 ∷ col 0 5 ∷ col 0 6 ∷ col 0 7 ∷ col 0 8 ∷ col 0 9 ∷ col 0 10 ∷ col 0 11 ∷ col 0 12 ∷ [];
+  table = record { has = refl; uncounted = refl; unstamped = refl; idle = nothing_works format _ };
+  terms = put_terms;
   width = 14;
   target = 1 ∷ 2 ∷ [];
   here = 13;
-  cells = col 1 0 ∷ col 1 1 ∷ col 1 2 ∷ col 0 17 ∷ col 0 18 ∷ col 0 19 ∷ col 0 20 ∷ col 0 21 ∷ col 0 22 ∷ col 0 23 ∷ col 0 24 ∷ col 0 25 ∷ col 0 26 ∷ col 0 27 ∷ [];
-  command = refl;
-  plain = (refl, refl);
+  cells = put_cells;
+  command = put_means format;
+  plain = put_plain format;
   source = λ v. Null ∷ row.fact.encode v;
   given = λ v. refl;
   own = λ v. cast_row_own row.fact.table Null (row.fact.encode v) refl refl;
   kept = λ v rows. cast_row_own row.fact.table (Int (next_rowid rows)) (row.fact.encode v) refl refl;
   shows = λ v rows. refl;
   test = λ v r. equal Binary (column r 0) (Text v.ticket) && equal Binary (column r 1) (Int (pos v.line));
-  hits = λ v rows r. trimmed_and _ _;
+  hits = λ v rows r. same_conflicts (Some (1 ∷ 2 ∷ [])) row.fact.table (with_rowid Chosen rows (Null ∷ row.fact.encode v)) r refl format ∙ trimmed_and _ _;
   agree = λ v w. ap₂ ◌&&◌ (equal-Text w.ticket v.ticket) (equal-Nat w.line v.line) ∙ sym (then_eq (slice_cmp nat_cmp v.ticket w.ticket) (nat_cmp v.line w.line));
   finds = λ v rows id r. refl;
   over = λ v vs. column vs 0 ∷ column vs 1 ∷ drop 2 (row.fact.encode v);
@@ -66,11 +93,11 @@ put = record {
 
 -- ---- other keys
 
-pub rekey : MovesOne row.fact bind_rekey (λ r. r.0) with_keys rekey_text
+pub rekey : (format : Format) → MovesOne (schema_in format) row.fact bind_rekey (λ r. r.0) with_keys rekey_text
 unfolding understood everything unary
-rekey = record {
+rekey format = record {
   at = 9;
-  table = record { has = refl; uncounted = refl; unstamped = refl; idle = λ keys olds news. refl };
+  table = record { has = refl; uncounted = refl; unstamped = refl; idle = nothing_works format _ };
   tests = op2 (Compare Eq Binary) (col 1 1) (col 0 0) ∷ op2 (Compare Eq Binary) (col 1 2) (op1 ToNumeric (col 0 1)) ∷ [];
   cells = col 1 0 ∷ col 1 1 ∷ col 1 2 ∷ col 1 3 ∷ col 0 2 ∷ col 0 3 ∷ col 0 4 ∷ col 1 7 ∷ col 1 8 ∷ col 1 9 ∷ col 0 5 ∷ col 1 11 ∷ col 1 12 ∷ col 1 13 ∷ [];
   command = refl;
@@ -113,11 +140,11 @@ valid_rekeyed r f keys valid =
 
 -- ---- remove
 
-pub remove : RemovesOne row.fact bind_line texts.fact.remove
+pub remove : (format : Format) → RemovesOne (schema_in format) row.fact bind_line texts.fact.remove
 unfolding understood everything unary
-remove = record {
+remove format = record {
   at = 9;
-  table = record { has = refl; uncounted = refl; unstamped = refl; idle = λ keys olds news. refl };
+  table = record { has = refl; uncounted = refl; unstamped = refl; idle = nothing_works format _ };
   tests = op2 (Compare Eq Binary) (col 1 1) (col 0 0) ∷ op2 (Compare Eq Binary) (col 1 2) (op1 ToNumeric (col 0 1)) ∷ [];
   command = refl;
   plain = (refl, refl);
@@ -134,9 +161,9 @@ shown = col 1 1 ∷ col 1 2 ∷ col 1 3 ∷ col 1 4 ∷ col 1 5 ∷ col 1 6 ∷ 
 abbrev by_key : List (Term × Key)
 by_key = (col 1 1, ascending Binary) ∷ (col 1 2, ascending Binary) ∷ []
 
-pub all : ReadsSome row.fact [] (λ r. true) texts.fact.all
+pub all : (format : Format) → ReadsSome (schema_in format) row.fact [] (λ r. true) texts.fact.all
 unfolding understood everything
-all = record {
+all format = record {
   tests = [];
   project = shown;
   order = by_key;
@@ -152,9 +179,9 @@ all = record {
   in_order = λ v w. ap₂ ordering_then (value_cmp-Text v.ticket w.ticket) (then-Equal _ ∙ sorted-Nat v.line w.line);
 }
 
-pub get : (k : LineKey) → ReadsSome row.fact (bind_line k) (λ r. eq_by_cmp row.fact.order k (row.fact.key r)) texts.fact.get
+pub get : (format : Format) (k : LineKey) → ReadsSome (schema_in format) row.fact (bind_line k) (λ r. eq_by_cmp row.fact.order k (row.fact.key r)) texts.fact.get
 unfolding understood everything unary
-get k = record {
+get format k = record {
   tests = op2 (Compare Eq Binary) (col 1 1) (col 0 0) ∷ op2 (Compare Eq Binary) (col 1 2) (op1 ToNumeric (col 0 1)) ∷ [];
   project = shown;
   order = by_key;
@@ -171,9 +198,9 @@ get k = record {
 }
 
 -- the facts of a store from one day to another
-pub of_store_between : (durable from to : ℕ) → ReadsSome row.fact (Int (pos durable) ∷ Int (pos from) ∷ Int (pos to) ∷ []) (λ r. eq_by_cmp nat_cmp durable r.store_durable && (is_ge (nat_cmp r.day from) && is_le (nat_cmp r.day to))) (texts.sales_between Store)
+pub of_store_between : (format : Format) (durable from to : ℕ) → ReadsSome (schema_in format) row.fact (Int (pos durable) ∷ Int (pos from) ∷ Int (pos to) ∷ []) (λ r. eq_by_cmp nat_cmp durable r.store_durable && (is_ge (nat_cmp r.day from) && is_le (nat_cmp r.day to))) (texts.sales_between Store)
 unfolding understood everything unary
-of_store_between durable from to = record {
+of_store_between format durable from to = record {
   tests = op2 (Compare Eq Binary) (col 1 7) (op1 ToNumeric (col 0 0)) ∷ op2 (Compare Ge Binary) (col 1 3) (op1 ToNumeric (col 0 1)) ∷ op2 (Compare Le Binary) (col 1 3) (op1 ToNumeric (col 0 2)) ∷ [];
   project = shown;
   order = by_key;
@@ -190,9 +217,9 @@ of_store_between durable from to = record {
 }
 
 -- the facts of a product from one day to another
-pub of_product_between : (durable from to : ℕ) → ReadsSome row.fact (Int (pos durable) ∷ Int (pos from) ∷ Int (pos to) ∷ []) (λ r. eq_by_cmp nat_cmp durable r.product_durable && (is_ge (nat_cmp r.day from) && is_le (nat_cmp r.day to))) (texts.sales_between Product)
+pub of_product_between : (format : Format) (durable from to : ℕ) → ReadsSome (schema_in format) row.fact (Int (pos durable) ∷ Int (pos from) ∷ Int (pos to) ∷ []) (λ r. eq_by_cmp nat_cmp durable r.product_durable && (is_ge (nat_cmp r.day from) && is_le (nat_cmp r.day to))) (texts.sales_between Product)
 unfolding understood everything unary
-of_product_between durable from to = record {
+of_product_between format durable from to = record {
   tests = op2 (Compare Eq Binary) (col 1 8) (op1 ToNumeric (col 0 0)) ∷ op2 (Compare Ge Binary) (col 1 3) (op1 ToNumeric (col 0 1)) ∷ op2 (Compare Le Binary) (col 1 3) (op1 ToNumeric (col 0 2)) ∷ [];
   project = shown;
   order = by_key;
@@ -209,9 +236,9 @@ of_product_between durable from to = record {
 }
 
 -- the facts of a customer from one day to another
-pub of_customer_between : (durable from to : ℕ) → ReadsSome row.fact (Int (pos durable) ∷ Int (pos from) ∷ Int (pos to) ∷ []) (λ r. eq_by_cmp nat_cmp durable r.customer_durable && (is_ge (nat_cmp r.day from) && is_le (nat_cmp r.day to))) (texts.sales_between Customer)
+pub of_customer_between : (format : Format) (durable from to : ℕ) → ReadsSome (schema_in format) row.fact (Int (pos durable) ∷ Int (pos from) ∷ Int (pos to) ∷ []) (λ r. eq_by_cmp nat_cmp durable r.customer_durable && (is_ge (nat_cmp r.day from) && is_le (nat_cmp r.day to))) (texts.sales_between Customer)
 unfolding understood everything unary
-of_customer_between durable from to = record {
+of_customer_between format durable from to = record {
   tests = op2 (Compare Eq Binary) (col 1 9) (op1 ToNumeric (col 0 0)) ∷ op2 (Compare Ge Binary) (col 1 3) (op1 ToNumeric (col 0 1)) ∷ op2 (Compare Le Binary) (col 1 3) (op1 ToNumeric (col 0 2)) ∷ [];
   project = shown;
   order = by_key;
@@ -228,29 +255,29 @@ of_customer_between durable from to = record {
 }
 
 -- the facts of a member of this dimension from one day to another
-pub of_sales_between : (dim : Dim) (durable from to : ℕ) → ReadsSome row.fact (Int (pos durable) ∷ Int (pos from) ∷ Int (pos to) ∷ []) (λ r. eq_by_cmp nat_cmp durable (durable_of dim r) && (is_ge (nat_cmp r.day from) && is_le (nat_cmp r.day to))) (texts.sales_between dim)
-of_sales_between Product durable from to = of_product_between durable from to
-of_sales_between Store durable from to = of_store_between durable from to
-of_sales_between Customer durable from to = of_customer_between durable from to
+pub of_sales_between : (format : Format) (dim : Dim) (durable from to : ℕ) → ReadsSome (schema_in format) row.fact (Int (pos durable) ∷ Int (pos from) ∷ Int (pos to) ∷ []) (λ r. eq_by_cmp nat_cmp durable (durable_of dim r) && (is_ge (nat_cmp r.day from) && is_le (nat_cmp r.day to))) (texts.sales_between dim)
+of_sales_between format Product durable from to = of_product_between format durable from to
+of_sales_between format Store durable from to = of_store_between format durable from to
+of_sales_between format Customer durable from to = of_customer_between format durable from to
 
 -- ---- read, whoever wrote the rows
 
-pub all_stored : ReadsStored row.fact [] (λ r. true) (λ r. true) texts.fact.all
+pub all_stored : (format : Format) → ReadsStored (schema_in format) row.fact [] (λ r. true) (λ r. true) texts.fact.all
 unfolding all
-all_stored = record { reads = all; tested = λ r. refl }
+all_stored format = record { reads = all format; tested = λ r. refl }
 
-pub get_stored : (k : LineKey) → ReadsStored row.fact (bind_line k) (stands_at_line k) (λ r. eq_by_cmp row.fact.order k (row.fact.key r)) texts.fact.get
+pub get_stored : (format : Format) (k : LineKey) → ReadsStored (schema_in format) row.fact (bind_line k) (stands_at_line k) (λ r. eq_by_cmp row.fact.order k (row.fact.key r)) texts.fact.get
 unfolding get
-get_stored k = record { reads = get k; tested = λ r. refl }
+get_stored format k = record { reads = get format k; tested = λ r. refl }
 
-pub of_sales_between_stored : (dim : Dim) (durable from to : ℕ) → ReadsStored row.fact (Int (pos durable) ∷ Int (pos from) ∷ Int (pos to) ∷ []) (is_sale_between dim durable from to) (λ r. eq_by_cmp nat_cmp durable (durable_of dim r) && (is_ge (nat_cmp r.day from) && is_le (nat_cmp r.day to))) (texts.sales_between dim)
+pub of_sales_between_stored : (format : Format) (dim : Dim) (durable from to : ℕ) → ReadsStored (schema_in format) row.fact (Int (pos durable) ∷ Int (pos from) ∷ Int (pos to) ∷ []) (is_sale_between dim durable from to) (λ r. eq_by_cmp nat_cmp durable (durable_of dim r) && (is_ge (nat_cmp r.day from) && is_le (nat_cmp r.day to))) (texts.sales_between dim)
 unfolding of_sales_between of_product_between of_store_between of_customer_between
-of_sales_between_stored Product durable from to = record { reads = of_product_between durable from to; tested = λ r. refl }
-of_sales_between_stored Store durable from to = record { reads = of_store_between durable from to; tested = λ r. refl }
-of_sales_between_stored Customer durable from to = record { reads = of_customer_between durable from to; tested = λ r. refl }
+of_sales_between_stored format Product durable from to = record { reads = of_product_between format durable from to; tested = λ r. refl }
+of_sales_between_stored format Store durable from to = record { reads = of_store_between format durable from to; tested = λ r. refl }
+of_sales_between_stored format Customer durable from to = record { reads = of_customer_between format durable from to; tested = λ r. refl }
 
 -- ---- count
 
-pub count : CountsAll row.fact texts.fact.count
+pub count : (format : Format) → CountsAll (schema_in format) row.fact texts.fact.count
 unfolding understood everything
-count = record { names = codes "count(*)" ∷ []; command = refl; plain = (refl, refl); unlisted = refl }
+count format = record { names = codes "count(*)" ∷ []; command = refl; plain = (refl, refl); unlisted = refl }

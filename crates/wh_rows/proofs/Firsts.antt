@@ -24,7 +24,7 @@ use Rattle.sqlite.specs.Query.{Output, output, output_cmp, IsAnswerAs}
 use Rattle.sqlite.specs.Program.{overlay, IsProgramAnswer}
 use Rattle.sqlite.specs.State.{State, Shown}
 use Rattle.sqlite.proofs.Callers.{reads_as}
-use Rattle.wh_rows.specs.Schema.{warehouse}
+use Rattle.sqlite.specs.Schema.{Schema}
 use Rattle.wh_rows.specs.Holds.{Layout, values_of, Holds}
 use Rattle.wh_rows.specs.Meaning.{passes}
 use Rattle.wh_rows.specs.Firsts.{reading_first, from_end, keys_cmp, greatest, ReadsSorted, ReadsFirst, ReadsGreatest}
@@ -58,7 +58,7 @@ pub record AreFirstOf {V : Type 0} (encode : V → Row) (most : ℕ) (cmp : V �
   pub sorted : IsSorted cmp ordered
   pub shown : rows ≡ take most (map encode ordered)
 
-module _ {K V : Type 0} (layout : Layout K V) (params : Row) (keep : V → Bool) (most : ℕ) (cmp : V → V → Ordering) (text : List ℕ) (it : ReadsSorted layout params keep most cmp text) where
+module _ {under : Schema} {K V : Type 0} (layout : Layout K V) (params : Row) (keep : V → Bool) (most : ℕ) (cmp : V → V → Ordering) (text : List ℕ) (it : ReadsSorted under layout params keep most cmp text) where
   shown_as : V → Output
   shown_as v = (it.sorted_by (layout.encode v), layout.encode v)
 
@@ -67,12 +67,12 @@ module _ {K V : Type 0} (layout : Layout K V) (params : Row) (keep : V → Bool)
   unfolding shown_as
   compares = subst IsTotalOrder (λ i v w. it.in_order v w i) (on_total shown_as (output_cmp_total (reading_first most layout.table.tree it.tests it.project it.order)))
 
-  module _ (old new : State) (rows : List Row) (is : old.now.schema ≡ warehouse) (shown : Shown text params old new rows) (m : FinMap layout.order V) (held : Holds layout old.now.trees m) where
+  module _ (old new : State) (rows : List Row) (is : old.now.schema ≡ under) (shown : Shown text params old new rows) (m : FinMap layout.order V) (held : Holds layout old.now.trees m) where
     pub reads_sorted : AreFirstOf layout.encode most cmp (filter keep (values m)) rows
     unfolding shown_as
     reads_sorted =
         let q = reading_first most layout.table.tree it.tests it.project it.order in
-        let read = reads_as text params old new warehouse is _ it.command it.plain it.unlisted rows shown in
+        let read = reads_as text params old new under is _ it.command it.plain it.unlisted rows shown in
         let answer = is_read_first old.now.trees params most layout.table.tree it.tests it.project it.order rows read.answer in
         let db = old.now.trees layout.table.tree in
         let show : Row → Output = λ vs. (it.sorted_by vs, vs) in
@@ -101,8 +101,8 @@ module _ {K V : Type 0} (layout : Layout K V) where
   turned_same true vs = IsPermutation-reverse vs
   turned_same false vs = IsPermutation-refl vs
 
-module _ {K V : Type 0} (layout : Layout K V) (params : Row) (keep : V → Bool) (most : ℕ) (backwards : Bool) (text : List ℕ) (it : ReadsFirst layout params keep most backwards text) (old new : State) (rows : List Row)
-    (is : old.now.schema ≡ warehouse) (shown : Shown text params old new rows) (m : FinMap layout.order V) (held : Holds layout old.now.trees m) where
+module _ {under : Schema} {K V : Type 0} (layout : Layout K V) (params : Row) (keep : V → Bool) (most : ℕ) (backwards : Bool) (text : List ℕ) (it : ReadsFirst under layout params keep most backwards text) (old new : State) (rows : List Row)
+    (is : old.now.schema ≡ under) (shown : Shown text params old new rows) (m : FinMap layout.order V) (held : Holds layout old.now.trees m) where
   -- the first of the rows that are kept, in order of their keys, from either end
   pub reads_first : rows ≡ take most (map layout.encode (from_end backwards (filter keep (values m))))
   reads_first =
@@ -156,7 +156,7 @@ module _ {V : Type 0} (measure : V → ℕ) where
           let high = reaches kept v here in
           record { found = Some v; among = here; shown = shown; greatest_is = omega arith }
 
-module _ {K V : Type 0} (layout : Layout K V) (params : Row) (keep : V → Bool) (measure : V → ℕ) (text : List ℕ) (it : ReadsGreatest layout params keep measure text) (old new : State) (rows : List Row)
-    (is : old.now.schema ≡ warehouse) (shown : Shown text params old new rows) (m : FinMap layout.order V) (held : Holds layout old.now.trees m) where
+module _ {under : Schema} {K V : Type 0} (layout : Layout K V) (params : Row) (keep : V → Bool) (measure : V → ℕ) (text : List ℕ) (it : ReadsGreatest under layout params keep measure text) (old new : State) (rows : List Row)
+    (is : old.now.schema ≡ under) (shown : Shown text params old new rows) (m : FinMap layout.order V) (held : Holds layout old.now.trees m) where
   pub reads_greatest : IsGreatestOf layout.encode measure (filter keep (values m)) rows
   reads_greatest = first_is_greatest measure layout.encode (filter keep (values m)) rows (reads_sorted layout params keep 1 (falling measure) text it old new rows is shown m held)

@@ -19,6 +19,9 @@ use Rattle.sqlite.specs.declared.error.Error.{Error}
 use Rattle.sqlite_trees.specs.declared.error.StoreError.{StoreError}
 use Rattle.sqlite_trees.specs.declared.error.StoreError.TheVariants.{OutOfMemory, Io, Corrupt, Full, Broken, Unstorable}
 use Rattle.wh_rows.specs.Schema.{index}
+use Rattle.wh_rows.specs.declared.format.Format.{Format}
+use Rattle.wh_rows.specs.Schema.{schema_in}
+use Rattle.wh_rows.proofs.Formats.{nothing_works}
 use Rattle.wh_rows.specs.Rows as row
 use Rattle.wh_rows.specs.Tables.{Tables, Stores}
 use Rattle.wh_rows.specs.Inserting.{facts_at_once, insert_text, bind_facts, is_broken_rule, BreaksRule}
@@ -40,11 +43,11 @@ abbrev rows_from : ℕ → ℕ → List Term
 rows_from zero n = []
 rows_from (suc more) n = row_from n ++ rows_from more (n + 13)
 
-pub inserts : InsertsEach row.fact facts_at_once insert_text
+pub inserts : (format : Format) → InsertsEach (schema_in format) row.fact facts_at_once insert_text
 unfolding understood everything first_key
-inserts = record {
+inserts format = record {
   at = 9;
-  table = record { has = refl; uncounted = refl; unstamped = refl; idle = λ keys olds news. refl };
+  table = record { has = refl; uncounted = refl; unstamped = refl; idle = nothing_works format _ };
   terms = rows_from 16 0;
   width = 14;
   command = refl;
@@ -57,9 +60,9 @@ inserts = record {
 }
 
 -- no two facts have one line
-pub own_lines : KeepsApart row.fact (same_key row.fact places.fact.total places.fact.same)
+pub own_lines : (format : Format) → KeepsApart (schema_in format) row.fact (same_key row.fact places.fact.total places.fact.same)
 unfolding first_key
-own_lines = record {
+own_lines format = record {
   index = index (codes "sqlite_autoindex_fact_1") 15 14 (1 ∷ 2 ∷ []) true;
   among = inr (inr (inr (inr (inr (inl refl)))));
   guards = refl;
@@ -72,10 +75,10 @@ own_lines = record {
 pub facts_inserted : (old new : State) (t : Tables) → Stores old.now t → (facts : List Fact) → length facts ≡ facts_at_once → AllByRecursion (λ f. IsTrue (row.fact.is_valid f)) facts → (count : ℕ)
     → Executes insert_text (bind_facts facts) old new (Ok count) → Stores new.now (record t { fact = with_rows row.fact facts t.fact })
 facts_inserted old new t stored facts sixteen valid count ran =
-    let rise = places.fact.rising old.now t stored in
-    places.fact.changed old.now new.now t (with_rows row.fact facts t.fact)
-    (Inserts.leaves row.fact places.fact.total places.fact.same facts_at_once insert_text inserts own_lines old new facts count stored.schema rise t.fact stored.fact sixteen ran)
-    (holds_inserted row.fact places.fact.total places.fact.same facts_at_once insert_text inserts own_lines old new facts count stored.schema rise t.fact stored.fact sixteen ran valid) stored
+    let rise = places.fact.rising old.now t stored refl in
+    places.fact.changed old.now new.now t (with_rows row.fact facts t.fact) refl
+    (Inserts.leaves row.fact places.fact.total places.fact.same facts_at_once insert_text (inserts t.format) (own_lines t.format) old new facts count stored.schema rise t.fact stored.fact sixteen ran)
+    (holds_inserted row.fact places.fact.total places.fact.same facts_at_once insert_text (inserts t.format) (own_lines t.format) old new facts count stored.schema rise t.fact stored.fact sixteen ran valid) stored
 
 -- ---- a refusal
 

@@ -36,7 +36,7 @@ use Rattle.sqlite.specs.Does.{Tally, Does, AtPlace, OnRows}
 use Rattle.sqlite.specs.Listing.{understood}
 use Rattle.sqlite.specs.State.{State, Executes, mode_of}
 use Rattle.sqlite.proofs.Callers.{statement_of, runs_as, one_step}
-use Rattle.wh_rows.specs.Schema.{warehouse}
+use Rattle.sqlite.specs.Schema.{Schema}
 use Rattle.wh_rows.specs.Holds.{Layout, values_of, HasRows, Holds, IsRising}
 use Rattle.wh_rows.specs.OneTable.{LeavesOthers}
 use Rattle.wh_rows.specs.Meaning.{IsPlainTable, InsertsEach, KeepsApart}
@@ -173,8 +173,8 @@ module _ {K V : Type 0} (layout : Layout K V) (total : IsTotalOrder layout.order
       IsPermutation-trans _ _ _ (IsPermutation-append vs vs _ _ (IsPermutation-refl vs) (one_more v vs m apart keyed)) (IsPermutation-middle vs v (values m)) in
       IsPermutation-trans _ _ _ (each_put vs after (apart_permuted _ _ more apart) (keyed-insert layout.order same layout.key total m v keyed)) more
 
-  module _ (many : ℕ) (text : List ℕ) (it : InsertsEach layout many text) (own : KeepsApart layout same_key) (old new : State) (vs : List V) (count : ℕ)
-      (is : old.now.schema ≡ warehouse) (rising : IsRising (old.now.trees layout.table.tree)) (m : FinMap layout.order V) (held : Holds layout old.now.trees m)
+  module _ {under : Schema} (many : ℕ) (text : List ℕ) (it : InsertsEach under layout many text) (own : KeepsApart under layout same_key) (old new : State) (vs : List V) (count : ℕ)
+      (is : old.now.schema ≡ under) (rising : IsRising (old.now.trees layout.table.tree)) (m : FinMap layout.order V) (held : Holds layout old.now.trees m)
       (so_many : length vs ≡ many) (ran : Executes text (flat_map layout.encode vs) old new (Ok count)) where
     abbrev there : List Row
     there = old.now.trees layout.table.tree
@@ -185,14 +185,14 @@ module _ {K V : Type 0} (layout : Layout K V) (total : IsTotalOrder layout.order
     abbrev put : Edit
     put = edit_of old.now.trees layout.table [] Chosen 0 (map it.source vs)
 
-    step : Applies warehouse (mode_of old).keys old.now.trees put new.now.trees × (new.now.schema ≡ warehouse)
+    step : Applies under (mode_of old).keys old.now.trees put new.now.trees × (new.now.schema ≡ under)
     step =
-        let w = runs_as text (flat_map layout.encode vs) old new warehouse is _ it.command it.plain count ran in
-        let db : Database = record { schema = warehouse; trees = old.now.trees } in
-        let sql = statement_of text (understood warehouse text) in
+        let w = runs_as text (flat_map layout.encode vs) old new under is _ it.command it.plain count ran in
+        let db : Database = record { schema = under; trees = old.now.trees } in
+        let sql = statement_of text (understood under text) in
         let changed = subst (λ s. Does old.step_limit (mode_of old) (flat_map layout.encode vs) (record old.now { schema = s }) sql None (Insert it.at (Values it.terms it.width)) (Ok (w.tally, new.now))) is w.changed in
         let made = inserted old.step_limit (mode_of old) (flat_map layout.encode vs) db it.at layout.table it.table sql it.terms it.width w.tally new.now changed in
-        (subst (λ rows. Applies warehouse (mode_of old).keys old.now.trees (edit_of old.now.trees layout.table [] Chosen 0 rows) new.now.trees) (it.given vs so_many) made.0, made.1)
+        (subst (λ rows. Applies under (mode_of old).keys old.now.trees (edit_of old.now.trees layout.table [] Chosen 0 rows) new.now.trees) (it.given vs so_many) made.0, made.1)
 
     shows_each : (ws : List V) (rows : List Row) → map (values_of layout.table) (numbered Chosen rows (map (λ s. cast_row layout.table (drop 0 s)) (map it.source ws))) ≡ map layout.encode ws
     shows_each [] rows = refl
@@ -211,8 +211,8 @@ module _ {K V : Type 0} (layout : Layout K V) (total : IsTotalOrder layout.order
     rises : IsRising after
     rises = subst IsRising (sym step.0.rows) (put_all_rises put.news there step.0.keyed rising)
 
-    sound : IsSound warehouse new.now.trees
-    sound = subst (λ s. IsSound s new.now.trees) step.1 (runs_as text (flat_map layout.encode vs) old new warehouse is _ it.command it.plain count ran).sound
+    sound : IsSound under new.now.trees
+    sound = subst (λ s. IsSound s new.now.trees) step.1 (runs_as text (flat_map layout.encode vs) old new under is _ it.command it.plain count ran).sound
 
     -- a row of the table is one of them
     shown : (r : Row) → Has after r → (w : V) × (values_of layout.table r ≡ layout.encode w)
@@ -235,9 +235,9 @@ module _ {K V : Type 0} (layout : Layout K V) (total : IsTotalOrder layout.order
         let kept = holds_filtered layout (λ r. own.meets r (layout.encode v)) (same_key v) pass after (vs ++ values m) (λ w here. own.same v w) (λ r here. refl) bag in
         let long : length (filter pass after) ≡ length (filter (same_key v) (vs ++ values m)) =
         sym (length-map (filter pass after) (values_of layout.table)) ∙ sym (length_permutation _ _ kept) ∙ length-map (filter (same_key v) (vs ++ values m)) layout.encode in
-        let each = all-slice_get (λ t. AllByRecursion (λ row. rules.passes Unique warehouse new.now.trees t row ≡ true) (new.now.trees t.tree)) warehouse.tables it.at layout.table it.table.has (sound.obeys.rules Unique) in
+        let each = all-slice_get (λ t. AllByRecursion (λ row. rules.passes Unique under new.now.trees t row ≡ true) (new.now.trees t.tree)) under.tables it.at layout.table it.table.has (sound.obeys.rules Unique) in
         let once : length (filter pass after) ≤ 1 = at_most_one after pass rises.0 (λ x y hx hy px py less.
-        let free = test_has (λ i. not (guards i layout.table && clashes i.order i.columns after x)) warehouse.indexes own.index (all_has (λ row. rules.passes Unique warehouse new.now.trees layout.table row ≡ true) after x each hx) own.among in
+        let free = test_has (λ i. not (guards i layout.table && clashes i.order i.columns after x)) under.indexes own.index (all_has (λ row. rules.passes Unique under new.now.trees layout.table row ≡ true) after x each hx) own.among in
         let none : clashes own.index.order own.index.columns after x ≡ false = not-true (clashes own.index.order own.index.columns after x) (ap (λ b. not (b && clashes own.index.order own.index.columns after x)) (sym own.guards) ∙ free) in
         none_clashes (λ other. agree own.index.order own.index.columns other own.index.columns x && differ (rowid other) (rowid x)) after y none hy
         (both (far v x y hx hy px py) (ids_differ (rowid x) (rowid y) (all_has _ after x rises.1 hx) (all_has _ after y rises.1 hy) less))) in
@@ -250,5 +250,5 @@ module _ {K V : Type 0} (layout : Layout K V) (total : IsTotalOrder layout.order
       valid = each_valid vs m valid held.valid;
     }
 
-    pub leaves : LeavesOthers layout.table old.now new.now
-    leaves = record { schema = step.1; sound = (runs_as text (flat_map layout.encode vs) old new warehouse is _ it.command it.plain count ran).sound; rising = rises; others = step.0.tables }
+    pub leaves : LeavesOthers under layout.table old.now new.now
+    leaves = record { schema = step.1; sound = (runs_as text (flat_map layout.encode vs) old new under is _ it.command it.plain count ran).sound; rising = rises; others = step.0.tables }

@@ -1,7 +1,7 @@
 -- The text that shows all facts by one of their keys, and what it shows of the facts that are stored.
 use Rattle.std.proofs.Common.{◌≡◌, ◌≢◌, ℕ, ◌+◌, pos, negsuc, true, ◌&&◌, ◌==◌, List, [], ◌∷◌, map, length, codes, filter, Ok, Err, Result, IfOk, IfErr, refl, sym, ap, ap₂, subst, subst₂, ◌∙◌}
 use Rattle.std.specs.Prelude.{IsTrue}
-use Rattle.std.specs.FinMap.{values}
+use Rattle.std.specs.FinMap.{entries, values}
 use Rattle.std.specs.List.Sorted.{IsPermutation}
 use Rattle.std.proofs.lemmas.Bool.{and_parts, eqb-true}
 use Rattle.std.proofs.lemmas.List.Sorted.{IsPermutation-map, IsPermutation-refl, IsPermutation-sym, IsPermutation-trans}
@@ -15,7 +15,7 @@ use Rattle.sqlite.specs.Order.{Row, column}
 use Rattle.sqlite.specs.Query.{Output, output}
 use Rattle.sqlite.specs.Term.{Term, col}
 use Rattle.sqlite.specs.Effect.{Database}
-use Rattle.sqlite.specs.Listing.{understood}
+use Rattle.sqlite.specs.Listing.{listing_schema, understood}
 use Rattle.sqlite.specs.State.{State, Shown}
 use Rattle.sqlite.proofs.Callers.{reads_as}
 use Rattle.wh_day.specs.Day.{is_day}
@@ -29,21 +29,28 @@ use Rattle.wh_rows.specs.declared.keyed_sale.FactKey.{FactKey}
 use Rattle.wh_rows.specs.declared.keyed_sale.FactKey.TheVariants.{Surrogate, Durable, Profile, Day}
 use Rattle.wh_rows.specs.declared.keyed_sale.KeyedSale.{KeyedSale}
 use Rattle.wh_rows.specs.declared.table.Table.TheVariants as tables
-use Rattle.wh_rows.specs.Schema.{warehouse}
-use Rattle.wh_rows.specs.Types.{is_key, is_line, is_number, is_measure}
+use Rattle.wh_rows.specs.declared.format.Format.{Format}
+use Rattle.wh_rows.specs.declared.format.Format.TheVariants.{One, Two}
+use Rattle.wh_rows.specs.Formats.{is_two}
+use Rattle.wh_rows.specs.Meaning.{Means}
+use Rattle.wh_rows.specs.Schema.{schema_in}
+use Rattle.wh_rows.specs.Types.{is_key, is_line, is_number, is_measure, is_discount}
 use Rattle.wh_rows.specs.Rows as row
-use Rattle.wh_rows.specs.Rows.{is_fact, encode_fact}
+use Rattle.wh_rows.specs.Rows.{is_fact, encode_fact, encode_fact2}
+use Rattle.wh_rows.specs.declared.rows.Fact2.{Fact2}
+use Rattle.wh_rows.proofs.Formats.{valid_in}
+use Rattle.wh_rows.proofs.Means.{never_shows}
 use Rattle.wh_rows.specs.Columns.{day_of, measure_of}
 use Rattle.wh_rows.specs.Holds.{values_of}
 use Rattle.wh_rows.specs.Tables.{Tables, Stores}
 use Rattle.wh_rows.specs.Statements.{reading}
-use Rattle.wh_rows.specs.Raw.{Stored, IsStored, HasDamage, rows_in, stored_of}
-use Rattle.wh_rows.specs.KeyedSales.{keyed, columns_of, shown_of, key_in, keyed_columns, keyed_of, keyed_sales, ShowsSales}
+use Rattle.wh_rows.specs.Raw.{Stored, IsStored, HasDamage, rows_in, rows_shown, stored_of}
+use Rattle.wh_rows.specs.KeyedSales.{keyed, columns_of, shown_of, key_in, keyed_columns, keyed_of, keyed_sales, ShowsSales, keyed_sales2}
 use Rattle.wh_rows.proofs.Answers.{is_read, map-map}
 use Rattle.wh_rows.proofs.ColumnLemmas.{bind_ok, bind_is, when_ok, whole, day_so, day_is, measure_so, measure_is}
 use Rattle.wh_rows.proofs.Edits.{filter_all, same_value}
 use Rattle.wh_rows.proofs.Orders.{line_cmp_total}
-use Rattle.wh_rows.proofs.Raw.{has_again, holds_rows, no_damage}
+use Rattle.wh_rows.proofs.Raw.{all_valid, has_again, holds_rows, no_damage}
 use Rattle.wh_rows.proofs.RawTables.{stores_stored}
 
 -- ---- what a row of the columns is read as
@@ -109,16 +116,39 @@ showing place = col 1 3 ∷ col 1 (place + 1) ∷ col 1 11 ∷ col 1 12 ∷ col 
 abbrev naming : List ℕ → List (List ℕ)
 naming key = codes "day" ∷ key ∷ codes "quantity" ∷ codes "amount" ∷ codes "cost" ∷ []
 
-pub shows_sales : (which : FactKey) → ShowsSales which
+pub shows_sales : (format : Format) (which : FactKey) → ShowsSales (schema_in format) row.fact.table which (keyed_sales which)
 unfolding understood everything
-shows_sales (Surrogate Product) = record { project = showing 4; names = naming (codes "product_key"); command = refl; plain = (refl, refl); unlisted = refl; shows = λ r. refl }
-shows_sales (Surrogate Store) = record { project = showing 3; names = naming (codes "store_key"); command = refl; plain = (refl, refl); unlisted = refl; shows = λ r. refl }
-shows_sales (Surrogate Customer) = record { project = showing 5; names = naming (codes "customer_key"); command = refl; plain = (refl, refl); unlisted = refl; shows = λ r. refl }
-shows_sales (Durable Product) = record { project = showing 7; names = naming (codes "product_durable"); command = refl; plain = (refl, refl); unlisted = refl; shows = λ r. refl }
-shows_sales (Durable Store) = record { project = showing 6; names = naming (codes "store_durable"); command = refl; plain = (refl, refl); unlisted = refl; shows = λ r. refl }
-shows_sales (Durable Customer) = record { project = showing 8; names = naming (codes "customer_durable"); command = refl; plain = (refl, refl); unlisted = refl; shows = λ r. refl }
-shows_sales Profile = record { project = showing 9; names = naming (codes "profile"); command = refl; plain = (refl, refl); unlisted = refl; shows = λ r. refl }
-shows_sales Day = record { project = showing 2; names = naming (codes "day"); command = refl; plain = (refl, refl); unlisted = refl; shows = λ r. refl }
+shows_sales format (Surrogate Product) = record { project = showing 4; names = naming (codes "product_key"); command = refl; plain = (refl, refl); unlisted = refl; shows = λ r. refl }
+shows_sales format (Surrogate Store) = record { project = showing 3; names = naming (codes "store_key"); command = refl; plain = (refl, refl); unlisted = refl; shows = λ r. refl }
+shows_sales format (Surrogate Customer) = record { project = showing 5; names = naming (codes "customer_key"); command = refl; plain = (refl, refl); unlisted = refl; shows = λ r. refl }
+shows_sales format (Durable Product) = record { project = showing 7; names = naming (codes "product_durable"); command = refl; plain = (refl, refl); unlisted = refl; shows = λ r. refl }
+shows_sales format (Durable Store) = record { project = showing 6; names = naming (codes "store_durable"); command = refl; plain = (refl, refl); unlisted = refl; shows = λ r. refl }
+shows_sales format (Durable Customer) = record { project = showing 8; names = naming (codes "customer_durable"); command = refl; plain = (refl, refl); unlisted = refl; shows = λ r. refl }
+shows_sales format Profile = record { project = showing 9; names = naming (codes "profile"); command = refl; plain = (refl, refl); unlisted = refl; shows = λ r. refl }
+shows_sales format Day = record { project = showing 2; names = naming (codes "day"); command = refl; plain = (refl, refl); unlisted = refl; shows = λ r. refl }
+
+pub shows_sales2 : (which : FactKey) → ShowsSales (schema_in Two) row.fact2.table which (keyed_sales2 which)
+unfolding understood everything
+shows_sales2 (Surrogate Product) = record { project = showing 4; names = naming (codes "product_key"); command = refl; plain = (refl, refl); unlisted = refl; shows = λ r. refl }
+shows_sales2 (Surrogate Store) = record { project = showing 3; names = naming (codes "store_key"); command = refl; plain = (refl, refl); unlisted = refl; shows = λ r. refl }
+shows_sales2 (Surrogate Customer) = record { project = showing 5; names = naming (codes "customer_key"); command = refl; plain = (refl, refl); unlisted = refl; shows = λ r. refl }
+shows_sales2 (Durable Product) = record { project = showing 7; names = naming (codes "product_durable"); command = refl; plain = (refl, refl); unlisted = refl; shows = λ r. refl }
+shows_sales2 (Durable Store) = record { project = showing 6; names = naming (codes "store_durable"); command = refl; plain = (refl, refl); unlisted = refl; shows = λ r. refl }
+shows_sales2 (Durable Customer) = record { project = showing 8; names = naming (codes "customer_durable"); command = refl; plain = (refl, refl); unlisted = refl; shows = λ r. refl }
+shows_sales2 Profile = record { project = showing 9; names = naming (codes "profile"); command = refl; plain = (refl, refl); unlisted = refl; shows = λ r. refl }
+shows_sales2 Day = record { project = showing 2; names = naming (codes "day"); command = refl; plain = (refl, refl); unlisted = refl; shows = λ r. refl }
+
+pub shows_sales2_in : (format : Format) (which : FactKey) → Means (is_two format) (ShowsSales (schema_in format) row.fact2.table which (keyed_sales2 which)) (understood (schema_in format) (keyed_sales2 which))
+unfolding understood everything listing_schema
+shows_sales2_in One (Surrogate Product) = tt
+shows_sales2_in One (Surrogate Store) = tt
+shows_sales2_in One (Surrogate Customer) = tt
+shows_sales2_in One (Durable Product) = tt
+shows_sales2_in One (Durable Store) = tt
+shows_sales2_in One (Durable Customer) = tt
+shows_sales2_in One Profile = tt
+shows_sales2_in One Day = tt
+shows_sales2_in Two which = shows_sales2 which
 
 -- ---- what it shows of the facts that are stored
 
@@ -135,10 +165,10 @@ shown_fact Day f = refl
 
 module _ (which : FactKey) (old new : State) (answer : List Row) (shown : Shown (keyed_sales which) [] old new answer) where
   -- the answer is what each row of the table shows, in some order
-  shows_each : old.now.schema ≡ warehouse → IsPermutation (map (shown_of which) (rows_in row.fact.table old.now.trees)) answer
-  shows_each is =
-      let it = shows_sales which in
-      let read = reads_as (keyed_sales which) [] old new warehouse is _ it.command it.plain it.unlisted answer shown in
+  shows_each : (format : Format) → old.now.schema ≡ schema_in format → IsPermutation (map (shown_of which) (rows_in row.fact.table old.now.trees)) answer
+  shows_each format is =
+      let it = shows_sales format which in
+      let read = reads_as (keyed_sales which) [] old new (schema_in format) is _ it.command it.plain it.unlisted answer shown in
       let found = is_read old.now.trees [] row.fact.table.tree [] it.project [] answer read.answer in
       let db = old.now.trees row.fact.table.tree in
       let first : Output → Row = λ o. o.1 in
@@ -148,13 +178,13 @@ module _ (which : FactKey) (old new : State) (answer : List Row) (shown : Shown 
       subst₂ IsPermutation each (sym found.shown) (IsPermutation-map first _ _ found.same)
 
   -- of any rows, whoever wrote them
-  pub shows_stored_sales : (stored : Stored) → IsStored stored old.now → IsPermutation (map (shown_of which) (stored tables.Fact)) answer
-  shows_stored_sales stored is = IsPermutation-trans _ _ _ (IsPermutation-map (shown_of which) _ _ (IsPermutation-sym _ _ (is.rows tables.Fact))) (shows_each is.schema)
+  pub shows_stored_sales : (stored : Stored) → IsStored stored old.now → IsPermutation (map (shown_of which) (stored.rows tables.Fact)) answer
+  shows_stored_sales stored is = IsPermutation-trans _ _ _ (IsPermutation-map (shown_of which) _ _ (IsPermutation-sym _ _ (is.rows tables.Fact))) (shows_each stored.format is.schema)
 
   -- a row of the answer that shows no fact is that of a damaged one
-  pub shows_damage : (shows : Row) → Has answer shows → ((f : Fact) → IsTrue (is_fact f) → shows ≢ columns_of (keyed which f)) → (stored : Stored) → IsStored stored old.now → HasDamage row.fact (stored tables.Fact)
+  pub shows_damage : (shows : Row) → Has answer shows → ((f : Fact) → IsTrue (is_fact f) → shows ≢ columns_of (keyed which f)) → (stored : Stored) → IsStored stored old.now → HasDamage row.fact (stored.rows tables.Fact)
   shows_damage shows here none stored is =
-      let found = has_mapped (shown_of which) (stored tables.Fact) shows (has_again _ answer shows (shows_stored_sales stored is) here) in
+      let found = has_mapped (shown_of which) (stored.rows tables.Fact) shows (has_again _ answer shows (shows_stored_sales stored is) here) in
       (found.0, found.1, λ f valid same. none f valid (found.2 ∙ ap (shown_of which) same ∙ shown_fact which f))
 
   -- of tables, the facts' sales
@@ -166,5 +196,54 @@ module _ (which : FactKey) (old new : State) (answer : List Row) (shown : Shown 
       (back.0, IsPermutation-sym _ _ back.1, back.2 ∙ sym (map-map columns_of (keyed which) back.0))
 
 -- none of the facts of tables is damaged
-pub no_fact_damaged : (db : Database) (t : Tables) → Stores db t → ¬ HasDamage row.fact (stored_of t tables.Fact)
-no_fact_damaged db t is = no_damage row.fact (stored_of t tables.Fact) (values t.fact) (holds_rows row.fact line_cmp_total db.trees t.fact is.fact).valid (IsPermutation-refl _)
+pub no_fact_damaged : (db : Database) (t : Tables) → Stores db t → ¬ HasDamage row.fact ((stored_of t).rows tables.Fact)
+no_fact_damaged db t is = no_damage row.fact ((stored_of t).rows tables.Fact) (values t.fact) (holds_rows row.fact line_cmp_total db.trees t.fact is.fact).valid (IsPermutation-refl _)
+
+-- ---- the same of the second format
+
+pub shown_fact2 : (which : FactKey) (r : Fact2) → shown_of which (encode_fact2 r) ≡ columns_of (keyed which r.fact)
+shown_fact2 (Surrogate Product) r = refl
+shown_fact2 (Surrogate Store) r = refl
+shown_fact2 (Surrogate Customer) r = refl
+shown_fact2 (Durable Product) r = refl
+shown_fact2 (Durable Store) r = refl
+shown_fact2 (Durable Customer) r = refl
+shown_fact2 Profile r = refl
+shown_fact2 Day r = refl
+
+module _ (which : FactKey) (old new : State) (answer : List Row) (shown : Shown (keyed_sales2 which) [] old new answer) where
+  shows_each2 : (format : Format) → old.now.schema ≡ schema_in format → IsPermutation (map (shown_of which) (rows_shown format tables.Fact2 old.now.trees)) answer
+  shows_each2 One is = absurd (never_shows (keyed_sales2 which) [] old (schema_in One) is (shows_sales2_in One which) new answer shown)
+  shows_each2 Two is =
+      let it = shows_sales2 which in
+      let read = reads_as (keyed_sales2 which) [] old new (schema_in Two) is _ it.command it.plain it.unlisted answer shown in
+      let found = is_read old.now.trees [] row.fact2.table.tree [] it.project [] answer read.answer in
+      let db = old.now.trees row.fact2.table.tree in
+      let first : Output → Row = λ o. o.1 in
+      let output_of : Row → Output = λ r. output (reading row.fact2.table.tree [] it.project []) ([] ∷ r ∷ []) in
+      let each : map first (map output_of (filter (λ _. true) db)) ≡ map (shown_of which) (rows_in row.fact2.table old.now.trees) =
+      map-map first output_of _ ∙ ap (map (λ r. first (output_of r))) (filter_all db) ∙ ap (λ f. map f db) (λ i r. it.shows r i) ∙ sym (map-map (shown_of which) (values_of row.fact2.table) db) in
+      subst₂ IsPermutation each (sym found.shown) (IsPermutation-map first _ _ found.same)
+
+  -- of any rows, whoever wrote them
+  pub shows_stored_sales2 : (stored : Stored) → IsStored stored old.now → IsPermutation (map (shown_of which) (stored.rows tables.Fact2)) answer
+  shows_stored_sales2 stored is = IsPermutation-trans _ _ _ (IsPermutation-map (shown_of which) _ _ (IsPermutation-sym _ _ (is.rows tables.Fact2))) (shows_each2 stored.format is.schema)
+
+  -- a row of the answer that shows no fact is that of a damaged one
+  pub shows_damage2 : (shows : Row) → Has answer shows → ((f : Fact) → IsTrue (is_fact f) → shows ≢ columns_of (keyed which f)) → (stored : Stored) → IsStored stored old.now → HasDamage row.fact2 (stored.rows tables.Fact2)
+  shows_damage2 shows here none stored is =
+      let found = has_mapped (shown_of which) (stored.rows tables.Fact2) shows (has_again _ answer shows (shows_stored_sales2 stored is) here) in
+      (found.0, found.1, λ r valid same. none r.fact (and_parts (is_fact r.fact) (is_discount r.discount) valid).0 (found.2 ∙ ap (shown_of which) same ∙ shown_fact2 which r))
+
+  -- of tables, the facts' sales
+  pub shows_typed_sales2 : (t : Tables) → Stores old.now t → (ordered : List Fact) × IsPermutation ordered (map (λ r. r.fact) (values t.fact2)) × (answer ≡ map columns_of (map (keyed which) ordered))
+  shows_typed_sales2 t is =
+      let rows = values t.fact2 in
+      let facts : List Fact = map (λ r. r.fact) rows in
+      let each : map (shown_of which) (map encode_fact2 rows) ≡ map (λ f. columns_of (keyed which f)) facts =
+      map-map (shown_of which) encode_fact2 rows ∙ ap (λ f. map f rows) (λ i r. shown_fact2 which r i) ∙ sym (map-map (λ f. columns_of (keyed which f)) (λ (r : Fact2). r.fact) rows) in
+      let back = pull_back (λ f. columns_of (keyed which f)) _ answer (shows_stored_sales2 (stored_of t) (stores_stored old.now t is)) facts each in
+      (back.0, IsPermutation-sym _ _ back.1, back.2 ∙ sym (map-map columns_of (keyed which) back.0))
+
+pub no_fact2_damaged : (db : Database) (t : Tables) → Stores db t → ¬ HasDamage row.fact2 ((stored_of t).rows tables.Fact2)
+no_fact2_damaged db t is = no_damage row.fact2 ((stored_of t).rows tables.Fact2) (values t.fact2) (all_valid row.fact2.is_valid (entries t.fact2) (valid_in t.format row.fact2 db.trees t.fact2 is.fact2)) (IsPermutation-refl _)

@@ -11,6 +11,8 @@ pub mod Raw
 pub mod RawTables
 pub mod RawKeys
 pub mod Cast
+pub mod Formats
+pub mod Means
 pub mod Keys
 pub mod Counts
 pub mod Others
@@ -25,6 +27,8 @@ pub mod Customers
 pub mod Profiles
 pub mod Calendars
 pub mod Facts
+pub mod Facts2
+pub mod Voids
 pub mod KeyedSales
 pub mod ColumnLemmas
 pub mod Exact
@@ -33,6 +37,7 @@ pub mod Places
 pub mod Queries
 pub mod OnTables
 pub mod Making
+pub mod Upgrading
 pub mod OnLiterals
 pub mod Worked
 pub mod Firsts
@@ -68,4 +73,5 @@ pub mod MovedKeys
 pub mod SameLines
 pub mod Inserts
 pub mod InsertedFacts
+pub mod InsertedFacts2
 pub mod BoundFacts

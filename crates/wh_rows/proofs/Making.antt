@@ -1,9 +1,9 @@
 -- Making the ten tables and their indexes.
-use Rattle.std.proofs.Common.{◌≡◌, ℕ, codes, List, [], ◌∷◌, ◌++◌, map, length, arith, Ordering, inl, inr, None, Ok, false, refl, sym, ap, subst, ◌∙◌}
+use Rattle.std.proofs.Common.{◌≡◌, ℕ, codes, List, [], ◌∷◌, map, inl, inr, None, Ok, false, refl, sym, ap, subst, ◌∙◌}
 use Rattle.std.specs.Prelude.{IsTrue}
 use Rattle.std.specs.List.{AllByRecursion}
 use Rattle.std.specs.List.Sorted.{IsPermutation}
-use Rattle.std.specs.FinMap.{empty, entries, len-entries, len-empty}
+use Rattle.std.specs.FinMap.{empty}
 use Rattle.std.proofs.lemmas.List.Sorted.{IsPermutation-refl}
 use Rattle.sqlite.specs.Table.{Table}
 use Rattle.sqlite.specs.Tree.{Trees}
@@ -23,8 +23,9 @@ use Rattle.wh_rows.specs.Schema.{no_schema, warehouse}
 use Rattle.wh_rows.specs.Holds.{Layout, Holds, IsRising}
 use Rattle.wh_rows.specs.Tables.{no_tables, Stores}
 use Rattle.wh_rows.specs.Rows as row
-use Rattle.wh_rows.specs.Making.{AreEmpty, MakesTable, MakesIndex, Extends, Leads, making_texts}
+use Rattle.wh_rows.specs.Making.{AreEmpty, MakesTable, MakesIndex, LeadsOver, making_texts}
 use Rattle.wh_rows.proofs.Edits.{went, same_value}
+use Rattle.wh_rows.proofs.Formats.{no_values}
 
 -- the table is there and has no row, and the others are as they were
 pub record IsMade (old new : Schema) (before after : Database) : Type 0 where
@@ -234,25 +235,7 @@ all_made = refl
 
 -- ---- no table has a row
 
-still_empty : (tables : List Table) (old new : Trees) → KeepsRows tables old new → AreEmpty tables old → AreEmpty tables new
-still_empty [] old new kept none = tt
-still_empty (t ∷ ts) old new kept none = (kept.0 ∙ none.0, still_empty ts old new kept.1 none.1)
-
-one_more : (tables : List Table) (t : Table) (trees : Trees) → AreEmpty tables trees → trees t.tree ≡ [] → AreEmpty (tables ++ t ∷ []) trees
-one_more [] t trees none last = (last, tt)
-one_more (x ∷ xs) t trees none last = (none.0, one_more xs t trees none.1 last)
-
-pub made_empty : (from : Schema) (table : Table) (before after : Database) → IsMade from (created from table) before after → AreEmpty from.tables before.trees → AreEmpty (created from table).tables after.trees
-made_empty from table before after made none = one_more from.tables _ after.trees (still_empty from.tables before.trees after.trees made.kept none) made.empty
-
-no_values : {K V : Type 0} (R : K → K → Ordering) → entries (empty {K = K} {X = V} {R = R}) ≡ []
-no_values {K} {V} R = no_entries (entries (empty {K = K} {X = V} {R = R})) (sym (len-entries (empty {K = K} {X = V} {R = R})) ∙ len-empty R V)
-  where
-    no_entries : (es : List (K × V)) → length es ≡ 0 → es ≡ []
-    no_entries [] e = refl
-    no_entries (x ∷ es) e = absurd (omega arith)
-
-holds_none : {K V : Type 0} (layout : Layout K V) (db : Trees) → db layout.table.tree ≡ [] → Holds layout db empty
+pub holds_none : {K V : Type 0} (layout : Layout K V) (db : Trees) → db layout.table.tree ≡ [] → Holds layout db empty
 holds_none {K} {V} layout db none = record {
   rows_are = rw none (subst (λ (es : List (K × V)). IsPermutation [] (map layout.encode (map (λ e. e.1) es))) (sym (no_values layout.order)) (IsPermutation-refl []));
   keyed = subst (AllByRecursion (λ (e : K × V). e.0 ≡ layout.key e.1)) (sym (no_values layout.order)) tt;
@@ -278,79 +261,90 @@ stores_none db is sound none = record {
   profile = holds_none row.profile db.trees none.1.1.1.1.1.1.1.0;
   calendar = holds_none row.calendar db.trees none.1.1.1.1.1.1.1.1.0;
   fact = holds_none row.fact db.trees none.1.1.1.1.1.1.1.1.1.0;
+  fact2 = refl;
+  void = refl;
 }
 
 -- ---- all of it
 
--- run where the one schema stands over empty tables, the text leaves the other schema over empty tables
-pub extended : (from : Schema) (text : List ℕ) (to : Schema) → Extends from text to → (old new : State) (count : ℕ) → old.now.schema ≡ from → AreEmpty from.tables old.now.trees → Executes text [] old new (Ok count)
-    → (new.now.schema ≡ to) × AreEmpty to.tables new.now.trees
-extended from text to (inl it) old new count has none ran =
-    let done = made from text to it old new count has ran in
-    (done.schema, subst (λ (s : Schema). AreEmpty s.tables new.now.trees) it.is (made_empty from it.table old.now new.now (subst (λ s. IsMade from s old.now new.now) (sym it.is) done) none))
-extended from text to (inr it) old new count has none ran =
-    let done = indexes from text to it old new count has ran in
-    (done.0, subst (λ (s : Schema). AreEmpty s.tables new.now.trees) it.is (still_empty from.tables old.now.trees new.now.trees done.1 none))
-
 -- the texts make the warehouse in a database with no object
-pub makes_all : Leads no_schema making_texts warehouse
+pub makes_all : LeadsOver 0 no_schema making_texts warehouse
 makes_all = (
   with_1,
   inl makes_meta,
+  refl,
   (
     with_2,
     inl makes_command,
+    refl,
     (
       with_3,
       inl makes_member,
+      refl,
       (
         with_4,
         inl makes_change,
+        refl,
         (
           with_5,
           inl makes_product,
+          refl,
           (
             with_6,
             inl makes_store,
+            refl,
             (
               with_7,
               inl makes_customer,
+              refl,
               (
                 with_8,
                 inl makes_profile,
+                refl,
                 (
                   with_9,
                   inl makes_calendar,
+                  refl,
                   (
                     with_10,
                     inl makes_fact,
+                    refl,
                     (
                       with_11,
                       inr makes_change_by_member,
+                      refl,
                       (
                         with_12,
                         inr makes_change_by_anchor,
+                        refl,
                         (
                           with_13,
                           inr makes_product_by_durable,
+                          refl,
                           (
                             with_14,
                             inr makes_store_by_durable,
+                            refl,
                             (
                               with_15,
                               inr makes_customer_by_durable,
+                              refl,
                               (
                                 with_16,
                                 inr makes_fact_by_store,
+                                refl,
                                 (
                                   with_17,
                                   inr makes_fact_by_product,
+                                  refl,
                                   (
                                     with_18,
                                     inr makes_fact_by_customer,
+                                    refl,
                                     (
                                       with_19,
                                       inr makes_profile_by_values,
+                                      refl,
                                       all_made,
                                     ),
                                   ),

@@ -1,5 +1,5 @@
 -- The statements on meta.
-use Rattle.std.proofs.Common.{ℕ, List, [], ◌∷◌, codes, map, true, ◌&&◌, refl, ◌∙◌, drop, ap}
+use Rattle.std.proofs.Common.{◌≡◌, ℕ, List, [], ◌∷◌, codes, map, true, ◌&&◌, refl, ◌∙◌, drop, ap, Some}
 use Rattle.std.specs.Ordering.{eq_by_cmp}
 use Rattle.sqlite_value.specs.declared.value.Value.TheVariants.{Null, Int, Text}
 use Rattle.sqlite_value.specs.declared.keys.Key.{Key}
@@ -8,41 +8,68 @@ use Rattle.sqlite_value.proofs.OrderLemmas.{then-Equal, value_cmp-Text}
 use Rattle.sqlite_sql.specs.declared.ops.BinaryOp.TheVariants.{Compare}
 use Rattle.sqlite_sql.specs.declared.ops.CompareOp.TheVariants.{Eq}
 use Rattle.sqlite_schema.specs.Rules.{equal}
-use Rattle.sqlite_rules.specs.Edit.{next_rowid}
+use Rattle.sqlite_rules.specs.Edit.{next_rowid, with_rowid}
+use Rattle.sqlite_rules.specs.declared.error.Rowids.TheVariants.{Chosen}
 use Rattle.sqlite_tied.specs.Compute.{everything}
 use Rattle.sqlite.specs.Collation.TheVariants.{Binary}
 use Rattle.sqlite.specs.Order.{column}
 use Rattle.sqlite.specs.Term.{Term, lit, col, op2}
+use Rattle.sqlite.specs.Given.{IsPlain}
 use Rattle.sqlite.specs.Listing.{understood}
+use Rattle.sqlite.specs.Command.TheVariants.{InsertOr}
+use Rattle.sqlite.specs.Source.TheVariants.{Values}
+use Rattle.sqlite_schema.specs.declared.command.Conflict.TheVariants.{Abort}
+use Rattle.wh_rows.specs.Statements.{reading}
+use Rattle.wh_rows.specs.declared.format.Format.{Format}
+use Rattle.wh_rows.specs.declared.format.Format.TheVariants.{One, Two}
+use Rattle.wh_rows.specs.Schema.{schema_in}
+use Rattle.wh_rows.proofs.Formats.{same_conflicts, nothing_works}
 use Rattle.wh_rows.specs.Rows as row
 use Rattle.wh_rows.specs.Texts as texts
 use Rattle.wh_rows.specs.Keys.{bind_text, stands_at_text}
-use Rattle.wh_rows.specs.Meaning.{PutsOne, RemovesOne, ReadsSome, CountsAll}
+use Rattle.wh_rows.specs.Meaning.{command_of, same_rowid, PutsOne, RemovesOne, ReadsSome, CountsAll}
 use Rattle.wh_rows.specs.Raw.{ReadsStored}
 use Rattle.wh_rows.proofs.Cast.{cast_row_own}
 use Rattle.wh_rows.proofs.Keys.{and-true, equal-Text, trimmed}
 
 -- ---- put
 
-pub put : PutsOne row.meta texts.meta.put
+abbrev put_terms : List Term
+put_terms = lit Null ∷ col 0 0 ∷ col 0 1 ∷ []
+
+abbrev put_cells : List Term
+put_cells = col 1 0 ∷ col 1 1 ∷ col 0 5 ∷ []
+
+put_means : (format : Format) → command_of (understood (schema_in format) texts.meta.put)
+    ≡ InsertOr 0 Abort (Values put_terms 3) (record { target = Some (1 ∷ []); update = Some (record { lets = []; body = reading row.meta.table.tree (same_rowid 2) (col 1 0 ∷ put_cells) [] }) } ∷ [])
 unfolding understood everything first_key
-put = record {
+put_means One = refl
+put_means Two = refl
+
+put_plain : (format : Format) → IsPlain (understood (schema_in format) texts.meta.put)
+unfolding understood everything first_key
+put_plain One = (refl, refl)
+put_plain Two = (refl, refl)
+
+pub put : (format : Format) → PutsOne (schema_in format) row.meta texts.meta.put
+unfolding understood everything first_key
+put format = record {
   at = 0;
-  table = record { has = refl; uncounted = refl; unstamped = refl; idle = λ keys olds news. refl };
-  terms = lit Null ∷ col 0 0 ∷ col 0 1 ∷ [];
+  table = record { has = refl; uncounted = refl; unstamped = refl; idle = nothing_works format _ };
+  terms = put_terms;
   width = 3;
   target = 1 ∷ [];
   here = 2;
-  cells = col 1 0 ∷ col 1 1 ∷ col 0 5 ∷ [];
-  command = refl;
-  plain = (refl, refl);
+  cells = put_cells;
+  command = put_means format;
+  plain = put_plain format;
   source = λ v. Null ∷ row.meta.encode v;
   given = λ v. refl;
   own = λ v. cast_row_own row.meta.table Null (row.meta.encode v) refl refl;
   kept = λ v rows. cast_row_own row.meta.table (Int (next_rowid rows)) (row.meta.encode v) refl refl;
   shows = λ v rows. refl;
   test = λ v r. equal Binary (column r 0) (Text v.name);
-  hits = λ v rows r. trimmed _;
+  hits = λ v rows r. same_conflicts (Some (1 ∷ [])) row.meta.table (with_rowid Chosen rows (Null ∷ row.meta.encode v)) r refl format ∙ trimmed _;
   agree = λ v w. equal-Text w.name v.name;
   finds = λ v rows id r. refl;
   over = λ v vs. column vs 0 ∷ drop 1 (row.meta.encode v);
@@ -52,11 +79,11 @@ put = record {
 
 -- ---- remove
 
-pub remove : RemovesOne row.meta bind_text texts.meta.remove
+pub remove : (format : Format) → RemovesOne (schema_in format) row.meta bind_text texts.meta.remove
 unfolding understood everything
-remove = record {
+remove format = record {
   at = 0;
-  table = record { has = refl; uncounted = refl; unstamped = refl; idle = λ keys olds news. refl };
+  table = record { has = refl; uncounted = refl; unstamped = refl; idle = nothing_works format _ };
   tests = op2 (Compare Eq Binary) (col 1 1) (col 0 0) ∷ [];
   command = refl;
   plain = (refl, refl);
@@ -73,9 +100,9 @@ shown = col 1 1 ∷ col 1 2 ∷ []
 abbrev by_key : List (Term × Key)
 by_key = (col 1 1, ascending Binary) ∷ []
 
-pub all : ReadsSome row.meta [] (λ r. true) texts.meta.all
+pub all : (format : Format) → ReadsSome (schema_in format) row.meta [] (λ r. true) texts.meta.all
 unfolding understood everything
-all = record {
+all format = record {
   tests = [];
   project = shown;
   order = by_key;
@@ -91,9 +118,9 @@ all = record {
   in_order = λ v w. then-Equal _ ∙ value_cmp-Text v.name w.name;
 }
 
-pub get : (k : List ℕ) → ReadsSome row.meta (bind_text k) (λ r. eq_by_cmp row.meta.order k (row.meta.key r)) texts.meta.get
+pub get : (format : Format) (k : List ℕ) → ReadsSome (schema_in format) row.meta (bind_text k) (λ r. eq_by_cmp row.meta.order k (row.meta.key r)) texts.meta.get
 unfolding understood everything
-get k = record {
+get format k = record {
   tests = op2 (Compare Eq Binary) (col 1 1) (col 0 0) ∷ [];
   project = shown;
   order = by_key;
@@ -111,16 +138,16 @@ get k = record {
 
 -- ---- read, whoever wrote the rows
 
-pub all_stored : ReadsStored row.meta [] (λ r. true) (λ r. true) texts.meta.all
+pub all_stored : (format : Format) → ReadsStored (schema_in format) row.meta [] (λ r. true) (λ r. true) texts.meta.all
 unfolding all
-all_stored = record { reads = all; tested = λ r. refl }
+all_stored format = record { reads = all format; tested = λ r. refl }
 
-pub get_stored : (k : List ℕ) → ReadsStored row.meta (bind_text k) (stands_at_text k) (λ r. eq_by_cmp row.meta.order k (row.meta.key r)) texts.meta.get
+pub get_stored : (format : Format) (k : List ℕ) → ReadsStored (schema_in format) row.meta (bind_text k) (stands_at_text k) (λ r. eq_by_cmp row.meta.order k (row.meta.key r)) texts.meta.get
 unfolding get
-get_stored k = record { reads = get k; tested = λ r. refl }
+get_stored format k = record { reads = get format k; tested = λ r. refl }
 
 -- ---- count
 
-pub count : CountsAll row.meta texts.meta.count
+pub count : (format : Format) → CountsAll (schema_in format) row.meta texts.meta.count
 unfolding understood everything
-count = record { names = codes "count(*)" ∷ []; command = refl; plain = (refl, refl); unlisted = refl }
+count format = record { names = codes "count(*)" ∷ []; command = refl; plain = (refl, refl); unlisted = refl }

@@ -4,7 +4,7 @@ use Rattle.std.specs.Str.{bytes_eq}
 use Rattle.wh_policy.proofs.WrittenLemmas.{same_bytes}
 use Rattle.wh_history.proofs.Basics.{find_passes}
 use Rattle.wh_rows.specs.declared.table.Table.{Table}
-use Rattle.wh_rows.specs.declared.table.Table.TheVariants.{Meta, Command, Member, Change, Product, Store, Customer, Profile, Calendar, Fact}
+use Rattle.wh_rows.specs.declared.table.Table.TheVariants.{Meta, Command, Member, Change, Product, Store, Customer, Profile, Calendar, Fact, Fact2, Void}
 use Rattle.wh_rows.specs.Names.{table_name, table_named, every_table}
 
 named : (name : List ℕ) (found : Option Table) → table_named name ≡ found → IfSome found (λ table. table_name table ≡ name)
@@ -27,3 +27,5 @@ finds_it Customer = refl
 finds_it Profile = refl
 finds_it Calendar = refl
 finds_it Fact = refl
+finds_it Fact2 = refl
+finds_it Void = refl

@@ -1,4 +1,4 @@
--- At a key at most one row is stored, damaged or not: of the ten tables.
+-- At a key at most one row is stored, damaged or not: of each table.
 use Rattle.std.proofs.Common.{not, ◌≡◌, ℕ, ◌≤◌, pos, Bool, true, false, ◌&&◌, ◌||◌, if◌then◌else◌, List, [], ◌∷◌, map, filter, length, slice_get, Some, refl, sym, ap, subst, ◌∙◌, arith, codes, zero, suc, Ordering, Less, Equal, Greater}
 use Rattle.std.specs.List.{AllByRecursion, list_all}
 use Rattle.std.specs.Ordering.{is_eq, ordering_reverse}
@@ -21,13 +21,15 @@ use Rattle.sqlite_rules.proofs.ListLemmas.{all_has}
 use Rattle.sqlite.specs.Collation.TheVariants.{Binary}
 use Rattle.sqlite.specs.Table.{Table}
 use Rattle.sqlite.specs.Effect.{Database}
-use Rattle.wh_rows.specs.Schema.{warehouse}
+use Rattle.wh_rows.specs.declared.format.Format.{Format}
+use Rattle.wh_rows.specs.declared.format.Format.TheVariants.{One, Two}
+use Rattle.wh_rows.specs.Schema.{schema_in}
 use Rattle.wh_rows.specs.Schema as schema
-use Rattle.wh_rows.specs.declared.table.Table.TheVariants.{Meta, Command, Member, Change, Product, Store, Customer, Profile, Calendar, Fact}
+use Rattle.wh_rows.specs.declared.table.Table.TheVariants.{Meta, Command, Member, Change, Product, Store, Customer, Profile, Calendar, Fact, Fact2, Void}
 use Rattle.wh_rows.specs.Types.{dim_number}
 use Rattle.wh_rows.specs.Keys.{stands_at_text, stands_at_number, stands_at_member, stands_at_change, stands_at_line}
 use Rattle.wh_rows.specs.Holds.{IsRising, values_of}
-use Rattle.wh_rows.specs.Raw.{Stored, IsStored}
+use Rattle.wh_rows.specs.Raw.{Stored, IsStored, rows_shown}
 use Rattle.wh_rows.specs.Parts.{StandsOnce}
 use Rattle.wh_rows.proofs.Others.{at_place}
 use Rattle.wh_rows.proofs.ColumnLemmas.{both}
@@ -72,28 +74,28 @@ seen_once table rows stored shown within same bag once =
     omega (arith, long, seen, once)
 
 module _ (db : Database) (stored : Stored) (is : IsStored stored db) where
-  rising_at : (at : ℕ) (table : Table) → slice_get warehouse.tables at ≡ Some table → IsRising (db.trees table.tree)
-  rising_at at table here = at_place (λ t. IsRising (db.trees t.tree)) warehouse.tables at table here is.rising
+  rising_at : (at : ℕ) (table : Table) → slice_get (schema_in stored.format).tables at ≡ Some table → IsRising (db.trees table.tree)
+  rising_at at table here = at_place (λ t. IsRising (db.trees t.tree)) (schema_in stored.format).tables at table here is.rising
 
   -- ---- keys that a unique index guards
 
-  apart : (at : ℕ) (table : Table) → slice_get warehouse.tables at ≡ Some table → (place : ℕ) (index : Index) → slice_get warehouse.indexes place ≡ Some index → guards index table ≡ true
+  apart : (at : ℕ) (table : Table) → slice_get (schema_in stored.format).tables at ≡ Some table → (place : ℕ) (index : Index) → slice_get (schema_in stored.format).indexes place ≡ Some index → guards index table ≡ true
       → (test : Row → Bool) → ((x y : Row) → test x ≡ true → test y ≡ true → agree index.order index.columns y index.columns x ≡ true) → length (filter test (db.trees table.tree)) ≤ 1
   apart at table here place index there guarded test alike =
       let rows = db.trees table.tree in
       let rise = rising_at at table here in
-      let rule : Keeps Unique warehouse db.trees = subst (λ s. Keeps Unique s db.trees) is.schema (is.sound.obeys.rules Unique) in
-      let mine : AllByRecursion (λ row. passes Unique warehouse db.trees table row ≡ true) rows = at_place (λ t. AllByRecursion (λ row. passes Unique warehouse db.trees t row ≡ true) (db.trees t.tree)) warehouse.tables at table here rule in
+      let rule : Keeps Unique (schema_in stored.format) db.trees = subst (λ s. Keeps Unique s db.trees) is.schema (is.sound.obeys.rules Unique) in
+      let mine : AllByRecursion (λ row. passes Unique (schema_in stored.format) db.trees table row ≡ true) rows = at_place (λ t. AllByRecursion (λ row. passes Unique (schema_in stored.format) db.trees t row ≡ true) (db.trees t.tree)) (schema_in stored.format).tables at table here rule in
       at_most_one rows test rise.0
       (λ x y hx hy px py less.
       let free : not (guards index table && clashes index.order index.columns rows x) ≡ true =
-      nth_holds (λ i. not (guards i table && clashes i.order i.columns rows x)) warehouse.indexes place index (all_has (λ row. passes Unique warehouse db.trees table row ≡ true) rows x mine hx) there in
+      nth_holds (λ i. not (guards i table && clashes i.order i.columns rows x)) (schema_in stored.format).indexes place index (all_has (λ row. passes Unique (schema_in stored.format) db.trees table row ≡ true) rows x mine hx) there in
       let none : clashes index.order index.columns rows x ≡ false = ap (λ b. b && clashes index.order index.columns rows x) (sym guarded) ∙ not_true _ free in
       none_clashes (λ other. agree index.order index.columns other index.columns x && differ (rowid other) (rowid x)) rows y none hy
       (both (alike x y px py) (ids_differ (rowid x) (rowid y) (all_has _ rows x rise.1 hx) (all_has _ rows y rise.1 hy) less)))
 
   -- two columns are each equal to those of a key
-  two_apart : (at : ℕ) (table : Table) → slice_get warehouse.tables at ≡ Some table → (place : ℕ) (name : List ℕ) (tree : ℕ) → slice_get warehouse.indexes place ≡ Some (schema.index name tree table.tree (1 ∷ 2 ∷ []) true) → guards (schema.index name tree table.tree (1 ∷ 2 ∷ []) true) table ≡ true
+  two_apart : (at : ℕ) (table : Table) → slice_get (schema_in stored.format).tables at ≡ Some table → (place : ℕ) (name : List ℕ) (tree : ℕ) → slice_get (schema_in stored.format).indexes place ≡ Some (schema.index name tree table.tree (1 ∷ 2 ∷ []) true) → guards (schema.index name tree table.tree (1 ∷ 2 ∷ []) true) table ≡ true
       → (first second : Value) → length (filter (λ r. equal Binary (column r 1) first && (equal Binary (column r 2) second && true)) (db.trees table.tree)) ≤ 1
   unfolding first_key
   two_apart at table here place name tree there guarded first second =
@@ -103,7 +105,7 @@ module _ (db : Database) (stored : Stored) (is : IsStored stored db) where
       let my = and_parts _ _ py in
       both (equal_both (column y 1) (column x 1) first my.0 mx.0) (both (equal_both (column y 2) (column x 2) second (and_parts _ _ my.1).0 (and_parts _ _ mx.1).0) refl))
 
--- ---- the ten tables
+-- ---- each table
 
 pub meta : StandsOnce stands_at_text Meta
 meta db stored is k = named_once db stored is k
@@ -137,3 +139,27 @@ calendar db stored is k = seen_once schema.calendar _ _ (stands_at_number k) _ (
 pub fact : StandsOnce stands_at_line Fact
 fact db stored is k =
     seen_once schema.fact _ _ (stands_at_line k) _ (λ r. refl) (is.rows Fact) (two_apart db stored is 9 schema.fact refl 5 (codes "sqlite_autoindex_fact_1") 15 refl refl (Text k.ticket) (Int (pos k.line)))
+
+-- ---- the tables of the second format
+
+-- a table that isn't there stores nothing
+none_once : (rows : List Row) (test : Row → Bool) → IsPermutation [] rows → length (filter test rows) ≤ 1
+none_once rows test same = let long = length_permutation _ _ (IsPermutation-filter test [] rows same) in omega (arith, long)
+
+pub fact2 : StandsOnce stands_at_line Fact2
+fact2 db stored is k = go stored.format (λ i. stored.format)
+  where
+    go : (format : Format) → stored.format ≡ format → length (filter (stands_at_line k) (stored.rows Fact2)) ≤ 1
+    go One first = none_once (stored.rows Fact2) (stands_at_line k) (subst (λ f. IsPermutation (rows_shown f Fact2 db.trees) (stored.rows Fact2)) first (is.rows Fact2))
+    go Two second =
+        let at : IsStored (record stored { format = Two }) db = subst (λ f. IsStored (record stored { format = f }) db) second is in
+        seen_once schema.fact2 _ _ (stands_at_line k) _ (λ r. refl) (at.rows Fact2) (two_apart db (record stored { format = Two }) at 10 schema.fact2 refl 15 (codes "sqlite_autoindex_fact2_1") 26 refl refl (Text k.ticket) (Int (pos k.line)))
+
+pub void : StandsOnce stands_at_line Void
+void db stored is k = go stored.format (λ i. stored.format)
+  where
+    go : (format : Format) → stored.format ≡ format → length (filter (stands_at_line k) (stored.rows Void)) ≤ 1
+    go One first = none_once (stored.rows Void) (stands_at_line k) (subst (λ f. IsPermutation (rows_shown f Void db.trees) (stored.rows Void)) first (is.rows Void))
+    go Two second =
+        let at : IsStored (record stored { format = Two }) db = subst (λ f. IsStored (record stored { format = f }) db) second is in
+        seen_once schema.void _ _ (stands_at_line k) _ (λ r. refl) (at.rows Void) (two_apart db (record stored { format = Two }) at 11 schema.void refl 16 (codes "sqlite_autoindex_void_1") 28 refl refl (Text k.ticket) (Int (pos k.line)))

@@ -19,18 +19,22 @@ use Rattle.sqlite.specs.Term.{Term, col, op1, op2}
 use Rattle.sqlite.specs.Query.{Output, output, output_cmp}
 use Rattle.sqlite.specs.Command.TheVariants.{Select}
 use Rattle.sqlite.specs.Given.{IsPlain}
-use Rattle.sqlite.specs.Listing.{understood, reads_listing}
-use Rattle.wh_rows.specs.Schema.{warehouse}
+use Rattle.sqlite.specs.Listing.{listing_schema, understood, reads_listing}
+use Rattle.sqlite.specs.Schema.{Schema}
+use Rattle.wh_rows.specs.declared.format.Format.{Format}
+use Rattle.wh_rows.specs.declared.format.Format.TheVariants.{One, Two}
+use Rattle.wh_rows.specs.Formats.{is_two}
+use Rattle.wh_rows.specs.Schema.{schema_in}
 use Rattle.wh_rows.specs.Rows as row
 use Rattle.wh_rows.specs.Rows.{MemberKey, ChangeKey, LineKey}
 use Rattle.wh_rows.specs.Types.{dim_number}
 use Rattle.wh_rows.specs.Keys.{bind_text, bind_number, bind_member, bind_change, bind_line, stands_at_text, stands_at_number, stands_at_member, stands_at_change, stands_at_line}
 use Rattle.wh_rows.specs.Holds.{Layout, values_of}
-use Rattle.wh_rows.specs.Meaning.{command_of, passes}
+use Rattle.wh_rows.specs.Meaning.{Means, command_of, passes}
 use Rattle.wh_rows.specs.Firsts.{reading_first}
 use Rattle.wh_rows.specs.Raw.{stored_cmp, ReadsFrontStored}
 use Rattle.wh_rows.specs.Questions.{at_least, greater}
-use Rattle.wh_rows.specs.Parts.{forward, PartTexts, stands_behind, is_behind, ReadsParts, IsKeyed}
+use Rattle.wh_rows.specs.Parts.{forward, part_text, bind_part, PartTexts, stands_behind, is_behind, ReadsParts, IsKeyed}
 use Rattle.wh_rows.specs.Parts as texts
 use Rattle.wh_rows.proofs.ColumnLemmas.{both}
 use Rattle.wh_rows.proofs.Keys.{and-true, or_true, sorted-Nat, then_after, then_tied}
@@ -118,14 +122,14 @@ past_two a g h o p least first second =
 -- ---- a text that shows a part
 
 -- what it computes to, whatever rows are stored
-record ShowsPart {K V : Type 0} (most : ℕ) (layout : Layout K V) (params : Row) (stands : Row → Bool) (text : List ℕ) : Type 0 where
+record ShowsPart {K V : Type 0} (under : Schema) (most : ℕ) (layout : Layout K V) (params : Row) (stands : Row → Bool) (text : List ℕ) : Type 0 where
   tests : List Term
   project : List Term
   order : List (Term × Key)
   names : List (List ℕ)
-  command : command_of (understood warehouse text) ≡ Select (record { lets = []; body = reading_first most layout.table.tree tests project order }) names
-  plain : IsPlain (understood warehouse text)
-  unlisted : reads_listing warehouse text ≡ false
+  command : command_of (understood under text) ≡ Select (record { lets = []; body = reading_first most layout.table.tree tests project order }) names
+  plain : IsPlain (understood under text)
+  unlisted : reads_listing under text ≡ false
   hits : (r : Row) → passes params tests r ≡ stands (values_of layout.table r)
   sorted_by : Row → Row
   shows : (r : Row) → ◌≡◌ {A = Output} (output (reading_first most layout.table.tree tests project order) (params ∷ r ∷ [])) (sorted_by (values_of layout.table r), values_of layout.table r)
@@ -136,7 +140,8 @@ module _ {K V : Type 0} (layout : Layout K V) (bind : K → Row) (stands_at : K 
   agrees None v = refl
   agrees (Some k) v = ap is_gt (keyed.ordered v k)
 
-  part_of : (most : ℕ) (params : Row) (text : List ℕ) (after : Option K) → ShowsPart most layout params (stands_behind layout bind after) text → ReadsFrontStored (forward most) layout params (stands_behind layout bind after) (is_behind layout after) text
+module _ {under : Schema} {K V : Type 0} (layout : Layout K V) (bind : K → Row) (stands_at : K → Row → Bool) (keyed : IsKeyed layout bind stands_at) where
+  part_of : (most : ℕ) (params : Row) (text : List ℕ) (after : Option K) → ShowsPart under most layout params (stands_behind layout bind after) text → ReadsFrontStored under (forward most) layout params (stands_behind layout bind after) (is_behind layout after) text
   part_of most params text after it = record {
     reads = record {
       tests = it.tests;
@@ -148,7 +153,7 @@ module _ {K V : Type 0} (layout : Layout K V) (bind : K → Row) (stands_at : K 
       unlisted = it.unlisted;
       test = stands_behind layout bind after;
       hits = it.hits;
-      agree = agrees after;
+      agree = agrees layout bind stands_at keyed after;
       sorted_by = it.sorted_by;
       shows = it.shows;
       in_order = λ v w. it.in_order (layout.encode v) (layout.encode w) ∙ keyed.led (layout.encode v) w ∙ keyed.ordered v (layout.key w);
@@ -157,7 +162,7 @@ module _ {K V : Type 0} (layout : Layout K V) (bind : K → Row) (stands_at : K 
     in_order = it.in_order;
   }
 
-  parts : (texts : PartTexts) → ShowsPart texts.most layout [] (λ r. true) texts.first → ((k : K) → ShowsPart texts.most layout (bind k) (λ r. is_gt (stored_cmp layout.table false r (bind k))) texts.after) → ReadsParts layout bind texts
+  parts : (texts : PartTexts) → ShowsPart under texts.most layout [] (λ r. true) texts.first → ((k : K) → ShowsPart under texts.most layout (bind k) (λ r. is_gt (stored_cmp layout.table false r (bind k))) texts.after) → ReadsParts under layout bind texts
   parts texts first after None = part_of texts.most [] texts.first None first
   parts texts first after (Some k) = part_of texts.most (bind k) texts.after (Some k) (after k)
 
@@ -169,17 +174,17 @@ by_rowid = (col 1 0, ascending Binary) ∷ []
 abbrev rowid_past : List Term
 rowid_past = op2 (Compare Gt Binary) (col 1 0) (col 0 0) ∷ []
 
-abbrev IsPastNumber : {V : Type 0} → ℕ → Layout ℕ V → ℕ → List ℕ → Type 0
-IsPastNumber most layout k text = ShowsPart most layout (bind_number k) (λ r. is_gt (stored_cmp layout.table false r (bind_number k))) text
+abbrev IsPastNumber : {V : Type 0} → Schema → ℕ → Layout ℕ V → ℕ → List ℕ → Type 0
+IsPastNumber under most layout k text = ShowsPart under most layout (bind_number k) (λ r. is_gt (stored_cmp layout.table false r (bind_number k))) text
 
 -- command
 
 abbrev command_shown : List Term
 command_shown = col 1 0 ∷ col 1 2 ∷ col 1 3 ∷ col 1 4 ∷ col 1 5 ∷ col 1 6 ∷ []
 
-command_first : ShowsPart texts.command.most row.command [] (λ r. true) texts.command.first
+command_first : (format : Format) → ShowsPart (schema_in format) texts.command.most row.command [] (λ r. true) texts.command.first
 unfolding understood everything
-command_first = record {
+command_first format = record {
   tests = [];
   project = command_shown;
   order = by_rowid;
@@ -193,9 +198,9 @@ command_first = record {
   in_order = λ r s. refl;
 }
 
-command_after : (k : ℕ) → IsPastNumber texts.command.most row.command k texts.command.after
+command_after : (format : Format) (k : ℕ) → IsPastNumber (schema_in format) texts.command.most row.command k texts.command.after
 unfolding understood everything
-command_after k = record {
+command_after format k = record {
   tests = rowid_past;
   project = command_shown;
   order = by_rowid;
@@ -216,17 +221,17 @@ command_keyed = record {
   tied = λ r k same. one_tied (column r 0) (Int (pos k)) (tie-Int (column r 0) (pos k)) same;
 }
 
-pub command : ReadsParts row.command bind_number texts.command
-command = parts row.command bind_number stands_at_number command_keyed texts.command command_first command_after
+pub command : (format : Format) → ReadsParts (schema_in format) row.command bind_number texts.command
+command format = parts row.command bind_number stands_at_number command_keyed texts.command (command_first format) (command_after format)
 
 -- product
 
 abbrev dimension_shown : List Term
 dimension_shown = col 1 0 ∷ col 1 2 ∷ col 1 3 ∷ col 1 4 ∷ col 1 5 ∷ col 1 6 ∷ col 1 7 ∷ col 1 8 ∷ col 1 9 ∷ col 1 10 ∷ col 1 11 ∷ col 1 12 ∷ col 1 13 ∷ col 1 14 ∷ col 1 15 ∷ col 1 16 ∷ col 1 17 ∷ col 1 18 ∷ col 1 19 ∷ []
 
-product_first : ShowsPart texts.product.most row.product [] (λ r. true) texts.product.first
+product_first : (format : Format) → ShowsPart (schema_in format) texts.product.most row.product [] (λ r. true) texts.product.first
 unfolding understood everything
-product_first = record {
+product_first format = record {
   tests = [];
   project = dimension_shown;
   order = by_rowid;
@@ -240,9 +245,9 @@ product_first = record {
   in_order = λ r s. refl;
 }
 
-product_after : (k : ℕ) → IsPastNumber texts.product.most row.product k texts.product.after
+product_after : (format : Format) (k : ℕ) → IsPastNumber (schema_in format) texts.product.most row.product k texts.product.after
 unfolding understood everything
-product_after k = record {
+product_after format k = record {
   tests = rowid_past;
   project = dimension_shown;
   order = by_rowid;
@@ -263,14 +268,14 @@ product_keyed = record {
   tied = λ r k same. one_tied (column r 0) (Int (pos k)) (tie-Int (column r 0) (pos k)) same;
 }
 
-pub product : ReadsParts row.product bind_number texts.product
-product = parts row.product bind_number stands_at_number product_keyed texts.product product_first product_after
+pub product : (format : Format) → ReadsParts (schema_in format) row.product bind_number texts.product
+product format = parts row.product bind_number stands_at_number product_keyed texts.product (product_first format) (product_after format)
 
 -- store
 
-store_first : ShowsPart texts.store.most row.store [] (λ r. true) texts.store.first
+store_first : (format : Format) → ShowsPart (schema_in format) texts.store.most row.store [] (λ r. true) texts.store.first
 unfolding understood everything
-store_first = record {
+store_first format = record {
   tests = [];
   project = dimension_shown;
   order = by_rowid;
@@ -284,9 +289,9 @@ store_first = record {
   in_order = λ r s. refl;
 }
 
-store_after : (k : ℕ) → IsPastNumber texts.store.most row.store k texts.store.after
+store_after : (format : Format) (k : ℕ) → IsPastNumber (schema_in format) texts.store.most row.store k texts.store.after
 unfolding understood everything
-store_after k = record {
+store_after format k = record {
   tests = rowid_past;
   project = dimension_shown;
   order = by_rowid;
@@ -307,14 +312,14 @@ store_keyed = record {
   tied = λ r k same. one_tied (column r 0) (Int (pos k)) (tie-Int (column r 0) (pos k)) same;
 }
 
-pub store : ReadsParts row.store bind_number texts.store
-store = parts row.store bind_number stands_at_number store_keyed texts.store store_first store_after
+pub store : (format : Format) → ReadsParts (schema_in format) row.store bind_number texts.store
+store format = parts row.store bind_number stands_at_number store_keyed texts.store (store_first format) (store_after format)
 
 -- customer
 
-customer_first : ShowsPart texts.customer.most row.customer [] (λ r. true) texts.customer.first
+customer_first : (format : Format) → ShowsPart (schema_in format) texts.customer.most row.customer [] (λ r. true) texts.customer.first
 unfolding understood everything
-customer_first = record {
+customer_first format = record {
   tests = [];
   project = dimension_shown;
   order = by_rowid;
@@ -328,9 +333,9 @@ customer_first = record {
   in_order = λ r s. refl;
 }
 
-customer_after : (k : ℕ) → IsPastNumber texts.customer.most row.customer k texts.customer.after
+customer_after : (format : Format) (k : ℕ) → IsPastNumber (schema_in format) texts.customer.most row.customer k texts.customer.after
 unfolding understood everything
-customer_after k = record {
+customer_after format k = record {
   tests = rowid_past;
   project = dimension_shown;
   order = by_rowid;
@@ -351,17 +356,17 @@ customer_keyed = record {
   tied = λ r k same. one_tied (column r 0) (Int (pos k)) (tie-Int (column r 0) (pos k)) same;
 }
 
-pub customer : ReadsParts row.customer bind_number texts.customer
-customer = parts row.customer bind_number stands_at_number customer_keyed texts.customer customer_first customer_after
+pub customer : (format : Format) → ReadsParts (schema_in format) row.customer bind_number texts.customer
+customer format = parts row.customer bind_number stands_at_number customer_keyed texts.customer (customer_first format) (customer_after format)
 
 -- profile
 
 abbrev profile_shown : List Term
 profile_shown = col 1 0 ∷ col 1 2 ∷ col 1 3 ∷ col 1 4 ∷ col 1 5 ∷ col 1 6 ∷ col 1 7 ∷ []
 
-profile_first : ShowsPart texts.profile.most row.profile [] (λ r. true) texts.profile.first
+profile_first : (format : Format) → ShowsPart (schema_in format) texts.profile.most row.profile [] (λ r. true) texts.profile.first
 unfolding understood everything
-profile_first = record {
+profile_first format = record {
   tests = [];
   project = profile_shown;
   order = by_rowid;
@@ -375,9 +380,9 @@ profile_first = record {
   in_order = λ r s. refl;
 }
 
-profile_after : (k : ℕ) → IsPastNumber texts.profile.most row.profile k texts.profile.after
+profile_after : (format : Format) (k : ℕ) → IsPastNumber (schema_in format) texts.profile.most row.profile k texts.profile.after
 unfolding understood everything
-profile_after k = record {
+profile_after format k = record {
   tests = rowid_past;
   project = profile_shown;
   order = by_rowid;
@@ -398,17 +403,17 @@ profile_keyed = record {
   tied = λ r k same. one_tied (column r 0) (Int (pos k)) (tie-Int (column r 0) (pos k)) same;
 }
 
-pub profile : ReadsParts row.profile bind_number texts.profile
-profile = parts row.profile bind_number stands_at_number profile_keyed texts.profile profile_first profile_after
+pub profile : (format : Format) → ReadsParts (schema_in format) row.profile bind_number texts.profile
+profile format = parts row.profile bind_number stands_at_number profile_keyed texts.profile (profile_first format) (profile_after format)
 
 -- calendar
 
 abbrev calendar_shown : List Term
 calendar_shown = col 1 0 ∷ col 1 2 ∷ col 1 3 ∷ col 1 4 ∷ col 1 5 ∷ col 1 6 ∷ col 1 7 ∷ col 1 8 ∷ col 1 9 ∷ col 1 10 ∷ col 1 11 ∷ []
 
-calendar_first : ShowsPart texts.calendar.most row.calendar [] (λ r. true) texts.calendar.first
+calendar_first : (format : Format) → ShowsPart (schema_in format) texts.calendar.most row.calendar [] (λ r. true) texts.calendar.first
 unfolding understood everything
-calendar_first = record {
+calendar_first format = record {
   tests = [];
   project = calendar_shown;
   order = by_rowid;
@@ -422,9 +427,9 @@ calendar_first = record {
   in_order = λ r s. refl;
 }
 
-calendar_after : (k : ℕ) → IsPastNumber texts.calendar.most row.calendar k texts.calendar.after
+calendar_after : (format : Format) (k : ℕ) → IsPastNumber (schema_in format) texts.calendar.most row.calendar k texts.calendar.after
 unfolding understood everything
-calendar_after k = record {
+calendar_after format k = record {
   tests = rowid_past;
   project = calendar_shown;
   order = by_rowid;
@@ -445,8 +450,8 @@ calendar_keyed = record {
   tied = λ r k same. one_tied (column r 0) (Int (pos k)) (tie-Int (column r 0) (pos k)) same;
 }
 
-pub calendar : ReadsParts row.calendar bind_number texts.calendar
-calendar = parts row.calendar bind_number stands_at_number calendar_keyed texts.calendar calendar_first calendar_after
+pub calendar : (format : Format) → ReadsParts (schema_in format) row.calendar bind_number texts.calendar
+calendar format = parts row.calendar bind_number stands_at_number calendar_keyed texts.calendar (calendar_first format) (calendar_after format)
 
 -- ---- a key of one text
 
@@ -456,9 +461,9 @@ by_text = (col 1 1, ascending Binary) ∷ []
 abbrev meta_shown : List Term
 meta_shown = col 1 1 ∷ col 1 2 ∷ []
 
-meta_first : ShowsPart texts.meta.most row.meta [] (λ r. true) texts.meta.first
+meta_first : (format : Format) → ShowsPart (schema_in format) texts.meta.most row.meta [] (λ r. true) texts.meta.first
 unfolding understood everything
-meta_first = record {
+meta_first format = record {
   tests = [];
   project = meta_shown;
   order = by_text;
@@ -472,9 +477,9 @@ meta_first = record {
   in_order = λ r s. refl;
 }
 
-meta_after : (k : List ℕ) → ShowsPart texts.meta.most row.meta (bind_text k) (λ r. is_gt (stored_cmp row.meta.table false r (bind_text k))) texts.meta.after
+meta_after : (format : Format) (k : List ℕ) → ShowsPart (schema_in format) texts.meta.most row.meta (bind_text k) (λ r. is_gt (stored_cmp row.meta.table false r (bind_text k))) texts.meta.after
 unfolding understood everything
-meta_after k = record {
+meta_after format k = record {
   tests = op2 (Compare Gt Binary) (col 1 1) (col 0 0) ∷ [];
   project = meta_shown;
   order = by_text;
@@ -495,8 +500,8 @@ meta_keyed = record {
   tied = λ r k same. one_tied (column r 0) (Text k) (tie-Text (column r 0) k) same;
 }
 
-pub meta : ReadsParts row.meta bind_text texts.meta
-meta = parts row.meta bind_text stands_at_text meta_keyed texts.meta meta_first meta_after
+pub meta : (format : Format) → ReadsParts (schema_in format) row.meta bind_text texts.meta
+meta format = parts row.meta bind_text stands_at_text meta_keyed texts.meta (meta_first format) (meta_after format)
 
 -- ---- keys of two columns
 
@@ -511,9 +516,9 @@ two_past first second = op2 (Compare Ge Binary) (col 1 1) first ∷ op2 Or (op2 
 abbrev member_shown : List Term
 member_shown = col 1 1 ∷ col 1 2 ∷ col 1 3 ∷ col 1 4 ∷ []
 
-member_first : ShowsPart texts.member.most row.member [] (λ r. true) texts.member.first
+member_first : (format : Format) → ShowsPart (schema_in format) texts.member.most row.member [] (λ r. true) texts.member.first
 unfolding understood everything
-member_first = record {
+member_first format = record {
   tests = [];
   project = member_shown;
   order = by_two;
@@ -527,9 +532,9 @@ member_first = record {
   in_order = λ r s. refl;
 }
 
-member_after : (k : MemberKey) → ShowsPart texts.member.most row.member (bind_member k) (λ r. is_gt (stored_cmp row.member.table false r (bind_member k))) texts.member.after
+member_after : (format : Format) (k : MemberKey) → ShowsPart (schema_in format) texts.member.most row.member (bind_member k) (λ r. is_gt (stored_cmp row.member.table false r (bind_member k))) texts.member.after
 unfolding understood everything unary
-member_after k = record {
+member_after format k = record {
   tests = two_past (op1 ToNumeric (col 0 0)) (op1 ToNumeric (col 0 1));
   project = member_shown;
   order = by_two;
@@ -550,17 +555,17 @@ member_keyed = record {
   tied = λ r k same. two_tied (column r 0) (column r 1) (Int (pos (dim_number k.dim))) (Int (pos k.durable)) (tie-Int (column r 0) (pos (dim_number k.dim))) (tie-Int (column r 1) (pos k.durable)) same;
 }
 
-pub member : ReadsParts row.member bind_member texts.member
-member = parts row.member bind_member stands_at_member member_keyed texts.member member_first member_after
+pub member : (format : Format) → ReadsParts (schema_in format) row.member bind_member texts.member
+member format = parts row.member bind_member stands_at_member member_keyed texts.member (member_first format) (member_after format)
 
 -- change
 
 abbrev change_shown : List Term
 change_shown = col 1 1 ∷ col 1 2 ∷ col 1 3 ∷ col 1 4 ∷ col 1 5 ∷ col 1 6 ∷ col 1 7 ∷ col 1 8 ∷ col 1 9 ∷ col 1 10 ∷ col 1 11 ∷ col 1 12 ∷ []
 
-change_first : ShowsPart texts.change.most row.change [] (λ r. true) texts.change.first
+change_first : (format : Format) → ShowsPart (schema_in format) texts.change.most row.change [] (λ r. true) texts.change.first
 unfolding understood everything
-change_first = record {
+change_first format = record {
   tests = [];
   project = change_shown;
   order = by_two;
@@ -574,9 +579,9 @@ change_first = record {
   in_order = λ r s. refl;
 }
 
-change_after : (k : ChangeKey) → ShowsPart texts.change.most row.change (bind_change k) (λ r. is_gt (stored_cmp row.change.table false r (bind_change k))) texts.change.after
+change_after : (format : Format) (k : ChangeKey) → ShowsPart (schema_in format) texts.change.most row.change (bind_change k) (λ r. is_gt (stored_cmp row.change.table false r (bind_change k))) texts.change.after
 unfolding understood everything unary
-change_after k = record {
+change_after format k = record {
   tests = two_past (op1 ToNumeric (col 0 0)) (op1 ToNumeric (col 0 1));
   project = change_shown;
   order = by_two;
@@ -597,17 +602,17 @@ change_keyed = record {
   tied = λ r k same. two_tied (column r 0) (column r 1) (Int (pos k.command)) (Int (pos k.place)) (tie-Int (column r 0) (pos k.command)) (tie-Int (column r 1) (pos k.place)) same;
 }
 
-pub change : ReadsParts row.change bind_change texts.change
-change = parts row.change bind_change stands_at_change change_keyed texts.change change_first change_after
+pub change : (format : Format) → ReadsParts (schema_in format) row.change bind_change texts.change
+change format = parts row.change bind_change stands_at_change change_keyed texts.change (change_first format) (change_after format)
 
 -- fact
 
 abbrev fact_shown : List Term
 fact_shown = col 1 1 ∷ col 1 2 ∷ col 1 3 ∷ col 1 4 ∷ col 1 5 ∷ col 1 6 ∷ col 1 7 ∷ col 1 8 ∷ col 1 9 ∷ col 1 10 ∷ col 1 11 ∷ col 1 12 ∷ col 1 13 ∷ []
 
-fact_first : ShowsPart texts.fact.most row.fact [] (λ r. true) texts.fact.first
+fact_first : (format : Format) → ShowsPart (schema_in format) texts.fact.most row.fact [] (λ r. true) texts.fact.first
 unfolding understood everything
-fact_first = record {
+fact_first format = record {
   tests = [];
   project = fact_shown;
   order = by_two;
@@ -621,9 +626,9 @@ fact_first = record {
   in_order = λ r s. refl;
 }
 
-fact_after : (k : LineKey) → ShowsPart texts.fact.most row.fact (bind_line k) (λ r. is_gt (stored_cmp row.fact.table false r (bind_line k))) texts.fact.after
+fact_after : (format : Format) (k : LineKey) → ShowsPart (schema_in format) texts.fact.most row.fact (bind_line k) (λ r. is_gt (stored_cmp row.fact.table false r (bind_line k))) texts.fact.after
 unfolding understood everything unary
-fact_after k = record {
+fact_after format k = record {
   tests = two_past (col 0 0) (op1 ToNumeric (col 0 1));
   project = fact_shown;
   order = by_two;
@@ -644,5 +649,113 @@ fact_keyed = record {
   tied = λ r k same. two_tied (column r 0) (column r 1) (Text k.ticket) (Int (pos k.line)) (tie-Text (column r 0) k.ticket) (tie-Int (column r 1) (pos k.line)) same;
 }
 
-pub fact : ReadsParts row.fact bind_line texts.fact
-fact = parts row.fact bind_line stands_at_line fact_keyed texts.fact fact_first fact_after
+pub fact : (format : Format) → ReadsParts (schema_in format) row.fact bind_line texts.fact
+fact format = parts row.fact bind_line stands_at_line fact_keyed texts.fact (fact_first format) (fact_after format)
+
+-- fact2
+
+abbrev fact2_shown : List Term
+fact2_shown = col 1 1 ∷ col 1 2 ∷ col 1 3 ∷ col 1 4 ∷ col 1 5 ∷ col 1 6 ∷ col 1 7 ∷ col 1 8 ∷ col 1 9 ∷ col 1 10 ∷ col 1 11 ∷ col 1 12 ∷ col 1 13 ∷ col 1 14 ∷ []
+
+fact2_first : ShowsPart (schema_in Two) texts.fact2.most row.fact2 [] (λ r. true) texts.fact2.first
+unfolding understood everything
+fact2_first = record {
+  tests = [];
+  project = fact2_shown;
+  order = by_two;
+  names = map (λ c. c.name) row.fact2.table.columns;
+  command = refl;
+  plain = (refl, refl);
+  unlisted = refl;
+  hits = λ r. refl;
+  sorted_by = λ r. column r 0 ∷ column r 1 ∷ [];
+  shows = λ r. refl;
+  in_order = λ r s. refl;
+}
+
+fact2_after : (k : LineKey) → ShowsPart (schema_in Two) texts.fact2.most row.fact2 (bind_line k) (λ r. is_gt (stored_cmp row.fact2.table false r (bind_line k))) texts.fact2.after
+unfolding understood everything unary
+fact2_after k = record {
+  tests = two_past (col 0 0) (op1 ToNumeric (col 0 1));
+  project = fact2_shown;
+  order = by_two;
+  names = map (λ c. c.name) row.fact2.table.columns;
+  command = refl;
+  plain = (refl, refl);
+  unlisted = refl;
+  hits = λ r. ap (λ c. at_least (column r 1) (Text k.ticket) && (c && true)) (or_true _ _) ∙ past_two _ _ _ _ _ (at_least-Text (column r 1) k.ticket) (greater-Text (column r 1) k.ticket) (greater-Int (column r 2) (pos k.line));
+  sorted_by = λ r. column r 0 ∷ column r 1 ∷ [];
+  shows = λ r. refl;
+  in_order = λ r s. refl;
+}
+
+pub fact2_keyed : IsKeyed row.fact2 bind_line stands_at_line
+fact2_keyed = record {
+  ordered = λ v k. ap₂ ordering_then (value_cmp-Text v.fact.ticket k.ticket) (then-Equal _ ∙ sorted-Nat v.fact.line k.line);
+  led = λ r w. refl;
+  tied = λ r k same. two_tied (column r 0) (column r 1) (Text k.ticket) (Int (pos k.line)) (tie-Text (column r 0) k.ticket) (tie-Int (column r 1) (pos k.line)) same;
+}
+
+pub fact2 : ReadsParts (schema_in Two) row.fact2 bind_line texts.fact2
+fact2 = parts row.fact2 bind_line stands_at_line fact2_keyed texts.fact2 fact2_first fact2_after
+
+-- void
+
+abbrev void_shown : List Term
+void_shown = col 1 1 ∷ col 1 2 ∷ col 1 3 ∷ []
+
+void_first : ShowsPart (schema_in Two) texts.void.most row.void [] (λ r. true) texts.void.first
+unfolding understood everything
+void_first = record {
+  tests = [];
+  project = void_shown;
+  order = by_two;
+  names = map (λ c. c.name) row.void.table.columns;
+  command = refl;
+  plain = (refl, refl);
+  unlisted = refl;
+  hits = λ r. refl;
+  sorted_by = λ r. column r 0 ∷ column r 1 ∷ [];
+  shows = λ r. refl;
+  in_order = λ r s. refl;
+}
+
+void_after : (k : LineKey) → ShowsPart (schema_in Two) texts.void.most row.void (bind_line k) (λ r. is_gt (stored_cmp row.void.table false r (bind_line k))) texts.void.after
+unfolding understood everything unary
+void_after k = record {
+  tests = two_past (col 0 0) (op1 ToNumeric (col 0 1));
+  project = void_shown;
+  order = by_two;
+  names = map (λ c. c.name) row.void.table.columns;
+  command = refl;
+  plain = (refl, refl);
+  unlisted = refl;
+  hits = λ r. ap (λ c. at_least (column r 1) (Text k.ticket) && (c && true)) (or_true _ _) ∙ past_two _ _ _ _ _ (at_least-Text (column r 1) k.ticket) (greater-Text (column r 1) k.ticket) (greater-Int (column r 2) (pos k.line));
+  sorted_by = λ r. column r 0 ∷ column r 1 ∷ [];
+  shows = λ r. refl;
+  in_order = λ r s. refl;
+}
+
+pub void_keyed : IsKeyed row.void bind_line stands_at_line
+void_keyed = record {
+  ordered = λ v k. ap₂ ordering_then (value_cmp-Text v.ticket k.ticket) (then-Equal _ ∙ sorted-Nat v.line k.line);
+  led = λ r w. refl;
+  tied = λ r k same. two_tied (column r 0) (column r 1) (Text k.ticket) (Int (pos k.line)) (tie-Text (column r 0) k.ticket) (tie-Int (column r 1) (pos k.line)) same;
+}
+
+pub void : ReadsParts (schema_in Two) row.void bind_line texts.void
+void = parts row.void bind_line stands_at_line void_keyed texts.void void_first void_after
+
+-- ---- in any format
+
+pub fact2_in : (format : Format) (after : Option LineKey) → Means (is_two format) (ReadsFrontStored (schema_in format) (forward texts.fact2.most) row.fact2 (bind_part bind_line after) (stands_behind row.fact2 bind_line after) (is_behind row.fact2 after) (part_text texts.fact2 after)) (understood (schema_in format) (part_text texts.fact2 after))
+unfolding understood everything listing_schema
+fact2_in One None = tt
+fact2_in One (Some k) = tt
+fact2_in Two after = fact2 after
+
+pub void_in : (format : Format) (after : Option LineKey) → Means (is_two format) (ReadsFrontStored (schema_in format) (forward texts.void.most) row.void (bind_part bind_line after) (stands_behind row.void bind_line after) (is_behind row.void after) (part_text texts.void after)) (understood (schema_in format) (part_text texts.void after))
+unfolding understood everything listing_schema
+void_in One None = tt
+void_in One (Some k) = tt
+void_in Two after = void after

@@ -41,7 +41,7 @@ use Rattle.sqlite_catalog.specs.Listing.{IsSound}
 use Rattle.sqlite.specs.Listing.{understood}
 use Rattle.sqlite.specs.State.{State, Executes, mode_of}
 use Rattle.sqlite.proofs.Callers.{statement_of, runs_as, one_permutation}
-use Rattle.wh_rows.specs.Schema.{warehouse}
+use Rattle.sqlite.specs.Schema.{Schema}
 use Rattle.wh_rows.specs.Holds.{Layout, values_of, HasRows, Holds, IsRising}
 use Rattle.wh_rows.specs.OneTable.{LeavesOthers}
 use Rattle.wh_rows.specs.Meaning.{passes, same_rowid, PutsOne, MovesOne, moved_at, KeepsApart}
@@ -137,8 +137,8 @@ has_permuted {X} {xs} {ys} same x here = all_has (λ y. Has ys y) xs x (all-perm
 
 -- ---- the upsert
 
-module _ {K V : Type 0} (layout : Layout K V) (total : IsTotalOrder layout.order) (same : IsAntisymmetric layout.order) (text : List ℕ) (it : PutsOne layout text) (old new : State) (v : V) (count : ℕ)
-    (is : old.now.schema ≡ warehouse) (rising : IsRising (old.now.trees layout.table.tree)) (m : FinMap layout.order V) (held : Holds layout old.now.trees m)
+module _ {under : Schema} {K V : Type 0} (layout : Layout K V) (total : IsTotalOrder layout.order) (same : IsAntisymmetric layout.order) (text : List ℕ) (it : PutsOne under layout text) (old new : State) (v : V) (count : ℕ)
+    (is : old.now.schema ≡ under) (rising : IsRising (old.now.trees layout.table.tree)) (m : FinMap layout.order V) (held : Holds layout old.now.trees m)
     (ran : Executes text (layout.encode v) old new (Ok count)) where
   abbrev there : List Row
   there = old.now.trees layout.table.tree
@@ -147,17 +147,17 @@ module _ {K V : Type 0} (layout : Layout K V) (total : IsTotalOrder layout.order
   rowed = with_rowid Chosen there (it.source v)
 
   abbrev pass : Row → Bool
-  pass = conflicts (Some it.target) warehouse.indexes layout.table rowed
+  pass = conflicts (Some it.target) under.indexes layout.table rowed
 
   key_row : (r : Row) → Has there r → pass r ≡ true → (filter pass there ≡ r ∷ []) × (w : V) × (get m (layout.key v) ≡ Some w) × (values_of layout.table r ≡ layout.encode w) × (layout.key v ≡ layout.key w)
   key_row = it_is layout total same old.now.trees rising m held (layout.key v) pass (it.test v) (it.hits v there) (it.agree v)
 
-  pub is_upserted : IsUpserted layout.table warehouse old.now.trees (layout.encode v) it.target (same_rowid it.here) it.cells rowed new.now.trees × (new.now.schema ≡ warehouse)
+  pub is_upserted : IsUpserted layout.table under old.now.trees (layout.encode v) it.target (same_rowid it.here) it.cells rowed new.now.trees × (new.now.schema ≡ under)
   is_upserted =
-      let w = runs_as text (layout.encode v) old new warehouse is _ it.command it.plain count ran in
-      let db : Database = record { schema = warehouse; trees = old.now.trees } in
+      let w = runs_as text (layout.encode v) old new under is _ it.command it.plain count ran in
+      let db : Database = record { schema = under; trees = old.now.trees } in
       let clause : Upsert = record { target = Some it.target; update = Some (updating layout.table.tree (same_rowid it.here) it.cells) } in
-      let sql = statement_of text (understood warehouse text) in
+      let sql = statement_of text (understood under text) in
       let changed = subst (λ s. Does old.step_limit (mode_of old) (layout.encode v) (record old.now { schema = s }) sql None (InsertOr it.at Abort (Values it.terms it.width) (clause ∷ [])) (Ok (w.tally, new.now))) is w.changed in
       upserted old.step_limit (mode_of old) (layout.encode v) db it.at layout.table it.table it.target (same_rowid it.here) it.cells rising rowed (it.kept v there)
       (λ r here hit. (key_row r here hit).0) (λ r here. rowid_finds there r _ rising here (it.finds v there (rowid r)))
@@ -178,19 +178,19 @@ module _ {K V : Type 0} (layout : Layout K V) (total : IsTotalOrder layout.order
   -- whatever else the table holds, the row is at its key then
   pub holds_put : IsTrue (layout.is_valid v) → Holds layout new.now.trees (insert m (layout.key v) v)
   holds_put valid =
-      holds_over layout total same old.now.trees rising m held (layout.key v) pass (it.test v) (it.hits v there) (it.agree v) v refl warehouse new.now.trees is_upserted.0.row (row_shows is_upserted.0.row is_upserted.0.from) is_upserted.0.over valid
+      holds_over layout total same old.now.trees rising m held (layout.key v) pass (it.test v) (it.hits v there) (it.agree v) v refl under new.now.trees is_upserted.0.row (row_shows is_upserted.0.row is_upserted.0.from) is_upserted.0.over valid
 
-  pub leaves : LeavesOthers layout.table old.now new.now
+  pub leaves : LeavesOthers under layout.table old.now new.now
   leaves = record {
     schema = is_upserted.1;
-    sound = (runs_as text (layout.encode v) old new warehouse is _ it.command it.plain count ran).sound;
-    rising = rises_over layout total same old.now.trees rising m held (layout.key v) pass (it.test v) (it.hits v there) (it.agree v) v refl warehouse new.now.trees is_upserted.0.row (row_shows is_upserted.0.row is_upserted.0.from) is_upserted.0.over;
+    sound = (runs_as text (layout.encode v) old new under is _ it.command it.plain count ran).sound;
+    rising = rises_over layout total same old.now.trees rising m held (layout.key v) pass (it.test v) (it.hits v there) (it.agree v) v refl under new.now.trees is_upserted.0.row (row_shows is_upserted.0.row is_upserted.0.from) is_upserted.0.over;
     others = is_upserted.0.over.others;
   }
 
   -- ---- a second key
 
-  module _ (clash : V → V → Bool) (second : KeepsApart layout clash) where
+  module _ (clash : V → V → Bool) (second : KeepsApart under layout clash) where
     abbrev after : List Row
     after = new.now.trees layout.table.tree
 
@@ -200,10 +200,10 @@ module _ {K V : Type 0} (layout : Layout K V) (total : IsTotalOrder layout.order
     -- no two rows of the table agree on it
     alone : (r : Row) → Has after r → is_eq (value_cmp (rowid r) (rowid put)) ≡ false → agree second.index.order second.index.columns r second.index.columns put ≡ false
     alone r here other =
-        let sound = subst (λ s. IsSound s new.now.trees) is_upserted.1 (runs_as text (layout.encode v) old new warehouse is _ it.command it.plain count ran).sound in
-        let each = all-slice_get (λ t. AllByRecursion (λ row. rules.passes Unique warehouse new.now.trees t row ≡ true) (new.now.trees t.tree)) warehouse.tables it.at layout.table it.table.has (sound.obeys.rules Unique) in
+        let sound = subst (λ s. IsSound s new.now.trees) is_upserted.1 (runs_as text (layout.encode v) old new under is _ it.command it.plain count ran).sound in
+        let each = all-slice_get (λ t. AllByRecursion (λ row. rules.passes Unique under new.now.trees t row ≡ true) (new.now.trees t.tree)) under.tables it.at layout.table it.table.has (sound.obeys.rules Unique) in
         let placed : Has after put = subst (λ l. Has l put) (sym is_upserted.0.over.rows) (has_put put _) in
-        let one = test_has (λ i. not (guards i layout.table && clashes i.order i.columns after put)) warehouse.indexes second.index (all_has (λ row. rules.passes Unique warehouse new.now.trees layout.table row ≡ true) after put each placed) second.among in
+        let one = test_has (λ i. not (guards i layout.table && clashes i.order i.columns after put)) under.indexes second.index (all_has (λ row. rules.passes Unique under new.now.trees layout.table row ≡ true) after put each placed) second.among in
         let none : clashes second.index.order second.index.columns after put ≡ false = not-true (clashes second.index.order second.index.columns after put) (ap (λ b. not (b && clashes second.index.order second.index.columns after put)) (sym second.guards) ∙ one) in
         let both = misses (λ other. agree second.index.order second.index.columns other second.index.columns put && differ (rowid other) (rowid put)) after r none here in
         let rises : IsRising after = leaves.rising in
@@ -229,8 +229,8 @@ module _ {K V : Type 0} (layout : Layout K V) (total : IsTotalOrder layout.order
 
 -- ---- the UPDATE of one key
 
-module _ {K V P : Type 0} (layout : Layout K V) (total : IsTotalOrder layout.order) (same : IsAntisymmetric layout.order) (bind : P → Row) (key : P → K) (moved : P → V → V) (text : List ℕ)
-    (it : MovesOne layout bind key moved text) (old new : State) (p : P) (count : ℕ) (is : old.now.schema ≡ warehouse) (rising : IsRising (old.now.trees layout.table.tree))
+module _ {under : Schema} {K V P : Type 0} (layout : Layout K V) (total : IsTotalOrder layout.order) (same : IsAntisymmetric layout.order) (bind : P → Row) (key : P → K) (moved : P → V → V) (text : List ℕ)
+    (it : MovesOne under layout bind key moved text) (old new : State) (p : P) (count : ℕ) (is : old.now.schema ≡ under) (rising : IsRising (old.now.trees layout.table.tree))
     (m : FinMap layout.order V) (held : Holds layout old.now.trees m) (ran : Executes text (bind p) old new (Ok count)) where
   abbrev before : List Row
   before = old.now.trees layout.table.tree
@@ -239,12 +239,12 @@ module _ {K V P : Type 0} (layout : Layout K V) (total : IsTotalOrder layout.ord
   found = passes (bind p) it.tests
 
   abbrev db : Database
-  db = record { schema = warehouse; trees = old.now.trees }
+  db = record { schema = under; trees = old.now.trees }
 
-  ended : (w : Written) × Updates (task_for old.step_limit (mode_of old) (bind p) db layout.table) (updating layout.table.tree it.tests it.cells) (bind p) old.now.trees (Ok w) × (new.now ≡ record { schema = warehouse; trees = w.trees })
+  ended : (w : Written) × Updates (task_for old.step_limit (mode_of old) (bind p) db layout.table) (updating layout.table.tree it.tests it.cells) (bind p) old.now.trees (Ok w) × (new.now ≡ record { schema = under; trees = w.trees })
   ended =
-      let w = runs_as text (bind p) old new warehouse is _ it.command it.plain count ran in
-      let sql = statement_of text (understood warehouse text) in
+      let w = runs_as text (bind p) old new under is _ it.command it.plain count ran in
+      let sql = statement_of text (understood under text) in
       let q = updating layout.table.tree it.tests it.cells in
       let changed = subst (λ s. Does old.step_limit (mode_of old) (bind p) (record old.now { schema = s }) sql None (Update it.at q) (Ok (w.tally, new.now))) is w.changed in
       updated old.step_limit (mode_of old) (bind p) db it.at layout.table it.table sql q w.tally new.now changed
@@ -252,13 +252,13 @@ module _ {K V P : Type 0} (layout : Layout K V) (total : IsTotalOrder layout.ord
   -- the map is as it was, or has the changed row at the key; nothing else differs
   pub record IsMoved : Type 0 where
     pub holds : ((w : V) → get m (key p) ≡ Some w → IsTrue (layout.is_valid (moved p w))) → Holds layout new.now.trees (moved_at m (key p) (moved p) (get m (key p)))
-    pub leaves : LeavesOthers layout.table old.now new.now
+    pub leaves : LeavesOthers under layout.table old.now new.now
 
   pub is_moved : IsMoved
   is_moved = go (get m (key p)) refl
     where
       sound : IsDatabase new.now
-      sound = (runs_as text (bind p) old new warehouse is _ it.command it.plain count ran).sound
+      sound = (runs_as text (bind p) old new under is _ it.command it.plain count ran).sound
 
       trees_are : new.now.trees ≡ ended.0.trees
       trees_are = ap (λ (d : Database). d.trees) ended.2
@@ -275,7 +275,7 @@ module _ {K V P : Type 0} (layout : Layout K V) (total : IsTotalOrder layout.ord
               schema = ap (λ (d : Database). d.schema) ended.2;
               sound = sound;
               rising = subst IsRising (sym rows) rising;
-              others = subst (λ (t : Trees). AllByRecursion (λ s. s.tree ≢ layout.table.tree → t s.tree ≡ old.now.trees s.tree) warehouse.tables) (sym trees_are) left.others;
+              others = subst (λ (t : Trees). AllByRecursion (λ s. s.tree ≢ layout.table.tree → t s.tree ≡ old.now.trees s.tree) under.tables) (sym trees_are) left.others;
             };
           }
       go (Some w) some =
@@ -286,8 +286,8 @@ module _ {K V P : Type 0} (layout : Layout K V) (total : IsTotalOrder layout.ord
           let same_row : which.1 ≡ w = cc_some (sym which.2 ∙ some) in
           let key_is : key p ≡ layout.key (moved p w) = which.4 ∙ ap layout.key same_row ∙ sym (it.same_key p w) in
           let put = updates_one old.step_limit (mode_of old) (bind p) db it.at layout.table it.table it.tests it.cells (bind p) ended.0 r found rising one.1 one.1 ended.1 in
-          let put_now : IsPutOver layout.table warehouse old.now.trees found (rewritten layout.table it.tests it.cells (bind p) r) new.now.trees =
-          subst (IsPutOver layout.table warehouse old.now.trees found (rewritten layout.table it.tests it.cells (bind p) r)) (sym trees_are) put in
+          let put_now : IsPutOver layout.table under old.now.trees found (rewritten layout.table it.tests it.cells (bind p) r) new.now.trees =
+          subst (IsPutOver layout.table under old.now.trees found (rewritten layout.table it.tests it.cells (bind p) r)) (sym trees_are) put in
           let n = id_in (rowid r) in
           let number : rowid r ≡ Int n = int_is (rowid r) (all_has _ before r rising.1 here.0) in
           let made = it.remade p w r n number one.2 in
@@ -295,11 +295,11 @@ module _ {K V P : Type 0} (layout : Layout K V) (total : IsTotalOrder layout.ord
           let shows : values_of layout.table (rewritten layout.table it.tests it.cells (bind p) r) ≡ layout.encode (moved p w) = ap (values_of layout.table) (ap (cast_row layout.table) wrote ∙ made.0) ∙ made.1 in
           record {
             holds = λ valid. subst (λ o. Holds layout new.now.trees (moved_at m (key p) (moved p) o)) (sym some)
-                (holds_over layout total same old.now.trees rising m held (key p) found (it.test p) (it.hits p) (it.agree p) (moved p w) key_is warehouse new.now.trees _ shows put_now (valid w some));
+                (holds_over layout total same old.now.trees rising m held (key p) found (it.test p) (it.hits p) (it.agree p) (moved p w) key_is under new.now.trees _ shows put_now (valid w some));
             leaves = record {
               schema = ap (λ (d : Database). d.schema) ended.2;
               sound = sound;
-              rising = rises_over layout total same old.now.trees rising m held (key p) found (it.test p) (it.hits p) (it.agree p) (moved p w) key_is warehouse new.now.trees _ shows put_now;
+              rising = rises_over layout total same old.now.trees rising m held (key p) found (it.test p) (it.hits p) (it.agree p) (moved p w) key_is under new.now.trees _ shows put_now;
               others = put_now.others;
             };
           }

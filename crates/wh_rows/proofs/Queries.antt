@@ -6,9 +6,9 @@ use Rattle.sqlite.specs.State.{State, IsUnchanged, Survives, Shown, ShowsRows, C
 use Rattle.sqlite.specs.Clock.{timed}
 use Rattle.sqlite.proofs.StateLemmas.{survives_weaker}
 use Rattle.sqlite.proofs.Callers.{IsPlain, never_commits}
-use Rattle.wh_rows.specs.Schema.{warehouse}
+use Rattle.sqlite.specs.Schema.{Schema}
 
-module _ (text : List ℕ) (params : Row) (old new : State) (is : old.now.schema ≡ warehouse) (plain : IsPlain (understood warehouse text)) where
+module _ {under : Schema} (text : List ℕ) (params : Row) (old new : State) (is : old.now.schema ≡ under) (plain : IsPlain (understood under text)) where
   here : IsPlain (understood old.now.schema text)
   here = subst (λ s. IsPlain (understood s text)) (sym is) plain
 

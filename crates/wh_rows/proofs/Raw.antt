@@ -23,7 +23,7 @@ use Rattle.sqlite_rules.proofs.ProbeLemmas.{has_mapped}
 use Rattle.sqlite.specs.Query.{Query, Output, output, output_cmp}
 use Rattle.sqlite.specs.State.{State, Shown}
 use Rattle.sqlite.proofs.Callers.{reads_as}
-use Rattle.wh_rows.specs.Schema.{warehouse}
+use Rattle.sqlite.specs.Schema.{Schema}
 use Rattle.wh_rows.specs.Statements.{reading}
 use Rattle.wh_rows.specs.Holds.{Layout, values_of, Holds}
 use Rattle.wh_rows.specs.Meaning.{passes}
@@ -84,7 +84,7 @@ sorted_from cmp total (x ∷ []) up k d low high = absurd (omega (arith, high))
 sorted_from cmp total (x ∷ y ∷ xs) up zero d low high = not_below cmp total x y up.0.0
 sorted_from cmp total (x ∷ y ∷ xs) up (suc k) d low high = rw add-one (rw add-one at (sorted_from cmp total (y ∷ xs) up.1 k d (omega arith) (omega (arith, high))))
 
-all_valid : {K V : Type 0} (is_valid : V → Bool) (es : List (K × V)) → AllByRecursion (λ e. IsTrue (is_valid e.1)) es → list_all is_valid (map (λ (e : K × V). e.1) es) ≡ true
+pub all_valid : {K V : Type 0} (is_valid : V → Bool) (es : List (K × V)) → AllByRecursion (λ e. IsTrue (is_valid e.1)) es → list_all is_valid (map (λ (e : K × V). e.1) es) ≡ true
 all_valid is_valid [] each = refl
 all_valid is_valid (e ∷ es) each = both each.0 (all_valid is_valid es each.1)
 
@@ -126,8 +126,8 @@ damage_or_rows {V = V} layout of sound complete (row ∷ stored) = go (of row) r
 -- ---- what a query shows
 
 -- an output shows all of its row, so it is one again by what it shows
-module _ {K V : Type 0} (layout : Layout K V) (params : Row) (stands : Row → Bool) (keep : V → Bool) (text : List ℕ) (it : ReadsStored layout params stands keep text) (old new : State) (answer : List Row)
-    (is : old.now.schema ≡ warehouse) (shown : Shown text params old new answer) where
+module _ {under : Schema} {K V : Type 0} (layout : Layout K V) (params : Row) (stands : Row → Bool) (keep : V → Bool) (text : List ℕ) (it : ReadsStored under layout params stands keep text) (old new : State) (answer : List Row)
+    (is : old.now.schema ≡ under) (shown : Shown text params old new answer) where
   abbrev query : Query
   query = reading layout.table.tree it.reads.tests it.reads.project it.reads.order
 
@@ -139,7 +139,7 @@ module _ {K V : Type 0} (layout : Layout K V) (params : Row) (stands : Row → B
 
   found : IsRead old.now.trees params layout.table.tree it.reads.tests it.reads.project it.reads.order answer
   found =
-      let read = reads_as text params old new warehouse is _ it.reads.command it.reads.plain it.reads.unlisted answer shown in
+      let read = reads_as text params old new under is _ it.reads.command it.reads.plain it.reads.unlisted answer shown in
       is_read old.now.trees params layout.table.tree it.reads.tests it.reads.project it.reads.order answer read.answer
 
   kept : filter stands (map (values_of layout.table) db) ≡ map (values_of layout.table) (filter (passes params it.reads.tests) db)
@@ -180,14 +180,14 @@ pub record AreFirstStored (most : ℕ) (cmp : Row → Row → Ordering) (stored 
   pub sorted : IsSorted cmp ordered
   pub first : shown ≡ take most ordered
 
-module _ {K V : Type 0} (layout : Layout K V) (params : Row) (stands : Row → Bool) (keep : V → Bool) (most : ℕ) (by : V → V → Ordering) (text : List ℕ) (it : ReadsSorted layout params keep most by text) (tested : (row : Row) → it.test row ≡ stands row)
+module _ {under : Schema} {K V : Type 0} (layout : Layout K V) (params : Row) (stands : Row → Bool) (keep : V → Bool) (most : ℕ) (by : V → V → Ordering) (text : List ℕ) (it : ReadsSorted under layout params keep most by text) (tested : (row : Row) → it.test row ≡ stands row)
     (cmp : Row → Row → Ordering) (in_order : (r s : Row) → output_cmp (reading_first most layout.table.tree it.tests it.project it.order) (it.sorted_by r, r) (it.sorted_by s, s) ≡ cmp r s)
-    (old new : State) (answer : List Row) (is : old.now.schema ≡ warehouse) (shown : Shown text params old new answer) where
+    (old new : State) (answer : List Row) (is : old.now.schema ≡ under) (shown : Shown text params old new answer) where
   -- the answer is the first of the stored rows that stand
   shows_first : AreFirstStored most cmp (filter stands (rows_in layout.table old.now.trees)) answer
   shows_first =
       let q = reading_first most layout.table.tree it.tests it.project it.order in
-      let read = reads_as text params old new warehouse is _ it.command it.plain it.unlisted answer shown in
+      let read = reads_as text params old new under is _ it.command it.plain it.unlisted answer shown in
       let found = is_read_first old.now.trees params most layout.table.tree it.tests it.project it.order answer read.answer in
       let db = old.now.trees layout.table.tree in
       let show : Row → Output = λ values. (it.sorted_by values, values) in
@@ -211,8 +211,8 @@ module _ {K V : Type 0} (layout : Layout K V) (params : Row) (stands : Row → B
       record { ordered = first.ordered; same = IsPermutation-trans _ _ _ (IsPermutation-sym _ _ (IsPermutation-filter stands _ _ same)) first.same; sorted = first.sorted; first = first.first }
 
 -- from either end of a table
-pub shows_front_again : {K V : Type 0} (front : Front) (layout : Layout K V) (params : Row) (stands : Row → Bool) (keep : V → Bool) (text : List ℕ) → ReadsFrontStored front layout params stands keep text → (old new : State) (answer : List Row)
-    → old.now.schema ≡ warehouse → Shown text params old new answer → (stored : List Row) → IsPermutation (rows_in layout.table old.now.trees) stored → IsFrontOf front layout.table (filter stands stored) answer
+pub shows_front_again : {under : Schema} {K V : Type 0} (front : Front) (layout : Layout K V) (params : Row) (stands : Row → Bool) (keep : V → Bool) (text : List ℕ) → ReadsFrontStored under front layout params stands keep text → (old new : State) (answer : List Row)
+    → old.now.schema ≡ under → Shown text params old new answer → (stored : List Row) → IsPermutation (rows_in layout.table old.now.trees) stored → IsFrontOf front layout.table (filter stands stored) answer
 shows_front_again front layout params stands keep text it old new answer is shown stored same =
     let first = shows_first_again layout params stands keep front.most (keys_cmp layout front.backwards) text it.reads it.tested (stored_cmp layout.table front.backwards) it.in_order old new answer is shown stored same in
     record { ordered = first.ordered; same = first.same; sorted = first.sorted; first = first.first }
@@ -247,8 +247,8 @@ module _ (place : ℕ) where
             refl,
           )
 
-pub shows_greatest : {K V : Type 0} (place : ℕ) (layout : Layout K V) (params : Row) (stands : Row → Bool) (keep : V → Bool) (measure : V → ℕ) (text : List ℕ) → ReadsGreatestStored place layout params stands keep measure text → (old new : State) (answer : List Row)
-    → old.now.schema ≡ warehouse → Shown text params old new answer → (stored : List Row) → IsPermutation (rows_in layout.table old.now.trees) stored → ShowsGreatest place (filter stands stored) answer
+pub shows_greatest : {under : Schema} {K V : Type 0} (place : ℕ) (layout : Layout K V) (params : Row) (stands : Row → Bool) (keep : V → Bool) (measure : V → ℕ) (text : List ℕ) → ReadsGreatestStored under place layout params stands keep measure text → (old new : State) (answer : List Row)
+    → old.now.schema ≡ under → Shown text params old new answer → (stored : List Row) → IsPermutation (rows_in layout.table old.now.trees) stored → ShowsGreatest place (filter stands stored) answer
 shows_greatest place layout params stands keep measure text it old new answer is shown stored same =
     first_has_greatest place (filter stands stored) answer (shows_first_again layout params stands keep 1 (λ v w. nat_cmp (measure w) (measure v)) text it.reads it.tested (falling place) it.in_order old new answer is shown stored same)
 

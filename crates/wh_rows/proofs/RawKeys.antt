@@ -19,7 +19,8 @@ use Rattle.sqlite_sql.specs.Ops.{binary, is_true, from_truth}
 use Rattle.sqlite_schema.specs.declared.schema.Constraint.TheVariants.{Unique}
 use Rattle.sqlite_schema.specs.Rules.{equal, differ, agree, clashes, passes, Keeps}
 use Rattle.sqlite.specs.Effect.{Database, IsDatabase}
-use Rattle.wh_rows.specs.Schema.{warehouse}
+use Rattle.wh_rows.specs.declared.format.Format.{Format}
+use Rattle.wh_rows.specs.Schema.{schema_in}
 use Rattle.wh_rows.specs.Schema as schema
 use Rattle.wh_rows.proofs.Others.{at_place}
 use Rattle.wh_rows.proofs.ColumnLemmas.{both}
@@ -114,29 +115,29 @@ pub none_clashes : {X : Type 0} (p : X → Bool) (xs : List X) (x : X) → list_
 none_clashes p xs x none here hit = let never : true ≡ false = sym (some_from p xs x here hit) ∙ none in cc
 
 -- of meta
-pub meta_once : (db : Database) → db.schema ≡ warehouse → IsDatabase db → IsRising (db.trees schema.meta.tree) → (k : List ℕ) → length (filter (λ r. equal Binary (column r 1) (Text k) && true) (db.trees schema.meta.tree)) ≤ 1
+pub meta_once : (format : Format) (db : Database) → db.schema ≡ schema_in format → IsDatabase db → IsRising (db.trees schema.meta.tree) → (k : List ℕ) → length (filter (λ r. equal Binary (column r 1) (Text k) && true) (db.trees schema.meta.tree)) ≤ 1
 unfolding first_key
-meta_once db is sound rising k =
+meta_once format db is sound rising k =
     let rows = db.trees schema.meta.tree in
-    let rule : Keeps Unique warehouse db.trees = subst (λ s. Keeps Unique s db.trees) is (sound.obeys.rules Unique) in
-    let here : AllByRecursion (λ row. passes Unique warehouse db.trees schema.meta row ≡ true) rows = at_place (λ t. AllByRecursion (λ row. passes Unique warehouse db.trees t row ≡ true) (db.trees t.tree)) warehouse.tables 0 schema.meta refl rule in
+    let rule : Keeps Unique (schema_in format) db.trees = subst (λ s. Keeps Unique s db.trees) is (sound.obeys.rules Unique) in
+    let here : AllByRecursion (λ row. passes Unique (schema_in format) db.trees schema.meta row ≡ true) rows = at_place (λ t. AllByRecursion (λ row. passes Unique (schema_in format) db.trees t row ≡ true) (db.trees t.tree)) (schema_in format).tables 0 schema.meta refl rule in
     at_most_one rows (λ r. equal Binary (column r 1) (Text k) && true) rising.0
     (λ x y hx hy px py less.
-    let mine : passes Unique warehouse db.trees schema.meta x ≡ true = all_has (λ row. passes Unique warehouse db.trees schema.meta row ≡ true) rows x here hx in
+    let mine : passes Unique (schema_in format) db.trees schema.meta x ≡ true = all_has (λ row. passes Unique (schema_in format) db.trees schema.meta row ≡ true) rows x here hx in
     let first : not (clashes plain (1 ∷ []) rows x) ≡ true = (and_parts _ _ mine).0 in
     let agrees : (equal Binary (column y 1) (column x 1) && true) ≡ true = both (are_sameual (column y 1) (column x 1) k (and_parts _ _ py).0 (and_parts _ _ px).0) refl in
     none_clashes (λ other. agree plain (1 ∷ []) other (1 ∷ []) x && differ (rowid other) (rowid x)) rows y (not_true _ first) hy
     (both agrees (ids_differ (rowid x) (rowid y) (all_has _ rows x rising.1 hx) (all_has _ rows y rising.1 hy) less)))
 
 -- under a name at most one row is stored, damaged or not
-pub named_once : (db : Database) (stored : Stored) → IsStored stored db → (name : List ℕ) → length (filter (stands_at_text name) (stored Meta)) ≤ 1
+pub named_once : (db : Database) (stored : Stored) → IsStored stored db → (name : List ℕ) → length (filter (stands_at_text name) (stored.rows Meta)) ≤ 1
 named_once db stored is name =
     let rows = db.trees schema.meta.tree in
-    let bag = IsPermutation-filter (stands_at_text name) (rows_in schema.meta db.trees) (stored Meta) (is.rows Meta) in
-    let long : length (filter (stands_at_text name) (stored Meta)) ≡ length (filter (stands_at_text name) (rows_in schema.meta db.trees)) = length_permutation _ _ bag in
+    let bag = IsPermutation-filter (stands_at_text name) (rows_in schema.meta db.trees) (stored.rows Meta) (is.rows Meta) in
+    let long : length (filter (stands_at_text name) (stored.rows Meta)) ≡ length (filter (stands_at_text name) (rows_in schema.meta db.trees)) = length_permutation _ _ bag in
     let shown : length (filter (stands_at_text name) (rows_in schema.meta db.trees)) ≡ length (filter (λ r. equal Binary (column r 1) (Text name) && true) rows) =
     ap length (filter-map (stands_at_text name) (values_of schema.meta) rows) ∙ length-map (filter (λ r. equal Binary (column r 1) (Text name) && true) rows) (values_of schema.meta) in
-    omega (arith, long, shown, meta_once db is.schema is.sound is.rising.0 name)
+    omega (arith, long, shown, meta_once stored.format db is.schema is.sound is.rising.0 name)
 
 -- ---- what is asked for from an end of command
 
@@ -161,7 +162,7 @@ module _ (db : Database) (stored : Stored) (is : IsStored stored db) (stands : R
   turned_same true = IsPermutation-sym _ _ (IsPermutation-reverse kept)
   turned_same false = IsPermutation-refl kept
 
-  pub front_is : (front : Front) (shown : List Row) → IsFrontOf front schema.command (filter stands (stored Command)) shown → shown ≡ part (Some front) kept
+  pub front_is : (front : Front) (shown : List Row) → IsFrontOf front schema.command (filter stands (stored.rows Command)) shown → shown ≡ part (Some front) kept
   front_is front shown it =
       let same = IsPermutation-trans _ _ _ (turned_same front.backwards) (IsPermutation-trans _ _ _ (IsPermutation-filter stands _ _ (is.rows Command)) it.same) in
       it.first ∙ ap (take front.most) (sorted_unique (stored_cmp schema.command front.backwards) (key_cmp_total (record { collation = Binary; descending = front.backwards } ∷ []) 0) _ it.ordered (turned front.backwards) same it.sorted)

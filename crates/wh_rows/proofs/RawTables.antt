@@ -1,17 +1,38 @@
 -- What is stored where the tables hold rows of their types.
-use Rattle.std.proofs.Common.{Some}
+use Rattle.std.proofs.Common.{◌≡◌, Some, List, [], map, sym, subst, ap}
+use Rattle.std.specs.Prelude.{if◌then◌else◌}
+use Rattle.std.specs.FinMap.{FinMap, values, empty}
+use Rattle.std.proofs.lemmas.List.Sorted.{IsPermutation-refl}
+use Rattle.sqlite.specs.Tree.{Trees}
+use Rattle.wh_rows.specs.declared.format.Format.{Format}
+use Rattle.wh_rows.specs.declared.format.Format.TheVariants.{One, Two}
+use Rattle.wh_rows.specs.Formats.{is_two}
+use Rattle.wh_rows.specs.Holds.{Layout}
+use Rattle.wh_rows.specs.Rows as row
+use Rattle.wh_rows.proofs.Formats.{no_values, keyed_in, valid_in, absent_in}
 use Rattle.std.specs.List.Sorted.{IsPermutation}
 use Rattle.sqlite.specs.Effect.{Database}
 use Rattle.sqlite.specs.State.{State}
 use Rattle.wh_rows.specs.declared.table.Table.{Table}
-use Rattle.wh_rows.specs.declared.table.Table.TheVariants.{Meta, Command, Member, Change, Product, Store, Customer, Profile, Calendar, Fact}
-use Rattle.wh_rows.specs.Schema.{warehouse}
-use Rattle.wh_rows.specs.Tables.{Tables, Stores}
+use Rattle.wh_rows.specs.declared.table.Table.TheVariants.{Meta, Command, Member, Change, Product, Store, Customer, Profile, Calendar, Fact, Fact2, Void}
+use Rattle.wh_rows.specs.Schema.{schema_in}
+use Rattle.wh_rows.specs.Tables.{Tables, Stores, HoldsIn}
 use Rattle.wh_rows.specs.AtRest.{IsAtRest}
-use Rattle.wh_rows.specs.Raw.{table_of, rows_in, stored_of, IsStored, RestsOn, AreTyped}
+use Rattle.wh_rows.specs.Raw.{rows_in, rows_shown, columns_in, stored_of, IsStored, RestsOn, IsTyped, AreTyped}
+
+-- the rows of a table that the second format has are those of its map, and none where it isn't there
+shown_as : {K V : Type 0} (format : Format) (layout : Layout K V) (trees : Trees) (rows : FinMap layout.order V) → HoldsIn format layout trees rows → IsPermutation (if is_two format then rows_in layout.table trees else []) (map layout.encode (values rows))
+shown_as {K} {V} One layout trees rows none = rw none (subst (λ (es : List (K × V)). IsPermutation [] (map layout.encode (map (λ e. e.1) es))) (sym (no_values layout.order)) (IsPermutation-refl []))
+shown_as Two layout trees rows held = held.rows_are
+
+-- and so the other way round
+held_as : {K V : Type 0} (format : Format) (layout : Layout K V) (trees : Trees) (rows : FinMap layout.order V) → IsTyped layout rows → (format ≡ One → rows ≡ empty) → IsPermutation (if is_two format then rows_in layout.table trees else []) (map layout.encode (values rows))
+    → HoldsIn format layout trees rows
+held_as One layout trees rows typed none same = none (λ i. One)
+held_as Two layout trees rows typed none same = record { rows_are = same; keyed = typed.keyed; valid = typed.valid }
 
 -- the rows that are stored are those of the tables
-stored_rows : (db : Database) (t : Tables) → Stores db t → (table : Table) → IsPermutation (rows_in (table_of table) db.trees) (stored_of t table)
+stored_rows : (db : Database) (t : Tables) → Stores db t → (table : Table) → IsPermutation (rows_shown t.format table db.trees) (columns_in t table)
 stored_rows db t stores Meta = stores.meta.rows_are
 stored_rows db t stores Command = stores.command.rows_are
 stored_rows db t stores Member = stores.member.rows_are
@@ -22,6 +43,8 @@ stored_rows db t stores Customer = stores.customer.rows_are
 stored_rows db t stores Profile = stores.profile.rows_are
 stored_rows db t stores Calendar = stores.calendar.rows_are
 stored_rows db t stores Fact = stores.fact.rows_are
+stored_rows db t stores Fact2 = shown_as t.format row.fact2 db.trees t.fact2 stores.fact2
+stored_rows db t stores Void = shown_as t.format row.void db.trees t.void stores.void
 
 pub stores_stored : (db : Database) (t : Tables) → Stores db t → IsStored (stored_of t) db
 stores_stored db t stores = record { schema = stores.schema; sound = stores.sound; rising = stores.rising; rows = stored_rows db t stores }
@@ -34,10 +57,10 @@ rests_on t s at = record {
   unmarked = at.unmarked;
   now = stores_stored s.now t at.now.tables;
   committed = at.committed;
-  left = record { each = λ trees may. stores_stored (record { schema = warehouse; trees = trees }) t (at.left.each trees may).tables };
+  left = record { each = λ trees may. stores_stored (record { schema = schema_in t.format; trees = trees }) t (at.left.each trees may).tables };
 }
 
--- ten tables are stored exactly where their rows are, and these are of their types: the case without damage
+-- tables are stored exactly where their rows are, and these are of their types: the case without damage
 pub stores_typed : (db : Database) (t : Tables) → Stores db t → AreTyped t
 stores_typed db t stores = record {
   meta = record { keyed = stores.meta.keyed; valid = stores.meta.valid };
@@ -50,6 +73,9 @@ stores_typed db t stores = record {
   profile = record { keyed = stores.profile.keyed; valid = stores.profile.valid };
   calendar = record { keyed = stores.calendar.keyed; valid = stores.calendar.valid };
   fact = record { keyed = stores.fact.keyed; valid = stores.fact.valid };
+  fact2 = record { keyed = keyed_in t.format row.fact2 db.trees t.fact2 stores.fact2; valid = valid_in t.format row.fact2 db.trees t.fact2 stores.fact2 };
+  void = record { keyed = keyed_in t.format row.void db.trees t.void stores.void; valid = valid_in t.format row.void db.trees t.void stores.void };
+  absent = λ first. (absent_in t.format row.fact2 db.trees t.fact2 (ap is_two first) stores.fact2, absent_in t.format row.void db.trees t.void (ap is_two first) stores.void);
 }
 
 pub stored_stores : (db : Database) (t : Tables) → AreTyped t → IsStored (stored_of t) db → Stores db t
@@ -67,9 +93,11 @@ stored_stores db t typed is = record {
   profile = record { rows_are = is.rows Profile; keyed = typed.profile.keyed; valid = typed.profile.valid };
   calendar = record { rows_are = is.rows Calendar; keyed = typed.calendar.keyed; valid = typed.calendar.valid };
   fact = record { rows_are = is.rows Fact; keyed = typed.fact.keyed; valid = typed.fact.valid };
+  fact2 = held_as t.format row.fact2 db.trees t.fact2 typed.fact2 (λ first. (typed.absent first).0) (is.rows Fact2);
+  void = held_as t.format row.void db.trees t.void typed.void (λ first. (typed.absent first).1) (is.rows Void);
 }
 
--- what rests without damage is ten tables at rest
+-- what rests without damage is tables at rest
 pub at_rest : (t : Tables) (s : State) → AreTyped t → RestsOn (stored_of t) s → IsAtRest (Some t) s
 at_rest t s typed rests = record {
   is_open = rests.is_open;
@@ -80,6 +108,6 @@ at_rest t s typed rests = record {
   left = record {
     each = λ trees may.
         let is = rests.left.each trees may in
-        record { schema = is.schema; sound = is.sound; tables = stored_stores (record { schema = warehouse; trees = trees }) t typed is };
+        record { schema = is.schema; sound = is.sound; tables = stored_stores (record { schema = schema_in t.format; trees = trees }) t typed is };
   };
 }

@@ -13,7 +13,7 @@ use Rattle.sqlite.specs.Does.{Does}
 use Rattle.sqlite.specs.Listing.{understood}
 use Rattle.sqlite.specs.State.{State, Executes, mode_of}
 use Rattle.sqlite.proofs.Callers.{statement_of, runs_as}
-use Rattle.wh_rows.specs.Schema.{warehouse}
+use Rattle.sqlite.specs.Schema.{Schema}
 use Rattle.wh_rows.specs.Statements.{reading}
 use Rattle.wh_rows.specs.Holds.{Layout, values_of, Holds, IsRising}
 use Rattle.wh_rows.proofs.Edits.{ChangesOnly, deleted}
@@ -24,14 +24,14 @@ use Rattle.wh_rows.specs.Meaning.{passes, RemovesOne}
 use Rattle.wh_rows.proofs.Typed.{holds_filtered}
 use Rattle.wh_rows.proofs.Maps.{other_rows, keyed-remove, entries-remove, all-remove}
 
-module _ {K V : Type 0} (layout : Layout K V) (total : IsTotalOrder layout.order) (same : IsAntisymmetric layout.order) (bind : K → Row) (text : List ℕ) (it : RemovesOne layout bind text)
-    (old new : State) (k : K) (count : ℕ) (is : old.now.schema ≡ warehouse) (rising : IsRising (old.now.trees layout.table.tree)) (ran : Executes text (bind k) old new (Ok count)) where
-  pub is_removed : ChangesOnly layout.table (record { schema = warehouse; trees = old.now.trees }) new.now
+module _ {under : Schema} {K V : Type 0} (layout : Layout K V) (total : IsTotalOrder layout.order) (same : IsAntisymmetric layout.order) (bind : K → Row) (text : List ℕ) (it : RemovesOne under layout bind text)
+    (old new : State) (k : K) (count : ℕ) (is : old.now.schema ≡ under) (rising : IsRising (old.now.trees layout.table.tree)) (ran : Executes text (bind k) old new (Ok count)) where
+  pub is_removed : ChangesOnly layout.table (record { schema = under; trees = old.now.trees }) new.now
       × (new.now.trees layout.table.tree ≡ filter (λ r. not (passes (bind k) it.tests r)) (old.now.trees layout.table.tree))
   is_removed =
-      let w = runs_as text (bind k) old new warehouse is _ it.command it.plain count ran in
-      let db : Database = record { schema = warehouse; trees = old.now.trees } in
-      let sql = statement_of text (understood warehouse text) in
+      let w = runs_as text (bind k) old new under is _ it.command it.plain count ran in
+      let db : Database = record { schema = under; trees = old.now.trees } in
+      let sql = statement_of text (understood under text) in
       let changed = subst (λ s. Does old.step_limit (mode_of old) (bind k) (record old.now { schema = s }) sql None (Delete it.at (record { lets = []; body = reading layout.table.tree it.tests (col 1 0 ∷ []) [] })) (Ok (w.tally, new.now))) is w.changed in
       deleted old.step_limit (mode_of old) (bind k) db sql it.at layout.table it.table.has (it.table.idle (mode_of old).keys) w.tally new.now it.tests rising changed
 
@@ -47,10 +47,10 @@ module _ {K V : Type 0} (layout : Layout K V) (total : IsTotalOrder layout.order
         valid = all-remove layout.order (λ w. IsTrue (layout.is_valid w)) total same m k held.valid;
       }
 
-  pub leaves : LeavesOthers layout.table old.now new.now
+  pub leaves : LeavesOthers under layout.table old.now new.now
   leaves = record {
     schema = is_removed.0.schema;
-    sound = (runs_as text (bind k) old new warehouse is _ it.command it.plain count ran).sound;
+    sound = (runs_as text (bind k) old new under is _ it.command it.plain count ran).sound;
     rising = subst IsRising (sym is_removed.1) (IsShaped-filter Table _ (old.now.trees layout.table.tree) rising);
     others = is_removed.0.others;
   }

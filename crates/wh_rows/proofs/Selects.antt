@@ -13,7 +13,7 @@ use Rattle.sqlite_sql.proofs.QueryLemmas.{output_cmp_total}
 use Rattle.sqlite.specs.Query.{Output, output, output_cmp}
 use Rattle.sqlite.specs.State.{State, Shown}
 use Rattle.sqlite.proofs.Callers.{reads_as}
-use Rattle.wh_rows.specs.Schema.{warehouse}
+use Rattle.sqlite.specs.Schema.{Schema}
 use Rattle.wh_rows.specs.Statements.{reading}
 use Rattle.wh_rows.specs.Holds.{Layout, values_of, Holds}
 use Rattle.wh_rows.proofs.Answers.{is_read, map-map}
@@ -36,12 +36,12 @@ module _ {K V : Type 0} (layout : Layout K V) where
       let parts = both_true _ _ sorted in
       (subst (λ k. AllByRecursion (λ v. layout.order k (layout.key v) ≡ Less) (map (λ (e : K × V). e.1) es)) keyed.0 (below e.0 es keyed.1 (subst T (sym parts.0) tt)), rising es keyed.1 parts.1)
 
-module _ {K V : Type 0} (layout : Layout K V) (params : Row) (keep : V → Bool) (text : List ℕ) (it : ReadsSome layout params keep text) (old new : State) (rows : List Row)
-    (is : old.now.schema ≡ warehouse) (shown : Shown text params old new rows) (m : FinMap layout.order V) (held : Holds layout old.now.trees m) where
+module _ {under : Schema} {K V : Type 0} (layout : Layout K V) (params : Row) (keep : V → Bool) (text : List ℕ) (it : ReadsSome under layout params keep text) (old new : State) (rows : List Row)
+    (is : old.now.schema ≡ under) (shown : Shown text params old new rows) (m : FinMap layout.order V) (held : Holds layout old.now.trees m) where
   pub reads_rows : rows ≡ map layout.encode (filter keep (values m))
   reads_rows =
       let q = reading layout.table.tree it.tests it.project it.order in
-      let read = reads_as text params old new warehouse is _ it.command it.plain it.unlisted rows shown in
+      let read = reads_as text params old new under is _ it.command it.plain it.unlisted rows shown in
       let answer = is_read old.now.trees params layout.table.tree it.tests it.project it.order rows read.answer in
       let db = old.now.trees layout.table.tree in
       let show : Row → Output = λ vs. (it.sorted_by vs, vs) in

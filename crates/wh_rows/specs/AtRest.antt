@@ -1,4 +1,4 @@
--- A connection to a warehouse, and what a crash may leave of it. What is held is the ten tables, or nothing yet.
+-- A connection to a warehouse, and what a crash may leave of it. What is held is the tables, or nothing yet.
 use Rattle.std.specs.Prelude.{◌≡◌, ℕ, false, [], List, Option, Some, None, IsTrue, IfSome, Err}
 use Rattle.sqlite.specs.Order.{Row}
 use Rattle.sqlite.specs.Tree.{Trees}
@@ -8,15 +8,15 @@ use Rattle.sqlite.specs.State.{State, Executes}
 use Rattle.sqlite.specs.declared.error.Error.{Error}
 use Rattle.wh_rows.specs.declared.cause.Cause.{Cause}
 use Rattle.wh_rows.specs.Cause.{cause_of}
-use Rattle.wh_rows.specs.Schema.{no_schema, warehouse}
+use Rattle.wh_rows.specs.Schema.{no_schema, schema_in}
 use Rattle.wh_rows.specs.Tables.{Tables, Stores}
 
 -- the schema of a database that holds this
 abbrev pub schema_of : Option Tables → Schema
 schema_of None = no_schema
-schema_of (Some t) = warehouse
+schema_of (Some t) = schema_in t.format
 
--- the database holds nothing at all, or the ten tables and nothing else
+-- the database holds nothing at all, or the tables and nothing else
 pub record Has (held : Option Tables) (db : Database) : Type 0 where
   pub schema : db.schema ≡ schema_of held
   pub sound : IsDatabase db

@@ -10,7 +10,7 @@ use Rattle.wh_day.specs.Reading.{◌>>=◌}
 use Rattle.wh_policy.specs.declared.attribute.Dim.{Dim}
 use Rattle.wh_policy.specs.declared.attribute.Dim.TheVariants.{Product, Store, Customer}
 use Rattle.wh_rows.specs.declared.columns.Damaged.{Damaged}
-use Rattle.wh_rows.specs.Types.{is_number, is_line, is_measure, is_special}
+use Rattle.wh_rows.specs.Types.{is_number, is_line, is_measure, is_special, is_discount}
 
 -- not a value of the type
 abbrev pub damaged : {A : Type 0} → Result A Damaged
@@ -42,6 +42,10 @@ line_of (Int (pos n)) = of_type (is_line n) n
 line_of _ = damaged
 
 -- a quantity or an amount
+unfoldable pub discount_of : Value → Result ℕ Damaged
+discount_of (Int (pos n)) = of_type (is_discount n) n
+discount_of _ = damaged
+
 unfoldable pub measure_of : ℕ → Value → Result ℤ Damaged
 measure_of most (Int n) = of_type (is_measure most n) n
 measure_of most _ = damaged

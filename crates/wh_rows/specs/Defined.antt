@@ -10,6 +10,7 @@ use Rattle.wh_policy.specs.declared.policy.Policy.{Policy}
 use Rattle.wh_history.specs.Accepted.{Accepted, policy_after}
 use Rattle.wh_history.specs.Tables.{Limits, meta_value, command_row, member_row, change_row, dimension_row, profile_row, fact_row}
 use Rattle.wh_history.specs.declared.facts.Fact.{Fact}
+use Rattle.wh_rows.specs.declared.format.Format.TheVariants.{One}
 use Rattle.wh_rows.specs.declared.rows.MetaRow.{MetaRow}
 use Rattle.wh_rows.specs.declared.rows.CommandRow.{CommandRow}
 use Rattle.wh_rows.specs.declared.rows.MemberRow.{MemberRow}
@@ -47,8 +48,10 @@ calendar_at commands day = option_and_then (λ policy. day_at policy day) (polic
 abbrev pub fact_at : List Accepted → LineKey → Option Fact
 fact_at commands key = fact_row commands key.ticket key.line
 
--- the ten tables are those of a warehouse that was made with these limits and has accepted these commands
+-- The tables are those of a warehouse that was made with these limits and has accepted these commands. They are of the first format, since no command
+-- makes the second.
 pub record AreOf (limits : Limits) (commands : List Accepted) (tables : Tables) : Type 0 where
+  pub format : tables.format ≡ One
   pub meta : (name : List ℕ) → get tables.meta name ≡ meta_at limits name
   pub command : (number : ℕ) → get tables.command number ≡ command_at commands number
   pub member : (key : MemberKey) → get tables.member key ≡ member_at commands key

@@ -10,7 +10,7 @@ use Rattle.sqlite.specs.Query.{Query, Output, output, output_cmp}
 use Rattle.sqlite.specs.Command.TheVariants.{Select}
 use Rattle.sqlite.specs.Given.{IsPlain}
 use Rattle.sqlite.specs.Listing.{understood, reads_listing}
-use Rattle.wh_rows.specs.Schema.{warehouse}
+use Rattle.sqlite.specs.Schema.{Schema}
 use Rattle.wh_rows.specs.Statements.{reading}
 use Rattle.wh_rows.specs.Holds.{Layout, values_of}
 use Rattle.wh_rows.specs.Meaning.{command_of, passes, ReadsSome}
@@ -47,14 +47,14 @@ abbrev pub keys_cmp : {K V : Type 0} → Layout K V → Bool → V → V → Ord
 keys_cmp layout backwards v w = if backwards then layout.order (layout.key w) (layout.key v) else layout.order (layout.key v) (layout.key w)
 
 -- What a text has to mean, to show up to so many of the rows that pass a test, sorted by this comparison.
-pub record ReadsSorted {K V : Type 0} (layout : Layout K V) (params : Row) (keep : V → Bool) (most : ℕ) (cmp : V → V → Ordering) (text : List ℕ) : Type 0 where
+pub record ReadsSorted {K V : Type 0} (under : Schema) (layout : Layout K V) (params : Row) (keep : V → Bool) (most : ℕ) (cmp : V → V → Ordering) (text : List ℕ) : Type 0 where
   pub tests : List Term
   pub project : List Term
   pub order : List (Term × Key)
   pub names : List (List ℕ)
-  pub command : command_of (understood warehouse text) ≡ Select (record { lets = []; body = reading_first most layout.table.tree tests project order }) names
-  pub plain : IsPlain (understood warehouse text)
-  pub unlisted : reads_listing warehouse text ≡ false
+  pub command : command_of (understood under text) ≡ Select (record { lets = []; body = reading_first most layout.table.tree tests project order }) names
+  pub plain : IsPlain (understood under text)
+  pub unlisted : reads_listing under text ≡ false
   pub test : Row → Bool
   pub hits : (r : Row) → passes params tests r ≡ test (values_of layout.table r)
   pub agree : (v : V) → test (layout.encode v) ≡ keep v
@@ -63,14 +63,14 @@ pub record ReadsSorted {K V : Type 0} (layout : Layout K V) (params : Row) (keep
   pub in_order : (v w : V) → output_cmp (reading_first most layout.table.tree tests project order) (sorted_by (layout.encode v), layout.encode v) (sorted_by (layout.encode w), layout.encode w) ≡ cmp v w
 
 -- to show up to so many of them in the order of their keys, or backwards from the greatest key
-abbrev pub ReadsFirst : {K V : Type 0} → Layout K V → Row → (V → Bool) → ℕ → Bool → List ℕ → Type 0
-ReadsFirst layout params keep most backwards text = ReadsSorted layout params keep most (keys_cmp layout backwards) text
+abbrev pub ReadsFirst : {K V : Type 0} → Schema → Layout K V → Row → (V → Bool) → ℕ → Bool → List ℕ → Type 0
+ReadsFirst under layout params keep most backwards text = ReadsSorted under layout params keep most (keys_cmp layout backwards) text
 
 -- to show one of them, whose number is the greatest
-abbrev pub ReadsGreatest : {K V : Type 0} → Layout K V → Row → (V → Bool) → (V → ℕ) → List ℕ → Type 0
-ReadsGreatest layout params keep measure text = ReadsSorted layout params keep 1 (λ v w. nat_cmp (measure w) (measure v)) text
+abbrev pub ReadsGreatest : {K V : Type 0} → Schema → Layout K V → Row → (V → Bool) → (V → ℕ) → List ℕ → Type 0
+ReadsGreatest under layout params keep measure text = ReadsSorted under layout params keep 1 (λ v w. nat_cmp (measure w) (measure v)) text
 
 -- what a text has to mean, to show that part of the rows that pass a test
-abbrev pub ReadsPart : {K V : Type 0} → Option Front → Layout K V → Row → (V → Bool) → List ℕ → Type 0
-ReadsPart None layout params keep text = ReadsSome layout params keep text
-ReadsPart (Some front) layout params keep text = ReadsFirst layout params keep front.most front.backwards text
+abbrev pub ReadsPart : {K V : Type 0} → Schema → Option Front → Layout K V → Row → (V → Bool) → List ℕ → Type 0
+ReadsPart under None layout params keep text = ReadsSome under layout params keep text
+ReadsPart under (Some front) layout params keep text = ReadsFirst under layout params keep front.most front.backwards text

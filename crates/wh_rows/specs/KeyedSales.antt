@@ -12,10 +12,10 @@ use Rattle.wh_day.specs.Reading.{◌>>=◌}
 use Rattle.wh_policy.specs.declared.attribute.Dim.{Dim}
 use Rattle.wh_policy.specs.declared.attribute.Dim.TheVariants.{Product, Store, Customer}
 use Rattle.wh_history.specs.declared.facts.Fact.{Fact}
-use Rattle.wh_rows.specs.Schema.{warehouse}
+use Rattle.sqlite.specs.Schema.{Schema}
+use Rattle.sqlite.specs.Table.{Table}
 use Rattle.wh_rows.specs.Holds.{values_of}
 use Rattle.wh_rows.specs.Meaning.{command_of}
-use Rattle.wh_rows.specs.Rows as row
 use Rattle.wh_rows.specs.Statements.{reading}
 use Rattle.wh_rows.specs.Columns.{damaged, day_of, measure_of}
 use Rattle.wh_rows.specs.declared.columns.Damaged.{Damaged}
@@ -92,11 +92,22 @@ keyed_sales (Durable Customer) = codes "SELECT day, customer_durable, quantity, 
 keyed_sales Profile = codes "SELECT day, profile, quantity, amount, cost FROM fact"
 keyed_sales Day = codes "SELECT day, day, quantity, amount, cost FROM fact"
 
+-- the same of the second format
+abbrev pub keyed_sales2 : FactKey → List ℕ
+keyed_sales2 (Surrogate Product) = codes "SELECT day, product_key, quantity, amount, cost FROM fact2"
+keyed_sales2 (Surrogate Store) = codes "SELECT day, store_key, quantity, amount, cost FROM fact2"
+keyed_sales2 (Surrogate Customer) = codes "SELECT day, customer_key, quantity, amount, cost FROM fact2"
+keyed_sales2 (Durable Product) = codes "SELECT day, product_durable, quantity, amount, cost FROM fact2"
+keyed_sales2 (Durable Store) = codes "SELECT day, store_durable, quantity, amount, cost FROM fact2"
+keyed_sales2 (Durable Customer) = codes "SELECT day, customer_durable, quantity, amount, cost FROM fact2"
+keyed_sales2 Profile = codes "SELECT day, profile, quantity, amount, cost FROM fact2"
+keyed_sales2 Day = codes "SELECT day, day, quantity, amount, cost FROM fact2"
+
 -- what the text has to mean
-pub record ShowsSales (which : FactKey) : Type 0 where
+pub record ShowsSales (under : Schema) (table : Table) (which : FactKey) (text : List ℕ) : Type 0 where
   pub project : List Term
   pub names : List (List ℕ)
-  pub command : command_of (understood warehouse (keyed_sales which)) ≡ Select (record { lets = []; body = reading row.fact.table.tree [] project [] }) names
-  pub plain : IsPlain (understood warehouse (keyed_sales which))
-  pub unlisted : reads_listing warehouse (keyed_sales which) ≡ false
-  pub shows : (r : Row) → (output (reading row.fact.table.tree [] project []) ([] ∷ r ∷ [])).1 ≡ shown_of which (values_of row.fact.table r)
+  pub command : command_of (understood under text) ≡ Select (record { lets = []; body = reading table.tree [] project [] }) names
+  pub plain : IsPlain (understood under text)
+  pub unlisted : reads_listing under text ≡ false
+  pub shows : (r : Row) → (output (reading table.tree [] project []) ([] ∷ r ∷ [])).1 ≡ shown_of which (values_of table r)

@@ -1,6 +1,7 @@
 pub mod Names
 pub mod Limits
 pub mod Types
+pub mod Formats
 pub mod Schema
 pub mod Holds
 pub mod Keys

@@ -1,5 +1,5 @@
 -- Making the tables and the indexes.
-use Rattle.std.specs.Prelude.{◌≡◌, ◌⊎◌, ℕ, List, [], ◌∷◌, Ok, Err, Result, Some, false, slice_get}
+use Rattle.std.specs.Prelude.{◌≡◌, ◌⊎◌, ℕ, List, [], ◌∷◌, Ok, Err, Result, Some, false, slice_get, IsTrue, nat_le, if◌then◌else◌}
 use Rattle.sqlite.specs.State.{text_of}
 use Rattle.sqlite_resolve.specs.declared.compiled.Compiled.{Compiled}
 use Rattle.sqlite_resolve.specs.declared.error.CompileError.{CompileError}
@@ -7,7 +7,7 @@ use Rattle.std.specs.List.{AllByRecursion}
 use Rattle.sqlite.specs.Table.{Table}
 use Rattle.sqlite.specs.Tree.{Trees}
 use Rattle.sqlite.specs.Schema.{Schema}
-use Rattle.sqlite.specs.Change.{created, indexed}
+use Rattle.sqlite.specs.Change.{created, indexed, next_tree}
 use Rattle.sqlite.specs.Compile.{table_defined_by, index_defined_by}
 use Rattle.sqlite.specs.Command.TheVariants.{CreateTable, CreateIndex}
 use Rattle.sqlite.specs.Does.{lacks_sequence}
@@ -52,13 +52,21 @@ pub record MakesIndex (old : Schema) (text : List ℕ) (new : Schema) : Type 0 w
 abbrev pub Extends : Schema → List ℕ → Schema → Type 0
 Extends from text to = MakesTable from text to ⊎ MakesIndex from text to
 
--- the texts, one after the other, lead from one schema to another
-abbrev pub Leads : Schema → List (List ℕ) → Schema → Type 0
-Leads from [] to = from ≡ to
-Leads from (text ∷ texts) to = (next : Schema) × Extends from text next × Leads next texts to
+-- The texts, one after the other, lead from one schema to another, and each table that is made lies in a tree from this one on.
+abbrev pub LeadsOver : ℕ → Schema → List (List ℕ) → Schema → Type 0
+LeadsOver least from [] to = from ≡ to
+LeadsOver least from (text ∷ texts) to = (next : Schema) × Extends from text next × IsTrue (nat_le least (next_tree from)) × LeadsOver least next texts to
+
+-- the rows of the trees before this one, and none in the others
+abbrev pub before_tree : ℕ → Trees → Trees
+before_tree least trees tree = if nat_le least tree then [] else trees tree
 
 -- the texts that make the warehouse: its tables, then its indexes
 abbrev pub making_texts : List (List ℕ)
 making_texts =
     schema.create_meta ∷ schema.create_command ∷ schema.create_member ∷ schema.create_change ∷ schema.create_product ∷ schema.create_store ∷ schema.create_customer ∷ schema.create_profile ∷ schema.create_calendar ∷ schema.create_fact
     ∷ schema.create_change_by_member ∷ schema.create_change_by_anchor ∷ schema.create_product_by_durable ∷ schema.create_store_by_durable ∷ schema.create_customer_by_durable ∷ schema.create_fact_by_store ∷ schema.create_fact_by_product ∷ schema.create_fact_by_customer ∷ schema.create_profile_by_values ∷ []
+
+-- the texts that make the second format of it, where the first stands
+abbrev pub upgrading_texts : List (List ℕ)
+upgrading_texts = schema.create_fact2 ∷ schema.create_void ∷ schema.create_fact2_by_store ∷ schema.create_fact2_by_product ∷ schema.create_fact2_by_customer ∷ []

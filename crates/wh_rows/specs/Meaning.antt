@@ -1,5 +1,5 @@
 -- What the text of a statement has to mean.
-use Rattle.std.specs.Prelude.{◌≡◌, ℕ, ◌/◌, Bool, true, false, List, [], ◌∷◌, length, drop, slice_get, Some, None, Ok, Err, Result, ℤ, ◌&&◌, ◌++◌, Option, map, flat_map}
+use Rattle.std.specs.Prelude.{◌≡◌, ℕ, ◌/◌, Bool, true, false, List, [], ◌∷◌, length, drop, slice_get, Some, None, Ok, Err, Result, ℤ, ◌&&◌, ◌++◌, Option, map, flat_map, ⊤}
 use Rattle.std.specs.List.{list_all}
 use Rattle.std.specs.Ordering.{eq_by_cmp}
 use Rattle.sqlite.specs.Order.{Row}
@@ -26,7 +26,6 @@ use Rattle.sqlite.specs.Effect.{value_rows}
 use Rattle.sqlite.specs.Rows.{shown}
 use Rattle.sqlite.specs.Given.{IsPlain}
 use Rattle.sqlite.specs.Listing.{understood, reads_listing}
-use Rattle.wh_rows.specs.Schema.{warehouse}
 use Rattle.wh_rows.specs.Statements.{reading, counting}
 use Rattle.wh_rows.specs.Holds.{Layout, values_of}
 use Rattle.std.specs.declared.cmp.Ordering.{Ordering}
@@ -42,6 +41,16 @@ use Rattle.sqlite_schema.specs.Rules.{equal, agree, guards}
 abbrev pub command_of : Result Compiled CompileError → Command
 command_of (Ok c) = c.command
 command_of (Err e) = Nothing
+
+-- the text isn't understood
+abbrev pub IsUnknown : Result Compiled CompileError → Type 0
+IsUnknown (Ok c) = ⊥
+IsUnknown (Err e) = ⊤
+
+-- a text on a table means something where the table is there, and elsewhere it isn't understood
+abbrev pub Means : Bool → Type 0 → Result Compiled CompileError → Type 0
+Means true It read = It
+Means false It read = IsUnknown read
 
 -- the row passes the tests
 abbrev pub passes : Row → List Term → Row → Bool
@@ -59,17 +68,17 @@ abbrev pub same_rowid : ℕ → List Term
 same_rowid here = op2 (Compare Eq Binary) (col 1 0) (col 0 here) ∷ []
 
 -- what a text has to mean, to put the row that its parameters are at its key, over the row that is there
-pub record PutsOne {K V : Type 0} (layout : Layout K V) (text : List ℕ) : Type 0 where
+pub record PutsOne {K V : Type 0} (under : Schema) (layout : Layout K V) (text : List ℕ) : Type 0 where
   pub at : ℕ
-  pub table : IsPlainTable warehouse at layout.table
+  pub table : IsPlainTable under at layout.table
   pub terms : List Term
   pub width : ℕ
   pub target : List ℕ
   pub here : ℕ
   pub cells : List Term
-  pub command : command_of (understood warehouse text)
+  pub command : command_of (understood under text)
       ≡ InsertOr at Abort (Values terms width) (record { target = Some target; update = Some (record { lets = []; body = reading layout.table.tree (same_rowid here) (col 1 0 ∷ cells) [] }) } ∷ [])
-  pub plain : IsPlain (understood warehouse text)
+  pub plain : IsPlain (understood under text)
   -- the row as it is written where none is there, less a rowid that is chosen
   pub source : V → Row
   pub given : (v : V) → value_rows (layout.encode v) width (length terms / width) terms ≡ source v ∷ []
@@ -78,7 +87,7 @@ pub record PutsOne {K V : Type 0} (layout : Layout K V) (text : List ℕ) : Type
   pub shows : (v : V) (rows : List Row) → values_of layout.table (with_rowid Chosen rows (source v)) ≡ layout.encode v
   -- the row in the way is that of the key
   pub test : V → Row → Bool
-  pub hits : (v : V) (rows : List Row) (r : Row) → conflicts (Some target) warehouse.indexes layout.table (with_rowid Chosen rows (source v)) r ≡ test v (values_of layout.table r)
+  pub hits : (v : V) (rows : List Row) (r : Row) → conflicts (Some target) under.indexes layout.table (with_rowid Chosen rows (source v)) r ≡ test v (values_of layout.table r)
   pub agree : (v w : V) → test v (layout.encode w) ≡ eq_by_cmp layout.order (layout.key v) (layout.key w)
   -- the update finds it by its rowid, and this is what it writes after the rowid
   pub finds : (v : V) (rows : List Row) (id : Value) (r : Row) → passes (layout.encode v ++ id ∷ shown layout.table (with_rowid Chosen rows (source v))) (same_rowid here) r ≡ (equal Binary (rowid r) id && true)
@@ -89,13 +98,13 @@ pub record PutsOne {K V : Type 0} (layout : Layout K V) (text : List ℕ) : Type
       → (cast_row layout.table (Int n ∷ over v (layout.encode w)) ≡ Int n ∷ over v (layout.encode w)) × (values_of layout.table (Int n ∷ over v (layout.encode w)) ≡ layout.encode v)
 
 -- what a text has to mean, to put in so many rows, which its parameters are, one after the other
-pub record InsertsEach {K V : Type 0} (layout : Layout K V) (many : ℕ) (text : List ℕ) : Type 0 where
+pub record InsertsEach {K V : Type 0} (under : Schema) (layout : Layout K V) (many : ℕ) (text : List ℕ) : Type 0 where
   pub at : ℕ
-  pub table : IsPlainTable warehouse at layout.table
+  pub table : IsPlainTable under at layout.table
   pub terms : List Term
   pub width : ℕ
-  pub command : command_of (understood warehouse text) ≡ Insert at (Values terms width)
-  pub plain : IsPlain (understood warehouse text)
+  pub command : command_of (understood under text) ≡ Insert at (Values terms width)
+  pub plain : IsPlain (understood under text)
   -- a row as it is written, less a rowid that is chosen
   pub source : V → Row
   pub given : (vs : List V) → length vs ≡ many → value_rows (flat_map layout.encode vs) width (length terms / width) terms ≡ map source vs
@@ -103,24 +112,24 @@ pub record InsertsEach {K V : Type 0} (layout : Layout K V) (many : ℕ) (text :
   pub shows : (v : V) (rows : List Row) → values_of layout.table (with_rowid Chosen rows (source v)) ≡ layout.encode v
 
 -- what a text has to mean, to take out the row of the key that its parameters are
-pub record RemovesOne {K V : Type 0} (layout : Layout K V) (bind : K → Row) (text : List ℕ) : Type 0 where
+pub record RemovesOne {K V : Type 0} (under : Schema) (layout : Layout K V) (bind : K → Row) (text : List ℕ) : Type 0 where
   pub at : ℕ
-  pub table : IsPlainTable warehouse at layout.table
+  pub table : IsPlainTable under at layout.table
   pub tests : List Term
-  pub command : command_of (understood warehouse text) ≡ Delete at (record { lets = []; body = reading layout.table.tree tests (col 1 0 ∷ []) [] })
-  pub plain : IsPlain (understood warehouse text)
+  pub command : command_of (understood under text) ≡ Delete at (record { lets = []; body = reading layout.table.tree tests (col 1 0 ∷ []) [] })
+  pub plain : IsPlain (understood under text)
   pub test : K → Row → Bool
   pub hits : (k : K) (r : Row) → passes (bind k) tests r ≡ test k (values_of layout.table r)
   pub agree : (k : K) (w : V) → test k (layout.encode w) ≡ eq_by_cmp layout.order k (layout.key w)
 
 -- what a text has to mean, to change the row of a key, if it has one, to what the parameters make of it
-pub record MovesOne {K V P : Type 0} (layout : Layout K V) (bind : P → Row) (key : P → K) (moved : P → V → V) (text : List ℕ) : Type 0 where
+pub record MovesOne {K V P : Type 0} (under : Schema) (layout : Layout K V) (bind : P → Row) (key : P → K) (moved : P → V → V) (text : List ℕ) : Type 0 where
   pub at : ℕ
-  pub table : IsPlainTable warehouse at layout.table
+  pub table : IsPlainTable under at layout.table
   pub tests : List Term
   pub cells : List Term
-  pub command : command_of (understood warehouse text) ≡ Update at (record { lets = []; body = reading layout.table.tree tests (col 1 0 ∷ cells) [] })
-  pub plain : IsPlain (understood warehouse text)
+  pub command : command_of (understood under text) ≡ Update at (record { lets = []; body = reading layout.table.tree tests (col 1 0 ∷ cells) [] })
+  pub plain : IsPlain (understood under text)
   pub test : P → Row → Bool
   pub hits : (p : P) (r : Row) → passes (bind p) tests r ≡ test p (values_of layout.table r)
   pub agree : (p : P) (w : V) → test p (layout.encode w) ≡ eq_by_cmp layout.order (key p) (layout.key w)
@@ -137,23 +146,23 @@ moved_at m k f None = m
 moved_at m k f (Some w) = insert m k (f w)
 
 -- a second key of a table's rows, and which rows have the same
-pub record KeepsApart {K V : Type 0} (layout : Layout K V) (clash : V → V → Bool) : Type 0 where
+pub record KeepsApart {K V : Type 0} (under : Schema) (layout : Layout K V) (clash : V → V → Bool) : Type 0 where
   pub index : Index
-  pub among : Has warehouse.indexes index
+  pub among : Has under.indexes index
   pub guards : guards index layout.table ≡ true
   pub meets : Row → Row → Bool
   pub agrees : (r x : Row) → agree index.order index.columns r index.columns x ≡ meets (values_of layout.table r) (values_of layout.table x)
   pub same : (v w : V) → meets (layout.encode w) (layout.encode v) ≡ clash v w
 
 -- what a text has to mean, to show the rows of a table that pass a test, in the order of their keys
-pub record ReadsSome {K V : Type 0} (layout : Layout K V) (params : Row) (keep : V → Bool) (text : List ℕ) : Type 0 where
+pub record ReadsSome {K V : Type 0} (under : Schema) (layout : Layout K V) (params : Row) (keep : V → Bool) (text : List ℕ) : Type 0 where
   pub tests : List Term
   pub project : List Term
   pub order : List (Term × Key)
   pub names : List (List ℕ)
-  pub command : command_of (understood warehouse text) ≡ Select (record { lets = []; body = reading layout.table.tree tests project order }) names
-  pub plain : IsPlain (understood warehouse text)
-  pub unlisted : reads_listing warehouse text ≡ false
+  pub command : command_of (understood under text) ≡ Select (record { lets = []; body = reading layout.table.tree tests project order }) names
+  pub plain : IsPlain (understood under text)
+  pub unlisted : reads_listing under text ≡ false
   pub test : Row → Bool
   pub hits : (r : Row) → passes params tests r ≡ test (values_of layout.table r)
   pub agree : (v : V) → test (layout.encode v) ≡ keep v
@@ -163,8 +172,8 @@ pub record ReadsSome {K V : Type 0} (layout : Layout K V) (params : Row) (keep :
   pub in_order : (v w : V) → output_cmp (reading layout.table.tree tests project order) (sorted_by (layout.encode v), layout.encode v) (sorted_by (layout.encode w), layout.encode w) ≡ layout.order (layout.key v) (layout.key w)
 
 -- what a text has to mean, to count the rows of a table
-pub record CountsAll {K V : Type 0} (layout : Layout K V) (text : List ℕ) : Type 0 where
+pub record CountsAll {K V : Type 0} (under : Schema) (layout : Layout K V) (text : List ℕ) : Type 0 where
   pub names : List (List ℕ)
-  pub command : command_of (understood warehouse text) ≡ Select (record { lets = []; body = counting layout.table.tree [] }) names
-  pub plain : IsPlain (understood warehouse text)
-  pub unlisted : reads_listing warehouse text ≡ false
+  pub command : command_of (understood under text) ≡ Select (record { lets = []; body = counting layout.table.tree [] }) names
+  pub plain : IsPlain (understood under text)
+  pub unlisted : reads_listing under text ≡ false

@@ -4,6 +4,7 @@ use Rattle.std.specs.List.Sorted.{IsPermutation}
 use Rattle.std.specs.Ordering.{is_gt}
 use Rattle.std.specs.declared.cmp.Ordering.TheVariants.{Equal}
 use Rattle.sqlite.specs.Order.{Row}
+use Rattle.sqlite.specs.Schema.{Schema}
 use Rattle.sqlite.specs.Table as stored
 use Rattle.sqlite.specs.Effect.{Database}
 use Rattle.sqlite_trees.specs.Tree.{IsAscending}
@@ -44,8 +45,8 @@ stands_behind layout bind None row = true
 stands_behind layout bind (Some key) row = is_gt (stored_cmp layout.table false row (bind key))
 
 -- what the two texts of a table have to mean
-abbrev pub ReadsParts : {K V : Type 0} → Layout K V → (K → Row) → PartTexts → Type 0
-ReadsParts {K = K} layout bind texts = (after : Option K) → ReadsFrontStored (forward texts.most) layout (bind_part bind after) (stands_behind layout bind after) (is_behind layout after) (part_text texts after)
+abbrev pub ReadsParts : {K V : Type 0} → Schema → Layout K V → (K → Row) → PartTexts → Type 0
+ReadsParts {K = K} under layout bind texts = (after : Option K) → ReadsFrontStored under (forward texts.most) layout (bind_part bind after) (stands_behind layout bind after) (is_behind layout after) (part_text texts after)
 
 -- ---- keys, and the columns that they are
 
@@ -57,7 +58,7 @@ pub record IsKeyed {K V : Type 0} (layout : Layout K V) (bind : K → Row) (stan
 
 -- at a key at most one row is stored, whoever wrote it
 abbrev pub StandsOnce : {K : Type 0} → (K → Row → Bool) → Table → Type 0
-StandsOnce {K = K} stands_at table = (db : Database) (stored : Stored) → IsStored stored db → (k : K) → length (filter (stands_at k) (stored table)) ≤ 1
+StandsOnce {K = K} stands_at table = (db : Database) (stored : Stored) → IsStored stored db → (k : K) → length (filter (stands_at k) (stored.rows table)) ≤ 1
 
 -- stored rows in the order of their keys
 pub record IsArranged (table : stored.Table) (rows ordered : List Row) : Type 0 where
@@ -143,6 +144,22 @@ abbrev pub fact : PartTexts
 fact = record {
   first = codes "SELECT * FROM fact ORDER BY ticket, line LIMIT 256";
   after = codes "SELECT * FROM fact WHERE ticket >= ?1 AND (ticket > ?1 OR line > ?2) ORDER BY ticket, line LIMIT 256";
+  most = 256;
+  some = refl;
+}
+
+abbrev pub fact2 : PartTexts
+fact2 = record {
+  first = codes "SELECT * FROM fact2 ORDER BY ticket, line LIMIT 256";
+  after = codes "SELECT * FROM fact2 WHERE ticket >= ?1 AND (ticket > ?1 OR line > ?2) ORDER BY ticket, line LIMIT 256";
+  most = 256;
+  some = refl;
+}
+
+abbrev pub void : PartTexts
+void = record {
+  first = codes "SELECT * FROM void ORDER BY ticket, line LIMIT 256";
+  after = codes "SELECT * FROM void WHERE ticket >= ?1 AND (ticket > ?1 OR line > ?2) ORDER BY ticket, line LIMIT 256";
   most = 256;
   some = refl;
 }

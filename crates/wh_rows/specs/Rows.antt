@@ -1,5 +1,5 @@
 -- The rows of the tables in their columns, and which of them have values of their types.
-use Rattle.std.specs.Prelude.{ℕ, List, [], ◌∷◌, Bool, pos, ◌&&◌, ◌||◌, ◌==◌, if◌then◌else◌, slice_index_or, bytes_eq}
+use Rattle.std.specs.Prelude.{ℕ, List, [], ◌∷◌, ◌++◌, Bool, pos, ◌&&◌, ◌||◌, ◌==◌, if◌then◌else◌, slice_index_or, bytes_eq}
 use Rattle.std.specs.declared.cmp.Ordering.{Ordering}
 use Rattle.std.specs.Ordering.{nat_cmp, then_cmp, on}
 use Rattle.std.specs.Cmp.Lexicographic.{slice_cmp}
@@ -20,10 +20,12 @@ use Rattle.wh_rows.specs.declared.rows.CommandRow.{CommandRow}
 use Rattle.wh_rows.specs.declared.rows.MemberRow.{MemberRow}
 use Rattle.wh_rows.specs.declared.rows.ChangeRow.{ChangeRow}
 use Rattle.wh_rows.specs.declared.rows.ProfileRow.{ProfileRow}
+use Rattle.wh_rows.specs.declared.rows.Fact2.{Fact2}
+use Rattle.wh_rows.specs.declared.rows.VoidRow.{VoidRow}
 pub use Rattle.wh_rows.specs.declared.key.MemberKey.{MemberKey}
 pub use Rattle.wh_rows.specs.declared.key.ChangeKey.{ChangeKey}
 pub use Rattle.wh_rows.specs.declared.key.LineKey.{LineKey}
-use Rattle.wh_rows.specs.Types.{is_number, is_line, is_measure, is_key, is_kind, are_slots, dim_number}
+use Rattle.wh_rows.specs.Types.{is_number, is_line, is_measure, is_discount, is_key, is_kind, are_slots, dim_number}
 use Rattle.wh_rows.specs.Holds.{Layout}
 use Rattle.wh_rows.specs.Schema as schema
 
@@ -171,3 +173,25 @@ is_fact r =
 
 abbrev pub fact : Layout LineKey Fact
 fact = record { table = schema.fact; order = line_cmp; key = λ r. record { ticket = r.ticket; line = r.line }; encode = encode_fact; is_valid = is_fact }
+
+-- ---- fact2
+
+abbrev pub encode_fact2 : Fact2 → Row
+encode_fact2 r = encode_fact r.fact ++ Int (pos r.discount) ∷ []
+
+abbrev pub is_fact2 : Fact2 → Bool
+is_fact2 r = is_fact r.fact && is_discount r.discount
+
+abbrev pub fact2 : Layout LineKey Fact2
+fact2 = record { table = schema.fact2; order = line_cmp; key = λ r. record { ticket = r.fact.ticket; line = r.fact.line }; encode = encode_fact2; is_valid = is_fact2 }
+
+-- ---- void
+
+abbrev pub encode_void : VoidRow → Row
+encode_void r = Text r.ticket ∷ Int (pos r.line) ∷ Int (pos r.command) ∷ []
+
+abbrev pub is_void : VoidRow → Bool
+is_void r = is_key 20 r.ticket && is_line r.line && is_number r.command
+
+abbrev pub void : Layout LineKey VoidRow
+void = record { table = schema.void; order = line_cmp; key = λ r. record { ticket = r.ticket; line = r.line }; encode = encode_void; is_valid = is_void }

@@ -1,5 +1,5 @@
--- The schema of the warehouse: ten tables, their keys, and the indexes that members' rows, changes and facts are found by.
-use Rattle.std.specs.Prelude.{ℕ, List, [], ◌∷◌, codes, map, Option, Some, None, Bool, false, true}
+-- The schema of the warehouse: ten tables, in the second format two more, their keys, and the indexes that members' rows, changes and facts are found by.
+use Rattle.std.specs.Prelude.{ℕ, List, [], ◌∷◌, ◌++◌, codes, map, Option, Some, None, Bool, false, true}
 use Rattle.sqlite.specs.Collation.TheVariants.{Binary}
 use Rattle.sqlite_value.specs.declared.value.Value.TheVariants.{Null}
 use Rattle.sqlite_value.specs.Keys.{plain}
@@ -9,6 +9,8 @@ use Rattle.sqlite.specs.Table.{Table}
 use Rattle.sqlite.specs.Schema.{Schema}
 use Rattle.sqlite.specs.Kind.{Kind}
 use Rattle.sqlite.specs.Kind.TheVariants.{Integer, Text, Any}
+use Rattle.wh_rows.specs.declared.format.Format.{Format}
+use Rattle.wh_rows.specs.declared.format.Format.TheVariants.{One, Two}
 
 -- a column, which is never null
 abbrev pub column : Kind → List ℕ → Column
@@ -105,6 +107,23 @@ create_fact_by_customer = codes "CREATE INDEX fact_by_customer ON fact (customer
 
 abbrev pub create_profile_by_values : List ℕ
 create_profile_by_values = codes "CREATE INDEX profile_by_values ON profile (v1, v2, v3, v4, v5, v6)"
+
+-- ---- the texts that make the second format of it
+
+abbrev pub create_fact2 : List ℕ
+create_fact2 = codes "CREATE TABLE fact2 (ticket TEXT NOT NULL, line INTEGER NOT NULL, day INTEGER NOT NULL, store_key INTEGER NOT NULL, product_key INTEGER NOT NULL, customer_key INTEGER NOT NULL, store_durable INTEGER NOT NULL, product_durable INTEGER NOT NULL, customer_durable INTEGER NOT NULL, profile INTEGER NOT NULL, quantity INTEGER NOT NULL, amount INTEGER NOT NULL, cost INTEGER NOT NULL, discount INTEGER NOT NULL, PRIMARY KEY (ticket, line))"
+
+abbrev pub create_void : List ℕ
+create_void = codes "CREATE TABLE void (ticket TEXT NOT NULL, line INTEGER NOT NULL, command INTEGER NOT NULL, PRIMARY KEY (ticket, line))"
+
+abbrev pub create_fact2_by_store : List ℕ
+create_fact2_by_store = codes "CREATE INDEX fact2_by_store ON fact2 (store_durable, day)"
+
+abbrev pub create_fact2_by_product : List ℕ
+create_fact2_by_product = codes "CREATE INDEX fact2_by_product ON fact2 (product_durable, day)"
+
+abbrev pub create_fact2_by_customer : List ℕ
+create_fact2_by_customer = codes "CREATE INDEX fact2_by_customer ON fact2 (customer_durable, day)"
 
 -- ---- the tables
 
@@ -250,7 +269,30 @@ fact = table (codes "fact") 14 None (1 ∷ 2 ∷ []) ((1 ∷ 2 ∷ []) ∷ [])
     ∷ integer (codes "amount")
     ∷ integer (codes "cost") ∷ [])
 
--- all of it
+abbrev pub fact2 : Table
+fact2 = table (codes "fact2") 25 None (1 ∷ 2 ∷ []) ((1 ∷ 2 ∷ []) ∷ [])
+    (text (codes "ticket")
+    ∷ integer (codes "line")
+    ∷ integer (codes "day")
+    ∷ integer (codes "store_key")
+    ∷ integer (codes "product_key")
+    ∷ integer (codes "customer_key")
+    ∷ integer (codes "store_durable")
+    ∷ integer (codes "product_durable")
+    ∷ integer (codes "customer_durable")
+    ∷ integer (codes "profile")
+    ∷ integer (codes "quantity")
+    ∷ integer (codes "amount")
+    ∷ integer (codes "cost")
+    ∷ integer (codes "discount") ∷ [])
+
+abbrev pub void : Table
+void = table (codes "void") 27 None (1 ∷ 2 ∷ []) ((1 ∷ 2 ∷ []) ∷ [])
+    (text (codes "ticket")
+    ∷ integer (codes "line")
+    ∷ integer (codes "command") ∷ [])
+
+-- all of the first format
 abbrev pub warehouse : Schema
 warehouse = record {
   tables = meta ∷ command ∷ member ∷ change ∷ product ∷ store ∷ customer ∷ profile ∷ calendar ∷ fact ∷ [];
@@ -271,6 +313,24 @@ warehouse = record {
       ∷ index (codes "profile_by_values") 24 12 (2 ∷ 3 ∷ 4 ∷ 5 ∷ 6 ∷ 7 ∷ []) false ∷ [];
   views = [];
 }
+
+-- what the second format adds to it
+abbrev pub tables_added : Format → List Table
+tables_added One = []
+tables_added Two = fact2 ∷ void ∷ []
+
+abbrev pub indexes_added : Format → List Index
+indexes_added One = []
+indexes_added Two =
+    index (codes "sqlite_autoindex_fact2_1") 26 25 (1 ∷ 2 ∷ []) true
+    ∷ index (codes "sqlite_autoindex_void_1") 28 27 (1 ∷ 2 ∷ []) true
+    ∷ index (codes "fact2_by_store") 29 25 (7 ∷ 3 ∷ []) false
+    ∷ index (codes "fact2_by_product") 30 25 (8 ∷ 3 ∷ []) false
+    ∷ index (codes "fact2_by_customer") 31 25 (9 ∷ 3 ∷ []) false ∷ []
+
+-- A warehouse of a format. Its first ten tables are the same in both, so most texts are understood alike, whichever it is.
+abbrev pub schema_in : Format → Schema
+schema_in format = record { tables = warehouse.tables ++ tables_added format; indexes = warehouse.indexes ++ indexes_added format; views = [] }
 
 -- a database with no object
 abbrev pub no_schema : Schema

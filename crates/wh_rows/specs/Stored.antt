@@ -6,6 +6,8 @@ use Rattle.wh_day.specs.declared.calendar.DateRow.{DateRow}
 use Rattle.wh_policy.specs.declared.attribute.Dim.{Dim}
 use Rattle.wh_history.specs.declared.rows.DimRow.{DimRow}
 use Rattle.wh_history.specs.declared.facts.Fact.{Fact}
+use Rattle.wh_rows.specs.declared.rows.Fact2.{Fact2}
+use Rattle.wh_rows.specs.declared.rows.VoidRow.{VoidRow}
 use Rattle.wh_rows.specs.declared.columns.Damaged.{Damaged}
 use Rattle.wh_rows.specs.declared.rows.MetaRow.{MetaRow}
 use Rattle.wh_rows.specs.declared.rows.CommandRow.{CommandRow}
@@ -14,7 +16,7 @@ use Rattle.wh_rows.specs.declared.rows.ChangeRow.{ChangeRow}
 use Rattle.wh_rows.specs.declared.rows.ProfileRow.{ProfileRow}
 use Rattle.wh_rows.specs.Types.{is_key, is_kind}
 use Rattle.wh_rows.specs.Rows.{is_natural}
-use Rattle.wh_rows.specs.Columns.{damaged, integer_of, number_of, line_of, measure_of, day_of, flag_of, dim_of, blob_of, text_of, tested_of, slots_of}
+use Rattle.wh_rows.specs.Columns.{damaged, integer_of, number_of, line_of, measure_of, day_of, flag_of, dim_of, blob_of, text_of, tested_of, slots_of, discount_of}
 
 abbrev pub meta_columns : Row → Result MetaRow Damaged
 meta_columns row = do
@@ -125,3 +127,22 @@ fact_columns row = do
 
 unfoldable pub fact_of : Row → Result Fact Damaged
 fact_of row = if length row == 13 then fact_columns row else damaged
+
+abbrev pub fact2_columns : Row → Result Fact2 Damaged
+fact2_columns row = do
+  fact ← fact_columns row
+  discount ← discount_of (column row 13)
+  Ok (record { fact = fact; discount = discount })
+
+unfoldable pub fact2_of : Row → Result Fact2 Damaged
+fact2_of row = if length row == 14 then fact2_columns row else damaged
+
+abbrev pub void_columns : Row → Result VoidRow Damaged
+void_columns row = do
+  ticket ← tested_of (is_key 20) (column row 0)
+  line ← line_of (column row 1)
+  command ← number_of (column row 2)
+  Ok (record { ticket = ticket; line = line; command = command })
+
+unfoldable pub void_of : Row → Result VoidRow Damaged
+void_of row = if length row == 3 then void_columns row else damaged

@@ -103,6 +103,24 @@ fact = record {
   count = codes "SELECT count(*) FROM fact";
 }
 
+abbrev pub fact2 : Texts
+fact2 = record {
+  put = codes "INSERT INTO fact2 VALUES (?1, ?2, ?3, ?4, ?5, ?6, ?7, ?8, ?9, ?10, ?11, ?12, ?13, ?14) ON CONFLICT (ticket, line) DO UPDATE SET day = excluded.day, store_key = excluded.store_key, product_key = excluded.product_key, customer_key = excluded.customer_key, store_durable = excluded.store_durable, product_durable = excluded.product_durable, customer_durable = excluded.customer_durable, profile = excluded.profile, quantity = excluded.quantity, amount = excluded.amount, cost = excluded.cost, discount = excluded.discount";
+  remove = codes "DELETE FROM fact2 WHERE ticket = ?1 AND line = ?2";
+  all = codes "SELECT * FROM fact2 ORDER BY ticket, line";
+  get = codes "SELECT * FROM fact2 WHERE ticket = ?1 AND line = ?2 ORDER BY ticket, line";
+  count = codes "SELECT count(*) FROM fact2";
+}
+
+abbrev pub void : Texts
+void = record {
+  put = codes "INSERT INTO void VALUES (?1, ?2, ?3) ON CONFLICT (ticket, line) DO UPDATE SET command = excluded.command";
+  remove = codes "DELETE FROM void WHERE ticket = ?1 AND line = ?2";
+  all = codes "SELECT * FROM void ORDER BY ticket, line";
+  get = codes "SELECT * FROM void WHERE ticket = ?1 AND line = ?2 ORDER BY ticket, line";
+  count = codes "SELECT count(*) FROM void";
+}
+
 -- ---- what else is asked
 
 -- the last command that gives a policy
@@ -148,3 +166,9 @@ abbrev pub sales_between : Dim → List ℕ
 sales_between Product = codes "SELECT * FROM fact WHERE product_durable = ?1 AND day >= ?2 AND day <= ?3 ORDER BY ticket, line"
 sales_between Store = codes "SELECT * FROM fact WHERE store_durable = ?1 AND day >= ?2 AND day <= ?3 ORDER BY ticket, line"
 sales_between Customer = codes "SELECT * FROM fact WHERE customer_durable = ?1 AND day >= ?2 AND day <= ?3 ORDER BY ticket, line"
+
+-- the facts of the second format of a member of this dimension from one day to another
+abbrev pub sales_between2 : Dim → List ℕ
+sales_between2 Product = codes "SELECT * FROM fact2 WHERE product_durable = ?1 AND day >= ?2 AND day <= ?3 ORDER BY ticket, line"
+sales_between2 Store = codes "SELECT * FROM fact2 WHERE store_durable = ?1 AND day >= ?2 AND day <= ?3 ORDER BY ticket, line"
+sales_between2 Customer = codes "SELECT * FROM fact2 WHERE customer_durable = ?1 AND day >= ?2 AND day <= ?3 ORDER BY ticket, line"

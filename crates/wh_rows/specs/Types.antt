@@ -21,6 +21,10 @@ is_line n = nat_le 1 n && nat_le n 9999
 abbrev pub is_measure : ℕ → ℤ → Bool
 is_measure most n = nat_le (unsigned_abs n) most
 
+-- a discount in hundredths
+abbrev pub is_discount : ℕ → Bool
+is_discount n = nat_le n 999999999
+
 -- what a command can be: the making of the warehouse, a new policy, or a batch of sales or for a dimension
 abbrev pub kinds : List (List ℕ)
 kinds = codes "init" ∷ codes "migrate" ∷ codes "sales" ∷ map word_of every_dim

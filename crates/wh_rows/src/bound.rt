@@ -1,18 +1,18 @@
 //! Rows as the values of their columns, to be bound to the parameters of a statement.
 
-ghost use Rattle.std.specs.Prelude.{◌≡◌, ◌≢◌, false, pos, map, IfOk, IfErr};
+ghost use Rattle.std.specs.Prelude.{◌≡◌, ◌≢◌, ◌++◌, false, pos, map, IfOk, IfErr};
 ghost use Rattle.std.specs.List.{list_all};
 ghost use Rattle.sqlite_value.specs.Value.{owned};
 ghost use Rattle.sqlite_value.specs.declared.value.Value.TheVariants.{Int, Text};
 ghost use Rattle.sqlite.specs.Values.{bound};
 ghost use Rattle.wh_rows.specs.declared.cause.Cause.TheVariants.{Memory, Size};
-ghost use Rattle.wh_rows.specs.Types.{is_number, dim_number};
-ghost use Rattle.wh_rows.specs.Inserting.{bind_facts};
-ghost use Rattle.wh_rows.specs.Rows.{flag, slot_column, slot_columns, encode_meta, encode_command, encode_member, encode_change, encode_dimension, encode_profile, encode_date, encode_fact, is_command, is_member, is_change, is_dimension, is_profile, is_fact};
+ghost use Rattle.wh_rows.specs.Types.{is_number, dim_number, is_discount};
+ghost use Rattle.wh_rows.specs.Inserting.{bind_facts, bind_facts2};
+ghost use Rattle.wh_rows.specs.Rows.{flag, slot_column, slot_columns, encode_meta, encode_command, encode_member, encode_change, encode_dimension, encode_profile, encode_date, encode_fact, encode_fact2, encode_void, is_command, is_member, is_change, is_dimension, is_profile, is_fact, is_fact2, is_void};
 
 use crate::cause::Cause;
 use crate::key::dim_number;
-use crate::rows::{ChangeRow, CommandRow, MemberRow, MetaRow, ProfileRow};
+use crate::rows::{ChangeRow, CommandRow, Fact2, MemberRow, MetaRow, ProfileRow, VoidRow};
 use sqlite::types::ValueRef;
 use std::alloc::Global;
 use wh_day::{DateRow, Day, Value, Values};
@@ -26,6 +26,17 @@ pub fn number(number: u64) -> Result<ValueRef<'static>, Cause>
 {
     match i64::try_from(number) {
         Ok(number) => Ok(ValueRef::Int(number)),
+        Err(_) => Err(Cause::Size),
+    }
+}
+
+/// A discount.
+fn discount(discount: u64) -> Result<ValueRef<'static>, Cause>
+    ensures ok { IfOk result (λ value. owned value ≡ Int (pos discount)) }
+    ensures err { IfErr result (λ cause. (cause ≡ Size) × (is_discount discount ≡ false)) }
+{
+    match i64::try_from(discount) {
+        Ok(discount) => Ok(ValueRef::Int(discount)),
         Err(_) => Err(Cause::Size),
     }
 }
@@ -263,6 +274,38 @@ pub fn fact<'a>(alloc: Global, row: &'a Fact) -> Result<Vec<ValueRef<'a>>, Cause
     Ok(values)
 }
 
+pub fn fact2<'a>(alloc: Global, row: &'a Fact2) -> Result<Vec<ValueRef<'a>>, Cause>
+    ensures ok { IfOk result (λ values. bound values.items ≡ encode_fact2 row.now) }
+    ensures err { IfErr result (λ cause. cause ≢ Memory → (cause ≡ Size) × (is_fact2 row.now ≡ false)) }
+{
+    let discount = discount(row.discount)?;
+    let mut values = fact(alloc, &row.fact)?;
+    values.push(discount)?;
+    Ok(values)
+}
+
+pub fn void<'a>(alloc: Global, row: &'a VoidRow) -> Result<Vec<ValueRef<'a>>, Cause>
+    ensures ok { IfOk result (λ values. bound values.items ≡ encode_void row.now) }
+    ensures err { IfErr result (λ cause. cause ≢ Memory → (cause ≡ Size) × (is_void row.now ≡ false)) }
+{
+    let command = number(row.command)?;
+    let values = Vec::from_array(
+        alloc,
+        [text(&row.ticket), ValueRef::Int(row.line as i64), command],
+    )?;
+    Ok(values)
+}
+
+/// Puts the values of one row behind those that are there.
+fn append<'a>(values: &mut Vec<ValueRef<'a>>, row: Vec<ValueRef<'a>>) -> Result<(), Cause>
+    ensures ok { IfOk result (λ _. bound values.new.items ≡ bound values.old.items ++ bound row.entry.items) }
+    ensures err { IfErr result (λ cause. cause ≡ Memory) }
+{
+    let mut row = row;
+    values.append(&mut row)?;
+    Ok(())
+}
+
 /// Facts, one after the other.
 pub fn facts<'a>(alloc: Global, rows: &[&'a Fact]) -> Result<Vec<ValueRef<'a>>, Cause>
     ensures ok { IfOk result (λ values. bound values.items ≡ bind_facts (map (λ r. r.now) rows.now)) }
@@ -270,8 +313,21 @@ pub fn facts<'a>(alloc: Global, rows: &[&'a Fact]) -> Result<Vec<ValueRef<'a>>, 
 {
     let mut values = Vec::new(alloc);
     for row in rows {
-        let mut columns = fact(alloc, row)?;
-        values.append(&mut columns)?;
+        let columns = fact(alloc, row)?;
+        append(&mut values, columns)?;
+    }
+    Ok(values)
+}
+
+/// The same of the second format.
+pub fn facts2<'a>(alloc: Global, rows: &[&'a Fact2]) -> Result<Vec<ValueRef<'a>>, Cause>
+    ensures ok { IfOk result (λ values. bound values.items ≡ bind_facts2 (map (λ r. r.now) rows.now)) }
+    ensures err { IfErr result (λ cause. cause ≢ Memory → (cause ≡ Size) × (list_all is_fact2 (map (λ r. r.now) rows.now) ≡ false)) }
+{
+    let mut values = Vec::new(alloc);
+    for row in rows {
+        let columns = fact2(alloc, row)?;
+        append(&mut values, columns)?;
     }
     Ok(values)
 }

@@ -7,7 +7,7 @@ ghost use Rattle.sqlite_value.specs.Order.{column};
 ghost use Rattle.wh_day.specs.Reading.{Gives};
 ghost use Rattle.wh_rows.specs.Types.{is_key, is_kind, is_special};
 ghost use Rattle.wh_rows.specs.Rows.{is_natural};
-ghost use Rattle.wh_rows.specs.Columns.{integer_of, number_of, line_of, measure_of, day_of, flag_of, dim_of, blob_of, text_of, tested_of, slot_of, slots_of};
+ghost use Rattle.wh_rows.specs.Columns.{integer_of, number_of, discount_of, line_of, measure_of, day_of, flag_of, dim_of, blob_of, text_of, tested_of, slot_of, slots_of};
 
 use sqlite::Row;
 use sqlite::types::{Bytes, ValueRef};
@@ -58,6 +58,16 @@ pub(crate) fn line(row: &Row, at: usize) -> Result<u32, ReadError<Damaged>>
 {
     match column(row, at) {
         ValueRef::Int(n) if 1 <= n && n <= 9999 => Ok(n as u32),
+        _ => Err(ReadError::Fault(Damaged)),
+    }
+}
+
+#[tactic(auto, unfolding(crate::specs::Columns::discount_of))]
+pub(crate) fn discount(row: &Row, at: usize) -> Result<u64, ReadError<Damaged>>
+    ensures { Gives (λ n. n) result (discount_of (column row.now at)) }
+{
+    match column(row, at) {
+        ValueRef::Int(n) if 0 <= n && n <= 999_999_999 => Ok(n as u64),
         _ => Err(ReadError::Fault(Damaged)),
     }
 }

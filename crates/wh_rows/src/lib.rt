@@ -1,9 +1,10 @@
-//! The rows of the warehouse's ten tables, as values of their own types and as the columns of stored rows.
+//! The rows of the warehouse's tables, as values of their own types and as the columns of stored rows.
 #![tactic(auto)]
 
 pub mod bound;
 mod cause;
 mod columns;
+mod format;
 mod key;
 mod keyed_sale;
 mod limits;
@@ -14,9 +15,10 @@ pub mod tables;
 
 pub use cause::Cause;
 pub use columns::Damaged;
+pub use format::Format;
 pub use key::{ChangeKey, LineKey, MemberKey, dim_number};
 pub use keyed_sale::{FactKey, KeyedSale};
 pub use limits::Limits;
-pub use rows::{ChangeRow, CommandRow, MemberRow, MetaRow, ProfileRow, TableRow};
+pub use rows::{ChangeRow, CommandRow, Fact2, MemberRow, MetaRow, ProfileRow, TableRow, VoidRow};
 pub use table::Table;
 pub use tables::StoredTable;

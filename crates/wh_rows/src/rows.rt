@@ -67,6 +67,24 @@ pub struct ProfileRow {
     pub values: Values,
 }
 
+/// A row of fact2: a fact, and the discount that was given on the line.
+#[derive(Debug, Drop)]
+pub struct Fact2 {
+    pub fact: Fact,
+    /// In hundredths.
+    pub discount: u64,
+}
+
+/// A row of void: a line that was withdrawn.
+#[derive(Debug, Drop)]
+pub struct VoidRow {
+    /// The ticket and the line on it.
+    pub ticket: Value,
+    pub line: u32,
+    /// The number of the command that withdrew it.
+    pub command: u64,
+}
+
 /// A row of any table.
 #[derive(Debug, Drop)]
 pub enum TableRow {
@@ -80,4 +98,6 @@ pub enum TableRow {
     Profile(ProfileRow),
     Calendar(DateRow),
     Fact(Fact),
+    Fact2(Fact2),
+    Void(VoidRow),
 }

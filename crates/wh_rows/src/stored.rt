@@ -2,10 +2,10 @@
 
 ghost use Rattle.std.specs.Prelude.{◌≡◌};
 ghost use Rattle.wh_day.specs.Reading.{Gives};
-ghost use Rattle.wh_rows.specs.Stored.{meta_of, command_of, member_of, change_of, dimension_of, profile_of, date_of, fact_of};
+ghost use Rattle.wh_rows.specs.Stored.{meta_of, command_of, member_of, change_of, dimension_of, profile_of, date_of, fact_columns, fact_of, fact2_of, void_of};
 
 use crate::columns::{self, Damaged};
-use crate::rows::{ChangeRow, CommandRow, MemberRow, MetaRow, ProfileRow};
+use crate::rows::{ChangeRow, CommandRow, Fact2, MemberRow, MetaRow, ProfileRow, VoidRow};
 use sqlite::Row;
 use std::alloc::Global;
 use wh_day::{DateRow, ReadError};
@@ -184,6 +184,44 @@ pub(crate) fn read_fact(alloc: Global, row: &Row) -> Result<Fact, ReadError<Dama
     if row.column_count() != 13 {
         return Err(ReadError::Fault(Damaged));
     }
+    fact_columns(alloc, row)
+}
+
+/// A row of fact2.
+#[tactic(auto, unfolding(crate::specs::Stored::fact2_of))]
+pub(crate) fn read_fact2(alloc: Global, row: &Row) -> Result<Fact2, ReadError<Damaged>>
+    ensures { Gives (λ r. r) result (fact2_of row.now) }
+{
+    if row.column_count() != 14 {
+        return Err(ReadError::Fault(Damaged));
+    }
+    let fact = fact_columns(alloc, row)?;
+    let discount = columns::discount(row, 13)?;
+    Ok(Fact2 { fact, discount })
+}
+
+/// A row of void.
+#[tactic(auto, unfolding(crate::specs::Stored::void_of))]
+pub(crate) fn read_void(alloc: Global, row: &Row) -> Result<VoidRow, ReadError<Damaged>>
+    ensures { Gives (λ r. r) result (void_of row.now) }
+{
+    if row.column_count() != 3 {
+        return Err(ReadError::Fault(Damaged));
+    }
+    let ticket = columns::key(alloc, 20, row, 0)?;
+    let line = columns::line(row, 1)?;
+    let command = columns::number(row, 2)?;
+    Ok(VoidRow {
+        ticket,
+        line,
+        command,
+    })
+}
+
+/// The first columns of a row, as a fact.
+fn fact_columns(alloc: Global, row: &Row) -> Result<Fact, ReadError<Damaged>>
+    ensures { Gives (λ r. r) result (fact_columns row.now) }
+{
     let ticket = columns::key(alloc, 20, row, 0)?;
     let line = columns::line(row, 1)?;
     let day = columns::day(row, 2)?;

@@ -16,6 +16,8 @@ pub enum Table {
     Profile,
     Calendar,
     Fact,
+    Fact2,
+    Void,
 }
 
 impl Table {
@@ -37,6 +39,8 @@ impl Table {
             Table::Profile => "profile",
             Table::Calendar => "calendar",
             Table::Fact => "fact",
+            Table::Fact2 => "fact2",
+            Table::Void => "void",
         }
     }
 
@@ -65,6 +69,8 @@ fn find(name: &str) -> Option<Table>
         "profile" => Some(Table::Profile),
         "calendar" => Some(Table::Calendar),
         "fact" => Some(Table::Fact),
+        "fact2" => Some(Table::Fact2),
+        "void" => Some(Table::Void),
         _ => None,
     }
 }

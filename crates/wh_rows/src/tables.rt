@@ -8,7 +8,7 @@ ghost use Rattle.wh_rows.specs.Tables.{Tables};
 
 use crate::columns::Damaged;
 use crate::key::{ChangeKey, LineKey, MemberKey};
-use crate::rows::{ChangeRow, CommandRow, MemberRow, MetaRow, ProfileRow};
+use crate::rows::{self, ChangeRow, CommandRow, MemberRow, MetaRow, ProfileRow, VoidRow};
 use crate::stored;
 use sqlite::Row;
 use std::alloc::Global;
@@ -25,7 +25,7 @@ pub trait StoredTable {
     // How its rows stand in their columns.
     ghost layout: { Layout Self.Key Self.Row };
 
-    // Its rows among those of the ten tables, and the tables with other rows in it.
+    // Its rows among those of all tables, and the tables with other rows in it.
     ghost rows: { Tables → FinMap layout.order Self.Row };
 
     ghost with_rows: { FinMap layout.order Self.Row → Tables → Tables };
@@ -245,5 +245,47 @@ impl StoredTable for Fact {
 
     fn read(alloc: Global, row: &Row) -> Result<wh_history::Fact, ReadError<Damaged>> {
         stored::read_fact(alloc, row)
+    }
+}
+
+/// The table fact2.
+pub struct Fact2;
+
+impl StoredTable for Fact2 {
+    ghost use Rattle.wh_rows.specs.Rows.{fact2};
+
+    type Row = rows::Fact2;
+
+    type Key = LineKey;
+
+    ghost layout = { fact2 };
+
+    ghost rows = { λ t. t.fact2 };
+
+    ghost with_rows = { λ rows t. record t { fact2 = rows } };
+
+    fn read(alloc: Global, row: &Row) -> Result<rows::Fact2, ReadError<Damaged>> {
+        stored::read_fact2(alloc, row)
+    }
+}
+
+/// The table void.
+pub struct Void;
+
+impl StoredTable for Void {
+    ghost use Rattle.wh_rows.specs.Rows.{void};
+
+    type Row = VoidRow;
+
+    type Key = LineKey;
+
+    ghost layout = { void };
+
+    ghost rows = { λ t. t.void };
+
+    ghost with_rows = { λ rows t. record t { void = rows } };
+
+    fn read(alloc: Global, row: &Row) -> Result<VoidRow, ReadError<Damaged>> {
+        stored::read_void(alloc, row)
     }
 }

@@ -4,3 +4,4 @@ pub mod Present
 pub mod Asked
 pub mod Part
 pub mod Tally
+pub mod Facts

@@ -3,6 +3,9 @@ use Rattle.std.specs.Prelude.{◌≡◌, ◌⊎◌, ℕ, ◌≤◌, List, [], Ve
 use Rattle.std.specs.declared.alloc.Global.{Global}
 use Rattle.std.specs.List.{list_all}
 use Rattle.sqlite.specs.Order.{Row}
+use Rattle.sqlite.specs.Schema.{Schema}
+use Rattle.sqlite.specs.Given.{Returns}
+use Rattle.sqlite.specs.Listing.{understood}
 use Rattle.sqlite.specs.State.{State, Shown, HasCleanDisk}
 use Rattle.wh_rows.specs.declared.cause.Cause.{Cause}
 use Rattle.wh_rows.specs.declared.cause.Cause.TheVariants as cause
@@ -16,6 +19,12 @@ use Rattle.wh_rows.specs.Raw.{Stored, IsStored, HasDamage, HasAskedDamage, HasGr
 use Rattle.wh_sql.specs.declared.fault.ReadFault.{ReadFault}
 use Rattle.wh_sql.specs.declared.fault.ReadFault.TheVariants.{Memory, Damaged, Store}
 use Rattle.wh_sql.specs.Refused.{IsCauseOfQuery}
+
+-- ---- what it asks
+
+-- the text is no write that shows rows, whatever tables there are
+abbrev pub NeverReturns : List ℕ → Type 0
+NeverReturns text = (schema : Schema) → ¬ Returns (understood schema text)
 
 -- ---- what it leaves
 
@@ -67,7 +76,7 @@ pub record Spares (old new : State) (calm : Type 0) : Type 0 where
 
 -- ---- what it says
 
--- what is so of the ten tables that the database stored, and of whatever was stored
+-- what is so of the tables that the database stored, and of whatever was stored
 abbrev pub SaysOfTables : State → State → (Tables → Type 0) → Type 0
 SaysOfTables old new fact = HasCleanDisk new → (t : Tables) → Stores old.now t → fact t
 

@@ -1,10 +1,14 @@
 //! What product, store and customer have in common.
 
+ghost use Rattle.wh_rows.specs.declared.format.Format.{Format};
+ghost use Rattle.wh_rows.specs.Schema.{schema_in};
+ghost use Rattle.sqlite.specs.Listing.{understood};
+ghost use Rattle.wh_rows.specs.Names.{is_there};
 ghost use Rattle.std.specs.Prelude.{◌≡◌, ℕ, List, [], ◌∷◌, pos};
 ghost use Rattle.std.specs.Ordering.{eq_by_cmp, nat_cmp};
 ghost use Rattle.sqlite_value.specs.declared.value.Value.TheVariants.{Int};
 ghost use Rattle.wh_policy.specs.declared.attribute.Dim.{Dim};
-ghost use Rattle.wh_rows.specs.Meaning.{ReadsSome};
+ghost use Rattle.wh_rows.specs.Meaning.{Means, ReadsSome};
 ghost use Rattle.wh_rows.specs.Raw.{ReadsStored};
 ghost use Rattle.wh_rows.specs.Questions.{has_durable};
 
@@ -26,10 +30,10 @@ pub trait Dimension: Keeps<Row = DimRow, Key = u64> {
         ensures { result.now ≡ rows_of_means };
 
     // What the text means.
-    ghost finds_rows: { (durable : ℕ) → ReadsSome Self.StoredTable.layout (Int (pos durable) ∷ []) (λ row. eq_by_cmp nat_cmp durable row.durable) rows_of_means };
+    ghost finds_rows: { (format : Format) (durable : ℕ) → Means (is_there Self.Keeps.name format) (ReadsSome (schema_in format) Self.StoredTable.layout (Int (pos durable) ∷ []) (λ row. eq_by_cmp nat_cmp durable row.durable) rows_of_means) (understood (schema_in format) rows_of_means) };
 
     // The same, whoever wrote the rows.
-    ghost finds_rows_stored: { (durable : ℕ) → ReadsStored Self.StoredTable.layout (Int (pos durable) ∷ []) (has_durable durable) (λ row. eq_by_cmp nat_cmp durable row.durable) rows_of_means };
+    ghost finds_rows_stored: { (format : Format) (durable : ℕ) → Means (is_there Self.Keeps.name format) (ReadsStored (schema_in format) Self.StoredTable.layout (Int (pos durable) ∷ []) (has_durable durable) (λ row. eq_by_cmp nat_cmp durable row.durable) rows_of_means) (understood (schema_in format) rows_of_means) };
 }
 
 impl Dimension for tables::Product {

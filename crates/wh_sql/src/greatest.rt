@@ -55,9 +55,9 @@ impl Question<tables::Profile> for Greatest {
 
     ghost stands = { λ q r. true };
 
-    ghost reads = { λ q. greatest };
+    ghost reads = { λ format q. greatest format };
 
-    ghost reads_stored = { λ q. greatest_stored };
+    ghost reads_stored = { λ format q. greatest_stored format };
 }
 
 /// The member of a dimension that has the greatest durable key.
@@ -96,9 +96,9 @@ impl Question<tables::Member> for GreatestOf {
 
     ghost stands = { λ q. is_of_dim q.dim };
 
-    ghost reads = { λ q. greatest q.dim };
+    ghost reads = { λ format q. greatest format q.dim };
 
-    ghost reads_stored = { λ q. greatest_stored q.dim };
+    ghost reads_stored = { λ format q. greatest_stored format q.dim };
 }
 
 /// The greatest anchor of the dimension's records; 0 where it has none. It is no `Question`, whose rows are one list: records of a member and day share
@@ -112,8 +112,8 @@ pub fn greatest_anchor<S: Alter>(
     ensures anchor { SaysOfTables (state S.Store conn.old) (state S.Store conn.new) (λ t. IfOk result (λ anchor. anchor ≡ greatest_of (map (λ r. r.anchor) (filter (λ r. eq_by_cmp nat_cmp (dim_number dim) (dim_number r.dim)) (values t.change))))) }
     ensures sound { SaysOfTables (state S.Store conn.old) (state S.Store conn.new) (λ _. IsUndamaged result) }
     // The same of any rows, whoever wrote them: none of the dimension's has a greater anchor.
-    ensures stored { SaysOfStored (state S.Store conn.old) (state S.Store conn.new) (λ stored. IfOk result (IsGreatestAnchor (filter (is_record_of dim) (stored OfChange)))) }
-    ensures damaged { SaysOfStored (state S.Store conn.old) (state S.Store conn.new) (λ stored. IfErr result (IsOfGreatestDamage (filter (is_record_of dim) (stored OfChange)))) }
+    ensures stored { SaysOfStored (state S.Store conn.old) (state S.Store conn.new) (λ stored. IfOk result (IsGreatestAnchor (filter (is_record_of dim) (stored.rows OfChange)))) }
+    ensures damaged { SaysOfStored (state S.Store conn.old) (state S.Store conn.new) (λ stored. IfErr result (IsOfGreatestDamage (filter (is_record_of dim) (stored.rows OfChange)))) }
     ensures refused { HasCleanDisk (state S.Store conn.new) → IfErr result (FailsToShow change OfChange texts.greatest_anchor (Number (pos (dim_number dim)) ∷ []) (state S.Store conn.old) (state S.Store conn.new)) }
 {
     let text = "SELECT * FROM change WHERE dim = ?1 ORDER BY anchor DESC LIMIT 1";

@@ -1,4 +1,4 @@
-//! What the ten tables have in common: rows that stand at keys.
+//! What the tables have in common: rows that stand at keys.
 
 ghost use Rattle.std.specs.Prelude.{◌≡◌, ◌≢◌, Bool, [], true, false, IfOk, IfErr};
 ghost use Rattle.std.specs.Ordering.{eq_by_cmp};
@@ -11,13 +11,17 @@ ghost use Rattle.wh_rows.specs.declared.table.Table.{Table};
 ghost use Rattle.wh_rows.specs.Place.{IsPlaced};
 ghost use Rattle.wh_rows.specs.Texts.{Texts};
 ghost use Rattle.wh_rows.specs.Raw.{Stored, HasDamage, HasDamageIn, ReadsStored, table_of};
-ghost use Rattle.wh_rows.specs.Meaning.{PutsOne, RemovesOne, ReadsSome, CountsAll};
+ghost use Rattle.sqlite.specs.Listing.{understood};
+ghost use Rattle.wh_rows.specs.declared.format.Format.{Format};
+ghost use Rattle.wh_rows.specs.Names.{is_there};
+ghost use Rattle.wh_rows.specs.Schema.{schema_in};
+ghost use Rattle.wh_rows.specs.Meaning.{Means, PutsOne, RemovesOne, ReadsSome, CountsAll};
 
 use sqlite::types::ValueRef;
 use std::alloc::Global;
 use wh_history::DimRow;
 use wh_policy::Dim;
-use wh_rows::{Cause, StoredTable, Table, bound};
+use wh_rows::{Cause, Format, StoredTable, Table, bound};
 
 /// The texts of a table's statements: to put a row, to remove the row of a key, to show all rows in the order of their keys, to
 /// show the row of a key, and to count the rows.
@@ -30,7 +34,7 @@ pub struct Statements {
     pub count: &'static str,
 }
 
-/// One of the ten tables, with the texts of its statements.
+/// One of the tables, with the texts of its statements.
 pub trait Keeps: StoredTable {
     // A key as the parameters of a statement.
     ghost bind: { Self.Key → Columns };
@@ -45,6 +49,10 @@ pub trait Keeps: StoredTable {
     fn table() -> Table
         ensures { result ≡ name };
 
+    /// Whether a warehouse of the format has the table.
+    fn is_in(format: Format) -> bool
+        ensures { result ≡ is_there name format };
+
     fn statements() -> Statements
         ensures { (result.put.now ≡ texts.put) × (result.remove.now ≡ texts.remove) × (result.all.now ≡ texts.all) × (result.get.now ≡ texts.get) × (result.count.now ≡ texts.count) };
 
@@ -58,26 +66,26 @@ pub trait Keeps: StoredTable {
         ensures ok { IfOk result (λ values. bound values.items ≡ bind key.now) }
         ensures err { IfErr result (λ cause. cause ≢ Memory → (cause ≡ Size) × ((row : Self.Row) → Self.layout.is_valid row ≡ true → Self.layout.key row ≢ key.now)) };
 
-    // What the texts mean.
-    ghost puts: { PutsOne Self.layout texts.put };
+    // What the texts mean where the table is there. In a format that hasn't the table they aren't understood.
+    ghost puts: { (format : Format) → Means (is_there name format) (PutsOne (schema_in format) Self.layout texts.put) (understood (schema_in format) texts.put) };
 
-    ghost removes: { RemovesOne Self.layout bind texts.remove };
+    ghost removes: { (format : Format) → Means (is_there name format) (RemovesOne (schema_in format) Self.layout bind texts.remove) (understood (schema_in format) texts.remove) };
 
-    ghost lists: { ReadsSome Self.layout [] (λ row. true) texts.all };
+    ghost lists: { (format : Format) → Means (is_there name format) (ReadsSome (schema_in format) Self.layout [] (λ row. true) texts.all) (understood (schema_in format) texts.all) };
 
-    ghost finds: { (key : Self.Key) → ReadsSome Self.layout (bind key) (λ row. eq_by_cmp Self.layout.order key (Self.layout.key row)) texts.get };
+    ghost finds: { (format : Format) (key : Self.Key) → Means (is_there name format) (ReadsSome (schema_in format) Self.layout (bind key) (λ row. eq_by_cmp Self.layout.order key (Self.layout.key row)) texts.get) (understood (schema_in format) texts.get) };
 
-    ghost counts: { CountsAll Self.layout texts.count };
+    ghost counts: { (format : Format) → Means (is_there name format) (CountsAll (schema_in format) Self.layout texts.count) (understood (schema_in format) texts.count) };
 
     // The same, whoever wrote the rows.
-    ghost lists_stored: { ReadsStored Self.layout [] (λ row. true) (λ row. true) texts.all };
+    ghost lists_stored: { (format : Format) → Means (is_there name format) (ReadsStored (schema_in format) Self.layout [] (λ row. true) (λ row. true) texts.all) (understood (schema_in format) texts.all) };
 
-    ghost finds_stored: { (key : Self.Key) → ReadsStored Self.layout (bind key) (stands_at key) (λ row. eq_by_cmp Self.layout.order key (Self.layout.key row)) texts.get };
+    ghost finds_stored: { (format : Format) (key : Self.Key) → Means (is_there name format) (ReadsStored (schema_in format) Self.layout (bind key) (stands_at key) (λ row. eq_by_cmp Self.layout.order key (Self.layout.key row)) texts.get) (understood (schema_in format) texts.get) };
 
     ghost named: { table_of name ≡ Self.layout.table };
 
     // Damage among the rows that are stored in it is damage in the table of its name.
-    ghost harmed: { (stored : Stored) → HasDamage Self.layout (stored name) → HasDamageIn stored name };
+    ghost harmed: { (stored : Stored) → HasDamage Self.layout (stored.rows name) → HasDamageIn stored name };
 
-    ghost placed: { IsPlaced Self.layout Self.rows Self.with_rows };
+    ghost placed: { IsPlaced Self.layout Self.rows Self.with_rows (is_there name) };
 }

@@ -2,6 +2,7 @@
 #![tactic(auto)]
 
 mod dimension;
+mod facts;
 mod fault;
 mod greatest;
 mod insert;
@@ -19,15 +20,16 @@ mod tally;
 mod write;
 
 pub use dimension::Dimension;
+pub use facts::Facts;
 pub use fault::ReadFault;
 pub use greatest::{Greatest, GreatestOf, greatest_anchor};
-pub use insert::{FACTS_AT_ONCE, insert_facts};
+pub use insert::{FACTS_AT_ONCE, insert_facts, insert_facts2};
 pub use keeps::{Keeps, Statements};
 pub use part::Part;
 pub use question::{Question, ask};
 pub use questions::{CommandOf, LastPolicy, MemberOf, ProfileOf, RecordsOf, RowsOf, SalesBetween};
 pub use read::{all, count, get};
 pub use scanned::{PartStatements, Scanned};
-pub use schema::{create, has_tables, has_taken_name};
+pub use schema::{add_second, create, has_second, has_second_name, has_tables, has_taken_name};
 pub use tally::{Tally, tally_facts};
 pub use write::{put, rekey, remove};

@@ -16,6 +16,8 @@ pub struct Part<K> {
 impl<T: Scanned> Question<T> for Part<T::Key> {
     ghost use Rattle.std.specs.Prelude.{Some};
     ghost use Rattle.wh_rows.specs.Parts.{forward, part_text, bind_part, is_behind, stands_behind};
+    ghost use Rattle.wh_rows.specs.Names.{is_there};
+    ghost use Rattle.wh_rows.proofs.Means.{means_weaker};
     ghost use Rattle.wh_sql.specs.Part.{HasKey};
 
     ghost keep = { λ q. is_behind T.StoredTable.layout q.after };
@@ -44,7 +46,7 @@ impl<T: Scanned> Question<T> for Part<T::Key> {
 
     ghost stands = { λ q. stands_behind T.StoredTable.layout T.Keeps.bind q.after };
 
-    ghost reads = { λ q. (T.shows_parts q.after).reads };
+    ghost reads = { λ format q. means_weaker _ (is_there T.Keeps.name format) (λ it. it.reads) (T.shows_parts format q.after) };
 
-    ghost reads_stored = { λ q. T.shows_parts q.after };
+    ghost reads_stored = { λ format q. T.shows_parts format q.after };
 }

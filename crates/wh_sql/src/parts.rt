@@ -1,11 +1,12 @@
-//! The ten tables: the texts that show a part of them, and the keys of their rows.
+//! The tables: the texts that show a part of them, and the keys of their rows.
 
 use crate::scanned::{PartStatements, Scanned};
 use std::alloc::AllocError;
 use wh_day::{DateRow, Day, Value};
 use wh_history::{DimRow, Fact};
 use wh_rows::{
-    ChangeKey, ChangeRow, CommandRow, LineKey, MemberKey, MemberRow, MetaRow, ProfileRow, tables,
+    ChangeKey, ChangeRow, CommandRow, Fact2, LineKey, MemberKey, MemberRow, MetaRow, ProfileRow,
+    VoidRow, tables,
 };
 
 impl Scanned for tables::Meta {
@@ -270,6 +271,66 @@ impl Scanned for tables::Fact {
     }
 
     fn key_of(row: &Fact) -> Result<LineKey, AllocError> {
+        let ticket = row.ticket.copy()?;
+        Ok(LineKey {
+            ticket,
+            line: row.line,
+        })
+    }
+}
+
+impl Scanned for tables::Fact2 {
+    ghost use Rattle.wh_rows.specs.Parts as texts;
+    ghost use Rattle.wh_rows.proofs.Parts as meanings;
+    ghost use Rattle.wh_rows.proofs.Once as once;
+
+    ghost part_texts = { texts.fact2 };
+
+    ghost shows_parts = { meanings.fact2_in };
+
+    ghost keyed = { meanings.fact2_keyed };
+
+    ghost once = { once.fact2 };
+
+    fn part_statements() -> PartStatements {
+        PartStatements {
+            first: "SELECT * FROM fact2 ORDER BY ticket, line LIMIT 256",
+            after: "SELECT * FROM fact2 WHERE ticket >= ?1 AND (ticket > ?1 OR line > ?2) ORDER BY ticket, line LIMIT 256",
+            most: 256,
+        }
+    }
+
+    fn key_of(row: &Fact2) -> Result<LineKey, AllocError> {
+        let ticket = row.fact.ticket.copy()?;
+        Ok(LineKey {
+            ticket,
+            line: row.fact.line,
+        })
+    }
+}
+
+impl Scanned for tables::Void {
+    ghost use Rattle.wh_rows.specs.Parts as texts;
+    ghost use Rattle.wh_rows.proofs.Parts as meanings;
+    ghost use Rattle.wh_rows.proofs.Once as once;
+
+    ghost part_texts = { texts.void };
+
+    ghost shows_parts = { meanings.void_in };
+
+    ghost keyed = { meanings.void_keyed };
+
+    ghost once = { once.void };
+
+    fn part_statements() -> PartStatements {
+        PartStatements {
+            first: "SELECT * FROM void ORDER BY ticket, line LIMIT 256",
+            after: "SELECT * FROM void WHERE ticket >= ?1 AND (ticket > ?1 OR line > ?2) ORDER BY ticket, line LIMIT 256",
+            most: 256,
+        }
+    }
+
+    fn key_of(row: &VoidRow) -> Result<LineKey, AllocError> {
         let ticket = row.ticket.copy()?;
         Ok(LineKey {
             ticket,

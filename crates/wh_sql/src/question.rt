@@ -7,6 +7,11 @@ ghost use Rattle.sqlite.specs.Order.{Row as Columns};
 ghost use Rattle.sqlite.specs.Values.{bound};
 ghost use Rattle.sqlite.specs.State.{HasCleanDisk};
 ghost use Rattle.wh_rows.specs.declared.cause.Cause.TheVariants.{Memory, Size};
+ghost use Rattle.sqlite.specs.Listing.{understood};
+ghost use Rattle.wh_rows.specs.declared.format.Format.{Format};
+ghost use Rattle.wh_rows.specs.Names.{is_there};
+ghost use Rattle.wh_rows.specs.Schema.{schema_in};
+ghost use Rattle.wh_rows.specs.Meaning.{Means};
 ghost use Rattle.wh_rows.specs.Firsts.{Front, part, ReadsPart};
 ghost use Rattle.wh_rows.specs.Raw.{AreAsked, ReadsPartStored};
 ghost use Rattle.wh_sql.specs.Reads.{ReadsOnly, SaysOfTables, SaysOfStored, IsUndamaged, IsOfAskedDamage, Shows, FailsToShow};
@@ -45,9 +50,9 @@ pub trait Question<T: Keeps> {
         ensures err { IfErr result (λ cause. cause ≢ Memory → (cause ≡ Size) × ¬ can_be_asked self.now) };
 
     // What the text means.
-    ghost reads: { (question : Self) → ReadsPart front T.layout (bind question) (keep question) (means question) };
+    ghost reads: { (format : Format) (question : Self) → Means (is_there T.name format) (ReadsPart (schema_in format) front T.layout (bind question) (keep question) (means question)) (understood (schema_in format) (means question)) };
 
-    ghost reads_stored: { (question : Self) → ReadsPartStored front T.layout (bind question) (stands question) (keep question) (means question) };
+    ghost reads_stored: { (format : Format) (question : Self) → Means (is_there T.name format) (ReadsPartStored (schema_in format) front T.layout (bind question) (stands question) (keep question) (means question)) (understood (schema_in format) (means question)) };
 }
 
 /// The rows that answer the question, in the order of their keys.
@@ -60,8 +65,8 @@ pub fn ask<T: Keeps, Q: Question<T>, S: Alter>(
     ensures rows { SaysOfTables (state S.Store conn.old) (state S.Store conn.new) (λ t. IfOk result (λ rows. rows.items ≡ part Q.front (filter (Q.keep question.now) (values (T.rows t))))) }
     ensures sound { SaysOfTables (state S.Store conn.old) (state S.Store conn.new) (λ _. IsUndamaged result) }
     // The same of any rows, whoever wrote them: no other row keeps these from being read.
-    ensures stored { SaysOfStored (state S.Store conn.old) (state S.Store conn.new) (λ stored. IfOk result (λ rows. AreAsked Q.front T.layout (filter (Q.stands question.now) (stored T.name)) rows.items)) }
-    ensures damaged { SaysOfStored (state S.Store conn.old) (state S.Store conn.new) (λ stored. IfErr result (IsOfAskedDamage Q.front T.layout T.name (filter (Q.stands question.now) (stored T.name)))) }
+    ensures stored { SaysOfStored (state S.Store conn.old) (state S.Store conn.new) (λ stored. IfOk result (λ rows. AreAsked Q.front T.layout (filter (Q.stands question.now) (stored.rows T.name)) rows.items)) }
+    ensures damaged { SaysOfStored (state S.Store conn.old) (state S.Store conn.new) (λ stored. IfErr result (IsOfAskedDamage Q.front T.layout T.name (filter (Q.stands question.now) (stored.rows T.name)))) }
     ensures shows { HasCleanDisk (state S.Store conn.new) → IfOk result (λ rows. Shows T.layout (Q.means question.now) (Q.bind question.now) (state S.Store conn.old) (state S.Store conn.new) rows.items) }
     ensures refused { HasCleanDisk (state S.Store conn.new) → Q.can_be_asked question.now → IfErr result (FailsToShow T.layout T.name (Q.means question.now) (Q.bind question.now) (state S.Store conn.old) (state S.Store conn.new)) }
 {

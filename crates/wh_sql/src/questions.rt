@@ -1,6 +1,7 @@
 //! The questions that are asked of the tables.
 
 use crate::dimension::Dimension;
+use crate::facts::Facts;
 use crate::keys::{dim_and_number, dim_and_text, number_and_days, number_key, text_key};
 use crate::question::Question;
 use sqlite::types::ValueRef;
@@ -45,9 +46,9 @@ impl Question<tables::Change> for RecordsOf {
 
     ghost stands = { λ q. is_of_member q.dim q.durable };
 
-    ghost reads = { λ q. of_member q.dim q.durable };
+    ghost reads = { λ format q. of_member format q.dim q.durable };
 
-    ghost reads_stored = { λ q. of_member_stored q.dim q.durable };
+    ghost reads_stored = { λ format q. of_member_stored format q.dim q.durable };
 }
 
 /// The rows of one member, in the order of their keys.
@@ -83,9 +84,9 @@ impl<D: Dimension> Question<D> for RowsOf {
 
     ghost stands = { λ q. has_durable q.durable };
 
-    ghost reads = { λ q. D.finds_rows q.durable };
+    ghost reads = { λ format q. D.finds_rows format q.durable };
 
-    ghost reads_stored = { λ q. D.finds_rows_stored q.durable };
+    ghost reads_stored = { λ format q. D.finds_rows_stored format q.durable };
 }
 
 /// The command of an id.
@@ -122,9 +123,9 @@ impl<'q> Question<tables::Command> for CommandOf<'q> {
 
     ghost stands = { λ q. has_id q.id.now };
 
-    ghost reads = { λ q. of_id q.id.now };
+    ghost reads = { λ format q. of_id format q.id.now };
 
-    ghost reads_stored = { λ q. of_id_stored q.id.now };
+    ghost reads_stored = { λ format q. of_id_stored format q.id.now };
 }
 
 /// The last command that gives a policy: the making, or the last migration.
@@ -158,9 +159,9 @@ impl Question<tables::Command> for LastPolicy {
 
     ghost stands = { λ q. has_policy };
 
-    ghost reads = { λ q. reads_last };
+    ghost reads = { λ format q. reads_last format };
 
-    ghost reads_stored = { λ q. last_policy_stored };
+    ghost reads_stored = { λ format q. last_policy_stored format };
 }
 
 /// The member that its source calls so.
@@ -200,9 +201,9 @@ impl<'q> Question<tables::Member> for MemberOf<'q> {
 
     ghost stands = { λ q. has_natural q.dim q.natural.now };
 
-    ghost reads = { λ q. of_natural q.dim q.natural.now };
+    ghost reads = { λ format q. of_natural format q.dim q.natural.now };
 
-    ghost reads_stored = { λ q. of_natural_stored q.dim q.natural.now };
+    ghost reads_stored = { λ format q. of_natural_stored format q.dim q.natural.now };
 }
 
 /// The facts of one member of a dimension from one day to another, these two included, in the order of their keys.
@@ -214,16 +215,14 @@ pub struct SalesBetween {
     pub to: Day,
 }
 
-impl Question<tables::Fact> for SalesBetween {
+impl<F: Facts> Question<F> for SalesBetween {
     ghost use Rattle.std.specs.Prelude.{◌≡◌, true, [], ◌∷◌, pos, None, ◌&&◌};
     ghost use Rattle.std.specs.Ordering.{eq_by_cmp, is_ge, is_le, nat_cmp};
     ghost use Rattle.sqlite_value.specs.declared.value.Value.TheVariants.{Int};
     ghost use Rattle.wh_rows.specs.Types.{is_number};
     ghost use Rattle.wh_rows.specs.Questions.{durable_of, is_sale_between};
-    ghost use Rattle.wh_rows.specs.Texts.{sales_between};
-    ghost use Rattle.wh_rows.proofs.Facts.{of_sales_between, of_sales_between_stored};
 
-    ghost keep = { λ q r. eq_by_cmp nat_cmp q.durable (durable_of q.dim r) && (is_ge (nat_cmp r.day q.from) && is_le (nat_cmp r.day q.to)) };
+    ghost keep = { λ q r. eq_by_cmp nat_cmp q.durable (durable_of q.dim (F.fact r)) && (is_ge (nat_cmp (F.fact r).day q.from) && is_le (nat_cmp (F.fact r).day q.to)) };
 
     ghost front = { None };
 
@@ -231,20 +230,10 @@ impl Question<tables::Fact> for SalesBetween {
 
     ghost can_be_asked = { λ q. is_number q.durable ≡ true };
 
-    ghost means = { λ q. sales_between q.dim };
+    ghost means = { λ q. F.sales_means q.dim };
 
     fn text(&self) -> &'static str {
-        match self.dim {
-            Dim::Product => {
-                "SELECT * FROM fact WHERE product_durable = ?1 AND day >= ?2 AND day <= ?3 ORDER BY ticket, line"
-            }
-            Dim::Store => {
-                "SELECT * FROM fact WHERE store_durable = ?1 AND day >= ?2 AND day <= ?3 ORDER BY ticket, line"
-            }
-            Dim::Customer => {
-                "SELECT * FROM fact WHERE customer_durable = ?1 AND day >= ?2 AND day <= ?3 ORDER BY ticket, line"
-            }
-        }
+        F::sales_text(self.dim)
     }
 
     fn values<'a>(&'a self, alloc: Global) -> Result<Vec<ValueRef<'a>>, Cause> {
@@ -253,9 +242,9 @@ impl Question<tables::Fact> for SalesBetween {
 
     ghost stands = { λ q. is_sale_between q.dim q.durable q.from q.to };
 
-    ghost reads = { λ q. of_sales_between q.dim q.durable q.from q.to };
+    ghost reads = { λ format q. F.finds_sales format q.dim q.durable q.from q.to };
 
-    ghost reads_stored = { λ q. of_sales_between_stored q.dim q.durable q.from q.to };
+    ghost reads_stored = { λ format q. F.finds_sales_stored format q.dim q.durable q.from q.to };
 }
 
 /// The profile of a combination of values.
@@ -292,7 +281,7 @@ impl<'q> Question<tables::Profile> for ProfileOf<'q> {
 
     ghost stands = { λ q. has_values q.values.now };
 
-    ghost reads = { λ q. of_values q.values.now };
+    ghost reads = { λ format q. of_values format q.values.now };
 
-    ghost reads_stored = { λ q. of_values_stored q.values.now };
+    ghost reads_stored = { λ format q. of_values_stored format q.values.now };
 }

@@ -9,11 +9,8 @@ ghost use Rattle.sqlite.specs.Values.{bound};
 ghost use Rattle.sqlite.specs.State.{HasCleanDisk, Survives, CommitsShowing};
 ghost use Rattle.wh_rows.specs.Tables.{Tables};
 ghost use Rattle.wh_rows.specs.AtRest.{IsAtRest};
-ghost use Rattle.wh_rows.specs.Schema.{warehouse};
-ghost use Rattle.sqlite.specs.Listing.{understood};
-ghost use Rattle.sqlite.proofs.Callers.{IsPlain};
 ghost use Rattle.wh_rows.specs.Raw.{Stored, RestsOn, AreRows, IsLastOf};
-ghost use Rattle.wh_sql.specs.Reads.{ReadsOnly, NamesDamage, SaysOfTables, SaysOfStored, IsUndamaged, IsOfDamage, Shows, FailsToShow, FailsToCount, AreRead};
+ghost use Rattle.wh_sql.specs.Reads.{NeverReturns, ReadsOnly, NamesDamage, SaysOfTables, SaysOfStored, IsUndamaged, IsOfDamage, Shows, FailsToShow, FailsToCount, AreRead};
 ghost use Rattle.wh_sql.specs.declared.fault.ReadFault.TheVariants.{Memory, Damaged, Store};
 ghost use Rattle.wh_rows.specs.declared.cause.Cause.TheVariants.{Size};
 
@@ -56,11 +53,11 @@ pub(crate) fn rows_shown<T: Keeps, S: Alter>(
     params: &[ValueRef<'_>],
 ) -> Result<Vec<T::Row>, ReadFault>
     // It only reads: a write that shows rows is made before the first of them is handed out, and stands where the next is refused.
-    requires { IsPlain (understood warehouse text.now) }
+    requires { NeverReturns text.now }
     ensures shows { HasCleanDisk (state S.Store conn.new) → IfOk result (λ rows. Shows T.layout text.now (bound params.now) (state S.Store conn.old) (state S.Store conn.new) rows.items) }
     ensures refused { HasCleanDisk (state S.Store conn.new) → IfErr result (FailsToShow T.layout T.name text.now (bound params.now) (state S.Store conn.old) (state S.Store conn.new)) }
     // Nothing is out of its type where that is known of what is stored, and the table that is named as damaged is one where that is.
-    ensures reads { IsPlain (understood warehouse text.now) → (HasCleanDisk (state S.Store conn.new) → (t : Tables) → IsAtRest (Some t) (state S.Store conn.old) → IsUndamaged result)
+    ensures reads { NeverReturns text.now → (HasCleanDisk (state S.Store conn.new) → (t : Tables) → IsAtRest (Some t) (state S.Store conn.old) → IsUndamaged result)
         → (HasCleanDisk (state S.Store conn.new) → (stored : Stored) → RestsOn stored (state S.Store conn.old) → IfErr result (NamesDamage stored)) → ReadsOnly (state S.Store conn.old) (state S.Store conn.new) result }
     ensures survives { Survives (state S.Store conn.old) (state S.Store conn.new) (CommitsShowing text.now (bound params.now) (state S.Store conn.old)) }
 {
@@ -90,8 +87,8 @@ pub fn all<T: Keeps, S: Alter>(
     ensures rows { SaysOfTables (state S.Store conn.old) (state S.Store conn.new) (λ t. IfOk result (λ rows. rows.items ≡ values (T.rows t))) }
     ensures sound { SaysOfTables (state S.Store conn.old) (state S.Store conn.new) (λ _. IsUndamaged result) }
     // The same of any rows, whoever wrote them: all that is stored is read, or a row of it is out of its type.
-    ensures stored { SaysOfStored (state S.Store conn.old) (state S.Store conn.new) (λ stored. IfOk result (λ rows. AreRows T.layout (stored T.name) rows.items)) }
-    ensures damaged { SaysOfStored (state S.Store conn.old) (state S.Store conn.new) (λ stored. IfErr result (IsOfDamage T.layout T.name (stored T.name))) }
+    ensures stored { SaysOfStored (state S.Store conn.old) (state S.Store conn.new) (λ stored. IfOk result (λ rows. AreRows T.layout (stored.rows T.name) rows.items)) }
+    ensures damaged { SaysOfStored (state S.Store conn.old) (state S.Store conn.new) (λ stored. IfErr result (IsOfDamage T.layout T.name (stored.rows T.name))) }
     ensures shows { HasCleanDisk (state S.Store conn.new) → IfOk result (λ rows. Shows T.layout T.texts.all [] (state S.Store conn.old) (state S.Store conn.new) rows.items) }
     ensures refused { HasCleanDisk (state S.Store conn.new) → IfErr result (FailsToShow T.layout T.name T.texts.all [] (state S.Store conn.old) (state S.Store conn.new)) }
 {
@@ -109,8 +106,8 @@ pub fn get<T: Keeps, S: Alter>(
     ensures row { SaysOfTables (state S.Store conn.old) (state S.Store conn.new) (λ t. IfOk result (λ row. row ≡ get (T.rows t) key.now)) }
     ensures sound { SaysOfTables (state S.Store conn.old) (state S.Store conn.new) (λ _. IsUndamaged result) }
     // The same of any rows, whoever wrote them: of those that are stored at the key.
-    ensures stored { SaysOfStored (state S.Store conn.old) (state S.Store conn.new) (λ stored. IfOk result (IsLastOf T.layout (filter (T.stands_at key.now) (stored T.name)))) }
-    ensures damaged { SaysOfStored (state S.Store conn.old) (state S.Store conn.new) (λ stored. IfErr result (IsOfDamage T.layout T.name (filter (T.stands_at key.now) (stored T.name)))) }
+    ensures stored { SaysOfStored (state S.Store conn.old) (state S.Store conn.new) (λ stored. IfOk result (IsLastOf T.layout (filter (T.stands_at key.now) (stored.rows T.name)))) }
+    ensures damaged { SaysOfStored (state S.Store conn.old) (state S.Store conn.new) (λ stored. IfErr result (IsOfDamage T.layout T.name (filter (T.stands_at key.now) (stored.rows T.name)))) }
     ensures refused { HasCleanDisk (state S.Store conn.new) → (row : T.Row) → IsTrue (T.layout.is_valid row) → T.layout.key row ≡ key.now → IfErr result (FailsToShow T.layout T.name T.texts.get (T.bind key.now) (state S.Store conn.old) (state S.Store conn.new)) }
 {
     let values = T::key(alloc, key)?;
@@ -124,7 +121,7 @@ pub fn count<T: Keeps, S: Alter>(alloc: Global, conn: &mut Connection<S>) -> Res
     ensures count { SaysOfTables (state S.Store conn.old) (state S.Store conn.new) (λ t. IfOk result (λ count. count ≡ len (T.rows t))) }
     ensures sound { SaysOfTables (state S.Store conn.old) (state S.Store conn.new) (λ _. IsUndamaged result) }
     // The same of any rows, whoever wrote them: all that are stored are counted, damaged or not.
-    ensures stored { SaysOfStored (state S.Store conn.old) (state S.Store conn.new) (λ stored. IfOk result (λ count. count ≡ length (stored T.name))) }
+    ensures stored { SaysOfStored (state S.Store conn.old) (state S.Store conn.new) (λ stored. IfOk result (λ count. count ≡ length (stored.rows T.name))) }
     ensures refused { SaysOfTables (state S.Store conn.old) (state S.Store conn.new) (λ t. IfErr result (FailsToCount (len (T.rows t)) T.texts.count (state S.Store conn.old) (state S.Store conn.new))) }
 {
     let shown = match conn.query_all(T::statements().count, &[]) {

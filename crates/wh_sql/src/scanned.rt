@@ -1,7 +1,13 @@
 //! Reading a table in the order of its keys, a part at a time.
 
-ghost use Rattle.std.specs.Prelude.{◌≡◌, IfOk};
-ghost use Rattle.wh_rows.specs.Parts.{PartTexts, ReadsParts, IsKeyed, StandsOnce};
+ghost use Rattle.std.specs.Prelude.{◌≡◌, Option, IfOk};
+ghost use Rattle.sqlite.specs.Listing.{understood};
+ghost use Rattle.wh_rows.specs.declared.format.Format.{Format};
+ghost use Rattle.wh_rows.specs.Names.{is_there};
+ghost use Rattle.wh_rows.specs.Schema.{schema_in};
+ghost use Rattle.wh_rows.specs.Meaning.{Means};
+ghost use Rattle.wh_rows.specs.Raw.{ReadsFrontStored};
+ghost use Rattle.wh_rows.specs.Parts.{PartTexts, forward, part_text, bind_part, stands_behind, is_behind, IsKeyed, StandsOnce};
 
 use crate::keeps::Keeps;
 use std::alloc::AllocError;
@@ -26,7 +32,9 @@ pub trait Scanned: Keeps {
         ensures { IfOk result (λ key. key ≡ Self.StoredTable.layout.key row.now) };
 
     // What the texts mean, whoever wrote the rows.
-    ghost shows_parts: { ReadsParts Self.StoredTable.layout Self.Keeps.bind part_texts };
+    ghost shows_parts: { (format : Format) (after : Option Self.Key) → Means (is_there Self.Keeps.name format)
+        (ReadsFrontStored (schema_in format) (forward part_texts.most) Self.StoredTable.layout (bind_part Self.Keeps.bind after) (stands_behind Self.StoredTable.layout Self.Keeps.bind after) (is_behind Self.StoredTable.layout after) (part_text part_texts after))
+        (understood (schema_in format) (part_text part_texts after)) };
 
     // A key is the first columns of a row, and at a key at most one row is stored.
     ghost keyed: { IsKeyed Self.StoredTable.layout Self.Keeps.bind Self.Keeps.stands_at };

@@ -1,17 +1,19 @@
 //! The schema: making its tables, and whether they are there.
 
-ghost use Rattle.std.specs.Prelude.{◌≡◌, ◌≤◌, [], false, map, Some, None, Err, IsTrue, IfErr, OnOk};
+ghost use Rattle.std.specs.Prelude.{◌≡◌, ◌≤◌, ℕ, nat_le, [], false, map, Option, Some, None, Err, IsTrue, IfErr, OnOk};
 ghost use Rattle.std.specs.List.{list_all, list_any};
 ghost use Rattle.sqlite.specs.Held.{state};
 ghost use Rattle.sqlite.specs.Schema.{Schema};
-ghost use Rattle.sqlite.specs.Change.{is_used};
+ghost use Rattle.sqlite.specs.Tree.{Trees};
+ghost use Rattle.wh_rows.specs.declared.format.Format.TheVariants.{One, Two};
+ghost use Rattle.sqlite.specs.Change.{is_used, next_tree};
 ghost use Rattle.sqlite.specs.State.{HasCleanDisk};
 ghost use Rattle.wh_rows.specs.declared.cause.Cause.TheVariants.{Disk};
-ghost use Rattle.wh_rows.specs.Making.{Extends, Leads, making_texts};
-ghost use Rattle.wh_rows.specs.Tables.{no_tables};
+ghost use Rattle.wh_rows.specs.Making.{Extends, LeadsOver, making_texts, upgrading_texts};
+ghost use Rattle.wh_rows.specs.Tables.{Tables, no_tables};
 ghost use Rattle.wh_rows.specs.AtRest.{IsWriting, Leaves, IsCauseOf};
 ghost use Rattle.wh_sql.specs.Refused.{IsOneRefused, bare};
-ghost use Rattle.wh_sql.specs.Present.{IsMaking, is_any_taken, has_columns, has_table, are_all_there};
+ghost use Rattle.wh_sql.specs.Present.{IsMaking, is_any_taken, is_second_taken, has_columns, has_table, are_all_there, is_second_there};
 
 use sqlite::{Alter, Connection};
 use sqlite_schema::schema::{Schema, Table};
@@ -38,6 +40,15 @@ const TEXTS: [&str; 19] = [
     "CREATE INDEX fact_by_product ON fact (product_durable, day)",
     "CREATE INDEX fact_by_customer ON fact (customer_durable, day)",
     "CREATE INDEX profile_by_values ON profile (v1, v2, v3, v4, v5, v6)",
+];
+
+/// The texts that make the second format, where the first stands.
+const SECOND: [&str; 5] = [
+    "CREATE TABLE fact2 (ticket TEXT NOT NULL, line INTEGER NOT NULL, day INTEGER NOT NULL, store_key INTEGER NOT NULL, product_key INTEGER NOT NULL, customer_key INTEGER NOT NULL, store_durable INTEGER NOT NULL, product_durable INTEGER NOT NULL, customer_durable INTEGER NOT NULL, profile INTEGER NOT NULL, quantity INTEGER NOT NULL, amount INTEGER NOT NULL, cost INTEGER NOT NULL, discount INTEGER NOT NULL, PRIMARY KEY (ticket, line))",
+    "CREATE TABLE void (ticket TEXT NOT NULL, line INTEGER NOT NULL, command INTEGER NOT NULL, PRIMARY KEY (ticket, line))",
+    "CREATE INDEX fact2_by_store ON fact2 (store_durable, day)",
+    "CREATE INDEX fact2_by_product ON fact2 (product_durable, day)",
+    "CREATE INDEX fact2_by_customer ON fact2 (customer_durable, day)",
 ];
 
 /// The names of a table and of its columns.
@@ -67,6 +78,33 @@ const DIMENSION: [&str; 19] = [
     "b5",
     "b6",
     "profile_now",
+];
+
+/// The tables that the second format adds.
+const ADDED: [Names; 2] = [
+    Names {
+        table: "fact2",
+        columns: &[
+            "ticket",
+            "line",
+            "day",
+            "store_key",
+            "product_key",
+            "customer_key",
+            "store_durable",
+            "product_durable",
+            "customer_durable",
+            "profile",
+            "quantity",
+            "amount",
+            "cost",
+            "discount",
+        ],
+    },
+    Names {
+        table: "void",
+        columns: &["ticket", "line", "command"],
+    },
 ];
 
 const TABLES: [Names; 10] = [
@@ -145,22 +183,28 @@ const TABLES: [Names; 10] = [
 fn create_one<S: Alter>(conn: &mut Connection<S>, text: &str) -> Result<(), Cause>
     ensures clean { HasCleanDisk (state S.Store conn.new) → HasCleanDisk (state S.Store conn.old) }
     ensures counts { (state S.Store conn.old).faults ≤ (state S.Store conn.new).faults }
-    ensures made { HasCleanDisk (state S.Store conn.new) → (from to : Schema) → Extends from text.now to → IsMaking from (state S.Store conn.old) → OnOk result (IsMaking to (state S.Store conn.new)) }
-    ensures left { HasCleanDisk (state S.Store conn.new) → (from to : Schema) → Extends from text.now to → IsMaking from (state S.Store conn.old) → Leaves None (state S.Store conn.new) }
+    ensures made { HasCleanDisk (state S.Store conn.new) → (before : Option Tables) (least : ℕ) (rows : Trees) (from to : Schema) → Extends from text.now to → IsTrue (nat_le least (next_tree from)) → IsMaking before least rows from (state S.Store conn.old)
+        → OnOk result (IsMaking before least rows to (state S.Store conn.new)) }
+    ensures left { HasCleanDisk (state S.Store conn.new) → (before : Option Tables) (least : ℕ) (rows : Trees) (from to : Schema) → Extends from text.now to → IsMaking before least rows from (state S.Store conn.old) → Leaves before (state S.Store conn.new) }
     ensures cause { HasCleanDisk (state S.Store conn.new) → IfErr result (IsCauseOf text.now [] (state S.Store conn.old) (state S.Store conn.new)) }
 {
     conn.execute(text, &[])?;
     Ok(())
 }
 
-/// Runs texts that make tables and indexes, in their order, inside a transaction.
+/// Runs texts that make tables and indexes, in their order, inside a transaction. Outside one it is refused.
 fn create_all<S: Alter>(conn: &mut Connection<S>, texts: &[&str]) -> Result<(), Cause>
     ensures clean { HasCleanDisk (state S.Store conn.new) → HasCleanDisk (state S.Store conn.old) }
     ensures counts { (state S.Store conn.old).faults ≤ (state S.Store conn.new).faults }
-    ensures made { HasCleanDisk (state S.Store conn.new) → (from to : Schema) → Leads from (map (λ text. text.now) texts.now) to → IsMaking from (state S.Store conn.old) → OnOk result (IsMaking to (state S.Store conn.new)) }
-    ensures left { HasCleanDisk (state S.Store conn.new) → (from to : Schema) → Leads from (map (λ text. text.now) texts.now) to → IsMaking from (state S.Store conn.old) → Leaves None (state S.Store conn.new) }
-    ensures cause { HasCleanDisk (state S.Store conn.new) → IfErr result (IsOneRefused S.Store IsCauseOf (bare (map (λ text. text.now) texts.now)) conn.old conn.new) }
+    ensures made { HasCleanDisk (state S.Store conn.new) → (before : Option Tables) (least : ℕ) (rows : Trees) (from to : Schema) → LeadsOver least from (map (λ text. text.now) texts.now) to → IsMaking before least rows from (state S.Store conn.old)
+        → OnOk result (IsMaking before least rows to (state S.Store conn.new)) }
+    ensures left { HasCleanDisk (state S.Store conn.new) → (before : Option Tables) (least : ℕ) (rows : Trees) (from to : Schema) → LeadsOver least from (map (λ text. text.now) texts.now) to → IsMaking before least rows from (state S.Store conn.old) → Leaves before (state S.Store conn.new) }
+    ensures cause { HasCleanDisk (state S.Store conn.new) → IsTrue conn.old.in_transaction → IfErr result (IsOneRefused S.Store IsCauseOf (bare (map (λ text. text.now) texts.now)) conn.old conn.new) }
+    ensures late { conn.old.in_transaction ≡ false → (result ≡ Err Disk) × (conn.new ≡ conn.old) }
 {
+    if conn.is_autocommit() {
+        return Err(Cause::Disk);
+    }
     for text in texts {
         create_one(conn, text)?;
     }
@@ -176,10 +220,20 @@ pub fn create<S: Alter>(conn: &mut Connection<S>) -> Result<(), Cause>
     ensures cause { HasCleanDisk (state S.Store conn.new) → IsTrue conn.old.in_transaction → IfErr result (IsOneRefused S.Store IsCauseOf (bare making_texts) conn.old conn.new) }
     ensures late { conn.old.in_transaction ≡ false → (result ≡ Err Disk) × (conn.new ≡ conn.old) }
 {
-    if conn.is_autocommit() {
-        return Err(Cause::Disk);
-    }
     create_all(conn, &TEXTS)
+}
+
+/// Makes the tables and indexes of the second format, inside a transaction over a warehouse of the first. Outside a transaction it is refused.
+pub fn add_second<S: Alter>(conn: &mut Connection<S>) -> Result<(), Cause>
+    ensures clean { HasCleanDisk (state S.Store conn.new) → HasCleanDisk (state S.Store conn.old) }
+    ensures counts { (state S.Store conn.old).faults ≤ (state S.Store conn.new).faults }
+    // The tables have the rows that they had; the new ones have none.
+    ensures made { HasCleanDisk (state S.Store conn.new) → (before : Option Tables) (t : Tables) → t.format ≡ One → IsWriting before (Some t) (state S.Store conn.old) → OnOk result (IsWriting before (Some (record t { format = Two })) (state S.Store conn.new)) }
+    ensures left { HasCleanDisk (state S.Store conn.new) → (before : Option Tables) (t : Tables) → t.format ≡ One → IsWriting before (Some t) (state S.Store conn.old) → Leaves before (state S.Store conn.new) }
+    ensures cause { HasCleanDisk (state S.Store conn.new) → IsTrue conn.old.in_transaction → IfErr result (IsOneRefused S.Store IsCauseOf (bare upgrading_texts) conn.old conn.new) }
+    ensures late { conn.old.in_transaction ≡ false → (result ≡ Err Disk) × (conn.new ≡ conn.old) }
+{
+    create_all(conn, &SECOND)
 }
 
 fn is_taken(schema: &Schema, name: &str) -> bool
@@ -197,11 +251,18 @@ fn is_one_taken(schema: &Schema, tables: &[Names]) -> bool
     tables.iter().any(|names| is_taken(schema, names.table))
 }
 
-/// Whether a table, an index or a view has the name of one of the ten tables.
+/// Whether a table, an index or a view has the name of one of the twelve tables.
 pub fn has_taken_name<S: Alter>(conn: &Connection<S>) -> bool
     ensures { result ≡ is_any_taken (state S.Store conn.now).now.schema }
 {
-    is_one_taken(conn.schema(), &TABLES)
+    is_one_taken(conn.schema(), &TABLES) || is_one_taken(conn.schema(), &ADDED)
+}
+
+/// Whether one has the name of one of the two that the second format adds.
+pub fn has_second_name<S: Alter>(conn: &Connection<S>) -> bool
+    ensures { result ≡ is_second_taken (state S.Store conn.now).now.schema }
+{
+    is_one_taken(conn.schema(), &ADDED)
 }
 
 fn has_columns(table: &Table, columns: &[&str]) -> bool
@@ -231,4 +292,11 @@ pub fn has_tables<S: Alter>(conn: &Connection<S>) -> bool
     ensures { result ≡ are_all_there (state S.Store conn.now).now.schema }
 {
     has_each(conn.schema(), &TABLES)
+}
+
+/// Whether each of the two tables that the second format adds is there, with its columns.
+pub fn has_second<S: Alter>(conn: &Connection<S>) -> bool
+    ensures { result ≡ is_second_there (state S.Store conn.now).now.schema }
+{
+    has_each(conn.schema(), &ADDED)
 }

@@ -1,4 +1,4 @@
-//! The ten tables: the texts of their statements, and how their rows and keys are bound.
+//! The tables: the texts of their statements, and how their rows and keys are bound.
 
 use crate::keeps::{Keeps, Statements};
 use crate::keys::{change_key, day_key, dim_and_number, line_key, number_key, text_key};
@@ -8,8 +8,8 @@ use wh_day::{DateRow, Day, Value};
 use wh_history::{DimRow, Fact};
 use wh_policy::Dim;
 use wh_rows::{
-    Cause, ChangeKey, ChangeRow, CommandRow, LineKey, MemberKey, MemberRow, MetaRow, ProfileRow,
-    Table, bound, tables,
+    Cause, ChangeKey, ChangeRow, CommandRow, Fact2, Format, LineKey, MemberKey, MemberRow, MetaRow,
+    ProfileRow, Table, VoidRow, bound, tables,
 };
 
 impl Keeps for tables::Meta {
@@ -30,6 +30,10 @@ impl Keeps for tables::Meta {
 
     fn table() -> Table {
         Table::Meta
+    }
+
+    fn is_in(_format: Format) -> bool {
+        true
     }
 
     fn statements() -> Statements {
@@ -91,6 +95,10 @@ impl Keeps for tables::Command {
         Table::Command
     }
 
+    fn is_in(_format: Format) -> bool {
+        true
+    }
+
     fn statements() -> Statements {
         Statements {
             put: "INSERT INTO command VALUES (?1, ?2, ?3, ?4, ?5, ?6) ON CONFLICT (number) DO UPDATE SET id = excluded.id, kind = excluded.kind, bytes = excluded.bytes, records = excluded.records, placeholders = excluded.placeholders",
@@ -148,6 +156,10 @@ impl Keeps for tables::Member {
 
     fn table() -> Table {
         Table::Member
+    }
+
+    fn is_in(_format: Format) -> bool {
+        true
     }
 
     fn statements() -> Statements {
@@ -209,6 +221,10 @@ impl Keeps for tables::Change {
         Table::Change
     }
 
+    fn is_in(_format: Format) -> bool {
+        true
+    }
+
     fn statements() -> Statements {
         Statements {
             put: "INSERT INTO change VALUES (?1, ?2, ?3, ?4, ?5, ?6, ?7, ?8, ?9, ?10, ?11, ?12) ON CONFLICT (command, record) DO UPDATE SET dim = excluded.dim, durable = excluded.durable, day = excluded.day, anchor = excluded.anchor, v1 = excluded.v1, v2 = excluded.v2, v3 = excluded.v3, v4 = excluded.v4, v5 = excluded.v5, v6 = excluded.v6",
@@ -266,6 +282,10 @@ impl Keeps for tables::Product {
 
     fn table() -> Table {
         Table::Product
+    }
+
+    fn is_in(_format: Format) -> bool {
+        true
     }
 
     fn statements() -> Statements {
@@ -327,6 +347,10 @@ impl Keeps for tables::Store {
         Table::Store
     }
 
+    fn is_in(_format: Format) -> bool {
+        true
+    }
+
     fn statements() -> Statements {
         Statements {
             put: "INSERT INTO store VALUES (?1, ?2, ?3, ?4, ?5, ?6, ?7, ?8, ?9, ?10, ?11, ?12, ?13, ?14, ?15, ?16, ?17, ?18, ?19) ON CONFLICT (surrogate) DO UPDATE SET durable = excluded.durable, natural = excluded.natural, from_day = excluded.from_day, to_day = excluded.to_day, is_current = excluded.is_current, a1 = excluded.a1, a2 = excluded.a2, a3 = excluded.a3, a4 = excluded.a4, a5 = excluded.a5, a6 = excluded.a6, b1 = excluded.b1, b2 = excluded.b2, b3 = excluded.b3, b4 = excluded.b4, b5 = excluded.b5, b6 = excluded.b6, profile_now = excluded.profile_now",
@@ -384,6 +408,10 @@ impl Keeps for tables::Customer {
 
     fn table() -> Table {
         Table::Customer
+    }
+
+    fn is_in(_format: Format) -> bool {
+        true
     }
 
     fn statements() -> Statements {
@@ -445,6 +473,10 @@ impl Keeps for tables::Profile {
         Table::Profile
     }
 
+    fn is_in(_format: Format) -> bool {
+        true
+    }
+
     fn statements() -> Statements {
         Statements {
             put: "INSERT INTO profile VALUES (?1, ?2, ?3, ?4, ?5, ?6, ?7) ON CONFLICT (number) DO UPDATE SET v1 = excluded.v1, v2 = excluded.v2, v3 = excluded.v3, v4 = excluded.v4, v5 = excluded.v5, v6 = excluded.v6",
@@ -502,6 +534,10 @@ impl Keeps for tables::Calendar {
 
     fn table() -> Table {
         Table::Calendar
+    }
+
+    fn is_in(_format: Format) -> bool {
+        true
     }
 
     fn statements() -> Statements {
@@ -563,6 +599,10 @@ impl Keeps for tables::Fact {
         Table::Fact
     }
 
+    fn is_in(_format: Format) -> bool {
+        true
+    }
+
     fn statements() -> Statements {
         Statements {
             put: "INSERT INTO fact VALUES (?1, ?2, ?3, ?4, ?5, ?6, ?7, ?8, ?9, ?10, ?11, ?12, ?13) ON CONFLICT (ticket, line) DO UPDATE SET day = excluded.day, store_key = excluded.store_key, product_key = excluded.product_key, customer_key = excluded.customer_key, store_durable = excluded.store_durable, product_durable = excluded.product_durable, customer_durable = excluded.customer_durable, profile = excluded.profile, quantity = excluded.quantity, amount = excluded.amount, cost = excluded.cost",
@@ -594,6 +634,132 @@ impl Keeps for tables::Fact {
     ghost lists_stored = { all_stored };
 
     ghost finds_stored = { get_stored };
+
+    ghost named = { refl };
+
+    ghost harmed = { λ stored damage. damage };
+
+    ghost placed = { place };
+}
+
+impl Keeps for tables::Fact2 {
+    ghost use Rattle.wh_rows.specs.Keys.{bind_line, stands_at_line};
+    ghost use Rattle.wh_rows.specs.Texts.{fact2 as texts};
+    ghost use Rattle.wh_rows.proofs.Facts2.{put_in, remove_in, all_in, get_in, all_stored_in, get_stored_in, count_in};
+    ghost use Rattle.std.specs.Prelude.{refl};
+    ghost use Rattle.wh_rows.proofs.Places.{fact2 as place};
+    ghost use Rattle.wh_rows.specs.declared.table.Table.TheVariants.{Fact2};
+
+    ghost bind = { bind_line };
+
+    ghost name = { Fact2 };
+
+    ghost stands_at = { stands_at_line };
+
+    ghost texts = { texts };
+
+    fn table() -> Table {
+        Table::Fact2
+    }
+
+    fn is_in(format: Format) -> bool {
+        matches!(format, Format::Two)
+    }
+
+    fn statements() -> Statements {
+        Statements {
+            put: "INSERT INTO fact2 VALUES (?1, ?2, ?3, ?4, ?5, ?6, ?7, ?8, ?9, ?10, ?11, ?12, ?13, ?14) ON CONFLICT (ticket, line) DO UPDATE SET day = excluded.day, store_key = excluded.store_key, product_key = excluded.product_key, customer_key = excluded.customer_key, store_durable = excluded.store_durable, product_durable = excluded.product_durable, customer_durable = excluded.customer_durable, profile = excluded.profile, quantity = excluded.quantity, amount = excluded.amount, cost = excluded.cost, discount = excluded.discount",
+            remove: "DELETE FROM fact2 WHERE ticket = ?1 AND line = ?2",
+            all: "SELECT * FROM fact2 ORDER BY ticket, line",
+            get: "SELECT * FROM fact2 WHERE ticket = ?1 AND line = ?2 ORDER BY ticket, line",
+            count: "SELECT count(*) FROM fact2",
+        }
+    }
+
+    fn row<'a>(alloc: Global, row: &'a Fact2) -> Result<Vec<ValueRef<'a>>, Cause> {
+        bound::fact2(alloc, row)
+    }
+
+    fn key<'a>(alloc: Global, key: &'a LineKey) -> Result<Vec<ValueRef<'a>>, Cause> {
+        line_key(alloc, key)
+    }
+
+    ghost puts = { put_in };
+
+    ghost removes = { remove_in };
+
+    ghost lists = { all_in };
+
+    ghost finds = { get_in };
+
+    ghost counts = { count_in };
+
+    ghost lists_stored = { all_stored_in };
+
+    ghost finds_stored = { get_stored_in };
+
+    ghost named = { refl };
+
+    ghost harmed = { λ stored damage. damage };
+
+    ghost placed = { place };
+}
+
+impl Keeps for tables::Void {
+    ghost use Rattle.wh_rows.specs.Keys.{bind_line, stands_at_line};
+    ghost use Rattle.wh_rows.specs.Texts.{void as texts};
+    ghost use Rattle.wh_rows.proofs.Voids.{put_in, remove_in, all_in, get_in, all_stored_in, get_stored_in, count_in};
+    ghost use Rattle.std.specs.Prelude.{refl};
+    ghost use Rattle.wh_rows.proofs.Places.{void as place};
+    ghost use Rattle.wh_rows.specs.declared.table.Table.TheVariants.{Void};
+
+    ghost bind = { bind_line };
+
+    ghost name = { Void };
+
+    ghost stands_at = { stands_at_line };
+
+    ghost texts = { texts };
+
+    fn table() -> Table {
+        Table::Void
+    }
+
+    fn is_in(format: Format) -> bool {
+        matches!(format, Format::Two)
+    }
+
+    fn statements() -> Statements {
+        Statements {
+            put: "INSERT INTO void VALUES (?1, ?2, ?3) ON CONFLICT (ticket, line) DO UPDATE SET command = excluded.command",
+            remove: "DELETE FROM void WHERE ticket = ?1 AND line = ?2",
+            all: "SELECT * FROM void ORDER BY ticket, line",
+            get: "SELECT * FROM void WHERE ticket = ?1 AND line = ?2 ORDER BY ticket, line",
+            count: "SELECT count(*) FROM void",
+        }
+    }
+
+    fn row<'a>(alloc: Global, row: &'a VoidRow) -> Result<Vec<ValueRef<'a>>, Cause> {
+        bound::void(alloc, row)
+    }
+
+    fn key<'a>(alloc: Global, key: &'a LineKey) -> Result<Vec<ValueRef<'a>>, Cause> {
+        line_key(alloc, key)
+    }
+
+    ghost puts = { put_in };
+
+    ghost removes = { remove_in };
+
+    ghost lists = { all_in };
+
+    ghost finds = { get_in };
+
+    ghost counts = { count_in };
+
+    ghost lists_stored = { all_stored_in };
+
+    ghost finds_stored = { get_stored_in };
 
     ghost named = { refl };
 

@@ -6,15 +6,16 @@ ghost use Rattle.sqlite.specs.Held.{state};
 ghost use Rattle.sqlite.specs.State.{HasCleanDisk};
 ghost use Rattle.wh_rows.specs.declared.cause.Cause.TheVariants.{Memory, Disk};
 ghost use Rattle.wh_rows.specs.Tables.{Tables};
-ghost use Rattle.wh_rows.specs.Rekey.{rekey_text, bind_rekey, are_keys, rekeyed};
+ghost use Rattle.wh_rows.specs.Rekey.{bind_rekey, are_keys};
 ghost use Rattle.wh_rows.specs.AtRest.{IsWriting, Leaves, IsCauseOf};
+ghost use Rattle.wh_sql.specs.Facts.{rekeying, with_rekeyed};
 
 use crate::keeps::Keeps;
 use crate::keys::line_and_keys;
 use sqlite::{Alter, Connection};
 use std::alloc::Global;
 use wh_history::FactKeys;
-use wh_rows::{Cause, LineKey};
+use wh_rows::{Cause, Format, LineKey};
 
 /// Puts the row at its key, in place of the one that was there. Outside a transaction it is refused.
 pub fn put<T: Keeps, S: Alter>(
@@ -62,29 +63,42 @@ pub fn remove<T: Keeps, S: Alter>(
     Ok(())
 }
 
-/// Gives the fact of a line other keys, if it is there; its other columns stay. Outside a transaction it is refused.
+/// The text that gives a fact of a format other keys.
+fn rekeying(format: Format) -> &'static str
+    ensures { result.now ≡ rekeying format }
+{
+    match format {
+        Format::One => {
+            "UPDATE fact SET store_key = ?3, product_key = ?4, customer_key = ?5, profile = ?6 WHERE ticket = ?1 AND line = ?2"
+        }
+        Format::Two => {
+            "UPDATE fact2 SET store_key = ?3, product_key = ?4, customer_key = ?5, profile = ?6 WHERE ticket = ?1 AND line = ?2"
+        }
+    }
+}
+
+/// Gives the fact of a line other keys, if it is there; its other columns stay. Outside a transaction it is refused, and so are facts of the second
+/// format in a warehouse of the first.
 pub fn rekey<S: Alter>(
     alloc: Global,
     conn: &mut Connection<S>,
+    format: Format,
     line: &LineKey,
     keys: &FactKeys,
 ) -> Result<(), Cause>
     ensures clean { HasCleanDisk (state S.Store conn.new) → HasCleanDisk (state S.Store conn.old) }
     ensures counts { (state S.Store conn.old).faults ≤ (state S.Store conn.new).faults }
     ensures rekeyed { HasCleanDisk (state S.Store conn.new) → (before : Option Tables) (made : Tables) → IsWriting before (Some made) (state S.Store conn.old)
-        → IsTrue (are_keys keys.now) → OnOk result (IsWriting before (Some (record made { fact = rekeyed (line.now, keys.now) made.fact })) (state S.Store conn.new)) }
+        → IsTrue (are_keys keys.now) → OnOk result (IsWriting before (Some (with_rekeyed format (line.now, keys.now) made)) (state S.Store conn.new)) }
     ensures left { HasCleanDisk (state S.Store conn.new) → (before : Option Tables) (made : Tables) → IsWriting before (Some made) (state S.Store conn.old) → Leaves before (state S.Store conn.new) }
     ensures cause { HasCleanDisk (state S.Store conn.new) → IsTrue (state S.Store conn.old).in_transaction → IsTrue (are_keys keys.now)
-        → IfErr result (λ cause. cause ≢ Memory → IsCauseOf rekey_text (bind_rekey (line.now, keys.now)) (state S.Store conn.old) (state S.Store conn.new) cause) }
+        → IfErr result (λ cause. cause ≢ Memory → IsCauseOf (rekeying format) (bind_rekey (line.now, keys.now)) (state S.Store conn.old) (state S.Store conn.new) cause) }
     ensures late { conn.old.in_transaction ≡ false → (result ≡ Err Disk) × (conn.new ≡ conn.old) }
 {
     if conn.is_autocommit() {
         return Err(Cause::Disk);
     }
     let values = line_and_keys(alloc, line, keys)?;
-    conn.execute(
-        "UPDATE fact SET store_key = ?3, product_key = ?4, customer_key = ?5, profile = ?6 WHERE ticket = ?1 AND line = ?2",
-        &values,
-    )?;
+    conn.execute(rekeying(format), &values)?;
     Ok(())
 }

@@ -6,3 +6,6 @@ pub mod Opened
 pub mod Scanning
 pub mod ScanningStored
 pub mod InMemory
+pub mod Absent
+pub mod Upgraded
+mod FormatFaults

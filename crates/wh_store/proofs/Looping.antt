@@ -1,8 +1,9 @@
 -- Steps on one table, one after the other.
-use Rattle.std.proofs.Common.{◌≡◌, ℕ, ◌+◌, ◌<◌, ◌≤◌, List, [], ◌∷◌, length, drop, get_or, sym, ap, subst, ◌∙◌, arith, drop-cons}
+use Rattle.std.proofs.Common.{◌≡◌, Bool, ℕ, ◌+◌, ◌<◌, ◌≤◌, List, [], ◌∷◌, length, drop, get_or, sym, ap, subst, ◌∙◌, arith, drop-cons}
 use Rattle.std.proofs.lemmas.Grind.{common_steps}
 use Rattle.std.specs.List.{AllByRecursion}
 use Rattle.std.specs.FinMap.{FinMap}
+use Rattle.wh_rows.specs.declared.format.Format.{Format}
 use Rattle.wh_rows.specs.Holds.{Layout}
 use Rattle.wh_rows.specs.Place.{IsPlaced}
 use Rattle.wh_rows.specs.Tables.{Tables}
@@ -23,7 +24,7 @@ pub record IsOnTheWay {E M : Type 0} (step : E → M → M) (may : E → Type 0)
   pub leads : with_rows (after_all step left (rows now)) now ≡ whole
 
 module _ {K V E : Type 0} (layout : Layout K V) (step : E → FinMap layout.order V → FinMap layout.order V) (may : E → Type 0)
-    (rows : Tables → FinMap layout.order V) (with_rows : FinMap layout.order V → Tables → Tables) (placed : IsPlaced layout rows with_rows) where
+    (rows : Tables → FinMap layout.order V) (with_rows : FinMap layout.order V → Tables → Tables) {is_in : Format → Bool} (placed : IsPlaced layout rows with_rows is_in) where
   module _ (es : List E) (i : ℕ) (e : E) (now whole : Tables) (is : drop i es ≡ e ∷ drop (i + 1) es) (way : IsOnTheWay step may rows with_rows (drop i es) now whole) where
     here : IsOnTheWay step may rows with_rows (e ∷ drop (i + 1) es) now whole
     here = subst (λ left. IsOnTheWay step may rows with_rows left now whole) is way

@@ -7,7 +7,7 @@ use Rattle.sqlite_catalog.proofs.ReadLemmas.{lists_once}
 use Rattle.sqlite.specs.Effect.{Database, IsDatabase}
 use Rattle.sqlite.specs.State.{State, Opens, IsLive}
 use Rattle.wh_rows.specs.Tables.{Tables}
-use Rattle.wh_rows.specs.Schema.{warehouse}
+use Rattle.wh_rows.specs.Schema.{schema_in}
 use Rattle.wh_rows.specs.AtRest.{Has, AreTrees, IsAtRest, schema_of}
 use Rattle.wh_rows.specs.Raw.{Stored, IsStored, RestsOn}
 use Rattle.wh_store.specs.InFiles.{AreTreesOn}
@@ -33,8 +33,8 @@ opened_rests held s trees are opens live found settled = record {
 -- in a database of these trees is stored what they store
 stored_again : (stored : Stored) (trees : Trees) (db : Database) → AreTreesOn stored trees → IsDatabase db → db.trees ≡ trees → IsStored stored db
 stored_again stored trees db are sound same =
-    let schema : db.schema ≡ warehouse = lists_once (db.trees catalog_tree) db.schema warehouse sound.lists (subst (λ (t : Trees). Lists (t catalog_tree) warehouse) (sym same) are.sound.lists) in
-    let is : db ≡ record { schema = warehouse; trees = trees } = λ i. record { schema = schema i; trees = same i } in
+    let schema : db.schema ≡ (schema_in stored.format) = lists_once (db.trees catalog_tree) db.schema (schema_in stored.format) sound.lists (subst (λ (t : Trees). Lists (t catalog_tree) (schema_in stored.format)) (sym same) are.sound.lists) in
+    let is : db ≡ record { schema = (schema_in stored.format); trees = trees } = λ i. record { schema = schema i; trees = same i } in
     subst (IsStored stored) (sym is) are
 
 -- and it rests on what they store

@@ -3,6 +3,7 @@ use Rattle.std.proofs.Common.{◌≡◌, ℕ, zero, suc, ◌-◌, List, [], ◌�
 use Rattle.std.specs.FinMap.{FinMap, values}
 use Rattle.std.specs.Option.{option_to_list}
 use Rattle.sqlite.specs.State.{State}
+use Rattle.wh_rows.specs.declared.format.Format.{Format}
 use Rattle.wh_rows.specs.Holds.{Layout}
 use Rattle.wh_rows.specs.Place.{IsPlaced}
 use Rattle.wh_rows.specs.Tables.{Tables}
@@ -15,13 +16,13 @@ use Rattle.std.proofs.lemmas.Bool.{and_parts}
 use Rattle.wh_sql.specs.Part.{HasKey}
 use Rattle.wh_store.specs.Scan.{HandsOut}
 
-module _ {K V : Type 0} (layout : Layout K V) (rows : Tables → FinMap layout.order V) (with_rows : FinMap layout.order V → Tables → Tables) (placed : IsPlaced layout rows with_rows) (s : State) (t : Tables) (at : IsAtRest (Some t) s) where
+module _ {K V : Type 0} (layout : Layout K V) (rows : Tables → FinMap layout.order V) (with_rows : FinMap layout.order V → Tables → Tables) {is_in : Format → Bool} (placed : IsPlaced layout rows with_rows is_in) (s : State) (t : Tables) (at : IsAtRest (Some t) s) where
   -- a part that was read and what is after its last row are what was left
   pub part_read : (most : ℕ) → nat_lt 0 most ≡ true → (after next : Option K) (read : List V) (n : ℕ) → read ≡ part (Some (forward most)) (filter (is_behind layout after) (values (rows t))) → next ≡ option_map layout.key (slice_get read (length read - 1)) → n ≡ length read
       → read ++ (if nat_lt n most then [] else filter (is_behind layout next) (values (rows t))) ≡ filter (is_behind layout after) (values (rows t))
   part_read most some after next read n are last long =
       ap (λ (k : Option K). read ++ (if nat_lt n most then [] else filter (is_behind layout k) (values (rows t)))) last
-      ∙ part_and_rest layout placed.total (rows t) (placed.held s.now t at.now.tables).keyed after most (grind (arith, some)) read are (nat_lt n most) (λ short. grind (arith, long, short)) (λ full. grind (arith, long, full))
+      ∙ part_and_rest layout placed.total (rows t) (placed.keyed s.now t at.now.tables) after most (grind (arith, some)) read are (nat_lt n most) (λ short. grind (arith, long, short)) (λ full. grind (arith, long, full))
 
 -- the first of the rows that were read ahead is handed out
 pub handed : {V : Type 0} (found : Option V) (items rest unread : List V) (is_over : Bool) → items ≡ option_to_list found ++ rest → (items ≡ [] → is_over ≡ true) → (found ≡ None → rest ≡ [])

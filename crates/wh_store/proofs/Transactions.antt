@@ -1,5 +1,5 @@
 -- What the statements that begin and end a transaction do, and what a statement may leave.
-use Rattle.std.proofs.Common.{◌≡◌, ◌⊎◌, inl, inr, List, [], ℕ, length, codes, false, None, Option, Ok, Err, Result, IsTrue, OnErr, refl, sym, ap, subst, subst₂, append-nil, ◌∙◌, arith}
+use Rattle.std.proofs.Common.{◌≡◌, ◌⊎◌, ◌+◌, inl, inr, Bool, List, [], ℕ, length, codes, true, false, if◌then◌else◌, None, Option, Ok, Err, Result, IsTrue, OnErr, refl, sym, ap, subst, subst₂, append-nil, ◌∙◌, arith}
 use Rattle.sqlite.specs.Order.{Row}
 use Rattle.sqlite.specs.Tree.{Trees}
 use Rattle.sqlite.specs.Schema.{Schema}
@@ -190,3 +190,8 @@ commits before made old new count at settled h =
       committed = ran.1.committed_is ∙ sym ran.1.now_is;
       left = leaves_committed made new settled ran.1.is_open committed;
     }
+
+-- how many keys are written after a statement that writes several or none
+pub written_or_not : (inserted : Bool) (before keys : ℕ) (writes : ℕ) → writes ≡ before + keys → (if inserted then writes else before) ≡ before + (if inserted then keys else 0)
+written_or_not true before keys writes same = same
+written_or_not false before keys writes same = omega arith

@@ -12,7 +12,7 @@ use Rattle.sqlite.specs.declared.error.Error.{Error}
 use Rattle.sqlite.specs.declared.file.Leftover.{Leftover}
 use Rattle.wh_rows.specs.AtRest.{AreTrees, IsAtRest}
 use Rattle.wh_rows.specs.Raw.{Stored, IsStored, RestsOn}
-use Rattle.wh_rows.specs.Schema.{warehouse}
+use Rattle.wh_rows.specs.Schema.{schema_in}
 use Rattle.wh_rows.specs.Tables.{Tables}
 
 -- a log and its database file recover to a database that holds this
@@ -21,7 +21,7 @@ AreInFiles held image = ∥ ((trees : Trees) × HoldsDatabase image trees × Are
 
 -- the trees are those of a database of the making's schema in which this is stored, whoever wrote it
 abbrev pub AreTreesOn : Stored → Trees → Type 0
-AreTreesOn stored trees = IsStored stored (record { schema = warehouse; trees = trees })
+AreTreesOn stored trees = IsStored stored (record { schema = schema_in stored.format; trees = trees })
 
 -- a log and its database file recover to such a database
 abbrev pub AreStoredIn : Stored → Image → Type 0

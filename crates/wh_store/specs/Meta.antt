@@ -1,9 +1,12 @@
 -- The rows of meta: the format and the limits of a warehouse.
-use Rattle.std.specs.Prelude.{ℕ, ℤ, pos, codes, List, [], ◌∷◌, ◌++◌, map, if◌then◌else◌, Option, Some, None, Result, Ok, Err, int_lt}
+use Rattle.std.specs.Prelude.{ℕ, ℤ, Bool, pos, codes, List, [], ◌∷◌, ◌++◌, map, if◌then◌else◌, Option, Some, None, Result, Ok, Err, int_lt}
 use Rattle.std.specs.FinMap.{insert, get}
 use Rattle.sqlite_value.specs.declared.value.Value.TheVariants.{Text}
 use Rattle.sqlite.specs.Order.{Row}
 use Rattle.wh_history.specs.Tables.{Limits}
+use Rattle.wh_rows.specs.declared.format.Format.{Format}
+use Rattle.wh_rows.specs.Formats.{format_number}
+use Rattle.wh_rows.specs.declared.format.Format.TheVariants.{One, Two}
 use Rattle.wh_rows.specs.Limits.{limits_of}
 use Rattle.wh_rows.specs.declared.rows.MetaRow.{MetaRow}
 use Rattle.wh_rows.specs.Tables.{Tables, no_tables}
@@ -32,10 +35,11 @@ abbrev pub made_with : Limits → Tables
 made_with limits =
     with_number (codes "format") (pos 1) (with_number (codes "facts_max") (pos limits.facts) (with_number (codes "commands_max") (pos limits.commands) (with_number (codes "changes_max") (pos limits.changes) no_tables)))
 
--- the fault of a format, which is 1 where there is none
-abbrev pub fault_of : Option ℤ → Result (Unit {0}) OpenFault
-fault_of None = Err NotAWarehouse
-fault_of (Some format) = if int_lt format (pos 1) then Err OldFormat else if int_lt (pos 1) format then Err NewFormat else Ok tt
+-- The format that a number says, by the newest format that is known, and where the tables of the second are there or not; or why it is none: no number,
+-- or the second without its tables; below 1; above the newest.
+abbrev pub format_of : Format → Bool → Option ℤ → Result Format OpenFault
+format_of newest second None = Err NotAWarehouse
+format_of newest second (Some number) = if int_lt number (pos 1) then Err OldFormat else if int_lt (pos (format_number newest)) number then Err NewFormat else if int_lt number (pos 2) then Ok One else if second then Ok Two else Err NotAWarehouse
 
 -- the limits of three numbers, where they are there and good
 abbrev pub limits_of_numbers : Option ℤ → Option ℤ → Option ℤ → Option Limits

@@ -1,7 +1,8 @@
 -- What opening a warehouse answers.
-use Rattle.std.specs.Prelude.{◌≡◌, [], ◌∷◌, Result, Ok, Err, IfErr, ⊤, codes}
+use Rattle.std.specs.Prelude.{◌≡◌, Bool, [], ◌∷◌, Result, Ok, Err, IfErr, ⊤, codes}
 use Rattle.sqlite_value.specs.declared.value.Value.TheVariants.{Text}
 use Rattle.sqlite.specs.State.{State}
+use Rattle.wh_rows.specs.declared.format.Format.{Format}
 use Rattle.wh_rows.specs.Tables.{Tables}
 use Rattle.wh_rows.specs.Texts as texts
 use Rattle.wh_sql.specs.Refused.{IsCauseOfQuery}
@@ -11,11 +12,11 @@ use Rattle.wh_sql.specs.declared.fault.ReadFault.TheVariants as reading
 use Rattle.wh_store.specs.declared.tables.Tables.{Tables as Opened}
 use Rattle.wh_store.specs.declared.fault.OpenFault.{OpenFault}
 use Rattle.wh_store.specs.declared.fault.OpenFault.TheVariants.{Memory, Damaged, Store}
-use Rattle.wh_store.specs.Meta.{number_in, fault_of}
+use Rattle.wh_store.specs.Meta.{number_in, format_of}
 
--- it is taken for a warehouse: the format is 1
-abbrev pub IsTaken : Tables → Type 0
-IsTaken t = fault_of (number_in t (codes "format")) ≡ Ok tt
+-- it is taken for a warehouse of this format, by the newest format that is known, and where the tables of the second are there or not
+abbrev pub IsTaken : Format → Bool → Tables → Format → Type 0
+IsTaken newest second t format = format_of newest second (number_in t (codes "format")) ≡ Ok format
 
 -- why rows weren't read, as why a warehouse isn't opened
 abbrev pub unread : ReadFault → OpenFault
@@ -33,11 +34,11 @@ abbrev pub IsServed : {A : Type 0} → Result A OpenFault → Type 0
 IsServed result = IfErr result SparesStore
 
 -- It is refused with this fault: memory ran out; or the store refused to show the format; or it is the format's fault. No row of a warehouse is damaged.
-abbrev pub IsRefusedWith : Tables → State → State → OpenFault → Type 0
-IsRefusedWith t old new Memory = ⊤
-IsRefusedWith t old new (Store cause) = IsCauseOfQuery texts.meta.get (Text (codes "format") ∷ []) old new cause
-IsRefusedWith t old new (Damaged table) = ⊥
-IsRefusedWith t old new fault = fault_of (number_in t (codes "format")) ≡ Err fault
+abbrev pub IsRefusedWith : Format → Bool → Tables → State → State → OpenFault → Type 0
+IsRefusedWith newest second t old new Memory = ⊤
+IsRefusedWith newest second t old new (Store cause) = IsCauseOfQuery texts.meta.get (Text (codes "format") ∷ []) old new cause
+IsRefusedWith newest second t old new (Damaged table) = ⊥
+IsRefusedWith newest second t old new fault = format_of newest second (number_in t (codes "format")) ≡ Err fault
 
 -- the connection that opening leaves
 abbrev pub connection_after : {S : Type 0} → Result (Opened S) (OpenFault × Held S) → Held S

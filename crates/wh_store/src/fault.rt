@@ -12,8 +12,8 @@ use wh_sql::ReadFault;
 /// Why no tables can be made.
 #[derive(Clone, Copy, Debug, PartialEq, Eq, Error)]
 pub enum MakeFault {
-    /// A table, an index or a view has the name of one of the ten tables.
-    #[error("a name of the ten tables is taken")]
+    /// A table, an index or a view has the name of one of the twelve tables.
+    #[error("a name of the twelve tables is taken")]
     NotEmpty,
     /// The connection is inside a transaction.
     #[error("the connection is inside a transaction")]

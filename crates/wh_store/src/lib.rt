@@ -1,4 +1,4 @@
-//! The ten tables of a warehouse over a connection, written in whole transactions.
+//! The tables of a warehouse over a connection, written in whole transactions.
 #![tactic(auto)]
 
 mod fault;
@@ -13,9 +13,9 @@ pub use fault::{MakeFault, OpenFault};
 pub use reopen::{into_files, open_fresh, open_path, restart};
 pub use scan::{Cursor, Scan, next_row};
 pub use tables::Tables;
-pub use wh_rows::{Cause, Limits, Table};
+pub use wh_rows::{Cause, Format, Limits, Table};
 pub use wh_sql::{
-    CommandOf, Dimension, FACTS_AT_ONCE, Greatest, GreatestOf, Keeps, LastPolicy, MemberOf,
+    CommandOf, Dimension, FACTS_AT_ONCE, Facts, Greatest, GreatestOf, Keeps, LastPolicy, MemberOf,
     ProfileOf, Question, ReadFault, RecordsOf, RowsOf, SalesBetween, Scanned, Tally,
 };
-pub use writing::Writing;
+pub use writing::{Writing, upgrade};

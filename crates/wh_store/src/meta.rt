@@ -1,6 +1,6 @@
 //! The rows of meta: the format and the limits.
 
-ghost use Rattle.std.specs.Prelude.{◌≡◌, ◌≢◌, ◌≤◌, [], ◌∷◌, pos, codes, false, Some, Ok, Err, IfOk, IfErr, OnOk};
+ghost use Rattle.std.specs.Prelude.{◌≡◌, ◌≢◌, ◌≤◌, int_lt, [], ◌∷◌, pos, codes, false, Some, Ok, Err, IfOk, IfErr, OnOk};
 ghost use Rattle.sqlite_value.specs.declared.value.Value.TheVariants.{Text};
 ghost use Rattle.sqlite.specs.Held.{state};
 ghost use Rattle.sqlite.specs.State.{HasCleanDisk};
@@ -8,12 +8,13 @@ ghost use Rattle.wh_rows.specs.declared.table.Table.{Table};
 ghost use Rattle.wh_rows.specs.declared.table.Table.TheVariants.{Meta as OfMeta};
 ghost use Rattle.wh_rows.specs.declared.cause.Cause.TheVariants.{Memory};
 ghost use Rattle.wh_rows.specs.Types.{is_number};
+ghost use Rattle.wh_rows.specs.Formats.{format_number};
 ghost use Rattle.wh_rows.specs.Rows.{meta};
 ghost use Rattle.wh_rows.specs.Texts as texts;
 ghost use Rattle.wh_store.specs.Raw.{rows_named, IsNumberIn, FormatIs, IsRefusedOn};
 ghost use Rattle.wh_sql.specs.Reads.{ReadsOnly, Spares, IsOfDamage, FailsToShow};
 ghost use Rattle.wh_store.specs.Reads.{SaysAtRest, SaysAsStored};
-ghost use Rattle.wh_store.specs.Meta.{number_in, limits_of_numbers};
+ghost use Rattle.wh_store.specs.Meta.{number_in, format_of, limits_of_numbers};
 ghost use Rattle.wh_store.specs.Opening.{IsServed, IsTaken, IsRefusedWith};
 
 use crate::fault::OpenFault;
@@ -21,7 +22,7 @@ use sqlite::{Alter, Connection};
 use std::alloc::Global;
 use wh_day::Value;
 use wh_rows::tables::Meta;
-use wh_rows::{Cause, Limits, MetaRow, Table};
+use wh_rows::{Cause, Format, Limits, MetaRow, Table};
 use wh_sql::{ReadFault, get};
 
 /// The number under a name, if there is one.
@@ -49,26 +50,56 @@ pub(crate) fn number<S: Alter>(
     }
 }
 
-/// Whether the format is the one that this program knows.
-pub(crate) fn check_format<S: Alter>(
+/// The format that the number says. `newest`: the newest format that the caller knows. `second`: the tables of the second format are there too, which it
+/// needs.
+pub(crate) fn find_format<S: Alter>(
     alloc: Global,
     conn: &mut Connection<S>,
-) -> Result<(), OpenFault>
+    newest: Format,
+    second: bool,
+) -> Result<Format, OpenFault>
     ensures reads { Spares (state S.Store conn.old) (state S.Store conn.new) (IsServed result) }
-    ensures taken { SaysAtRest (state S.Store conn.old) (state S.Store conn.new) (λ t. OnOk result (IsTaken t)) }
-    ensures refused { SaysAtRest (state S.Store conn.old) (state S.Store conn.new) (λ t. IfErr result (IsRefusedWith t (state S.Store conn.old) (state S.Store conn.new))) }
+    ensures taken { SaysAtRest (state S.Store conn.old) (state S.Store conn.new) (λ t. IfOk result (IsTaken newest second t)) }
+    ensures refused { SaysAtRest (state S.Store conn.old) (state S.Store conn.new) (λ t. IfErr result (IsRefusedWith newest second t (state S.Store conn.old) (state S.Store conn.new))) }
+    ensures known { IfOk result (λ format. format_number format ≤ format_number newest) }
     // The same of any rows, whoever wrote them: by those of the format.
-    ensures taken_stored { SaysAsStored (state S.Store conn.old) (state S.Store conn.new) (λ stored. OnOk result (FormatIs stored (Ok tt))) }
-    ensures refused_stored { SaysAsStored (state S.Store conn.old) (state S.Store conn.new) (λ stored. IfErr result (IsRefusedOn stored)) }
+    ensures taken_stored { SaysAsStored (state S.Store conn.old) (state S.Store conn.new) (λ stored. IfOk result (λ format. FormatIs newest second stored (Ok format))) }
+    ensures refused_stored { SaysAsStored (state S.Store conn.old) (state S.Store conn.new) (λ stored. IfErr result (IsRefusedOn newest second stored)) }
 {
     match number(alloc, conn, "format") {
-        Ok(None) => Err(OpenFault::NotAWarehouse),
-        Ok(Some(format)) if format < 1 => Err(OpenFault::OldFormat),
-        Ok(Some(format)) if format > 1 => Err(OpenFault::NewFormat),
-        Ok(Some(_)) => Ok(()),
+        Ok(number) => format_of(newest, second, number),
         Err(ReadFault::Memory) => Err(OpenFault::Memory),
         Err(ReadFault::Damaged(table)) => Err(OpenFault::Damaged(table)),
         Err(ReadFault::Store(cause)) => Err(OpenFault::Store(cause)),
+    }
+}
+
+/// Whether a number is that of a format that came after this one.
+fn is_after(newest: Format, number: i64) -> bool
+    ensures { result ≡ int_lt (pos (format_number newest)) number }
+{
+    match newest {
+        Format::One => number > 1,
+        Format::Two => number > 2,
+    }
+}
+
+/// The format of a number that meta may have.
+fn format_of(newest: Format, second: bool, number: Option<i64>) -> Result<Format, OpenFault>
+    ensures { result ≡ format_of newest second number }
+{
+    match number {
+        None => Err(OpenFault::NotAWarehouse),
+        Some(number) if number < 1 => Err(OpenFault::OldFormat),
+        Some(number) if is_after(newest, number) => Err(OpenFault::NewFormat),
+        Some(number) if number < 2 => Ok(Format::One),
+        Some(_) => {
+            if second {
+                Ok(Format::Two)
+            } else {
+                Err(OpenFault::NotAWarehouse)
+            }
+        }
     }
 }
 

@@ -5,13 +5,13 @@ ghost use Rattle.std.specs.FinMap.{FinMap, values};
 ghost use Rattle.std.specs.Vec.Iter.{into_iter_items};
 ghost use Rattle.sqlite.specs.State.{HasCleanDisk};
 ghost use Rattle.wh_rows.specs.Holds.{Layout};
-ghost use Rattle.wh_rows.specs.Tables.{Tables as TenTables};
+ghost use Rattle.wh_rows.specs.Tables.{Tables as TypedTables};
 ghost use Rattle.wh_rows.specs.Parts.{forward, part_text, bind_part, stands_behind, IsArranged};
 ghost use Rattle.wh_rows.specs.Raw.{Stored};
 ghost use Rattle.sqlite.specs.Order.{Row as Columns};
 ghost use Rattle.wh_sql.specs.Part.{HasKey};
 ghost use Rattle.wh_sql.specs.Reads.{ReadsOnly, IsOfAskedDamage, FailsToShow};
-ghost use Rattle.wh_store.specs.Reads.{state_of, SaysAtRest, SaysAsStored};
+ghost use Rattle.wh_store.specs.Reads.{state_of, SaysAsStored, SaysInFormat, SaysAsStoredIn};
 ghost use Rattle.wh_store.specs.Scan.{rows_left, HandsOut, IsOver, AreLeft, HandsOutOf, AreValid};
 
 use crate::tables::Tables;
@@ -65,16 +65,17 @@ fn read_ahead<T: Scanned, S: Alter>(
     cursor: &mut Cursor<T::Key, T::Row>,
 ) -> Result<(), ReadFault>
     ensures reads { ReadsOnly (state_of S.Store tables.old) (state_of S.Store tables.new) result }
-    ensures rows { SaysAtRest (state_of S.Store tables.old) (state_of S.Store tables.new) (λ t. IfOk result (λ _. cursor.old.is_over ≡ false → into_iter_items cursor.old.ahead ≡ [] → rows_left T.StoredTable.layout (T.StoredTable.rows t) cursor.new ≡ rows_left T.StoredTable.layout (T.StoredTable.rows t) cursor.old)) }
+    ensures same_format { tables.new.format ≡ tables.old.format }
+    ensures rows { SaysInFormat S.Store T.Keeps.name tables.old tables.new (λ t. IfOk result (λ _. cursor.old.is_over ≡ false → into_iter_items cursor.old.ahead ≡ [] → rows_left T.StoredTable.layout (T.StoredTable.rows t) cursor.new ≡ rows_left T.StoredTable.layout (T.StoredTable.rows t) cursor.old)) }
     // Of any rows, whoever wrote them, none is missed and none comes twice.
-    ensures stored { SaysAsStored (state_of S.Store tables.old) (state_of S.Store tables.new) (λ stored. IfOk result (λ _. cursor.old.is_over ≡ false → into_iter_items cursor.old.ahead ≡ [] → (left : List Columns)
-        → AreLeft T.StoredTable.layout T.Keeps.bind (stored T.Keeps.name) cursor.new left → AreLeft T.StoredTable.layout T.Keeps.bind (stored T.Keeps.name) cursor.old left)) }
+    ensures stored { SaysAsStoredIn S.Store T.Keeps.name tables.old tables.new (λ stored. IfOk result (λ _. cursor.old.is_over ≡ false → into_iter_items cursor.old.ahead ≡ [] → (left : List Columns)
+        → AreLeft T.StoredTable.layout T.Keeps.bind (stored.rows T.Keeps.name) cursor.new left → AreLeft T.StoredTable.layout T.Keeps.bind (stored.rows T.Keeps.name) cursor.old left)) }
     // A row of the part that is damaged is reported.
-    ensures damaged { SaysAsStored (state_of S.Store tables.old) (state_of S.Store tables.new) (λ stored. IfErr result (IsOfAskedDamage (Some (forward T.part_texts.most)) T.StoredTable.layout T.Keeps.name (filter (stands_behind T.StoredTable.layout T.Keeps.bind cursor.old.unread.after) (stored T.Keeps.name)))) }
+    ensures damaged { SaysAsStored (state_of S.Store tables.old) (state_of S.Store tables.new) (λ stored. IfErr result (IsOfAskedDamage (Some (forward T.part_texts.most)) T.StoredTable.layout T.Keeps.name (filter (stands_behind T.StoredTable.layout T.Keeps.bind cursor.old.unread.after) (stored.rows T.Keeps.name)))) }
     ensures refused { HasCleanDisk (state_of S.Store tables.new) → HasKey T.StoredTable.layout cursor.old.unread.after → IfErr result (FailsToShow T.StoredTable.layout T.Keeps.name (part_text T.part_texts cursor.old.unread.after) (bind_part T.Keeps.bind cursor.old.unread.after) (state_of S.Store tables.old) (state_of S.Store tables.new)) }
-    ensures keyed { SaysAsStored (state_of S.Store tables.old) (state_of S.Store tables.new) (λ _. IfOk result (λ _. HasKey T.StoredTable.layout cursor.new.unread.after)) }
+    ensures keyed { SaysAsStoredIn S.Store T.Keeps.name tables.old tables.new (λ _. IfOk result (λ _. HasKey T.StoredTable.layout cursor.new.unread.after)) }
     // All that is read ahead is of its type.
-    ensures valid { SaysAsStored (state_of S.Store tables.old) (state_of S.Store tables.new) (λ _. IfOk result (λ _. AreValid T.StoredTable.layout cursor.new)) }
+    ensures valid { SaysAsStoredIn S.Store T.Keeps.name tables.old tables.new (λ _. IfOk result (λ _. AreValid T.StoredTable.layout cursor.new)) }
     // Nothing is read ahead only where nothing is left.
     ensures short { IfOk result (λ _. into_iter_items cursor.new.ahead ≡ [] → IsTrue cursor.new.is_over) }
     ensures ended { into_iter_items cursor.old.ahead ≡ [] → OnErr result (IsOver cursor.new) }
@@ -96,15 +97,16 @@ pub fn next_row<T: Scanned, S: Alter>(
     cursor: &mut Cursor<T::Key, T::Row>,
 ) -> Result<Option<T::Row>, ReadFault>
     ensures reads { ReadsOnly (state_of S.Store tables.old) (state_of S.Store tables.new) result }
-    ensures rows { SaysAtRest (state_of S.Store tables.old) (state_of S.Store tables.new) (λ t. IfOk result (λ found. HandsOut (rows_left T.StoredTable.layout (T.StoredTable.rows t) cursor.old) found (rows_left T.StoredTable.layout (T.StoredTable.rows t) cursor.new))) }
+    ensures same_format { tables.new.format ≡ tables.old.format }
+    ensures rows { SaysInFormat S.Store T.Keeps.name tables.old tables.new (λ t. IfOk result (λ found. HandsOut (rows_left T.StoredTable.layout (T.StoredTable.rows t) cursor.old) found (rows_left T.StoredTable.layout (T.StoredTable.rows t) cursor.new))) }
     // Of any rows, whoever wrote them, none is missed and none comes twice.
-    ensures stored { SaysAsStored (state_of S.Store tables.old) (state_of S.Store tables.new) (λ stored. IfOk result (λ found. HandsOutOf T.StoredTable.layout T.Keeps.bind (stored T.Keeps.name) cursor.old found cursor.new)) }
+    ensures stored { SaysAsStoredIn S.Store T.Keeps.name tables.old tables.new (λ stored. IfOk result (λ found. HandsOutOf T.StoredTable.layout T.Keeps.bind (stored.rows T.Keeps.name) cursor.old found cursor.new)) }
     // What is handed out is of its type.
-    ensures valid { SaysAsStored (state_of S.Store tables.old) (state_of S.Store tables.new) (λ _. AreValid T.StoredTable.layout cursor.old → IfOk result (λ found. IfSome found (λ row. IsTrue (T.StoredTable.layout.is_valid row)) × AreValid T.StoredTable.layout cursor.new)) }
+    ensures valid { SaysAsStoredIn S.Store T.Keeps.name tables.old tables.new (λ _. AreValid T.StoredTable.layout cursor.old → IfOk result (λ found. IfSome found (λ row. IsTrue (T.StoredTable.layout.is_valid row)) × AreValid T.StoredTable.layout cursor.new)) }
     // A damaged row is reported with the part that it is in.
-    ensures damaged { SaysAsStored (state_of S.Store tables.old) (state_of S.Store tables.new) (λ stored. IfErr result (IsOfAskedDamage (Some (forward T.part_texts.most)) T.StoredTable.layout T.Keeps.name (filter (stands_behind T.StoredTable.layout T.Keeps.bind cursor.old.unread.after) (stored T.Keeps.name)))) }
+    ensures damaged { SaysAsStored (state_of S.Store tables.old) (state_of S.Store tables.new) (λ stored. IfErr result (IsOfAskedDamage (Some (forward T.part_texts.most)) T.StoredTable.layout T.Keeps.name (filter (stands_behind T.StoredTable.layout T.Keeps.bind cursor.old.unread.after) (stored.rows T.Keeps.name)))) }
     ensures refused { HasCleanDisk (state_of S.Store tables.new) → HasKey T.StoredTable.layout cursor.old.unread.after → IfErr result (FailsToShow T.StoredTable.layout T.Keeps.name (part_text T.part_texts cursor.old.unread.after) (bind_part T.Keeps.bind cursor.old.unread.after) (state_of S.Store tables.old) (state_of S.Store tables.new)) }
-    ensures keyed { SaysAsStored (state_of S.Store tables.old) (state_of S.Store tables.new) (λ _. HasKey T.StoredTable.layout cursor.old.unread.after → IfOk result (λ _. HasKey T.StoredTable.layout cursor.new.unread.after)) }
+    ensures keyed { SaysAsStoredIn S.Store T.Keeps.name tables.old tables.new (λ _. HasKey T.StoredTable.layout cursor.old.unread.after → IfOk result (λ _. HasKey T.StoredTable.layout cursor.new.unread.after)) }
     ensures ended { OnErr result (IsOver cursor.new) }
     ensures over { IsOver cursor.old → (result ≡ Ok None) × (tables.new ≡ tables.old) × IsOver cursor.new }
 {
@@ -131,13 +133,14 @@ impl<'t, S: Alter, T: Scanned> Scan<'t, S, T> {
     pub fn next_row(&mut self, alloc: Global) -> Result<Option<T::Row>, ReadFault>
         ensures same_reference { self.new.tables.ghost_name ≡ self.old.tables.ghost_name }
         ensures reads { ReadsOnly (state_of S.Store self.old.tables.now) (state_of S.Store self.new.tables.now) result }
-        ensures rows { SaysAtRest (state_of S.Store self.old.tables.now) (state_of S.Store self.new.tables.now) (λ t. IfOk result (λ found. HandsOut (rows_left T.StoredTable.layout (T.StoredTable.rows t) self.old.cursor) found (rows_left T.StoredTable.layout (T.StoredTable.rows t) self.new.cursor))) }
+        ensures same_format { self.new.tables.now.format ≡ self.old.tables.now.format }
+        ensures rows { SaysInFormat S.Store T.Keeps.name self.old.tables.now self.new.tables.now (λ t. IfOk result (λ found. HandsOut (rows_left T.StoredTable.layout (T.StoredTable.rows t) self.old.cursor) found (rows_left T.StoredTable.layout (T.StoredTable.rows t) self.new.cursor))) }
         // Of any rows, whoever wrote them, none is missed and none comes twice.
-        ensures stored { SaysAsStored (state_of S.Store self.old.tables.now) (state_of S.Store self.new.tables.now) (λ stored. IfOk result (λ found. HandsOutOf T.StoredTable.layout T.Keeps.bind (stored T.Keeps.name) self.old.cursor found self.new.cursor)) }
+        ensures stored { SaysAsStoredIn S.Store T.Keeps.name self.old.tables.now self.new.tables.now (λ stored. IfOk result (λ found. HandsOutOf T.StoredTable.layout T.Keeps.bind (stored.rows T.Keeps.name) self.old.cursor found self.new.cursor)) }
         // A damaged row is reported with the part that it is in.
-        ensures damaged { SaysAsStored (state_of S.Store self.old.tables.now) (state_of S.Store self.new.tables.now) (λ stored. IfErr result (IsOfAskedDamage (Some (forward T.part_texts.most)) T.StoredTable.layout T.Keeps.name (filter (stands_behind T.StoredTable.layout T.Keeps.bind self.old.cursor.unread.after) (stored T.Keeps.name)))) }
+        ensures damaged { SaysAsStored (state_of S.Store self.old.tables.now) (state_of S.Store self.new.tables.now) (λ stored. IfErr result (IsOfAskedDamage (Some (forward T.part_texts.most)) T.StoredTable.layout T.Keeps.name (filter (stands_behind T.StoredTable.layout T.Keeps.bind self.old.cursor.unread.after) (stored.rows T.Keeps.name)))) }
         ensures refused { HasCleanDisk (state_of S.Store self.new.tables.now) → HasKey T.StoredTable.layout self.old.cursor.unread.after → IfErr result (FailsToShow T.StoredTable.layout T.Keeps.name (part_text T.part_texts self.old.cursor.unread.after) (bind_part T.Keeps.bind self.old.cursor.unread.after) (state_of S.Store self.old.tables.now) (state_of S.Store self.new.tables.now)) }
-        ensures keyed { SaysAsStored (state_of S.Store self.old.tables.now) (state_of S.Store self.new.tables.now) (λ _. HasKey T.StoredTable.layout self.old.cursor.unread.after → IfOk result (λ _. HasKey T.StoredTable.layout self.new.cursor.unread.after)) }
+        ensures keyed { SaysAsStoredIn S.Store T.Keeps.name self.old.tables.now self.new.tables.now (λ _. HasKey T.StoredTable.layout self.old.cursor.unread.after → IfOk result (λ _. HasKey T.StoredTable.layout self.new.cursor.unread.after)) }
         ensures ended { OnErr result (IsOver self.new.cursor) }
         ensures over { IsOver self.old.cursor → (result ≡ Ok None) × (self.new.tables.now ≡ self.old.tables.now) × IsOver self.new.cursor }
     {
@@ -150,8 +153,8 @@ impl<S: Alter> Tables<S> {
     pub fn scan<T: Scanned>(&mut self, alloc: Global) -> Scan<'_, S, T>
         ensures same_reference { result.tables.ghost_name ≡ self.entry.ghost_name }
         ensures same { result.tables.now ≡ self.old }
-        ensures left { (t : TenTables) → rows_left T.StoredTable.layout (T.StoredTable.rows t) result.cursor ≡ values (T.StoredTable.rows t) }
-        ensures left_stored { (stored : Stored) (left : List Columns) → AreLeft T.StoredTable.layout T.Keeps.bind (stored T.Keeps.name) result.cursor left → IsArranged T.StoredTable.layout.table (stored T.Keeps.name) left }
+        ensures left { (t : TypedTables) → rows_left T.StoredTable.layout (T.StoredTable.rows t) result.cursor ≡ values (T.StoredTable.rows t) }
+        ensures left_stored { (stored : Stored) (left : List Columns) → AreLeft T.StoredTable.layout T.Keeps.bind (stored.rows T.Keeps.name) result.cursor left → IsArranged T.StoredTable.layout.table (stored.rows T.Keeps.name) left }
     {
         Scan {
             tables: self,

@@ -11,11 +11,15 @@ ghost use Rattle.wh_rows.specs.Rows.{encode_meta};
 ghost use Rattle.wh_rows.specs.Rows as row;
 ghost use Rattle.wh_rows.specs.Texts as texts;
 ghost use Rattle.wh_rows.specs.AtRest.{AreTrees, IsAtRest, IsWriting, Leaves, IsCauseOf};
-ghost use Rattle.wh_rows.specs.Tables.{Tables as TenTables};
-ghost use Rattle.wh_rows.specs.Inserting.{facts_at_once, insert_text, bind_facts, BreaksRule};
-ghost use Rattle.wh_rows.specs.Rekey.{rekey_text, bind_rekey, are_keys, rekeyed};
+ghost use Rattle.wh_rows.specs.Tables.{Tables as TypedTables};
+ghost use Rattle.wh_rows.specs.Inserting.{facts_at_once, insert_text, bind_facts, insert2_text, bind_facts2, BreaksRule};
+ghost use Rattle.wh_rows.specs.Rekey.{rekey_text, bind_rekey, are_keys, rekeyed, rekey2_text, rekeyed2};
 ghost use Rattle.wh_rows.specs.Steps.{with_row, with_rows, after_all};
-ghost use Rattle.wh_sql.specs.Refused.{IsOneRefused};
+ghost use Rattle.wh_rows.specs.declared.format.Format.TheVariants.{One, Two};
+ghost use Rattle.wh_rows.specs.Making.{upgrading_texts};
+ghost use Rattle.wh_sql.specs.Facts.{rekeying, with_rekeyed};
+ghost use Rattle.wh_sql.specs.Refused.{IsOneRefused, bare};
+ghost use Rattle.wh_store.specs.Upgrade.{upgraded};
 ghost use Rattle.wh_store.specs.Reads.{state_of};
 ghost use Rattle.wh_store.specs.Writes.{WritesOnly, Makes, NotesRefusals, Undoes};
 ghost use Rattle.wh_store.specs.Edits.{with_edit, IsValid, Puts, IsOfTypes, statement_of};
@@ -28,15 +32,17 @@ use sqlite::Alter;
 use std::alloc::Global;
 use std::mem::replace;
 use wh_history::{Edit, Fact, FactKeys};
-use wh_rows::tables::Meta;
-use wh_rows::{Cause, Limits, LineKey};
-use wh_sql::{Keeps, create, insert_facts, put, rekey, remove};
+use wh_rows::tables::{self, Meta};
+use wh_rows::{Cause, Fact2, Format, Limits, LineKey};
+use wh_sql::{Keeps, add_second, create, insert_facts, insert_facts2, put, rekey, remove};
 
 /// Edits of the tables. They are kept by `commit` alone: where it is dropped before that, it leaves nothing.
 pub struct Writing<'t, S: Alter> {
     tables: &'t mut Tables<S>,
     /// How many keys it has written.
     writes: u64,
+    /// The format that the tables have with the edits.
+    makes: Format,
     /// Whether a write of it was refused. Such a write may have been made in part, so that nothing is kept then.
     refused: bool,
 }
@@ -47,10 +53,13 @@ impl<'t, S: Alter> Writing<'t, S> {
         ensures same { result.tables.now ≡ tables.old }
         ensures counted { result.writes ≡ 0 }
         ensures fresh { result.refused ≡ false }
+        ensures stays { result.makes ≡ tables.old.format }
     {
+        let makes = tables.format;
         Writing {
             tables,
             writes: 0,
+            makes,
             refused: false,
         }
     }
@@ -73,9 +82,17 @@ impl<'t, S: Alter> Writing<'t, S> {
         }
     }
 
+    /// How many keys it has written after a statement of several, which wrote all of them or none.
+    fn now_written(&self, inserted: bool, writes: u64) -> u64
+        ensures { result ≡ (if inserted then writes else self.now.writes) }
+    {
+        if inserted { writes } else { self.writes }
+    }
+
     /// Puts the row at its key, in place of the one that was there.
     pub fn put<T: Keeps>(&mut self, alloc: Global, row: &T::Row) -> Result<(), Cause>
         ensures same_reference { self.new.tables.ghost_name ≡ self.old.tables.ghost_name }
+        ensures same_format { (self.new.tables.now.format ≡ self.old.tables.now.format) × (self.new.makes ≡ self.old.makes) }
         ensures writes { WritesOnly (state_of S.Store self.old.tables.now) (state_of S.Store self.new.tables.now) ⊤ }
         ensures put { Makes (state_of S.Store self.old.tables.now) (state_of S.Store self.new.tables.now) result (IsValid T.layout row.now) (λ made. T.with_rows (insert (T.rows made) (T.layout.key row.now) row.now) made) }
         ensures cause { HasCleanDisk (state_of S.Store self.new.tables.now) → IsTrue (state_of S.Store self.old.tables.now).in_transaction → self.old.writes < u64.MAX → IsValid T.layout row.now
@@ -94,6 +111,7 @@ impl<'t, S: Alter> Writing<'t, S> {
     /// Takes out the row at the key, if one is there.
     pub fn remove<T: Keeps>(&mut self, alloc: Global, key: &T::Key) -> Result<(), Cause>
         ensures same_reference { self.new.tables.ghost_name ≡ self.old.tables.ghost_name }
+        ensures same_format { (self.new.tables.now.format ≡ self.old.tables.now.format) × (self.new.makes ≡ self.old.makes) }
         ensures writes { WritesOnly (state_of S.Store self.old.tables.now) (state_of S.Store self.new.tables.now) ⊤ }
         ensures removed { Makes (state_of S.Store self.old.tables.now) (state_of S.Store self.new.tables.now) result ⊤ (λ made. T.with_rows (remove (T.rows made) key.now) made) }
         ensures cause { HasCleanDisk (state_of S.Store self.new.tables.now) → IsTrue (state_of S.Store self.old.tables.now).in_transaction → self.old.writes < u64.MAX → (row : T.Row) → IsTrue (T.layout.is_valid row) → T.layout.key row ≡ key.now
@@ -109,9 +127,35 @@ impl<'t, S: Alter> Writing<'t, S> {
         Ok(())
     }
 
+    /// Gives the fact of a line of a format other keys.
+    fn rekey_in(
+        &mut self,
+        alloc: Global,
+        format: Format,
+        line: &LineKey,
+        keys: &FactKeys,
+    ) -> Result<(), Cause>
+        ensures same_reference { self.new.tables.ghost_name ≡ self.old.tables.ghost_name }
+        ensures same_format { (self.new.tables.now.format ≡ self.old.tables.now.format) × (self.new.makes ≡ self.old.makes) }
+        ensures writes { WritesOnly (state_of S.Store self.old.tables.now) (state_of S.Store self.new.tables.now) ⊤ }
+        ensures rekeyed { Makes (state_of S.Store self.old.tables.now) (state_of S.Store self.new.tables.now) result (IsTrue (are_keys keys.now)) (with_rekeyed format (line.now, keys.now)) }
+        ensures cause { HasCleanDisk (state_of S.Store self.new.tables.now) → IsTrue (state_of S.Store self.old.tables.now).in_transaction → self.old.writes < u64.MAX → IsTrue (are_keys keys.now)
+            → IfErr result (λ cause. cause ≢ Memory → IsCauseOf (rekeying format) (bind_rekey (line.now, keys.now)) (state_of S.Store self.old.tables.now) (state_of S.Store self.new.tables.now) cause) }
+        ensures counted { OnOk result (self.new.writes ≡ self.old.writes + 1) }
+        ensures noted { NotesRefusals self.old.refused self.new.refused result }
+    {
+        let refused = replace(&mut self.refused, true);
+        let writes = self.and(1)?;
+        rekey(alloc, &mut self.tables.conn, format, line, keys)?;
+        self.writes = writes;
+        self.refused = refused;
+        Ok(())
+    }
+
     /// Gives the fact of a line other keys, if it is there; its other columns stay.
     pub fn rekey(&mut self, alloc: Global, line: &LineKey, keys: &FactKeys) -> Result<(), Cause>
         ensures same_reference { self.new.tables.ghost_name ≡ self.old.tables.ghost_name }
+        ensures same_format { (self.new.tables.now.format ≡ self.old.tables.now.format) × (self.new.makes ≡ self.old.makes) }
         ensures writes { WritesOnly (state_of S.Store self.old.tables.now) (state_of S.Store self.new.tables.now) ⊤ }
         ensures rekeyed { Makes (state_of S.Store self.old.tables.now) (state_of S.Store self.new.tables.now) result (IsTrue (are_keys keys.now)) (λ made. record made { fact = rekeyed (line.now, keys.now) made.fact }) }
         ensures cause { HasCleanDisk (state_of S.Store self.new.tables.now) → IsTrue (state_of S.Store self.old.tables.now).in_transaction → self.old.writes < u64.MAX → IsTrue (are_keys keys.now)
@@ -119,20 +163,30 @@ impl<'t, S: Alter> Writing<'t, S> {
         ensures counted { OnOk result (self.new.writes ≡ self.old.writes + 1) }
         ensures noted { NotesRefusals self.old.refused self.new.refused result }
     {
-        let refused = replace(&mut self.refused, true);
-        let writes = self.and(1)?;
-        rekey(alloc, &mut self.tables.conn, line, keys)?;
-        self.writes = writes;
-        self.refused = refused;
-        Ok(())
+        self.rekey_in(alloc, Format::One, line, keys)
+    }
+
+    /// The same in the second format. In the first it is refused.
+    pub fn rekey2(&mut self, alloc: Global, line: &LineKey, keys: &FactKeys) -> Result<(), Cause>
+        ensures same_reference { self.new.tables.ghost_name ≡ self.old.tables.ghost_name }
+        ensures same_format { (self.new.tables.now.format ≡ self.old.tables.now.format) × (self.new.makes ≡ self.old.makes) }
+        ensures writes { WritesOnly (state_of S.Store self.old.tables.now) (state_of S.Store self.new.tables.now) ⊤ }
+        ensures rekeyed { Makes (state_of S.Store self.old.tables.now) (state_of S.Store self.new.tables.now) result (IsTrue (are_keys keys.now)) (λ made. record made { fact2 = rekeyed2 (line.now, keys.now) made.fact2 }) }
+        ensures cause { HasCleanDisk (state_of S.Store self.new.tables.now) → IsTrue (state_of S.Store self.old.tables.now).in_transaction → self.old.writes < u64.MAX → IsTrue (are_keys keys.now)
+            → IfErr result (λ cause. cause ≢ Memory → IsCauseOf rekey2_text (bind_rekey (line.now, keys.now)) (state_of S.Store self.old.tables.now) (state_of S.Store self.new.tables.now) cause) }
+        ensures counted { OnOk result (self.new.writes ≡ self.old.writes + 1) }
+        ensures noted { NotesRefusals self.old.refused self.new.refused result }
+    {
+        self.rekey_in(alloc, Format::Two, line, keys)
     }
 
     /// Puts facts in that aren't there yet, sixteen in one statement. Where there are not sixteen of them, or one of their lines is taken, also by
     /// another of them, nothing changes, and the answer is false.
     pub fn insert_facts(&mut self, alloc: Global, facts: &[&Fact]) -> Result<bool, Cause>
         ensures same_reference { self.new.tables.ghost_name ≡ self.old.tables.ghost_name }
+        ensures same_format { (self.new.tables.now.format ≡ self.old.tables.now.format) × (self.new.makes ≡ self.old.makes) }
         ensures writes { WritesOnly (state_of S.Store self.old.tables.now) (state_of S.Store self.new.tables.now) ⊤ }
-        ensures inserted { HasCleanDisk (state_of S.Store self.new.tables.now) → (before : Option TenTables) (made : TenTables) → IsWriting before (Some made) (state_of S.Store self.old.tables.now) → AllByRecursion (IsValid row.fact) (map (λ f. f.now) facts.now)
+        ensures inserted { HasCleanDisk (state_of S.Store self.new.tables.now) → (before : Option TypedTables) (made : TypedTables) → IsWriting before (Some made) (state_of S.Store self.old.tables.now) → AllByRecursion (IsValid row.fact) (map (λ f. f.now) facts.now)
             → IfOk result (λ inserted. IsWriting before (Some (if inserted then record made { fact = with_rows row.fact (map (λ f. f.now) facts.now) made.fact } else made)) (state_of S.Store self.new.tables.now)) }
         ensures sixteen { IfOk result (λ inserted. IsTrue inserted → length facts.now ≡ facts_at_once) }
         ensures refused { HasCleanDisk (state_of S.Store self.new.tables.now) → IfOk result (λ inserted. inserted ≡ false → (length facts.now ≢ facts_at_once) ⊎ BreaksRule insert_text (bind_facts (map (λ f. f.now) facts.now)) (state_of S.Store self.old.tables.now) (state_of S.Store self.new.tables.now)) }
@@ -143,21 +197,41 @@ impl<'t, S: Alter> Writing<'t, S> {
     {
         let refused = replace(&mut self.refused, true);
         let writes = self.and(facts.len() as u64)?;
-        if !insert_facts(alloc, &mut self.tables.conn, facts)? {
-            self.refused = refused;
-            return Ok(false);
-        }
-        self.writes = writes;
+        let inserted = insert_facts(alloc, &mut self.tables.conn, facts)?;
+        self.writes = self.now_written(inserted, writes);
         self.refused = refused;
-        Ok(true)
+        Ok(inserted)
+    }
+
+    /// The same in the second format. In the first it is refused.
+    pub fn insert_facts2(&mut self, alloc: Global, facts: &[&Fact2]) -> Result<bool, Cause>
+        ensures same_reference { self.new.tables.ghost_name ≡ self.old.tables.ghost_name }
+        ensures same_format { (self.new.tables.now.format ≡ self.old.tables.now.format) × (self.new.makes ≡ self.old.makes) }
+        ensures writes { WritesOnly (state_of S.Store self.old.tables.now) (state_of S.Store self.new.tables.now) ⊤ }
+        ensures inserted { HasCleanDisk (state_of S.Store self.new.tables.now) → (before : Option TypedTables) (made : TypedTables) → IsWriting before (Some made) (state_of S.Store self.old.tables.now) → AllByRecursion (IsValid row.fact2) (map (λ f. f.now) facts.now)
+            → IfOk result (λ inserted. IsWriting before (Some (if inserted then record made { fact2 = with_rows row.fact2 (map (λ f. f.now) facts.now) made.fact2 } else made)) (state_of S.Store self.new.tables.now)) }
+        ensures sixteen { IfOk result (λ inserted. IsTrue inserted → length facts.now ≡ facts_at_once) }
+        ensures refused { HasCleanDisk (state_of S.Store self.new.tables.now) → IfOk result (λ inserted. inserted ≡ false → (length facts.now ≢ facts_at_once) ⊎ BreaksRule insert2_text (bind_facts2 (map (λ f. f.now) facts.now)) (state_of S.Store self.old.tables.now) (state_of S.Store self.new.tables.now)) }
+        ensures counted { IfOk result (λ inserted. self.new.writes ≡ self.old.writes + (if inserted then length facts.now else 0)) }
+        ensures cause { HasCleanDisk (state_of S.Store self.new.tables.now) → IsTrue (state_of S.Store self.old.tables.now).in_transaction → self.old.writes + length facts.now ≤ u64.MAX → AllByRecursion (IsValid row.fact2) (map (λ f. f.now) facts.now)
+            → IfErr result (λ cause. cause ≢ Memory → IsCauseOf insert2_text (bind_facts2 (map (λ f. f.now) facts.now)) (state_of S.Store self.old.tables.now) (state_of S.Store self.new.tables.now) cause) }
+        ensures noted { NotesRefusals self.old.refused self.new.refused result }
+    {
+        let refused = replace(&mut self.refused, true);
+        let writes = self.and(facts.len() as u64)?;
+        let inserted = insert_facts2(alloc, &mut self.tables.conn, facts)?;
+        self.writes = self.now_written(inserted, writes);
+        self.refused = refused;
+        Ok(inserted)
     }
 
     /// Puts rows at their keys, one after the other.
     pub fn put_all<T: Keeps>(&mut self, alloc: Global, rows: &[T::Row]) -> Result<(), Cause>
         ensures same_reference { self.new.tables.ghost_name ≡ self.old.tables.ghost_name }
+        ensures same_format { (self.new.tables.now.format ≡ self.old.tables.now.format) × (self.new.makes ≡ self.old.makes) }
         ensures writes { WritesOnly (state_of S.Store self.old.tables.now) (state_of S.Store self.new.tables.now) (AllByRecursion (IsValid T.layout) rows.now) }
         ensures put { Makes (state_of S.Store self.old.tables.now) (state_of S.Store self.new.tables.now) result (AllByRecursion (IsValid T.layout) rows.now) (λ made. T.with_rows (after_all (with_row T.layout) rows.now (T.rows made)) made) }
-        ensures cause { HasCleanDisk (state_of S.Store self.new.tables.now) → (before : Option TenTables) (made : TenTables) → IsWriting before (Some made) (state_of S.Store self.old.tables.now) → AllByRecursion (IsValid T.layout) rows.now → self.old.writes + length rows.now ≤ u64.MAX
+        ensures cause { HasCleanDisk (state_of S.Store self.new.tables.now) → (before : Option TypedTables) (made : TypedTables) → IsWriting before (Some made) (state_of S.Store self.old.tables.now) → AllByRecursion (IsValid T.layout) rows.now → self.old.writes + length rows.now ≤ u64.MAX
             → IfErr result (λ cause. cause ≢ Memory → IsOneRefused S.Store IsCauseOf (map (λ row. (T.texts.put, T.layout.encode row)) rows.now) self.old.tables.now.conn self.new.tables.now.conn cause) }
         ensures counted { OnOk result (self.new.writes ≡ self.old.writes + length rows.now) }
         ensures noted { NotesRefusals self.old.refused self.new.refused result }
@@ -175,6 +249,7 @@ impl<'t, S: Alter> Writing<'t, S> {
         edit: &Edit<T::Row, T::Key>,
     ) -> Result<(), Cause>
         ensures same_reference { self.new.tables.ghost_name ≡ self.old.tables.ghost_name }
+        ensures same_format { (self.new.tables.now.format ≡ self.old.tables.now.format) × (self.new.makes ≡ self.old.makes) }
         ensures writes { WritesOnly (state_of S.Store self.old.tables.now) (state_of S.Store self.new.tables.now) ⊤ }
         ensures edited { Makes (state_of S.Store self.old.tables.now) (state_of S.Store self.new.tables.now) result (Puts (IsValid T.layout) edit.now) (λ made. T.with_rows (with_edit T.layout edit.now (T.rows made)) made) }
         ensures cause { HasCleanDisk (state_of S.Store self.new.tables.now) → IsTrue (state_of S.Store self.old.tables.now).in_transaction → self.old.writes < u64.MAX → IsOfTypes T.layout edit.now
@@ -195,9 +270,10 @@ impl<'t, S: Alter> Writing<'t, S> {
         edits: &[Edit<T::Row, T::Key>],
     ) -> Result<(), Cause>
         ensures same_reference { self.new.tables.ghost_name ≡ self.old.tables.ghost_name }
+        ensures same_format { (self.new.tables.now.format ≡ self.old.tables.now.format) × (self.new.makes ≡ self.old.makes) }
         ensures writes { WritesOnly (state_of S.Store self.old.tables.now) (state_of S.Store self.new.tables.now) (AllByRecursion (Puts (IsValid T.layout)) edits.now) }
         ensures edited { Makes (state_of S.Store self.old.tables.now) (state_of S.Store self.new.tables.now) result (AllByRecursion (Puts (IsValid T.layout)) edits.now) (λ made. T.with_rows (after_all (with_edit T.layout) edits.now (T.rows made)) made) }
-        ensures cause { HasCleanDisk (state_of S.Store self.new.tables.now) → (before : Option TenTables) (made : TenTables) → IsWriting before (Some made) (state_of S.Store self.old.tables.now) → AllByRecursion (Puts (IsValid T.layout)) edits.now → ((edit : _) → Has edits.now edit → IsOfTypes T.layout edit) → self.old.writes + length edits.now ≤ u64.MAX
+        ensures cause { HasCleanDisk (state_of S.Store self.new.tables.now) → (before : Option TypedTables) (made : TypedTables) → IsWriting before (Some made) (state_of S.Store self.old.tables.now) → AllByRecursion (Puts (IsValid T.layout)) edits.now → ((edit : _) → Has edits.now edit → IsOfTypes T.layout edit) → self.old.writes + length edits.now ≤ u64.MAX
             → IfErr result (λ cause. cause ≢ Memory → IsOneRefused S.Store IsCauseOf (map (statement_of T.layout T.texts T.bind) edits.now) self.old.tables.now.conn self.new.tables.now.conn cause) }
         ensures counted { OnOk result (self.new.writes ≡ self.old.writes + length edits.now) }
         ensures noted { NotesRefusals self.old.refused self.new.refused result }
@@ -211,6 +287,7 @@ impl<'t, S: Alter> Writing<'t, S> {
     /// Makes the ten tables, and the rows of meta for these limits.
     pub fn make(&mut self, alloc: Global, limits: Limits) -> Result<(), Cause>
         ensures same_reference { self.new.tables.ghost_name ≡ self.old.tables.ghost_name }
+        ensures same_format { (self.new.tables.now.format ≡ self.old.tables.now.format) × (self.new.makes ≡ self.old.makes) }
         ensures clean { HasCleanDisk (state_of S.Store self.new.tables.now) → HasCleanDisk (state_of S.Store self.old.tables.now) }
         ensures counts { (state_of S.Store self.old.tables.now).faults ≤ (state_of S.Store self.new.tables.now).faults }
         ensures made { HasCleanDisk (state_of S.Store self.new.tables.now) → IsWriting None None (state_of S.Store self.old.tables.now) → OnOk result (IsWriting None (Some (made_with limits)) (state_of S.Store self.new.tables.now)) }
@@ -229,9 +306,55 @@ impl<'t, S: Alter> Writing<'t, S> {
         self.put_number(alloc, "format", 1)
     }
 
+    /// Makes the tables of the second format over a warehouse of the first. All rows stay, and the new tables have none.
+    pub fn add_second(&mut self) -> Result<(), Cause>
+        ensures same_reference { self.new.tables.ghost_name ≡ self.old.tables.ghost_name }
+        ensures becomes { (self.new.tables.now.format ≡ self.old.tables.now.format) × OnOk result (self.new.makes ≡ Two) }
+        ensures clean { HasCleanDisk (state_of S.Store self.new.tables.now) → HasCleanDisk (state_of S.Store self.old.tables.now) }
+        ensures counts { (state_of S.Store self.old.tables.now).faults ≤ (state_of S.Store self.new.tables.now).faults }
+        ensures added { HasCleanDisk (state_of S.Store self.new.tables.now) → (before : Option TypedTables) (made : TypedTables) → made.format ≡ One → IsWriting before (Some made) (state_of S.Store self.old.tables.now)
+            → OnOk result (IsWriting before (Some (record made { format = Two })) (state_of S.Store self.new.tables.now)) }
+        ensures left { HasCleanDisk (state_of S.Store self.new.tables.now) → (before : Option TypedTables) (made : TypedTables) → made.format ≡ One → IsWriting before (Some made) (state_of S.Store self.old.tables.now) → Leaves before (state_of S.Store self.new.tables.now) }
+        ensures cause { HasCleanDisk (state_of S.Store self.new.tables.now) → IsTrue (state_of S.Store self.old.tables.now).in_transaction
+            → IfErr result (IsOneRefused S.Store IsCauseOf (bare upgrading_texts) self.old.tables.now.conn self.new.tables.now.conn) }
+        // No key of a table is written.
+        ensures counted { OnOk result (self.new.writes ≡ self.old.writes) }
+        ensures noted { NotesRefusals self.old.refused self.new.refused result }
+    {
+        let refused = replace(&mut self.refused, true);
+        add_second(&mut self.tables.conn)?;
+        self.makes = Format::Two;
+        self.refused = refused;
+        Ok(())
+    }
+
+    /// Makes the second format of a warehouse of the first: its tables, its number in meta, and these edits of the facts.
+    pub fn upgrade(
+        &mut self,
+        alloc: Global,
+        removes: &[Edit<Fact, LineKey>],
+        puts: &[Edit<Fact2, LineKey>],
+    ) -> Result<(), Cause>
+        ensures same_reference { self.new.tables.ghost_name ≡ self.old.tables.ghost_name }
+        ensures becomes { (self.new.tables.now.format ≡ self.old.tables.now.format) × OnOk result (self.new.makes ≡ Two) }
+        ensures clean { HasCleanDisk (state_of S.Store self.new.tables.now) → HasCleanDisk (state_of S.Store self.old.tables.now) }
+        ensures upgraded { HasCleanDisk (state_of S.Store self.new.tables.now) → (before : Option TypedTables) (made : TypedTables) → made.format ≡ One → IsWriting before (Some made) (state_of S.Store self.old.tables.now)
+            → AllByRecursion (Puts (IsValid row.fact)) removes.now → AllByRecursion (Puts (IsValid row.fact2)) puts.now → OnOk result (IsWriting before (Some (upgraded removes.now puts.now made)) (state_of S.Store self.new.tables.now)) }
+        ensures left { HasCleanDisk (state_of S.Store self.new.tables.now) → (before : Option TypedTables) (made : TypedTables) → made.format ≡ One → IsWriting before (Some made) (state_of S.Store self.old.tables.now)
+            → AllByRecursion (Puts (IsValid row.fact)) removes.now → AllByRecursion (Puts (IsValid row.fact2)) puts.now → Leaves before (state_of S.Store self.new.tables.now) }
+        ensures counted { OnOk result (self.new.writes ≡ self.old.writes + 1 + length removes.now + length puts.now) }
+        ensures noted { NotesRefusals self.old.refused self.new.refused result }
+    {
+        self.add_second()?;
+        self.put_number(alloc, "format", 2)?;
+        self.edit_all::<tables::Fact>(alloc, removes)?;
+        self.edit_all::<tables::Fact2>(alloc, puts)
+    }
+
     /// Puts a number into meta under its name.
     fn put_number(&mut self, alloc: Global, name: &str, count: u64) -> Result<(), Cause>
         ensures same_reference { self.new.tables.ghost_name ≡ self.old.tables.ghost_name }
+        ensures same_format { (self.new.tables.now.format ≡ self.old.tables.now.format) × (self.new.makes ≡ self.old.makes) }
         ensures writes { WritesOnly (state_of S.Store self.old.tables.now) (state_of S.Store self.new.tables.now) ⊤ }
         ensures put { Makes (state_of S.Store self.old.tables.now) (state_of S.Store self.new.tables.now) result ⊤ (λ made. with_number name.now (pos count) made) }
         ensures cause { HasCleanDisk (state_of S.Store self.new.tables.now) → IsTrue (state_of S.Store self.old.tables.now).in_transaction → self.old.writes < u64.MAX → IsTrue (is_number count)
@@ -249,37 +372,63 @@ impl<'t, S: Alter> Writing<'t, S> {
     pub fn commit(self) -> Result<(), Cause>
         ensures clean { HasCleanDisk (state_of S.Store self.exit.0.now) → HasCleanDisk (state_of S.Store self.entry.tables.now) }
         ensures cause { HasCleanDisk (state_of S.Store self.exit.0.now) → self.entry.refused ≡ false → IfErr result (IsCauseOf (codes "COMMIT") [] (state_of S.Store self.entry.tables.now) (state_of S.Store self.exit.0.now)) }
-        ensures written { HasCleanDisk (state_of S.Store self.exit.0.now) → (before made : Option TenTables) → IsWriting before made (state_of S.Store self.entry.tables.now) → OnOk result (IsAtRest made (state_of S.Store self.exit.0.now)) }
-        ensures left { HasCleanDisk (state_of S.Store self.exit.0.now) → (before made : Option TenTables) → IsWriting before made (state_of S.Store self.entry.tables.now)
+        ensures written { HasCleanDisk (state_of S.Store self.exit.0.now) → (before made : Option TypedTables) → IsWriting before made (state_of S.Store self.entry.tables.now) → OnOk result (IsAtRest made (state_of S.Store self.exit.0.now)) }
+        ensures left { HasCleanDisk (state_of S.Store self.exit.0.now) → (before made : Option TypedTables) → IsWriting before made (state_of S.Store self.entry.tables.now)
             → (trees : _) → (state_of S.Store self.exit.0.now).may_leave trees → AreTrees before trees ⊎ AreTrees made trees }
         ensures nothing { IsTrue self.entry.refused → (result ≡ Err Disk) × Undoes (state_of S.Store self.entry.tables.now) (state_of S.Store self.exit.0.now) }
+        ensures format { OnOk result (self.exit.0.now.format ≡ self.entry.makes) }
     {
         let Writing {
             tables,
             writes: _,
+            makes,
             refused,
         } = self;
         if refused {
             roll_back(&mut tables.conn);
             return Err(Cause::Disk);
         }
-        commit(&mut tables.conn)
+        commit(&mut tables.conn)?;
+        tables.format = makes;
+        Ok(())
     }
 }
 
 impl<S: Alter> Drop for Writing<'_, S> {
     fn drop(self)
         ensures clean { HasCleanDisk (state_of S.Store self.exit.0.now) → HasCleanDisk (state_of S.Store self.entry.tables.now) }
-        ensures undone { HasCleanDisk (state_of S.Store self.exit.0.now) → (before made : Option TenTables) → IsWriting before made (state_of S.Store self.entry.tables.now)
+        ensures undone { HasCleanDisk (state_of S.Store self.exit.0.now) → (before made : Option TypedTables) → IsWriting before made (state_of S.Store self.entry.tables.now)
             → IsTrue (state_of S.Store self.exit.0.now).is_open → IsAtRest before (state_of S.Store self.exit.0.now) }
-        ensures left { HasCleanDisk (state_of S.Store self.exit.0.now) → (before made : Option TenTables) → IsWriting before made (state_of S.Store self.entry.tables.now) → Leaves before (state_of S.Store self.exit.0.now) }
+        ensures left { HasCleanDisk (state_of S.Store self.exit.0.now) → (before made : Option TypedTables) → IsWriting before made (state_of S.Store self.entry.tables.now) → Leaves before (state_of S.Store self.exit.0.now) }
         ensures survives { Survives (state_of S.Store self.entry.tables.now) (state_of S.Store self.exit.0.now) (λ _. ⊥) }
+        ensures same_format { self.exit.0.now.format ≡ self.entry.tables.now.format }
     {
         let Writing {
             tables,
             writes: _,
+            makes: _,
             refused: _,
         } = self;
         roll_back(&mut tables.conn);
     }
+}
+
+/// Makes the second format of a warehouse of the first, in one transaction.
+pub fn upgrade<S: Alter>(
+    tables: &mut Tables<S>,
+    alloc: Global,
+    removes: &[Edit<Fact, LineKey>],
+    puts: &[Edit<Fact2, LineKey>],
+) -> Result<(), Cause>
+    ensures clean { HasCleanDisk (state_of S.Store tables.new) → HasCleanDisk (state_of S.Store tables.old) }
+    ensures upgraded { HasCleanDisk (state_of S.Store tables.new) → (t : TypedTables) → t.format ≡ One → IsAtRest (Some t) (state_of S.Store tables.old) → AllByRecursion (Puts (IsValid row.fact)) removes.now → AllByRecursion (Puts (IsValid row.fact2)) puts.now
+        → OnOk result (IsAtRest (Some (upgraded removes.now puts.now t)) (state_of S.Store tables.new)) }
+    // A stop at any moment leaves the one or the other.
+    ensures left { HasCleanDisk (state_of S.Store tables.new) → (t : TypedTables) → t.format ≡ One → IsAtRest (Some t) (state_of S.Store tables.old) → AllByRecursion (Puts (IsValid row.fact)) removes.now → AllByRecursion (Puts (IsValid row.fact2)) puts.now
+        → (trees : _) → (state_of S.Store tables.new).may_leave trees → AreTrees (Some t) trees ⊎ AreTrees (Some (upgraded removes.now puts.now t)) trees }
+    ensures format { OnOk result (tables.new.format ≡ Two) }
+{
+    let mut writing = tables.begin()?;
+    writing.upgrade(alloc, removes, puts)?;
+    writing.commit()
 }

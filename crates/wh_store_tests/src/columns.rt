@@ -17,7 +17,7 @@ use sqlite::{Alter, Connection};
 use std::alloc::{AllocError, Global};
 use wh_rows::Table;
 use wh_scenarios::parted;
-use wh_store::{OpenFault, Tables};
+use wh_store::{Format, OpenFault, Tables};
 
 /// The values of each kind.
 const KINDS: &str = "
@@ -247,7 +247,7 @@ fn is_found<S: Alter + Drop>(
     conn: Connection<S>,
     text: &str,
 ) -> Result<(Connection<S>, bool), Trouble> {
-    match Tables::open(alloc, run(conn, text)?) {
+    match Tables::open(alloc, run(conn, text)?, Format::Two) {
         Ok(tables) => Ok((tables.close(), true)),
         Err((OpenFault::NotAWarehouse, conn)) => Ok((conn, false)),
         Err((fault, _)) => Err(Trouble::Unopened(fault)),

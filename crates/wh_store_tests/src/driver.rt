@@ -23,7 +23,8 @@
 //!   `past` and `rekey`, as above; `make COMMANDS CHANGES FACTS`, which makes the tables for these limits; `rows 1 Cola, 2 Tea`,
 //!   `edit 1 Cola` and `edits 1 Cola, 2` for products, of which those with no text go; `days FIRST PAST` for the days of a calendar;
 //!   `tries EDIT`, after whose refusal the others are still made.
-//! - `limits` tells them. `show` tells them and all rows.
+//! - `limits` tells them. `show` tells them and all rows of the ten tables.
+//! - `format` tells the format, and whether a name that the second adds is taken. `second` makes the tables of the second, and keeps them.
 //! - `scan TABLE MOST` hands out up to so many rows of a table one at a time, tells their number and the last of them, and lets the scan go.
 //!
 //! On both, questions:

@@ -12,7 +12,7 @@ use sqlite_disk::{Crash, Disk, Fuse, Memory};
 use std::alloc::Global;
 use std::fs;
 use wh_scenarios::parted;
-use wh_store::{OpenFault, Tables, into_files, open_path, restart};
+use wh_store::{Format, OpenFault, Tables, into_files, open_path, restart};
 
 /// A log and a database file in memory, which stop after so many calls.
 pub type Disks = Files<Fuse<Memory>>;
@@ -76,7 +76,7 @@ fn write_over<S: Alter + Drop>(
     edits: &str,
     out: &mut String,
 ) -> (Connection<S>, Answer) {
-    match Tables::open(alloc, conn) {
+    match Tables::open(alloc, conn, Format::Two) {
         Ok(mut tables) => {
             let answer = write(alloc, &mut tables, edits, out);
             (tables.close(), answer)
@@ -97,7 +97,7 @@ fn show_over<S: Alter + Drop>(
     conn: Connection<S>,
     out: &mut String,
 ) -> (Connection<S>, Answer) {
-    match Tables::open(alloc, conn) {
+    match Tables::open(alloc, conn, Format::Two) {
         Ok(mut tables) => {
             let answer = show(alloc, &mut tables, out);
             (tables.close(), answer)
@@ -142,7 +142,7 @@ fn ask_over<S: Alter + Drop>(
     questions: &str,
     out: &mut String,
 ) -> (Connection<S>, Answer) {
-    match Tables::open(alloc, conn) {
+    match Tables::open(alloc, conn, Format::Two) {
         Ok(mut tables) => {
             let answer = ask_all(alloc, &mut tables, questions, out);
             (tables.close(), answer)

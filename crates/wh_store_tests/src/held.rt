@@ -4,7 +4,7 @@ use sqlite::{Alter, Connection};
 use std::alloc::Global;
 use wh_history::FactKeys;
 use wh_policy::Dim;
-use wh_rows::{Cause, LineKey};
+use wh_rows::{Cause, Format, LineKey};
 use wh_sql::{Keeps, Question, ReadFault};
 use wh_store::{Tables, Writing};
 
@@ -108,7 +108,7 @@ impl<S: Alter> Writes for Connection<S> {
     }
 
     fn rekey_fact(&mut self, alloc: Global, line: &LineKey, keys: &FactKeys) -> Result<(), Cause> {
-        wh_sql::rekey(alloc, self, line, keys)
+        wh_sql::rekey(alloc, self, Format::One, line, keys)
     }
 }
 

@@ -6,7 +6,7 @@ use sqlite::{Alter, Connection, MemStore};
 use std::alloc::Global;
 use wh_rows::Cause;
 use wh_scenarios::parted;
-use wh_store::{Limits, Tables};
+use wh_store::{Format, Limits, Tables};
 
 /// `COMMANDS CHANGES FACTS`: these limits.
 pub fn limits_of(words: &str) -> Result<Limits, Trouble> {
@@ -65,7 +65,7 @@ pub fn changed(alloc: Global, text: &str) -> Result<Connection<MemStore>, Troubl
 
 /// The tables of a warehouse that is opened.
 pub fn opened<S: Alter + Drop>(alloc: Global, conn: Connection<S>) -> Result<Tables<S>, Trouble> {
-    match Tables::open(alloc, conn) {
+    match Tables::open(alloc, conn, Format::Two) {
         Ok(tables) => Ok(tables),
         Err((fault, _)) => Err(Trouble::Unopened(fault)),
     }

@@ -9,7 +9,7 @@ use crate::trouble::Trouble;
 use crate::words::{Step, push_answer, push_trouble};
 use sqlite::{Connection, MemStore};
 use std::alloc::{AllocError, Global};
-use wh_store::{Limits, Tables};
+use wh_store::{Format, Limits, Tables};
 
 /// What the next step works on.
 #[derive(Drop)]
@@ -128,7 +128,7 @@ fn make(conn: Connection<MemStore>, out: &mut String) -> Outcome {
 }
 
 fn open(alloc: Global, conn: Connection<MemStore>, out: &mut String) -> Outcome {
-    match Tables::open(alloc, conn) {
+    match Tables::open(alloc, conn, Format::Two) {
         Ok(tables) => (Place::Warehouse(tables), said(out, "opened")),
         Err((fault, conn)) => (Place::Database(conn), Err(Trouble::Unopened(fault))),
     }

@@ -138,6 +138,7 @@ pub fn on_table<H: Reads>(
         Table::Profile => on_rows::<Profile, H>(alloc, held, step, out),
         Table::Calendar => on_rows::<Calendar, H>(alloc, held, step, out),
         Table::Fact => on_rows::<Fact, H>(alloc, held, step, out),
+        Table::Fact2 | Table::Void => Err(Trouble::Unknown),
     }
 }
 
@@ -196,6 +197,7 @@ pub fn edit_table<W: Writes>(alloc: Global, writes: &mut W, step: Step<'_>) -> R
         Table::Profile => edit_rows::<Profile, W>(alloc, writes, step),
         Table::Calendar => edit_rows::<Calendar, W>(alloc, writes, step),
         Table::Fact => edit_rows::<Fact, W>(alloc, writes, step),
+        Table::Fact2 | Table::Void => Err(Trouble::Unknown),
     }
 }
 

@@ -4,11 +4,11 @@ use crate::questions::answer;
 use crate::rows::on_table;
 use crate::scans::scan_table;
 use crate::trouble::Trouble;
-use crate::words::{Step, push_counts};
+use crate::words::{Step, push_answer, push_counts};
 use crate::writing::write;
 use sqlite::Alter;
 use std::alloc::Global;
-use wh_store::{Limits, Table, Tables};
+use wh_store::{Format, Limits, Table, Tables};
 
 /// A step on the tables of a warehouse.
 pub fn on_tables<S: Alter>(
@@ -22,8 +22,32 @@ pub fn on_tables<S: Alter>(
         "limits" => limits(alloc, tables, out),
         "show" => show(alloc, tables, out),
         "scan" => scan_table(alloc, tables, step, out),
+        "format" => format(tables, out),
+        "second" => add_second(tables),
         _ => answer(alloc, tables, step, out),
     }
+}
+
+/// The format, and whether the names are taken that the second adds.
+fn format<S: Alter>(tables: &mut Tables<S>, out: &mut String) -> Result<(), Trouble> {
+    let format = match tables.format() {
+        Format::One => "first, ",
+        Format::Two => "second, ",
+    };
+    out.push_str(format)?;
+    let names = if tables.is_second_taken() {
+        "taken"
+    } else {
+        "free"
+    };
+    Ok(push_answer(out, names)?)
+}
+
+/// Makes the second format, without a fact in it, and keeps it.
+fn add_second<S: Alter>(tables: &mut Tables<S>) -> Result<(), Trouble> {
+    let mut writing = tables.begin()?;
+    writing.add_second()?;
+    Ok(writing.commit()?)
 }
 
 /// The most commands, changes and facts.

@@ -11,6 +11,8 @@ opens UPDATE meta SET value = -1 WHERE name = 'format'
 opens UPDATE meta SET value = -9223372036854775808 WHERE name = 'format'
 = old format
 opens UPDATE meta SET value = 2 WHERE name = 'format'
+= no warehouse
+opens UPDATE meta SET value = 3 WHERE name = 'format'
 = new format
 opens UPDATE meta SET value = 9223372036854775807 WHERE name = 'format'
 = new format
@@ -23,6 +25,29 @@ opens UPDATE meta SET value = x'01' WHERE name = 'format'
 opens DELETE FROM meta WHERE name = 'format'
 = no warehouse
 opens UPDATE meta SET name = 'Format' WHERE name = 'format'
+= no warehouse
+
+# The second format, and names of it that somebody else took.
+opens
+= opened
+format
+= first, free
+second
+format
+= second, taken
+opens CREATE TABLE fact2 (x)
+= opened
+format
+= first, taken
+opens CREATE VIEW void AS SELECT * FROM fact
+= opened
+format
+= first, taken
+opens CREATE TABLE fact2 (ticket, line, day, store_key, product_key, customer_key, store_durable, product_durable, customer_durable, profile, quantity, amount, cost, discount); CREATE TABLE void (ticket, line, command); UPDATE meta SET value = 2 WHERE name = 'format'
+= opened
+format
+= second, taken
+opens CREATE TABLE fact2 (ticket, line); CREATE TABLE void (ticket, line, command); UPDATE meta SET value = 2 WHERE name = 'format'
 = no warehouse
 
 # Inside a transaction.

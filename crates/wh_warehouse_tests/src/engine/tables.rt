@@ -8,7 +8,7 @@ use std::alloc::Global;
 use std::fmt::Write;
 use wh_rows::{Table, tables};
 use wh_scenarios::parted;
-use wh_store::Tables;
+use wh_store::{Format, Tables};
 
 /// What came of a task, in lines.
 pub type Answer = Result<String, Trouble>;
@@ -94,7 +94,7 @@ pub fn look_over<S: Alter + Drop>(
     conn: Connection<S>,
     words: &str,
 ) -> (Connection<S>, Answer) {
-    match Tables::open(alloc, conn) {
+    match Tables::open(alloc, conn, Format::One) {
         Ok(mut tables) => {
             let answer = looked(alloc, &mut tables, words);
             (tables.close(), answer)

@@ -15,5 +15,5 @@ invariant-rows g l = record {
   rests : (t : TenTables) → IsAtRest (Some t) (state_of over_memory l.fn.expected) → IsAtRest (Some t) (state_of over_memory l.expected);
   valid : SaysAsStored (state_of g.S.Store l.fn.tables) (state_of g.S.Store l.tables) (λ _. AreValid g.T.StoredTable.layout l.cursor);
   seen : SaysAsStored (state_of g.S.Store l.fn.tables) (state_of g.S.Store l.tables) (λ stored. (t : TenTables) → IsAtRest (Some t) (state_of over_memory l.fn.expected)
-      → HasSeen g.T.StoredTable.layout (stored g.T.Keeps.name) (values (g.T.StoredTable.rows t)) (rows_left g.T.StoredTable.layout (g.T.StoredTable.rows t) l.ahead) (AreLeft g.T.StoredTable.layout g.T.Keeps.bind (stored g.T.Keeps.name) l.cursor) l.same);
+      → HasSeen g.T.StoredTable.layout (stored.rows g.T.Keeps.name) (values (g.T.StoredTable.rows t)) (rows_left g.T.StoredTable.layout (g.T.StoredTable.rows t) l.ahead) (AreLeft g.T.StoredTable.layout g.T.Keeps.bind (stored.rows g.T.Keeps.name) l.cursor) l.same);
 }

@@ -1,3 +1,4 @@
+use Rattle.std.proofs.Common.{◌∙◌, sym}
 use Rattle.wh_store.proofs.InMemory.{is_clean}
 use Rattle.wh_check.proofs.compare.next_expected.Goals as goal
 
@@ -5,4 +6,4 @@ pub returns-in-Ok-clause-rests : goal.returns-in-Ok-clause-rests
 returns-in-Ok-clause-rests g c t at = c.in-Ok.ensures.reads.same (is_clean c.next_row.new.tables.conn) t at tt
 
 pub returns-in-Ok-clause-row : goal.returns-in-Ok-clause-row
-returns-in-Ok-clause-row g c t at = c.in-Ok.ensures.rows (is_clean c.next_row.new.tables.conn) t at
+returns-in-Ok-clause-row g c t at = c.in-Ok.ensures.rows (is_clean c.next_row.new.tables.conn) t (g.met.T.Plain.in_each t.format ∙ sym (g.met.T.Plain.in_each c.args.expected.now.format)) at

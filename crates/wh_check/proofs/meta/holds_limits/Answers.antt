@@ -10,4 +10,4 @@ use Rattle.wh_check.proofs.meta.holds_limits.Goals as goal
 pub returns-clause-said : goal.returns-clause-said
 returns-clause-said g c clean stored at =
     let limits = c.args.limits in
-    or_not_so row.meta (get (made_with limits).meta) (meta_at limits) (stored Meta) c.in_ok-same.same (meta_made limits) (c.in_ok-same.ensures.same clean stored at (made_with limits) c.in_ok-made.ensures)
+    or_not_so row.meta (get (made_with limits).meta) (meta_at limits) (stored.rows Meta) c.in_ok-same.same (meta_made limits) (c.in_ok-same.ensures.same clean stored at (made_with limits) c.in_ok-made.ensures)

@@ -13,14 +13,14 @@ returns-in-Ok-true-clause-said g c clean stored at =
     let read = c.in-Ok-true.ensures in
     let before = read.reads.clean clean in
     let there = c.in-Ok.ensures.reads.rests before stored at tt in
-    record { good = read.good; defined = subst (AreRowsOrNot row.meta (meta_at c.in-Ok.limits) (stored Meta)) c.in-Ok-true.field-0-test (read.said clean stored there) }
+    record { good = read.good; defined = subst (AreRowsOrNot row.meta (meta_at c.in-Ok.limits) (stored.rows Meta)) c.in-Ok-true.field-0-test (read.said clean stored there) }
 
 pub returns-in-Ok-false-clause-said : goal.returns-in-Ok-false-clause-said
 returns-in-Ok-false-clause-said g c clean stored at =
     let read = c.in-Ok-false.ensures in
     let before = read.reads.clean clean in
     let there = c.in-Ok.ensures.reads.rests before stored at tt in
-    no_limits stored c.in-Ok.limits (c.in-Ok.ensures.stored before stored at) (subst (AreRowsOrNot row.meta (meta_at c.in-Ok.limits) (stored Meta)) c.in-Ok-false.field-0-test (read.said clean stored there))
+    no_limits stored c.in-Ok.limits (c.in-Ok.ensures.stored before stored at) (subst (AreRowsOrNot row.meta (meta_at c.in-Ok.limits) (stored.rows Meta)) c.in-Ok-false.field-0-test (read.said clean stored there))
 
 pub returns-in-Ok-is_undamaged-clause-said : goal.returns-in-Ok-is_undamaged-clause-said
 returns-in-Ok-is_undamaged-clause-said g c clean stored at =

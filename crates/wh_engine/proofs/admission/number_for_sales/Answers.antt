@@ -1,4 +1,4 @@
-use Rattle.std.proofs.Common.{◌≡◌, ◌∙◌, ◌<◌, ◌≤◌, ◌+◌, ◌*◌, true, false, leb, length, None, sym, arith}
+use Rattle.std.proofs.Common.{◌≡◌, ◌∙◌, ◌<◌, ◌≤◌, ◌+◌, ◌*◌, true, false, leb, length, None, sym, arith, refl}
 use Rattle.std.specs.FinMap.{len}
 use Rattle.std.proofs.lemmas.Bool.{leb-true, leb-false}
 use Rattle.wh_history.specs.Accepted.{Sells, sold}
@@ -11,14 +11,14 @@ use Rattle.wh_engine.proofs.admission.number_for_sales.Goals as goal
 
 pub returns-then-commands-clause-number : goal.returns-then-commands-clause-number
 returns-then-commands-clause-number g c clean commands t are accepted rests =
-    let number = c.in_ok-commands.ensures.count clean t rests ∙ commands_counted c.args.limits commands t are in
+    let number = c.in_ok-commands.ensures.count clean t refl rests ∙ commands_counted c.args.limits commands t are in
     no_room c.args.limits commands (Sells c.args.sales.now) (omega (arith, number, c.commands.ensures, c.if-commands.true))
 
 pub returns-in-Some-clause-number : goal.returns-in-Some-clause-number
 returns-in-Some-clause-number g c clean commands t are accepted rests =
     let before = c.in_ok-number.ensures.reads.clean clean in
     let still = c.in_ok-commands.ensures.reads.same before t rests tt in
-    let number = c.in_ok-commands.ensures.count before t rests ∙ commands_counted c.args.limits commands t are in
+    let number = c.in_ok-commands.ensures.count before t refl rests ∙ commands_counted c.args.limits commands t are in
     let room : length commands < c.args.limits.commands = omega (arith, number, c.commands.ensures, c.if-commands.false) in
     line_is_there c.args.limits commands (Sells c.args.sales.now) room c.in-Some.number (sym (c.in_ok-number.ensures.there clean c.args.limits commands t are still) ∙ c.in-Some.is)
 
@@ -28,14 +28,14 @@ returns-then-not-branch-clause-number g c clean commands t are accepted rests =
     let before = c.in_ok-number.ensures.reads.clean asked in
     let still = c.in_ok-commands.ensures.reads.same before t rests tt in
     let passed = c.in_ok-number.ensures.reads.same asked t still tt in
-    let number = c.in_ok-commands.ensures.count before t rests ∙ commands_counted c.args.limits commands t are in
+    let number = c.in_ok-commands.ensures.count before t refl rests ∙ commands_counted c.args.limits commands t are in
     let room : length commands < c.args.limits.commands = omega (arith, number, c.commands.ensures, c.if-commands.false) in
     let none = is_none _ (λ n. c.in_default.not-Some n) in
     let new : first_line_there (sold commands) 1 c.args.sales.now ≡ None = sym (c.in_ok-number.ensures.there asked c.args.limits commands t are still) ∙ none in
     let counted = facts_counted commands c.args.limits t are accepted.lines in
     let few : len t.fact ≤ c.in_ok-commands.commands * 5000 = omega (arith, counted, number, accepted.few_sales_a_batch) in
     let within : len t.fact ≤ c.facts.result = omega (arith, counted, c.facts.ensures, accepted.facts_within) in
-    let full : leb (len t.fact + length c.args.sales.now) c.facts.result ≡ false = sym (c.in_ok-has_room_for.ensures.room clean t passed few within) ∙ c.if-not-branch.true in
+    let full : leb (len t.fact + length c.args.sales.now) c.facts.result ≡ false = sym (c.in_ok-has_room_for.ensures.room clean t refl passed few within) ∙ c.if-not-branch.true in
     let over : c.args.limits.facts < length (sold commands) + length c.args.sales.now = omega (arith, counted, c.facts.ensures, leb-false (len t.fact + length c.args.sales.now) c.facts.result full) in
     let changes : changes_kept commands + 0 ≤ c.args.limits.changes = omega (arith, accepted.changes_within) in
     too_many_facts c.args.limits commands (Sells c.args.sales.now) room new changes over
@@ -46,14 +46,14 @@ returns-clause-number g c clean commands t are accepted rests =
     let before = c.in_ok-number.ensures.reads.clean asked in
     let still = c.in_ok-commands.ensures.reads.same before t rests tt in
     let passed = c.in_ok-number.ensures.reads.same asked t still tt in
-    let number = c.in_ok-commands.ensures.count before t rests ∙ commands_counted c.args.limits commands t are in
+    let number = c.in_ok-commands.ensures.count before t refl rests ∙ commands_counted c.args.limits commands t are in
     let room : length commands < c.args.limits.commands = omega (arith, number, c.commands.ensures, c.if-commands.false) in
     let none = is_none _ (λ n. c.in_default.not-Some n) in
     let new : first_line_there (sold commands) 1 c.args.sales.now ≡ None = sym (c.in_ok-number.ensures.there asked c.args.limits commands t are still) ∙ none in
     let counted = facts_counted commands c.args.limits t are accepted.lines in
     let few : len t.fact ≤ c.in_ok-commands.commands * 5000 = omega (arith, counted, number, accepted.few_sales_a_batch) in
     let within : len t.fact ≤ c.facts.result = omega (arith, counted, c.facts.ensures, accepted.facts_within) in
-    let some : leb (len t.fact + length c.args.sales.now) c.facts.result ≡ true = sym (c.in_ok-has_room_for.ensures.room clean t passed few within) ∙ c.if-not-branch.false in
+    let some : leb (len t.fact + length c.args.sales.now) c.facts.result ≡ true = sym (c.in_ok-has_room_for.ensures.room clean t refl passed few within) ∙ c.if-not-branch.false in
     let left : length (sold commands) + length c.args.sales.now ≤ c.args.limits.facts = omega (arith, counted, c.facts.ensures, leb-true (len t.fact + length c.args.sales.now) c.facts.result some) in
     let changes : changes_kept commands + 0 ≤ c.args.limits.changes = omega (arith, accepted.changes_within) in
     rw (has_room c.args.limits commands (Sells c.args.sales.now) room new changes left) (omega (arith, number))

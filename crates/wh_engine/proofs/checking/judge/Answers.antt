@@ -6,12 +6,12 @@ use Rattle.wh_engine.proofs.JudgedTables.{meta_fault, command_fault, command_non
 use Rattle.wh_engine.proofs.checking.judge.Goals as goal
 
 pub returns-in_err-limits-clause-judged : goal.returns-in_err-limits-clause-judged
-returns-in_err-limits-clause-judged g c clean stored rests =
+returns-in_err-limits-clause-judged g c clean stored rests format_is =
     let p = err_from_is_err_and c.from_residual.result c.from_residual.ensures.1 in
     rw (p.1, p.2) (meta_fault stored c.in_err-limits.field-0.0 (c.in_err-limits.ensures.damaged clean stored rests))
 
 pub returns-in_err-replica-clause-judged : goal.returns-in_err-replica-clause-judged
-returns-in_err-replica-clause-judged g c clean stored rests =
+returns-in_err-replica-clause-judged g c clean stored rests format_is =
     let first = c.in_ok-limits.ensures in
     let second = c.in_err-replica.ensures in
     let before = second.reads.clean clean in
@@ -21,7 +21,7 @@ returns-in_err-replica-clause-judged g c clean stored rests =
     rw (p.1, p.2) (command_fault stored c.in-Some.limits meta c.in_err-replica.field-0.0 (second.damaged clean stored at))
 
 pub returns-in_default-2-clause-judged : goal.returns-in_default-2-clause-judged
-returns-in_default-2-clause-judged g c clean stored rests =
+returns-in_default-2-clause-judged g c clean stored rests format_is =
     let first = c.in_ok-limits.ensures in
     let second = c.in_ok-replica.ensures in
     let before = second.reads.clean clean in
@@ -30,7 +30,7 @@ returns-in_default-2-clause-judged g c clean stored rests =
     command_none stored c.in-Some.limits meta (subst (IsReplicated stored c.in-Some.limits) c.in_default-2.is (second.replicated clean stored at))
 
 pub returns-clause-judged : goal.returns-clause-judged
-returns-clause-judged g c clean stored rests =
+returns-clause-judged g c clean stored rests format_is =
     let first = c.in_ok-limits.ensures in
     let second = c.in_ok-replica.ensures in
     let third = c.judge_tables.ensures in
@@ -40,4 +40,4 @@ returns-clause-judged g c clean stored rests =
     let then_at = second.reads.rests after stored at tt in
     let meta = subst (AreLimitsSaid stored) c.in-Some.is (first.said before stored rests) in
     rest_judged stored c.in-Some.limits meta c.in-Some-2.replica c.judge_tables.result (subst (IsReplicated stored c.in-Some.limits) c.in-Some-2.is (second.replicated after stored at))
-    (λ limits commands holds said. third.judged clean stored then_at limits commands holds said)
+    (λ limits commands holds said. third.judged clean stored then_at format_is limits commands holds said)

@@ -1,7 +1,8 @@
-use Rattle.std.proofs.Common.{◌≤◌, ◌<◌, List, Some, Ok}
+use Rattle.std.proofs.Common.{◌≡◌, ◌≤◌, ◌<◌, List, Some, Ok}
 use Rattle.sqlite.specs.Steps.{over_memory}
 use Rattle.wh_history.specs.Accepted.{Accepted}
 use Rattle.wh_history.specs.Tables.{Limits}
+use Rattle.wh_rows.specs.declared.format.Format.TheVariants.{One}
 use Rattle.wh_rows.specs.AtRest.{IsAtRest}
 use Rattle.wh_rows.specs.Tables.{Tables as TenTables}
 use Rattle.wh_rows.specs.declared.table.Table.{Table}
@@ -15,8 +16,8 @@ abbrev pub invariant-tables : goal.invariant-tables
 invariant-tables g l = record {
   reads : ReadsOnly (state_of g.S.Store l.fn.tables) (state_of g.S.Store l.tables) (Ok l.place);
   from : 2 ≤ l.place;
-  to : l.place ≤ 10;
+  to : l.place ≤ 12;
   still : (t : TenTables) → IsAtRest (Some t) (state_of over_memory l.fn.replica) → IsAtRest (Some t) (state_of over_memory l.replica);
-  defined : SaysAsStored (state_of g.S.Store l.fn.tables) (state_of g.S.Store l.tables) (λ stored. (limits : Limits) (commands : List Accepted) → HoldsAll limits commands l.fn.replica
+  defined : SaysAsStored (state_of g.S.Store l.fn.tables) (state_of g.S.Store l.tables) (λ stored. stored.format ≡ One → (limits : Limits) (commands : List Accepted) → HoldsAll limits commands l.fn.replica
       → (earlier : Table) → 2 ≤ table_place earlier → table_place earlier < l.place → IsDefined limits commands stored earlier);
 }

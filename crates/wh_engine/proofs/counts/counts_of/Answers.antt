@@ -1,6 +1,58 @@
-use Rattle.std.proofs.Common.{refl}
+use Rattle.std.proofs.Common.{◌≡◌, ℕ, Ok, Err, refl}
+use Rattle.std.proofs.lemmas.Result.{err_from_is_err_and}
+use Rattle.wh_engine.specs.declared.counts.Counts.{Counts}
+use Rattle.wh_engine.specs.declared.fault.Fault.{Fault}
+use Rattle.wh_engine.specs.declared.fault.Fault.TheVariants.{Refused, Damaged, Memory, Store, Reopen}
+use Rattle.wh_engine.specs.Faults.{Judges}
 use Rattle.wh_engine.proofs.FoundCounts.{counts_are}
 use Rattle.wh_engine.proofs.counts.counts_of.Goals as goal
+
+-- what keeps the members from being counted keeps all
+not_counted : (fault : Fault) (number : ℕ) (counts : Counts) → Judges {X = ℕ} {Y = ℕ} (λ count told. count ≡ told) (Err fault) (Ok number) → Judges {X = Counts} {Y = Counts} (λ found told. found ≡ told) (Err fault) (Ok counts)
+not_counted (Refused why) number counts judged = absurd cc
+not_counted (Damaged table) number counts judged = absurd judged
+not_counted Memory number counts judged = tt
+not_counted (Store cause) number counts judged = tt
+not_counted Reopen number counts judged = absurd judged
+
+pub returns-in_err-products-clause-counts : goal.returns-in_err-products-clause-counts
+returns-in_err-products-clause-counts g c clean limits commands t are accepted rests =
+    let clean3 = c.in_err-products.ensures.reads.clean clean in
+    let clean2 = c.count-3.ensures.reads.clean clean3 in
+    let clean1 = c.count-2.ensures.reads.clean clean2 in
+    let rests1 = c.in_ok-commands.ensures.reads.same clean1 t rests tt in
+    let rests2 = c.in_ok-changes.ensures.reads.same clean2 t rests1 tt in
+    let rests3 = c.in_ok-facts.ensures.reads.same clean3 t rests2 tt in
+    let p = err_from_is_err_and c.from_residual-in_err-products.result c.from_residual-in_err-products.ensures.1 in
+    rw (p.1, p.2) (not_counted c.in_err-products.field-0.0 _ _ (c.in_err-products.ensures.members clean limits commands t are rests3))
+
+pub returns-in_err-stores-clause-counts : goal.returns-in_err-stores-clause-counts
+returns-in_err-stores-clause-counts g c clean limits commands t are accepted rests =
+    let clean4 = c.in_err-stores.ensures.reads.clean clean in
+    let clean3 = c.members_of.ensures.reads.clean clean4 in
+    let clean2 = c.count-3.ensures.reads.clean clean3 in
+    let clean1 = c.count-2.ensures.reads.clean clean2 in
+    let rests1 = c.in_ok-commands.ensures.reads.same clean1 t rests tt in
+    let rests2 = c.in_ok-changes.ensures.reads.same clean2 t rests1 tt in
+    let rests3 = c.in_ok-facts.ensures.reads.same clean3 t rests2 tt in
+    let rests4 = c.in_ok-products.ensures.reads.same clean4 t rests3 tt in
+    let p = err_from_is_err_and c.from_residual-in_err-stores.result c.from_residual-in_err-stores.ensures.1 in
+    rw (p.1, p.2) (not_counted c.in_err-stores.field-0.0 _ _ (c.in_err-stores.ensures.members clean limits commands t are rests4))
+
+pub returns-in_err-customers-clause-counts : goal.returns-in_err-customers-clause-counts
+returns-in_err-customers-clause-counts g c clean limits commands t are accepted rests =
+    let clean5 = c.in_err-customers.ensures.reads.clean clean in
+    let clean4 = c.members_of-2.ensures.reads.clean clean5 in
+    let clean3 = c.members_of.ensures.reads.clean clean4 in
+    let clean2 = c.count-3.ensures.reads.clean clean3 in
+    let clean1 = c.count-2.ensures.reads.clean clean2 in
+    let rests1 = c.in_ok-commands.ensures.reads.same clean1 t rests tt in
+    let rests2 = c.in_ok-changes.ensures.reads.same clean2 t rests1 tt in
+    let rests3 = c.in_ok-facts.ensures.reads.same clean3 t rests2 tt in
+    let rests4 = c.in_ok-products.ensures.reads.same clean4 t rests3 tt in
+    let rests5 = c.in_ok-stores.ensures.reads.same clean5 t rests4 tt in
+    let p = err_from_is_err_and c.from_residual-in_err-customers.result c.from_residual-in_err-customers.ensures.1 in
+    rw (p.1, p.2) (not_counted c.in_err-customers.field-0.0 _ _ (c.in_err-customers.ensures.members clean limits commands t are rests5))
 
 pub returns-clause-counts : goal.returns-clause-counts
 returns-clause-counts g c clean limits commands t are accepted rests =
@@ -15,7 +67,7 @@ returns-clause-counts g c clean limits commands t are accepted rests =
     let rests4 = c.in_ok-products.ensures.reads.same clean4 t rests3 tt in
     let rests5 = c.in_ok-stores.ensures.reads.same clean5 t rests4 tt in
     counts_are limits commands t are accepted c.in_ok-commands.commands c.in_ok-changes.changes c.in_ok-facts.facts c.in_ok-products.products c.in_ok-stores.stores c.in_ok-customers.customers
-    (c.in_ok-commands.ensures.count clean1 t rests) (c.in_ok-changes.ensures.count clean2 t rests1) (c.in_ok-facts.ensures.count clean3 t rests2)
+    (c.in_ok-commands.ensures.count clean1 t refl rests) (c.in_ok-changes.ensures.count clean2 t refl rests1) (c.in_ok-facts.ensures.count clean3 t refl rests2)
     (c.in_ok-products.ensures.members clean4 limits commands t are rests3) (c.in_ok-stores.ensures.members clean5 limits commands t are rests4) (c.in_ok-customers.ensures.members clean limits commands t are rests5)
 
 pub returns-clause-stored : goal.returns-clause-stored
@@ -27,4 +79,4 @@ returns-clause-stored g c clean stored rests =
     let clean1 = c.count-2.ensures.reads.clean clean2 in
     let rests1 = c.in_ok-commands.ensures.reads.rests clean1 stored rests tt in
     let rests2 = c.in_ok-changes.ensures.reads.rests clean2 stored rests1 tt in
-    (refl, c.in_ok-commands.ensures.stored clean1 stored rests, c.in_ok-changes.ensures.stored clean2 stored rests1, c.in_ok-facts.ensures.stored clean3 stored rests2)
+    (refl, c.in_ok-commands.ensures.stored clean1 stored refl rests, c.in_ok-changes.ensures.stored clean2 stored refl rests1, c.in_ok-facts.ensures.stored clean3 stored refl rests2)

@@ -11,5 +11,5 @@ abbrev pub invariant-rows : goal.invariant-rows
 invariant-rows g l = record {
   reads : ReadsOnly (state_of g.S.Store l.fn.tables) (state_of g.S.Store l.tables) (Ok l.is_list);
   valid : SaysAsStored (state_of g.S.Store l.fn.tables) (state_of g.S.Store l.tables) (λ _. AreValid row.command l.cursor);
-  replicated : SaysAsStored (state_of g.S.Store l.fn.tables) (state_of g.S.Store l.tables) (λ stored. HasReplicated (stored Command) l.fn.limits (AreLeft row.command bind_number (stored Command) l.cursor) l.replica l.is_list);
+  replicated : SaysAsStored (state_of g.S.Store l.fn.tables) (state_of g.S.Store l.tables) (λ stored. HasReplicated (stored.rows Command) l.fn.limits (AreLeft row.command bind_number (stored.rows Command) l.cursor) l.replica l.is_list);
 }

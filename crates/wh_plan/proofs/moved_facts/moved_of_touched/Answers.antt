@@ -1,4 +1,4 @@
-use Rattle.std.proofs.Common.{◌<◌, cond, nat_lt, List, [], sym, ◌∙◌, ap, arith}
+use Rattle.std.proofs.Common.{◌<◌, cond, nat_lt, List, [], sym, ◌∙◌, ap, arith, refl}
 use Rattle.std.specs.Prelude.{filter_map}
 use Rattle.std.proofs.lemmas.Bool.{lt-ltb}
 use Rattle.wh_history.specs.Facts.{rekeyed_fact}
@@ -30,5 +30,5 @@ returns-clause-moved g c clean t at =
     let there : 0 < stored.durable = omega arith in
     c.in_ok-rekeyed_facts.ensures
     ∙ ap (λ m. filter_map (rekeyed_fact shape m) c.deref.result.now) rendered
-    ∙ ap (filter_map (rekeyed_fact shape made)) (c.deref.ensures.value ∙ c.in_ok-facts.ensures.rows clean t at ∙ ap asked (c.in_ok-question.ensures ∙ ap question rendered))
+    ∙ ap (filter_map (rekeyed_fact shape made)) (c.deref.ensures.value ∙ c.in_ok-facts.ensures.rows clean t refl at ∙ ap asked (c.in_ok-question.ensures ∙ ap question rendered))
     ∙ sym (ap (λ b. cond b (rekeyed_facts shape after (asked (question made))) []) (lt-ltb 0 stored.durable there))

@@ -1,4 +1,4 @@
-use Rattle.std.proofs.Common.{◌≡◌, rules, [], ap, subst, Option}
+use Rattle.std.proofs.Common.{◌≡◌, rules, [], ap, subst, Option, refl}
 use Rattle.std.specs.Prelude.{flat_map}
 use Rattle.std.specs.FinMap.{values}
 use Rattle.wh_rows.specs.Rows as row
@@ -28,7 +28,7 @@ records-preserved g c =
       stored = λ clean t at.
           let before = read.reads.clean clean in
           combined_further c.args.types.now c.records.found.items c.add_stored.new.found.items c.in-Some.row (rows_left row.change t.change c.records.cursor) (rows_left row.change t.change c.next_row.new.cursor) (with_combinations [] (flat_map (stored_by c.args.types.now) (values t.change)))
-          c.in_ok-add_stored-in-Some.ensures (subst (λ (found : Option ChangeRow). HandsOut (rows_left row.change t.change c.records.cursor) found (rows_left row.change t.change c.next_row.new.cursor)) c.in-Some.is (read.rows clean t (kept.reads.same before t at tt))) (kept.stored before t at);
+          c.in_ok-add_stored-in-Some.ensures (subst (λ (found : Option ChangeRow). HandsOut (rows_left row.change t.change c.records.cursor) found (rows_left row.change t.change c.next_row.new.cursor)) c.in-Some.is (read.rows clean t refl (kept.reads.same before t at tt))) (kept.stored before t at);
     }
 
 pub returns-in-None-clause-stored : goal.returns-in-None-clause-stored
@@ -37,4 +37,4 @@ returns-in-None-clause-stored g c clean t at =
     let read = c.in_ok-row.ensures in
     let before = read.reads.clean clean in
     combined_whole c.args.types.now c.records.found.items (rows_left row.change t.change c.records.cursor) (with_combinations [] (flat_map (stored_by c.args.types.now) (values t.change)))
-    (subst (λ (found : Option ChangeRow). HandsOut (rows_left row.change t.change c.records.cursor) found (rows_left row.change t.change c.next_row.new.cursor)) c.in-None.is (read.rows clean t (kept.reads.same before t at tt))).0 (kept.stored before t at)
+    (subst (λ (found : Option ChangeRow). HandsOut (rows_left row.change t.change c.records.cursor) found (rows_left row.change t.change c.next_row.new.cursor)) c.in-None.is (read.rows clean t refl (kept.reads.same before t at tt))).0 (kept.stored before t at)

@@ -1,4 +1,4 @@
-use Rattle.std.proofs.Common.{◌≡◌, length, arith, ◌∙◌}
+use Rattle.std.proofs.Common.{◌≡◌, length, arith, ◌∙◌, refl}
 use Rattle.std.specs.Prelude.{vec_len}
 use Rattle.wh_sql.proofs.Reading.{last_is}
 use Rattle.wh_plan.specs.Reading.{command_with}
@@ -10,4 +10,4 @@ returns-clause-command g c clean limits commands t are at distinct =
     let found = c.in_ok-found.found in
     let len : vec_len found ≡ length found.items = omega arith in
     last_is (command_with commands c.args.id.now) c.pop.result found.items c.pop.new.self.items (vec_len found) len
-    (c.in_ok-found.ensures.rows clean t at ∙ command_of limits commands t are distinct c.args.id.now) c.pop.ensures.items c.pop.ensures.variant
+    (c.in_ok-found.ensures.rows clean t refl at ∙ command_of limits commands t are distinct c.args.id.now) c.pop.ensures.items c.pop.ensures.variant

@@ -1,5 +1,5 @@
 use Rattle.std.proofs.Common.{[], ◌∷◌, ◌++◌, map, take, ap, ap₂, sym, ◌∙◌}
-use Rattle.std.proofs.lemmas.List.{map-append}
+use Rattle.std.proofs.lemmas.List.{map-append, take_all}
 use Rattle.wh_history.specs.Accepted.{member_of}
 use Rattle.wh_plan.proofs.PlanNaturals.{next_taken}
 use Rattle.wh_plan.proofs.record_plan.stored_members.Goals as goal
@@ -26,3 +26,7 @@ loop-natural-preserved g c =
           ∙ ap₂ (λ ms m. ms ++ m ∷ []) so_far one
           ∙ sym (ap (map (member_of c.args.dim commands)) more ∙ map-append (member_of c.args.dim commands) (take c.loop-natural.natural-index c.args.naturals.now) (c.natural-item.result ∷ []));
     }
+
+pub returns-clause-members : goal.returns-clause-members
+returns-clause-members g c clean limits commands t are at full =
+    c.loop-natural.invariant.members clean limits commands t are at full ∙ ap (map (member_of c.args.dim commands)) (take_all c.loop-natural.natural-index c.args.naturals.now c.loop-natural-test.false)

@@ -1,4 +1,5 @@
-use Rattle.std.proofs.Common.{map, arith, rules}
+use Rattle.std.proofs.Common.{List, ℕ, ◌++◌, map, ap, sym, append-nil, ◌∙◌, arith, rules}
+use Rattle.std.proofs.lemmas.List.{drop_all}
 use Rattle.wh_history.specs.Accepted.{member_of}
 use Rattle.wh_plan.specs.SoldMembers.{numbered}
 use Rattle.wh_plan.proofs.SalesNaturals.{grown_few, numbered_more}
@@ -27,3 +28,9 @@ loop-natural-preserved g c =
           c.give_numbers.new.member c.loop-natural.members c.loop-natural.anchors c.give_numbers.new.members c.give_numbers.new.anchors
           c.loop-natural-test.true c.natural-item.is (read.member clean limits commands t are (kept.reads.same before t at tt) full) c.in_ok-push.ensures.items given.member given.members given.anchors (kept.members before limits commands t are at full);
     }
+
+pub returns-clause-members : goal.returns-clause-members
+returns-clause-members g c clean limits commands t are at full =
+    let left = c.loop-natural in
+    let none = drop_all left.natural-index c.args.naturals.now c.loop-natural-test.false in
+    sym (append-nil left.found.items) ∙ ap (λ (rest : List (List ℕ)). left.found.items ++ numbered left.members left.anchors (map (member_of c.args.dim commands) rest)) (sym none) ∙ left.invariant.members clean limits commands t are at full

@@ -1,4 +1,4 @@
-use Rattle.std.proofs.Common.{rules}
+use Rattle.std.proofs.Common.{refl, rules}
 use Rattle.std.specs.Prelude.{Ok}
 use Rattle.wh_rows.specs.Rows as row
 use Rattle.wh_report.proofs.EngineReading.{unread, and_then, answered, handed_out}
@@ -22,7 +22,7 @@ days-preserved g c =
       writes = search rules;
       labels = λ clean t at.
           let before = read.reads.spares.clean clean in
-          one_seen _ _ c.in-Some.row _ _ _ (row_handed _ _ _ c.in-Some.row c.in-Some.is (read.rows clean t (kept.reads.spares.same before t at tt))) (kept.labels before t at) (λ done made. c.in_ok-add_date-in-Some.ensures done made);
+          one_seen _ _ c.in-Some.row _ _ _ (row_handed _ _ _ c.in-Some.row c.in-Some.is (read.rows clean t refl (kept.reads.spares.same before t at tt))) (kept.labels before t at) (λ done made. c.in_ok-add_date-in-Some.ensures done made);
     }
 
 pub returns-in-None-clause-reads : goal.returns-in-None-clause-reads
@@ -33,4 +33,4 @@ returns-in-None-clause-labels g c clean t at =
     let kept = c.days.invariant in
     let read = c.in_ok-row.ensures in
     let before = read.reads.spares.clean clean in
-    all_seen _ _ _ (none_handed _ _ _ c.in-None.is (read.rows clean t (kept.reads.spares.same before t at tt))) (kept.labels before t at)
+    all_seen _ _ _ (none_handed _ _ _ c.in-None.is (read.rows clean t refl (kept.reads.spares.same before t at tt))) (kept.labels before t at)

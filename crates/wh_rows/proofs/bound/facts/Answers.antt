@@ -1,17 +1,14 @@
-use Rattle.std.proofs.Common.{ap, ◌∙◌}
-use Rattle.std.proofs.lemmas.List.{map-append}
 use Rattle.std.proofs.lemmas.Result.{err_from_is_err_and}
-use Rattle.sqlite.specs.Values.{bound, bound_value}
-use Rattle.sqlite_value.specs.Value.{owned}
+use Rattle.wh_rows.specs.Rows.{encode_fact, is_fact}
 use Rattle.wh_rows.proofs.BoundFacts.{one_more, not_all}
 use Rattle.wh_rows.proofs.bound.facts.Goals as goal
 
 pub returns-in_err-columns-clause-err : goal.returns-in_err-columns-clause-err
 returns-in_err-columns-clause-err c =
     let p = err_from_is_err_and c.from_residual.result c.from_residual.ensures.1 in
-    rw (p.1, p.2) (λ other. let why = c.in_err-columns.ensures.err other in (why.0, not_all c.args.rows.now c.loop-row.row-index c.row-item.result c.loop-row-test.true c.row-item.is why.1))
+    rw (p.1, p.2) (λ other. let why = c.in_err-columns.ensures.err other in (why.0, not_all encode_fact is_fact c.args.rows.now c.loop-row.row-index c.row-item.result c.loop-row-test.true c.row-item.is why.1))
 
 pub loop-row-preserved : goal.loop-row-preserved
 loop-row-preserved c =
-    one_more _ _ _ c.args.rows.now c.loop-row.row-index c.row-item.result _ c.loop-row-test.true c.row-item.is c.in_ok-columns.ensures.ok
-    (ap bound c.in_ok-append.ensures.items ∙ map-append (λ v. bound_value (owned v)) c.loop-row.values.items c.in_ok-columns.columns.items) c.loop-row.invariant
+    one_more encode_fact is_fact _ _ _ c.args.rows.now c.loop-row.row-index c.row-item.result _ c.loop-row-test.true c.row-item.is c.in_ok-columns.ensures.ok
+    c.in_ok-append.ensures.ok c.loop-row.invariant

@@ -21,10 +21,10 @@ use Rattle.wh_sql.proofs.greatest.greatest_anchor.Goals as goal
 
 asked : (dim : Dim) (old new : State)
     → IsAnswered row.change texts.greatest_anchor (Int (pos (dim_number dim)) ∷ []) old new (λ t. IsLedByGreatest (λ r. r.anchor) (filter (λ r. eq_by_cmp nat_cmp (dim_number dim) (dim_number r.dim)) (values t.change)))
-asked dim old new = greatest_answered change old new (λ r. eq_by_cmp nat_cmp (dim_number dim) (dim_number r.dim)) (λ r. r.anchor) (greatest_anchor dim)
+asked dim old new = greatest_answered Change change old new (λ r. eq_by_cmp nat_cmp (dim_number dim) (dim_number r.dim)) (λ r. r.anchor) (λ format. greatest_anchor format dim)
 
 pub rows_shown-requires : goal.rows_shown-requires
-rows_shown-requires g c = (greatest_anchor c.args.dim).plain
+rows_shown-requires g c = (asked c.args.dim (state g.S.Store c.args.conn.now) (state g.S.Store c.args.conn.now)).quiet
 
 pub returns-in_err-rows-clause-sound : goal.returns-in_err-rows-clause-sound
 returns-in_err-rows-clause-sound g c clean t stored =
@@ -37,10 +37,10 @@ returns-in_err-rows-clause-reads g c =
     let it = asked c.args.dim (state g.S.Store c.args.conn.now) (state g.S.Store c.rows_shown.new.conn) in
     let p = err_from_is_err_and c.from_residual.result c.from_residual.ensures.1 in
     let refused = rw c.dim.ensures at c.in_err-rows.ensures.refused in
-    rw (p.1, p.2) (said_again (c.in_err-rows.ensures.reads it.plain (λ clean t at. undamaged it {A = ℕ} (Err c.in_err-rows.field-0.0) Change (refused clean) t at.now.tables)
+    rw (p.1, p.2) (said_again (c.in_err-rows.ensures.reads it.quiet (λ clean t at. undamaged it {A = ℕ} (Err c.in_err-rows.field-0.0) Change (refused clean) t at.now.tables)
     (λ clean stored at.
     sorted_named {A = ℕ} row.change Change refl (λ stored damage. damage) texts.greatest_anchor (Int (pos (dim_number c.args.dim)) ∷ []) (state g.S.Store c.args.conn.now) (state g.S.Store c.rows_shown.new.conn)
-    1 (λ v w. nat_cmp w.anchor v.anchor) (λ r. eq_by_cmp nat_cmp (dim_number c.args.dim) (dim_number r.dim)) (greatest_anchor c.args.dim) (Err c.in_err-rows.field-0.0) (refused clean) stored at.now)))
+    1 (λ v w. nat_cmp w.anchor v.anchor) (λ r. eq_by_cmp nat_cmp (dim_number c.args.dim) (dim_number r.dim)) (λ format. greatest_anchor format c.args.dim) (Err c.in_err-rows.field-0.0) (refused clean) stored at.now)))
 
 pub returns-in_err-rows-clause-refused : goal.returns-in_err-rows-clause-refused
 returns-in_err-rows-clause-refused g c clean =
@@ -57,7 +57,7 @@ returns-clause-anchor g c clean t stored =
 pub returns-clause-reads : goal.returns-clause-reads
 returns-clause-reads g c =
     let it = asked c.args.dim (state g.S.Store c.args.conn.now) (state g.S.Store c.rows_shown.new.conn) in
-    let here = c.in_ok-rows.ensures.reads it.plain (λ clean t at. tt) (λ clean stored at. tt) in
+    let here = c.in_ok-rows.ensures.reads it.quiet (λ clean t at. tt) (λ clean stored at. tt) in
     record { clean = here.clean; sound = λ clean t at. tt; same = here.same; left = here.left; rests = here.rests; leaves = here.leaves; named = λ clean stored at. tt }
 
 -- ---- whoever wrote the rows
@@ -65,12 +65,12 @@ returns-clause-reads g c =
 pub returns-clause-stored : goal.returns-clause-stored
 returns-clause-stored g c clean stored is =
     let shows = rw c.dim.ensures at (c.in_ok-rows.ensures.shows clean) in
-    let first = anchor_stored (is_record_of c.args.dim) (greatest_anchor_stored c.args.dim) (state g.S.Store c.args.conn.now) (state g.S.Store c.rows_shown.new.conn) stored is c.in_ok-rows.rows.items shows in
+    let first = anchor_stored (is_record_of c.args.dim) (λ format. greatest_anchor_stored format c.args.dim) (state g.S.Store c.args.conn.now) (state g.S.Store c.rows_shown.new.conn) stored is c.in_ok-rows.rows.items shows in
     let same = c.first_anchor.ensures ∙ ap (λ rows. unwrap_or (option_map (λ r. r.anchor) (slice_get rows 0)) 0) c.deref.ensures.value in
-    subst (IsGreatestAnchor (filter (is_record_of c.args.dim) (stored Change))) (sym same) first
+    subst (IsGreatestAnchor (filter (is_record_of c.args.dim) (stored.rows Change))) (sym same) first
 
 pub returns-in_err-rows-clause-damaged : goal.returns-in_err-rows-clause-damaged
 returns-in_err-rows-clause-damaged g c clean stored is =
     let p = err_from_is_err_and c.from_residual.result c.from_residual.ensures.1 in
     let refused = rw c.dim.ensures at (c.in_err-rows.ensures.refused clean) in
-    rw (p.1, p.2) (anchor_damage (is_record_of c.args.dim) (greatest_anchor_stored c.args.dim) (state g.S.Store c.args.conn.now) (state g.S.Store c.rows_shown.new.conn) stored is {A = ℕ} (Err c.in_err-rows.field-0.0) refused)
+    rw (p.1, p.2) (anchor_damage (is_record_of c.args.dim) (λ format. greatest_anchor_stored format c.args.dim) (state g.S.Store c.args.conn.now) (state g.S.Store c.rows_shown.new.conn) stored is {A = ℕ} (Err c.in_err-rows.field-0.0) refused)

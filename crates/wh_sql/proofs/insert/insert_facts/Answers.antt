@@ -1,48 +1,39 @@
-use Rattle.std.proofs.Common.{◌≡◌, List, map, length, inr, sym, ap, ◌∙◌, arith, Bor}
+use Rattle.std.proofs.Common.{List, map, length, Some, inl, inr, refl, sym, subst, ◌∙◌, Bor}
 use Rattle.std.proofs.lemmas.List.{length-map}
-use Rattle.std.proofs.lemmas.Result.{err_from_is_err_and}
 use Rattle.sqlite.specs.Held.{state}
-use Rattle.sqlite.specs.Values.{bound}
 use Rattle.wh_history.specs.declared.facts.Fact.{Fact}
-use Rattle.wh_sql.proofs.Writing.{insert_leaves, inserts_on, refuses_on, none_too_great}
+use Rattle.wh_rows.specs.Inserting.{insert_text, bind_facts}
+use Rattle.wh_rows.specs.Rows.{is_fact}
+use Rattle.wh_rows.specs.AtRest.{IsWriting}
+use Rattle.wh_sql.proofs.Writing.{insert_leaves, inserts_on, refuses_on, facts_told, not_put, bound_or_refused}
 use Rattle.wh_sql.proofs.insert.insert_facts.Goals as goal
 
 abbrev facts_of : List (Bor Fact) → List Fact
 facts_of facts = map (λ (f : Bor Fact). f.now) facts
 
-pub returns-in_err-values-clause-cause : goal.returns-in_err-values-clause-cause
-returns-in_err-values-clause-cause g c clean inside valid =
-    let p = err_from_is_err_and c.from_residual.result c.from_residual.ensures.1 in
-    rw (p.1, p.2) (λ other. absurd (none_too_great (facts_of c.args.facts.now) valid (c.in_err-values.ensures.err other).1))
-
-pub returns-in-Ok-clause-put : goal.returns-in-Ok-clause-put
-returns-in-Ok-clause-put g c clean before made at valid =
+pub returns-clause-put : goal.returns-clause-put
+returns-clause-put g c clean before made at valid =
     let facts = facts_of c.args.facts.now in
-    let sixteen : length facts ≡ 16 = length-map c.args.facts.now (λ (f : Bor Fact). f.now) ∙ omega (arith, c.if-facts-ne-FACTS_AT_ONCE.false) in
-    inserts_on _ (state g.S.Store c.args.conn.now) (state g.S.Store c.execute-put.new.self) before made at clean c.execute-put.ensures.survives c.in-Ok.field-0 (c.in-Ok.ensures.runs clean) facts
-    (ap bound c.deref.ensures.value ∙ c.in_ok-values.ensures.ok) sixteen valid
+    let told = c.insert_sixteen.ensures in
+    let bound = c.facts.ensures.ok in
+    let survives = told.survives (bind_facts facts) bound in
+    let old = state g.S.Store c.args.conn.now in
+    let new = state g.S.Store c.insert_sixteen.new.conn in
+    facts_told _ _ insert_text (bind_facts facts) (length c.args.facts.now) old new c.insert_sixteen.result (told.put clean (bind_facts facts) bound) told.sixteen (told.refused clean (bind_facts facts) bound)
+    (λ sixteen run. inserts_on (bind_facts facts) old new before made at clean survives run.0 run.1 facts refl (length-map c.args.facts.now (λ (f : Bor Fact). f.now) ∙ sixteen) valid)
+    (λ left. elim left [ inl few ↦ subst (λ conn. IsWriting before (Some made) (state g.S.Store conn)) (sym few.1) at | inr broken ↦ refuses_on (bind_facts facts) old new before made at clean survives broken ])
 
-pub returns-in-Ok-clause-left : goal.returns-in-Ok-clause-left
-returns-in-Ok-clause-left g c clean before made at = insert_leaves _ (state g.S.Store c.args.conn.now) (state g.S.Store c.execute-put.new.self) before made at clean c.execute-put.ensures.survives
-
-pub returns-then-is_broken_rule-clause-put : goal.returns-then-is_broken_rule-clause-put
-returns-then-is_broken_rule-clause-put g c clean before made at valid =
-    refuses_on _ (state g.S.Store c.args.conn.now) (state g.S.Store c.execute-put.new.self) before made at clean c.execute-put.ensures.survives
-    (c.in-Err.error, sym c.is_broken_rule.ensures ∙ c.if-is_broken_rule.true, c.in-Err.ensures.runs clean)
-
-pub returns-then-is_broken_rule-clause-refused : goal.returns-then-is_broken_rule-clause-refused
-returns-then-is_broken_rule-clause-refused g c clean refused =
-    let same = ap bound c.deref.ensures.value ∙ c.in_ok-values.ensures.ok in
-    inr (c.in-Err.error, sym c.is_broken_rule.ensures ∙ c.if-is_broken_rule.true, rw same at c.in-Err.ensures.runs clean)
-
-pub returns-then-is_broken_rule-clause-left : goal.returns-then-is_broken_rule-clause-left
-returns-then-is_broken_rule-clause-left g c clean before made at =
-    insert_leaves _ (state g.S.Store c.args.conn.now) (state g.S.Store c.execute-put.new.self) before made at clean c.execute-put.ensures.survives
+pub returns-clause-refused : goal.returns-clause-refused
+returns-clause-refused g c clean =
+    let facts = facts_of c.args.facts.now in
+    not_put _ insert_text (bind_facts facts) (length c.args.facts.now) _ refl (state g.S.Store c.args.conn.now) (state g.S.Store c.insert_sixteen.new.conn) c.insert_sixteen.result (c.insert_sixteen.ensures.refused clean (bind_facts facts) c.facts.ensures.ok)
 
 pub returns-clause-left : goal.returns-clause-left
-returns-clause-left g c clean before made at = insert_leaves _ (state g.S.Store c.args.conn.now) (state g.S.Store c.execute-put.new.self) before made at clean c.execute-put.ensures.survives
+returns-clause-left g c clean before made at =
+    let facts = facts_of c.args.facts.now in
+    insert_leaves (bind_facts facts) (state g.S.Store c.args.conn.now) (state g.S.Store c.insert_sixteen.new.conn) before made at clean (c.insert_sixteen.ensures.survives (bind_facts facts) c.facts.ensures.ok)
 
 pub returns-clause-cause : goal.returns-clause-cause
-returns-clause-cause g c clean inside valid other =
-    let same = ap bound c.deref.ensures.value ∙ c.in_ok-values.ensures.ok in
-    (c.in-Err.error, c.from.ensures, rw same at c.in-Err.ensures.runs clean)
+returns-clause-cause g c clean inside valid =
+    let facts = facts_of c.args.facts.now in
+    bound_or_refused is_fact facts valid insert_text (bind_facts facts) (state g.S.Store c.args.conn.now) (state g.S.Store c.insert_sixteen.new.conn) c.facts.result c.facts.ensures.err c.insert_sixteen.result (c.insert_sixteen.ensures.cause clean inside (bind_facts facts) c.facts.ensures.ok)

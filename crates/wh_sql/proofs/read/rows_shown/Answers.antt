@@ -6,10 +6,8 @@ use Rattle.sqlite.specs.Held.{state}
 use Rattle.sqlite.specs.Values.{bound}
 use Rattle.sqlite.specs.State.{HasCleanDisk, Survives, CommitsShowing, FailsToQuery, Shown}
 use Rattle.sqlite.specs.Given.{row_if}
-use Rattle.wh_rows.specs.Schema.{warehouse}
 use Rattle.wh_sql.specs.Reads.{ReadsOnly}
 use Rattle.wh_sql.specs.declared.fault.ReadFault.TheVariants.{Memory, Store}
-use Rattle.wh_sql.proofs.Plain.{plain_returns_nothing}
 use Rattle.wh_sql.proofs.Giving.{handed, never_commits, giving_begins, still_survives, still_same, giving_goes_on, all_given, giving_refused}
 use Rattle.wh_sql.proofs.Reading.{reads_unchanged}
 use Rattle.wh_sql.proofs.RowByRow.{none_read, shows_read, fails_to_read, reads_memory}
@@ -21,14 +19,14 @@ returns-in-Err-clause-reads g c plain sound named =
     let new = state g.S.Store c.query.follows.lender-at-none in
     let held = c.query.follows.holds-at-none in
     let kept : Survives old new (CommitsShowing c.args.text.now (bound c.args.params.now) old) = search rules in
-    reads_unchanged old new (never_commits c.args.text.now (bound c.args.params.now) old new (plain_returns_nothing warehouse c.args.text.now c.requires c.args.conn.now.schema) kept) _ (λ clean served. absurd served) sound named
+    reads_unchanged old new (never_commits c.args.text.now (bound c.args.params.now) old new (c.requires c.args.conn.now.schema) kept) _ (λ clean served. absurd served) sound named
 
 pub rows-init : goal.rows-init
 rows-init g c = (
   refl,
   record {
     rows = [];
-    giving = giving_begins g.S.Store c.args.text.now (bound c.args.params.now) c.args.conn.now (plain_returns_nothing warehouse c.args.text.now c.requires c.args.conn.now.schema) c.in-Ok.shown.conn.now c.in-Ok.ensures.begun c.in-Ok.ensures.survives;
+    giving = giving_begins g.S.Store c.args.text.now (bound c.args.params.now) c.args.conn.now (c.requires c.args.conn.now.schema) c.in-Ok.shown.conn.now c.in-Ok.ensures.begun c.in-Ok.ensures.survives;
     are = none_read g.T.StoredTable.layout c.new.result c.new.ensures.items;
   },
 )

@@ -3,7 +3,7 @@ use Rattle.std.proofs.Common.{◌≡◌, [], None, Some, Ok, Err, refl, ◌∙�
 use Rattle.sqlite.specs.Held.{state}
 use Rattle.sqlite.specs.State.{HasCleanDisk, Survives, CommitsShowing, FailsToQuery}
 use Rattle.sqlite.specs.Given.{row_if}
-use Rattle.wh_rows.specs.KeyedSales.{keyed_sales}
+use Rattle.wh_sql.specs.Facts.{facts_by}
 use Rattle.wh_sql.specs.Reads.{ReadsOnly}
 use Rattle.wh_sql.specs.declared.fault.ReadFault.TheVariants.{Memory, Store}
 use Rattle.wh_sql.proofs.Giving.{handed, never_commits, still_survives, still_same, giving_goes_on, all_given, giving_refused}
@@ -14,20 +14,20 @@ pub returns-in-Err-clause-reads : goal.returns-in-Err-clause-reads
 returns-in-Err-clause-reads g c =
     let old = state g.S.Store c.args.conn.now in
     let new = state g.S.Store c.query.follows.lender-at-none in
-    let held = rw c.text_of.ensures at c.query.follows.holds-at-none in
-    let kept : Survives old new (CommitsShowing (keyed_sales c.args.which) [] old) = search rules in
-    tally_reads old new (never_commits (keyed_sales c.args.which) [] old new (tally_returns_nothing c.args.which c.args.conn.now.schema) kept) _ (λ clean served. absurd served) (λ clean stored is. tt)
+    let held = rw c.facts_by.ensures at c.query.follows.holds-at-none in
+    let kept : Survives old new (CommitsShowing (facts_by c.args.format c.args.which) [] old) = search rules in
+    tally_reads c.args.format old new (never_commits (facts_by c.args.format c.args.which) [] old new (tally_returns_nothing c.args.format c.args.which c.args.conn.now.schema) kept) _ (λ clean served. absurd served) (λ clean stored is. tt)
 
 pub facts-init : goal.facts-init
 facts-init g c =
-    let made = rw c.text_of.ensures at c.in-Ok.ensures in
-    (refl, tally_begins g.S.Store c.args.which c.args.conn.now g.C.Tally.counts c.in-Ok.rows.conn.now c.args.tally.now made.begun made.survives c.requires)
+    let made = rw c.facts_by.ensures at c.in-Ok.ensures in
+    (refl, tally_begins g.S.Store c.args.format c.args.which c.args.conn.now g.C.Tally.counts c.in-Ok.rows.conn.now c.args.tally.now made.begun made.survives c.requires)
 
 pub returns-in-Err-advance-clause-reads : goal.returns-in-Err-advance-clause-reads
 returns-in-Err-advance-clause-reads g c =
     let now = c.advance.new.self.conn.now in
-    let survives = still_survives g.S.Store (keyed_sales c.args.which) [] c.args.conn.now c.facts.rows.conn.now c.facts.invariant.1.giving now c.advance.ensures.survives in
-    let reads : ReadsOnly {A = Unit {0}} (state g.S.Store c.args.conn.now) (state g.S.Store now) (Err (Store c.from-in-Err-advance.result)) = tally_reads _ _ survives _ (λ clean served. absurd served) (λ clean stored is. tt) in
+    let survives = still_survives g.S.Store (facts_by c.args.format c.args.which) [] c.args.conn.now c.facts.rows.conn.now c.facts.invariant.1.giving now c.advance.ensures.survives in
+    let reads : ReadsOnly {A = Unit {0}} (state g.S.Store c.args.conn.now) (state g.S.Store now) (Err (Store c.from-in-Err-advance.result)) = tally_reads c.args.format _ _ survives _ (λ clean served. absurd served) (λ clean stored is. tt) in
     search rules
 
 pub returns-in-Err-advance-clause-refused : goal.returns-in-Err-advance-clause-refused
@@ -35,8 +35,8 @@ returns-in-Err-advance-clause-refused g c clean why is =
     let now = c.advance.new.self.conn.now in
     let late : HasCleanDisk (state g.S.Store now) = search rules in
     let error = c.in-Err-advance.error in
-    let fails : FailsToQuery (keyed_sales c.args.which) [] (state g.S.Store c.args.conn.now) (state g.S.Store now) error =
-    giving_refused g.S.Store (keyed_sales c.args.which) [] c.args.conn.now c.facts.rows.conn.now c.facts.invariant.1.giving now c.advance.ensures.survives error c.in-Err-advance.ensures.err late in
+    let fails : FailsToQuery (facts_by c.args.format c.args.which) [] (state g.S.Store c.args.conn.now) (state g.S.Store now) error =
+    giving_refused g.S.Store (facts_by c.args.format c.args.which) [] c.args.conn.now c.facts.rows.conn.now c.facts.invariant.1.giving now c.advance.ensures.survives error c.in-Err-advance.ensures.err late in
     (error, cc (is, c.from-in-Err-advance.ensures), search rules)
 
 pub returns-in_err-count_row-in-Some-clause-damaged : goal.returns-in_err-count_row-in-Some-clause-damaged
@@ -45,25 +45,25 @@ returns-in_err-count_row-in-Some-clause-damaged g c clean stored is =
     let it = c.facts.invariant.1 in
     let late : HasCleanDisk (state g.S.Store now) = search rules in
     let fault : c.from_residual.result ≡ Err c.in_err-count_row-in-Some.field-0.0 = search rules in
-    tally_damage g.S.Store c.args.which c.args.conn.now now it.sales c.in-Some.row.now
-    (giving_goes_on g.S.Store (keyed_sales c.args.which) [] c.args.conn.now c.facts.rows.conn.now it.giving now c.advance.ensures.survives c.in_default.ensures.same c.in-Some.row.now
+    tally_damage g.S.Store c.args.format c.args.which c.args.conn.now now it.sales c.in-Some.row.now
+    (giving_goes_on g.S.Store (facts_by c.args.format c.args.which) [] c.args.conn.now c.facts.rows.conn.now it.giving now c.advance.ensures.survives c.in_default.ensures.same c.in-Some.row.now
     (handed g.S.Store c.facts.rows.conn.now now (Some c.in-Some.row.now) (row_if c.advance.new.self.has_row now) (rw c.in-Some.is at c.get.ensures) c.in_default.ensures.ok)) c.from_residual.result c.in_err-count_row-in-Some.field-0.0 fault c.in_err-count_row-in-Some.ensures.damaged late stored is
 
 pub returns-in_err-count_row-in-Some-clause-sound : goal.returns-in_err-count_row-in-Some-clause-sound
 returns-in_err-count_row-in-Some-clause-sound g c clean =
-    tally_undamaged (state g.S.Store c.args.conn.now).now c.from_residual.result (returns-in_err-count_row-in-Some-clause-damaged g c clean)
+    tally_undamaged c.args.format (state g.S.Store c.args.conn.now).now c.from_residual.result (returns-in_err-count_row-in-Some-clause-damaged g c clean)
 
 pub returns-in_err-count_row-in-Some-clause-reads : goal.returns-in_err-count_row-in-Some-clause-reads
 returns-in_err-count_row-in-Some-clause-reads g c =
     let now = c.advance.new.self.conn.now in
     let it = c.facts.invariant.1 in
     let fault : c.from_residual.result ≡ Err c.in_err-count_row-in-Some.field-0.0 = search rules in
-    let survives = still_survives g.S.Store (keyed_sales c.args.which) [] c.args.conn.now c.facts.rows.conn.now it.giving now c.advance.ensures.survives in
-    let same = still_same g.S.Store (keyed_sales c.args.which) [] c.args.conn.now c.facts.rows.conn.now it.giving now c.advance.ensures.survives c.in_default.ensures.same in
+    let survives = still_survives g.S.Store (facts_by c.args.format c.args.which) [] c.args.conn.now c.facts.rows.conn.now it.giving now c.advance.ensures.survives in
+    let same = still_same g.S.Store (facts_by c.args.format c.args.which) [] c.args.conn.now c.facts.rows.conn.now it.giving now c.advance.ensures.survives c.in_default.ensures.same in
     let reads : ReadsOnly (state g.S.Store c.args.conn.now) (state g.S.Store now) c.from_residual.result =
-    tally_reads _ _ survives c.from_residual.result (λ clean served. same clean)
-    (tally_damage g.S.Store c.args.which c.args.conn.now now it.sales c.in-Some.row.now
-    (giving_goes_on g.S.Store (keyed_sales c.args.which) [] c.args.conn.now c.facts.rows.conn.now it.giving now c.advance.ensures.survives c.in_default.ensures.same c.in-Some.row.now
+    tally_reads c.args.format _ _ survives c.from_residual.result (λ clean served. same clean)
+    (tally_damage g.S.Store c.args.format c.args.which c.args.conn.now now it.sales c.in-Some.row.now
+    (giving_goes_on g.S.Store (facts_by c.args.format c.args.which) [] c.args.conn.now c.facts.rows.conn.now it.giving now c.advance.ensures.survives c.in_default.ensures.same c.in-Some.row.now
     (handed g.S.Store c.facts.rows.conn.now now (Some c.in-Some.row.now) (row_if c.advance.new.self.has_row now) (rw c.in-Some.is at c.get.ensures) c.in_default.ensures.ok)) c.from_residual.result c.in_err-count_row-in-Some.field-0.0 fault c.in_err-count_row-in-Some.ensures.damaged) in
     search rules
 
@@ -71,25 +71,25 @@ pub returns-in-None-clause-reads : goal.returns-in-None-clause-reads
 returns-in-None-clause-reads g c =
     let now = c.advance.new.self.conn.now in
     let it = c.facts.invariant.1 in
-    let survives = still_survives g.S.Store (keyed_sales c.args.which) [] c.args.conn.now c.facts.rows.conn.now it.giving now c.advance.ensures.survives in
-    let same = still_same g.S.Store (keyed_sales c.args.which) [] c.args.conn.now c.facts.rows.conn.now it.giving now c.advance.ensures.survives c.in_default.ensures.same in
-    let reads : ReadsOnly {A = Unit {0}} (state g.S.Store c.args.conn.now) (state g.S.Store now) (Ok tt) = tally_reads _ _ survives _ (λ clean served. same clean) (λ clean stored is. tt) in
+    let survives = still_survives g.S.Store (facts_by c.args.format c.args.which) [] c.args.conn.now c.facts.rows.conn.now it.giving now c.advance.ensures.survives in
+    let same = still_same g.S.Store (facts_by c.args.format c.args.which) [] c.args.conn.now c.facts.rows.conn.now it.giving now c.advance.ensures.survives c.in_default.ensures.same in
+    let reads : ReadsOnly {A = Unit {0}} (state g.S.Store c.args.conn.now) (state g.S.Store now) (Ok tt) = tally_reads c.args.format _ _ survives _ (λ clean served. same clean) (λ clean stored is. tt) in
     search rules
 
 pub returns-in-None-clause-counted : goal.returns-in-None-clause-counted
 returns-in-None-clause-counted g c clean t is =
     let now = c.advance.new.self.conn.now in
     let late : HasCleanDisk (state g.S.Store now) = search rules in
-    tally_of_tables g.S.Store c.args.which c.args.conn.now c.facts.rows.conn.now c.facts.invariant.1 now
-    (all_given g.S.Store (keyed_sales c.args.which) [] c.args.conn.now c.facts.rows.conn.now c.facts.invariant.1.giving now c.advance.ensures.survives
+    tally_of_tables g.S.Store c.args.format c.args.which c.args.conn.now c.facts.rows.conn.now c.facts.invariant.1 now
+    (all_given g.S.Store (facts_by c.args.format c.args.which) [] c.args.conn.now c.facts.rows.conn.now c.facts.invariant.1.giving now c.advance.ensures.survives
     (handed g.S.Store c.facts.rows.conn.now now None (row_if c.advance.new.self.has_row now) (rw c.in-None.is at c.get.ensures) c.in_default.ensures.ok)) late t is
 
 pub returns-in-None-clause-stored : goal.returns-in-None-clause-stored
 returns-in-None-clause-stored g c clean stored is =
     let now = c.advance.new.self.conn.now in
     let late : HasCleanDisk (state g.S.Store now) = search rules in
-    tally_of_stored g.S.Store c.args.which c.args.conn.now c.facts.rows.conn.now c.facts.invariant.1 now
-    (all_given g.S.Store (keyed_sales c.args.which) [] c.args.conn.now c.facts.rows.conn.now c.facts.invariant.1.giving now c.advance.ensures.survives
+    tally_of_stored g.S.Store c.args.format c.args.which c.args.conn.now c.facts.rows.conn.now c.facts.invariant.1 now
+    (all_given g.S.Store (facts_by c.args.format c.args.which) [] c.args.conn.now c.facts.rows.conn.now c.facts.invariant.1.giving now c.advance.ensures.survives
     (handed g.S.Store c.facts.rows.conn.now now None (row_if c.advance.new.self.has_row now) (rw c.in-None.is at c.get.ensures) c.in_default.ensures.ok)) late stored is
 
 pub facts-preserved : goal.facts-preserved
@@ -98,8 +98,8 @@ facts-preserved g c =
     let it = c.facts.invariant.1 in
     let counted = c.in_ok-count_row-in-Some.ensures.counted in (
       c.advance.ensures.same_reference ∙ c.facts.invariant.0,
-      tally_goes_on g.S.Store c.args.which c.args.conn.now c.facts.rows.conn.now it now c.in-Some.row.now
-          (giving_goes_on g.S.Store (keyed_sales c.args.which) [] c.args.conn.now c.facts.rows.conn.now it.giving now c.advance.ensures.survives c.in_default.ensures.same c.in-Some.row.now
+      tally_goes_on g.S.Store c.args.format c.args.which c.args.conn.now c.facts.rows.conn.now it now c.in-Some.row.now
+          (giving_goes_on g.S.Store (facts_by c.args.format c.args.which) [] c.args.conn.now c.facts.rows.conn.now it.giving now c.advance.ensures.survives c.in_default.ensures.same c.in-Some.row.now
           (handed g.S.Store c.facts.rows.conn.now now (Some c.in-Some.row.now) (row_if c.advance.new.self.has_row now) (rw c.in-Some.is at c.get.ensures) c.in_default.ensures.ok)) counted.0 counted.1 c.count_row.new.tally counted.2,
     )
 
@@ -107,5 +107,5 @@ pub returns-clause-reads : goal.returns-clause-reads
 returns-clause-reads g c =
     let now = c.facts.rows.conn.now in
     let it = c.facts.invariant.1.giving in
-    let reads : ReadsOnly {A = Unit {0}} (state g.S.Store c.args.conn.now) (state g.S.Store now) (Err Memory) = tally_reads _ _ it.survives _ (λ clean served. it.same clean) (λ clean stored is. tt) in
+    let reads : ReadsOnly {A = Unit {0}} (state g.S.Store c.args.conn.now) (state g.S.Store now) (Err Memory) = tally_reads c.args.format _ _ it.survives _ (λ clean served. it.same clean) (λ clean stored is. tt) in
     search rules

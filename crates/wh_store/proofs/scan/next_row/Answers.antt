@@ -8,13 +8,13 @@ use Rattle.wh_store.proofs.ScanningStored.{handed_of}
 use Rattle.wh_store.proofs.scan.next_row.Goals as goal
 
 pub returns-clause-rows : goal.returns-clause-rows
-returns-clause-rows g c clean t at =
+returns-clause-rows g c clean t same_format at =
     let d = g.T.StoredTable in
     let none : c.next.result ≡ None = none_is c.next.result c.in_default.not-Some in
     let lens = rw none at c.next.ensures.cases in
     let empty : into_iter_items c.next.new.self ≡ [] = no_items _ _ c.next.new.self.rest.ok.0 lens.1 in
     let before : into_iter_items c.args.cursor.now.ahead ≡ [] = no_items _ _ c.args.cursor.now.ahead.rest.ok.0 lens.0 in
-    let left = c.in_ok-read_ahead.ensures.rows clean t at c.if-cursor.false empty in
+    let left = c.in_ok-read_ahead.ensures.rows clean t same_format at c.if-cursor.false empty in
     let cursor = c.args.cursor.now in
     let same : rows_left d.layout (d.rows t) (record { ahead = c.next.new.self; unread = cursor.unread; is_over = cursor.is_over }) ≡ rows_left d.layout (d.rows t) cursor =
     ap (λ l. l ++ (if cursor.is_over then [] else filter (is_behind d.layout cursor.unread.after) (values (d.rows t)))) (empty ∙ sym before) in
@@ -24,17 +24,17 @@ returns-clause-rows g c clean t at =
     (λ is. no_items _ _ c.next-2.new.self.rest.ok.0 (rw is at c.next-2.ensures.cases).1))
 
 pub returns-clause-stored : goal.returns-clause-stored
-returns-clause-stored g c clean stored at =
+returns-clause-stored g c clean stored same_format at =
     let d = g.T.StoredTable in
     let bind = g.T.Keeps.bind in
-    let rows = stored g.T.Keeps.name in
+    let rows = stored.rows g.T.Keeps.name in
     let none : c.next.result ≡ None = none_is c.next.result c.in_default.not-Some in
     let lens = rw none at c.next.ensures.cases in
     let empty : into_iter_items c.next.new.self ≡ [] = no_items _ _ c.next.new.self.rest.ok.0 lens.1 in
     let before : into_iter_items c.args.cursor.now.ahead ≡ [] = no_items _ _ c.args.cursor.now.ahead.rest.ok.0 lens.0 in
     let later = c.read_ahead.new.cursor in
     let cursor = c.args.cursor.now in
-    let back = c.in_ok-read_ahead.ensures.stored clean stored at c.if-cursor.false empty in
+    let back = c.in_ok-read_ahead.ensures.stored clean stored same_format at c.if-cursor.false empty in
     handed_of d.layout bind rows later.unread.after later.is_over c.next-2.result (into_iter_items later.ahead) (into_iter_items c.next-2.new.self) (AreLeft d.layout bind rows cursor)
     c.next-2.ensures.items c.in_ok-read_ahead.ensures.short (λ is. no_items _ _ c.next-2.new.self.rest.ok.0 (rw is at c.next-2.ensures.cases).1)
     (λ left are. let was = back left are in (was.0, was.1, was.2 ∙ ap (λ vs. map d.layout.encode vs ++ was.0) (empty ∙ sym before)))

@@ -11,4 +11,4 @@ returns-clause-sound g c clean limits commands ready =
     let t = ready.rests.tables in
     let rests = ready.rests.rests in
     rw c.stops-self.ensures (checked limits commands c.args.self.now.session old new ready c.check_tables-verdict.result
-    (c.check_tables-verdict.ensures.checked clean (stored_of t) (rests_on t old rests)) (c.check_tables-verdict.ensures.reads.same clean t rests) (c.check_tables-verdict.ensures.reads.left clean t rests))
+    (c.check_tables-verdict.ensures.checked clean (stored_of t) (rests_on t old rests) ready.rests.are.format) (c.check_tables-verdict.ensures.reads.same clean t rests) (c.check_tables-verdict.ensures.reads.left clean t rests))

@@ -1,4 +1,4 @@
-use Rattle.std.proofs.Common.{◌≡◌, rules, ap, subst, Option}
+use Rattle.std.proofs.Common.{◌≡◌, rules, ap, subst, Option, refl}
 use Rattle.std.specs.FinMap.{values}
 use Rattle.wh_history.specs.declared.facts.Fact.{Fact}
 use Rattle.wh_rows.specs.Rows as row
@@ -26,7 +26,7 @@ facts-preserved g c =
       moved = λ clean t at.
           let before = read.reads.clean clean in
           moved_further c.args.self.now c.facts.moved.items c.add_moved.new.moved.items c.in-Some.fact (rows_left row.fact t.fact c.facts.cursor) (rows_left row.fact t.fact c.next_row.new.cursor) (moved_anew c.args.self.now (values t.fact))
-          c.in_ok-add_moved-in-Some.ensures (subst (λ (found : Option Fact). HandsOut (rows_left row.fact t.fact c.facts.cursor) found (rows_left row.fact t.fact c.next_row.new.cursor)) c.in-Some.is (read.rows clean t (kept.reads.same before t at tt))) (kept.moved before t at);
+          c.in_ok-add_moved-in-Some.ensures (subst (λ (found : Option Fact). HandsOut (rows_left row.fact t.fact c.facts.cursor) found (rows_left row.fact t.fact c.next_row.new.cursor)) c.in-Some.is (read.rows clean t refl (kept.reads.same before t at tt))) (kept.moved before t at);
     }
 
 pub returns-in-None-clause-moved : goal.returns-in-None-clause-moved
@@ -34,4 +34,4 @@ returns-in-None-clause-moved g c clean t at =
     let kept = c.facts.invariant in
     let read = c.in_ok-fact.ensures in
     let before = read.reads.clean clean in
-    moved_whole c.args.self.now c.facts.moved.items (rows_left row.fact t.fact c.facts.cursor) (moved_anew c.args.self.now (values t.fact)) (subst (λ (found : Option Fact). HandsOut (rows_left row.fact t.fact c.facts.cursor) found (rows_left row.fact t.fact c.next_row.new.cursor)) c.in-None.is (read.rows clean t (kept.reads.same before t at tt))).0 (kept.moved before t at)
+    moved_whole c.args.self.now c.facts.moved.items (rows_left row.fact t.fact c.facts.cursor) (moved_anew c.args.self.now (values t.fact)) (subst (λ (found : Option Fact). HandsOut (rows_left row.fact t.fact c.facts.cursor) found (rows_left row.fact t.fact c.next_row.new.cursor)) c.in-None.is (read.rows clean t refl (kept.reads.same before t at tt))).0 (kept.moved before t at)

@@ -17,7 +17,7 @@ returns-in-Ok g c = rw c.close.ensures (λ clean content at.
     let replies = c.deliver-replies.result in
     let has = longest_delivery commands ≤ vec_capacity c.args.self.room in
     left_with has (IsDelivered commands) content c.delivery_answer-answer.result (λ after. Stands after (state g.T.Store c.deliver-replies.new.self.tables.conn)) (
-    opened (λ limits kept told after. has → IsDelivered commands limits kept told after) content c.delivery_answer-answer.result c.in-Ok.engine.session
+    opened (λ limits kept told after. has → IsDelivered commands limits kept told after) content c.delivery_answer-answer.result c.in-Ok.engine.tables.format c.in-Ok.engine.session
     (state g.T.Store c.args.connection) (state g.T.Store c.in-Ok.engine.tables.conn) (state g.T.Store c.deliver-replies.new.self.tables.conn)
     (c.in-Ok.ensures.ready (c.deliver-replies.ensures.clean clean))
     (λ limits kept ready. delivered has commands limits kept c.delivery_answer-answer.result replies.answers.items replies.stop

@@ -7,7 +7,7 @@ use Rattle.wh_program.proofs.report.ReportingVisitor.visit.Goals as goal
 
 pub returns-in-Ok : goal.returns-in-Ok
 returns-in-Ok g c = rw c.close.ensures (λ clean content at.
-    opened (IsReported (report_words c.args.self.asked)) content c.asked_answer-answer.result c.in-Ok.engine.session
+    opened (IsReported (report_words c.args.self.asked)) content c.asked_answer-answer.result c.in-Ok.engine.tables.format c.in-Ok.engine.session
     (state g.T.Store c.args.connection) (state g.T.Store c.in-Ok.engine.tables.conn) (state g.T.Store c.asked_answer-answer.new.engine.tables.conn)
     (c.in-Ok.ensures.ready (c.asked_answer-answer.ensures.clean clean))
     (c.asked_answer-answer.ensures.reported clean)

@@ -6,7 +6,7 @@ use Rattle.wh_program.proofs.warehouse.CountingVisitor.visit.Goals as goal
 
 pub returns-in-Ok : goal.returns-in-Ok
 returns-in-Ok g c = rw c.close.ensures (λ clean content at.
-    opened IsCounted content c.status_answer.result c.in-Ok.engine.session
+    opened IsCounted content c.status_answer.result c.in-Ok.engine.tables.format c.in-Ok.engine.session
     (state g.T.Store c.args.connection) (state g.T.Store c.in-Ok.engine.tables.conn) (state g.T.Store c.counts-counts.new.self.tables.conn)
     (c.in-Ok.ensures.ready (c.counts-counts.ensures.clean clean))
     (λ limits commands ready. counted limits commands c.status_answer.result c.counts-counts.result c.counts-counts.new.self.session (state g.T.Store c.counts-counts.new.self.tables.conn)

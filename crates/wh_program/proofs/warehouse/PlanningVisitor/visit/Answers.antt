@@ -6,7 +6,7 @@ use Rattle.wh_program.proofs.warehouse.PlanningVisitor.visit.Goals as goal
 
 pub returns-in-Ok : goal.returns-in-Ok
 returns-in-Ok g c = rw c.close.ensures (λ clean content at.
-    opened (IsForetold c.args.self.command) content c.plan_answer.result c.in-Ok.engine.session
+    opened (IsForetold c.args.self.command) content c.plan_answer.result c.in-Ok.engine.tables.format c.in-Ok.engine.session
     (state g.T.Store c.args.connection) (state g.T.Store c.in-Ok.engine.tables.conn) (state g.T.Store c.plan-edits.new.self.tables.conn)
     (c.in-Ok.ensures.ready (c.plan-edits.ensures.clean clean))
     (λ limits commands ready. foretold c.args.self.command limits commands c.plan_answer.result c.plan-edits.result c.plan-edits.new.self.session (state g.T.Store c.plan-edits.new.self.tables.conn)

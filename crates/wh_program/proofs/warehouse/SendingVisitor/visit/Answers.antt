@@ -15,7 +15,7 @@ returns-in-Ok g c = rw c.close.ensures (λ clean content at.
     let id = c.args.self.command.id in
     let has = longest_answer id ≤ vec_capacity c.args.self.room in
     left_with has (IsReplied c.args.self.command) content c.sent_answer-answer.result (λ after. Stands after (state g.T.Store c.apply-reply.new.self.tables.conn)) (
-    opened (λ limits commands told after. has → IsReplied c.args.self.command limits commands told after) content c.sent_answer-answer.result c.in-Ok.engine.session
+    opened (λ limits commands told after. has → IsReplied c.args.self.command limits commands told after) content c.sent_answer-answer.result c.in-Ok.engine.tables.format c.in-Ok.engine.session
     (state g.T.Store c.args.connection) (state g.T.Store c.in-Ok.engine.tables.conn) (state g.T.Store c.apply-reply.new.self.tables.conn)
     (c.in-Ok.ensures.ready (c.apply-reply.ensures.clean clean))
     (λ limits commands ready. replied has c.args.self.command limits commands c.sent_answer-answer.result c.apply-reply.result c.apply-reply.new.self.session (state g.T.Store c.apply-reply.new.self.tables.conn)

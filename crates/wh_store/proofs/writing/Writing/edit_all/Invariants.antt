@@ -3,7 +3,7 @@ use Rattle.std.specs.List.{AllByRecursion}
 use Rattle.sqlite.specs.Held.{state}
 use Rattle.sqlite.specs.State.{HasCleanDisk}
 use Rattle.wh_rows.specs.AtRest.{IsWriting}
-use Rattle.wh_rows.specs.Tables.{Tables as TenTables}
+use Rattle.wh_rows.specs.Tables.{Tables as TypedTables}
 use Rattle.wh_rows.specs.Steps.{after_all}
 use Rattle.wh_store.specs.Edits.{with_edit, IsValid, Puts}
 use Rattle.wh_store.proofs.Looping.{IsOnTheWay}
@@ -20,8 +20,9 @@ invariant-loop-edit g l =
       same_reference : l.self.tables.ghost_name ≡ l.fn.self.tables.ghost_name;
       clean : HasCleanDisk now → HasCleanDisk old;
       counts : old.faults ≤ now.faults;
-      put : HasCleanDisk now → (before : Option TenTables) (made : TenTables) → IsWriting before (Some made) old → AllByRecursion may l.edits
-          → (mid : TenTables) × IsWriting before (Some mid) now × IsOnTheWay step may table.rows table.with_rows (drop l.edit-index l.edits) mid (table.with_rows (after_all step l.edits (table.rows made)) made);
+      put : HasCleanDisk now → (before : Option TypedTables) (made : TypedTables) → IsWriting before (Some made) old → AllByRecursion may l.edits
+          → (mid : TypedTables) × IsWriting before (Some mid) now × IsOnTheWay step may table.rows table.with_rows (drop l.edit-index l.edits) mid (table.with_rows (after_all step l.edits (table.rows made)) made);
       counted : l.self.writes ≡ l.fn.self.writes + l.edit-index;
       noted : l.self.refused ≡ l.fn.self.refused;
+      stays : (l.self.tables.now.format ≡ l.fn.self.tables.now.format) × (l.self.makes ≡ l.fn.self.makes);
     }

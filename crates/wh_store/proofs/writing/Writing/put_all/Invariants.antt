@@ -3,7 +3,7 @@ use Rattle.std.specs.List.{AllByRecursion}
 use Rattle.sqlite.specs.Held.{state}
 use Rattle.sqlite.specs.State.{HasCleanDisk}
 use Rattle.wh_rows.specs.AtRest.{IsWriting}
-use Rattle.wh_rows.specs.Tables.{Tables as TenTables}
+use Rattle.wh_rows.specs.Tables.{Tables as TypedTables}
 use Rattle.wh_rows.specs.Steps.{with_row, after_all}
 use Rattle.wh_store.specs.Edits.{IsValid}
 use Rattle.wh_store.proofs.Looping.{IsOnTheWay}
@@ -20,8 +20,9 @@ invariant-loop-row g l =
       same_reference : l.self.tables.ghost_name ≡ l.fn.self.tables.ghost_name;
       clean : HasCleanDisk now → HasCleanDisk old;
       counts : old.faults ≤ now.faults;
-      put : HasCleanDisk now → (before : Option TenTables) (made : TenTables) → IsWriting before (Some made) old → AllByRecursion may l.rows
-          → (mid : TenTables) × IsWriting before (Some mid) now × IsOnTheWay step may table.rows table.with_rows (drop l.row-index l.rows) mid (table.with_rows (after_all step l.rows (table.rows made)) made);
+      put : HasCleanDisk now → (before : Option TypedTables) (made : TypedTables) → IsWriting before (Some made) old → AllByRecursion may l.rows
+          → (mid : TypedTables) × IsWriting before (Some mid) now × IsOnTheWay step may table.rows table.with_rows (drop l.row-index l.rows) mid (table.with_rows (after_all step l.rows (table.rows made)) made);
       counted : l.self.writes ≡ l.fn.self.writes + l.row-index;
       noted : l.self.refused ≡ l.fn.self.refused;
+      stays : (l.self.tables.now.format ≡ l.fn.self.tables.now.format) × (l.self.makes ≡ l.fn.self.makes);
     }

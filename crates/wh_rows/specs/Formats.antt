@@ -1,0 +1,14 @@
+-- The formats of a warehouse.
+use Rattle.std.specs.Prelude.{ℕ, Bool, true, false}
+use Rattle.wh_rows.specs.declared.format.Format.{Format}
+use Rattle.wh_rows.specs.declared.format.Format.TheVariants.{One, Two}
+
+-- a format's number, which meta keeps
+abbrev pub format_number : Format → ℕ
+format_number One = 1
+format_number Two = 2
+
+-- it is the second
+abbrev pub is_two : Format → Bool
+is_two One = false
+is_two Two = true

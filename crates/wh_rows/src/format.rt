@@ -1,0 +1,25 @@
+//! The formats of a warehouse.
+
+ghost use Rattle.std.specs.Prelude.{◌≡◌};
+ghost use Rattle.wh_rows.specs.Formats.{format_number};
+
+/// A format of a warehouse: of ten tables, or of twelve, whose facts have a discount and whose lines may be withdrawn.
+#[derive(Clone, Copy, Debug, PartialEq, Eq)]
+pub enum Format {
+    One,
+    Two,
+}
+
+impl Format {
+    ghost use Rattle.wh_rows.specs.declared.format.Format.{Format};
+
+    /// Its number, which meta keeps.
+    pub fn number(self) -> u64
+        ensures { result ≡ format_number self }
+    {
+        match self {
+            Format::One => 1,
+            Format::Two => 2,
+        }
+    }
+}
