@@ -1,6 +1,6 @@
 -- The tables of commands are sound, and a check of them says so.
-use Rattle.std.proofs.Common.{◌≡◌, inl, false, List, [], ◌∷◌, map, Option, Some, Result, Ok, Err, refl, ap, ◌∙◌}
-use Rattle.std.specs.FinMap.{FinMap, entries, values, get, empty, get-empty}
+use Rattle.std.proofs.Common.{◌≡◌, inl, false, List, map, Option, Some, Result, Ok, Err, refl, ap, ◌∙◌}
+use Rattle.std.specs.FinMap.{FinMap, entries, values, get, get-empty}
 use Rattle.std.proofs.lemmas.List.Sorted.{IsPermutation-refl}
 use Rattle.sqlite.specs.State.{State}
 use Rattle.wh_history.specs.Accepted.{Accepted}
