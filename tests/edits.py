@@ -2,6 +2,7 @@
 """Tries wrong bodies: the prover has to refuse each edit of a crate's edits/, with --must-fail those of must-fail/ too.
 
 Usage: tests/edits.py [--must-fail] [--copies] CRATE..     (as tests/edits.py wh_day wh_policy)
+       tests/edits.py --rules [CRATE..]
 
 A function is proved from its own body and from the contracts of what it calls. So an edit is made in a copy of its function,
 which stands beside it under a name of its own, with the same contract, over the same callees, and with the same answers, where
@@ -19,6 +20,10 @@ stands outside of functions. Where a check ends before it answers for any functi
 that its errors point at and the others, or two halves: so an edit that doesn't compile is found. It is a BAD EDIT, which says
 nothing. All is done on a copy of the repository; a crate with no kept work in out/ is proved there first. The last line counts
 the edits, and the status is 1 where one is bad or not refused.
+
+--rules tries those edits alone that have a line `rule:`, which says in words the wrong body that the rules of the warehouse name.
+It is the gate's, in which nothing is kept: so it checks the copies alone and what they call, first without an edit, where
+each has to be proved.
 """
 
 import argparse
@@ -60,7 +65,8 @@ class Function(NamedTuple):
 
 class Edit(NamedTuple):
     """The lines of a file that an edit replaces, those in their place, and the function around them, if one is. The clause
-    that the edit breaks, where it names one. What the name of a copy of it ends in, if the edit is made in one."""
+    that the edit breaks, where it names one. What the name of a copy of it ends in, if the edit is made in one. Whether its
+    function alone is checked, with what that calls."""
 
     label: str
     file: str
@@ -70,6 +76,7 @@ class Edit(NamedTuple):
     function: Function
     clause: str
     copy: str
+    is_alone: bool = False
 
 
 def joined(text, parameters):
@@ -241,7 +248,8 @@ def check(crate, edits):
         (crate / file).write_text("\n".join(made))
         places.update(found)
     how = {"stdin": subprocess.DEVNULL, "stdout": subprocess.PIPE, "stderr": subprocess.STDOUT}
-    said = subprocess.run(["rt", "check", "--jobs", "1"], cwd=crate, text=True, errors="replace", **how).stdout
+    alone = [word for it in edits if it.is_alone for word in ("--only", name_of(crate, it))]
+    said = subprocess.run(["rt", "check", "--jobs", "1", *alone], cwd=crate, text=True, errors="replace", **how).stdout
     for file, text in files.items():
         (crate / file).write_text(text)
     for folder in answers:
@@ -267,6 +275,12 @@ def is_of_method(answer, name):
     not the method's own."""
     words, name = answer.split("::"), name.split("::")
     return len(name) > 1 and any(words[at : at + len(name)] == name for at in range(len(words)))
+
+
+def name_of(crate, edit):
+    """The name of a function that is edited, or of the copy of it, as a check may be asked for it: a method is named behind its type."""
+    name = edit.function.name + edit.copy
+    return name if "::" in name else "::".join([crate.name, *Path(edit.file).with_suffix("").parts[1:], name])
 
 
 def answers_for(crate, edit, said):
@@ -394,6 +408,24 @@ def try_crate(crate, folders, tried):
     return len(edits), missed
 
 
+def is_rule(path):
+    return re.search(r"^rule: ", path.read_text(), re.M)
+
+
+def try_rules(crate):
+    """The same of the edits with a line `rule:`."""
+    start, edits = seconds(), [read(crate, path) for path in sorted(crate.glob("edits/*.edit")) if is_rule(path)]
+    if not all(edits):
+        sys.exit(f"{crate.name}: a text of an edit isn't once in its file")
+    edits = [it._replace(is_alone=True) for it in edits]
+    if try_copies(crate, edits):
+        sys.exit(f"{crate.name}: a copy without an edit isn't proved, so its edits say nothing")
+    copy_work(crate / "out/incremental", crate / "out/kept")
+    missed = try_edits(crate, edits)
+    print(f"{crate.name}: {len(edits)} edits that a rule names, {seconds() - start:.0f} s", flush=True)
+    return len(edits), missed
+
+
 def copy_to(room, names):
     """Copies the repository, with the libraries of all crates and the kept work of those that are named."""
 
@@ -410,13 +442,17 @@ def main():
     words = argparse.ArgumentParser(description="Tries wrong bodies, each of which the prover has to refuse.")
     words.add_argument("--must-fail", action="store_true", help="those of must-fail/ too")
     words.add_argument("--copies", action="store_true", help="try copies of the functions without an edit, which have to be proved")
-    words.add_argument("crate", nargs="+")
+    words.add_argument("--rules", action="store_true", help="those that the rules of the warehouse name, of all crates where none is named")
+    words.add_argument("crate", nargs="*")
     given = words.parse_args()
     folders = ["edits", "must-fail"] if given.must_fail else ["edits"]
+    with_rules = sorted({it.parts[-3] for it in ROOT.glob("crates/*/edits/*.edit") if is_rule(it)})
+    names = given.crate or (with_rules if given.rules else words.error("no crate is named"))
     with tempfile.TemporaryDirectory(prefix="wh-edits-") as room:
-        copy_to(Path(room, "wh"), given.crate)
+        copy_to(Path(room, "wh"), names)
         tried = try_copies if given.copies else try_edits
-        counts = [try_crate(Path(room, "wh", "crates", name), folders, tried) for name in given.crate]
+        crates = [Path(room, "wh", "crates", name) for name in names]
+        counts = [try_rules(it) if given.rules else try_crate(it, folders, tried) for it in crates]
     edits, missed = (sum(it) for it in zip(*counts))
     if given.copies:
         print(f"{missed} copies not proved, {seconds():.0f} s of processor time")

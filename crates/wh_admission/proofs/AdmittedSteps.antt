@@ -22,10 +22,10 @@ use Rattle.wh_admission.proofs.StaysAccepted.{was_numbered, had_number}
 abbrev pub IsAddedTo : Limits → List Accepted → List Accepted → Type 0
 IsAddedTo limits commands added = ComeAfter limits commands added
 
-record Adds (limits : Limits) (commands after : List Accepted) : Type 0 where
-  added : List Accepted
-  is : after ≡ commands ++ added
-  come : ComeAfter limits commands added
+pub record Adds (limits : Limits) (commands after : List Accepted) : Type 0 where
+  pub added : List Accepted
+  pub is : after ≡ commands ++ added
+  pub come : ComeAfter limits commands added
 
 nothing_added : (limits : Limits) (commands : List Accepted) → Adds limits commands commands
 nothing_added limits commands = record { added = []; is = sym (append-nil commands); come = tt }
@@ -75,7 +75,7 @@ come_parts limits before (a ∷ first) second come =
     let rest = come_parts limits (before ++ a ∷ []) first second come.1 in
     ((come.0, rest.0), subst (λ list. ComeAfter limits list second) (append_assoc before (a ∷ []) first) rest.1)
 
-all_added : (limits : Limits) (commands : List Accepted) (sent : List Command) → Adds limits commands (accepted_after_all limits commands sent)
+pub all_added : (limits : Limits) (commands : List Accepted) (sent : List Command) → Adds limits commands (accepted_after_all limits commands sent)
 all_added limits commands [] = nothing_added limits commands
 all_added limits commands (c ∷ sent) =
     let one = one_added limits commands c in

@@ -1,4 +1,5 @@
 pub mod Repeats
+pub mod Known
 pub mod GoodRecords
 pub mod SameLines
 pub mod GoodSales
@@ -11,3 +12,4 @@ pub mod AdmittedSteps
 pub mod StoredMaps
 pub mod CheckedTables
 pub mod SoundTables
+pub mod AnswersByCases

@@ -128,6 +128,11 @@ by_id limits commands c None = when_read limits commands c (content_of c.kind (c
 abbrev pub answer : Limits → List Accepted → Command → Result Reply Refused
 answer limits commands c = if is_key 40 c.id then by_id limits commands c (find (λ (a : Accepted). bytes_eq a.id c.id) commands) else Err BadId
 
+-- the receipt of an answer
+abbrev pub receipt_told : Reply → Receipt
+receipt_told (Accepts receipt) = receipt
+receipt_told (Already receipt) = receipt
+
 -- the list with what was read of a command
 abbrev pub with_content : List Accepted → Command → Result Content Refused → List Accepted
 with_content commands c (Ok content) = commands ++ accepted_as c content ∷ []
@@ -152,6 +157,15 @@ AcceptedListsStaySound = (limits : Limits) (commands : List Accepted) (c : Comma
 abbrev pub accepted_after_all : Limits → List Accepted → List Command → List Accepted
 accepted_after_all limits commands [] = commands
 accepted_after_all limits commands (c ∷ sent) = accepted_after_all limits (accepted_after limits commands c) sent
+
+-- A command that comes again at once changes nothing, whatever it was answered.
+abbrev pub ActsOnceAtOnce : Type 0
+ActsOnceAtOnce = (limits : Limits) (commands : List Accepted) (c : Command) → accepted_after limits (accepted_after limits commands c) c ≡ accepted_after limits commands c
+
+-- Nor does one that was accepted, or had been before, whatever was sent before it comes again; and it is answered with the receipt that it had.
+abbrev pub ActsOnceLater : Type 0
+ActsOnceLater = (limits : Limits) (commands : List Accepted) (c : Command) (reply : Reply) (sent : List Command) → answer limits commands c ≡ Ok reply
+    → let held = accepted_after_all limits (accepted_after limits commands c) sent in (accepted_after limits held c ≡ held) × (answer limits held c ≡ Ok (Already (receipt_told reply)))
 
 -- The list is one that a warehouse with these limits has after a making and some commands, of which those are in it that were accepted.
 pub record AreAdmitted (limits : Limits) (commands : List Accepted) : Type 0 where

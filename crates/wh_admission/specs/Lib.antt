@@ -1,4 +1,5 @@
 pub mod Admission
+pub mod Answers
 pub mod Steps
 pub mod Checked
 pub mod Sound

@@ -1,8 +1,23 @@
 //! Laws of admission and of what is stored. They speak of the definitions alone and do nothing.
 
+ghost use Rattle.wh_admission.specs.Admission.{ActsOnceAtOnce, ActsOnceLater};
+ghost use Rattle.wh_admission.specs.Answers.{AnswerIsByCases, AnswersAreOne};
 ghost use Rattle.wh_admission.specs.Steps.{AdmittedIsStepped};
 ghost use Rattle.wh_admission.specs.Checked.{SoundIsEachRight, DamageIsWrong, CommandsAreOne};
 ghost use Rattle.wh_admission.specs.Sound.{SoundIsOfCommands};
+
+/// The answer to a command is that of the first case that applies; where no two accepted commands have one id, there is no other.
+pub fn answers_are_by_cases()
+    ensures first { AnswerIsByCases }
+    ensures only { AnswersAreOne }
+{}
+
+/// A command that comes again acts once: at once, whatever it was answered; and where it was accepted or had been before, whatever
+/// was sent in between, and then it is answered with the receipt that it had.
+pub fn acts_once()
+    ensures at_once { ActsOnceAtOnce }
+    ensures later { ActsOnceLater }
+{}
 
 /// A list was admitted exactly where it begins with a making and each other command comes after those before it.
 pub fn admitted_is_stepped()

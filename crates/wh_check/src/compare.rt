@@ -1,76 +1,75 @@
-//! The stored rows of a table against those of a warehouse in memory.
+//! The stored rows of a table against those of a second warehouse, whose store never fails to tell what was written.
 
 ghost use Rattle.std.specs.Prelude.{Some, IfOk, IfErr, OnOk};
 ghost use Rattle.std.specs.FinMap.{get};
-ghost use Rattle.sqlite.specs.Steps.{over_memory};
-ghost use Rattle.wh_rows.specs.AtRest.{IsAtRest};
-ghost use Rattle.wh_rows.specs.Tables.{Tables as TenTables};
+ghost use Rattle.wh_rows.specs.Tables.{Tables as TypedTables};
 ghost use Rattle.wh_sql.specs.Reads.{IsOfDamage};
+ghost use Rattle.wh_store.specs.Faithful.{RestsFaithfully};
 ghost use Rattle.wh_store.specs.Reads.{ReadsOnly, state_of, SaysAsStored};
 ghost use Rattle.wh_store.specs.Scan.{rows_left, HandsOut};
 ghost use Rattle.wh_check.specs.Compared.{IsNext, IsEnd, AreRowsOrNot};
 
 use crate::alike::{Plain, are_alike};
-use sqlite::{Alter, MemStore};
+use sqlite::Alter;
 use std::alloc::{AllocError, Global};
 use wh_store::{Cursor, ReadFault, Tables, next_row};
 
-/// The next row of a warehouse in memory.
-fn next_expected<T: Plain>(
-    expected: &mut Tables<MemStore>,
+/// The next row of the second warehouse.
+fn next_expected<T: Plain, M: Alter>(
+    expected: &mut Tables<M>,
     alloc: Global,
     ahead: &mut Cursor<T::Key, T::Row>,
 ) -> Result<Option<T::Row>, AllocError>
-    ensures rests { (t : TenTables) → IsAtRest (Some t) (state_of over_memory expected.old) → OnOk result (IsAtRest (Some t) (state_of over_memory expected.new)) }
-    ensures row { (t : TenTables) → IsAtRest (Some t) (state_of over_memory expected.old)
+    ensures rests { (t : TypedTables) → RestsFaithfully M.Store (Some t) expected.old.conn → OnOk result (RestsFaithfully M.Store (Some t) expected.new.conn) }
+    ensures row { (t : TypedTables) → RestsFaithfully M.Store (Some t) expected.old.conn
         → IfOk result (λ found. HandsOut (rows_left T.StoredTable.layout (T.StoredTable.rows t) ahead.old) found (rows_left T.StoredTable.layout (T.StoredTable.rows t) ahead.new)) }
 {
-    match next_row::<T, MemStore>(expected, alloc, ahead) {
+    match next_row::<T, M>(expected, alloc, ahead) {
         Ok(found) => Ok(found),
         Err(_) => Err(AllocError),
     }
 }
 
-/// Whether the next row of a warehouse in memory stands in the same columns as this one.
-fn is_next<T: Plain>(
-    expected: &mut Tables<MemStore>,
+/// Whether the next row of the second warehouse stands in the same columns as this one.
+fn is_next<T: Plain, M: Alter>(
+    expected: &mut Tables<M>,
     alloc: Global,
     ahead: &mut Cursor<T::Key, T::Row>,
     row: &T::Row,
 ) -> Result<bool, AllocError>
-    ensures rests { (t : TenTables) → IsAtRest (Some t) (state_of over_memory expected.old) → OnOk result (IsAtRest (Some t) (state_of over_memory expected.new)) }
-    ensures next { (t : TenTables) → IsAtRest (Some t) (state_of over_memory expected.old)
+    ensures rests { (t : TypedTables) → RestsFaithfully M.Store (Some t) expected.old.conn → OnOk result (RestsFaithfully M.Store (Some t) expected.new.conn) }
+    ensures next { (t : TypedTables) → RestsFaithfully M.Store (Some t) expected.old.conn
         → IfOk result (IsNext T.StoredTable.layout (rows_left T.StoredTable.layout (T.StoredTable.rows t) ahead.old) row.now (rows_left T.StoredTable.layout (T.StoredTable.rows t) ahead.new)) }
 {
-    match next_expected::<T>(expected, alloc, ahead)? {
+    match next_expected::<T, M>(expected, alloc, ahead)? {
         Some(there) => are_alike::<T>(alloc, &there, row),
         None => Ok(false),
     }
 }
 
-/// Whether a warehouse in memory has no further row.
-fn is_end<T: Plain>(
-    expected: &mut Tables<MemStore>,
+/// Whether the second warehouse has no further row.
+fn is_end<T: Plain, M: Alter>(
+    expected: &mut Tables<M>,
     alloc: Global,
     ahead: &mut Cursor<T::Key, T::Row>,
 ) -> Result<bool, AllocError>
-    ensures rests { (t : TenTables) → IsAtRest (Some t) (state_of over_memory expected.old) → OnOk result (IsAtRest (Some t) (state_of over_memory expected.new)) }
-    ensures end { (t : TenTables) → IsAtRest (Some t) (state_of over_memory expected.old) → IfOk result (IsEnd (rows_left T.StoredTable.layout (T.StoredTable.rows t) ahead.old)) }
+    ensures rests { (t : TypedTables) → RestsFaithfully M.Store (Some t) expected.old.conn → OnOk result (RestsFaithfully M.Store (Some t) expected.new.conn) }
+    ensures end { (t : TypedTables) → RestsFaithfully M.Store (Some t) expected.old.conn → IfOk result (IsEnd (rows_left T.StoredTable.layout (T.StoredTable.rows t) ahead.old)) }
 {
-    let found = next_expected::<T>(expected, alloc, ahead)?;
+    let found = next_expected::<T, M>(expected, alloc, ahead)?;
     Ok(found.is_none())
 }
 
-/// Whether a table stores what the same table of a warehouse in memory holds, and nothing else. Both are read a part at a time, what
+/// Whether a table stores what the same table of the second warehouse holds, and nothing else. Both are read a part at a time, what
 /// is stored to its end, so that a damaged row is met wherever it stands.
-pub fn holds_the_same<T: Plain, S: Alter>(
+pub fn holds_the_same<T: Plain, S: Alter, M: Alter>(
     tables: &mut Tables<S>,
     alloc: Global,
-    expected: &mut Tables<MemStore>,
+    expected: &mut Tables<M>,
 ) -> Result<bool, ReadFault>
     ensures reads { ReadsOnly (state_of S.Store tables.old) (state_of S.Store tables.new) result }
-    ensures rests { (t : TenTables) → IsAtRest (Some t) (state_of over_memory expected.old) → OnOk result (IsAtRest (Some t) (state_of over_memory expected.new)) }
-    ensures same { SaysAsStored (state_of S.Store tables.old) (state_of S.Store tables.new) (λ stored. (t : TenTables) → IsAtRest (Some t) (state_of over_memory expected.old)
+    ensures rests { (t : TypedTables) → RestsFaithfully M.Store (Some t) expected.old.conn → OnOk result (RestsFaithfully M.Store (Some t) expected.new.conn) }
+    ensures same { SaysAsStored (state_of S.Store tables.old) (state_of S.Store tables.new) (λ stored. (t : TypedTables) → RestsFaithfully M.Store (Some t) expected.old.conn
         → IfOk result (AreRowsOrNot T.StoredTable.layout (get (T.StoredTable.rows t)) (stored.rows T.Keeps.name))) }
     ensures damaged { SaysAsStored (state_of S.Store tables.old) (state_of S.Store tables.new) (λ stored. IfErr result (IsOfDamage T.StoredTable.layout T.Keeps.name (stored.rows T.Keeps.name))) }
 {
@@ -81,14 +80,14 @@ pub fn holds_the_same<T: Plain, S: Alter>(
         match next_row::<T, S>(tables, alloc, &mut cursor)? {
             Some(row) => {
                 if same {
-                    same = is_next::<T>(expected, alloc, &mut ahead, &row)?;
+                    same = is_next::<T, M>(expected, alloc, &mut ahead, &row)?;
                 }
             }
             None => {
                 if !same {
                     return Ok(false);
                 }
-                let end = is_end::<T>(expected, alloc, &mut ahead)?;
+                let end = is_end::<T, M>(expected, alloc, &mut ahead)?;
                 return Ok(end);
             }
         }

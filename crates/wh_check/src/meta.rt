@@ -21,7 +21,7 @@ use wh_rows::{Cause, Limits, tables};
 use wh_store::{ReadFault, Tables, open_fresh};
 
 /// Makes the tables in memory, and the rows of meta for these limits.
-fn commit_tables(tables: &mut Tables<MemStore>, alloc: Global, limits: Limits) -> Result<(), Cause>
+fn commit_tables(tables: &mut Tables<MemStore>, alloc: Global, limits: Limits) -> Result<u64, Cause>
     ensures { IsAtRest None (state_of over_memory tables.old) → OnOk result (IsAtRest (Some (made_with limits)) (state_of over_memory tables.new)) }
 {
     let mut writing = tables.begin()?;
@@ -38,7 +38,7 @@ fn made_tables(alloc: Global, limits: Limits) -> Result<Tables<MemStore>, AllocE
         return Err(AllocError);
     };
     match commit_tables(&mut tables, alloc, limits) {
-        Ok(()) => Ok(tables),
+        Ok(_) => Ok(tables),
         Err(_) => Err(AllocError),
     }
 }
@@ -57,7 +57,7 @@ fn holds_limits<S: Alter>(
     // Each is from 1 to its greatest, as these calls say.
     let _each = (limits.commands(), limits.changes(), limits.facts());
     let mut made = made_tables(alloc, limits)?;
-    let same = holds_the_same::<tables::Meta, S>(tables, alloc, &mut made)?;
+    let same = holds_the_same::<tables::Meta, S, MemStore>(tables, alloc, &mut made)?;
     Ok(same)
 }
 

@@ -10,6 +10,7 @@ use Rattle.wh_history.specs.Accepted.{Accepted}
 use Rattle.wh_history.specs.Tables.{Limits}
 use Rattle.wh_rows.specs.Holds.{Layout}
 use Rattle.wh_rows.specs.Names.{is_there}
+use Rattle.wh_rows.specs.AtRest.{IsAtRest}
 use Rattle.wh_rows.specs.Raw.{Stored, HasDamageIn, RestsOn}
 use Rattle.wh_rows.proofs.Formats.{no_values}
 use Rattle.wh_store.proofs.Absent.{none_there}
@@ -21,14 +22,15 @@ use Rattle.wh_admission.specs.Checked.{AreRowsAt, IsDefined, SaysLimits, SaysCom
 use Rattle.wh_check.specs.Judged.{IsJudged}
 use Rattle.wh_check.specs.declared.verdict.Verdict.{Verdict}
 use Rattle.wh_check.specs.declared.verdict.Verdict.TheVariants.{Clean, Wrong}
-use Rattle.sqlite_trees.specs.declared.memory.MemStore.{MemStore}
+use Rattle.sqlite_trees.specs.declared.store.Store.{Ghosts}
 use Rattle.wh_rows.specs.Rows as row
 use Rattle.wh_sql.specs.Reads.{IsOfDamage}
+use Rattle.wh_store.specs.Reads.{state_of}
 use Rattle.wh_store.specs.declared.tables.Tables.{Tables}
 use Rattle.wh_check.proofs.Assembling.{damaged_first, none_before_meta, meta_wrong, meta_before_command, command_wrong, defined_before, table_wrong, all_clean}
 use Rattle.wh_check.specs.Meta.{AreLimitsSaid}
 use Rattle.wh_engine.specs.Judging.{IsDefinedIn, IsOfDamageIn}
-use Rattle.wh_engine.specs.Replica.{HoldsAll, IsReplicated}
+use Rattle.wh_engine.specs.Replica.{HoldsAll, TellsNone, IsReplicated}
 
 -- a table that isn't there has no row
 pub no_rows_there : {K V : Type 0} (layout : Layout K V) (name : Table) (s : State) (stored : Stored) → RestsOn stored s → is_there name stored.format ≡ false → AreRowsAt layout (λ _. None) (stored.rows name)
@@ -132,6 +134,10 @@ module _ (limits : Limits) (commands : List Accepted) (stored : Stored) (said : 
         let wrong = damaged_first stored table (defined_before stored limits said.said commands said table (with_first (table_place table) rest)) damage in
         subst (λ t. IsFirstWrong stored t × HasDamageIn stored t) (sym is.0) (wrong, damage)
 
+-- a second warehouse that was read holds what it held
+pub still_holds : {M : Type 0} (g : Ghosts M) (limits : Limits) (commands : List Accepted) (before after : Tables M) (holds : HoldsAll g limits commands before) → IsAtRest (Some holds.1.tables) (state_of g after) → HoldsAll g limits commands after
+still_holds g limits commands before after holds rests = (holds.0, record { tables = holds.1.tables; are = holds.1.are; rests = rests })
+
 -- ---- meta and the commands
 
 pub meta_fault : (stored : Stored) (fault : ReadFault) → IsOfDamage row.meta Meta (stored.rows Meta) fault → IsJudged stored (Err fault)
@@ -148,9 +154,9 @@ module _ (stored : Stored) (limits : Limits) (meta : SaysLimits stored limits) w
   command_fault (Refuses why) is = tt
   command_fault (Damaged which) is = subst (λ t. IsFirstWrong stored t × HasDamageIn stored t) (sym is.0) (damaged_first stored Command (meta_before_command stored limits meta) is.1, is.1)
 
-  pub command_none : IsReplicated stored limits None → IsJudged stored (Ok (Wrong Command))
+  pub command_none : TellsNone stored limits → IsJudged stored (Ok (Wrong Command))
   command_none none = (command_wrong stored limits meta none.0, none.1)
 
-  pub rest_judged : (tables : Tables MemStore) (result : Result Verdict ReadFault) → IsReplicated stored limits (Some tables)
-      → ((others : Limits) (commands : List Accepted) → HoldsAll others commands tables → SaysCommands stored others commands → IsJudged stored result) → IsJudged stored result
-  rest_judged tables result is judged = judged limits is.0 is.3 (record { said = meta; admitted = is.1; defined = is.2 })
+  pub rest_judged : {M : Type 0} (g : Ghosts M) (tables : Tables M) (result : Result Verdict ReadFault) → IsReplicated g stored limits (Some tables)
+      → ((others : Limits) (commands : List Accepted) → HoldsAll g others commands tables → SaysCommands stored others commands → IsJudged stored result) → IsJudged stored result
+  rest_judged g tables result is judged = judged limits is.0 is.3 (record { said = meta; admitted = is.1; defined = is.2 })

@@ -27,3 +27,4 @@ pub mod Replicating
 pub mod Answering
 pub mod JudgedTables
 pub mod SoundTables
+pub mod DeliveredNights

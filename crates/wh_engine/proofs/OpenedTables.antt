@@ -158,7 +158,7 @@ module _ (limits : Limits) (commands : List Accepted) (t : Tables) (accepted : I
 
 -- ---- a making that was kept, or wasn't
 
-pub rests_if_kept : (limits : Limits) (commands : List Accepted) (s : State) (t : Tables) → AreOf limits commands t → (result : Result (Unit {0}) Cause) → OnOk result (IsAtRest (Some t) s) → OnOk result (Rests limits commands s)
+pub rests_if_kept : {X : Type 0} (limits : Limits) (commands : List Accepted) (s : State) (t : Tables) → AreOf limits commands t → (result : Result X Cause) → OnOk result (IsAtRest (Some t) s) → OnOk result (Rests limits commands s)
 rests_if_kept limits commands s t are (Ok done) rests = record { tables = t; are = are; rests = rests }
 rests_if_kept limits commands s t are (Err cause) rests = tt
 

@@ -31,7 +31,7 @@ use Rattle.wh_plan.proofs.MayBeWritten.{a_command_may_be_written}
 use Rattle.wh_admission.proofs.Migrated.{policy_with, newer_in_force}
 use Rattle.wh_admission.proofs.StaysAccepted.{stays_accepted}
 use Rattle.wh_admission.proofs.Admitted.{admitted_sound, admitted_after}
-use Rattle.wh_plan.proofs.WrittenEdits.{edits_are_written, exact_edits_are_one, no_edits_stay}
+use Rattle.wh_plan.proofs.WrittenEdits.{edits_are_written, no_edits_stay}
 
 held_as : (limits : Limits) (commands : List Accepted) (session : Session) (t : Tables) → session ≡ record { limits = limits; policy = current_policy commands; must_reopen = false } → IsAccepted limits commands → AreOf limits commands t → IsHeld session commands t
 held_as limits commands session t is accepted are = rw is (record { accepted = accepted; are = are; policy = refl })
@@ -142,9 +142,7 @@ module _ (limits : Limits) (commands : List Accepted) (c : Command) (session : S
         (said, rw list_is after)
 
     pub writes_counted : (writes : ℕ) → writes ≡ edit_count edits → IsWritten limits commands c (Ok (Accepts receipt)) writes
-    writes_counted writes counted other exact =
-        let own : AreEdits commands (accepted_after limits commands c) edits = subst (λ list. AreEdits commands list edits) (sym list_is) work.edits_are in
-        counted ∙ ap edit_count (exact_edits_are_one commands (accepted_after limits commands c) edits other own exact)
+    writes_counted writes counted = (edits, subst (λ list. AreEdits commands list edits) (sym list_is) work.edits_are, counted)
 
     -- or the store refused them
     pub stop_performed : (new : State) → ((trees : Trees) → new.may_leave trees → AreTrees (Some tables) trees ⊎ AreTrees (Some (with_all_edits edits tables)) trees) → LeavesOneOf limits commands (accepted_after limits commands c) new

@@ -1,31 +1,22 @@
 -- A command that comes again is answered by its receipt.
-use Rattle.std.proofs.Common.{◌≡◌, ℕ, suc, true, false, cond, List, [], ◌∷◌, ◌++◌, length, map, Option, None, Result, Ok, Err, refl, sym, ◌∙◌, ap}
+use Rattle.std.proofs.Common.{◌≡◌, true, List, [], ◌∷◌, ◌++◌, map, Option, None, Result, Ok, Err, refl, sym, ◌∙◌, ap}
 use Rattle.std.specs.Prelude.{find, bytes_eq}
 use Rattle.std.proofs.lemmas.Slice.Eq.{bytes_eq-Decides}
 use Rattle.wh_admission.proofs.StaysAccepted.{receipt_is}
 use Rattle.wh_history.specs.Accepted.{Accepted, Content}
-use Rattle.wh_history.specs.Keys.{place, after_one}
+use Rattle.wh_history.specs.Keys.{place}
 use Rattle.wh_history.specs.Tables.{Limits}
 use Rattle.wh_rows.specs.Types.{is_key}
 use Rattle.wh_batch.specs.Kind.{command_word}
-use Rattle.wh_admission.specs.Admission.{content_of, current_policy, accepted_as, receipt_of, when_read, answer, with_content, after_answer, accepted_after}
-use Rattle.wh_engine.specs.Redelivered.{receipt_told, HasReceipt}
+use Rattle.wh_admission.specs.Admission.{content_of, current_policy, accepted_as, receipt_of, when_read, answer, with_content, after_answer, accepted_after, receipt_told}
+use Rattle.wh_engine.specs.Redelivered.{HasReceipt}
 use Rattle.wh_admission.specs.declared.command.Command.{Command}
 use Rattle.wh_admission.specs.declared.command.Receipt.{Receipt}
 use Rattle.wh_admission.specs.declared.command.Reply.{Reply}
 use Rattle.wh_admission.specs.declared.command.Reply.TheVariants.{Accepted as Accepts, Already}
 use Rattle.wh_admission.specs.declared.command.Refused.{Refused}
-use Rattle.wh_admission.proofs.Repeats.{first_or, find_last, new_id}
-
--- an id that is new stands last
-placed_last : (id : List ℕ) (commands : List Accepted) (x : Accepted) → find (λ (a : Accepted). bytes_eq a.id id) commands ≡ None → bytes_eq x.id id ≡ true
-    → place bytes_eq id (map (λ (b : Accepted). b.id) (commands ++ x ∷ [])) ≡ suc (length commands)
-placed_last id [] x none own = rw own refl
-placed_last id (y ∷ ys) x none own =
-    elim (bytes_eq y.id id) as (λ b. first_or b y (find (λ (a : Accepted). bytes_eq a.id id) ys) ≡ None → cond b 1 (after_one (place bytes_eq id (map (λ (a : Accepted). a.id) (ys ++ x ∷ [])))) ≡ suc (suc (length ys))) [
-      | true ↦ λ h. absurd cc
-      | false ↦ λ h. ap after_one (placed_last id ys x h own)
-    ] none
+use Rattle.wh_admission.proofs.Known.{placed_last}
+use Rattle.wh_admission.proofs.Repeats.{find_last, new_id}
 
 module _ (limits : Limits) (commands : List Accepted) (c : Command) where
   abbrev found : Option Accepted

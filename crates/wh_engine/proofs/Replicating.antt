@@ -22,12 +22,12 @@ use Rattle.wh_rows.proofs.Listed.{Ascends}
 use Rattle.wh_rows.proofs.Places as places
 use Rattle.wh_rows.proofs.Raw.{no_damage}
 use Rattle.wh_admission.specs.Admission.{AreAdmitted}
-use Rattle.sqlite_trees.specs.declared.memory.MemStore.{MemStore}
+use Rattle.sqlite.specs.Files.{over_files}
 use Rattle.wh_admission.specs.Steps.{IsBegunWith}
 use Rattle.wh_store.specs.declared.tables.Tables.{Tables}
 use Rattle.wh_engine.specs.declared.engine.Engine.{Engine}
 use Rattle.wh_engine.specs.declared.replica.Replica.{Replica}
-use Rattle.wh_engine.specs.Replica.{IsReplica, IsEngineOf, IsOpenFor, IsFollowed, IsReplicated, IsEndOf}
+use Rattle.wh_engine.specs.Replica.{IsReplica, IsEngineOf, IsOpenFor, IsFollowed, TellsNone, IsReplicated, IsEndOf}
 use Rattle.wh_admission.proofs.CommandRows.{row_of, row_is}
 use Rattle.wh_admission.proofs.AdmittedSteps.{stepped}
 use Rattle.wh_admission.proofs.ListedCommands.{rows_in, rows_last, rows_rise, all_found, next_told}
@@ -138,19 +138,19 @@ module _ (stored : Stored) (limits : Limits) (keyed : IsKeyed row.command bind_n
   whole : (replay : Replica) (is_list : Bool) (it : HasReplicated (stored.rows Command) limits Left replay is_list) → IsArranged row.command.table (stored.rows Command) (map row.command.encode it.seen)
   whole replay is_list it = subst (IsArranged row.command.table (stored.rows Command)) (append-nil (map row.command.encode it.seen)) (it.before [] ends)
 
-  pub told_list : (replay : Replica) (engine : Engine MemStore) → replay.engine ≡ Some engine → HasReplicated (stored.rows Command) limits Left replay true → IsReplicated stored limits (Some engine.tables)
+  pub told_list : (replay : Replica) (engine : _) → replay.engine ≡ Some engine → HasReplicated (stored.rows Command) limits Left replay true → IsReplicated over_files stored limits (Some engine.tables)
   told_list replay engine is it =
       let held = it.right refl in
-      let for_them : IsOpenFor limits held.commands engine = subst (IsEngineOf limits held.commands) is held.held.engine_is in
+      let for_them : IsOpenFor over_files limits held.commands engine = subst (IsEngineOf over_files limits held.commands) is held.held.engine_is in
       let valid : list_all row.command.is_valid (rows_of held.commands) ≡ true = ap (list_all row.command.is_valid) (sym held.rows) ∙ it.valid in
       let same : IsPermutation (stored.rows Command) (map row.command.encode (rows_of held.commands)) = subst (λ vs. IsPermutation (stored.rows Command) (map row.command.encode vs)) held.rows (whole replay true it).same in (
         held.commands,
-        for_them.admitted,
+        for_them.1.admitted,
         listed_stored row.command nat_cmp_total nat_cmp-IsAntisymmetric (command_at held.commands) (rows_of held.commands) (commands_rise held.commands) (all_found held.commands) (stored.rows Command) valid same,
-        for_them.rests,
+        (for_them.0, for_them.1.rests),
       )
 
-  no_list : (replay : Replica) (is_list : Bool) (it : HasReplicated (stored.rows Command) limits Left replay is_list) → ((commands : List Accepted) → AreAdmitted limits commands → it.seen ≢ rows_of commands) → IsReplicated stored limits None
+  no_list : (replay : Replica) (is_list : Bool) (it : HasReplicated (stored.rows Command) limits Left replay is_list) → ((commands : List Accepted) → AreAdmitted limits commands → it.seen ≢ rows_of commands) → TellsNone stored limits
   no_list replay is_list it differ = (
     λ commands admitted are.
         let same = stored_listed row.command nat_cmp_total nat_cmp-IsAntisymmetric (command_at commands) (rows_of commands) (commands_rise commands) (all_found commands) (stored.rows Command) are in
@@ -160,25 +160,25 @@ module _ (stored : Stored) (limits : Limits) (keyed : IsKeyed row.command bind_n
     no_damage row.command (stored.rows Command) it.seen it.valid (whole replay is_list it).same,
   )
 
-  pub told_none : (replay : Replica) → replay.engine ≡ None → HasReplicated (stored.rows Command) limits Left replay true → IsReplicated stored limits None
+  pub told_none : (replay : Replica) → replay.engine ≡ None → HasReplicated (stored.rows Command) limits Left replay true → TellsNone stored limits
   unfolding rows_in
   told_none replay is it = no_list replay true it (λ commands admitted same.
       let held = it.right refl in
       let steps = stepped limits commands admitted in
-      let none : held.commands ≡ [] = subst (IsEngineOf limits held.commands) is held.held.engine_is in
+      let none : held.commands ≡ [] = subst (IsEngineOf over_files limits held.commands) is held.held.engine_is in
       let empty : [] ≡ rows_of commands = ap rows_of (sym none) ∙ sym held.rows ∙ same in
       nothing (empty ∙ ap rows_of steps.begins))
     where
       nothing : {r : CommandRow} {rows : List CommandRow} → [] ≡ r ∷ rows → ⊥
       nothing h = cc
 
-  pub told_wrong : (replay : Replica) → HasReplicated (stored.rows Command) limits Left replay false → IsReplicated stored limits None
+  pub told_wrong : (replay : Replica) → HasReplicated (stored.rows Command) limits Left replay false → TellsNone stored limits
   told_wrong replay it = no_list replay false it (λ commands admitted same. it.wrong refl commands admitted [] (append-nil it.seen ∙ same))
 
   -- what is told of the list at the end
-  pub told_of : (replay : Replica) (is_list : Bool) (result : Option (Tables MemStore)) → IsEndOf is_list replay result → HasReplicated (stored.rows Command) limits Left replay is_list → IsReplicated stored limits result
+  pub told_of : (replay : Replica) (is_list : Bool) (result : _) → IsEndOf is_list replay.engine result → HasReplicated (stored.rows Command) limits Left replay is_list → IsReplicated over_files stored limits result
   told_of replay is_list (Some tables) is it =
-      subst (λ (t : Tables MemStore). IsReplicated stored limits (Some t)) (sym is.3) (told_list replay is.0 is.1 (subst (HasReplicated (stored.rows Command) limits Left replay) is.2 it))
+      subst (λ t. IsReplicated over_files stored limits (Some t)) (sym is.3) (told_list replay is.0 is.1 (subst (HasReplicated (stored.rows Command) limits Left replay) is.2 it))
   told_of replay is_list None (inl isnt) it = told_wrong replay (subst (HasReplicated (stored.rows Command) limits Left replay) isnt it)
   told_of replay false None (inr without) it = told_wrong replay it
   told_of replay true None (inr without) it = told_none replay without it

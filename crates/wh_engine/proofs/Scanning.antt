@@ -1,16 +1,20 @@
 -- What a scan leaves of a warehouse, and its faults.
 use Rattle.std.proofs.Common.{◌≡◌, Bool, true, false, ◌||◌, List, Result, Ok, Err, Some, IfErr, IsTrue, refl, sym, ap, subst, inl}
-use Rattle.std.specs.Prelude.{IsErr, IsErrAnd}
+use Rattle.std.specs.Prelude.{IsErr, IsErrAnd, Option}
+use Rattle.sqlite.specs.Order.{Row}
 use Rattle.sqlite.specs.State.{State}
 use Rattle.wh_history.specs.Accepted.{Accepted}
 use Rattle.wh_history.specs.Tables.{Limits}
 use Rattle.wh_rows.specs.AtRest.{IsAtRest, Leaves}
+use Rattle.wh_rows.specs.Firsts.{Front}
+use Rattle.wh_rows.specs.Holds.{Layout}
 use Rattle.wh_rows.specs.Tables.{Tables}
-use Rattle.wh_store.specs.Reads.{SparesRows, SparesStore}
+use Rattle.wh_rows.specs.declared.table.Table.{Table}
+use Rattle.wh_store.specs.Reads.{SparesRows, SparesStore, IsOfAskedDamage}
 use Rattle.wh_sql.specs.declared.fault.ReadFault.{ReadFault}
 use Rattle.wh_sql.specs.declared.fault.ReadFault.TheVariants as reading
 use Rattle.wh_engine.specs.Answered.{IsReady}
-use Rattle.wh_engine.specs.Faults.{of_reading, IsServed}
+use Rattle.wh_engine.specs.Faults.{of_reading, IsServed, IsWorkedOut, NamesTable}
 use Rattle.wh_engine.specs.Scanned.{IsWanting, IsServing, ReadsThrough, noting}
 use Rattle.wh_engine.specs.declared.fault.Fault.{Fault}
 use Rattle.wh_engine.specs.declared.fault.Fault.TheVariants as faults
@@ -22,6 +26,16 @@ pub wanting : (fault : ReadFault) → SparesRows fault → IsWanting (of_reading
 wanting reading.Memory spares = tt
 wanting (reading.Damaged table) spares = absurd spares
 wanting (reading.Store cause) spares = tt
+
+-- the table that is named is the one that was asked
+pub names_it : {K V : Type 0} (front : Option Front) (layout : Layout K V) (table : Table) (stored : List Row) (why : ReadFault) → IsOfAskedDamage front layout table stored why → NamesTable table (of_reading why)
+names_it front layout table stored reading.Memory of = tt
+names_it front layout table stored (reading.Damaged which) of = of.0
+names_it front layout table stored (reading.Store cause) of = tt
+
+-- what was worked out isn't refused before any work
+pub not_reopen : {A : Type 0} (result : Result A Fault) (said : Type 0) → IsWorkedOut result → result ≡ Err faults.Reopen → said
+not_reopen result said work is = absurd (subst IsWorkedOut is work)
 
 -- what spares the store as the engine tells it does as it was read
 pub still_served : {A : Type 0} (result : Result A Fault) (why : ReadFault) → IsErr result × IsErrAnd result (λ fault. fault ≡ of_reading why) → IsServed result → SparesStore why
@@ -69,4 +83,5 @@ unserved s st flagged = record {
   serves = λ clean limits commands ready. absurd (cc (flagged, ap (λ (q : Session). q.must_reopen) ready.session_is));
   blames = λ clean stored on. tt;
   noted = sym (ap (λ (m : Bool). record { limits = s.limits; policy = s.policy; must_reopen = m }) (or_false s.must_reopen));
+  only = λ is. flagged;
 }

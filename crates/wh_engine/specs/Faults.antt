@@ -1,6 +1,7 @@
 -- Faults of an engine, and what they say of the tables.
 use Rattle.std.specs.Prelude.{◌≡◌, Bool, true, false, Result, Ok, Err, ⊤}
 use Rattle.wh_rows.specs.Raw.{Stored, HasDamageIn}
+use Rattle.wh_rows.specs.declared.table.Table.{Table}
 use Rattle.wh_sql.specs.declared.fault.ReadFault.{ReadFault}
 use Rattle.wh_sql.specs.declared.fault.ReadFault.TheVariants as reading
 use Rattle.wh_admission.specs.declared.command.Refused.{Refused}
@@ -39,6 +40,14 @@ BlamesDamage stored (Err (faults.Damaged table)) = HasDamageIn stored table
 BlamesDamage stored (Err faults.Memory) = ⊤
 BlamesDamage stored (Err (faults.Store cause)) = ⊤
 BlamesDamage stored (Err faults.Reopen) = ⊤
+
+-- it is this table that is named as damaged
+abbrev pub NamesTable : Table → Fault → Type 0
+NamesTable table (faults.Refused why) = ⊤
+NamesTable table (faults.Damaged which) = which ≡ table
+NamesTable table faults.Memory = ⊤
+NamesTable table (faults.Store cause) = ⊤
+NamesTable table faults.Reopen = ⊤
 
 -- it isn't one of the answers that are given before any work
 abbrev pub IsWorkedOut : {A : Type 0} → Result A Fault → Type 0

@@ -1,11 +1,17 @@
 -- A list of commands that is delivered night after night, until it is done.
-use Rattle.std.specs.Prelude.{◌≡◌, ◌⊎◌, ℕ, suc, ◌+◌, max, Bool, if◌then◌else◌, List, [], ◌∷◌, ◌++◌, take, drop, IsOk, IsTrue}
+use Rattle.std.specs.Prelude.{◌≡◌, ◌⊎◌, ℕ, suc, ◌+◌, max, Bool, true, false, if◌then◌else◌, List, [], ◌∷◌, ◌++◌, length, take, drop, Option, Result, IsOk, IsTrue}
 use Rattle.std.specs.List.{AllByRecursion}
+use Rattle.sqlite.specs.State.{State}
 use Rattle.wh_history.specs.Accepted.{Accepted}
 use Rattle.wh_history.specs.Tables.{Limits}
 use Rattle.wh_admission.specs.Admission.{accepted_after_all}
-use Rattle.wh_engine.specs.Delivered.{answers_to}
+use Rattle.wh_engine.specs.Answered.{LeavesOneOf}
+use Rattle.wh_engine.specs.Delivered.{answers_to, IsDelivered}
 use Rattle.wh_admission.specs.declared.command.Command.{Command}
+use Rattle.wh_admission.specs.declared.command.Refused.{Refused as Refusal}
+use Rattle.wh_admission.specs.declared.command.Reply.{Reply}
+use Rattle.wh_engine.specs.declared.fault.Fault.{Fault}
+use Rattle.wh_engine.specs.declared.session.Session.{Session}
 
 -- One night: whether it begins at the list's start again, or else at the first command that isn't acknowledged; how many commands it acknowledges before it
 -- ends, or all that remain where they are fewer; and whether it left the next one accepted as well, without an answer.
@@ -69,3 +75,17 @@ ReopeningFindsABeginning =
 abbrev pub DeliveriesJoin : Type 0
 DeliveriesJoin =
     (limits : Limits) (commands : List Accepted) (first more : List Command) → accepted_after_all limits commands (first ++ more) ≡ accepted_after_all limits (accepted_after_all limits commands first) more
+
+-- ---- deliveries of an engine
+
+-- the night in which a delivery gave these answers, and left the next command accepted as well, or didn't
+abbrev pub night_of : Bool → List (Result Reply Refusal) → Bool → Night
+night_of from_start answers left_next = record { from_start = from_start; acknowledged = length answers; left_next = left_next }
+
+-- Whatever stopped a delivery that began with what was found in the morning, a crash after it leaves the tables of what is found after such a night.
+abbrev pub DeliveryIsANight : Session → State → Type 0
+DeliveryIsANight session s =
+    (limits : Limits) (sent : List Command) (morning : Morning) (from_start : Bool) (answers : List (Result Reply Refusal)) (stop : Option Fault)
+    → let next = λ (left_next : Bool). after_night limits sent morning (night_of from_start answers left_next) in
+    IsDelivered limits morning.found (drop (passed_over morning (night_of from_start answers false)) sent) answers stop session s
+    → LeavesOneOf limits (next false).found (next true).found s

@@ -3,22 +3,16 @@ use Rattle.std.specs.Prelude.{◌≡◌, ◌⊎◌, suc, ◌<◌, List, length, 
 use Rattle.sqlite.specs.State.{State}
 use Rattle.wh_history.specs.Accepted.{Accepted}
 use Rattle.wh_history.specs.Tables.{Limits}
-use Rattle.wh_admission.specs.Admission.{answer, accepted_after, accepted_after_all}
+use Rattle.wh_admission.specs.Admission.{answer, accepted_after, accepted_after_all, receipt_told}
 use Rattle.wh_engine.specs.Answered.{IsReady, IsStopped}
 use Rattle.wh_admission.specs.declared.command.Command.{Command}
 use Rattle.wh_engine.specs.Delivered.{answers_to}
 use Rattle.wh_admission.specs.declared.command.Refused.{Refused as Refusal}
 use Rattle.wh_admission.specs.declared.command.Receipt.{Receipt}
 use Rattle.wh_admission.specs.declared.command.Reply.{Reply}
-use Rattle.wh_admission.specs.declared.command.Reply.TheVariants.{Accepted as Accepts, Already}
 use Rattle.wh_engine.specs.declared.fault.Fault.{Fault}
 use Rattle.wh_engine.specs.declared.fault.Fault.TheVariants.{Refused, Memory, Store}
 use Rattle.wh_engine.specs.declared.session.Session.{Session}
-
--- the receipt of a reply
-abbrev pub receipt_told : Reply → Receipt
-receipt_told (Accepts receipt) = receipt
-receipt_told (Already receipt) = receipt
 
 -- A reply to the second has the receipt of the first where nothing stops it.
 pub record HasReceipt (limits : Limits) (commands : List Accepted) (c : Command) (reply : Reply) : Type 0 where

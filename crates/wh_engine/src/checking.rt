@@ -1,13 +1,13 @@
-//! Whether what is stored is what its commands define: a second warehouse in memory is sent them, and its tables are compared with those that are stored.
+//! Whether what is stored is what its commands define: a second warehouse is sent them, and its tables are compared with those that are stored.
 
 ghost use Rattle.std.specs.Prelude.{◌≡◌, ◌≤◌, ◌<◌, List, false, Some, Err, IsTrue, IfOk, IfErr};
 ghost use Rattle.sqlite.specs.State.{HasCleanDisk};
-ghost use Rattle.sqlite.specs.Steps.{over_memory};
 ghost use Rattle.wh_history.specs.Accepted.{Accepted};
 ghost use Rattle.wh_history.specs.Tables.{Limits as LimitCounts};
 ghost use Rattle.wh_rows.specs.declared.format.Format.TheVariants.{One};
 ghost use Rattle.wh_rows.specs.AtRest.{IsAtRest};
 ghost use Rattle.wh_rows.specs.Tables.{Tables as TenTables};
+ghost use Rattle.wh_store.specs.Faithful.{RestsFaithfully};
 ghost use Rattle.wh_rows.specs.Raw.{Stored, RestsOn, LeavesStored};
 ghost use Rattle.wh_sql.specs.Reads.{IsServed as IsServedRead};
 ghost use Rattle.wh_store.specs.Reads.{ReadsOnly, Spares, state_of, SaysAsStored};
@@ -22,35 +22,35 @@ ghost use Rattle.wh_engine.specs.Judging.{IsDefinedIn, IsOfDamageIn};
 use crate::engine::Engine;
 use crate::fault::{Fault, stops};
 use crate::replica::make_replica;
-use sqlite::{Alter, MemStore};
+use sqlite::Alter;
 use std::alloc::Global;
 use wh_check::{Verdict, holds_the_same, limits_said};
 use wh_rows::{Table, tables};
 use wh_store::{ReadFault, Tables};
 
-/// Whether a table stores what the commands define whose tables are in memory.
-fn is_defined_in<S: Alter>(
+/// Whether a table stores what the commands define whose tables the second warehouse holds.
+fn is_defined_in<S: Alter, M: Alter>(
     tables: &mut Tables<S>,
     alloc: Global,
-    replica: &mut Tables<MemStore>,
+    replica: &mut Tables<M>,
     table: Table,
 ) -> Result<bool, ReadFault>
     ensures reads { ReadsOnly (state_of S.Store tables.old) (state_of S.Store tables.new) result }
-    ensures rests { (t : TenTables) → IsAtRest (Some t) (state_of over_memory replica.old) → IfOk result (λ _. IsAtRest (Some t) (state_of over_memory replica.new)) }
-    ensures defined { SaysAsStored (state_of S.Store tables.old) (state_of S.Store tables.new) (λ stored. stored.format ≡ One → (limits : LimitCounts) (commands : List Accepted) → HoldsAll limits commands replica.old → IfOk result (IsDefinedIn limits commands stored table)) }
+    ensures rests { (t : TenTables) → RestsFaithfully M.Store (Some t) replica.old.conn → IfOk result (λ _. RestsFaithfully M.Store (Some t) replica.new.conn) }
+    ensures defined { SaysAsStored (state_of S.Store tables.old) (state_of S.Store tables.new) (λ stored. stored.format ≡ One → (limits : LimitCounts) (commands : List Accepted) → HoldsAll M.Store limits commands replica.old → IfOk result (IsDefinedIn limits commands stored table)) }
     ensures damaged { SaysAsStored (state_of S.Store tables.old) (state_of S.Store tables.new) (λ stored. IfErr result (IsOfDamageIn stored table)) }
 {
     match table {
-        Table::Meta => holds_the_same::<tables::Meta, S>(tables, alloc, replica),
-        Table::Command => holds_the_same::<tables::Command, S>(tables, alloc, replica),
-        Table::Member => holds_the_same::<tables::Member, S>(tables, alloc, replica),
-        Table::Change => holds_the_same::<tables::Change, S>(tables, alloc, replica),
-        Table::Product => holds_the_same::<tables::Product, S>(tables, alloc, replica),
-        Table::Store => holds_the_same::<tables::Store, S>(tables, alloc, replica),
-        Table::Customer => holds_the_same::<tables::Customer, S>(tables, alloc, replica),
-        Table::Profile => holds_the_same::<tables::Profile, S>(tables, alloc, replica),
-        Table::Calendar => holds_the_same::<tables::Calendar, S>(tables, alloc, replica),
-        Table::Fact => holds_the_same::<tables::Fact, S>(tables, alloc, replica),
+        Table::Meta => holds_the_same::<tables::Meta, S, M>(tables, alloc, replica),
+        Table::Command => holds_the_same::<tables::Command, S, M>(tables, alloc, replica),
+        Table::Member => holds_the_same::<tables::Member, S, M>(tables, alloc, replica),
+        Table::Change => holds_the_same::<tables::Change, S, M>(tables, alloc, replica),
+        Table::Product => holds_the_same::<tables::Product, S, M>(tables, alloc, replica),
+        Table::Store => holds_the_same::<tables::Store, S, M>(tables, alloc, replica),
+        Table::Customer => holds_the_same::<tables::Customer, S, M>(tables, alloc, replica),
+        Table::Profile => holds_the_same::<tables::Profile, S, M>(tables, alloc, replica),
+        Table::Calendar => holds_the_same::<tables::Calendar, S, M>(tables, alloc, replica),
+        Table::Fact => holds_the_same::<tables::Fact, S, M>(tables, alloc, replica),
         // The first format hasn't these.
         Table::Fact2 => Ok(true),
         Table::Void => Ok(true),
@@ -78,17 +78,17 @@ fn table_at(place: u8) -> Table
 }
 
 /// The first table after the commands that isn't what they define.
-fn judge_tables<S: Alter>(
+fn judge_tables<S: Alter, M: Alter>(
     tables: &mut Tables<S>,
     alloc: Global,
-    mut replica: Tables<MemStore>,
+    replica: &mut Tables<M>,
 ) -> Result<Verdict, ReadFault>
     ensures reads { ReadsOnly (state_of S.Store tables.old) (state_of S.Store tables.new) result }
-    ensures judged { SaysAsStored (state_of S.Store tables.old) (state_of S.Store tables.new) (λ stored. stored.format ≡ One → (limits : LimitCounts) (commands : List Accepted) → HoldsAll limits commands replica → SaysCommands stored limits commands → IsJudged stored result) }
+    ensures judged { SaysAsStored (state_of S.Store tables.old) (state_of S.Store tables.new) (λ stored. stored.format ≡ One → (limits : LimitCounts) (commands : List Accepted) → HoldsAll M.Store limits commands replica.old → SaysCommands stored limits commands → IsJudged stored result) }
 {
     'tables: for place in 2..12u8 {
         let table = table_at(place);
-        if !is_defined_in(tables, alloc, &mut replica, table)? {
+        if !is_defined_in(tables, alloc, replica, table)? {
             return Ok(Verdict::Wrong(table));
         }
     }
@@ -103,10 +103,10 @@ fn judge<S: Alter>(tables: &mut Tables<S>, alloc: Global) -> Result<Verdict, Rea
     let Some(limits) = limits_said(tables, alloc)? else {
         return Ok(Verdict::Wrong(Table::Meta));
     };
-    let Some(replica) = make_replica(tables, alloc, limits)? else {
+    let Some(mut replica) = make_replica(tables, alloc, limits)? else {
         return Ok(Verdict::Wrong(Table::Command));
     };
-    judge_tables(tables, alloc, replica)
+    judge_tables(tables, alloc, &mut replica)
 }
 
 /// The same, with the engine's faults.
@@ -121,7 +121,7 @@ fn check_tables<S: Alter>(tables: &mut Tables<S>, alloc: Global) -> Result<Verdi
 
 impl<S: Alter> Engine<S> {
     /// Whether the tables are what their commands define: clean, or the first table that is wrong. `Damaged` names that table where it
-    /// stores a row out of its type. Anybody may have written the rows. A warehouse in memory is made anew for it, and dropped. After a refusal of the store
+    /// stores a row out of its type. Anybody may have written the rows. A second warehouse is made anew in memory for it, and dropped. After a refusal of the store
     /// it answers `Reopen`.
     pub fn check(&mut self, alloc: Global) -> Result<Verdict, Fault>
         ensures clean { HasCleanDisk (state_of S.Store self.new.tables) → HasCleanDisk (state_of S.Store self.old.tables) }

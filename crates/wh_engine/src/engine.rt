@@ -81,6 +81,13 @@ impl<S: Alter> Engine<S> {
         self.writes
     }
 
+    /// Whether the store refused a call: then the warehouse has to be opened again, and each call on the tables answers `Reopen`.
+    pub fn must_reopen(&self) -> bool
+        ensures { result ≡ self.now.session.must_reopen }
+    {
+        self.session.must_reopen
+    }
+
     /// Hands the connection back.
     pub fn close(self) -> Connection<S>
         ensures { result ≡ self.tables.conn }

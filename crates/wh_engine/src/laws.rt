@@ -1,17 +1,12 @@
-//! Laws of makings, of admission and of deliveries. They speak of the definitions alone and do nothing.
+//! Laws of makings, of accepted lists and of deliveries. They speak of the definitions alone and do nothing.
 
-ghost use Rattle.std.specs.Prelude.{◌≡◌, List};
-ghost use Rattle.wh_history.specs.Accepted.{Accepted};
-ghost use Rattle.wh_history.specs.Tables.{Limits};
+ghost use Rattle.wh_store.specs.Reads.{state_of};
 ghost use Rattle.wh_plan.specs.FirstRows.{PoliciesAreGood};
-ghost use Rattle.wh_admission.specs.Admission.{accepted_after, AcceptedListsStaySound, AdmittedListsAreSound, ContentsAreRead};
-ghost use Rattle.wh_engine.specs.Nights.{DeliveriesJoin, RedeliveryEndsTheSame, ReopeningFindsABeginning};
-ghost use Rattle.wh_admission.specs.declared.command.Command.{Command};
+ghost use Rattle.wh_admission.specs.Admission.{AcceptedListsStaySound, AdmittedListsAreSound, ContentsAreRead};
+ghost use Rattle.wh_engine.specs.Nights.{DeliveriesJoin, DeliveryIsANight, RedeliveryEndsTheSame, ReopeningFindsABeginning};
 
-/// A command that is sent twice acts once.
-pub fn acts_once()
-    ensures { (limits : Limits) (commands : List Accepted) (c : Command) → accepted_after limits (accepted_after limits commands c) c ≡ accepted_after limits commands c }
-{}
+use crate::engine::Engine;
+use sqlite::Alter;
 
 /// Every policy that is read from a file is good, so that a warehouse can be made under it.
 pub fn policies_are_good()
@@ -47,4 +42,10 @@ pub fn redelivery()
 /// What is found after each night is the list after the commands that are acknowledged, or after these and the next one.
 pub fn reopening()
     ensures { ReopeningFindsABeginning }
+{}
+
+/// A delivery of an engine, whatever stopped it, and a crash after it are a night of the laws above: what the crash leaves is what is found
+/// after a night that acknowledges as many commands as were answered.
+pub fn deliveries_are_nights<S: Alter>(engine: &Engine<S>)
+    ensures { DeliveryIsANight engine.now.session (state_of S.Store engine.now.tables) }
 {}

@@ -57,7 +57,7 @@ fn commit_making<S: Alter>(
     limits: Limits,
     policy: &Policy,
     bytes: &[u8],
-) -> Result<(), Cause>
+) -> Result<u64, Cause>
     ensures clean { HasCleanDisk (state_of S.Store tables.new) → HasCleanDisk (state_of S.Store tables.old) }
     ensures made { HasCleanDisk (state_of S.Store tables.new) → IsAtRest None (state_of S.Store tables.old) → IsGoodPolicy policy.now
         → OnOk result (Rests limits (making_of policy.now bytes.now ∷ []) (state_of S.Store tables.new)) }
@@ -148,7 +148,7 @@ impl<S: Alter> Engine<S> {
             Err((MakeFault::Store(cause), conn)) => return Err((InitFault::Store(cause), conn)),
         };
         match commit_making(&mut tables, alloc, limits, &read, policy) {
-            Ok(()) => Ok(Engine {
+            Ok(_) => Ok(Engine {
                 tables,
                 session: Session {
                     limits,

@@ -1,7 +1,8 @@
-//! A second warehouse, in memory: it is made anew and sent each command that the command table tells, so that it holds what these define.
+//! A second warehouse, whose files lie in memory: it is made anew and sent each command that the command table tells, so that it holds what
+//! these define.
 
 ghost use Rattle.std.specs.Prelude.{◌≡◌, ◌&&◌, ◌==◌, List, [], true, Some, IfOk, IfErr};
-ghost use Rattle.sqlite.specs.Steps.{over_memory};
+ghost use Rattle.sqlite.specs.Files.{over_files};
 ghost use Rattle.wh_history.specs.Accepted.{Accepted};
 ghost use Rattle.wh_history.specs.Tables.{Limits as LimitCounts};
 ghost use Rattle.wh_rows.specs.Rows as row;
@@ -14,12 +15,12 @@ ghost use Rattle.wh_engine.specs.Replica.{is_making_row, IsOpenFor, IsReplica, I
 use crate::engine::Engine;
 use crate::fault::Fault;
 use crate::opening::InitFault;
-use sqlite::{Alter, MemStore};
+use sqlite::Alter;
 use std::alloc::{AllocError, Global};
 use wh_admission::{Command, Receipt, Reply};
 use wh_batch::CommandKind;
 use wh_rows::{CommandRow, Limits, tables};
-use wh_store::{Cursor, ReadFault, Tables, next_row, open_fresh};
+use wh_store::{Cursor, ReadFault, Scratch, Tables, next_row, open_scratch};
 
 /// Whether a row says of the making what it has to, but for its bytes.
 fn is_making_row(row: &CommandRow) -> bool
@@ -32,18 +33,18 @@ fn is_making_row(row: &CommandRow) -> bool
         && row.placeholders == 0
 }
 
-/// A warehouse in memory that is made as a row says, if it is the row of a making.
+/// A second warehouse that is made as a row says, if it is the row of a making.
 fn made(
     alloc: Global,
     limits: Limits,
     row: &CommandRow,
-) -> Result<Option<Engine<MemStore>>, AllocError>
-    ensures { IfOk result (IsMadeOrNot limits row.now) }
+) -> Result<Option<Engine<Scratch>>, AllocError>
+    ensures { IfOk result (IsMadeOrNot over_files limits row.now) }
 {
     if !is_making_row(row) {
         return Ok(None);
     }
-    let connection = open_fresh(alloc)?;
+    let connection = open_scratch(alloc)?;
     match Engine::init(alloc, connection, row.bytes.as_slice(), limits) {
         Ok(engine) => Ok(Some(engine)),
         Err((InitFault::Policy(_), _)) => Ok(None),
@@ -58,9 +59,13 @@ fn says(receipt: Receipt, number: u64, records: u64, placeholders: u64) -> bool
     receipt.number == number && receipt.records == records && receipt.placeholders == placeholders
 }
 
-/// Sends a warehouse in memory the command of a row, and tells whether it is the next one, and this its row.
-fn follow(engine: &mut Engine<MemStore>, alloc: Global, row: CommandRow) -> Result<bool, AllocError>
-    ensures { (limits : LimitCounts) (commands : List Accepted) → IsOpenFor limits commands engine.old → IfOk result (IsFollowed limits commands row (λ list. IsOpenFor limits list engine.new)) }
+/// Sends the second warehouse the command of a row, and tells whether it is the next one, and this its row.
+fn follow<M: Alter>(
+    engine: &mut Engine<M>,
+    alloc: Global,
+    row: CommandRow,
+) -> Result<bool, AllocError>
+    ensures { (limits : LimitCounts) (commands : List Accepted) → IsOpenFor M.Store limits commands engine.old → IfOk result (IsFollowed limits commands row (λ list. IsOpenFor M.Store limits list engine.new)) }
 {
     let Some(kind) = CommandKind::from_word(row.kind.as_str()) else {
         return Ok(false);
@@ -82,11 +87,11 @@ fn follow(engine: &mut Engine<MemStore>, alloc: Global, row: CommandRow) -> Resu
     }
 }
 
-/// The warehouse in memory, once the first command came.
+/// The second warehouse, once the first command came.
 #[derive(Drop)]
 pub(crate) struct Replica {
     limits: Limits,
-    engine: Option<Engine<MemStore>>,
+    engine: Option<Engine<Scratch>>,
 }
 
 impl Replica {
@@ -119,8 +124,8 @@ impl Replica {
 }
 
 /// The tables of the warehouse, where it has a command and each row was that of the next.
-fn tables_of(is_list: bool, replica: Replica) -> Option<Tables<MemStore>>
-    ensures { IsEndOf is_list replica result }
+fn tables_of(is_list: bool, replica: Replica) -> Option<Tables<Scratch>>
+    ensures { IsEndOf is_list replica.engine result }
 {
     if !is_list {
         return None;
@@ -131,15 +136,15 @@ fn tables_of(is_list: bool, replica: Replica) -> Option<Tables<MemStore>>
     }
 }
 
-/// Tables in memory that are those of the commands which the command table tells, where it tells a list that was admitted under
+/// Tables of a second warehouse that are those of the commands which the command table tells, where it tells a list that was admitted under
 /// these limits, with the receipts that were kept. It is read to its end, so that a damaged row is met wherever it stands.
 pub(crate) fn make_replica<S: Alter>(
     tables: &mut Tables<S>,
     alloc: Global,
     limits: Limits,
-) -> Result<Option<Tables<MemStore>>, ReadFault>
+) -> Result<Option<Tables<Scratch>>, ReadFault>
     ensures reads { ReadsOnly (state_of S.Store tables.old) (state_of S.Store tables.new) result }
-    ensures replicated { SaysAsStored (state_of S.Store tables.old) (state_of S.Store tables.new) (λ stored. IfOk result (IsReplicated stored limits)) }
+    ensures replicated { SaysAsStored (state_of S.Store tables.old) (state_of S.Store tables.new) (λ stored. IfOk result (IsReplicated over_files stored limits)) }
     ensures damaged { SaysAsStored (state_of S.Store tables.old) (state_of S.Store tables.new) (λ stored. IfErr result (IsOfDamage row.command OfCommand (stored.rows OfCommand))) }
 {
     // Each is from 1 to its greatest, as these calls say.

@@ -1,6 +1,6 @@
 //! The rows of a warehouse's table, one at a time.
 
-ghost use Rattle.std.specs.Prelude.{◌≡◌, ◌||◌, List, false, Ok, Err, None, IsTrue, IfOk, IfErr, OnErr, MatchResult};
+ghost use Rattle.std.specs.Prelude.{◌≡◌, ◌||◌, List, false, Ok, Err, None, IsTrue, IfSome, IfOk, IfErr, OnErr, MatchResult};
 ghost use Rattle.std.specs.Borrow.{sem, RestsIfErr};
 ghost use Rattle.std.specs.FinMap.{values};
 ghost use Rattle.sqlite.specs.Order.{Row as Columns};
@@ -8,8 +8,8 @@ ghost use Rattle.wh_rows.specs.Parts.{IsArranged};
 ghost use Rattle.wh_rows.specs.Raw.{Stored};
 ghost use Rattle.wh_rows.specs.Tables.{Tables as TenTables};
 ghost use Rattle.wh_store.specs.Reads.{Spares, SaysAtRest, SaysAsStored, SaysInFormat, SaysAsStoredIn, state_of};
-ghost use Rattle.wh_store.specs.Scan.{rows_left, HandsOut, IsOver, AreLeft, HandsOutOf};
-ghost use Rattle.wh_engine.specs.Faults.{IsServed, BlamesDamage, IsWorkedOut};
+ghost use Rattle.wh_store.specs.Scan.{rows_left, HandsOut, IsOver, AreLeft, HandsOutOf, AreValid};
+ghost use Rattle.wh_engine.specs.Faults.{IsServed, BlamesDamage, NamesTable, IsWorkedOut};
 ghost use Rattle.wh_engine.specs.Scanned.{IsWanting, ReadsThrough};
 
 use crate::engine::Engine;
@@ -30,6 +30,9 @@ fn row_after<T: Scanned, S: Alter>(
     ensures rows { SaysInFormat S.Store T.Keeps.name tables.old tables.new (λ t. IfOk result (λ found. HandsOut (rows_left T.StoredTable.layout (T.StoredTable.rows t) cursor.old) found (rows_left T.StoredTable.layout (T.StoredTable.rows t) cursor.new))) }
     // Of any rows, whoever wrote them, none is missed and none comes twice.
     ensures stored { SaysAsStoredIn S.Store T.Keeps.name tables.old tables.new (λ stored. IfOk result (λ found. HandsOutOf T.StoredTable.layout T.Keeps.bind (stored.rows T.Keeps.name) cursor.old found cursor.new)) }
+    // What is handed out is of its type, and a row that isn't is reported as one of this table.
+    ensures valid { SaysAsStoredIn S.Store T.Keeps.name tables.old tables.new (λ _. AreValid T.StoredTable.layout cursor.old → IfOk result (λ found. IfSome found (λ row. IsTrue (T.StoredTable.layout.is_valid row)) × AreValid T.StoredTable.layout cursor.new)) }
+    ensures named { SaysAsStored (state_of S.Store tables.old) (state_of S.Store tables.new) (λ _. IfErr result (NamesTable T.Keeps.name)) }
     ensures sound { SaysAtRest (state_of S.Store tables.old) (state_of S.Store tables.new) (λ _. IfErr result IsWanting) }
     ensures blames { SaysAsStored (state_of S.Store tables.old) (state_of S.Store tables.new) (λ stored. BlamesDamage stored result) }
     ensures ended { OnErr result (IsOver cursor.new) }
@@ -66,6 +69,9 @@ impl<'e, S: Alter, T: Scanned> Scan<'e, S, T> {
         ensures rows { SaysInFormat S.Store T.Keeps.name self.old.engine.now.tables self.new.engine.now.tables (λ t. IfOk result (λ found. HandsOut (rows_left T.StoredTable.layout (T.StoredTable.rows t) self.old.cursor) found (rows_left T.StoredTable.layout (T.StoredTable.rows t) self.new.cursor))) }
         // Of any rows, whoever wrote them, none is missed and none comes twice.
         ensures stored { SaysAsStoredIn S.Store T.Keeps.name self.old.engine.now.tables self.new.engine.now.tables (λ stored. IfOk result (λ found. HandsOutOf T.StoredTable.layout T.Keeps.bind (stored.rows T.Keeps.name) self.old.cursor found self.new.cursor)) }
+        // What is handed out is of its type, and a row that isn't is reported as one of this table.
+        ensures valid { SaysAsStoredIn S.Store T.Keeps.name self.old.engine.now.tables self.new.engine.now.tables (λ _. AreValid T.StoredTable.layout self.old.cursor → IfOk result (λ found. IfSome found (λ row. IsTrue (T.StoredTable.layout.is_valid row)) × AreValid T.StoredTable.layout self.new.cursor)) }
+        ensures named { SaysAsStored (state_of S.Store self.old.engine.now.tables) (state_of S.Store self.new.engine.now.tables) (λ _. IfErr result (NamesTable T.Keeps.name)) }
         ensures ended { OnErr result (IsOver self.new.cursor) }
         ensures over { IsOver self.old.cursor → (result ≡ Ok None) × (self.new.engine.now.tables ≡ self.old.engine.now.tables) × IsOver self.new.cursor }
         ensures writes { self.new.engine.now.writes ≡ self.old.engine.now.writes }
@@ -89,6 +95,9 @@ impl<S: Alter> Engine<S> {
         ensures rows { SaysInFormat S.Store T.Keeps.name self.old.tables self.new.tables (λ t. IfOk result (λ found. HandsOut (rows_left T.StoredTable.layout (T.StoredTable.rows t) cursor.old) found (rows_left T.StoredTable.layout (T.StoredTable.rows t) cursor.new))) }
         // Of any rows, whoever wrote them, none is missed and none comes twice.
         ensures stored { SaysAsStoredIn S.Store T.Keeps.name self.old.tables self.new.tables (λ stored. IfOk result (λ found. HandsOutOf T.StoredTable.layout T.Keeps.bind (stored.rows T.Keeps.name) cursor.old found cursor.new)) }
+        // What is handed out is of its type, and a row that isn't is reported as one of this table.
+        ensures valid { SaysAsStoredIn S.Store T.Keeps.name self.old.tables self.new.tables (λ _. AreValid T.StoredTable.layout cursor.old → IfOk result (λ found. IfSome found (λ row. IsTrue (T.StoredTable.layout.is_valid row)) × AreValid T.StoredTable.layout cursor.new)) }
+        ensures named { SaysAsStored (state_of S.Store self.old.tables) (state_of S.Store self.new.tables) (λ _. IfErr result (NamesTable T.Keeps.name)) }
         ensures ended { OnErr result (IsOver cursor.new) }
         ensures over { IsOver cursor.old → (result ≡ Ok None) × (self.new.tables ≡ self.old.tables) × IsOver cursor.new }
         ensures writes { self.new.writes ≡ self.old.writes }
@@ -112,6 +121,9 @@ impl<S: Alter> Engine<S> {
         ensures rows { SaysInFormat S.Store T.Keeps.name self.old.tables self.new.tables (λ t. IfOk result (λ found. HandsOut (rows_left T.StoredTable.layout (T.StoredTable.rows t) cursor.old) found (rows_left T.StoredTable.layout (T.StoredTable.rows t) cursor.new))) }
         // Of any rows, whoever wrote them, none is missed and none comes twice.
         ensures stored { SaysAsStoredIn S.Store T.Keeps.name self.old.tables self.new.tables (λ stored. IfOk result (λ found. HandsOutOf T.StoredTable.layout T.Keeps.bind (stored.rows T.Keeps.name) cursor.old found cursor.new)) }
+        // What is handed out is of its type, and a row that isn't is reported as one of this table.
+        ensures valid { SaysAsStoredIn S.Store T.Keeps.name self.old.tables self.new.tables (λ _. AreValid T.StoredTable.layout cursor.old → IfOk result (λ found. IfSome found (λ row. IsTrue (T.StoredTable.layout.is_valid row)) × AreValid T.StoredTable.layout cursor.new)) }
+        ensures named { SaysAsStored (state_of S.Store self.old.tables) (state_of S.Store self.new.tables) (λ _. IfErr result (NamesTable T.Keeps.name)) }
         ensures reopen { IsTrue self.old.session.must_reopen → (result ≡ Err Fault.Reopen) × (self.new.tables ≡ self.old.tables) × (cursor.new ≡ cursor.old) }
         ensures only { result ≡ Err Fault.Reopen → IsTrue self.old.session.must_reopen }
         ensures ended { self.old.session.must_reopen ≡ false → OnErr result (IsOver cursor.new) }

@@ -5,7 +5,7 @@ ghost use Rattle.std.specs.FinMap.{values};
 ghost use Rattle.wh_rows.specs.declared.table.Table.TheVariants.{Fact};
 ghost use Rattle.wh_sql.specs.Tally.{HasCounted, HasCountedStored};
 ghost use Rattle.wh_store.specs.Reads.{Spares, SaysAtRest, SaysAsStored, state_of};
-ghost use Rattle.wh_engine.specs.Faults.{IsServed, BlamesDamage, IsWorkedOut};
+ghost use Rattle.wh_engine.specs.Faults.{IsServed, BlamesDamage, NamesTable, IsWorkedOut};
 ghost use Rattle.wh_engine.specs.Scanned.{IsWanting, ReadsThrough};
 
 use crate::engine::Engine;
@@ -25,6 +25,7 @@ fn tally_facts<C: Tally, S: Alter>(
     ensures reads { Spares (state_of S.Store tables.old) (state_of S.Store tables.new) (IsServed result) }
     ensures counted { SaysAtRest (state_of S.Store tables.old) (state_of S.Store tables.new) (λ t. IfOk result (λ _. HasCounted C.counts which tally.old tally.new (values t.fact))) }
     ensures stored { SaysAsStored (state_of S.Store tables.old) (state_of S.Store tables.new) (λ stored. IfOk result (λ _. HasCountedStored C.counts which tally.old tally.new (stored.rows Fact))) }
+    ensures named { SaysAsStored (state_of S.Store tables.old) (state_of S.Store tables.new) (λ _. IfErr result (NamesTable Fact)) }
     ensures sound { SaysAtRest (state_of S.Store tables.old) (state_of S.Store tables.new) (λ _. IfErr result IsWanting) }
     ensures blames { SaysAsStored (state_of S.Store tables.old) (state_of S.Store tables.new) (λ stored. BlamesDamage stored result) }
     ensures work { IsWorkedOut result }
@@ -42,6 +43,7 @@ impl<S: Alter> Engine<S> {
         ensures counted { SaysAtRest (state_of S.Store self.old.tables) (state_of S.Store self.new.tables) (λ t. IfOk result (λ _. HasCounted C.counts which tally.old tally.new (values t.fact))) }
         // The same of any rows, whoever wrote them, by the columns that are read of them.
         ensures stored { SaysAsStored (state_of S.Store self.old.tables) (state_of S.Store self.new.tables) (λ stored. IfOk result (λ _. HasCountedStored C.counts which tally.old tally.new (stored.rows Fact))) }
+        ensures named { SaysAsStored (state_of S.Store self.old.tables) (state_of S.Store self.new.tables) (λ _. IfErr result (NamesTable Fact)) }
         ensures reopen { IsTrue self.old.session.must_reopen → (result ≡ Err Fault.Reopen) × (self.new.tables ≡ self.old.tables) × (tally.new ≡ tally.old) }
         ensures only { result ≡ Err Fault.Reopen → IsTrue self.old.session.must_reopen }
         ensures writes { self.new.writes ≡ self.old.writes }

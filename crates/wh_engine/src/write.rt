@@ -184,9 +184,5 @@ pub(crate) fn commit_edits<S: Alter>(
 {
     let mut writing = tables.begin()?;
     write_edits(&mut writing, alloc, edits)?;
-    let writes = writing.writes();
-    match writing.commit() {
-        Ok(()) => Ok(writes),
-        Err(cause) => Err(cause),
-    }
+    writing.commit()
 }

@@ -29,3 +29,5 @@ pub mod Batches
 pub mod Mixtures
 pub mod Trials
 pub mod DatedLists
+pub mod Beginnings
+pub mod ProfileNumbers

@@ -77,7 +77,7 @@ module _ (kinds : List AttributeType) where
       ] refl here
 
   -- so a tracked slot has its value
-  same_slot : (place : ℕ) (kind : AttributeType) (c d : Change) → slice_get kinds place ≡ Some kind → is_tracked kind ≡ true → tracked c ≡ tracked d → slot c.values place ≡ slot d.values place
+  pub same_slot : (place : ℕ) (kind : AttributeType) (c d : Change) → slice_get kinds place ≡ Some kind → is_tracked kind ≡ true → tracked c ≡ tracked d → slot c.values place ≡ slot d.values place
   same_slot place kind c d is counts same =
       let left = get_column (picked is_tracked c.values) kinds 0 place kind [] is in
       let right = get_column (picked is_tracked d.values) kinds 0 place kind [] is in

@@ -27,7 +27,7 @@ use Rattle.wh_history.proofs.Places.{place-distinct_given}
 use Rattle.wh_history.proofs.Joins.{all_weaker, all_dated, all_in_force}
 use Rattle.wh_history.proofs.Untouched.{described-last, member-last}
 
-governed_same : (before : Option Policy) (content : Content) → governs content ≡ false → governed before content ≡ before
+pub governed_same : (before : Option Policy) (content : Content) → governs content ≡ false → governed before content ≡ before
 governed_same before (Governs policy) h = cc
 governed_same before (Describes dim records) h = refl
 governed_same before (Sells sales) h = refl

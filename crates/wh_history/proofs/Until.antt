@@ -127,11 +127,11 @@ among_day : (day : ℕ) (cs : List Change) → InOrder cs → AmongDays day cs �
 among_day day [] up there = absurd there
 among_day day (c ∷ cs) up there = elim there [ inl same ↦ subst (λ d. is_day d ≡ true) same up.0 | inr later ↦ among_day day cs (in_order_rest c.day cs up.1) later ]
 
-first_among : (day : ℕ) (c : Change) (cs : List Change) → Follows c.day cs → AmongDays day (c ∷ cs) → c.day ≤ day
+pub first_among : (day : ℕ) (c : Change) (cs : List Change) → Follows c.day cs → AmongDays day (c ∷ cs) → c.day ≤ day
 first_among day c cs up there = elim there [ inl same ↦ omega (arith, same) | inr later ↦ (let above = among_above c.day day cs up later in omega (arith, above)) ]
 
 -- an earlier change isn't it
-among_rest : (start : ℕ) (c : Change) (cs : List Change) → c.day < start → AmongDays start (c ∷ cs) → AmongDays start cs
+pub among_rest : (start : ℕ) (c : Change) (cs : List Change) → c.day < start → AmongDays start (c ∷ cs) → AmongDays start cs
 among_rest start c cs early there = elim there [ inl same ↦ absurd (omega (arith, early, same)) | inr later ↦ later ]
 
 -- ---- what is in force from it on

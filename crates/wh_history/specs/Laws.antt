@@ -1,13 +1,16 @@
 -- What holds of the rows of every member.
-use Rattle.std.specs.Prelude.{◌≡◌, ◌<◌, ◌≤◌, ◌==◌, ⊤, ℕ, List, [], ◌∷◌, count_by, find, reverse, Bool, true, false, Some, None, bytes_eq}
+use Rattle.std.specs.Prelude.{◌≡◌, ◌≢◌, ◌⊎◌, ◌↔◌, ◌<◌, ◌≤◌, ◌==◌, ⊤, ℕ, List, [], ◌∷◌, count_by, find, reverse, slice_get, Bool, true, false, Some, None, bytes_eq}
 use Rattle.std.specs.List.{list_any, AllByRecursion}
-use Rattle.wh_day.specs.Day.{is_day}
+use Rattle.wh_day.specs.Day.{first_day, is_day}
+use Rattle.wh_policy.specs.Types.{is_tracked}
 use Rattle.wh_policy.specs.declared.attribute.Dim.{Dim}
-use Rattle.wh_history.specs.Dated.{dated, at}
-use Rattle.wh_history.specs.Rows.{holds}
+use Rattle.wh_policy.specs.declared.attribute.AttributeType.{AttributeType}
+use Rattle.wh_history.specs.Dated.{dated, at, value_at}
+use Rattle.wh_history.specs.Rows.{holds, rows}
 use Rattle.wh_history.specs.Accepted.{Accepted, Content, Governs, Describes, Sells, anchors_by, described, mentions, same_anchor, opening_of}
 use Rattle.wh_history.specs.Tables.{dimension_row}
 use Rattle.wh_history.specs.declared.member.Change.{Change}
+use Rattle.wh_history.specs.declared.member.Member.{Member}
 use Rattle.wh_history.specs.declared.rows.DimRow.{DimRow}
 
 -- each change has a day from 1900-01-01 to 9999-12-31
@@ -54,6 +57,40 @@ EachDayHasOneRow rows = (day : ℕ) → is_day day ≡ true → count_by (holds 
 -- exactly one row is current
 abbrev pub OneRowIsCurrent : List DimRow → Type 0
 OneRowIsCurrent rows = count_by (λ r. r.is_current) rows ≡ 1
+
+-- something was accepted of the day
+abbrev pub IsRecorded : ℕ → List Change → Type 0
+IsRecorded day changes = list_any (is_of day) changes ≡ true
+
+-- it is the greatest of the recorded days before another
+pub record IsRecordedBefore (earlier day : ℕ) (changes : List Change) : Type 0 where
+  pub recorded : IsRecorded earlier changes
+  pub before : earlier < day
+  pub greatest : AllByRecursion (λ c. c.day < day → c.day ≤ earlier) changes
+
+-- on the two days some tracked attribute has different values
+pub record DiffersTracked (kinds : List AttributeType) (changes : List Change) (earlier day : ℕ) : Type 0 where
+  pub place : ℕ
+  pub kind : AttributeType
+  pub there : slice_get kinds place ≡ Some kind
+  pub tracked : is_tracked kind ≡ true
+  pub differs : value_at earlier place changes ≢ value_at day place changes
+
+-- the day is recorded, and so is an earlier one, and a tracked value differs from that of the last of these
+pub record BringsAnew (kinds : List AttributeType) (changes : List Change) (day : ℕ) : Type 0 where
+  pub recorded : IsRecorded day changes
+  pub earlier : ℕ
+  pub before : IsRecordedBefore earlier day changes
+  pub differs : DiffersTracked kinds changes earlier day
+
+-- one of the rows begins at the day
+abbrev pub BeginsAt : ℕ → List DimRow → Type 0
+BeginsAt day rows = list_any (λ r. r.from_day == day) rows ≡ true
+
+-- A member's rows begin on the first day of all, and on each recorded day at which a tracked value differs from that of the recorded day before it; on no other day.
+abbrev pub RowsBeginWhereATrackedValueDiffers : Type 0
+RowsBeginWhereATrackedValueDiffers = (kinds : List AttributeType) (combinations : List (List (List ℕ))) (m : Member) (day : ℕ) → ChangesHaveDays m.changes
+    → BeginsAt day (rows kinds combinations m) ↔ ((day ≡ first_day) ⊎ BringsAnew kinds m.changes day)
 
 -- whether a command mentions a member
 abbrev pub mentions_member : Dim → Accepted → List ℕ → Bool

@@ -1,6 +1,6 @@
 //! Laws that every member's rows keep. They speak of the definitions alone and do nothing.
 
-ghost use Rattle.std.specs.Prelude.{◌≡◌, ◌<◌, ◌≤◌, ◌++◌, ◌∷◌, [], ℕ, nat_lt, List, length, false, true, Option, Some, find, slice_get};
+ghost use Rattle.std.specs.Prelude.{◌≡◌, ◌<◌, ◌≤◌, ◌++◌, ◌∷◌, [], ℕ, suc, nat_lt, List, length, false, true, Option, Some, None, find, slice_get};
 ghost use Rattle.std.specs.List.{list_any, AllByRecursion};
 ghost use Rattle.wh_day.specs.Day.{is_day};
 ghost use Rattle.wh_policy.specs.Types.{is_outrigger, is_tracked};
@@ -14,10 +14,10 @@ ghost use Rattle.wh_history.specs.Rows.{rows, rows_by, holds};
 ghost use Rattle.wh_history.specs.Profiles.{profile_number};
 ghost use Rattle.wh_history.specs.Known.{number_in, all_numbered, KnowsMember};
 ghost use Rattle.wh_history.specs.Plan.{row_of};
-ghost use Rattle.wh_history.specs.Accepted.{Accepted, Anchor, durable_key, surrogate_key, anchors, members, member_of, types_in};
+ghost use Rattle.wh_history.specs.Accepted.{Accepted, Anchor, durable_key, surrogate_key, anchors, members, member_of, types_in, profiles_of};
 ghost use Rattle.wh_history.specs.Tables.{key_at, member_rows, numbered_row};
 ghost use Rattle.wh_history.specs.Touched.{touched, untouched, touched_by, with_batch};
-ghost use Rattle.wh_history.specs.Laws.{ChangesHaveDays, DatedListsAreExact, ChangesInForce, RecordsHaveDays, EachDayHasOneRow, OneRowIsCurrent, is_of, mentions_member, IsMember, IsEffective, governs};
+ghost use Rattle.wh_history.specs.Laws.{ChangesHaveDays, DatedListsAreExact, ChangesInForce, RecordsHaveDays, EachDayHasOneRow, OneRowIsCurrent, is_of, mentions_member, IsMember, IsEffective, governs, RowsBeginWhereATrackedValueDiffers};
 ghost use Rattle.wh_history.specs.declared.member.Change.{Change};
 ghost use Rattle.wh_history.specs.declared.member.Member.{Member};
 ghost use Rattle.wh_history.specs.declared.rows.DimRow.{DimRow};
@@ -27,6 +27,12 @@ ghost use Rattle.wh_history.specs.declared.rows.DimRow.{DimRow};
 pub fn one_row_a_day()
     ensures days { (kinds : List AttributeType) (combinations : List (List (List ℕ))) (m : Member) → ChangesHaveDays m.changes → EachDayHasOneRow (rows kinds combinations m) }
     ensures current { (kinds : List AttributeType) (combinations : List (List (List ℕ))) (m : Member) → ChangesHaveDays m.changes → OneRowIsCurrent (rows kinds combinations m) }
+{}
+
+/// A member's rows begin on the first day of all, and on each recorded day at which a tracked value differs from that of the
+/// recorded day before it; on no other day.
+pub fn rows_begin_where_a_tracked_value_differs()
+    ensures { RowsBeginWhereATrackedValueDiffers }
 {}
 
 /// What is known of a member by days: of each day the record that was accepted last, and at a day the one that is in force.
@@ -43,11 +49,14 @@ pub fn numbers_of_profiles()
 {}
 
 /// A number that was given to a member or an anchor stays, whatever is accepted after; numbers that are
-/// given later are greater than all before.
+/// given later are greater than all before. Under one policy so it is with the numbers of profiles.
 pub fn numbers_stay()
     ensures durable { (dim : Dim) (old new : List Accepted) (natural : List ℕ) → 0 < durable_key dim old natural → durable_key dim (old ++ new) natural ≡ durable_key dim old natural }
     ensures surrogate { (dim : Dim) (old new : List Accepted) (anchor : Anchor) → 0 < surrogate_key dim old anchor → surrogate_key dim (old ++ new) anchor ≡ surrogate_key dim old anchor }
     ensures next { (dim : Dim) (old new : List Accepted) (anchor : Anchor) → surrogate_key dim old anchor ≡ 0 → 0 < surrogate_key dim (old ++ new) anchor → length (anchors dim old) < surrogate_key dim (old ++ new) anchor }
+    // And the number of a combination of profile values, as long as no policy is given.
+    ensures profile { (old new : List Accepted) (texts : List (List ℕ)) (number : ℕ) → list_any (λ c. governs c.content) new ≡ false → profile_number (profiles_of old) texts ≡ Some number → profile_number (profiles_of (old ++ new)) texts ≡ Some number }
+    ensures next_profile { (old new : List Accepted) (texts : List (List ℕ)) (number : ℕ) → list_any (λ c. governs c.content) new ≡ false → profile_number (profiles_of old) texts ≡ None → profile_number (profiles_of (old ++ new)) texts ≡ Some number → suc (length (profiles_of old)) < number }
 {}
 
 /// A command leaves each member that it does not mention as it was: all that was accepted of it, and all its numbers.

@@ -47,13 +47,15 @@ use Rattle.wh_rows.specs.Tables.{Tables}
 use Rattle.wh_rows.specs.declared.key.LineKey.{LineKey}
 use Rattle.wh_rows.specs.Questions.{durable_of}
 use Rattle.wh_rows.specs.Defined.{AreOf, fact_at}
-use Rattle.wh_plan.specs.MovedFacts.{moved_for, rekeyed_facts, facts_with, facts_between}
+use Rattle.wh_plan.specs.MovedFacts.{moved_for, rekeyed_facts, facts_with, facts_between, FactsOutsideTheDaysStay}
 use Rattle.wh_rows.specs.Sound.{IsGoodSale, IsAccepted}
+use Rattle.wh_rows.proofs.Following.{Named, owned, all_named, late_records_move_facts}
 use Rattle.wh_rows.proofs.FoundPlaces.{same_number_is}
+use Rattle.wh_rows.proofs.GrownKeys.{all_at}
 use Rattle.wh_rows.proofs.GrownMembers.{opening_given}
 use Rattle.wh_rows.proofs.Listed.{none_passes}
 use Rattle.wh_plan.proofs.MovedFacts.{on_line}
-use Rattle.wh_rows.proofs.MovedKeys.{keys_for, own_keys, owner_is, same_as_itself, sold_same}
+use Rattle.wh_rows.proofs.MovedKeys.{with_keys, keys_for, own_keys, follows_member, owner_is, same_as_itself, sold_same}
 use Rattle.wh_plan.proofs.MovedLists.{found_has, idle_left_out, none_left}
 use Rattle.wh_plan.proofs.PlanPremises.{days_after, days_before}
 
@@ -205,6 +207,44 @@ module _ (limits : Limits) (commands : List Accepted) (c : Accepted) (rs : List 
       ap (λ key. record f.keys { customer_key = key; profile = profile_at after f.day natural }) row
       ∙ ap (λ number. record f.keys { customer_key = key_at commands Customer f.day natural; profile = number }) (profile_same is natural f.day change)
 
+  -- the days of which the member's facts are asked for
+  module _ (dim : Dim) (is : c.content ≡ Describes dim rs) (natural : List ℕ) (given : 0 < durable_key dim commands natural) where
+    abbrev first_asked : ℕ
+    first_asked = moves_since (changes_of dim commands natural) (changes_of dim after natural)
+
+    abbrev last_asked : ℕ
+    last_asked = moves_until (stored_shown dim is natural) (after_shown dim is natural)
+
+    keys_before : (f : Fact) → is_day f.day ≡ true → f.day < first_asked → keys_for after dim natural f ≡ keys_for commands dim natural f
+    keys_before f within before =
+        elim (list_any (λ (d : Change). nat_lt d.day (first dim is natural)) (changes_of dim commands natural)) as (λ b. (list_any (λ (d : Change). nat_lt d.day (first dim is natural)) (changes_of dim commands natural) ≡ b)
+        → f.day < cond b (first dim is natural) first_day → keys_for after dim natural f ≡ keys_for commands dim natural f) [
+          | true ↦ λ earlier less. keys_same dim is natural f (at_early dim is natural given earlier f.day less) (key_early dim is natural given earlier f.day less within)
+          | false ↦ λ _ less. absurd (omega (arith, less, from_first f.day within))
+        ] refl before
+
+    keys_from : (f : Fact) → is_day f.day ≡ true → (start : Change) → find (keeps dim is natural) (dated (changes_of dim commands natural)) ≡ Some start → (start.day == first_day) ≡ false → day_before start.day < f.day
+        → keys_for after dim natural f ≡ keys_for commands dim natural f
+    keys_from f within start found other past =
+        let day = is_start dim is natural given start found in
+        let later : start.day ≢ first_day = λ same. let equal = eq-eqb start.day first_day same in let not_equal = other in cc in
+        elim (cases_lt f.day start.day) [
+          | inl less ↦ (let most = (day_before-greatest start.day (parts start.day day) later).1 f.day within less in absurd (omega (arith, most, past)))
+          | inr late ↦ keys_same dim is natural f (at_later dim is natural given start found f.day late) (key_later dim is natural given start found f.day late within)
+        ]
+
+    keys_after : (f : Fact) → is_day f.day ≡ true → last_asked < f.day → keys_for after dim natural f ≡ keys_for commands dim natural f
+    keys_after f within past =
+        elim (find (keeps dim is natural) (dated (changes_of dim commands natural))) as (λ o. (find (keeps dim is natural) (dated (changes_of dim commands natural)) ≡ o)
+        → before_record o < f.day → keys_for after dim natural f ≡ keys_for commands dim natural f) [
+          | None ↦ λ _ more. absurd (omega (arith, more, to_last f.day within))
+          | Some start ↦ λ found.
+              elim (start.day == first_day) as (λ b. ((start.day == first_day) ≡ b) → unwrap_or (cond b None (Some (day_before start.day))) last_day < f.day → keys_for after dim natural f ≡ keys_for commands dim natural f) [
+                | true ↦ λ _ more. absurd (omega (arith, more, to_last f.day within))
+                | false ↦ λ other more. keys_from f within start found other more
+              ] refl
+        ] refl past
+
   module _ (dim : Dim) (is : c.content ≡ Describes dim rs) (t : Tables) (are : AreOf limits commands t) where
     good_sales : AllByRecursion IsGoodSale (sold commands)
     good_sales = subst (AllByRecursion IsGoodSale) (sold_same commands c rs dim is) ok.sales
@@ -224,36 +264,6 @@ module _ (limits : Limits) (commands : List Accepted) (c : Accepted) (rs : List 
       abbrev until : ℕ
       until = moves_until (stored_shown dim is natural) (after_shown dim is natural)
 
-      keys_before : (f : Fact) → is_day f.day ≡ true → f.day < since → keys_for after dim natural f ≡ keys_for commands dim natural f
-      keys_before f within before =
-          elim (list_any (λ (d : Change). nat_lt d.day (first dim is natural)) (changes_of dim commands natural)) as (λ b. (list_any (λ (d : Change). nat_lt d.day (first dim is natural)) (changes_of dim commands natural) ≡ b)
-          → f.day < cond b (first dim is natural) first_day → keys_for after dim natural f ≡ keys_for commands dim natural f) [
-            | true ↦ λ earlier less. keys_same dim is natural f (at_early dim is natural given earlier f.day less) (key_early dim is natural given earlier f.day less within)
-            | false ↦ λ _ less. absurd (omega (arith, less, from_first f.day within))
-          ] refl before
-
-      keys_from : (f : Fact) → is_day f.day ≡ true → (start : Change) → find (keeps dim is natural) (dated (changes_of dim commands natural)) ≡ Some start → (start.day == first_day) ≡ false → day_before start.day < f.day
-          → keys_for after dim natural f ≡ keys_for commands dim natural f
-      keys_from f within start found other past =
-          let day = is_start dim is natural given start found in
-          let later : start.day ≢ first_day = λ same. let equal = eq-eqb start.day first_day same in let not_equal = other in cc in
-          elim (cases_lt f.day start.day) [
-            | inl less ↦ (let most = (day_before-greatest start.day (parts start.day day) later).1 f.day within less in absurd (omega (arith, most, past)))
-            | inr late ↦ keys_same dim is natural f (at_later dim is natural given start found f.day late) (key_later dim is natural given start found f.day late within)
-          ]
-
-      keys_after : (f : Fact) → is_day f.day ≡ true → until < f.day → keys_for after dim natural f ≡ keys_for commands dim natural f
-      keys_after f within past =
-          elim (find (keeps dim is natural) (dated (changes_of dim commands natural))) as (λ o. (find (keeps dim is natural) (dated (changes_of dim commands natural)) ≡ o)
-          → before_record o < f.day → keys_for after dim natural f ≡ keys_for commands dim natural f) [
-            | None ↦ λ _ more. absurd (omega (arith, more, to_last f.day within))
-            | Some start ↦ λ found.
-                elim (start.day == first_day) as (λ b. ((start.day == first_day) ≡ b) → unwrap_or (cond b None (Some (day_before start.day))) last_day < f.day → keys_for after dim natural f ≡ keys_for commands dim natural f) [
-                  | true ↦ λ _ more. absurd (omega (arith, more, to_last f.day within))
-                  | false ↦ λ other more. keys_from f within start found other more
-                ] refl
-          ] refl past
-
       -- a fact of the member that isn't between these days doesn't move
       stays_outside : (key : LineKey) (f : Fact) → get t.fact key ≡ Some f → eq_by_cmp nat_cmp (durable_key dim after natural) (durable_of dim f) ≡ true → (f.day < since) ⊎ (until < f.day) → moved_for after dim natural f ≡ None
       stays_outside key f here own apart =
@@ -263,7 +273,7 @@ module _ (limits : Limits) (commands : List Accepted) (c : Accepted) (rs : List 
           let its : member_of_sale dim s ≡ Some natural = owner_is dim commands s natural given (durable ∙ ap (durable_of dim) (sym sale.1)) in
           let keys : keys_for commands dim natural f ≡ f.keys = subst (λ (g : Fact). keys_for commands dim natural g ≡ g.keys) sale.1 (own_keys dim commands s natural its) in
           let within : is_day f.day ≡ true = subst (λ (g : Fact). is_day g.day ≡ true) sale.1 sale.2 in
-          let same : keys_for after dim natural f ≡ keys_for commands dim natural f = elim apart [ inl before ↦ keys_before f within before | inr past ↦ keys_after f within past ] in
+          let same : keys_for after dim natural f ≡ keys_for commands dim natural f = elim apart [ inl before ↦ keys_before dim is natural given f within before | inr past ↦ keys_after dim is natural given f within past ] in
           ap (rekeyed_to f) (same ∙ keys) ∙ ap (λ b. cond b None (Some f)) (same_as_itself f.keys)
 
       abbrev own : Fact → Bool
@@ -289,3 +299,19 @@ module _ (limits : Limits) (commands : List Accepted) (c : Accepted) (rs : List 
           ≡ rekeyed_facts (shape_after dim after) (member_of dim after natural) (facts_with t.fact dim (durable_key dim after natural))
       moves_between_are_all = idle_left_out own is_between (moved_for after dim natural) (values t.fact)
           (none_left moves_outside (values t.fact) (none_passes row.line_cmp line_cmp_total line_cmp-IsAntisymmetric row.fact.key moves_outside t.fact none_outside))
+
+-- so the fact of such a day stays as it was
+pub facts_outside_stay : FactsOutsideTheDaysStay
+facts_outside_stay limits commands c dim rs number s natural is shown ok there named outside =
+    let stored = fact_of commands s in
+    let all : AllByRecursion IsGoodSale (sold commands) = subst (AllByRecursion IsGoodSale) (sold_same commands c rs dim is) ok.sales in
+    let within : is_day s.day ≡ true = (all_at IsGoodSale number (sold commands) s all there).day in
+    let given = owned commands s (all_at (Named commands) number (sold commands) s (all_named commands) there) dim natural named in
+    let same : keys_for (commands ++ c ∷ []) dim natural stored ≡ keys_for commands dim natural stored =
+    elim outside [
+      | inl before ↦ keys_before limits commands c rs ok dim is natural given stored within before
+      | inr past ↦ keys_after limits commands c rs ok dim is natural given stored within past
+    ] in
+    late_records_move_facts commands c dim rs number s is shown there
+    ∙ follows_member commands c rs dim is s natural named
+    ∙ ap (with_keys stored) (same ∙ own_keys dim commands s natural named)

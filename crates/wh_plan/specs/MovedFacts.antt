@@ -1,15 +1,17 @@
 -- Which stored facts a batch of records moves.
-use Rattle.std.specs.Prelude.{◌≡◌, ℕ, nat_lt, if◌then◌else◌, ◌&&◌, List, [], ◌∷◌, ◌++◌, filter, filter_map, flat_map, Option}
+use Rattle.std.specs.Prelude.{◌≡◌, ◌⊎◌, ◌<◌, ℕ, nat_lt, if◌then◌else◌, ◌&&◌, List, [], ◌∷◌, ◌++◌, filter, filter_map, flat_map, Option, Some}
 use Rattle.std.specs.FinMap.{FinMap, values}
 use Rattle.std.specs.Ordering.{eq_by_cmp, is_ge, is_le, nat_cmp}
 use Rattle.wh_policy.specs.declared.attribute.Dim.{Dim}
 use Rattle.wh_policy.specs.declared.attribute.Dim.TheVariants.{Product, Store, Customer}
 use Rattle.wh_policy.specs.declared.record.DimensionRecord.{DimensionRecord}
-use Rattle.wh_history.specs.Accepted.{Accepted, Describes, member_of, durable_key}
+use Rattle.wh_policy.specs.declared.record.SaleRecord.{SaleRecord}
+use Rattle.wh_history.specs.Accepted.{Accepted, Describes, member_of, durable_key, member_of_sale, sold}
 use Rattle.wh_history.specs.Facts.{rekeyed_fact}
+use Rattle.wh_history.specs.Keys.{at_place}
 use Rattle.wh_history.specs.MovingDays.{moves_since, moves_until}
 use Rattle.wh_history.specs.Shapes.{Shape, shape_after, rendered_in}
-use Rattle.wh_history.specs.Tables.{Limits}
+use Rattle.wh_history.specs.Tables.{Limits, fact_of}
 use Rattle.wh_history.specs.declared.facts.Fact.{Fact}
 use Rattle.wh_history.specs.declared.member.Member.{Member}
 use Rattle.wh_rows.specs.Rows as row
@@ -17,6 +19,7 @@ use Rattle.wh_rows.specs.Tables.{Tables}
 use Rattle.wh_rows.specs.Questions.{durable_of}
 use Rattle.wh_rows.specs.Defined.{AreOf, fact_at}
 use Rattle.wh_rows.specs.Laws.{ShowsNoProfile}
+use Rattle.wh_rows.specs.Sound.{IsAccepted}
 use Rattle.wh_plan.specs.BatchRows.{AreFacts, AreRekeyed}
 use Rattle.wh_plan.specs.declared.touched.TouchedMember.{TouchedMember}
 use Rattle.wh_plan.specs.NewRows.{members_among, naturals_told}
@@ -63,3 +66,22 @@ MovedFactsAreExact = (limits : Limits) (commands : List Accepted) (c : Accepted)
     → AreOf limits commands t
     → AreFacts (fact_at commands) (fact_at (commands ++ c ∷ [])) (moves_of_members commands (commands ++ c ∷ []) t.fact dim (members_among commands dim (naturals_told records)))
     × AreRekeyed (fact_at commands) (moves_of_members commands (commands ++ c ∷ []) t.fact dim (members_among commands dim (naturals_told records)))
+
+-- the day is before or after those of which a touched member's facts are asked for
+abbrev pub IsOutside : List Accepted → List Accepted → Dim → List ℕ → ℕ → Type 0
+IsOutside before after dim natural day =
+    let shape = shape_after dim after in
+    let stored = rendered_in shape (member_of dim before natural) in
+    let now = rendered_in shape (member_of dim after natural) in
+    (day < moves_since stored.member.changes now.member.changes) ⊎ (moves_until stored now < day)
+
+-- With a batch of records the fact of a sale of such a day has the keys that it had.
+abbrev pub FactsOutsideTheDaysStay : Type 0
+FactsOutsideTheDaysStay = (limits : Limits) (commands : List Accepted) (c : Accepted) (dim : Dim) (records : List DimensionRecord) (number : ℕ) (s : SaleRecord) (natural : List ℕ)
+    → c.content ≡ Describes dim records
+    → (dim ≡ Customer → ShowsNoProfile commands Product × ShowsNoProfile commands Store)
+    → IsAccepted limits (commands ++ c ∷ [])
+    → at_place number (sold commands) ≡ Some s
+    → member_of_sale dim s ≡ Some natural
+    → IsOutside commands (commands ++ c ∷ []) dim natural s.day
+    → fact_of (commands ++ c ∷ []) s ≡ fact_of commands s

@@ -1,6 +1,6 @@
 //! Laws of the tables that accepted commands define. They speak of the definitions alone and do nothing.
 
-ghost use Rattle.wh_plan.specs.MovedFacts.{MovedFactsAreExact};
+ghost use Rattle.wh_plan.specs.MovedFacts.{FactsOutsideTheDaysStay, MovedFactsAreExact};
 ghost use Rattle.wh_plan.specs.Laws.{CommandsMayBeWritten, EditsAreWritten, ExactEditsAreOne, NoEditsStay, SalesAreFacts, SalesPutPlaceholders, TouchedRowsAfter, TouchedRowsAreThePlan, TouchedRowsBefore};
 ghost use Rattle.wh_rows.specs.Laws.{AcceptedListsBegin, FactsAreEffective, LateRecordsMoveFacts, SecondKeysAreApart, SoundPoliciesShowNone, UntouchedMembersKeep};
 
@@ -64,6 +64,11 @@ pub fn moved_facts_are_exact()
     ensures { MovedFactsAreExact }
 {}
 
+/// With a batch of records a member's facts of the days that aren't asked for stay as they were.
+pub fn facts_outside_the_days_stay()
+    ensures { FactsOutsideTheDaysStay }
+{}
+
 /// The facts of a batch of sales whose lines are new, no two of them the same, are exactly what leads to the facts of the
 /// commands with it: each fact that was there stays as it was.
 pub fn sales_are_facts()
@@ -76,8 +81,8 @@ pub fn sales_put_placeholders()
     ensures { SalesPutPlaceholders }
 {}
 
-/// Each fact of the table names, in each dimension, the one row of its member that holds the day of its sale, whatever came
-/// late; without a card it names the customer row 0.
+/// Each fact of the table is that of an accepted sale of its line, and names, in each dimension, the member that this sale names
+/// and its one row that holds the sale's day, whatever came late; without a card it names the customer row 0.
 pub fn facts_are_effective()
     ensures { FactsAreEffective }
 {}

@@ -9,7 +9,7 @@ not-true : (b : Bool) → not b ≡ true → b ≡ false
 not-true true h = cc
 not-true false h = refl
 
-both : (a b : Bool) → (a && b) ≡ true → (a ≡ true) × (b ≡ true)
+pub both : (a b : Bool) → (a && b) ≡ true → (a ≡ true) × (b ≡ true)
 both true b h = (refl, h)
 both false b h = absurd (true≢false (sym h))
 
@@ -20,7 +20,7 @@ pub record IsPlain (word : Text) : Type 0 where
   pub no_short : short_of word ≡ None
 
 -- an operand is neither
-plain : (word : Text) → is_operand word ≡ true → IsPlain word
+pub plain : (word : Text) → is_operand word ≡ true → IsPlain word
 plain [] is = record { no_end = refl; no_long = refl; no_short = refl }
 plain (b ∷ rest) is = let e = not-true (b == 45) is in record { no_end = rw e refl; no_long = rw e refl; no_short = rw e refl }
 

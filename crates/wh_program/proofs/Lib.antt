@@ -1,4 +1,7 @@
 pub mod CommandLineLemmas
+pub mod WordLemmas
+pub mod CommandFaults
+pub mod PlainWords
 pub mod RunLemmas
 pub mod LineLemmas
 pub mod RoomLemmas

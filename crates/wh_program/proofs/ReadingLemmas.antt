@@ -1,9 +1,13 @@
 -- What reports and dumps answer, and what they leave of what stood.
-use Rattle.std.proofs.Common.{◌≡◌, ◌∙◌, inl, refl, sym, ap, ℕ, List, Bool, true, false, Option, Some, None, Ok, Err}
+use Rattle.std.proofs.Common.{◌≡◌, ◌∙◌, inl, refl, sym, ap, subst, ℕ, List, [], ◌∷◌, ◌++◌, Bool, true, false, Option, Some, None, Ok, Err}
 use Rattle.std.specs.Prelude.{Result, IfOk, not, nat_lt}
 use Rattle.std.specs.declared.alloc.AllocError.{AllocError}
 use Rattle.std.specs.declared.alloc.Global.{Global}
 use Rattle.std.specs.declared.vec.Vec.{Vec}
+use Rattle.std.specs.Io.KnownBytes.{Appends}
+use Rattle.std.specs.List.{concat}
+use Rattle.std.proofs.KnownBytes.{Appends-nil}
+use Rattle.std.proofs.lemmas.List.Folds.{concat-append}
 use Rattle.std.proofs.lemmas.Result.{IfOk-weaker}
 use Rattle.sqlite.specs.State.{State}
 use Rattle.wh_day.specs.Day.{read_day}
@@ -20,7 +24,7 @@ use Rattle.wh_engine.specs.declared.fault.Fault.{Fault}
 use Rattle.wh_engine.specs.declared.fault.Fault.TheVariants as fault
 use Rattle.wh_engine.specs.declared.session.Session.{Session}
 use Rattle.wh_report.specs.Asked.{Asked}
-use Rattle.wh_report.specs.Output.{IsOutInPieces, IsOfDump, of_warehouse}
+use Rattle.wh_report.specs.Output.{AreOut, IsOutInLines, IsOfDump, of_warehouse}
 use Rattle.wh_report.specs.Reported.{Reports}
 use Rattle.wh_report.specs.Request.{asked, or_fault, unless_fault, subject_reads, has_reading, no_reading}
 use Rattle.wh_report.specs.Subject.{subject_in}
@@ -110,6 +114,7 @@ module _ (words : ReportWords) (limits : Limits) (commands : List Accepted) (tol
       (l.0, record { read = Ok tt; leaves = l.1; tells = IfOk-weaker told _ _ (λ a e. e ∙ ap done reports ∙ sym (ap (asked_answer commands) is)) tells }, l.2)
   reported request (Err report.Write) is none tells serving = absurd none
   reported request (Err (report.Warehouse why)) is wanting tells serving = let l = left limits commands (Err why) session s serving in (l.0, record { read = Err why; leaves = l.1; tells = tells }, l.2)
+  reported request (Err (report.Unwritten why)) is none tells serving = absurd none
   reported request (Err (report.Inconsistent table)) is none tells serving = absurd none
 
   -- or one that can't be asked for
@@ -125,13 +130,27 @@ not_read words limits commands e session s ready = (Rests (Holds limits commands
 
 -- ---- dump
 
--- what is answered where a dump was stopped, by what went out of it and what was said after that
-pub stopped-dump : (text : List ℕ) (why : ReportFault) (old mid new : Option (List ℕ)) (code : ℕ) → IsOfDump why → IsOutInPieces (Err why) old mid text → SaysStop why mid new code
-    → (told : Told) × TellsText text (of_warehouse {A = Unit {0}} (Err why)) told × Prints old new code (printed told)
-stopped-dump text report.Write old mid new code of (byte, rest, but) (failed, (told, said)) = (Ok (done text), refl, prints-cut old mid new code text but.part byte rest told but.whole but.went failed said)
-stopped-dump text (report.Warehouse why) old mid new code of (rest, but) (line, tells, prints) = (
-  Ok (behind but.part (printed line)),
-  record { part = but.part; rest = rest; begins = but.whole; line = line; tells = tells; told_is = refl },
-  prints-behind old mid new code but.part (printed line) but.went prints,
+-- a beginning of the text went out, and then the fault was said
+cut-short : (text part rest : List ℕ) (why : Fault) (old mid new : Option (List ℕ)) (code : ℕ) → text ≡ part ++ rest → Appends old mid part → SaysStop (report.Warehouse why) mid new code
+    → (told : Told) × TellsText text (Err why) told × Prints old new code (printed told)
+cut-short text part rest why old mid new code begins went (line, tells, prints) = (
+  Ok (behind part (printed line)),
+  record { part = part; rest = rest; begins = begins; line = line; tells = tells; told_is = refl },
+  prints-behind old mid new code part (printed line) went prints,
 )
-stopped-dump text (report.Inconsistent table) old mid new code none out says = absurd none
+
+lines-out : (lines out : List (List ℕ)) (why : Fault) (old mid new : Option (List ℕ)) (code : ℕ) → AreOut out lines old mid → SaysStop (report.Warehouse why) mid new code
+    → (told : Told) × TellsText (concat lines) (Err why) told × Prints old new code (printed told)
+lines-out lines out why old mid new code are says = cut-short (concat lines) (concat out) (concat are.left) why old mid new code (ap concat are.whole ∙ concat-append out are.left) are.went says
+
+-- what is answered where a dump was stopped, by what went out of it and what was said after that
+pub stopped-dump : (lines : List (List ℕ)) (why : ReportFault) (old mid new : Option (List ℕ)) (code : ℕ) → IsOfDump why → IsOutInLines (Err why) old mid lines → SaysStop why mid new code
+    → (told : Told) × TellsText (concat lines) (of_warehouse {A = Unit {0}} (Err why)) told × Prints old new code (printed told)
+stopped-dump lines report.Write old mid new code of (byte, rest, but) (failed, (told, said)) = (Ok (done (concat lines)), refl, prints-cut old mid new code (concat lines) but.part byte rest told but.whole but.went failed said)
+stopped-dump lines (report.Unwritten why) old mid new code of (byte, rest, but) says = cut-short (concat lines) but.part (byte ∷ rest) why old mid new code but.whole but.went says
+stopped-dump lines (report.Warehouse fault.Memory) old mid new code of (out, are) says = lines-out lines out fault.Memory old mid new code are says
+stopped-dump lines (report.Warehouse fault.Reopen) old mid new code of same says = cut-short (concat lines) [] (concat lines) fault.Reopen old mid new code refl (subst (λ m. Appends old m []) (sym same) (Appends-nil old)) says
+stopped-dump lines (report.Warehouse (fault.Refused why)) old mid new code of (first, more, are) says = lines-out lines (first ∷ more) (fault.Refused why) old mid new code are says
+stopped-dump lines (report.Warehouse (fault.Damaged table)) old mid new code of (first, more, are) says = lines-out lines (first ∷ more) (fault.Damaged table) old mid new code are says
+stopped-dump lines (report.Warehouse (fault.Store cause)) old mid new code of (first, more, are) says = lines-out lines (first ∷ more) (fault.Store cause) old mid new code are says
+stopped-dump lines (report.Inconsistent table) old mid new code none out says = absurd none

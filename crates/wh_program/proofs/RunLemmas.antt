@@ -6,7 +6,7 @@ use Rattle.std.proofs.KnownBytes.{Appends-trans}
 use Rattle.std.proofs.Math.Seq.{take-append-add, take-append_seam}
 use Rattle.std.proofs.lemmas.List.{length-append}
 use Rattle.wh_program.specs.Answer.{Printed, done, status_code, write_line}
-use Rattle.wh_program.specs.Inputs.{Files}
+use Rattle.wh_program.specs.Inputs.{Files, Refusals}
 use Rattle.wh_program.specs.Readings.{behind}
 use Rattle.wh_program.specs.Run.{Prints}
 use Rattle.wh_program.specs.Task.{Task, Trial, Init, Load, Migrate, Deliver, Plan, Report, Dump, Check, Status}
@@ -52,14 +52,14 @@ prints-cut old mid new code text part byte rest told whole went failed said =
     })
 
 -- memory ran out before anything was done
-pub not_run : (holds : Files) (before : Stores) (prints : Told → Type 0) (e : AllocError) (task : Task) → prints (Err e) → Runs holds before before prints task
-not_run holds before prints e (Trial dim path policy) p = (Err e, tt, p)
-not_run holds before prints e (Init file policy) p = λ content stood. (Err e, inr (record { same = stood; tells = tt }), p)
-not_run holds before prints e (Load file kind id path) p = λ content stood. (Err e, inr (record { same = stood; tells = tt }), p)
-not_run holds before prints e (Migrate file id policy) p = λ content stood. (Err e, inr (record { same = stood; tells = tt }), p)
-not_run holds before prints e (Deliver file manifest) p = λ content stood. (Err e, inr (record { same = stood; tells = tt }), p)
-not_run holds before prints e (Plan file kind id path) p = λ content stood. (Err e, inr (record { same = stood; tells = tt }), p)
-not_run holds before prints e (Report file words) p = λ content stood. (Err e, inr (record { same = stood; tells = tt }), p)
-not_run holds before prints e (Dump file table) p = λ content of_commands stood. (Err e, inr (record { same = stood; tells = tt }), p)
-not_run holds before prints e (Check file) p = λ content stood. (Err e, inr (record { same = stood; tells = tt }), p)
-not_run holds before prints e (Status file) p = λ content stood. (Err e, inr (record { same = stood; tells = tt }), p)
+pub not_run : (holds : Files) (refuses : Refusals) (before : Stores) (prints : Told → Type 0) (e : AllocError) (task : Task) → prints (Err e) → Runs holds refuses before before prints task
+not_run holds refuses before prints e (Trial dim path policy) p = (Err e, tt, p)
+not_run holds refuses before prints e (Init file policy) p = λ content stood. (Err e, inr (record { same = stood; tells = tt }), p)
+not_run holds refuses before prints e (Load file kind id path) p = λ content stood. (Err e, inr (record { same = stood; tells = tt }), p)
+not_run holds refuses before prints e (Migrate file id policy) p = λ content stood. (Err e, inr (record { same = stood; tells = tt }), p)
+not_run holds refuses before prints e (Deliver file manifest) p = λ content stood. (Err e, inr (record { same = stood; tells = tt }), p)
+not_run holds refuses before prints e (Plan file kind id path) p = λ content stood. (Err e, inr (record { same = stood; tells = tt }), p)
+not_run holds refuses before prints e (Report file words) p = λ content stood. (Err e, inr (record { same = stood; tells = tt }), p)
+not_run holds refuses before prints e (Dump file table) p = λ content of_commands stood. (Err e, inr (record { same = stood; tells = tt }), p)
+not_run holds refuses before prints e (Check file) p = λ content stood. (Err e, inr (record { same = stood; tells = tt }), p)
+not_run holds refuses before prints e (Status file) p = λ content stood. (Err e, inr (record { same = stood; tells = tt }), p)

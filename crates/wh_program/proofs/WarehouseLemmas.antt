@@ -1,6 +1,6 @@
 -- What the words over a warehouse leave of what stood.
 use Rattle.std.proofs.Common.{◌≡◌, ◌⊎◌, inl, inr, refl, sym, subst, ap, ◌∙◌, ℕ, List, [], ◌∷◌, Some, None, Ok, Err, true, false}
-use Rattle.std.specs.Prelude.{Result, IfOk, IsOk, OnErr}
+use Rattle.std.specs.Prelude.{Result, IfOk, IfErr, IsOk, OnErr}
 use Rattle.std.proofs.lemmas.Result.{IfOk-weaker}
 use Rattle.std.specs.declared.alloc.AllocError.{AllocError}
 use Rattle.sqlite.specs.State.{State}
@@ -37,10 +37,12 @@ use Rattle.wh_store.specs.declared.fault.OpenFault.{OpenFault}
 use Rattle.wh_store.specs.declared.fault.OpenFault.TheVariants as opening
 use Rattle.wh_engine.specs.declared.session.Session.{Session}
 use Rattle.wh_program.specs.Answer.{done, failed, no_file_line}
-use Rattle.wh_program.specs.Inputs.{Files}
+use Rattle.wh_program.specs.Inputs.{Files, Refusals}
 use Rattle.wh_program.specs.Reply.{sent_answer, plan_answer, opening_answer, status_answer, making_answer, made_line}
 use Rattle.wh_program.specs.Standing.{Content, Nothing, Holds, Keeps, Standing, Unknown, Rests, LeftAt, IsAt, Stands}
 use Rattle.wh_program.specs.Warehouse.{Told, printed, Opens, IsOpenedBy, IsUnread, IsReplied, IsForetold, IsCounted, Makes, AnswersWith, IsTried, IsNotConnected}
+use Rattle.wh_program.specs.declared.host.HostError.{HostError}
+use Rattle.wh_program.specs.declared.host.HostError.TheVariants.{NoFile}
 
 -- where no object is, the ten tables are not all there
 pub none_there : are_all_there no_schema ≡ false
@@ -213,27 +215,30 @@ not_begun (Holds l cs) bytes e s at = (Rests (Holds l cs), record { why = making
 
 -- ---- a visit
 
-module _ {E : Type 0} (stands : Standing → Type 0) (content : Content) (file : List ℕ) (visit : Result Told E) (told : Told)
-    (same : OnErr visit (stands (Rests content))) (is : IfOk visit (λ output. told ≡ output)) (other : OnErr visit (IfOk told (λ a. a ≡ failed (no_file_line file)))) where
+module _ (refuses : Refusals) (stands : Standing → Type 0) (content : Content) (file : List ℕ) (visit : Result Told HostError) (told : Told)
+    (same : OnErr visit (stands (Rests content))) (why : IfErr visit (λ e. e ≡ NoFile → refuses file)) (is : IfOk visit (λ output. told ≡ output))
+    (other : IfErr visit (λ e. IfOk told (λ a. (e ≡ NoFile) × (a ≡ failed (no_file_line file))))) where
   -- with the bytes of an input
   pub answered_with : (holds : Files) (does : List ℕ → Content → Told → Standing → Type 0) (path bytes : List ℕ) → holds path (Some bytes)
       → IfOk visit (λ output. (after : Standing) × does bytes content output after × stands after)
-      → AnswersWith holds stands does content file path told
+      → AnswersWith holds refuses stands does content file path told
   answered_with holds does path bytes held did = elim visit as
-      (λ v. IfOk v (λ output. (after : Standing) × does bytes content output after × stands after) → OnErr v (stands (Rests content)) → IfOk v (λ output. told ≡ output) → OnErr v (IfOk told (λ a. a ≡ failed (no_file_line file)))
-      → AnswersWith holds stands does content file path told) [
-        | Ok output ↦ λ did same is other. inl (record { bytes = bytes; held = held; tried = record { after = did.0; then_stands = did.2; did = subst (λ t. does bytes content t did.0) (sym is) did.1 } })
-        | Err e ↦ λ did same is other. inr (record { same = same; tells = IfOk-weaker told _ _ (λ a e. inr e) other })
-      ] did same is other
+      (λ v. IfOk v (λ output. (after : Standing) × does bytes content output after × stands after) → OnErr v (stands (Rests content)) → IfErr v (λ e. e ≡ NoFile → refuses file)
+      → IfOk v (λ output. told ≡ output) → IfErr v (λ e. IfOk told (λ a. (e ≡ NoFile) × (a ≡ failed (no_file_line file))))
+      → AnswersWith holds refuses stands does content file path told) [
+        | Ok output ↦ λ did same why is other. inl (record { bytes = bytes; held = held; tried = record { after = did.0; then_stands = did.2; did = subst (λ t. does bytes content t did.0) (sym is) did.1 } })
+        | Err e ↦ λ did same why is other. inr (record { same = same; tells = IfOk-weaker told _ _ (λ a says. inr (why says.0, says.1)) other })
+      ] did same why is other
 
   -- with none
-  pub answered_alone : (does : Told → Standing → Type 0) → IfOk visit (λ output. (after : Standing) × does output after × stands after) → IsTried stands does told ⊎ IsNotConnected stands content file told
+  pub answered_alone : (does : Told → Standing → Type 0) → IfOk visit (λ output. (after : Standing) × does output after × stands after) → IsTried stands does told ⊎ IsNotConnected refuses stands content file told
   answered_alone does did = elim visit as
-      (λ v. IfOk v (λ output. (after : Standing) × does output after × stands after) → OnErr v (stands (Rests content)) → IfOk v (λ output. told ≡ output) → OnErr v (IfOk told (λ a. a ≡ failed (no_file_line file)))
-      → IsTried stands does told ⊎ IsNotConnected stands content file told) [
-        | Ok output ↦ λ did same is other. inl (record { after = did.0; then_stands = did.2; did = subst (λ t. does t did.0) (sym is) did.1 })
-        | Err e ↦ λ did same is other. inr (record { same = same; tells = other })
-      ] did same is other
+      (λ v. IfOk v (λ output. (after : Standing) × does output after × stands after) → OnErr v (stands (Rests content)) → IfErr v (λ e. e ≡ NoFile → refuses file)
+      → IfOk v (λ output. told ≡ output) → IfErr v (λ e. IfOk told (λ a. (e ≡ NoFile) × (a ≡ failed (no_file_line file))))
+      → IsTried stands does told ⊎ IsNotConnected refuses stands content file told) [
+        | Ok output ↦ λ did same why is other. inl (record { after = did.0; then_stands = did.2; did = subst (λ t. does t did.0) (sym is) did.1 })
+        | Err e ↦ λ did same why is other. inr (record { same = same; tells = IfOk-weaker told _ _ (λ a says. (why says.0, says.1)) other })
+      ] did same why is other
 
 -- what a failed visit leaves
 pub same_left : {T E : Type 0} (visit : Result T E) (before after : List ℕ → Standing → Type 0) (name : List ℕ) (standing : Standing)

@@ -18,7 +18,7 @@ use Rattle.wh_admission.specs.declared.command.Reply.{Reply}
 use Rattle.wh_engine.specs.declared.fault.Fault.{Fault}
 use Rattle.wh_engine.specs.declared.fault.Fault.TheVariants as fault
 use Rattle.wh_program.specs.Answer.{Printed, refused, failed, line, no_file_line, status_code}
-use Rattle.wh_program.specs.Inputs.{Files}
+use Rattle.wh_program.specs.Inputs.{Files, Refusals}
 use Rattle.wh_program.specs.Reply.{reply_answer, refused_line, fault_answer}
 use Rattle.wh_program.specs.Standing.{Content, Holds, Standing, Rests, LeftAt}
 use Rattle.wh_program.specs.Warehouse.{Told, printed, Opens, IsTried, IsCommandOf, IsNotConnected}
@@ -99,23 +99,23 @@ pub record IsNotSent (stands : Standing → Type 0) (content : Content) (told : 
   pub same : stands (Rests content)
   pub tells : IfOk told Tells
 
--- these commands were sent to the warehouse in a file, or that can't be connected
-abbrev pub AnswersSent : (Standing → Type 0) → Content → (file : List ℕ) → List Command → Told → Type 0
-AnswersSent stands content file sent told = IsTried stands (Opens (IsDelivered sent) content) told ⊎ IsNotConnected stands content file told
+-- these commands were sent to the warehouse in a file, or the host refuses its name
+abbrev pub AnswersSent : Refusals → (Standing → Type 0) → Content → (file : List ℕ) → List Command → Told → Type 0
+AnswersSent refuses stands content file sent told = IsTried stands (Opens (IsDelivered sent) content) told ⊎ IsNotConnected refuses stands content file told
 
 -- all commands of these entries were, or an input isn't there
-abbrev pub AnswersListed : Files → (Standing → Type 0) → Content → (file : List ℕ) → List ManifestEntry → Told → Type 0
-AnswersListed holds stands content file entries told =
-    ((sent : List Command) × AreCommandsOf holds entries sent × AnswersSent stands content file sent told)
+abbrev pub AnswersListed : Files → Refusals → (Standing → Type 0) → Content → (file : List ℕ) → List ManifestEntry → Told → Type 0
+AnswersListed holds refuses stands content file entries told =
+    ((sent : List Command) × AreCommandsOf holds entries sent × AnswersSent refuses stands content file sent told)
     ⊎ IsNotSent stands content told (λ a. (path : List ℕ) × IsFirstMissing holds entries path × (a ≡ failed (no_file_line path)))
 
 -- those of a manifest that was read, or it is a bad one
-abbrev pub AnswersRead : Files → (Standing → Type 0) → Content → (file : List ℕ) → Result (List ManifestEntry) BadManifest → Told → Type 0
-AnswersRead holds stands content file (Ok entries) told = AnswersListed holds stands content file entries told
-AnswersRead holds stands content file (Err bad) told = IsNotSent stands content told (λ a. a ≡ refused (manifest_line bad))
+abbrev pub AnswersRead : Files → Refusals → (Standing → Type 0) → Content → (file : List ℕ) → Result (List ManifestEntry) BadManifest → Told → Type 0
+AnswersRead holds refuses stands content file (Ok entries) told = AnswersListed holds refuses stands content file entries told
+AnswersRead holds refuses stands content file (Err bad) told = IsNotSent stands content told (λ a. a ≡ refused (manifest_line bad))
 
 -- A delivery of the commands that the manifest in a file lists. It is read first, then its inputs in order, and then the warehouse is opened.
-abbrev pub AnswersDelivery : Files → (Standing → Type 0) → Content → (file manifest : List ℕ) → Told → Type 0
-AnswersDelivery holds stands content file manifest told =
-    ((bytes : List ℕ) × holds manifest (Some bytes) × AnswersRead holds stands content file (manifest_of bytes) told)
+abbrev pub AnswersDelivery : Files → Refusals → (Standing → Type 0) → Content → (file manifest : List ℕ) → Told → Type 0
+AnswersDelivery holds refuses stands content file manifest told =
+    ((bytes : List ℕ) × holds manifest (Some bytes) × AnswersRead holds refuses stands content file (manifest_of bytes) told)
     ⊎ IsNotSent stands content told (λ a. holds manifest None × (a ≡ failed (no_file_line manifest)))

@@ -12,6 +12,10 @@ abbrev pub up_to : ℕ → Files → Files
 up_to most holds path None = holds path None
 up_to most holds path (Some bytes) = (whole : List ℕ) × holds path (Some whole) × (bytes ≡ take (suc most) whole)
 
+-- the names under which a host keeps no warehouse
+abbrev pub Refusals : Type 1
+Refusals = List ℕ → Type 0
+
 -- the most bytes of a batch; one of more is too large
 abbrev pub batch_limit : ℕ
 batch_limit = 1_000_000

@@ -1,12 +1,15 @@
--- Nothing is lost where an input is read to its limit and a byte.
-use Rattle.std.specs.Prelude.{◌≡◌, ℕ, suc, List, take}
+-- Nothing is lost where an input is read to its limit and a byte; and which words are those of a command.
+use Rattle.std.specs.Prelude.{◌≡◌, ◌⊎◌, ℕ, suc, List, take, true, None}
+use Rattle.std.specs.List.{list_all}
 use Rattle.wh_policy.specs.Policy.{policy_at}
 use Rattle.wh_policy.specs.declared.attribute.Dim.{Dim}
 use Rattle.wh_policy.specs.declared.policy.Policy.{Policy}
 use Rattle.wh_batch.specs.declared.kind.CommandKind.{CommandKind}
 use Rattle.wh_admission.specs.Admission.{content_of}
 use Rattle.wh_program.specs.Answer.{trial_rows}
+use Rattle.wh_program.specs.CommandLine.{CommandLine, Says, is_operand}
 use Rattle.wh_program.specs.Inputs.{batch_limit, policy_limit, input_limit}
+use Rattle.wh_program.specs.Task.{asked_by, no_line, task_of}
 
 -- a policy is what is read so
 abbrev pub PoliciesAreReadSo : Type 0
@@ -19,3 +22,13 @@ TrialsAreReadSo = (dim : Dim) (policy : Policy) (bytes : List ℕ) → trial_row
 -- a command says what its input says that is read so
 abbrev pub CommandsAreReadSo : Type 0
 CommandsAreReadSo = (kind : CommandKind) (policy : Policy) (bytes : List ℕ) → content_of kind policy (take (suc (input_limit kind)) bytes) ≡ content_of kind policy bytes
+
+-- ---- words
+
+-- the words of a command ask for what it is to do, or for nothing where one of them is none of those that are listed
+abbrev pub WordsAreRead : Type 0
+WordsAreRead = (words : List (List ℕ)) (line : CommandLine) → Says words line → asked_by words ≡ no_line (task_of line)
+
+-- words none of which is an option are those of a command, or they ask for nothing
+abbrev pub OtherWordsAreNone : Type 0
+OtherWordsAreNone = (words : List (List ℕ)) → list_all is_operand words ≡ true → ((line : CommandLine) × Says words line) ⊎ (asked_by words ≡ None)

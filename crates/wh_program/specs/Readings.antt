@@ -18,6 +18,7 @@ use Rattle.wh_report.specs.declared.output.ReportFault.{ReportFault}
 use Rattle.wh_report.specs.declared.output.ReportFault.TheVariants as report
 use Rattle.wh_report.specs.declared.request.RequestFault.{RequestFault}
 use Rattle.wh_program.specs.Answer.{Printed, done, refused, write_line}
+use Rattle.wh_program.specs.Inputs.{Refusals}
 use Rattle.wh_program.specs.Reply.{fault_answer, request_line, report_fault_answer}
 use Rattle.wh_program.specs.Run.{Prints}
 use Rattle.wh_program.specs.Standing.{Content, Holds, Standing, Rests, LeftAt}
@@ -52,8 +53,8 @@ pub record IsReported (words : ReportWords) (limits : Limits) (commands : List A
   pub leaves : LeavesRead limits commands read after
   pub tells : IfOk told (λ a. a ≡ read_answer read (asked_answer commands (asked_under (current_policy commands) words)))
 
-abbrev pub AnswersReport : (Standing → Type 0) → Content → (file : List ℕ) → ReportWords → Told → Type 0
-AnswersReport stands content file words told = IsTried stands (Opens (IsReported words) content) told ⊎ IsNotConnected stands content file told
+abbrev pub AnswersReport : Refusals → (Standing → Type 0) → Content → (file : List ℕ) → ReportWords → Told → Type 0
+AnswersReport refuses stands content file words told = IsTried stands (Opens (IsReported words) content) told ⊎ IsNotConnected refuses stands content file told
 
 -- ---- dump
 
@@ -83,11 +84,12 @@ pub record IsDumped (table : Table) (limits : Limits) (commands : List Accepted)
   pub leaves : LeavesRead limits commands read after
   pub tells : TellsText (text_of_table table tables) read told
 
-abbrev pub AnswersDump : (Standing → Type 0) → Content → (file : List ℕ) → Table → Told → Type 0
-AnswersDump stands content file table told = IsTried stands (Opens (IsDumped table) content) told ⊎ IsNotConnected stands content file told
+abbrev pub AnswersDump : Refusals → (Standing → Type 0) → Content → (file : List ℕ) → Table → Told → Type 0
+AnswersDump refuses stands content file table told = IsTried stands (Opens (IsDumped table) content) told ⊎ IsNotConnected refuses stands content file told
 
 -- what ended a dump is said after what went out of it: that the writer failed, as far as it could still be written, or the line of the fault
 abbrev pub SaysStop : ReportFault → Option (List ℕ) → Option (List ℕ) → ℕ → Type 0
 SaysStop report.Write old new code = (code ≡ 3) × ((told : ℕ) × Appends old new (take told write_line))
 SaysStop (report.Warehouse why) old new code = (line : Told) × IfOk line (λ a. a ≡ fault_answer why) × Prints old new code (printed line)
+SaysStop (report.Unwritten why) old new code = (line : Told) × IfOk line (λ a. a ≡ fault_answer why) × Prints old new code (printed line)
 SaysStop (report.Inconsistent table) old new code = (line : Told) × IfOk line (λ a. a ≡ report_fault_answer (report.Inconsistent table)) × Prints old new code (printed line)

@@ -119,6 +119,7 @@ request_line request.BadRange = line (codes "refused: G3 bad range")
 abbrev pub report_fault_answer : ReportFault → Printed
 report_fault_answer report.Write = failed write_line
 report_fault_answer (report.Warehouse fault) = fault_answer fault
+report_fault_answer (report.Unwritten fault) = fault_answer fault
 report_fault_answer (report.Inconsistent table) = failed (damaged_line table)
 
 abbrev pub report_answer : Result (Vec ℕ Global) ReportFault → Printed

@@ -1,6 +1,8 @@
 -- What the words of the command line ask for.
-use Rattle.std.specs.Prelude.{◌≡◌, ℕ, List, Option, Some, None, option_map, Result, Ok, Err, string_bytes}
+use Rattle.std.specs.Prelude.{◌≡◌, ◌≢◌, ℕ, List, [], ◌∷◌, Option, Some, None, option_map, Result, Ok, Err, string_bytes}
 use Rattle.std.specs.Borrow.{Bor}
+use Rattle.clap.specs.Words.{IsAmong, Kinds}
+use Rattle.clap.specs.declared.error.kind.ErrorKind.TheVariants.{DisplayHelp}
 use Rattle.wh_program.specs.CommandLine.{CommandLine, Sent}
 use Rattle.wh_program.specs.CommandLine as line
 use Rattle.wh_program.specs.Task.{Task, ReportWords, task_of}
@@ -60,3 +62,14 @@ asked_in (request.Help text) = None
 -- the request is what the command line asks for
 abbrev pub Asks : CommandLine → Request → Type 0
 Asks line request = asked_in request ≡ Some (task_of line)
+
+-- the words are no command: help is what they asked for, or what is wrong with them is told
+abbrev pub IsDeclined : Kinds → Request → Type 0
+IsDeclined faults (request.Task t) = ⊥
+IsDeclined faults (request.Help text) = IsAmong DisplayHelp faults
+IsDeclined faults (request.Usage text) = faults ≢ DisplayHelp ∷ []
+
+-- the request is what the words ask for, or they ask for nothing
+abbrev pub IsReadAs : Option Task → Kinds → Request → Type 0
+IsReadAs (Some t) faults request = asked_in request ≡ Some (Ok t)
+IsReadAs None faults request = IsDeclined faults request

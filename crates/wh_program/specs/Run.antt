@@ -1,7 +1,9 @@
 -- What goes out of a run.
-use Rattle.std.specs.Prelude.{◌≡◌, ◌<◌, ◌⊎◌, ℕ, List, ◌++◌, Option, length, take}
+use Rattle.std.specs.Prelude.{◌≡◌, ◌≢◌, ◌<◌, ◌⊎◌, ℕ, List, [], ◌∷◌, ◌++◌, Option, length, take}
 use Rattle.std.specs.Io.KnownBytes.{Appends}
-use Rattle.wh_program.specs.Answer.{Printed, failed, memory_line, write_line}
+use Rattle.clap.specs.Words.{IsAmong, Kinds}
+use Rattle.clap.specs.declared.error.kind.ErrorKind.TheVariants.{DisplayHelp}
+use Rattle.wh_program.specs.Answer.{Printed, done, wrong_words, failed, memory_line, write_line}
 
 -- the answer when memory ran out
 abbrev pub out_of_memory : Printed
@@ -23,3 +25,7 @@ pub record IsCutOff (old new : Option (List ℕ)) (code : ℕ) (answer : Printed
 -- what went out, and the status, are those of the answer
 abbrev pub Prints : Option (List ℕ) → Option (List ℕ) → ℕ → Printed → Type 0
 Prints old new status answer = PrintsWhole old new status answer ⊎ IsCutOff old new status answer
+
+-- Words that are no command: help is the answer, where they ask for it, and else what is wrong with them. The text is clap's.
+abbrev pub Declines : Kinds → Printed → Type 0
+Declines faults answer = (text : List ℕ) × ((IsAmong DisplayHelp faults × (answer ≡ done text)) ⊎ ((faults ≢ DisplayHelp ∷ []) × (answer ≡ wrong_words text)))

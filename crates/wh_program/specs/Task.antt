@@ -1,5 +1,5 @@
 -- What the words of a command are to do.
-use Rattle.std.specs.Prelude.{ℕ, List, Option, Some, None, option_map, Result, Ok, Err}
+use Rattle.std.specs.Prelude.{ℕ, List, [], ◌∷◌, Option, Some, None, option_map, Result, Ok, Err}
 use Rattle.wh_policy.specs.declared.attribute.Dim.{Dim}
 use Rattle.wh_policy.specs.Words.{dim_of_word}
 use Rattle.wh_batch.specs.declared.kind.Kind.{Kind}
@@ -8,11 +8,12 @@ use Rattle.wh_batch.specs.Kind.{kind_of_word, command_kind_of}
 use Rattle.wh_report.specs.declared.mode.Mode.{Mode}
 use Rattle.wh_report.specs.Words.{mode_of_word}
 use Rattle.std.specs.Option.{option_and_then}
+use Rattle.clap.specs.Words.{Kinds, fault_of, subcommand_of}
 use Rattle.wh_rows.specs.declared.table.Table.{Table}
 use Rattle.wh_rows.specs.declared.table.Table.TheVariants.{Fact2, Void}
 use Rattle.wh_rows.specs.Names.{table_named}
 use Rattle.wh_program.specs.Answer.{no_dimension_line, no_kind_line, no_command_kind_line, no_mode_line, no_table_line}
-use Rattle.wh_program.specs.CommandLine.{CommandLine}
+use Rattle.wh_program.specs.CommandLine.{CommandLine, program_app, named}
 use Rattle.wh_program.specs.CommandLine as line
 
 -- the words of a report: the attribute, the mode, and the first and the last day, as they were given
@@ -76,3 +77,22 @@ task_of (line.Report file attribute mode from to) = report_asked file attribute 
 task_of (line.Dump file table) = dump_asked file table
 task_of (line.Check file) = Ok (Check file)
 task_of (line.Status file) = Ok (Status file)
+
+-- ---- any words
+
+-- what clap finds wrong with words, a call for help among it; nothing, where it takes them
+unfoldable pub faults_in : List (List ℕ) → Kinds
+faults_in words = fault_of program_app words
+
+abbrev pub when_none : Kinds → Option Task → Option Task
+when_none [] task = task
+when_none (fault ∷ faults) task = None
+
+abbrev pub no_line : Result Task (List ℕ) → Option Task
+no_line (Ok task) = Some task
+no_line (Err line) = None
+
+-- What any words ask for, as clap reads them: it lets an option stand anywhere, and operands behind `--`. Words are no command where it finds a fault or no command in them, or where one of
+-- them is none of those that are listed.
+unfoldable pub asked_by : List (List ℕ) → Option Task
+asked_by words = when_none (faults_in words) (option_and_then (λ line. no_line (task_of line)) (named (subcommand_of program_app words)))

@@ -4,7 +4,7 @@ use Rattle.wh_batch.specs.declared.kind.CommandKind.TheVariants.{Batch, Migratio
 use Rattle.wh_program.specs.Answer.{AnswersTrial}
 use Rattle.wh_program.specs.Check.{AnswersCheck}
 use Rattle.wh_program.specs.Delivery.{AnswersDelivery}
-use Rattle.wh_program.specs.Inputs.{Files, up_to, batch_limit, policy_limit, input_limit}
+use Rattle.wh_program.specs.Inputs.{Files, Refusals, up_to, batch_limit, policy_limit, input_limit}
 use Rattle.wh_program.specs.Readings.{AnswersReport, AnswersDump}
 use Rattle.wh_program.specs.Standing.{Content, IsOfCommands, Standing, Rests}
 use Rattle.wh_program.specs.Task.{Task, Trial, Init, Load, Migrate, Deliver, Plan, Report, Dump, Check, Status}
@@ -22,15 +22,15 @@ RunsOver before file answers prints = (content : Content) → before file (Rests
 abbrev pub RunsOverCommands : Stores → (file : List ℕ) → (Content → Told → Type 0) → (Told → Type 0) → Type 0
 RunsOverCommands before file answers prints = (content : Content) → IsOfCommands content → before file (Rests content) → (told : Told) × answers content told × prints told
 
--- What is answered and printed, by the files that a host holds, each as far as it is read, and by what it stores before and after.
-abbrev pub Runs : Files → (before after : Stores) → (prints : Told → Type 0) → Task → Type 0
-Runs holds before after prints (Trial dim path policy) = (told : Told) × IfOk told (AnswersTrial holds dim path policy) × prints told
-Runs holds before after prints (Init file policy) = RunsOver before file (λ content told. AnswersWith (up_to policy_limit holds) (after file) Makes content file policy told) prints
-Runs holds before after prints (Load file kind id path) = RunsOver before file (λ content told. AnswersWith (up_to batch_limit holds) (after file) (Sends (Batch kind) id) content file path told) prints
-Runs holds before after prints (Migrate file id policy) = RunsOver before file (λ content told. AnswersWith (up_to policy_limit holds) (after file) (Sends Migration id) content file policy told) prints
-Runs holds before after prints (Deliver file manifest) = RunsOver before file (λ content told. AnswersDelivery holds (after file) content file manifest told) prints
-Runs holds before after prints (Plan file kind id path) = RunsOver before file (λ content told. AnswersWith (up_to (input_limit kind) holds) (after file) (Plans kind id) content file path told) prints
-Runs holds before after prints (Report file words) = RunsOver before file (λ content told. AnswersReport (after file) content file words told) prints
-Runs holds before after prints (Dump file table) = RunsOverCommands before file (λ content told. AnswersDump (after file) content file table told) prints
-Runs holds before after prints (Check file) = RunsOver before file (λ content told. AnswersCheck (after file) content file told) prints
-Runs holds before after prints (Status file) = RunsOver before file (λ content told. AnswersStatus (after file) content file told) prints
+-- What is answered and printed, by the files that a host holds, each as far as it is read, by the names that it refuses, and by what it stores before and after.
+abbrev pub Runs : Files → Refusals → (before after : Stores) → (prints : Told → Type 0) → Task → Type 0
+Runs holds refuses before after prints (Trial dim path policy) = (told : Told) × IfOk told (AnswersTrial holds dim path policy) × prints told
+Runs holds refuses before after prints (Init file policy) = RunsOver before file (λ content told. AnswersWith (up_to policy_limit holds) refuses (after file) Makes content file policy told) prints
+Runs holds refuses before after prints (Load file kind id path) = RunsOver before file (λ content told. AnswersWith (up_to batch_limit holds) refuses (after file) (Sends (Batch kind) id) content file path told) prints
+Runs holds refuses before after prints (Migrate file id policy) = RunsOver before file (λ content told. AnswersWith (up_to policy_limit holds) refuses (after file) (Sends Migration id) content file policy told) prints
+Runs holds refuses before after prints (Deliver file manifest) = RunsOver before file (λ content told. AnswersDelivery holds refuses (after file) content file manifest told) prints
+Runs holds refuses before after prints (Plan file kind id path) = RunsOver before file (λ content told. AnswersWith (up_to (input_limit kind) holds) refuses (after file) (Plans kind id) content file path told) prints
+Runs holds refuses before after prints (Report file words) = RunsOver before file (λ content told. AnswersReport refuses (after file) content file words told) prints
+Runs holds refuses before after prints (Dump file table) = RunsOverCommands before file (λ content told. AnswersDump refuses (after file) content file table told) prints
+Runs holds refuses before after prints (Check file) = RunsOver before file (λ content told. AnswersCheck refuses (after file) content file told) prints
+Runs holds refuses before after prints (Status file) = RunsOver before file (λ content told. AnswersStatus refuses (after file) content file told) prints

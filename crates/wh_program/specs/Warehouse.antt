@@ -28,7 +28,7 @@ use Rattle.wh_store.specs.Raw.{FormatIs}
 use Rattle.wh_store.specs.declared.fault.OpenFault.{OpenFault}
 use Rattle.wh_store.specs.declared.fault.OpenFault.TheVariants as opening
 use Rattle.wh_program.specs.Answer.{Printed, done, failed, no_file_line}
-use Rattle.wh_program.specs.Inputs.{Files, up_to, input_limit}
+use Rattle.wh_program.specs.Inputs.{Files, Refusals, up_to, input_limit}
 use Rattle.wh_program.specs.Reply.{sent_answer, plan_answer, opening_answer, status_answer, making_answer, made_line}
 use Rattle.wh_program.specs.Run.{out_of_memory}
 use Rattle.wh_program.specs.Standing.{Content, Nothing, Holds, Keeps, Standing, Unknown, Rests, LeftAt}
@@ -178,19 +178,23 @@ pub record IsTriedWith (holds : Files) (stands : Standing → Type 0) (does : Li
   pub held : holds path (Some bytes)
   pub tried : IsTried stands (does bytes) told
 
--- its input isn't there, or the warehouse's file can't be connected, or memory ran out before; nothing changed
-pub record IsNotTried (holds : Files) (stands : Standing → Type 0) (content : Content) (file path : List ℕ) (told : Told) : Type 0 where
-  pub same : stands (Rests content)
-  pub tells : IfOk told (λ a. (holds path None × (a ≡ failed (no_file_line path))) ⊎ (a ≡ failed (no_file_line file)))
+-- the host refuses the warehouse's name, and its line is the answer
+abbrev pub IsRefused : Refusals → (file : List ℕ) → Printed → Type 0
+IsRefused refuses file answer = refuses file × (answer ≡ failed (no_file_line file))
 
--- a word with no input: the warehouse's file can't be connected, or memory ran out before; nothing changed
-pub record IsNotConnected (stands : Standing → Type 0) (content : Content) (file : List ℕ) (told : Told) : Type 0 where
+-- its input isn't there, or the host refuses the warehouse's name, or memory ran out before; nothing changed
+pub record IsNotTried (holds : Files) (refuses : Refusals) (stands : Standing → Type 0) (content : Content) (file path : List ℕ) (told : Told) : Type 0 where
   pub same : stands (Rests content)
-  pub tells : IfOk told (λ a. a ≡ failed (no_file_line file))
+  pub tells : IfOk told (λ a. (holds path None × (a ≡ failed (no_file_line path))) ⊎ IsRefused refuses file a)
+
+-- a word with no input: the host refuses the warehouse's name, or memory ran out before; nothing changed
+pub record IsNotConnected (refuses : Refusals) (stands : Standing → Type 0) (content : Content) (file : List ℕ) (told : Told) : Type 0 where
+  pub same : stands (Rests content)
+  pub tells : IfOk told (IsRefused refuses file)
 
 -- what a word with an input answers and leaves
-abbrev pub AnswersWith : Files → (Standing → Type 0) → (List ℕ → Content → Told → Standing → Type 0) → Content → (file path : List ℕ) → Told → Type 0
-AnswersWith holds stands does content file path told = IsTriedWith holds stands (λ bytes. does bytes content) path told ⊎ IsNotTried holds stands content file path told
+abbrev pub AnswersWith : Files → Refusals → (Standing → Type 0) → (List ℕ → Content → Told → Standing → Type 0) → Content → (file path : List ℕ) → Told → Type 0
+AnswersWith holds refuses stands does content file path told = IsTriedWith holds stands (λ bytes. does bytes content) path told ⊎ IsNotTried holds refuses stands content file path told
 
 -- a load of the batch of a file, or a migration to its policy
 abbrev pub Sends : CommandKind → (id bytes : List ℕ) → Content → Told → Standing → Type 0
@@ -200,5 +204,5 @@ Sends kind id bytes = Opens (IsReplied (record { id = id; kind = kind; bytes = b
 abbrev pub Plans : CommandKind → (id bytes : List ℕ) → Content → Told → Standing → Type 0
 Plans kind id bytes = Opens (IsForetold (record { id = id; kind = kind; bytes = bytes }))
 
-abbrev pub AnswersStatus : (Standing → Type 0) → Content → (file : List ℕ) → Told → Type 0
-AnswersStatus stands content file told = IsTried stands (Opens IsCounted content) told ⊎ IsNotConnected stands content file told
+abbrev pub AnswersStatus : Refusals → (Standing → Type 0) → Content → (file : List ℕ) → Told → Type 0
+AnswersStatus refuses stands content file told = IsTried stands (Opens IsCounted content) told ⊎ IsNotConnected refuses stands content file told

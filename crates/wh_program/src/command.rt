@@ -1,11 +1,11 @@
 //! What the words of the command line ask for.
 
 ghost use Rattle.std.specs.Prelude.{◌≡◌, IfOk, IfErr, IsErr, Some, Ok, Err, map, option_map, true};
-ghost use Rattle.clap.specs.Words.{first_of, found_of, rows_of, subcommand_rows_of, kind_of, takes, subcommand_of};
+ghost use Rattle.clap.specs.Words.{FailsBy, HasKind, Kinds, first_of, found_of, rows_of, subcommand_rows_of, kind_of, takes, subcommand_of};
 ghost use Rattle.clap.specs.declared.error.ErrorKind.TheVariants.{OutOfMemory};
 ghost use Rattle.wh_program.specs.CommandLine.{CommandLine, program_app, words_of, has_operands, named, named_trial, named_init, named_sent, named_load, named_migrate, named_deliver, named_plan, named_report, named_dump, named_check, named_status};
-ghost use Rattle.wh_program.specs.Request.{text_of, sent_of, line_of, asked_in, Asks};
-ghost use Rattle.wh_program.specs.Task.{trial_asked, load_asked, plan_asked, report_asked, of_first, table_asked, dump_asked};
+ghost use Rattle.wh_program.specs.Request.{text_of, sent_of, line_of, asked_in, Asks, IsDeclined, IsReadAs};
+ghost use Rattle.wh_program.specs.Task.{trial_asked, load_asked, plan_asked, report_asked, of_first, table_asked, dump_asked, faults_in, asked_by};
 
 use crate::lines::{
     NO_COMMAND_KIND_LINE, NO_COMMAND_LINE, NO_DIMENSION_LINE, NO_KIND_LINE, NO_MODE_LINE,
@@ -103,6 +103,7 @@ pub enum Request<'a> {
 fn matches_of<'a, S: AsStr>(alloc: Global, words: &'a [S]) -> Result<ArgMatches<'a>, clap::Error>
     ensures ok { IfOk result (λ matches. subcommand_rows_of matches ≡ subcommand_of program_app (map S.text words.now)) }
     ensures err { takes program_app (map S.text words.now) ≡ true → IfErr result (λ e. kind_of e ≡ OutOfMemory) }
+    ensures faults { FailsBy (faults_in (map S.text words.now)) result }
 {
     program_command(alloc)?.try_get_matches_from(words)
 }
@@ -290,7 +291,8 @@ fn operands_of<'a>(matches: &ArgMatches<'a>) -> Option<Operands<'a>>
 
 /// The request that an error of `clap` stands for: help, or a mistake in the words.
 fn declined<'a>(alloc: Global, error: &clap::Error) -> Result<Request<'a>, AllocError>
-    ensures { kind_of error.now ≡ OutOfMemory → IsErr result }
+    ensures memory { kind_of error.now ≡ OutOfMemory → IsErr result }
+    ensures declined { (faults : Kinds) → HasKind faults error.now → IfOk result (IsDeclined faults) }
 {
     match error.kind() {
         ErrorKind::OutOfMemory => Err(AllocError),
@@ -427,7 +429,10 @@ fn requested<'a>(alloc: Global, operands: Operands<'a>) -> Result<Request<'a>, A
 
 /// What the words after the program's name ask for.
 pub fn parse<'a, S: AsStr>(alloc: Global, words: &'a [S]) -> Result<Request<'a>, AllocError>
-    ensures { IfOk result (λ request. (line : CommandLine) → map S.text words.now ≡ words_of line → has_operands line ≡ true → Asks line request) }
+    // The words of a command ask for what it is to do.
+    ensures said { IfOk result (λ request. (line : CommandLine) → map S.text words.now ≡ words_of line → has_operands line ≡ true → Asks line request) }
+    // Any words ask for what clap reads in them, or are declined.
+    ensures read { IfOk result (IsReadAs (asked_by (map S.text words.now)) (faults_in (map S.text words.now))) }
 {
     match matches_of(alloc, words) {
         Ok(matches) => match operands_of(&matches) {

@@ -82,7 +82,7 @@ fn deliver_commands<H: Host>(
     commands: Vec<Command>,
     host: &mut H,
 ) -> Result<Answer, AllocError>
-    ensures { (content : Content) → H.stores host.old file.now (Rests content) → AnswersSent (H.stores host.new file.now) content file.now commands.items result }
+    ensures { (content : Content) → H.stores host.old file.now (Rests content) → AnswersSent (H.refuses host.old) (H.stores host.new file.now) content file.now commands.items result }
 {
     let room = room_for_delivery(alloc, &commands)?;
     let visit = host.with_existing(alloc, file, Delivering { commands, room }, &mut io::sink());
@@ -97,7 +97,7 @@ fn deliver_entries<H: Host>(
     host: &mut H,
 ) -> Result<Answer, AllocError>
     ensures { (content : Content) → H.stores host.old file.now (Rests content)
-        → AnswersListed (H.holds host.old) (H.stores host.new file.now) content file.now entries.now result }
+        → AnswersListed (H.holds host.old) (H.refuses host.old) (H.stores host.new file.now) content file.now entries.now result }
 {
     match commands_of(alloc, entries, host) {
         Ok(commands) => deliver_commands(alloc, file, commands, host),
@@ -114,7 +114,7 @@ pub fn deliver<H: Host>(
     host: &mut H,
 ) -> Result<Answer, AllocError>
     ensures { (content : Content) → H.stores host.old file.now (Rests content)
-        → AnswersDelivery (H.holds host.old) (H.stores host.new file.now) content file.now manifest.now result }
+        → AnswersDelivery (H.holds host.old) (H.refuses host.old) (H.stores host.new file.now) content file.now manifest.now result }
 {
     let Some(text) = whole_file_of(alloc, manifest, host)? else {
         return no_file(alloc, manifest);

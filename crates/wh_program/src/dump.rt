@@ -91,7 +91,7 @@ pub fn print_dump<H: Host, W: Write>(
     out: &mut W,
 ) -> Status
     ensures { (content : Content) → IsOfCommands content → H.stores host.old file.now (Rests content)
-        → (told : Told) × AnswersDump (H.stores host.new file.now) content file.now table told × Prints (W.contents out.old) (W.contents out.new) (status_code result) (printed told) }
+        → (told : Told) × AnswersDump (H.refuses host.old) (H.stores host.new file.now) content file.now table told × Prints (W.contents out.old) (W.contents out.new) (status_code result) (printed told) }
 {
     match host.with_existing(alloc, file, Dumping { table }, out) {
         Ok(status) => status,

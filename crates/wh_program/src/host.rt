@@ -49,13 +49,16 @@ pub trait Host {
     /// What stands under a name as a warehouse. A host that says nothing of it knows of nothing that stands.
     ghost stores: { Self → List ℕ → Standing → Type 0 } = { λ _ _ _. ⊥ };
 
+    /// The names under which it keeps no warehouse. A host that says nothing of them may refuse any.
+    ghost refuses: { Self → List ℕ → Type 0 } = { λ _ _. ⊤ };
+
     /// Reads a file of which no more than `most` bytes are wanted: a longer one is read a byte further, and no more.
     fn read(&self, alloc: Global, path: &str, most: usize) -> Result<Vec<u8>, HostError>
         ensures ok { IfOk result (λ bytes. up_to most (holds self.now) path.now (Some bytes.items)) }
         ensures err { IfErr result (λ e. e ≡ NoFile → holds self.now path.now None) };
 
     /// Lends a visitor the connection of the warehouse under a name, with a writer, and takes it back. Where no file has the name, the
-    /// connection is that of a new one.
+    /// connection is that of a new one. None is lent under a name that is refused.
     fn with_connection<V: Visitor, W: Write>(
         &mut self,
         alloc: Global,
@@ -65,6 +68,7 @@ pub trait Host {
     ) -> Result<V::Output, HostError>
         ensures visited { (content : Content) → stores self.old name.now (Rests content)
             → IfOk result (λ output. (after : Standing) × V.promises visitor content output (W.contents out.old) (W.contents out.new) after × stores self.new name.now after) }
+        ensures refused { IfErr result (λ e. e ≡ NoFile → refuses self.old name.now) }
         ensures not_printed { OnErr result (W.contents out.new ≡ W.contents out.old) }
         ensures not_visited { OnErr result ((any : List ℕ) (standing : Standing) → stores self.old any standing → stores self.new any standing) }
         ensures others { (other : List ℕ) (standing : Standing) → other ≢ name.now → stores self.old other standing → stores self.new other standing };
@@ -80,6 +84,7 @@ pub trait Host {
     ) -> Result<V::Output, HostError>
         ensures visited { (content : Content) → stores self.old name.now (Rests content)
             → IfOk result (λ output. (after : Standing) × V.promises visitor content output (W.contents out.old) (W.contents out.new) after × stores self.new name.now after) }
+        ensures refused { IfErr result (λ e. e ≡ NoFile → refuses self.old name.now) }
         ensures not_printed { OnErr result (W.contents out.new ≡ W.contents out.old) }
         ensures not_visited { OnErr result ((any : List ℕ) (standing : Standing) → stores self.old any standing → stores self.new any standing) }
         ensures others { (other : List ℕ) (standing : Standing) → other ≢ name.now → stores self.old other standing → stores self.new other standing };

@@ -1,6 +1,6 @@
-//! Laws of the inputs of a run. They speak of the definitions alone and do nothing.
+//! Laws of the inputs and the words of a run. They speak of the definitions alone and do nothing.
 
-ghost use Rattle.wh_program.specs.Laws.{PoliciesAreReadSo, TrialsAreReadSo, CommandsAreReadSo};
+ghost use Rattle.wh_program.specs.Laws.{PoliciesAreReadSo, TrialsAreReadSo, CommandsAreReadSo, WordsAreRead, OtherWordsAreNone};
 
 /// Nothing is lost where an input is read to its limit and a byte: a policy, a trial's batch and a command are what the whole file makes
 /// them.
@@ -8,4 +8,10 @@ pub fn inputs_are_told_by_their_beginnings()
     ensures policies { PoliciesAreReadSo }
     ensures trials { TrialsAreReadSo }
     ensures commands { CommandsAreReadSo }
+{}
+
+/// The words of a command ask for what it is to do. Of words none of which begins with a hyphen all others ask for nothing.
+pub fn words_of_commands_are_read()
+    ensures read { WordsAreRead }
+    ensures others { OtherWordsAreNone }
 {}

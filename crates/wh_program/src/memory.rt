@@ -169,6 +169,9 @@ impl Host for MemoryHost {
 
     ghost stores = { λ host name standing. (file_named host.files.items name ≡ None) × IsKept standing (kept_named host.kept.items name) };
 
+    /// No warehouse is kept under a file's name.
+    ghost refuses = { λ host name. file_named host.files.items name ≢ None };
+
     fn read(&self, alloc: Global, path: &str, most: usize) -> Result<Vec<u8>, HostError> {
         match find(&self.files, path) {
             Some(bytes) => copied(alloc, beginning_of(bytes.as_slice(), most)),

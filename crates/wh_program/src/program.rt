@@ -1,11 +1,12 @@
 //! One run of the program.
 
-ghost use Rattle.std.specs.Prelude.{◌≡◌, ◌≢◌, ◌⊎◌, ℕ, List, Some, Ok, Err, map};
-ghost use Rattle.wh_program.specs.Answer.{status_code, wrong_words, no_text_line};
+ghost use Rattle.std.specs.Prelude.{◌≡◌, ◌≢◌, ◌⊎◌, ℕ, List, Some, None, Ok, Err, map};
+ghost use Rattle.clap.specs.Words.{Kinds};
+ghost use Rattle.wh_program.specs.Answer.{Printed, status_code, wrong_words, no_text_line};
 ghost use Rattle.wh_program.specs.CommandLine.{CommandLine, Says};
-ghost use Rattle.wh_program.specs.Request.{asked_in, task_in};
-ghost use Rattle.wh_program.specs.Run.{Prints, out_of_memory};
-ghost use Rattle.wh_program.specs.Task.{Task as TaskAsked, task_of};
+ghost use Rattle.wh_program.specs.Request.{IsDeclined, asked_in, task_in};
+ghost use Rattle.wh_program.specs.Run.{Declines, Prints, out_of_memory};
+ghost use Rattle.wh_program.specs.Task.{Task as TaskAsked, asked_by, faults_in, task_of};
 ghost use Rattle.wh_program.specs.Tasks.{Runs};
 ghost use Rattle.wh_program.specs.Warehouse.{printed};
 
@@ -28,7 +29,7 @@ use wh_batch::CommandKind;
 
 /// Does what the words of a command ask for, and prints the answer.
 fn run_task<H: Host, W: Write>(alloc: Global, task: Task, host: &mut H, out: &mut W) -> Status
-    ensures { Runs (H.holds host.old) (H.stores host.old) (H.stores host.new) (λ told. Prints (W.contents out.old) (W.contents out.new) (status_code result) (printed told)) (task_in task.entry) }
+    ensures { Runs (H.holds host.old) (H.refuses host.old) (H.stores host.old) (H.stores host.new) (λ told. Prints (W.contents out.old) (W.contents out.new) (status_code result) (printed told)) (task_in task.entry) }
 {
     match task {
         Task::Trial { dim, path, policy } => {
@@ -65,9 +66,10 @@ fn run_task<H: Host, W: Write>(alloc: Global, task: Task, host: &mut H, out: &mu
 /// Answers a request.
 fn run_request<H: Host, W: Write>(alloc: Global, request: Request, host: &mut H, out: &mut W) -> u8
     ensures runs { (task : TaskAsked) → asked_in request.entry ≡ Some (Ok task)
-        → Runs (H.holds host.old) (H.stores host.old) (H.stores host.new) (λ told. Prints (W.contents out.old) (W.contents out.new) result (printed told)) task }
+        → Runs (H.holds host.old) (H.refuses host.old) (H.stores host.old) (H.stores host.new) (λ told. Prints (W.contents out.old) (W.contents out.new) result (printed told)) task }
     ensures right_words { (task : TaskAsked) → asked_in request.entry ≡ Some (Ok task) → result ≢ 4 }
-    ensures wrong_words { (line : List ℕ) → asked_in request.entry ≡ Some (Err line) → Prints (W.contents out.old) (W.contents out.new) result (wrong_words line) }
+    ensures wrong_words { (line : List ℕ) → asked_in request.entry ≡ Some (Err line) → (host.new ≡ host.old) × Prints (W.contents out.old) (W.contents out.new) result (wrong_words line) }
+    ensures declined { (faults : Kinds) → IsDeclined faults request.entry → (host.new ≡ host.old) × ((answer : Printed) × Declines faults answer × Prints (W.contents out.old) (W.contents out.new) result answer) }
 {
     match request {
         Request::Task(task) => run_task(alloc, task, host, out).code(),
@@ -80,12 +82,19 @@ fn run_request<H: Host, W: Write>(alloc: Global, request: Request, host: &mut H,
 pub fn run<S: AsStr, H: Host, W: Write>(alloc: Global, words: &[S], host: &mut H, out: &mut W) -> u8
     // What each command prints, with its status, and what it leaves under the name of a warehouse.
     ensures runs { (line : CommandLine) (task : TaskAsked) → Says (map S.text words.now) line → task_of line ≡ Ok task
-        → Runs (H.holds host.old) (H.stores host.old) (H.stores host.new) (λ told. Prints (W.contents out.old) (W.contents out.new) result (printed told)) task }
+        → Runs (H.holds host.old) (H.refuses host.old) (H.stores host.old) (H.stores host.new) (λ told. Prints (W.contents out.old) (W.contents out.new) result (printed told)) task }
     // Its words are right, and no run of it ends as wrong words do.
     ensures right_words { (line : CommandLine) (task : TaskAsked) → Says (map S.text words.now) line → task_of line ≡ Ok task → result ≢ 4 }
-    // Where one of its words is none of those that are listed, the line that says so is printed.
-    ensures wrong_words { (line : CommandLine) (wrong : List ℕ) → Says (map S.text words.now) line → task_of line ≡ Err wrong
-        → Prints (W.contents out.old) (W.contents out.new) result (wrong_words wrong) ⊎ Prints (W.contents out.old) (W.contents out.new) result out_of_memory }
+    // Where one of its words is none of those that are listed, the line that says so is printed, and the host is as it was.
+    ensures wrong_words { (line : CommandLine) (wrong : List ℕ) → Says (map S.text words.now) line → task_of line ≡ Err wrong → (host.new ≡ host.old)
+        × (Prints (W.contents out.old) (W.contents out.new) result (wrong_words wrong) ⊎ Prints (W.contents out.old) (W.contents out.new) result out_of_memory) }
+    // Any words in which clap reads a command are run as that command.
+    ensures reads { (task : TaskAsked) → asked_by (map S.text words.now) ≡ Some task
+        → Runs (H.holds host.old) (H.refuses host.old) (H.stores host.old) (H.stores host.new) (λ told. Prints (W.contents out.old) (W.contents out.new) result (printed told)) task × (result ≢ 4) }
+    // All other words leave the host as it was: the answer is help, where they ask for it, and else what is wrong with them.
+    ensures declines { asked_by (map S.text words.now) ≡ None → (host.new ≡ host.old)
+        × (((answer : Printed) × Declines (faults_in (map S.text words.now)) answer × Prints (W.contents out.old) (W.contents out.new) result answer)
+        ⊎ Prints (W.contents out.old) (W.contents out.new) result out_of_memory) }
 {
     match parse(alloc, words) {
         Ok(request) => run_request(alloc, request, host, out),

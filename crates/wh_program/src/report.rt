@@ -70,7 +70,7 @@ pub fn report_fault_answer(alloc: Global, fault: ReportFault) -> Result<Answer, 
 {
     match fault {
         ReportFault::Write => told(alloc, Status::Failed, "failed: G4 write\n"),
-        ReportFault::Warehouse(fault) => fault_answer(alloc, fault),
+        ReportFault::Warehouse(fault) | ReportFault::Unwritten(fault) => fault_answer(alloc, fault),
         ReportFault::Inconsistent(table) => damaged(alloc, table),
     }
 }
@@ -139,7 +139,7 @@ pub fn told_report<H: Host>(
     asked: AskedReport<'_>,
     host: &mut H,
 ) -> Result<Answer, AllocError>
-    ensures { (content : Content) → H.stores host.old file.now (Rests content) → AnswersReport (H.stores host.new file.now) content file.now (report_words asked.entry) result }
+    ensures { (content : Content) → H.stores host.old file.now (Rests content) → AnswersReport (H.refuses host.old) (H.stores host.new file.now) content file.now (report_words asked.entry) result }
 {
     let visit = host.with_existing(alloc, file, Reporting { asked }, &mut io::sink());
     answered(alloc, file, visit)

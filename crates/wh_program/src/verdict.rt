@@ -40,7 +40,7 @@ impl Visitor for Checking {
 
 /// Tells whether the warehouse in a file is what its commands define, or which table is the first that isn't.
 pub fn check<H: Host>(alloc: Global, file: &str, host: &mut H) -> Result<Answer, AllocError>
-    ensures { (content : Content) → H.stores host.old file.now (Rests content) → AnswersCheck (H.stores host.new file.now) content file.now result }
+    ensures { (content : Content) → H.stores host.old file.now (Rests content) → AnswersCheck (H.refuses host.old) (H.stores host.new file.now) content file.now result }
 {
     let visit = host.with_existing(alloc, file, Checking, &mut io::sink());
     answered(alloc, file, visit)

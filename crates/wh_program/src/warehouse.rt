@@ -1,11 +1,12 @@
 //! The commands on a warehouse in a file.
 
-ghost use Rattle.std.specs.Prelude.{◌≡◌, ◌≤◌, IfOk, OnErr, vec_capacity};
+ghost use Rattle.std.specs.Prelude.{◌≡◌, ◌≤◌, IfOk, IfErr, vec_capacity};
 ghost use Rattle.wh_program.specs.Answer.{failed, no_file_line};
 ghost use Rattle.wh_program.specs.Inputs.{up_to, policy_limit, input_limit};
 ghost use Rattle.wh_program.specs.Room.{longest_answer};
 ghost use Rattle.wh_program.specs.Standing.{Content, Standing, Rests};
 ghost use Rattle.wh_program.specs.Warehouse.{Opens, IsReplied, IsForetold, IsCounted, IsCommandOf, Makes, Sends, Plans, AnswersWith, AnswersStatus};
+ghost use Rattle.wh_program.specs.declared.host.HostError.TheVariants.{NoFile};
 
 use crate::answer::Answer;
 use crate::host::{Host, HostError, Visitor, file_of};
@@ -134,14 +135,14 @@ impl Visitor for Counting {
     }
 }
 
-/// The answer of a visit, or that the file couldn't be connected.
+/// The answer of a visit, or that the host refuses the file's name.
 pub fn answered(
     alloc: Global,
     file: &str,
     visit: Result<Result<Answer, AllocError>, HostError>,
 ) -> Result<Answer, AllocError>
     ensures visited { IfOk visit (λ told. result ≡ told) }
-    ensures not_visited { OnErr visit (IfOk result (λ answer. answer ≡ failed (no_file_line file.now))) }
+    ensures not_visited { IfErr visit (λ e. IfOk result (λ answer. (e ≡ NoFile) × (answer ≡ failed (no_file_line file.now)))) }
 {
     match visit {
         Ok(answer) => answer,
@@ -158,7 +159,7 @@ pub fn init<H: Host>(
     host: &mut H,
 ) -> Result<Answer, AllocError>
     ensures { (content : Content) → H.stores host.old file.now (Rests content)
-        → AnswersWith (up_to policy_limit (H.holds host.old)) (H.stores host.new file.now) Makes content file.now policy.now result }
+        → AnswersWith (up_to policy_limit (H.holds host.old)) (H.refuses host.old) (H.stores host.new file.now) Makes content file.now policy.now result }
 {
     let Some(text) = file_of(alloc, policy, POLICY_LIMIT, host)? else {
         return no_file(alloc, policy);
@@ -198,7 +199,7 @@ pub fn send<H: Host>(
     host: &mut H,
 ) -> Result<Answer, AllocError>
     ensures { (content : Content) → H.stores host.old file.now (Rests content)
-        → AnswersWith (up_to (input_limit kind) (H.holds host.old)) (H.stores host.new file.now) (Sends kind id.now) content file.now path.now result }
+        → AnswersWith (up_to (input_limit kind) (H.holds host.old)) (H.refuses host.old) (H.stores host.new file.now) (Sends kind id.now) content file.now path.now result }
 {
     let Some(command) = command_of(alloc, kind, id, path, host)? else {
         return no_file(alloc, path);
@@ -218,7 +219,7 @@ pub fn plan<H: Host>(
     host: &mut H,
 ) -> Result<Answer, AllocError>
     ensures { (content : Content) → H.stores host.old file.now (Rests content)
-        → AnswersWith (up_to (input_limit kind) (H.holds host.old)) (H.stores host.new file.now) (Plans kind id.now) content file.now path.now result }
+        → AnswersWith (up_to (input_limit kind) (H.holds host.old)) (H.refuses host.old) (H.stores host.new file.now) (Plans kind id.now) content file.now path.now result }
 {
     let Some(command) = command_of(alloc, kind, id, path, host)? else {
         return no_file(alloc, path);
@@ -229,7 +230,7 @@ pub fn plan<H: Host>(
 
 /// Tells how much the warehouse in a file holds.
 pub fn status<H: Host>(alloc: Global, file: &str, host: &mut H) -> Result<Answer, AllocError>
-    ensures { (content : Content) → H.stores host.old file.now (Rests content) → AnswersStatus (H.stores host.new file.now) content file.now result }
+    ensures { (content : Content) → H.stores host.old file.now (Rests content) → AnswersStatus (H.refuses host.old) (H.stores host.new file.now) content file.now result }
 {
     let visit = host.with_existing(alloc, file, Counting, &mut io::sink());
     answered(alloc, file, visit)

@@ -1,5 +1,5 @@
 -- Calls that read through an engine, one after another.
-use Rattle.std.proofs.Common.{◌≡◌, Bool, true, false, ◌||◌, Result, Ok, Err, IfErr, refl, sym, ap, ◌∙◌}
+use Rattle.std.proofs.Common.{◌≡◌, ◌≢◌, true≢false, Bool, true, false, ◌||◌, Result, Ok, Err, IfErr, IsTrue, refl, sym, ap, ◌∙◌}
 use Rattle.sqlite.specs.State.{State}
 use Rattle.wh_engine.specs.Faults.{stops}
 use Rattle.wh_engine.specs.Scanned.{ReadsThrough, noting}
@@ -17,6 +17,14 @@ or_false false = refl
 noted_twice : {A B : Type 0} (s : Session) (x : A) (result : Result B Fault) → noting (noting s (Ok x)) result ≡ noting s result
 noted_twice s x result = ap (λ (m : Bool). record { limits = s.limits; policy = s.policy; must_reopen = m || stops result }) (or_false s.must_reopen)
 
+-- an engine that has to be opened again after a call that was answered had to be before
+pub flagged_before : {A : Type 0} (r s : Session) (x : A) → s ≡ noting r (Ok x) → IsTrue s.must_reopen → IsTrue r.must_reopen
+flagged_before r s x noted flagged = sym (or_false r.must_reopen) ∙ ap (λ (q : Session). q.must_reopen) (sym noted) ∙ flagged
+
+-- so another that had not to be never answers that
+pub never_reopen : (r s : Session) (fault : Fault) → r.must_reopen ≡ false → s ≡ noting {A = Unit {0}} r (Ok tt) → (fault ≡ faults.Reopen → IsTrue s.must_reopen) → fault ≢ faults.Reopen
+never_reopen r s fault unflagged noted only is = true≢false (sym (flagged_before {A = Unit {0}} r s tt noted (only is)) ∙ unflagged)
+
 -- nothing was read yet
 pub unread : {A : Type 0} (s : Session) (st : State) (x : A) → ReadsThrough s s st st (Ok x)
 unread s st x = record {
@@ -30,6 +38,7 @@ unread s st x = record {
   serves = λ clean limits commands ready. ready;
   blames = λ clean stored on. tt;
   noted = sym (ap (λ (m : Bool). record { limits = s.limits; policy = s.policy; must_reopen = m }) (or_false s.must_reopen));
+  only = λ is. absurd (cc);
 }
 
 -- one call after another
@@ -45,23 +54,24 @@ and_then r s t old mid new x result first second = record {
   serves = λ clean limits commands ready. second.serves clean limits commands (first.serves (second.spares.clean clean) limits commands ready);
   blames = λ clean stored on. second.blames clean stored (first.spares.rests (second.spares.clean clean) stored on tt);
   noted = second.noted ∙ ap (λ (q : Session). noting q result) first.noted ∙ noted_twice r x result;
+  only = λ is. flagged_before r s x first.noted (second.only is);
 }
 
 -- what a call answered doesn't matter
 pub answered : {A B : Type 0} (r s : Session) (old new : State) (x : A) (y : B) → ReadsThrough r s old new (Ok x) → ReadsThrough r s old new (Ok y)
-answered r s old new x y reads = record { spares = reads.spares; serves = reads.serves; blames = reads.blames; noted = reads.noted }
+answered r s old new x y reads = record { spares = reads.spares; serves = reads.serves; blames = reads.blames; noted = reads.noted; only = λ is. absurd (cc) }
 
 -- nor of which type
 pub faulted : {A B : Type 0} (r s : Session) (old new : State) (fault : Fault) → ReadsThrough {A = A} r s old new (Err fault) → ReadsThrough {A = B} r s old new (Err fault)
-faulted r s old new (faults.Refused why) reads = record { spares = reads.spares; serves = reads.serves; blames = reads.blames; noted = reads.noted }
-faulted r s old new (faults.Damaged table) reads = record { spares = reads.spares; serves = reads.serves; blames = reads.blames; noted = reads.noted }
-faulted r s old new faults.Memory reads = record { spares = reads.spares; serves = reads.serves; blames = reads.blames; noted = reads.noted }
-faulted r s old new (faults.Store cause) reads = record { spares = reads.spares; serves = reads.serves; blames = reads.blames; noted = reads.noted }
-faulted r s old new faults.Reopen reads = record { spares = reads.spares; serves = reads.serves; blames = reads.blames; noted = reads.noted }
+faulted r s old new (faults.Refused why) reads = record { spares = reads.spares; serves = reads.serves; blames = reads.blames; noted = reads.noted; only = λ is. absurd (cc) }
+faulted r s old new (faults.Damaged table) reads = record { spares = reads.spares; serves = reads.serves; blames = reads.blames; noted = reads.noted; only = λ is. absurd (cc) }
+faulted r s old new faults.Memory reads = record { spares = reads.spares; serves = reads.serves; blames = reads.blames; noted = reads.noted; only = λ is. absurd (cc) }
+faulted r s old new (faults.Store cause) reads = record { spares = reads.spares; serves = reads.serves; blames = reads.blames; noted = reads.noted; only = λ is. absurd (cc) }
+faulted r s old new faults.Reopen reads = record { spares = reads.spares; serves = reads.serves; blames = reads.blames; noted = reads.noted; only = λ is. reads.only refl }
 
 -- memory ran out then
 pub out_of_memory : {A B : Type 0} (r s : Session) (old new : State) (x : A) → ReadsThrough r s old new (Ok x) → ReadsThrough {A = B} r s old new (Err faults.Memory)
-out_of_memory r s old new x reads = record { spares = reads.spares; serves = reads.serves; blames = reads.blames; noted = reads.noted }
+out_of_memory r s old new x reads = record { spares = reads.spares; serves = reads.serves; blames = reads.blames; noted = reads.noted; only = λ is. absurd (cc) }
 
 -- or it was all, or the writer failed
 pub ended : {A B : Type 0} (r s : Session) (old new : State) (x : A) (result : Result B ReportFault) → IfErr result IsOfNoTable → ReadsThrough r s old new (Ok x) → ReadsThrough r s old new (of_warehouse result)
@@ -72,11 +82,20 @@ ended r s old new x (Err (report.Warehouse (faults.Refused why))) none reads = a
 ended r s old new x (Err (report.Warehouse (faults.Damaged table))) none reads = absurd none
 ended r s old new x (Err (report.Warehouse (faults.Store cause))) none reads = absurd none
 ended r s old new x (Err (report.Warehouse faults.Reopen)) none reads = absurd none
+ended r s old new x (Err (report.Unwritten faults.Memory)) none reads = out_of_memory r s old new x reads
+ended r s old new x (Err (report.Unwritten (faults.Refused why))) none reads = absurd none
+ended r s old new x (Err (report.Unwritten (faults.Damaged table))) none reads = absurd none
+ended r s old new x (Err (report.Unwritten (faults.Store cause))) none reads = absurd none
+ended r s old new x (Err (report.Unwritten faults.Reopen)) none reads = absurd none
 ended r s old new x (Err (report.Inconsistent table)) none reads = absurd none
 
 -- a row was handed out
 pub handed_out : {A : Type 0} (r s t : Session) (old mid new : State) (x : Unit {0}) (row : A) → ReadsThrough r s old mid (Ok x) → ReadsThrough s t mid new (Ok row) → ReadsThrough {A = Unit {0}} r t old new (Ok tt)
 handed_out r s t old mid new x row first second = answered r t old new row tt (and_then r s t old mid new x (Ok row) first second)
+
+-- what was answered before any work is answered by an engine that had to be opened again
+pub only_flagged : {B : Type 0} (r s : Session) (old new : State) (result : Result B ReportFault) → ReadsThrough r s old new (of_warehouse result) → result ≡ Err (report.Warehouse faults.Reopen) → IsTrue r.must_reopen
+only_flagged r s old new result reads is = reads.only (ap of_warehouse is)
 
 -- nothing was read, since memory ran out or the writer failed
 pub unread_memory : {B : Type 0} (s : Session) (st : State) (result : Result B ReportFault) → result ≡ Err (report.Warehouse faults.Memory) → ReadsThrough s s st st (of_warehouse result)

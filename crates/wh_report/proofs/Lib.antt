@@ -20,6 +20,8 @@ pub mod Outputs
 pub mod Parts
 pub mod EngineReading
 pub mod HandedRows
+pub mod Arranged
+pub mod StoredReports
 pub mod SummedFacts
 pub mod ReadReports
 pub mod MappedRows

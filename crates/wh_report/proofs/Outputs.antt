@@ -1,11 +1,9 @@
 -- What goes out piece by piece.
-use Rattle.std.proofs.Common.{◌≡◌, ℕ, ◌<◌, zero, suc, List, [], ◌∷◌, ◌++◌, Option, Some, None, Result, Ok, Err, refl, sym, ap, ◌∙◌, subst, length, take, append_assoc, append-nil, arith}
+use Rattle.std.proofs.Common.{◌≡◌, ℕ, ◌<◌, zero, suc, List, [], ◌∷◌, ◌++◌, Option, Some, None, refl, sym, ap, ◌∙◌, subst, length, take, append_assoc, append-nil, arith}
 use Rattle.std.specs.Io.KnownBytes.{Appends}
 use Rattle.std.proofs.KnownBytes.{Appends-nil, Appends-trans}
 use Rattle.wh_store.specs.Scan.{HandsOut}
-use Rattle.wh_report.specs.Output.{IsOutBut, IsOutInPieces}
-use Rattle.wh_report.specs.declared.output.ReportFault.{ReportFault}
-use Rattle.wh_report.specs.declared.output.ReportFault.TheVariants.{Write, Warehouse, Inconsistent}
+use Rattle.wh_report.specs.Output.{IsOutBut, IsCut}
 
 -- what stands after a beginning
 rest_of : (text : List ℕ) (n : ℕ) → n < length text → (byte : ℕ) × (rest : List ℕ) × (text ≡ take n text ++ byte ∷ rest)
@@ -14,36 +12,36 @@ rest_of (t ∷ text) zero short = (t, text, refl)
 rest_of (t ∷ text) (suc n) short = let found = rest_of text n (omega (arith, short)) in (found.0, found.1, ap (λ ts. t ∷ ts) found.2)
 
 -- the writer failed after a beginning
-pub cut_off : (text : List ℕ) (a b : Option (List ℕ)) → (kept : ℕ) × (kept < length text) × Appends a b (take kept text) → (byte : ℕ) × (rest : List ℕ) × IsOutBut (byte ∷ rest) a b text
+pub cut_off : (text : List ℕ) (a b : Option (List ℕ)) → (kept : ℕ) × (kept < length text) × Appends a b (take kept text) → IsCut a b text
 cut_off text a b cut = let found = rest_of text cut.0 cut.1 in (found.0, found.1, record { part = take cut.0 text; whole = found.2; went = cut.2 })
 
 pub none_out : (a : Option (List ℕ)) (text : List ℕ) → IsOutBut text a a text
 none_out a text = record { part = []; whole = refl; went = Appends-nil a }
 
--- a piece went out but a rest of it, before more
-pub joined : (a b c : Option (List ℕ)) (text piece more rest : List ℕ) → IsOutBut (piece ++ more) a b text → IsOutBut rest b c piece → IsOutBut (rest ++ more) a c text
-joined a b c text piece more rest before now = record {
+-- more text is to go out behind it
+pub longer : (a b : Option (List ℕ)) (text rest more : List ℕ) → IsOutBut rest a b text → IsOutBut (rest ++ more) a b (text ++ more)
+longer a b text rest more out = record { part = out.part; whole = ap (λ t. t ++ more) out.whole ∙ append_assoc out.part rest more; went = out.went }
+
+-- what was left of it went out but a rest
+pub joined : (a b c : Option (List ℕ)) (text piece rest : List ℕ) → IsOutBut piece a b text → IsOutBut rest b c piece → IsOutBut rest a c text
+joined a b c text piece rest before now = record {
   part = before.part ++ now.part;
-  whole = before.whole ∙ ap (λ p. before.part ++ (p ++ more)) now.whole ∙ ap (λ p. before.part ++ p) (append_assoc now.part rest more) ∙ sym (append_assoc before.part now.part (rest ++ more));
+  whole = before.whole ∙ ap (λ p. before.part ++ p) now.whole ∙ sym (append_assoc before.part now.part rest);
   went = Appends-trans a b c before.part now.part before.went now.went;
 }
 
-pub onward : (a b c : Option (List ℕ)) (text piece more : List ℕ) → IsOutBut (piece ++ more) a b text → Appends b c piece → IsOutBut more a c text
-onward a b c text piece more before went = joined a b c text piece more [] before (record { part = piece; whole = sym (append-nil piece); went = went })
+-- or all of it
+pub sent : (a b c : Option (List ℕ)) (text piece : List ℕ) → IsOutBut piece a b text → Appends b c piece → Appends a c text
+sent a b c text piece before went =
+    let all = joined a b c text piece [] before (record { part = piece; whole = sym (append-nil piece); went = went }) in
+    subst (Appends a c) (sym (all.whole ∙ append-nil all.part)) all.went
 
-pub all_out : (a b : Option (List ℕ)) (text rest : List ℕ) → rest ≡ [] → IsOutBut rest a b text → Appends a b text
-all_out a b text rest none out = subst (Appends a b) (sym (out.whole ∙ ap (λ r. out.part ++ r) none ∙ append-nil out.part)) out.went
+-- or the writer failed
+pub cut_then : (a b c : Option (List ℕ)) (text piece : List ℕ) → IsOutBut piece a b text → IsCut b c piece → IsCut a c text
+cut_then a b c text piece before (byte, rest, out) = (byte, rest, joined a b c text piece (byte ∷ rest) before out)
 
--- a piece goes out after what did
-pub further : (a b c : Option (List ℕ)) (text piece more : List ℕ) (fault : ReportFault) → IsOutBut (piece ++ more) a b text → IsOutInPieces (Err fault) b c piece → IsOutInPieces (Err fault) a c text
-further a b c text piece more Write before out = (out.0, out.1 ++ more, joined a b c text piece more (out.0 ∷ out.1) before out.2)
-further a b c text piece more (Warehouse fault) before out = (out.0 ++ more, joined a b c text piece more out.0 before out.1)
-further a b c text piece more (Inconsistent table) before out = absurd out
-
--- the last piece, or a beginning of it
-pub closing : (a b c : Option (List ℕ)) (text piece : List ℕ) (result : Result (Unit {0}) ReportFault) → IsOutBut piece a b text → IsOutInPieces result b c piece → IsOutInPieces result a c text
-closing a b c text piece (Ok done) before out = all_out a c text [] refl (onward a b c text piece [] (subst (λ p. IsOutBut p a b text) (sym (append-nil piece)) before) out)
-closing a b c text piece (Err fault) before out = further a b c text piece [] fault (subst (λ p. IsOutBut p a b text) (sym (append-nil piece)) before) out
+pub cut_before : (a b : Option (List ℕ)) (text more : List ℕ) → IsCut a b text → IsCut a b (text ++ more)
+cut_before a b text more (byte, rest, out) = (byte, rest ++ more, longer a b text (byte ∷ rest) more out)
 
 -- ---- a row at a time
 

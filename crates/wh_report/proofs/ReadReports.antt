@@ -22,7 +22,7 @@ use Rattle.wh_report.specs.Request.{has_reading, is_asked_of, subject_reads}
 use Rattle.wh_report.specs.Subject.{subject_in, reading_of}
 use Rattle.wh_report.specs.declared.column.LabelColumn.{LabelColumn}
 use Rattle.wh_report.specs.declared.output.ReportFault.{ReportFault}
-use Rattle.wh_report.specs.declared.output.ReportFault.TheVariants.{Write, Warehouse, Inconsistent}
+use Rattle.wh_report.specs.declared.output.ReportFault.TheVariants.{Write, Warehouse, Unwritten, Inconsistent}
 use Rattle.wh_report.specs.declared.subject.Reading.{Reading}
 use Rattle.wh_report.specs.declared.subject.Subject.{Subject}
 
@@ -49,6 +49,7 @@ module _ (r : Asked) (column : LabelColumn) (t : Tables) (labels : List (ℕ × 
   pub fault_read : (fault : ReportFault) → IsSummed r column (text_of labels) (values t.fact) (Err fault) → ReportsTables r column t (Err fault)
   fault_read Write cut = tt
   fault_read (Warehouse fault) cut = tt
+  fault_read (Unwritten fault) cut = tt
   fault_read (Inconsistent found) cut = elim cut [
     | inl lacks ↦ inl (lacks.0, record { sale = lacks.1.sale; there = lacks.1.there; none = sym (are.found lacks.1.sale.key) ∙ lacks.1.none })
     | inr many ↦ inr many

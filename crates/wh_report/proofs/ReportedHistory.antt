@@ -59,7 +59,7 @@ use Rattle.wh_report.specs.Text.{report_text}
 use Rattle.wh_report.specs.declared.column.LabelColumn.{LabelColumn}
 use Rattle.wh_report.specs.declared.column.LabelColumn.TheVariants.{Main, Second, CurrentMain, FactProfile, CurrentProfile, CalendarMonth, CalendarHoliday}
 use Rattle.wh_report.specs.declared.output.ReportFault.{ReportFault}
-use Rattle.wh_report.specs.declared.output.ReportFault.TheVariants.{Write, Warehouse, Inconsistent}
+use Rattle.wh_report.specs.declared.output.ReportFault.TheVariants.{Write, Warehouse, Unwritten, Inconsistent}
 use Rattle.wh_report.specs.declared.subject.Reading.{Reading}
 use Rattle.wh_report.specs.declared.subject.Subject.{Subject}
 use Rattle.wh_report.proofs.DatedSales.{admitted_sales_are_dated}
@@ -182,6 +182,7 @@ module _ (limits : Limits) (commands : List Accepted) (admitted : AreAdmitted li
   reported (Ok text) says only wants = says.0 ∙ told ∙ sym is_report
   reported (Err (Warehouse fault)) says only wants = wants fault refl
   reported (Err (Inconsistent found)) says only wants = absurd (consistent found says)
+  reported (Err (Unwritten fault)) says only wants = absurd only
   reported (Err Write) says only wants = absurd only
 
 -- ---- over an engine that is ready

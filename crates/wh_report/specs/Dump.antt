@@ -1,5 +1,6 @@
 -- The text of a table, as a dump writes it.
-use Rattle.std.specs.Prelude.{ℕ, List, [], map, flat_map, ◌++◌}
+use Rattle.std.specs.Prelude.{ℕ, List, [], ◌∷◌, map}
+use Rattle.std.specs.List.{concat}
 use Rattle.std.specs.FinMap.{values}
 use Rattle.std.specs.Fmt.{signed_decimal}
 use Rattle.csv.specs.Writing.{default_writer, row_text}
@@ -38,24 +39,30 @@ module _ {K R : Type 0} (layout : Layout K R) where
   row_line row = row_text default_writer (row_fields row)
 
   -- the line of the columns' names, and a line a row
+  abbrev pub table_lines : List R → List (List ℕ)
+  table_lines rows = header_line ∷ map row_line rows
+
   abbrev pub table_text : List R → List ℕ
-  table_text rows = header_line ++ flat_map row_line rows
+  table_text rows = concat (table_lines rows)
 
 -- the text of product, store or customer, which have the same columns
 abbrev pub dimension_text : List DimRow → List ℕ
 dimension_text = table_text row.product
 
--- the text of one of the tables
+-- the lines of one of the tables
+abbrev pub lines_of_table : Table → Tables → List (List ℕ)
+lines_of_table Meta t = table_lines row.meta (values t.meta)
+lines_of_table Command t = table_lines row.command (values t.command)
+lines_of_table Member t = table_lines row.member (values t.member)
+lines_of_table Change t = table_lines row.change (values t.change)
+lines_of_table Product t = table_lines row.product (values t.product)
+lines_of_table Store t = table_lines row.store (values t.store)
+lines_of_table Customer t = table_lines row.customer (values t.customer)
+lines_of_table Profile t = table_lines row.profile (values t.profile)
+lines_of_table Calendar t = table_lines row.calendar (values t.calendar)
+lines_of_table Fact t = table_lines row.fact (values t.fact)
+lines_of_table Fact2 t = table_lines row.fact2 (values t.fact2)
+lines_of_table Void t = table_lines row.void (values t.void)
+
 abbrev pub text_of_table : Table → Tables → List ℕ
-text_of_table Meta t = table_text row.meta (values t.meta)
-text_of_table Command t = table_text row.command (values t.command)
-text_of_table Member t = table_text row.member (values t.member)
-text_of_table Change t = table_text row.change (values t.change)
-text_of_table Product t = table_text row.product (values t.product)
-text_of_table Store t = table_text row.store (values t.store)
-text_of_table Customer t = table_text row.customer (values t.customer)
-text_of_table Profile t = table_text row.profile (values t.profile)
-text_of_table Calendar t = table_text row.calendar (values t.calendar)
-text_of_table Fact t = table_text row.fact (values t.fact)
-text_of_table Fact2 t = table_text row.fact2 (values t.fact2)
-text_of_table Void t = table_text row.void (values t.void)
+text_of_table table t = concat (lines_of_table table t)

@@ -14,6 +14,7 @@ pub mod Counting
 pub mod KeySums
 pub mod Defined
 pub mod Dump
+pub mod Dumped
 pub mod Output
 pub mod Part
 pub mod Reported

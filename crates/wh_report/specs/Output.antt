@@ -1,10 +1,11 @@
 -- What a call that writes a text to a writer puts out, where the writer tells its bytes.
 use Rattle.std.specs.Prelude.{◌≡◌, ℕ, List, ◌∷◌, ◌++◌, Option, Result, Ok, Err, ⊤}
 use Rattle.std.specs.Io.KnownBytes.{Appends}
+use Rattle.std.specs.List.{concat}
 use Rattle.wh_engine.specs.declared.fault.Fault.{Fault}
-use Rattle.wh_engine.specs.declared.fault.Fault.TheVariants.{Memory}
+use Rattle.wh_engine.specs.declared.fault.Fault.TheVariants.{Memory, Reopen}
 use Rattle.wh_report.specs.declared.output.ReportFault.{ReportFault}
-use Rattle.wh_report.specs.declared.output.ReportFault.TheVariants.{Write, Warehouse, Inconsistent}
+use Rattle.wh_report.specs.declared.output.ReportFault.TheVariants.{Write, Warehouse, Unwritten, Inconsistent}
 
 -- of a text all went out but this rest of it
 pub record IsOutBut (rest : List ℕ) (old new : Option (List ℕ)) (text : List ℕ) : Type 0 where
@@ -12,42 +13,67 @@ pub record IsOutBut (rest : List ℕ) (old new : Option (List ℕ)) (text : List
   pub whole : text ≡ part ++ rest
   pub went : Appends old new part
 
--- The text went out. Where the writer failed, it is a beginning of it that wants at least a byte; after another fault nothing.
+-- a beginning of it went out that wants at least a byte
+abbrev pub IsCut : Option (List ℕ) → Option (List ℕ) → List ℕ → Type 0
+IsCut old new text = (byte : ℕ) × (rest : List ℕ) × IsOutBut (byte ∷ rest) old new text
+
+-- the text went out, or the writer failed
 abbrev pub IsOutWhole : Result (Unit {0}) ReportFault → Option (List ℕ) → Option (List ℕ) → List ℕ → Type 0
 IsOutWhole (Ok done) old new text = Appends old new text
-IsOutWhole (Err Write) old new text = (byte : ℕ) × (rest : List ℕ) × IsOutBut (byte ∷ rest) old new text
-IsOutWhole (Err (Warehouse fault)) old new text = new ≡ old
-IsOutWhole (Err (Inconsistent table)) old new text = ⊥
+IsOutWhole (Err Write) old new text = IsCut old new text
+IsOutWhole (Err fault) old new text = ⊥
 
--- the same of a text that goes out piece by piece: after another fault a beginning of it
-abbrev pub IsOutInPieces : Result (Unit {0}) ReportFault → Option (List ℕ) → Option (List ℕ) → List ℕ → Type 0
-IsOutInPieces (Ok done) old new text = Appends old new text
-IsOutInPieces (Err Write) old new text = (byte : ℕ) × (rest : List ℕ) × IsOutBut (byte ∷ rest) old new text
-IsOutInPieces (Err (Warehouse fault)) old new text = (rest : List ℕ) × IsOutBut rest old new text
-IsOutInPieces (Err (Inconsistent table)) old new text = ⊥
+-- it went out before a fault of the warehouse was answered, or the writer failed as well
+abbrev pub IsOutBefore : Fault → ReportFault → Option (List ℕ) → Option (List ℕ) → List ℕ → Type 0
+IsOutBefore fault (Warehouse why) old new text = (why ≡ fault) × Appends old new text
+IsOutBefore fault (Unwritten why) old new text = (why ≡ fault) × IsCut old new text
+IsOutBefore fault Write old new text = ⊥
+IsOutBefore fault (Inconsistent table) old new text = ⊥
+
+-- of these lines the first went out, and no piece of another
+pub record AreOut (out lines : List (List ℕ)) (old new : Option (List ℕ)) : Type 0 where
+  pub left : List (List ℕ)
+  pub whole : lines ≡ out ++ left
+  pub went : Appends old new (concat out)
+
+-- All lines went out; or a beginning that wants at least a byte, where the writer failed. After a fault of the warehouse whole lines did, the first at least;
+-- or none, where memory ran out for that, or the engine had to be opened again.
+abbrev pub IsOutInLines : Result (Unit {0}) ReportFault → Option (List ℕ) → Option (List ℕ) → List (List ℕ) → Type 0
+IsOutInLines (Ok done) old new lines = Appends old new (concat lines)
+IsOutInLines (Err Write) old new lines = IsCut old new (concat lines)
+IsOutInLines (Err (Unwritten fault)) old new lines = IsCut old new (concat lines)
+IsOutInLines (Err (Warehouse Memory)) old new lines = (out : List (List ℕ)) × AreOut out lines old new
+IsOutInLines (Err (Warehouse Reopen)) old new lines = new ≡ old
+IsOutInLines (Err (Warehouse fault)) old new lines = (first : List ℕ) × (more : List (List ℕ)) × AreOut (first ∷ more) lines old new
+IsOutInLines (Err (Inconsistent table)) old new lines = ⊥
 
 -- the fault isn't the store's: the writer failed, or memory ran out
 abbrev pub IsOfNoTable : ReportFault → Type 0
 IsOfNoTable Write = ⊤
 IsOfNoTable (Warehouse Memory) = ⊤
 IsOfNoTable (Warehouse fault) = ⊥
+IsOfNoTable (Unwritten Memory) = ⊤
+IsOfNoTable (Unwritten fault) = ⊥
 IsOfNoTable (Inconsistent table) = ⊥
 
 -- the writer failed, or the warehouse can't be read: no table lacks a row
 abbrev pub IsOfDump : ReportFault → Type 0
 IsOfDump Write = ⊤
 IsOfDump (Warehouse fault) = ⊤
+IsOfDump (Unwritten fault) = ⊤
 IsOfDump (Inconsistent table) = ⊥
 
 -- no writer failed
 abbrev pub IsOfTables : ReportFault → Type 0
 IsOfTables Write = ⊥
 IsOfTables (Warehouse fault) = ⊤
+IsOfTables (Unwritten fault) = ⊥
 IsOfTables (Inconsistent table) = ⊤
 
--- the answer as that of the warehouse, which answered where the writer failed or its tables don't fit together
+-- the answer as that of the warehouse, which answered where the writer alone failed or its tables don't fit together
 abbrev pub of_warehouse : {A : Type 0} → Result A ReportFault → Result (Unit {0}) Fault
 of_warehouse (Ok done) = Ok tt
 of_warehouse (Err Write) = Ok tt
 of_warehouse (Err (Warehouse fault)) = Err fault
+of_warehouse (Err (Unwritten fault)) = Err fault
 of_warehouse (Err (Inconsistent table)) = Ok tt

@@ -1,5 +1,7 @@
 -- What a report reads of a warehouse, and what it says.
-use Rattle.std.specs.Prelude.{◌≡◌, ◌≤◌, ◌⊎◌, ℕ, List, [], Option, Result, Ok, Err, option_map, unwrap_or, filter_map, length, ⊤}
+use Rattle.std.specs.Prelude.{◌≡◌, ◌≤◌, ◌⊎◌, ℕ, List, [], Option, Result, Ok, Err, option_map, unwrap_or, map, filter_map, length, ⊤}
+use Rattle.std.specs.List.{AllByRecursion}
+use Rattle.std.specs.List.Sorted.{IsPermutation}
 use Rattle.std.specs.Option.{option_and_then}
 use Rattle.std.specs.FinMap.{values}
 use Rattle.std.specs.declared.alloc.Global.{Global}
@@ -7,11 +9,18 @@ use Rattle.std.specs.declared.vec.Vec.{Vec}
 use Rattle.wh_policy.specs.declared.attribute.Dim.{Dim}
 use Rattle.wh_policy.specs.declared.attribute.Dim.TheVariants.{Product, Store, Customer}
 use Rattle.wh_policy.specs.declared.policy.Policy.{Policy}
+use Rattle.wh_day.specs.declared.calendar.DateRow.{DateRow}
 use Rattle.wh_history.specs.Accepted.{Accepted}
 use Rattle.wh_history.specs.declared.facts.Fact.{Fact}
 use Rattle.wh_history.specs.declared.rows.DimRow.{DimRow}
+use Rattle.wh_rows.specs.Holds.{Layout}
+use Rattle.wh_rows.specs.KeyedSales.{columns_of, shown_of}
+use Rattle.wh_rows.specs.Raw.{Stored}
 use Rattle.wh_rows.specs.Rows as row
 use Rattle.wh_rows.specs.Tables.{Tables}
+use Rattle.wh_rows.specs.declared.keyed_sale.FactKey.{FactKey}
+use Rattle.wh_rows.specs.declared.keyed_sale.KeyedSale.{KeyedSale}
+use Rattle.wh_rows.specs.declared.rows.ProfileRow.{ProfileRow}
 use Rattle.wh_rows.specs.declared.table.Table.{Table}
 use Rattle.wh_rows.specs.declared.table.Table.TheVariants as table
 use Rattle.wh_store.specs.Scan.{rows_left}
@@ -20,18 +29,20 @@ use Rattle.wh_admission.specs.Admission.{current_policy}
 use Rattle.wh_engine.specs.Scanned.{IsWanting}
 use Rattle.wh_engine.specs.declared.fault.Fault.TheVariants as faults
 use Rattle.wh_report.specs.Asked.{Asked}
-use Rattle.wh_report.specs.Counting.{counted, sales_of, AreLabelled, HasNoLabel}
-use Rattle.wh_report.specs.Joined.{column_of, table_of}
+use Rattle.wh_report.specs.Counting.{measures_of, with_label, counted, sales_asked, sales_of, AreLabelled, HasNoLabel}
+use Rattle.wh_report.specs.Dumped.{BeginsWith}
+use Rattle.wh_report.specs.Joined.{column_of, key_by, table_of, table_of_dim}
 use Rattle.wh_report.specs.Label.{report, text_asked}
 use Rattle.wh_report.specs.Labels.{LabelRows, labels_in, first_text}
 use Rattle.wh_report.specs.Subject.{subject_in, reading_of}
 use Rattle.wh_report.specs.Summary.{Sold, Summed, summed}
+use Rattle.wh_report.specs.Sums.{IsMeasured}
 use Rattle.wh_report.specs.declared.column.LabelColumn.{LabelColumn}
 use Rattle.wh_report.specs.declared.column.LabelColumn.TheVariants.{Main, Second, CurrentMain, FactProfile, CurrentProfile, CalendarMonth, CalendarHoliday}
 use Rattle.wh_report.specs.declared.fact.FactFault.{FactFault}
 use Rattle.wh_report.specs.declared.fact.FactFault.TheVariants as uncountable
 use Rattle.wh_report.specs.declared.output.ReportFault.{ReportFault}
-use Rattle.wh_report.specs.declared.output.ReportFault.TheVariants.{Write, Warehouse, Inconsistent}
+use Rattle.wh_report.specs.declared.output.ReportFault.TheVariants.{Write, Warehouse, Unwritten, Inconsistent}
 
 -- ---- of any tables
 
@@ -90,6 +101,58 @@ ReportsTables r column t (Ok text) = (text.items ≡ text_asked r (sold_by_keys 
 ReportsTables r column t (Err (Inconsistent found)) = IsInconsistent r column (text_at column t) (values t.fact) found
 ReportsTables r column t (Err fault) = ⊤
 
+-- ---- of any stored rows, whoever wrote them
+
+abbrev pub layout_of_dim : Dim → Layout ℕ DimRow
+layout_of_dim Product = row.product
+layout_of_dim Store = row.store
+layout_of_dim Customer = row.customer
+
+-- these are all rows of a dimension by key, each of its type
+abbrev pub AreAllOfDim : Dim → Stored → List DimRow → Type 0
+AreAllOfDim dim stored rows = BeginsWith (layout_of_dim dim) (stored.rows (table_of_dim dim)) rows []
+
+abbrev pub AreAllProfiles : Stored → List ProfileRow → Type 0
+AreAllProfiles stored rows = BeginsWith row.profile (stored.rows table.Profile) rows []
+
+abbrev pub AreAllDays : Stored → List DateRow → Type 0
+AreAllDays stored rows = BeginsWith row.calendar (stored.rows table.Calendar) rows []
+
+-- so it is of the rows in which the labels of a column are looked up
+abbrev pub AreAllFor : LabelColumn → Stored → LabelRows → Type 0
+AreAllFor (Main dim place) stored t = AreAllOfDim dim stored t.rows
+AreAllFor (Second dim place) stored t = AreAllOfDim dim stored t.rows
+AreAllFor (CurrentMain dim place) stored t = AreAllOfDim dim stored t.rows
+AreAllFor (FactProfile place) stored t = AreAllProfiles stored t.profiles
+AreAllFor (CurrentProfile place) stored t = AreAllOfDim Customer stored t.rows × AreAllProfiles stored t.profiles
+AreAllFor CalendarMonth stored t = AreAllDays stored t.days
+AreAllFor CalendarHoliday stored t = AreAllDays stored t.days
+
+-- the text that a key leads to in them
+abbrev pub label_in : LabelColumn → LabelRows → ℕ → Option (List ℕ)
+label_in column t key = first_text key (labels_in column t)
+
+-- the stored facts are these sales by one of their keys, in any order: each is of its types in the columns that are read
+abbrev pub AreAllSales : FactKey → Stored → List KeyedSale → Type 0
+AreAllSales which stored sales = IsPermutation (map columns_of sales) (map (shown_of which) (stored.rows table.Fact))
+
+-- a row that a sale of the range names is missing in the table that is found; or that is the facts', and it has more than can be counted, or measures that no sale has
+abbrev pub AreInconsistent : Asked → LabelColumn → (ℕ → Option (List ℕ)) → List KeyedSale → Table → Type 0
+AreInconsistent r column labels sales found = ((found ≡ table_of column) × HasNoLabel labels (sales_asked r sales)) ⊎ ((found ≡ table.Fact) × (AllByRecursion (λ s. IsMeasured (measures_of s)) sales → 4_294_967_295 ≤ length sales))
+
+-- what the sales of the range come to, none being passed over, or that they can't be counted
+abbrev pub IsSummedOf : Asked → LabelColumn → (ℕ → Option (List ℕ)) → Stored → Result Summed ReportFault → Type 0
+IsSummedOf r column labels stored (Ok sums) = (sales : List KeyedSale) × AreAllSales (key_by column) stored sales × (sums ≡ summed (filter_map (with_label labels) (sales_asked r sales))) × AreLabelled labels (sales_asked r sales)
+IsSummedOf r column labels stored (Err (Inconsistent found)) = (sales : List KeyedSale) × AreAllSales (key_by column) stored sales × AreInconsistent r column labels sales found
+IsSummedOf r column labels stored (Err fault) = ⊤
+
+-- what a report of stored rows says: no row of those that it reads is damaged, and each fact of the range is in it, under the label that its key leads to
+abbrev pub ReportsStored : Asked → LabelColumn → Stored → Result (Vec ℕ Global) ReportFault → Type 0
+ReportsStored r column stored (Ok text) = (t : LabelRows) × AreAllFor column stored t × ((sales : List KeyedSale) × AreAllSales (key_by column) stored sales
+    × (text.items ≡ text_asked r (filter_map (with_label (label_in column t)) (sales_asked r sales))) × AreLabelled (label_in column t) (sales_asked r sales))
+ReportsStored r column stored (Err (Inconsistent found)) = (t : LabelRows) × AreAllFor column stored t × ((sales : List KeyedSale) × AreAllSales (key_by column) stored sales × AreInconsistent r column (label_in column t) sales found)
+ReportsStored r column stored (Err fault) = ⊤
+
 -- the column that is asked for under a policy
 abbrev pub column_asked : Policy → Asked → Option LabelColumn
 column_asked policy r = option_and_then (λ subject. option_map (column_of subject) (reading_of subject r.mode)) (subject_in policy r.words)
@@ -104,5 +167,6 @@ report_of commands r = unwrap_or (option_and_then (λ subject. option_map (λ wh
 abbrev pub Reports : List Accepted → Asked → Result (Vec ℕ Global) ReportFault → Type 0
 Reports commands r (Ok text) = text.items ≡ report_of commands r
 Reports commands r (Err (Warehouse fault)) = IsWanting fault
+Reports commands r (Err (Unwritten fault)) = ⊥
 Reports commands r (Err (Inconsistent found)) = ⊥
 Reports commands r (Err Write) = ⊥

@@ -1,12 +1,18 @@
 //! Reading the labels of a column, as the rows of its table are handed out.
 
-ghost use Rattle.std.specs.Prelude.{◌≡◌, None, IfOk};
+ghost use Rattle.std.specs.Prelude.{◌≡◌, List, None, IsTrue, IfSome, IfOk};
 ghost use Rattle.std.specs.FinMap.{values};
+ghost use Rattle.wh_policy.specs.declared.attribute.Dim.TheVariants.{Customer};
 ghost use Rattle.wh_engine.specs.Scanned.{ReadsThrough};
-ghost use Rattle.wh_store.specs.Reads.{SaysAtRest, state_of};
-ghost use Rattle.wh_store.specs.Scan.{HandsOut};
-ghost use Rattle.wh_report.specs.Labels.{text_of, first_text, row_labels, profile_labels, date_labels, labels_in, AreLabels};
-ghost use Rattle.wh_report.specs.Reported.{left_of_dim, rows_of_dim, label_rows};
+ghost use Rattle.wh_store.specs.Reads.{SaysAtRest, SaysAsStored, state_of};
+ghost use Rattle.wh_rows.specs.Keys.{bind_number};
+ghost use Rattle.wh_store.specs.Scan.{HandsOut, HandsOutOf, AreValid};
+ghost use Rattle.wh_day.specs.declared.calendar.DateRow.{DateRow};
+ghost use Rattle.wh_history.specs.declared.rows.DimRow.{DimRow as Member};
+ghost use Rattle.wh_rows.specs.declared.rows.ProfileRow.{ProfileRow};
+ghost use Rattle.wh_report.specs.Labels.{LabelRows, text_of, first_text, row_labels, profile_labels, date_labels, labels_in, AreLabels};
+ghost use Rattle.wh_report.specs.Reported.{left_of_dim, rows_of_dim, label_rows, layout_of_dim, AreAllOfDim, AreAllProfiles, AreAllDays, AreAllFor};
+ghost use Rattle.wh_report.specs.Joined.{table_of_dim};
 
 use crate::column::LabelColumn;
 use crate::labels::Labels;
@@ -28,6 +34,8 @@ fn next_of_dimension<S: Alter>(
     ensures reads { ReadsThrough engine.old.session engine.new.session (state_of S.Store engine.old.tables) (state_of S.Store engine.new.tables) result }
     ensures writes { engine.new.writes ≡ engine.old.writes }
     ensures rows { SaysAtRest (state_of S.Store engine.old.tables) (state_of S.Store engine.new.tables) (λ t. IfOk result (λ found. HandsOut (left_of_dim dim t cursor.old) found (left_of_dim dim t cursor.new))) }
+    ensures stored { SaysAsStored (state_of S.Store engine.old.tables) (state_of S.Store engine.new.tables) (λ stored. IfOk result (λ found. HandsOutOf (layout_of_dim dim) bind_number (stored.rows (table_of_dim dim)) cursor.old found cursor.new)) }
+    ensures valid { SaysAsStored (state_of S.Store engine.old.tables) (state_of S.Store engine.new.tables) (λ _. AreValid (layout_of_dim dim) cursor.old → IfOk result (λ found. IfSome found (λ row. IsTrue ((layout_of_dim dim).is_valid row)) × AreValid (layout_of_dim dim) cursor.new)) }
 {
     match dim {
         Dim::Product => engine.next_row::<tables::Product>(alloc, cursor),
@@ -47,6 +55,7 @@ fn labels_of_rows<S: Alter>(
     ensures reads { ReadsThrough engine.old.session engine.new.session (state_of S.Store engine.old.tables) (state_of S.Store engine.new.tables) result }
     ensures writes { engine.new.writes ≡ engine.old.writes }
     ensures labels { SaysAtRest (state_of S.Store engine.old.tables) (state_of S.Store engine.new.tables) (λ t. IfOk result (λ labels. AreLabels labels (row_labels column (text_of profiles.now) (rows_of_dim dim t)))) }
+    ensures stored { SaysAsStored (state_of S.Store engine.old.tables) (state_of S.Store engine.new.tables) (λ stored. IfOk result (λ labels. (rows : List Member) × AreAllOfDim dim stored rows × AreLabels labels (row_labels column (text_of profiles.now) rows))) }
 {
     let mut cursor = Cursor::new(alloc);
     let mut labels = Labels::new(alloc);
@@ -68,6 +77,7 @@ fn labels_of_profiles<S: Alter>(
     ensures reads { ReadsThrough engine.old.session engine.new.session (state_of S.Store engine.old.tables) (state_of S.Store engine.new.tables) result }
     ensures writes { engine.new.writes ≡ engine.old.writes }
     ensures labels { SaysAtRest (state_of S.Store engine.old.tables) (state_of S.Store engine.new.tables) (λ t. IfOk result (λ labels. AreLabels labels (profile_labels column (values t.profile)))) }
+    ensures stored { SaysAsStored (state_of S.Store engine.old.tables) (state_of S.Store engine.new.tables) (λ stored. IfOk result (λ labels. (rows : List ProfileRow) × AreAllProfiles stored rows × AreLabels labels (profile_labels column rows))) }
 {
     let mut cursor = Cursor::new(alloc);
     let mut labels = Labels::new(alloc);
@@ -89,6 +99,7 @@ fn labels_of_days<S: Alter>(
     ensures reads { ReadsThrough engine.old.session engine.new.session (state_of S.Store engine.old.tables) (state_of S.Store engine.new.tables) result }
     ensures writes { engine.new.writes ≡ engine.old.writes }
     ensures labels { SaysAtRest (state_of S.Store engine.old.tables) (state_of S.Store engine.new.tables) (λ t. IfOk result (λ labels. AreLabels labels (date_labels column (values t.calendar)))) }
+    ensures stored { SaysAsStored (state_of S.Store engine.old.tables) (state_of S.Store engine.new.tables) (λ stored. IfOk result (λ labels. (rows : List DateRow) × AreAllDays stored rows × AreLabels labels (date_labels column rows))) }
 {
     let mut cursor = Cursor::new(alloc);
     let mut labels = Labels::new(alloc);
@@ -111,6 +122,7 @@ fn labels_of_dimension<S: Alter>(
     ensures reads { ReadsThrough engine.old.session engine.new.session (state_of S.Store engine.old.tables) (state_of S.Store engine.new.tables) result }
     ensures writes { engine.new.writes ≡ engine.old.writes }
     ensures labels { SaysAtRest (state_of S.Store engine.old.tables) (state_of S.Store engine.new.tables) (λ t. IfOk result (λ labels. AreLabels labels (row_labels column (λ _. None) (rows_of_dim dim t)))) }
+    ensures stored { SaysAsStored (state_of S.Store engine.old.tables) (state_of S.Store engine.new.tables) (λ stored. IfOk result (λ labels. (rows : List Member) × AreAllOfDim dim stored rows × AreLabels labels (row_labels column (λ _. None) rows))) }
 {
     let no_profiles = Labels::new(alloc);
     labels_of_rows(alloc, engine, column, dim, &no_profiles)
@@ -125,6 +137,7 @@ fn labels_by_profiles<S: Alter>(
     ensures reads { ReadsThrough engine.old.session engine.new.session (state_of S.Store engine.old.tables) (state_of S.Store engine.new.tables) result }
     ensures writes { engine.new.writes ≡ engine.old.writes }
     ensures labels { SaysAtRest (state_of S.Store engine.old.tables) (state_of S.Store engine.new.tables) (λ t. IfOk result (λ labels. AreLabels labels (row_labels column (λ number. first_text number (profile_labels column (values t.profile))) (values t.customer)))) }
+    ensures stored { SaysAsStored (state_of S.Store engine.old.tables) (state_of S.Store engine.new.tables) (λ stored. IfOk result (λ labels. (rows : List Member) × AreAllOfDim Customer stored rows × ((profiles : List ProfileRow) × AreAllProfiles stored profiles × AreLabels labels (row_labels column (λ number. first_text number (profile_labels column profiles)) rows)))) }
 {
     let profiles = labels_of_profiles(alloc, engine, column)?;
     labels_of_rows(alloc, engine, column, Dim::Customer, &profiles)
@@ -139,15 +152,15 @@ pub(crate) fn labels_of<S: Alter>(
     ensures reads { ReadsThrough engine.old.session engine.new.session (state_of S.Store engine.old.tables) (state_of S.Store engine.new.tables) result }
     ensures writes { engine.new.writes ≡ engine.old.writes }
     ensures labels { SaysAtRest (state_of S.Store engine.old.tables) (state_of S.Store engine.new.tables) (λ t. IfOk result (λ labels. AreLabels labels (labels_in column (label_rows column t)))) }
+    ensures stored { SaysAsStored (state_of S.Store engine.old.tables) (state_of S.Store engine.new.tables) (λ stored. IfOk result (λ labels. (t : LabelRows) × AreAllFor column stored t × AreLabels labels (labels_in column t))) }
 {
     match column {
-        LabelColumn::Main(dim, _)
-        | LabelColumn::Second(dim, _)
-        | LabelColumn::CurrentMain(dim, _) => labels_of_dimension(alloc, engine, column, dim),
+        LabelColumn::Main(dim, _) => labels_of_dimension(alloc, engine, column, dim),
+        LabelColumn::Second(dim, _) => labels_of_dimension(alloc, engine, column, dim),
+        LabelColumn::CurrentMain(dim, _) => labels_of_dimension(alloc, engine, column, dim),
         LabelColumn::FactProfile(_) => labels_of_profiles(alloc, engine, column),
         LabelColumn::CurrentProfile(_) => labels_by_profiles(alloc, engine, column),
-        LabelColumn::CalendarMonth | LabelColumn::CalendarHoliday => {
-            labels_of_days(alloc, engine, column)
-        }
+        LabelColumn::CalendarMonth => labels_of_days(alloc, engine, column),
+        LabelColumn::CalendarHoliday => labels_of_days(alloc, engine, column),
     }
 }

@@ -1,41 +1,46 @@
 //! Writing the text of a table out, as its rows are handed out.
 
-ghost use Rattle.std.specs.Prelude.{◌≡◌, ◌++◌, ℕ, List, IfErr, flat_map};
+ghost use Rattle.std.specs.Prelude.{◌≡◌, ℕ, List, Err, false, IsTrue, IfErr};
 ghost use Rattle.std.specs.FinMap.{values};
 ghost use Rattle.wh_engine.specs.Scanned.{ReadsThrough};
-ghost use Rattle.wh_store.specs.Reads.{SaysInFormat, state_of};
-ghost use Rattle.wh_report.specs.Dump.{row_line, table_text, text_of_table};
-ghost use Rattle.wh_report.specs.Output.{IsOutInPieces, IsOfDump, IsOfNoTable, of_warehouse};
+ghost use Rattle.wh_store.specs.Reads.{SaysInFormat, SaysAsStoredIn, state_of};
+ghost use Rattle.wh_report.specs.Dump.{header_line, row_line, table_lines, lines_of_table};
+ghost use Rattle.wh_report.specs.Dumped.{IsDumpOf, DumpsStored};
+ghost use Rattle.wh_report.specs.Output.{IsOutInLines, IsOfDump, IsOfNoTable, of_warehouse};
 ghost use Rattle.wh_report.specs.Part.{Gathers, IsOutOrGathered};
+ghost use Rattle.wh_engine.specs.declared.fault.Fault.TheVariants as faults;
+ghost use Rattle.wh_report.specs.declared.output.ReportFault.TheVariants as report;
 
 use crate::output::ReportFault;
 use crate::part::Part;
 use crate::table_texts::DumpedTable;
 use sqlite::Alter;
-use std::alloc::Global;
+use std::alloc::{AllocError, Global};
 use std::io::Write;
 use wh_engine::{Engine, Fault};
 use wh_rows::{Table, tables};
 use wh_store::{Cursor, Scanned};
 
-/// Adds the line of a row to those that are gathered, and writes them out where they are many enough.
+/// Adds the line of a row to those that are gathered, and writes them out where they are many enough. Where memory runs out
+/// for the line, those before it go out.
 fn write_row<T: DumpedTable, W: Write>(
     alloc: Global,
     row: &T::Row,
     part: &mut Part,
     out: &mut W,
 ) -> Result<(), ReportFault>
-    ensures out { (text : List ℕ) → Gathers part.old text → IsOutOrGathered result part.new (W.contents out.old) (W.contents out.new) (text ++ row_line T.layout row.now) }
-    ensures only { IfErr result IsOfNoTable }
+    ensures out { (lines : List ℕ) → Gathers part.old lines → IsOutOrGathered result part.new (W.contents out.old) (W.contents out.new) lines (row_line T.layout row.now) }
+    ensures kinds { IfErr result IsOfNoTable }
 {
-    part.add_row::<T>(alloc, row)?;
-    if !part.is_full() {
-        return Ok(());
+    match part.add_row::<T>(alloc, row) {
+        Ok(()) if part.is_full() => part.go_out(alloc, out),
+        Ok(()) => Ok(()),
+        Err(AllocError) => Err(part.go_out_before(out, Fault::Memory)),
     }
-    part.go_out(alloc, out)
 }
 
-/// Writes what is gathered and the lines of all rows. `Memory`: also where they are more than can be counted.
+/// Writes what is gathered, the line of the columns' names, and the lines of all rows. `Memory`: also where they are more than
+/// can be counted.
 fn write_rows<T: DumpedTable + Scanned, S: Alter, W: Write>(
     alloc: Global,
     engine: &mut Engine<S>,
@@ -44,22 +49,26 @@ fn write_rows<T: DumpedTable + Scanned, S: Alter, W: Write>(
 ) -> Result<(), ReportFault>
     ensures reads { ReadsThrough engine.old.session engine.new.session (state_of S.Store engine.old.tables) (state_of S.Store engine.new.tables) (of_warehouse result) }
     ensures writes { engine.new.writes ≡ engine.old.writes }
-    ensures out { (text : List ℕ) → Gathers part.old text → SaysInFormat S.Store T.Keeps.name engine.old.tables engine.new.tables (λ t. IsOutInPieces result (W.contents out.old) (W.contents out.new) (text ++ flat_map (row_line T.StoredTable.layout) (values (T.StoredTable.rows t)))) }
-    ensures only { IfErr result IsOfDump }
+    ensures out { Gathers part.old (header_line T.StoredTable.layout) → engine.old.session.must_reopen ≡ false
+        → SaysInFormat S.Store T.Keeps.name engine.old.tables engine.new.tables (λ t. IsOutInLines result (W.contents out.old) (W.contents out.new) (table_lines T.StoredTable.layout (values (T.StoredTable.rows t)))) }
+    ensures stored { Gathers part.old (header_line T.StoredTable.layout) → engine.old.session.must_reopen ≡ false
+        → SaysAsStoredIn S.Store T.Keeps.name engine.old.tables engine.new.tables (λ stored. IsDumpOf T.StoredTable.layout T.Keeps.name (stored.rows T.Keeps.name) result (W.contents out.old) (W.contents out.new)) }
+    ensures kinds { IfErr result IsOfDump }
 {
     let mut cursor = Cursor::new(alloc);
     'rows: for _ in 0..u64::MAX {
         match engine.next_row::<T>(alloc, &mut cursor) {
             Ok(Some(row)) => write_row::<T, W>(alloc, &row, part, out)?,
             Ok(None) => return part.go_out(alloc, out),
-            Err(fault) => return Err(part.go_out_before(alloc, out, fault)),
+            Err(fault) => return Err(part.go_out_before(out, fault)),
         }
     }
-    Err(ReportFault::Warehouse(Fault::Memory))
+    Err(part.go_out_before(out, Fault::Memory))
 }
 
-/// Writes the text of a table, many lines at a time. After an `Err` what went out is a beginning of the text. Where a row
-/// can't be read, the lines of those before it go out first.
+/// Writes the text of a table, many lines at a time. Where the writer failed a beginning of it went out. After a fault of the
+/// warehouse what went out ends with the line of the last row that was read before it, or of the last for which there was
+/// memory; nothing went out where no row was asked for yet.
 #[tactic(auto, using(crate::proofs::EngineReading::unread_memory))]
 pub fn write_table<T: DumpedTable + Scanned, S: Alter, W: Write>(
     alloc: Global,
@@ -68,9 +77,16 @@ pub fn write_table<T: DumpedTable + Scanned, S: Alter, W: Write>(
 ) -> Result<(), ReportFault>
     ensures reads { ReadsThrough engine.old.session engine.new.session (state_of S.Store engine.old.tables) (state_of S.Store engine.new.tables) (of_warehouse result) }
     ensures writes { engine.new.writes ≡ engine.old.writes }
-    ensures out { SaysInFormat S.Store T.Keeps.name engine.old.tables engine.new.tables (λ t. IsOutInPieces result (W.contents out.old) (W.contents out.new) (table_text T.StoredTable.layout (values (T.StoredTable.rows t)))) }
-    ensures only { IfErr result IsOfDump }
+    ensures out { SaysInFormat S.Store T.Keeps.name engine.old.tables engine.new.tables (λ t. IsOutInLines result (W.contents out.old) (W.contents out.new) (table_lines T.StoredTable.layout (values (T.StoredTable.rows t)))) }
+    // Of any rows, whoever wrote them: all are of their types and went out, or those that come first by key.
+    ensures stored { SaysAsStoredIn S.Store T.Keeps.name engine.old.tables engine.new.tables (λ stored. IsDumpOf T.StoredTable.layout T.Keeps.name (stored.rows T.Keeps.name) result (W.contents out.old) (W.contents out.new)) }
+    ensures reopen { IsTrue engine.old.session.must_reopen → (result ≡ Err (report.Warehouse faults.Reopen)) × (engine.new.tables ≡ engine.old.tables) × (engine.new.session ≡ engine.old.session) × (W.contents out.new ≡ W.contents out.old) }
+    ensures only { result ≡ Err (report.Warehouse faults.Reopen) → IsTrue engine.old.session.must_reopen }
+    ensures kinds { IfErr result IsOfDump }
 {
+    if engine.must_reopen() {
+        return Err(ReportFault::Warehouse(Fault::Reopen));
+    }
     let mut part = Part::new(alloc);
     part.add_names::<T>(alloc)?;
     write_rows::<T, S, W>(alloc, engine, &mut part, out)
@@ -85,8 +101,11 @@ pub fn dump<S: Alter, W: Write>(
 ) -> Result<(), ReportFault>
     ensures reads { ReadsThrough engine.old.session engine.new.session (state_of S.Store engine.old.tables) (state_of S.Store engine.new.tables) (of_warehouse result) }
     ensures writes { engine.new.writes ≡ engine.old.writes }
-    ensures out { SaysInFormat S.Store table engine.old.tables engine.new.tables (λ t. IsOutInPieces result (W.contents out.old) (W.contents out.new) (text_of_table table t)) }
-    ensures only { IfErr result IsOfDump }
+    ensures out { SaysInFormat S.Store table engine.old.tables engine.new.tables (λ t. IsOutInLines result (W.contents out.old) (W.contents out.new) (lines_of_table table t)) }
+    ensures stored { SaysAsStoredIn S.Store table engine.old.tables engine.new.tables (λ stored. DumpsStored table stored result (W.contents out.old) (W.contents out.new)) }
+    ensures reopen { IsTrue engine.old.session.must_reopen → (result ≡ Err (report.Warehouse faults.Reopen)) × (engine.new.tables ≡ engine.old.tables) × (engine.new.session ≡ engine.old.session) × (W.contents out.new ≡ W.contents out.old) }
+    ensures only { result ≡ Err (report.Warehouse faults.Reopen) → IsTrue engine.old.session.must_reopen }
+    ensures kinds { IfErr result IsOfDump }
 {
     match table {
         Table::Meta => write_table::<tables::Meta, S, W>(alloc, engine, out),

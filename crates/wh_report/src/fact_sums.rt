@@ -4,10 +4,10 @@ ghost use Rattle.std.specs.Prelude.{◌≡◌, List, IfErr};
 ghost use Rattle.std.specs.FinMap.{values};
 ghost use Rattle.wh_engine.specs.Scanned.{ReadsThrough};
 ghost use Rattle.wh_rows.specs.declared.keyed_sale.KeyedSale.{KeyedSale};
-ghost use Rattle.wh_store.specs.Reads.{SaysAtRest, state_of};
+ghost use Rattle.wh_store.specs.Reads.{SaysAtRest, SaysAsStored, state_of};
 ghost use Rattle.wh_report.specs.Labels.{text_of};
 ghost use Rattle.wh_report.specs.Output.{IsOfTables, of_warehouse};
-ghost use Rattle.wh_report.specs.Reported.{IsSummed, uncounted};
+ghost use Rattle.wh_report.specs.Reported.{IsSummed, IsSummedOf, uncounted};
 ghost use Rattle.wh_report.specs.Tallied.{IsTally, IsCounted};
 
 use crate::column::LabelColumn;
@@ -81,6 +81,7 @@ pub(crate) fn summary_of<S: Alter>(
     ensures reads { ReadsThrough engine.old.session engine.new.session (state_of S.Store engine.old.tables) (state_of S.Store engine.new.tables) (of_warehouse result) }
     ensures writes { engine.new.writes ≡ engine.old.writes }
     ensures sums { SaysAtRest (state_of S.Store engine.old.tables) (state_of S.Store engine.new.tables) (λ t. IsSummed request.now column (text_of labels.now) (values t.fact) result) }
+    ensures stored { SaysAsStored (state_of S.Store engine.old.tables) (state_of S.Store engine.new.tables) (λ stored. IsSummedOf request.now column (text_of labels.now) stored result) }
     ensures only { IfErr result IsOfTables }
 {
     let mut sums = FactSums {

@@ -19,6 +19,9 @@ pub enum ReportFault {
     Write,
     #[error("the warehouse can't be read")]
     Warehouse(Fault),
+    /// The warehouse can't be read, and the writer failed as well, at the lines of the rows that were read before.
+    #[error("the warehouse can't be read, nor the text be written")]
+    Unwritten(Fault),
     /// A row that a fact names is missing in this table, or it has more facts than can be counted. Each row that is stored
     /// has values of its types.
     #[error("the warehouse's tables don't fit together")]

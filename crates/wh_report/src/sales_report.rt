@@ -1,17 +1,19 @@
 //! A report over a warehouse that is open.
 
-ghost use Rattle.std.specs.Prelude.{◌≡◌, List, Some, true, IfErr};
+ghost use Rattle.std.specs.Prelude.{◌≡◌, List, Some, Err, true, IsTrue, IfErr};
 ghost use Rattle.sqlite.specs.State.{HasCleanDisk};
 ghost use Rattle.wh_history.specs.Accepted.{Accepted};
 ghost use Rattle.wh_history.specs.Tables.{Limits};
 ghost use Rattle.wh_engine.specs.Answered.{IsReady};
 ghost use Rattle.wh_engine.specs.Scanned.{ReadsThrough};
-ghost use Rattle.wh_store.specs.Reads.{SaysAtRest, state_of};
+ghost use Rattle.wh_store.specs.Reads.{SaysAtRest, SaysAsStored, state_of};
 ghost use Rattle.wh_report.specs.Joined.{column_of};
 ghost use Rattle.wh_report.specs.Output.{IsOfTables, of_warehouse};
-ghost use Rattle.wh_report.specs.Reported.{ReportsTables, Reports, column_asked};
+ghost use Rattle.wh_report.specs.Reported.{ReportsTables, ReportsStored, Reports, column_asked};
 ghost use Rattle.wh_report.specs.Request.{has_reading};
 ghost use Rattle.wh_report.specs.Subject.{subject_in, reading_of};
+ghost use Rattle.wh_engine.specs.declared.fault.Fault.TheVariants as faults;
+ghost use Rattle.wh_report.specs.declared.output.ReportFault.TheVariants as report;
 ghost use Rattle.wh_report.specs.declared.subject.Reading.{Reading};
 ghost use Rattle.wh_report.specs.declared.subject.Subject.{Subject};
 
@@ -23,7 +25,7 @@ use crate::request::Request;
 use crate::subject::{reading_of, subject_in};
 use sqlite::Alter;
 use std::alloc::Global;
-use wh_engine::Engine;
+use wh_engine::{Engine, Fault};
 use wh_policy::Policy;
 
 /// The column in which the labels of a request stand under a policy.
@@ -49,7 +51,8 @@ fn report_over<S: Alter>(
     ensures reads { ReadsThrough engine.old.session engine.new.session (state_of S.Store engine.old.tables) (state_of S.Store engine.new.tables) (of_warehouse result) }
     ensures writes { engine.new.writes ≡ engine.old.writes }
     ensures tables { SaysAtRest (state_of S.Store engine.old.tables) (state_of S.Store engine.new.tables) (λ t. ReportsTables request.now column t result) }
-    ensures only { IfErr result IsOfTables }
+    ensures stored { SaysAsStored (state_of S.Store engine.old.tables) (state_of S.Store engine.new.tables) (λ stored. ReportsStored request.now column stored result) }
+    ensures kinds { IfErr result IsOfTables }
 {
     let labels = labels_of(alloc, engine, column)?;
     let summary = summary_of(alloc, engine, request, column, &labels)?;
@@ -70,11 +73,19 @@ pub fn report<S: Alter>(
     // Of any tables whose rows have values of their types, also of those that no warehouse made.
     ensures tables { SaysAtRest (state_of S.Store engine.old.tables) (state_of S.Store engine.new.tables) (λ t. (subject : Subject) (which : Reading)
         → subject_in engine.old.session.policy request.now.words ≡ Some subject → reading_of subject request.now.mode ≡ Some which → ReportsTables request.now (column_of subject which) t result) }
+    // And of any rows, whoever wrote them: of those that it reads none is damaged, in the columns that it reads.
+    ensures stored { SaysAsStored (state_of S.Store engine.old.tables) (state_of S.Store engine.new.tables) (λ stored. (subject : Subject) (which : Reading)
+        → subject_in engine.old.session.policy request.now.words ≡ Some subject → reading_of subject request.now.mode ≡ Some which → ReportsStored request.now (column_of subject which) stored result) }
     // Of the tables of accepted commands the text is that of the history.
     ensures reported { HasCleanDisk (state_of S.Store engine.new.tables) → (limits : Limits) (commands : List Accepted) → IsReady limits commands engine.old.session (state_of S.Store engine.old.tables)
         → Reports commands request.now result }
-    ensures only { IfErr result IsOfTables }
+    ensures reopen { IsTrue engine.old.session.must_reopen → (result ≡ Err (report.Warehouse faults.Reopen)) × (engine.new.tables ≡ engine.old.tables) × (engine.new.session ≡ engine.old.session) }
+    ensures only { result ≡ Err (report.Warehouse faults.Reopen) → IsTrue engine.old.session.must_reopen }
+    ensures kinds { IfErr result IsOfTables }
 {
+    if engine.must_reopen() {
+        return Err(ReportFault::Warehouse(Fault::Reopen));
+    }
     match column_asked(engine.policy(), request) {
         Some(column) => report_over(alloc, engine, request, column),
         None => unreachable!(),

@@ -36,7 +36,7 @@ pub fn header_line<T: DumpedTable>(alloc: Global) -> Result<Vec<u8>, AllocError>
 {
     let mut part = Part::new(alloc);
     part.add_names::<T>(alloc)?;
-    part.take(alloc)
+    Ok(part.into_lines())
 }
 
 /// The line of a row.
@@ -45,7 +45,7 @@ pub fn row_line<T: DumpedTable>(alloc: Global, row: &T::Row) -> Result<Vec<u8>, 
 {
     let mut part = Part::new(alloc);
     part.add_row::<T>(alloc, row)?;
-    part.take(alloc)
+    Ok(part.into_lines())
 }
 
 /// The whole text of a table that has these rows.
@@ -57,7 +57,7 @@ pub fn table_text<T: DumpedTable>(alloc: Global, rows: &[T::Row]) -> Result<Vec<
     for row in rows {
         text.add_row::<T>(alloc, row)?;
     }
-    text.take(alloc)
+    Ok(text.into_lines())
 }
 
 /// The whole text of product, store or customer, which have the same columns.

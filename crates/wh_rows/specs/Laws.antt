@@ -1,5 +1,5 @@
 -- What holds of the tables that accepted commands define.
-use Rattle.std.specs.Prelude.{◌≡◌, ◌≢◌, ◌⊎◌, ◌↔◌, ◌<◌, ℕ, true, false, List, [], ◌∷◌, ◌++◌, Some, None, Ok, option_map, unwrap_or}
+use Rattle.std.specs.Prelude.{◌≡◌, ◌≢◌, ◌↔◌, ◌<◌, ℕ, true, false, List, [], ◌∷◌, ◌++◌, Option, Some, None, Ok, option_map, unwrap_or}
 use Rattle.std.specs.List.{list_any}
 use Rattle.wh_policy.specs.Policy.{policy_at}
 use Rattle.wh_policy.specs.Types.{is_outrigger}
@@ -69,20 +69,34 @@ LateRecordsMoveFacts = (commands : List Accepted) (c : Accepted) (dim : Dim) (re
     → at_place number (sold commands) ≡ Some s
     → fact_of (commands ++ c ∷ []) s ≡ followed (commands ++ c ∷ []) dim s (fact_of commands s)
 
--- what a fact names of the member that has this card: its durable key, which is not 0, the one row that holds the fact's day, and its profile of that day
-pub record NamesCard (commands : List Accepted) (f : Fact) (natural : List ℕ) : Type 0 where
-  pub member : f.customer_durable ≡ durable_key Customer commands natural
-  pub numbered : 0 < f.customer_durable
-  pub row : IsEffective commands Customer f.customer_durable f.day f.keys.customer_key
-  pub profile : f.keys.profile ≡ profile_at commands f.day natural
+-- what a fact names of a member: its durable key, which is not 0, and its one row that holds the day
+pub record NamesMember (commands : List Accepted) (dim : Dim) (natural : List ℕ) (day durable key : ℕ) : Type 0 where
+  pub member : durable ≡ durable_key dim commands natural
+  pub numbered : 0 < durable
+  pub row : IsEffective commands dim durable day key
 
--- what a fact names of its customer: that of a card, or without one the row 0, with no member and no profile
-abbrev pub NamesCustomer : List Accepted → Fact → Type 0
-NamesCustomer commands f = ((natural : List ℕ) × NamesCard commands f natural) ⊎ ((f.customer_durable ≡ 0) × (f.keys.customer_key ≡ 0) × (f.keys.profile ≡ 0))
+-- what it names of its customer: the member that has the sale's card, and its profile of the day; without a card the row 0, with no member and no profile
+abbrev pub NamesCustomer : List Accepted → Option (List ℕ) → Fact → Type 0
+NamesCustomer commands (Some card) f = NamesMember commands Customer card f.day f.customer_durable f.keys.customer_key × (f.keys.profile ≡ profile_at commands f.day card)
+NamesCustomer commands None f = (f.customer_durable ≡ 0) × (f.keys.customer_key ≡ 0) × (f.keys.profile ≡ 0)
 
--- Each fact names in each dimension the one row of its member that holds the day of the sale; without a card it names the customer row 0.
+-- the fact of a sale is of its day, and names the members that the sale names
+pub record NamesItsMembers (commands : List Accepted) (s : SaleRecord) (f : Fact) : Type 0 where
+  pub day : f.day ≡ s.day
+  pub product : NamesMember commands Product s.product f.day f.product_durable f.keys.product_key
+  pub store : NamesMember commands Store s.store f.day f.store_durable f.keys.store_key
+  pub customer : NamesCustomer commands s.customer f
+
+-- the sale was accepted, and is the one of this ticket and line
+pub record IsSoldAt (commands : List Accepted) (key : LineKey) (s : SaleRecord) : Type 0 where
+  pub number : ℕ
+  pub there : at_place number (sold commands) ≡ Some s
+  pub ticket : s.ticket ≡ key.ticket
+  pub line : s.line ≡ key.line
+
+-- Each fact is that of an accepted sale of its line, and names in each dimension the one row of the sale's member that holds the sale's day; without a card it names the customer row 0.
 abbrev pub FactsAreEffective : Type 0
 FactsAreEffective = (limits : Limits) (commands : List Accepted) (key : LineKey) (f : Fact)
     → IsAccepted limits commands
     → fact_at commands key ≡ Some f
-    → IsEffective commands Product f.product_durable f.day f.keys.product_key × IsEffective commands Store f.store_durable f.day f.keys.store_key × NamesCustomer commands f
+    → (s : SaleRecord) × IsSoldAt commands key s × NamesItsMembers commands s f

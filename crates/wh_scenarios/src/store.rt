@@ -10,5 +10,6 @@ pub mod questions;
 pub mod reading;
 pub mod rows;
 pub mod scans;
+pub mod second;
 pub mod transactions;
 pub mod writing;

@@ -6,6 +6,7 @@ pub mod Opened
 pub mod Scanning
 pub mod ScanningStored
 pub mod InMemory
+pub mod Faithful
 pub mod Absent
 pub mod Upgraded
 mod FormatFaults

@@ -7,4 +7,5 @@ pub mod Upgrade
 pub mod Beginning
 pub mod InFiles
 pub mod Raw
+pub mod Faithful
 pub mod Scan

@@ -23,13 +23,13 @@ pub enum MakeFault {
 /// Why a database isn't taken for a warehouse.
 #[derive(Clone, Copy, Debug, PartialEq, Eq, Error)]
 pub enum OpenFault {
-    /// One of the ten tables or of their columns is missing, or meta has no row `format`.
+    /// A table of the format that meta says, or one of its columns, is missing, or meta has no row `format`.
     #[error("this is no warehouse")]
     NotAWarehouse,
     /// The format is below 1.
     #[error("the format is older than any that is known")]
     OldFormat,
-    /// The format is above 1, which is the newest that this program knows.
+    /// The format is above the newest that the caller knows.
     #[error("the format is newer than any that is known")]
     NewFormat,
     /// A row that is needed isn't there, or has a value out of its type.

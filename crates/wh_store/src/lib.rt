@@ -5,6 +5,7 @@ mod fault;
 mod meta;
 mod reopen;
 mod scan;
+mod scratch;
 mod tables;
 mod transaction;
 mod writing;
@@ -12,6 +13,7 @@ mod writing;
 pub use fault::{MakeFault, OpenFault};
 pub use reopen::{into_files, open_fresh, open_path, restart};
 pub use scan::{Cursor, Scan, next_row};
+pub use scratch::{Scratch, open_scratch};
 pub use tables::Tables;
 pub use wh_rows::{Cause, Format, Limits, Table};
 pub use wh_sql::{

@@ -368,8 +368,8 @@ impl<'t, S: Alter> Writing<'t, S> {
         self.put::<Meta>(alloc, &row)
     }
 
-    /// Keeps the edits. Where one of them was refused, it keeps none, also of those that were made.
-    pub fn commit(self) -> Result<(), Cause>
+    /// Keeps the edits, and answers how many keys they wrote. Where one of them was refused, it keeps none, also of those that were made.
+    pub fn commit(self) -> Result<u64, Cause>
         ensures clean { HasCleanDisk (state_of S.Store self.exit.0.now) → HasCleanDisk (state_of S.Store self.entry.tables.now) }
         ensures cause { HasCleanDisk (state_of S.Store self.exit.0.now) → self.entry.refused ≡ false → IfErr result (IsCauseOf (codes "COMMIT") [] (state_of S.Store self.entry.tables.now) (state_of S.Store self.exit.0.now)) }
         ensures written { HasCleanDisk (state_of S.Store self.exit.0.now) → (before made : Option TypedTables) → IsWriting before made (state_of S.Store self.entry.tables.now) → OnOk result (IsAtRest made (state_of S.Store self.exit.0.now)) }
@@ -377,10 +377,11 @@ impl<'t, S: Alter> Writing<'t, S> {
             → (trees : _) → (state_of S.Store self.exit.0.now).may_leave trees → AreTrees before trees ⊎ AreTrees made trees }
         ensures nothing { IsTrue self.entry.refused → (result ≡ Err Disk) × Undoes (state_of S.Store self.entry.tables.now) (state_of S.Store self.exit.0.now) }
         ensures format { OnOk result (self.exit.0.now.format ≡ self.entry.makes) }
+        ensures counted { IfOk result (λ writes. writes ≡ self.entry.writes) }
     {
         let Writing {
             tables,
-            writes: _,
+            writes,
             makes,
             refused,
         } = self;
@@ -390,7 +391,7 @@ impl<'t, S: Alter> Writing<'t, S> {
         }
         commit(&mut tables.conn)?;
         tables.format = makes;
-        Ok(())
+        Ok(writes)
     }
 }
 
@@ -413,13 +414,13 @@ impl<S: Alter> Drop for Writing<'_, S> {
     }
 }
 
-/// Makes the second format of a warehouse of the first, in one transaction.
+/// Makes the second format of a warehouse of the first, in one transaction, and answers how many keys it wrote.
 pub fn upgrade<S: Alter>(
     tables: &mut Tables<S>,
     alloc: Global,
     removes: &[Edit<Fact, LineKey>],
     puts: &[Edit<Fact2, LineKey>],
-) -> Result<(), Cause>
+) -> Result<u64, Cause>
     ensures clean { HasCleanDisk (state_of S.Store tables.new) → HasCleanDisk (state_of S.Store tables.old) }
     ensures upgraded { HasCleanDisk (state_of S.Store tables.new) → (t : TypedTables) → t.format ≡ One → IsAtRest (Some t) (state_of S.Store tables.old) → AllByRecursion (Puts (IsValid row.fact)) removes.now → AllByRecursion (Puts (IsValid row.fact2)) puts.now
         → OnOk result (IsAtRest (Some (upgraded removes.now puts.now t)) (state_of S.Store tables.new)) }
@@ -427,6 +428,7 @@ pub fn upgrade<S: Alter>(
     ensures left { HasCleanDisk (state_of S.Store tables.new) → (t : TypedTables) → t.format ≡ One → IsAtRest (Some t) (state_of S.Store tables.old) → AllByRecursion (Puts (IsValid row.fact)) removes.now → AllByRecursion (Puts (IsValid row.fact2)) puts.now
         → (trees : _) → (state_of S.Store tables.new).may_leave trees → AreTrees (Some t) trees ⊎ AreTrees (Some (upgraded removes.now puts.now t)) trees }
     ensures format { OnOk result (tables.new.format ≡ Two) }
+    ensures counted { IfOk result (λ writes. writes ≡ 1 + length removes.now + length puts.now) }
 {
     let mut writing = tables.begin()?;
     writing.upgrade(alloc, removes, puts)?;

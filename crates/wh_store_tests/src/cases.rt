@@ -10,6 +10,7 @@ mod questions;
 mod reading;
 mod rows;
 mod scans;
+mod second;
 mod transactions;
 mod writing;
 

@@ -8,7 +8,7 @@ use crate::words::{Step, push_answer, push_number};
 use crate::writing::put_past;
 use sqlite::{Alter, Connection};
 use std::alloc::Global;
-use wh_rows::Cause;
+use wh_rows::{Cause, Format};
 use wh_sql::{create, has_tables, has_taken_name};
 
 /// A step on a database.
@@ -25,7 +25,7 @@ pub fn on_database<S: Alter>(
         "create" => Ok(create(conn)?),
         "status" => status(conn, out),
         "past" => put_past(alloc, conn, out),
-        "rekey" => rekey(alloc, conn, step.rest),
+        "rekey" => rekey(alloc, conn, Format::One, step.rest),
         "put" | "row" | "remove" => edit_table(alloc, conn, step),
         _ => answer(alloc, conn, step, out),
     }

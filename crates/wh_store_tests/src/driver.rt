@@ -20,26 +20,32 @@
 //!
 //! On a warehouse:
 //! - `write` makes the edits that it is handed in one transaction, and keeps them if the last one is `commit`. Edits are `put`, `row`, `remove`,
-//!   `past` and `rekey`, as above; `make COMMANDS CHANGES FACTS`, which makes the tables for these limits; `rows 1 Cola, 2 Tea`,
+//!   `past` and `rekey`, as above; `rekey2`, the same of the second format, and `insert2 COUNT TICKET VALUES`, so many facts of it at
+//!   once, on the lines 1, 2 and so on, with these values for the other columns, which tells whether they went in;
+//!   `make COMMANDS CHANGES FACTS`, which makes the tables for these limits; `rows 1 Cola, 2 Tea`,
 //!   `edit 1 Cola` and `edits 1 Cola, 2` for products, of which those with no text go; `days FIRST PAST` for the days of a calendar;
 //!   `tries EDIT`, after whose refusal the others are still made.
-//! - `limits` tells them. `show` tells them and all rows of the ten tables.
+//! - `limits` tells them. `show` tells them and all rows of all tables.
 //! - `format` tells the format, and whether a name that the second adds is taken. `second` makes the tables of the second, and keeps them.
+//!   `upgrade` makes it the second format, into which all facts go without a discount.
+//! - `tally2 KEY` counts the facts of the second format by a key: `surrogate DIMENSION`, `durable DIMENSION`, `profile` or `day`. It
+//!   tells their number, and the sums of their keys, quantities, amounts and costs.
 //! - `scan TABLE MOST` hands out up to so many rows of a table one at a time, tells their number and the last of them, and lets the scan go.
 //!
 //! On both, questions:
 //! - `all TABLE`, `get TABLE KEY`, `count TABLE`, `length TABLE`, the number of the rows that are read, and `nth TABLE PLACE`, from 0.
-//! - `rows DIMENSION DURABLE`, `records DIMENSION DURABLE`, `sales DIMENSION DURABLE FROM TO`, `command ID`, `member DIMENSION NATURAL`,
-//!   `profile TEXT,TEXT,..`, `greatest profile`, `greatest member DIMENSION`, `anchor DIMENSION`: the types of `wh_sql` that are
-//!   called so, and `greatest_anchor`.
+//! - `rows DIMENSION DURABLE`, `records DIMENSION DURABLE`, `sales DIMENSION DURABLE FROM TO` (`sales2` of the second format), `command ID`,
+//!   `member DIMENSION NATURAL`, `profile TEXT,TEXT,..`, `greatest profile`, `greatest member DIMENSION`, `anchor DIMENSION`: the types of
+//!   `wh_sql` that are called so, and `greatest_anchor`.
 //! - `table TABLE` and `dim DIMENSION`, what a table says that it is; `read ROW`, the row as it is read from these columns.
 //!
 //! On files, where each step is a run of its own:
-//! - `make`, `write`, and `ask` for the questions that it is handed. `make left` and so on end without a close. `show` tells what they hold.
+//! - `make`, `write`, `upgrade`, and `ask` for the questions that it is handed. `make left` and so on end without a close. `show` tells
+//!   what they hold.
 //! - `restart` runs the SQL that it is handed, and the machine stops and comes back.
-//! - `stops log` and `stops database` make the edits that they are handed, or the tables if there are none, again and again, while that file stops
-//!   after no call, after one, and so on, and the machine crashes. They tell whether each time what was there is found, or all that
-//!   was written, and what that is.
+//! - `stops log` and `stops database` make the edits that they are handed, or the tables if there are none, or the upgrade if they are handed
+//!   `upgrade`, again and again, while that file stops after no call, after one, and so on, and the machine crashes. They tell whether each
+//!   time what was there is found, or all that was written, and what that is.
 //!
 //! By themselves: `limits_of COMMANDS CHANGES FACTS` and `limits_of greatest`; `columns` and `missed`, which the module `columns`
 //! explains.

@@ -3,6 +3,7 @@
 //! What is done with a connection is generic in its store, so that only `on_files` and `on_path` speak of a store over files.
 
 use crate::opening::make_tables;
+use crate::second::upgrade_all;
 use crate::tables::{on_tables, show};
 use crate::trouble::Trouble;
 use crate::words::{Step, push_answer};
@@ -24,6 +25,8 @@ pub enum Task<'a> {
     Make,
     /// It makes edits in one transaction.
     Write(&'a str),
+    /// It makes the second format of the first.
+    Upgrade,
     /// It runs a text.
     Run(&'a str),
     /// It tells all rows, and where there is no warehouse those of one that it makes.
@@ -54,6 +57,7 @@ fn perform<S: Alter + Drop>(
     match task {
         Task::Make => make_over(alloc, conn),
         Task::Write(edits) => write_over(alloc, conn, edits, out),
+        Task::Upgrade => upgrade_over(alloc, conn),
         Task::Run(text) => run_over(conn, text),
         Task::Show => show_over(alloc, conn, out),
         Task::Ask(questions) => ask_over(alloc, conn, questions, out),
@@ -79,6 +83,16 @@ fn write_over<S: Alter + Drop>(
     match Tables::open(alloc, conn, Format::Two) {
         Ok(mut tables) => {
             let answer = write(alloc, &mut tables, edits, out);
+            (tables.close(), answer)
+        }
+        Err((fault, conn)) => (conn, Err(Trouble::Unopened(fault))),
+    }
+}
+
+fn upgrade_over<S: Alter + Drop>(alloc: Global, conn: Connection<S>) -> (Connection<S>, Answer) {
+    match Tables::open(alloc, conn, Format::Two) {
+        Ok(mut tables) => {
+            let answer = upgrade_all(alloc, &mut tables);
             (tables.close(), answer)
         }
         Err((fault, conn)) => (conn, Err(Trouble::Unopened(fault))),
@@ -209,6 +223,7 @@ pub fn run_step<D: Crash + Drop>(
     let end = end_of(step);
     match step.verb {
         "make" => on_files(alloc, files, Task::Make, end, out),
+        "upgrade" => on_files(alloc, files, Task::Upgrade, end, out),
         "write" => on_files(alloc, files, Task::Write(step.body), end, out),
         "ask" => on_files(alloc, files, Task::Ask(step.body), end, out),
         "restart" => on_files(alloc, files, Task::Run(step.body), End::Restart, out),
@@ -314,14 +329,18 @@ fn judged<D: Crash + Drop>(
     }
 }
 
-/// `log` or `database`: makes the edits that it is handed, or the tables where there are none, while that file stops at each call in turn.
-/// It tells what was found, and what all the edits leave.
+/// Edits, `upgrade`, or nothing, for the making.
+fn task_of(body: &str) -> Task<'_> {
+    match body {
+        "" => Task::Make,
+        "upgrade\n" => Task::Upgrade,
+        edits => Task::Write(edits),
+    }
+}
+
+/// `log` or `database`: does the task while that file stops at each call in turn. It tells what was found, and what the whole task leaves.
 pub fn stops(alloc: Global, files: &Disks, step: Step<'_>, out: &mut String) -> Answer {
-    let task = if step.body.is_empty() {
-        Task::Make
-    } else {
-        Task::Write(step.body)
-    };
+    let task = task_of(step.body);
     let before = shown(alloc, fused(alloc, files, u64::MAX, u64::MAX)?)?;
     let after = tried(alloc, fused(alloc, files, u64::MAX, u64::MAX)?, task)?.found;
     let found = Found {

@@ -1,4 +1,4 @@
-//! What holds the ten tables: a connection, or the tables over it.
+//! What holds the tables: a connection, or the tables over it.
 
 use sqlite::{Alter, Connection};
 use std::alloc::Global;
@@ -95,7 +95,13 @@ pub trait Writes {
 
     fn remove_row<T: Keeps>(&mut self, alloc: Global, key: &T::Key) -> Result<(), Cause>;
 
-    fn rekey_fact(&mut self, alloc: Global, line: &LineKey, keys: &FactKeys) -> Result<(), Cause>;
+    fn rekey_fact(
+        &mut self,
+        alloc: Global,
+        format: Format,
+        line: &LineKey,
+        keys: &FactKeys,
+    ) -> Result<(), Cause>;
 }
 
 impl<S: Alter> Writes for Connection<S> {
@@ -107,8 +113,14 @@ impl<S: Alter> Writes for Connection<S> {
         wh_sql::remove::<T, S>(alloc, self, key)
     }
 
-    fn rekey_fact(&mut self, alloc: Global, line: &LineKey, keys: &FactKeys) -> Result<(), Cause> {
-        wh_sql::rekey(alloc, self, Format::One, line, keys)
+    fn rekey_fact(
+        &mut self,
+        alloc: Global,
+        format: Format,
+        line: &LineKey,
+        keys: &FactKeys,
+    ) -> Result<(), Cause> {
+        wh_sql::rekey(alloc, self, format, line, keys)
     }
 }
 
@@ -121,7 +133,16 @@ impl<S: Alter> Writes for Writing<'_, S> {
         self.remove::<T>(alloc, key)
     }
 
-    fn rekey_fact(&mut self, alloc: Global, line: &LineKey, keys: &FactKeys) -> Result<(), Cause> {
-        self.rekey(alloc, line, keys)
+    fn rekey_fact(
+        &mut self,
+        alloc: Global,
+        format: Format,
+        line: &LineKey,
+        keys: &FactKeys,
+    ) -> Result<(), Cause> {
+        match format {
+            Format::One => self.rekey(alloc, line, keys),
+            Format::Two => self.rekey2(alloc, line, keys),
+        }
     }
 }

@@ -27,6 +27,8 @@ mod rows;
 #[cfg(test)]
 mod scans;
 #[cfg(test)]
+mod second;
+#[cfg(test)]
 mod tables;
 #[cfg(test)]
 mod told;

@@ -21,10 +21,11 @@ pub fn limits_of(words: &str) -> Result<Limits, Trouble> {
 /// Makes the ten tables for 10 commands, 200 changes and 3,000 facts, and keeps them.
 pub fn make_tables<S: Alter>(alloc: Global, tables: &mut Tables<S>) -> Result<(), Trouble> {
     let limits = limits_of("10 200 3000")?;
-    Ok(make_for(alloc, tables, limits)?)
+    make_for(alloc, tables, limits)?;
+    Ok(())
 }
 
-fn make_for<S: Alter>(alloc: Global, tables: &mut Tables<S>, limits: Limits) -> Result<(), Cause> {
+fn make_for<S: Alter>(alloc: Global, tables: &mut Tables<S>, limits: Limits) -> Result<u64, Cause> {
     let mut writing = tables.begin()?;
     writing.make(alloc, limits)?;
     writing.commit()

@@ -9,11 +9,11 @@ use std::alloc::{AllocError, Global};
 use wh_day::{Value, Values};
 use wh_policy::Dim;
 use wh_rows::Table;
-use wh_rows::tables::{Change, Command, Customer, Fact, Member, Product, Profile, Store};
+use wh_rows::tables::{Change, Command, Customer, Fact, Fact2, Member, Product, Profile, Store};
 use wh_scenarios::parted;
 use wh_sql::{
-    CommandOf, Dimension, Greatest, GreatestOf, MemberOf, ProfileOf, Question, RecordsOf, RowsOf,
-    SalesBetween,
+    CommandOf, Dimension, Facts, Greatest, GreatestOf, MemberOf, ProfileOf, Question, RecordsOf,
+    RowsOf, SalesBetween,
 };
 
 /// A step that only reads.
@@ -47,7 +47,8 @@ fn answer_more<H: Reads>(
         "member" => member(alloc, held, step.rest, out),
         "profile" => profile(alloc, held, step.rest, out),
         "records" => records(alloc, held, step.rest, out),
-        "sales" => sales(alloc, held, step.rest, out),
+        "sales" => sales::<Fact, H>(alloc, held, step.rest, out),
+        "sales2" => sales::<Fact2, H>(alloc, held, step.rest, out),
         _ => Err(Trouble::Unknown),
     }
 }
@@ -193,7 +194,7 @@ fn records<H: Reads>(
 }
 
 /// `DIMENSION DURABLE FROM TO`: the facts of a member from one day to another.
-fn sales<H: Reads>(
+fn sales<T: Told + Facts, H: Reads>(
     alloc: Global,
     held: &mut H,
     words: &str,
@@ -208,5 +209,5 @@ fn sales<H: Reads>(
         from: day(from)?,
         to: day(to)?,
     };
-    told::<Fact, SalesBetween, H>(alloc, held, &question, out)
+    told::<T, SalesBetween, H>(alloc, held, &question, out)
 }

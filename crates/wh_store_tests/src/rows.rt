@@ -9,9 +9,9 @@ use std::alloc::{AllocError, Global};
 use wh_day::{ReadError, Value};
 use wh_history::FactKeys;
 use wh_rows::tables::{
-    Calendar, Change, Command, Customer, Fact, Member, Meta, Product, Profile, Store,
+    Calendar, Change, Command, Customer, Fact, Fact2, Member, Meta, Product, Profile, Store, Void,
 };
-use wh_rows::{Cause, LineKey, Table};
+use wh_rows::{Cause, Format, LineKey, Table};
 use wh_scenarios::parted;
 
 /// The columns of these values.
@@ -138,7 +138,8 @@ pub fn on_table<H: Reads>(
         Table::Profile => on_rows::<Profile, H>(alloc, held, step, out),
         Table::Calendar => on_rows::<Calendar, H>(alloc, held, step, out),
         Table::Fact => on_rows::<Fact, H>(alloc, held, step, out),
-        Table::Fact2 | Table::Void => Err(Trouble::Unknown),
+        Table::Fact2 => on_rows::<Fact2, H>(alloc, held, step, out),
+        Table::Void => on_rows::<Void, H>(alloc, held, step, out),
     }
 }
 
@@ -197,12 +198,18 @@ pub fn edit_table<W: Writes>(alloc: Global, writes: &mut W, step: Step<'_>) -> R
         Table::Profile => edit_rows::<Profile, W>(alloc, writes, step),
         Table::Calendar => edit_rows::<Calendar, W>(alloc, writes, step),
         Table::Fact => edit_rows::<Fact, W>(alloc, writes, step),
-        Table::Fact2 | Table::Void => Err(Trouble::Unknown),
+        Table::Fact2 => edit_rows::<Fact2, W>(alloc, writes, step),
+        Table::Void => edit_rows::<Void, W>(alloc, writes, step),
     }
 }
 
-/// `TICKET LINE STORE PRODUCT CUSTOMER PROFILE`: gives a fact these keys.
-pub fn rekey<W: Writes>(alloc: Global, writes: &mut W, words: &str) -> Result<(), Trouble> {
+/// `TICKET LINE STORE PRODUCT CUSTOMER PROFILE`: gives a fact of a format these keys.
+pub fn rekey<W: Writes>(
+    alloc: Global,
+    writes: &mut W,
+    format: Format,
+    words: &str,
+) -> Result<(), Trouble> {
     let (ticket, words) = parted(words, ' ');
     let (line, words) = parted(words, ' ');
     let line = LineKey {
@@ -210,7 +217,7 @@ pub fn rekey<W: Writes>(alloc: Global, writes: &mut W, words: &str) -> Result<()
         line: line_number(line)?,
     };
     let keys = fact_keys(words)?;
-    Ok(writes.rekey_fact(alloc, &line, &keys)?)
+    Ok(writes.rekey_fact(alloc, format, &line, &keys)?)
 }
 
 fn fact_keys(words: &str) -> Result<FactKeys, Trouble> {

@@ -8,7 +8,7 @@ use sqlite::Alter;
 use std::alloc::Global;
 use wh_rows::Table;
 use wh_rows::tables::{
-    Calendar, Change, Command, Customer, Fact, Member, Meta, Product, Profile, Store,
+    Calendar, Change, Command, Customer, Fact, Fact2, Member, Meta, Product, Profile, Store, Void,
 };
 use wh_store::{Scan, Scanned, Tables};
 
@@ -95,6 +95,8 @@ pub fn scan_table<S: Alter>(
         Table::Member => scan::<Member, S>(alloc, tables, step.rest, out),
         Table::Change => scan::<Change, S>(alloc, tables, step.rest, out),
         Table::Fact => scan::<Fact, S>(alloc, tables, step.rest, out),
+        Table::Fact2 => scan::<Fact2, S>(alloc, tables, step.rest, out),
+        Table::Void => scan::<Void, S>(alloc, tables, step.rest, out),
         table => scan_numbered(alloc, tables, table, step.rest, out),
     }
 }

@@ -3,6 +3,7 @@
 use crate::questions::answer;
 use crate::rows::on_table;
 use crate::scans::scan_table;
+use crate::second::{tally, upgrade_all};
 use crate::trouble::Trouble;
 use crate::words::{Step, push_answer, push_counts};
 use crate::writing::write;
@@ -24,6 +25,8 @@ pub fn on_tables<S: Alter>(
         "scan" => scan_table(alloc, tables, step, out),
         "format" => format(tables, out),
         "second" => add_second(tables),
+        "upgrade" => upgrade_all(alloc, tables),
+        "tally2" => tally(tables, step.rest, out),
         _ => answer(alloc, tables, step, out),
     }
 }
@@ -47,7 +50,8 @@ fn format<S: Alter>(tables: &mut Tables<S>, out: &mut String) -> Result<(), Trou
 fn add_second<S: Alter>(tables: &mut Tables<S>) -> Result<(), Trouble> {
     let mut writing = tables.begin()?;
     writing.add_second()?;
-    Ok(writing.commit()?)
+    writing.commit()?;
+    Ok(())
 }
 
 /// The most commands, changes and facts.
@@ -68,7 +72,7 @@ pub fn push_limits(out: &mut String, limits: Limits) -> Result<(), Trouble> {
     Ok(())
 }
 
-const ALL: [Table; 10] = [
+const ALL: [Table; 12] = [
     Table::Meta,
     Table::Command,
     Table::Member,
@@ -79,6 +83,8 @@ const ALL: [Table; 10] = [
     Table::Profile,
     Table::Calendar,
     Table::Fact,
+    Table::Fact2,
+    Table::Void,
 ];
 
 /// The limits, and each row of each table.

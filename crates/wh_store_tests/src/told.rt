@@ -1,4 +1,4 @@
-//! The ten tables as a scenario tells of them: their keys from words, and their rows column by column.
+//! The tables as a scenario tells of them: their keys from words, and their rows column by column.
 
 use crate::trouble::Trouble;
 use crate::words::{
@@ -9,7 +9,8 @@ use std::alloc::Global;
 use wh_day::{DateRow, Day, Value};
 use wh_history::{DimRow, Fact};
 use wh_rows::{
-    ChangeKey, ChangeRow, CommandRow, LineKey, MemberKey, MemberRow, MetaRow, ProfileRow, tables,
+    ChangeKey, ChangeRow, CommandRow, Fact2, LineKey, MemberKey, MemberRow, MetaRow, ProfileRow,
+    VoidRow, tables,
 };
 use wh_scenarios::parted;
 use wh_sql::Keeps;
@@ -144,22 +145,55 @@ impl Told for tables::Calendar {
 
 impl Told for tables::Fact {
     fn key_of(alloc: Global, words: &str) -> Result<LineKey, Trouble> {
-        let (ticket, line) = parted(words, ' ');
-        Ok(LineKey {
-            ticket: Value::new(alloc, ticket)?,
-            line: line_number(line)?,
-        })
+        line_key(alloc, words)
     }
 
     fn push(out: &mut String, row: &Fact) -> Result<(), Trouble> {
+        push_fact(out, row)
+    }
+}
+
+impl Told for tables::Fact2 {
+    fn key_of(alloc: Global, words: &str) -> Result<LineKey, Trouble> {
+        line_key(alloc, words)
+    }
+
+    fn push(out: &mut String, row: &Fact2) -> Result<(), Trouble> {
+        push_fact(out, &row.fact)?;
+        push_count(out, row.discount)
+    }
+}
+
+impl Told for tables::Void {
+    fn key_of(alloc: Global, words: &str) -> Result<LineKey, Trouble> {
+        line_key(alloc, words)
+    }
+
+    fn push(out: &mut String, row: &VoidRow) -> Result<(), Trouble> {
         push_text(out, row.ticket.as_str())?;
         push_count(out, u64::from(row.line))?;
-        push_day(out, row.day)?;
-        push_counts(out, &keys_of(row))?;
-        push_number(out, row.quantity)?;
-        push_number(out, row.amount)?;
-        push_number(out, row.cost)
+        push_count(out, row.command)
     }
+}
+
+/// A line as `T1 2`.
+fn line_key(alloc: Global, words: &str) -> Result<LineKey, Trouble> {
+    let (ticket, line) = parted(words, ' ');
+    Ok(LineKey {
+        ticket: Value::new(alloc, ticket)?,
+        line: line_number(line)?,
+    })
+}
+
+/// The columns of a fact, without what the second format adds.
+fn push_fact(out: &mut String, row: &Fact) -> Result<(), Trouble> {
+    push_text(out, row.ticket.as_str())?;
+    push_count(out, u64::from(row.line))?;
+    push_day(out, row.day)?;
+    push_counts(out, &keys_of(row))?;
+    push_number(out, row.quantity)?;
+    push_number(out, row.amount)?;
+    push_number(out, row.cost)
 }
 
 fn push_member_row(out: &mut String, row: &DimRow) -> Result<(), Trouble> {

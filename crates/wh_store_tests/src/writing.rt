@@ -4,6 +4,7 @@ use crate::calendar::put_days;
 use crate::held::Writes;
 use crate::opening::limits_of;
 use crate::rows::{edit_table, member_values, rekey, row_of};
+use crate::second::insert;
 use crate::trouble::Trouble;
 use crate::words::{Step, number, push_count, push_trouble};
 use sqlite::Alter;
@@ -11,7 +12,7 @@ use std::alloc::Global;
 use wh_history::{DimRow, Edit};
 use wh_rows::tables::Product;
 use wh_scenarios::parted;
-use wh_store::{Tables, Writing};
+use wh_store::{Format, Tables, Writing};
 
 /// Makes the edits, keeps them where the last one is `commit`, and tells how many keys were written.
 pub fn write<S: Alter>(
@@ -86,7 +87,9 @@ fn make_edit<S: Alter>(
         "edit" => edit(alloc, writing, rest),
         "edits" => edit_each(alloc, writing, rest),
         "past" => put_past(alloc, writing, out),
-        "rekey" => rekey(alloc, writing, rest),
+        "rekey" => rekey(alloc, writing, Format::One, rest),
+        "rekey2" => rekey(alloc, writing, Format::Two, rest),
+        "insert2" => insert(alloc, writing, rest, out),
         "commit" | "drop" => Ok(()),
         _ => edit_table(alloc, writing, step),
     }

@@ -118,6 +118,24 @@ scan fact 9999
 scan fact 257
 = 257
 = fact 'T2', 75, 20230316, 1, 1, 0, 1, 1, 0, 0, 1, 100, 50
+
+# In the second format.
+upgrade
+close
+sql INSERT INTO void SELECT ticket, line, 1 FROM fact2
+open
+= opened
+scan fact 9999
+= 0
+scan fact2 9999
+= 547
+= fact2 'T2', 365, 20231231, 1, 1, 0, 1, 1, 0, 0, 1, 100, 50, 0
+scan fact2 257
+= 257
+= fact2 'T2', 75, 20230316, 1, 1, 0, 1, 1, 0, 0, 1, 100, 50, 0
+scan void 257
+= 257
+= void 'T2', 75, 1
 ";
 
 pub const DAMAGED: &str = "

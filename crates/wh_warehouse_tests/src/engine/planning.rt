@@ -30,7 +30,7 @@ use wh_store::Tables;
 
 type InMemory = Tables<MemStore>;
 
-fn make(alloc: Global, tables: &mut InMemory, policy: &Policy) -> Result<(), Cause> {
+fn make(alloc: Global, tables: &mut InMemory, policy: &Policy) -> Result<u64, Cause> {
     let mut writing = tables.begin()?;
     let bytes = b"first_year = 2023";
     write_making(&mut writing, alloc, Limits::greatest(), policy, bytes)?;
@@ -276,7 +276,7 @@ fn plan(alloc: Global, tables: &mut InMemory, words: &str, handed: &str) -> Resu
     Ok(edits)
 }
 
-fn write(alloc: Global, tables: &mut InMemory, edits: &Edits) -> Result<(), Cause> {
+fn write(alloc: Global, tables: &mut InMemory, edits: &Edits) -> Result<u64, Cause> {
     let mut writing = tables.begin()?;
     write_edits(&mut writing, alloc, edits)?;
     writing.commit()

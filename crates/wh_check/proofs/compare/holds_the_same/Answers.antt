@@ -2,7 +2,6 @@ use Rattle.std.proofs.Common.{◌≡◌, Bool, true, false, List, [], ◌∷◌,
 use Rattle.std.specs.Prelude.{IsTrue, IfSome}
 use Rattle.std.specs.FinMap.{values, get}
 use Rattle.sqlite.specs.Order.{Row}
-use Rattle.sqlite.specs.Steps.{over_memory}
 use Rattle.std.proofs.lemmas.Result.{err_from_is_err_and}
 use Rattle.wh_rows.specs.Parts.{forward, stands_behind}
 use Rattle.wh_store.specs.Reads.{state_of}
@@ -51,8 +50,8 @@ returns-then-not-same-clause-same g c clean stored at t rest =
     let rows = stored.rows g.T.Keeps.name in
     let placed = g.met.T.Keeps.placed in
     let m = g.T.StoredTable.rows t in
-    let memory = (state_of over_memory c.args.expected.now).now in
-    let held = placed.held memory t rest.now.tables (g.met.T.Plain.in_each t.format) in
+    let second = (state_of g.M.Store c.args.expected.now).now in
+    let held = placed.held second t rest.1.now.tables (g.met.T.Plain.in_each t.format) in
     let here = g.met.T.Plain.in_each stored.format ∙ sym (g.met.T.Plain.in_each c.rows.tables.format) in
     let kept = c.rows.invariant in
     let read = c.in_ok-row.ensures in
@@ -62,8 +61,8 @@ returns-then-not-same-clause-same g c clean stored at t rest =
     let once = g.met.T.Scanned.once (state_of g.S.Store c.args.tables.now).now stored at.now in
     let left = rows_left layout m c.rows.ahead in
     let seen : HasSeen layout rows (values m) left Left false = subst (HasSeen layout rows (values m) left Left) c.if-not-same.true (kept.seen before stored at t rest) in
-    rows_or_not layout placed.total placed.same memory.trees m held rows false
-    (compared_other layout bind g.T.Keeps.stands_at g.met.T.Scanned.keyed rows once (values m) (listed layout memory.trees m (get m) held (λ _. refl)).rise Left ends left seen)
+    rows_or_not layout placed.total placed.same second.trees m held rows false
+    (compared_other layout bind g.T.Keeps.stands_at g.met.T.Scanned.keyed rows once (values m) (listed layout second.trees m (get m) held (λ _. refl)).rise Left ends left seen)
 
 pub returns-in-None-clause-same : goal.returns-in-None-clause-same
 returns-in-None-clause-same g c clean stored at t rest =
@@ -72,8 +71,8 @@ returns-in-None-clause-same g c clean stored at t rest =
     let rows = stored.rows g.T.Keeps.name in
     let placed = g.met.T.Keeps.placed in
     let m = g.T.StoredTable.rows t in
-    let memory = (state_of over_memory c.args.expected.now).now in
-    let held = placed.held memory t rest.now.tables (g.met.T.Plain.in_each t.format) in
+    let second = (state_of g.M.Store c.args.expected.now).now in
+    let held = placed.held second t rest.1.now.tables (g.met.T.Plain.in_each t.format) in
     let here = g.met.T.Plain.in_each stored.format ∙ sym (g.met.T.Plain.in_each c.rows.tables.format) in
     let kept = c.rows.invariant in
     let read = c.in_ok-row.ensures in
@@ -84,8 +83,8 @@ returns-in-None-clause-same g c clean stored at t rest =
     let left = rows_left layout m c.rows.ahead in
     let seen : HasSeen layout rows (values m) left Left true = subst (HasSeen layout rows (values m) left Left) c.if-not-same.false (kept.seen before stored at t rest) in
     let end = c.in_ok-end-in-None.end in
-    rows_or_not layout placed.total placed.same memory.trees m held rows end
-    (compared layout bind g.T.Keeps.stands_at g.met.T.Scanned.keyed rows once (values m) (listed layout memory.trees m (get m) held (λ _. refl)).rise Left ends left end (c.in_ok-end-in-None.ensures.end t (kept.rests t rest)) seen)
+    rows_or_not layout placed.total placed.same second.trees m held rows end
+    (compared layout bind g.T.Keeps.stands_at g.met.T.Scanned.keyed rows once (values m) (listed layout second.trees m (get m) held (λ _. refl)).rise Left ends left end (c.in_ok-end-in-None.ensures.end t (kept.rests t rest)) seen)
 
 pub rows-preserved : goal.rows-preserved
 rows-preserved g c =

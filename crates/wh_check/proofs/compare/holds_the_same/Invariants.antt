@@ -1,19 +1,18 @@
 use Rattle.std.specs.Prelude.{Ok, Some}
 use Rattle.std.specs.FinMap.{values}
-use Rattle.sqlite.specs.Steps.{over_memory}
-use Rattle.wh_rows.specs.AtRest.{IsAtRest}
-use Rattle.wh_rows.specs.Tables.{Tables as TenTables}
+use Rattle.wh_rows.specs.Tables.{Tables as TypedTables}
+use Rattle.wh_store.specs.Faithful.{RestsFaithfully}
 use Rattle.wh_store.specs.Reads.{ReadsOnly, state_of, SaysAsStored}
 use Rattle.wh_store.specs.Scan.{AreLeft, AreValid, rows_left}
 use Rattle.wh_check.proofs.Comparing.{HasSeen}
 use Rattle.wh_check.proofs.compare.holds_the_same.Given as goal
 
--- what was handed out so far of any stored rows, against those that the warehouse in memory holds
+-- what was handed out so far of any stored rows, against those that the second warehouse holds
 abbrev pub invariant-rows : goal.invariant-rows
 invariant-rows g l = record {
   reads : ReadsOnly (state_of g.S.Store l.fn.tables) (state_of g.S.Store l.tables) (Ok l.same);
-  rests : (t : TenTables) → IsAtRest (Some t) (state_of over_memory l.fn.expected) → IsAtRest (Some t) (state_of over_memory l.expected);
+  rests : (t : TypedTables) → RestsFaithfully g.M.Store (Some t) l.fn.expected.conn → RestsFaithfully g.M.Store (Some t) l.expected.conn;
   valid : SaysAsStored (state_of g.S.Store l.fn.tables) (state_of g.S.Store l.tables) (λ _. AreValid g.T.StoredTable.layout l.cursor);
-  seen : SaysAsStored (state_of g.S.Store l.fn.tables) (state_of g.S.Store l.tables) (λ stored. (t : TenTables) → IsAtRest (Some t) (state_of over_memory l.fn.expected)
+  seen : SaysAsStored (state_of g.S.Store l.fn.tables) (state_of g.S.Store l.tables) (λ stored. (t : TypedTables) → RestsFaithfully g.M.Store (Some t) l.fn.expected.conn
       → HasSeen g.T.StoredTable.layout (stored.rows g.T.Keeps.name) (values (g.T.StoredTable.rows t)) (rows_left g.T.StoredTable.layout (g.T.StoredTable.rows t) l.ahead) (AreLeft g.T.StoredTable.layout g.T.Keeps.bind (stored.rows g.T.Keeps.name) l.cursor) l.same);
 }

@@ -16,52 +16,52 @@ use Rattle.wh_engine.proofs.checking.is_defined_in.Goals as goal
 pub returns-in-Meta-clause-defined : goal.returns-in-Meta-clause-defined
 returns-in-Meta-clause-defined g c clean stored rests first limits commands holds =
     subst (λ table. IfOk c.holds_the_same.result (IsDefinedIn limits commands stored table)) (sym c.in-Meta.is)
-    (told_so row.meta (get holds.tables.meta) (meta_at limits) (stored.rows Meta) c.holds_the_same.result holds.are.meta (c.holds_the_same.ensures.same clean stored rests holds.tables holds.rests))
+    (told_so row.meta (get holds.1.tables.meta) (meta_at limits) (stored.rows Meta) c.holds_the_same.result holds.1.are.meta (c.holds_the_same.ensures.same clean stored rests holds.1.tables (holds.0, holds.1.rests)))
 
 pub returns-in-Command-clause-defined : goal.returns-in-Command-clause-defined
 returns-in-Command-clause-defined g c clean stored rests first limits commands holds =
     subst (λ table. IfOk c.holds_the_same-in-Command.result (IsDefinedIn limits commands stored table)) (sym c.in-Command.is)
-    (told_so row.command (get holds.tables.command) (command_at commands) (stored.rows Command) c.holds_the_same-in-Command.result holds.are.command (c.holds_the_same-in-Command.ensures.same clean stored rests holds.tables holds.rests))
+    (told_so row.command (get holds.1.tables.command) (command_at commands) (stored.rows Command) c.holds_the_same-in-Command.result holds.1.are.command (c.holds_the_same-in-Command.ensures.same clean stored rests holds.1.tables (holds.0, holds.1.rests)))
 
 pub returns-in-Member-clause-defined : goal.returns-in-Member-clause-defined
 returns-in-Member-clause-defined g c clean stored rests first limits commands holds =
     subst (λ table. IfOk c.holds_the_same-in-Member.result (IsDefinedIn limits commands stored table)) (sym c.in-Member.is)
-    (told_so row.member (get holds.tables.member) (member_at commands) (stored.rows Member) c.holds_the_same-in-Member.result holds.are.member (c.holds_the_same-in-Member.ensures.same clean stored rests holds.tables holds.rests))
+    (told_so row.member (get holds.1.tables.member) (member_at commands) (stored.rows Member) c.holds_the_same-in-Member.result holds.1.are.member (c.holds_the_same-in-Member.ensures.same clean stored rests holds.1.tables (holds.0, holds.1.rests)))
 
 pub returns-in-Change-clause-defined : goal.returns-in-Change-clause-defined
 returns-in-Change-clause-defined g c clean stored rests first limits commands holds =
     subst (λ table. IfOk c.holds_the_same-in-Change.result (IsDefinedIn limits commands stored table)) (sym c.in-Change.is)
-    (told_so row.change (get holds.tables.change) (change_at commands) (stored.rows Change) c.holds_the_same-in-Change.result holds.are.change (c.holds_the_same-in-Change.ensures.same clean stored rests holds.tables holds.rests))
+    (told_so row.change (get holds.1.tables.change) (change_at commands) (stored.rows Change) c.holds_the_same-in-Change.result holds.1.are.change (c.holds_the_same-in-Change.ensures.same clean stored rests holds.1.tables (holds.0, holds.1.rests)))
 
 pub returns-in-Product-clause-defined : goal.returns-in-Product-clause-defined
 returns-in-Product-clause-defined g c clean stored rests first limits commands holds =
     subst (λ table. IfOk c.holds_the_same-in-Product.result (IsDefinedIn limits commands stored table)) (sym c.in-Product.is)
-    (told_so row.product (get holds.tables.product) (dimension_row commands Products) (stored.rows Product) c.holds_the_same-in-Product.result holds.are.product (c.holds_the_same-in-Product.ensures.same clean stored rests holds.tables holds.rests))
+    (told_so row.product (get holds.1.tables.product) (dimension_row commands Products) (stored.rows Product) c.holds_the_same-in-Product.result holds.1.are.product (c.holds_the_same-in-Product.ensures.same clean stored rests holds.1.tables (holds.0, holds.1.rests)))
 
 pub returns-in-Store-clause-defined : goal.returns-in-Store-clause-defined
 returns-in-Store-clause-defined g c clean stored rests first limits commands holds =
     subst (λ table. IfOk c.holds_the_same-in-Store.result (IsDefinedIn limits commands stored table)) (sym c.in-Store.is)
-    (told_so row.store (get holds.tables.store) (dimension_row commands Stores) (stored.rows Store) c.holds_the_same-in-Store.result holds.are.store (c.holds_the_same-in-Store.ensures.same clean stored rests holds.tables holds.rests))
+    (told_so row.store (get holds.1.tables.store) (dimension_row commands Stores) (stored.rows Store) c.holds_the_same-in-Store.result holds.1.are.store (c.holds_the_same-in-Store.ensures.same clean stored rests holds.1.tables (holds.0, holds.1.rests)))
 
 pub returns-in-Customer-clause-defined : goal.returns-in-Customer-clause-defined
 returns-in-Customer-clause-defined g c clean stored rests first limits commands holds =
     subst (λ table. IfOk c.holds_the_same-in-Customer.result (IsDefinedIn limits commands stored table)) (sym c.in-Customer.is)
-    (told_so row.customer (get holds.tables.customer) (dimension_row commands Customers) (stored.rows Customer) c.holds_the_same-in-Customer.result holds.are.customer (c.holds_the_same-in-Customer.ensures.same clean stored rests holds.tables holds.rests))
+    (told_so row.customer (get holds.1.tables.customer) (dimension_row commands Customers) (stored.rows Customer) c.holds_the_same-in-Customer.result holds.1.are.customer (c.holds_the_same-in-Customer.ensures.same clean stored rests holds.1.tables (holds.0, holds.1.rests)))
 
 pub returns-in-Profile-clause-defined : goal.returns-in-Profile-clause-defined
 returns-in-Profile-clause-defined g c clean stored rests first limits commands holds =
     subst (λ table. IfOk c.holds_the_same-in-Profile.result (IsDefinedIn limits commands stored table)) (sym c.in-Profile.is)
-    (told_so row.profile (get holds.tables.profile) (profile_at commands) (stored.rows Profile) c.holds_the_same-in-Profile.result holds.are.profile (c.holds_the_same-in-Profile.ensures.same clean stored rests holds.tables holds.rests))
+    (told_so row.profile (get holds.1.tables.profile) (profile_at commands) (stored.rows Profile) c.holds_the_same-in-Profile.result holds.1.are.profile (c.holds_the_same-in-Profile.ensures.same clean stored rests holds.1.tables (holds.0, holds.1.rests)))
 
 pub returns-in-Calendar-clause-defined : goal.returns-in-Calendar-clause-defined
 returns-in-Calendar-clause-defined g c clean stored rests first limits commands holds =
     subst (λ table. IfOk c.holds_the_same-in-Calendar.result (IsDefinedIn limits commands stored table)) (sym c.in-Calendar.is)
-    (told_so row.calendar (get holds.tables.calendar) (calendar_at commands) (stored.rows Calendar) c.holds_the_same-in-Calendar.result holds.are.calendar (c.holds_the_same-in-Calendar.ensures.same clean stored rests holds.tables holds.rests))
+    (told_so row.calendar (get holds.1.tables.calendar) (calendar_at commands) (stored.rows Calendar) c.holds_the_same-in-Calendar.result holds.1.are.calendar (c.holds_the_same-in-Calendar.ensures.same clean stored rests holds.1.tables (holds.0, holds.1.rests)))
 
 pub returns-in-Fact-clause-defined : goal.returns-in-Fact-clause-defined
 returns-in-Fact-clause-defined g c clean stored rests first limits commands holds =
     subst (λ table. IfOk c.holds_the_same-in-Fact.result (IsDefinedIn limits commands stored table)) (sym c.in-Fact.is)
-    (told_so row.fact (get holds.tables.fact) (fact_at commands) (stored.rows Fact) c.holds_the_same-in-Fact.result holds.are.fact (c.holds_the_same-in-Fact.ensures.same clean stored rests holds.tables holds.rests))
+    (told_so row.fact (get holds.1.tables.fact) (fact_at commands) (stored.rows Fact) c.holds_the_same-in-Fact.result holds.1.are.fact (c.holds_the_same-in-Fact.ensures.same clean stored rests holds.1.tables (holds.0, holds.1.rests)))
 
 -- ---- of a table that the first format hasn't
 

@@ -1,5 +1,6 @@
 use Rattle.std.proofs.Common.{subst}
 use Rattle.std.proofs.lemmas.Result.{err_from_is_err_and}
+use Rattle.sqlite.specs.Files.{over_files}
 use Rattle.wh_check.specs.Meta.{AreLimitsSaid}
 use Rattle.wh_engine.specs.Replica.{IsReplicated}
 use Rattle.wh_engine.proofs.JudgedTables.{meta_fault, command_fault, command_none, rest_judged}
@@ -27,7 +28,7 @@ returns-in_default-2-clause-judged g c clean stored rests format_is =
     let before = second.reads.clean clean in
     let at = first.reads.rests before stored rests tt in
     let meta = subst (AreLimitsSaid stored) c.in-Some.is (first.said before stored rests) in
-    command_none stored c.in-Some.limits meta (subst (IsReplicated stored c.in-Some.limits) c.in_default-2.is (second.replicated clean stored at))
+    command_none stored c.in-Some.limits meta (subst (IsReplicated over_files stored c.in-Some.limits) c.in_default-2.is (second.replicated clean stored at))
 
 pub returns-clause-judged : goal.returns-clause-judged
 returns-clause-judged g c clean stored rests format_is =
@@ -39,5 +40,26 @@ returns-clause-judged g c clean stored rests format_is =
     let at = first.reads.rests before stored rests tt in
     let then_at = second.reads.rests after stored at tt in
     let meta = subst (AreLimitsSaid stored) c.in-Some.is (first.said before stored rests) in
-    rest_judged stored c.in-Some.limits meta c.in-Some-2.replica c.judge_tables.result (subst (IsReplicated stored c.in-Some.limits) c.in-Some-2.is (second.replicated after stored at))
+    rest_judged stored c.in-Some.limits meta over_files c.in-Some-2.replica c.judge_tables.result (subst (IsReplicated over_files stored c.in-Some.limits) c.in-Some-2.is (second.replicated after stored at))
     (λ limits commands holds said. third.judged clean stored then_at format_is limits commands holds said)
+
+pub returns-clause-reads : goal.returns-clause-reads
+returns-clause-reads g c =
+    let first = c.in_ok-limits.ensures.reads in
+    let second = c.in_ok-replica.ensures.reads in
+    let third = c.judge_tables.ensures.reads in
+    record {
+      clean = λ clean. first.clean (second.clean (third.clean clean));
+      same = λ clean t at calm.
+          let after = third.clean clean in
+          third.same clean t (second.same after t (first.same (second.clean after) t at tt) tt) calm;
+      left = λ clean t at.
+          let after = third.clean clean in
+          third.left clean t (second.same after t (first.same (second.clean after) t at tt) tt);
+      rests = λ clean stored at calm.
+          let after = third.clean clean in
+          third.rests clean stored (second.rests after stored (first.rests (second.clean after) stored at tt) tt) calm;
+      leaves = λ clean stored at.
+          let after = third.clean clean in
+          third.leaves clean stored (second.rests after stored (first.rests (second.clean after) stored at tt) tt);
+    }

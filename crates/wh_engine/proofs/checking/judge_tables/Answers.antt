@@ -2,7 +2,7 @@ use Rattle.std.proofs.Common.{◌≡◌, ◌+◌, suc, sym, subst, arith}
 use Rattle.std.proofs.lemmas.Result.{err_from_is_err_and}
 use Rattle.wh_check.proofs.ReadsOn.{answers_other, reads_on, fails_other}
 use Rattle.wh_engine.specs.Judging.{IsDefinedIn}
-use Rattle.wh_engine.proofs.JudgedTables.{AreDefinedTo, one_more, clean_judged, wrong_judged, fault_judged}
+use Rattle.wh_engine.proofs.JudgedTables.{AreDefinedTo, still_holds, one_more, clean_judged, wrong_judged, fault_judged}
 use Rattle.wh_engine.proofs.checking.judge_tables.Goals as goal
 
 pub returns-in_err-is_defined_in-clause-reads : goal.returns-in_err-is_defined_in-clause-reads
@@ -32,7 +32,7 @@ returns-then-not-branch-clause-judged g c clean stored rests first limits comman
     let less = c.tables-test.true in
     let is = c.table_at-table.ensures (omega (arith, less)) in
     let defined = subst (AreDefinedTo limits commands stored) (sym is) (kept.defined before stored rests first limits commands holds) in
-    let told = read.defined clean stored at first limits commands (record { tables = holds.tables; are = holds.are; rests = kept.still holds.tables holds.rests }) in
+    let told = read.defined clean stored at first limits commands (still_holds g.M.Store limits commands c.args.replica.now c.tables.replica holds (kept.still holds.1.tables (holds.0, holds.1.rests)).1) in
     wrong_judged limits commands stored said table defined (subst (IsDefinedIn limits commands stored table) c.if-not-branch.true told)
 
 pub tables-preserved : goal.tables-preserved
@@ -51,7 +51,7 @@ tables-preserved g c =
       defined = λ clean stored rests first limits commands holds.
           let before = read.reads.clean clean in
           let at = kept.reads.rests before stored rests tt in
-          let told = read.defined clean stored at first limits commands (record { tables = holds.tables; are = holds.are; rests = kept.still holds.tables holds.rests }) in
+          let told = read.defined clean stored at first limits commands (still_holds g.M.Store limits commands c.args.replica.now c.tables.replica holds (kept.still holds.1.tables (holds.0, holds.1.rests)).1) in
           let follows : c.tables.place + 1 ≡ suc c.tables.place = omega arith in
           one_more limits commands stored c.tables.place (c.tables.place + 1) table follows is (kept.defined before stored rests first limits commands holds) (subst (IsDefinedIn limits commands stored table) c.if-not-branch.false told);
     }

@@ -1,23 +1,22 @@
 use Rattle.std.proofs.Common.{◌≡◌, ◌≤◌, ◌<◌, List, Some, Ok}
-use Rattle.sqlite.specs.Steps.{over_memory}
 use Rattle.wh_history.specs.Accepted.{Accepted}
 use Rattle.wh_history.specs.Tables.{Limits}
 use Rattle.wh_rows.specs.declared.format.Format.TheVariants.{One}
-use Rattle.wh_rows.specs.AtRest.{IsAtRest}
 use Rattle.wh_rows.specs.Tables.{Tables as TenTables}
 use Rattle.wh_rows.specs.declared.table.Table.{Table}
 use Rattle.wh_admission.specs.Checked.{IsDefined, table_place}
+use Rattle.wh_store.specs.Faithful.{RestsFaithfully}
 use Rattle.wh_store.specs.Reads.{ReadsOnly, state_of, SaysAsStored}
 use Rattle.wh_engine.specs.Replica.{HoldsAll}
 use Rattle.wh_engine.proofs.checking.judge_tables.Given as goal
 
--- the tables before this place, but for meta and the commands, are as they are defined, and the tables in memory are as they were
+-- the tables before this place, but for meta and the commands, are as they are defined, and the tables of the second warehouse are as they were
 abbrev pub invariant-tables : goal.invariant-tables
 invariant-tables g l = record {
   reads : ReadsOnly (state_of g.S.Store l.fn.tables) (state_of g.S.Store l.tables) (Ok l.place);
   from : 2 ≤ l.place;
   to : l.place ≤ 12;
-  still : (t : TenTables) → IsAtRest (Some t) (state_of over_memory l.fn.replica) → IsAtRest (Some t) (state_of over_memory l.replica);
-  defined : SaysAsStored (state_of g.S.Store l.fn.tables) (state_of g.S.Store l.tables) (λ stored. stored.format ≡ One → (limits : Limits) (commands : List Accepted) → HoldsAll limits commands l.fn.replica
+  still : (t : TenTables) → RestsFaithfully g.M.Store (Some t) l.fn.replica.conn → RestsFaithfully g.M.Store (Some t) l.replica.conn;
+  defined : SaysAsStored (state_of g.S.Store l.fn.tables) (state_of g.S.Store l.tables) (λ stored. stored.format ≡ One → (limits : Limits) (commands : List Accepted) → HoldsAll g.M.Store limits commands l.fn.replica
       → (earlier : Table) → 2 ≤ table_place earlier → table_place earlier < l.place → IsDefined limits commands stored earlier);
 }

@@ -1,33 +1,31 @@
 use Rattle.std.proofs.Common.{◌≡◌, Some, None, Ok, Err, sym, ap, subst, ◌∙◌}
-use Rattle.sqlite.specs.Steps.{over_memory}
 use Rattle.wh_batch.specs.Kind.{command_kind_of}
 use Rattle.wh_store.specs.Reads.{state_of}
 use Rattle.wh_engine.specs.Answered.{IsAnswered}
 use Rattle.wh_engine.specs.Replica.{IsOpenFor}
 use Rattle.wh_engine.proofs.Followed.{sent, no_kind, is_accepted, is_again, is_refused}
-use Rattle.wh_store.proofs.InMemory.{is_clean}
 use Rattle.wh_engine.proofs.replica.follow.Goals as goal
 
 pub returns-in_default : goal.returns-in_default
-returns-in_default c limits commands ready =
+returns-in_default g c limits commands ready =
     let none : command_kind_of c.args.row.kind ≡ None = sym (ap command_kind_of c.as_str.ensures) ∙ sym c.from_word.ensures ∙ c.in_default.is in
-    no_kind limits commands c.args.row (λ list. IsOpenFor limits list c.args.engine.now) ready.admitted none
+    no_kind limits commands c.args.row (λ list. IsOpenFor g.M.Store limits list c.args.engine.now) ready.1.admitted none
 
 pub returns-in-Ok-Accepted : goal.returns-in-Ok-Accepted
-returns-in-Ok-Accepted c limits commands ready =
+returns-in-Ok-Accepted g c limits commands ready =
     let told : command_kind_of c.args.row.kind ≡ Some c.in-Some.kind = sym (ap command_kind_of c.as_str.ensures) ∙ sym c.from_word.ensures ∙ c.in-Some.is in
-    let said = c.in-Ok-Accepted.ensures.answered (is_clean c.apply.new.self.tables.conn) limits commands ready in
-    is_accepted limits commands c.args.row (λ list. IsOpenFor limits list c.apply.new.self) ready.admitted c.in-Some.kind told c.in-Ok-Accepted.receipt c.says.result (said.0 ∙ ap Ok c.in-Ok-Accepted.field-0-is) c.says.ensures said.1
+    let said = c.in-Ok-Accepted.ensures.answered (ready.0 c.apply.new.self.tables.conn) limits commands ready.1 in
+    is_accepted limits commands c.args.row (λ list. IsOpenFor g.M.Store limits list c.apply.new.self) ready.1.admitted c.in-Some.kind told c.in-Ok-Accepted.receipt c.says.result (said.0 ∙ ap Ok c.in-Ok-Accepted.field-0-is) c.says.ensures (ready.0, said.1)
 
 pub returns-in-Ok-Already : goal.returns-in-Ok-Already
-returns-in-Ok-Already c limits commands ready =
+returns-in-Ok-Already g c limits commands ready =
     let told : command_kind_of c.args.row.kind ≡ Some c.in-Some.kind = sym (ap command_kind_of c.as_str.ensures) ∙ sym c.from_word.ensures ∙ c.in-Some.is in
-    let said = c.in-Ok-Already.ensures.answered (is_clean c.apply.new.self.tables.conn) limits commands ready in
-    is_again limits commands c.args.row (λ list. IsOpenFor limits list c.apply.new.self) ready.admitted c.in-Some.kind told c.in-Ok-Already.field-0-0 (said.0 ∙ ap Ok c.in-Ok-Already.field-0-is)
+    let said = c.in-Ok-Already.ensures.answered (ready.0 c.apply.new.self.tables.conn) limits commands ready.1 in
+    is_again limits commands c.args.row (λ list. IsOpenFor g.M.Store limits list c.apply.new.self) ready.1.admitted c.in-Some.kind told c.in-Ok-Already.field-0-0 (said.0 ∙ ap Ok c.in-Ok-Already.field-0-is)
 
 pub returns-in-Err-Refused : goal.returns-in-Err-Refused
-returns-in-Err-Refused c limits commands ready =
+returns-in-Err-Refused g c limits commands ready =
     let told : command_kind_of c.args.row.kind ≡ Some c.in-Some.kind = sym (ap command_kind_of c.as_str.ensures) ∙ sym c.from_word.ensures ∙ c.in-Some.is in
-    let said = subst (λ f. IsAnswered limits commands (sent c.args.row c.in-Some.kind) (Err f) c.apply.new.self.session (state_of over_memory c.apply.new.self.tables)) c.in-Err-Refused.field-0-is
-    (c.in-Err-Refused.ensures.answered (is_clean c.apply.new.self.tables.conn) limits commands ready) in
-    is_refused limits commands c.args.row (λ list. IsOpenFor limits list c.apply.new.self) ready.admitted c.in-Some.kind told c.in-Err-Refused.field-0-0 said.0
+    let said = subst (λ f. IsAnswered limits commands (sent c.args.row c.in-Some.kind) (Err f) c.apply.new.self.session (state_of g.M.Store c.apply.new.self.tables)) c.in-Err-Refused.field-0-is
+    (c.in-Err-Refused.ensures.answered (ready.0 c.apply.new.self.tables.conn) limits commands ready.1) in
+    is_refused limits commands c.args.row (λ list. IsOpenFor g.M.Store limits list c.apply.new.self) ready.1.admitted c.in-Some.kind told c.in-Err-Refused.field-0-0 said.0

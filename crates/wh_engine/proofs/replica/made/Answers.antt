@@ -1,11 +1,10 @@
 use Rattle.std.proofs.Common.{[], ◌∷◌, sym, ap, subst, ◌∙◌}
-use Rattle.sqlite.specs.Steps.{over_memory}
+use Rattle.sqlite.specs.Files.{over_files}
 use Rattle.wh_policy.specs.Policy.{policy_at}
 use Rattle.wh_rows.specs.Sound.{making_of}
 use Rattle.wh_store.specs.Reads.{state_of}
 use Rattle.wh_engine.specs.Answered.{IsReady}
 use Rattle.wh_engine.proofs.Followed.{made_next, no_making, no_policy}
-use Rattle.wh_store.proofs.InMemory.{is_clean}
 use Rattle.wh_engine.proofs.replica.made.Goals as goal
 
 pub returns-then-not-is_making_row : goal.returns-then-not-is_making_row
@@ -15,9 +14,10 @@ pub returns-in-Ok : goal.returns-in-Ok
 returns-in-Ok c =
     let engine = c.in-Ok.engine in
     let policy = engine.session.policy in
-    let made = c.in-Ok.ensures.made (is_clean engine.tables.conn) c.in_ok-connection.ensures in
-    let ready = subst (λ bytes. IsReady c.args.limits (making_of policy bytes ∷ []) engine.session (state_of over_memory engine.tables)) c.as_slice.ensures made in
-    (making_of policy c.args.row.now.bytes, made_next c.args.limits c.args.row.now policy (sym c.is_making_row.ensures ∙ c.if-not-is_making_row.false) ready.admitted, ready)
+    let fresh = c.in_ok-connection.ensures in
+    let made = c.in-Ok.ensures.made (fresh.0 engine.tables.conn) fresh.1 in
+    let ready = subst (λ bytes. IsReady c.args.limits (making_of policy bytes ∷ []) engine.session (state_of over_files engine.tables)) c.as_slice.ensures made in
+    (making_of policy c.args.row.now.bytes, made_next c.args.limits c.args.row.now policy (sym c.is_making_row.ensures ∙ c.if-not-is_making_row.false) ready.admitted, (fresh.0, ready))
 
 pub returns-in-Err-Policy-default : goal.returns-in-Err-Policy-default
 returns-in-Err-Policy-default c =

@@ -22,28 +22,18 @@ returns-in_err-write_edits-clause-left g c =
     ] in all in
     rw same at left
 
-pub returns-in-Ok-clause-written : goal.returns-in-Ok-clause-written
-returns-in-Ok-clause-written g c =
+pub returns-clause-written : goal.returns-clause-written
+returns-clause-written g c =
     let end = c.commit.new.self.0 in
     let same : end ≡ c.tables-2-1.given.0 = search rules in
     let written = λ (clean : HasCleanDisk (state g.S.Store end.conn)) (t : Tables) (rests : IsAtRest (Some t) (state g.S.Store c.args.tables.now.conn)) (may : MayBeWritten c.args.edits.now).
     let before = c.commit.ensures.clean clean in
     let begun = c.in_ok-writing.ensures.begun (c.write_edits.ensures.writes.clean before) (Some t) rests in
-    c.in-Ok.ensures.written clean (Some t) _ (c.in_ok-write_edits.ensures.written before (Some t) t begun may) in
+    c.commit.ensures.written clean (Some t) _ (c.in_ok-write_edits.ensures.written before (Some t) t begun may) in
     rw same at written
 
-pub returns-in-Ok-clause-left : goal.returns-in-Ok-clause-left
-returns-in-Ok-clause-left g c =
-    let end = c.commit.new.self.0 in
-    let same : end ≡ c.tables-2-1.given.0 = search rules in
-    let left = λ (clean : HasCleanDisk (state g.S.Store end.conn)) (t : Tables) (rests : IsAtRest (Some t) (state g.S.Store c.args.tables.now.conn)) (may : MayBeWritten c.args.edits.now).
-    let before = c.commit.ensures.clean clean in
-    let begun = c.in_ok-writing.ensures.begun (c.write_edits.ensures.writes.clean before) (Some t) rests in
-    c.commit.ensures.left clean (Some t) _ (c.in_ok-write_edits.ensures.written before (Some t) t begun may) in
-    rw same at left
-
-pub returns-in-Err-clause-left : goal.returns-in-Err-clause-left
-returns-in-Err-clause-left g c =
+pub returns-clause-left : goal.returns-clause-left
+returns-clause-left g c =
     let end = c.commit.new.self.0 in
     let same : end ≡ c.tables-2-1.given.0 = search rules in
     let left = λ (clean : HasCleanDisk (state g.S.Store end.conn)) (t : Tables) (rests : IsAtRest (Some t) (state g.S.Store c.args.tables.now.conn)) (may : MayBeWritten c.args.edits.now).

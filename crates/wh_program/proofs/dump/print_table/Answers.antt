@@ -1,7 +1,7 @@
 use Rattle.std.proofs.Common.{inl, refl, sym, ap, ◌∙◌, Ok, Err}
 use Rattle.wh_rows.specs.Names.{is_there}
 use Rattle.wh_program.specs.Answer.{status_code, done}
-use Rattle.wh_report.specs.Dump.{text_of_table}
+use Rattle.wh_report.specs.Dump.{lines_of_table, text_of_table}
 use Rattle.wh_report.specs.Output.{of_warehouse}
 use Rattle.wh_store.specs.Reads.{state_of}
 use Rattle.wh_program.proofs.ReadingLemmas.{left, stopped-dump}
@@ -19,7 +19,6 @@ returns-in-Err-clause-dumped g c = λ clean first limits commands ready.
     let at = ready.rests in
     let read = of_warehouse {A = Unit {0}} (Err c.in-Err.fault) in
     let stays = left limits commands read c.dump.new.engine.session (state_of g.S.Store c.dump.new.engine.tables) (c.in-Err.ensures.reads.serves clean limits commands ready) in
-    let text = text_of_table c.args.table at.tables in
-    let said = stopped-dump text c.in-Err.fault (g.W.Write.contents c.args.out.now) (g.W.Write.contents c.dump.new.out) (g.W.Write.contents c.print_stop.new.out) (status_code c.print_stop.result)
-    c.in-Err.ensures.only (c.in-Err.ensures.out clean at.tables (ap (is_there c.args.table) (at.are.format ∙ sym first)) at.rests) c.print_stop.ensures in
+    let said = stopped-dump (lines_of_table c.args.table at.tables) c.in-Err.fault (g.W.Write.contents c.args.out.now) (g.W.Write.contents c.dump.new.out) (g.W.Write.contents c.print_stop.new.out) (status_code c.print_stop.result)
+    c.in-Err.ensures.kinds (c.in-Err.ensures.out clean at.tables (ap (is_there c.args.table) (at.are.format ∙ sym first)) at.rests) c.print_stop.ensures in
     (stays.0, (said.0, record { tables = at.tables; are = at.are; read = read; leaves = stays.1; tells = said.1 }, said.2), stays.2)

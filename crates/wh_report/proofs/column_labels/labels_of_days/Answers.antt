@@ -1,7 +1,10 @@
-use Rattle.std.proofs.Common.{refl, rules}
+use Rattle.std.proofs.Common.{refl, rules, []}
+use Rattle.wh_rows.specs.Keys.{bind_number}
+use Rattle.wh_rows.specs.declared.table.Table.TheVariants as table
 use Rattle.std.specs.Prelude.{Ok}
 use Rattle.wh_rows.specs.Rows as row
 use Rattle.wh_report.proofs.EngineReading.{unread, and_then, answered, handed_out}
+use Rattle.wh_report.proofs.Arranged.{seen_none, none_ahead, made_more, made_all}
 use Rattle.wh_report.proofs.HandedRows.{none_seen, one_seen, all_seen, no_labels}
 use Rattle.wh_report.proofs.Outputs.{row_handed, none_handed}
 use Rattle.wh_report.proofs.column_labels.labels_of_days.Goals as goal
@@ -11,6 +14,7 @@ days-init g c = record {
   reads = unread _ _ tt;
   writes = search rules;
   labels = λ clean t at. none_seen _ _ _ (c.new-cursor.ensures.left row.calendar t.calendar) (no_labels _ c.new-labels.ensures);
+  stored = λ clean stored on. record { done = []; seen = seen_none row.calendar (stored.rows table.Calendar) _ (c.new-cursor.ensures.left_stored row.calendar bind_number (stored.rows table.Calendar)); ahead = none_ahead row.calendar.is_valid _ c.new-cursor.ensures.none; made = no_labels _ c.new-labels.ensures };
 }
 
 pub days-preserved : goal.days-preserved
@@ -23,6 +27,10 @@ days-preserved g c =
       labels = λ clean t at.
           let before = read.reads.spares.clean clean in
           one_seen _ _ c.in-Some.row _ _ _ (row_handed _ _ _ c.in-Some.row c.in-Some.is (read.rows clean t refl (kept.reads.spares.same before t at tt))) (kept.labels before t at) (λ done made. c.in_ok-add_date-in-Some.ensures done made);
+      stored = λ clean stored on.
+          let before = read.reads.spares.clean clean in
+          let rests = kept.reads.spares.rests before stored on tt in
+          made_more row.calendar bind_number (stored.rows table.Calendar) _ _ _ _ c.in-Some.row _ _ _ _ _ c.in-Some.is (kept.stored before stored on) (read.valid clean stored refl rests) (read.stored clean stored refl rests) (λ done made. c.in_ok-add_date-in-Some.ensures done made);
     }
 
 pub returns-in-None-clause-reads : goal.returns-in-None-clause-reads
@@ -34,3 +42,11 @@ returns-in-None-clause-labels g c clean t at =
     let read = c.in_ok-row.ensures in
     let before = read.reads.spares.clean clean in
     all_seen _ _ _ (none_handed _ _ _ c.in-None.is (read.rows clean t refl (kept.reads.spares.same before t at tt))) (kept.labels before t at)
+
+pub returns-in-None-clause-stored : goal.returns-in-None-clause-stored
+returns-in-None-clause-stored g c clean stored on =
+    let kept = c.days.invariant in
+    let read = c.in_ok-row.ensures in
+    let before = read.reads.spares.clean clean in
+    let rests = kept.reads.spares.rests before stored on tt in
+    made_all row.calendar bind_number (stored.rows table.Calendar) _ _ _ _ _ _ _ c.in-None.is (kept.stored before stored on) (read.stored clean stored refl rests)

@@ -1,6 +1,10 @@
-use Rattle.std.proofs.Common.{rules}
+use Rattle.std.proofs.Common.{rules, []}
+use Rattle.wh_rows.specs.Keys.{bind_number}
+use Rattle.wh_report.specs.Joined.{table_of_dim}
+use Rattle.wh_report.specs.Reported.{layout_of_dim}
 use Rattle.std.specs.Prelude.{Ok}
 use Rattle.wh_report.proofs.EngineReading.{unread, and_then, answered, handed_out}
+use Rattle.wh_report.proofs.Arranged.{seen_none, none_ahead, made_more, made_all}
 use Rattle.wh_report.proofs.HandedRows.{none_seen, one_seen, all_seen, no_labels, all_left}
 use Rattle.wh_report.proofs.Outputs.{row_handed, none_handed}
 use Rattle.wh_report.proofs.column_labels.labels_of_rows.Goals as goal
@@ -10,6 +14,7 @@ rows-init g c = record {
   reads = unread _ _ tt;
   writes = search rules;
   labels = λ clean t at. none_seen _ _ _ (all_left _ c.new-cursor.ensures.left c.args.dim t) (no_labels _ c.new-labels.ensures);
+  stored = λ clean stored on. record { done = []; seen = seen_none (layout_of_dim c.args.dim) (stored.rows (table_of_dim c.args.dim)) _ (c.new-cursor.ensures.left_stored (layout_of_dim c.args.dim) bind_number (stored.rows (table_of_dim c.args.dim))); ahead = none_ahead (layout_of_dim c.args.dim).is_valid _ c.new-cursor.ensures.none; made = no_labels _ c.new-labels.ensures };
 }
 
 pub rows-preserved : goal.rows-preserved
@@ -22,6 +27,10 @@ rows-preserved g c =
       labels = λ clean t at.
           let before = read.reads.spares.clean clean in
           one_seen _ _ c.in-Some.row _ _ _ (row_handed _ _ _ c.in-Some.row c.in-Some.is (read.rows clean t (kept.reads.spares.same before t at tt))) (kept.labels before t at) (λ done made. c.in_ok-add_row-in-Some.ensures done made);
+      stored = λ clean stored on.
+          let before = read.reads.spares.clean clean in
+          let rests = kept.reads.spares.rests before stored on tt in
+          made_more (layout_of_dim c.args.dim) bind_number (stored.rows (table_of_dim c.args.dim)) _ _ _ _ c.in-Some.row _ _ _ _ _ c.in-Some.is (kept.stored before stored on) (read.valid clean stored rests) (read.stored clean stored rests) (λ done made. c.in_ok-add_row-in-Some.ensures done made);
     }
 
 pub returns-in-None-clause-reads : goal.returns-in-None-clause-reads
@@ -33,3 +42,11 @@ returns-in-None-clause-labels g c clean t at =
     let read = c.in_ok-row.ensures in
     let before = read.reads.spares.clean clean in
     all_seen _ _ _ (none_handed _ _ _ c.in-None.is (read.rows clean t (kept.reads.spares.same before t at tt))) (kept.labels before t at)
+
+pub returns-in-None-clause-stored : goal.returns-in-None-clause-stored
+returns-in-None-clause-stored g c clean stored on =
+    let kept = c.rows.invariant in
+    let read = c.in_ok-row.ensures in
+    let before = read.reads.spares.clean clean in
+    let rests = kept.reads.spares.rests before stored on tt in
+    made_all (layout_of_dim c.args.dim) bind_number (stored.rows (table_of_dim c.args.dim)) _ _ _ _ _ _ _ c.in-None.is (kept.stored before stored on) (read.stored clean stored rests)

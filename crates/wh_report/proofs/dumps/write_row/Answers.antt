@@ -1,15 +1,17 @@
-use Rattle.std.proofs.lemmas.Result.{err_from_is_err_and}
+use Rattle.std.proofs.Common.{◌∙◌, subst}
+use Rattle.wh_report.specs.Output.{IsOutWhole, IsOutBefore}
 use Rattle.wh_report.proofs.Outputs.{none_out}
-use Rattle.wh_report.proofs.Parts.{gone}
+use Rattle.wh_report.proofs.Parts.{gone, line_lost, told_memory}
 use Rattle.wh_report.proofs.dumps.write_row.Goals as goal
 
-pub returns-in_err-add_row-clause-out : goal.returns-in_err-add_row-clause-out
-returns-in_err-add_row-clause-out g c text gathered =
-    let p = err_from_is_err_and c.from_residual.result c.from_residual.ensures.1 in
-    rw (p.1, p.2) (_, none_out _ _)
+pub returns-in-Ok-clause-out : goal.returns-in-Ok-clause-out
+returns-in-Ok-clause-out g c lines gathered = gone _ _ _ lines _ c.go_out.result c.go_out.ensures.anew (subst (IsOutWhole c.go_out.result _ _) (c.in-Ok.ensures.added lines gathered).lines c.go_out.ensures.out)
 
-pub returns-then-not-is_full-clause-out : goal.returns-then-not-is_full-clause-out
-returns-then-not-is_full-clause-out g c text gathered = (_, c.in_ok-add_row.ensures text gathered, none_out _ _)
+pub returns-in-Ok-2-clause-out : goal.returns-in-Ok-2-clause-out
+returns-in-Ok-2-clause-out g c lines gathered = (_, c.in-Ok-2.ensures.added lines gathered, none_out _ _)
 
-pub returns-clause-out : goal.returns-clause-out
-returns-clause-out g c text gathered = gone _ _ _ _ _ c.go_out.ensures.anew (c.go_out.ensures.out _ (c.in_ok-add_row.ensures text gathered))
+pub returns-in-Err-clause-out : goal.returns-in-Err-clause-out
+returns-in-Err-clause-out g c lines gathered = line_lost _ c.go_out_before.result _ _ lines _ (subst (IsOutBefore _ c.go_out_before.result _ _) (c.in-Err.ensures.kept ∙ gathered.lines) c.go_out_before.ensures)
+
+pub returns-in-Err-clause-kinds : goal.returns-in-Err-clause-kinds
+returns-in-Err-clause-kinds g c = told_memory c.go_out_before.result _ _ _ c.go_out_before.ensures

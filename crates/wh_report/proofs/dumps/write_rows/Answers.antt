@@ -1,77 +1,194 @@
-use Rattle.std.proofs.Common.{refl, sym, ap, ◌∙◌, rules}
-use Rattle.wh_rows.specs.Names.{is_there}
+use Rattle.std.proofs.Common.{◌∷◌, [], ◌++◌, refl, sym, ap, subst, ◌∙◌, append-nil, rules}
 use Rattle.std.specs.Prelude.{Err}
 use Rattle.std.proofs.lemmas.Result.{err_from_is_err_and}
-use Rattle.wh_report.specs.Dump.{row_line}
-use Rattle.wh_report.proofs.EngineReading.{unread, and_then, faulted, handed_out, ended}
+use Rattle.wh_rows.specs.Names.{is_there}
+use Rattle.wh_engine.specs.declared.fault.Fault.TheVariants as faults
+use Rattle.wh_report.specs.Dump.{header_line, row_line}
+use Rattle.wh_report.specs.Output.{IsOutWhole, IsOutBefore}
+use Rattle.wh_report.proofs.Arranged.{seen_none, seen_one, seen_all, seen_some, row_hands, none_hands, left_there, valid_hands, none_ahead}
+use Rattle.wh_report.proofs.EngineReading.{unread, and_then, faulted, handed_out, ended, out_of_memory, never_reopen}
 use Rattle.wh_report.proofs.Outputs.{row_handed, none_handed}
-use Rattle.wh_report.proofs.Parts.{begun, row_added, row_not_added, last_out, stopped}
+use Rattle.wh_report.proofs.Parts.{begun, row_added, row_not_added, last_out, stopped, one_more, told_fault, told_dump, names_none, named_none, named_before, read_to_end, lines_for}
 use Rattle.wh_report.proofs.dumps.write_rows.Goals as goal
 
 pub rows-init : goal.rows-init
-rows-init g c = record {
-  reads = unread _ _ tt;
-  same_format = refl;
-  writes = search rules;
-  out = λ text gathered clean t same at. rw (c.new-cursor.ensures.left g.T.StoredTable.layout (g.T.StoredTable.rows t)) (begun _ _ text _ gathered);
-}
+rows-init g c =
+    let layout = g.T.StoredTable.layout in
+    record {
+      reads = unread _ _ tt;
+      same_format = refl;
+      writes = search rules;
+      gone = λ gathered. record {
+        done = [];
+        going = begun (header_line layout) (row_line layout) _ _ gathered;
+        typed = λ clean t same at. c.new-cursor.ensures.left layout (g.T.StoredTable.rows t);
+        stored = λ clean stored same on. (seen_none layout (stored.rows g.T.Keeps.name) _ (c.new-cursor.ensures.left_stored layout g.T.Keeps.bind (stored.rows g.T.Keeps.name)), none_ahead layout.is_valid _ c.new-cursor.ensures.none);
+      };
+    }
 
 pub rows-preserved : goal.rows-preserved
 rows-preserved g c =
+    let layout = g.T.StoredTable.layout in
     let kept = c.rows.invariant in
     let read = c.in-Ok-Some.ensures in
+    let row = c.in-Ok-Some.row in
     record {
       reads = handed_out _ _ _ _ _ _ _ c.in-Ok-Some.field-0 kept.reads read.reads;
       same_format = read.same_format ∙ kept.same_format;
       writes = search rules;
-      out = λ text gathered clean t same at.
-          let before = read.reads.spares.clean clean in
-          let going = kept.out text gathered before t same at in
-          row_added (row_line g.T.StoredTable.layout) _ _ _ _ _ _ c.in-Ok-Some.row _ _ c.in_ok-write_row-in-Ok-Some.field-0
-          (row_handed _ _ _ c.in-Ok-Some.row c.in-Ok-Some.field-0-is (read.rows clean t (same ∙ sym (ap (is_there g.T.Keeps.name) kept.same_format)) (kept.reads.spares.same before t at tt))) going
-          (c.in_ok-write_row-in-Ok-Some.ensures.out going.rest going.gathered);
+      gone = λ gathered.
+          let it = kept.gone gathered in
+          record {
+            done = it.done ++ row ∷ [];
+            going = row_added (header_line layout) (row_line layout) _ _ _ _ _ it.done row c.in_ok-write_row-in-Ok-Some.field-0 it.going (c.in_ok-write_row-in-Ok-Some.ensures.out it.going.rest it.going.gathered);
+            typed = λ clean t same at.
+                let before = read.reads.spares.clean clean in
+                one_more it.done _ _ _ row (row_handed _ _ _ row c.in-Ok-Some.field-0-is (read.rows clean t (same ∙ sym (ap (is_there g.T.Keeps.name) kept.same_format)) (kept.reads.spares.same before t at tt))) (it.typed before t same at);
+            stored = λ clean stored same on.
+                let before = read.reads.spares.clean clean in
+                let there = same ∙ sym (ap (is_there g.T.Keeps.name) kept.same_format) in
+                let rests = kept.reads.spares.rests before stored on tt in
+                let seen = it.stored before stored same on in
+                let good = valid_hands _ _ _ row c.in-Ok-Some.field-0-is (read.valid clean stored there rests seen.1) in
+                (seen_one layout (stored.rows g.T.Keeps.name) _ _ it.done row seen.0 good.0 (row_hands layout g.T.Keeps.bind (stored.rows g.T.Keeps.name) _ _ _ _ row _ c.in-Ok-Some.field-0-is (read.stored clean stored there rests)), good.1);
+          };
     }
 
 pub returns-in_err-write_row-in-Ok-Some-clause-reads : goal.returns-in_err-write_row-in-Ok-Some-clause-reads
 returns-in_err-write_row-in-Ok-Some-clause-reads g c =
     let read = c.in-Ok-Some.ensures in
     let p = err_from_is_err_and c.from_residual.result c.from_residual.ensures.1 in
-    rw (p.1, p.2) (ended {B = Unit {0}} _ _ _ _ tt (Err c.in_err-write_row-in-Ok-Some.field-0.0) c.in_err-write_row-in-Ok-Some.ensures.only (handed_out _ _ _ _ _ _ _ c.in-Ok-Some.field-0 c.rows.invariant.reads read.reads))
+    rw (p.1, p.2) (ended {B = Unit {0}} _ _ _ _ tt (Err c.in_err-write_row-in-Ok-Some.field-0.0) c.in_err-write_row-in-Ok-Some.ensures.kinds (handed_out _ _ _ _ _ _ _ c.in-Ok-Some.field-0 c.rows.invariant.reads read.reads))
 
 pub returns-in_err-write_row-in-Ok-Some-clause-out : goal.returns-in_err-write_row-in-Ok-Some-clause-out
-returns-in_err-write_row-in-Ok-Some-clause-out g c text gathered clean t same at =
+returns-in_err-write_row-in-Ok-Some-clause-out g c gathered unflagged clean t same at =
+    let layout = g.T.StoredTable.layout in
     let kept = c.rows.invariant in
     let read = c.in-Ok-Some.ensures in
+    let failed = c.in_err-write_row-in-Ok-Some in
     let before = read.reads.spares.clean clean in
-    let going = kept.out text gathered before t same at in
+    let it = kept.gone gathered in
+    let left = row_handed _ _ _ c.in-Ok-Some.row c.in-Ok-Some.field-0-is (read.rows clean t (same ∙ sym (ap (is_there g.T.Keeps.name) kept.same_format)) (kept.reads.spares.same before t at tt)) in
+    let all = ap (λ rows. it.done ++ rows) (sym left) ∙ it.typed before t same at in
     let p = err_from_is_err_and c.from_residual.result c.from_residual.ensures.1 in
-    rw (p.1, p.2) (row_not_added (row_line g.T.StoredTable.layout) _ c.write_row.new.part _ _ _ _ c.in-Ok-Some.row _ _ c.in_err-write_row-in-Ok-Some.field-0.0
-    (row_handed _ _ _ c.in-Ok-Some.row c.in-Ok-Some.field-0-is (read.rows clean t (same ∙ sym (ap (is_there g.T.Keeps.name) kept.same_format)) (kept.reads.spares.same before t at tt))) going
-    (c.in_err-write_row-in-Ok-Some.ensures.out going.rest going.gathered))
+    rw (p.1, p.2) (lines_for (header_line layout) (row_line layout) (Err failed.field-0.0) (g.W.Write.contents c.args.out.now) (g.W.Write.contents c.write_row.new.out) _ _ all
+    (row_not_added (header_line layout) (row_line layout) _ c.write_row.new.part _ _ _ it.done c.in-Ok-Some.row _ failed.field-0.0 it.going failed.ensures.kinds (failed.ensures.out it.going.rest it.going.gathered)))
+
+pub returns-in_err-write_row-in-Ok-Some-clause-stored : goal.returns-in_err-write_row-in-Ok-Some-clause-stored
+returns-in_err-write_row-in-Ok-Some-clause-stored g c gathered unflagged clean stored same on =
+    let layout = g.T.StoredTable.layout in
+    let rows = stored.rows g.T.Keeps.name in
+    let kept = c.rows.invariant in
+    let read = c.in-Ok-Some.ensures in
+    let failed = c.in_err-write_row-in-Ok-Some in
+    let row = c.in-Ok-Some.row in
+    let before = read.reads.spares.clean clean in
+    let there = same ∙ sym (ap (is_there g.T.Keeps.name) kept.same_format) in
+    let rests = kept.reads.spares.rests before stored on tt in
+    let it = kept.gone gathered in
+    let seen = it.stored before stored same on in
+    let good = valid_hands _ _ _ row c.in-Ok-Some.field-0-is (read.valid clean stored there rests seen.1) in
+    let with_row = seen_one layout rows _ _ it.done row seen.0 good.0 (row_hands layout g.T.Keeps.bind rows _ _ _ _ row _ c.in-Ok-Some.field-0-is (read.stored clean stored there rests)) in
+    let p = err_from_is_err_and c.from_residual.result c.from_residual.ensures.1 in
+    rw (p.1, p.2) (record {
+      rows = it.done ++ row ∷ [];
+      read = seen_some layout rows _ (it.done ++ row ∷ []) with_row (left_there layout g.T.Keeps.bind rows _ _ _);
+      out = row_not_added (header_line layout) (row_line layout) _ c.write_row.new.part _ _ _ it.done row [] failed.field-0.0 it.going failed.ensures.kinds (failed.ensures.out it.going.rest it.going.gathered);
+      named = names_none g.T.Keeps.name failed.field-0.0 failed.ensures.kinds;
+    })
 
 pub returns-in-Ok-None-clause-reads : goal.returns-in-Ok-None-clause-reads
 returns-in-Ok-None-clause-reads g c =
-    ended {B = Unit {0}} _ _ _ _ tt c.go_out.result c.go_out.ensures.only (handed_out _ _ _ _ _ _ _ c.in-Ok-None.field-0 c.rows.invariant.reads c.in-Ok-None.ensures.reads)
+    ended {B = Unit {0}} _ _ _ _ tt c.go_out.result c.go_out.ensures.kinds (handed_out _ _ _ _ _ _ _ c.in-Ok-None.field-0 c.rows.invariant.reads c.in-Ok-None.ensures.reads)
 
 pub returns-in-Ok-None-clause-out : goal.returns-in-Ok-None-clause-out
-returns-in-Ok-None-clause-out g c text gathered clean t same at =
+returns-in-Ok-None-clause-out g c gathered unflagged clean t same at =
+    let layout = g.T.StoredTable.layout in
     let kept = c.rows.invariant in
     let read = c.in-Ok-None.ensures in
     let before = read.reads.spares.clean clean in
-    let going = kept.out text gathered before t same at in
-    last_out (row_line g.T.StoredTable.layout) _ _ _ _ _ _ c.go_out.result (none_handed _ _ _ c.in-Ok-None.field-0-is (read.rows clean t (same ∙ sym (ap (is_there g.T.Keeps.name) kept.same_format)) (kept.reads.spares.same before t at tt))) going
-    (c.go_out.ensures.out going.rest going.gathered)
+    let it = kept.gone gathered in
+    let none = none_handed _ _ _ c.in-Ok-None.field-0-is (read.rows clean t (same ∙ sym (ap (is_there g.T.Keeps.name) kept.same_format)) (kept.reads.spares.same before t at tt)) in
+    let all = sym (append-nil it.done) ∙ ap (λ rows. it.done ++ rows) (sym none) ∙ it.typed before t same at in
+    lines_for (header_line layout) (row_line layout) _ _ _ _ _ all
+    (last_out (header_line layout) (row_line layout) _ _ _ _ it.done c.go_out.result it.going (subst (IsOutWhole c.go_out.result _ _) it.going.gathered.lines c.go_out.ensures.out))
+
+pub returns-in-Ok-None-clause-stored : goal.returns-in-Ok-None-clause-stored
+returns-in-Ok-None-clause-stored g c gathered unflagged clean stored same on =
+    let layout = g.T.StoredTable.layout in
+    let rows = stored.rows g.T.Keeps.name in
+    let kept = c.rows.invariant in
+    let read = c.in-Ok-None.ensures in
+    let before = read.reads.spares.clean clean in
+    let there = same ∙ sym (ap (is_there g.T.Keeps.name) kept.same_format) in
+    let rests = kept.reads.spares.rests before stored on tt in
+    let it = kept.gone gathered in
+    let seen = it.stored before stored same on in
+    record {
+      rows = it.done;
+      read = read_to_end layout rows it.done c.go_out.result (seen_all layout rows _ it.done seen.0 (none_hands layout g.T.Keeps.bind rows _ _ _ _ _ c.in-Ok-None.field-0-is (read.stored clean stored there rests)));
+      out = last_out (header_line layout) (row_line layout) _ _ _ _ it.done c.go_out.result it.going (subst (IsOutWhole c.go_out.result _ _) it.going.gathered.lines c.go_out.ensures.out);
+      named = named_none g.T.Keeps.name c.go_out.result c.go_out.ensures.kinds;
+    }
 
 pub returns-in-Err-clause-reads : goal.returns-in-Err-clause-reads
 returns-in-Err-clause-reads g c =
-    rw c.go_out_before.ensures.told (faulted _ _ _ _ _ (and_then _ _ _ _ _ _ tt (Err c.in-Err.fault) c.rows.invariant.reads c.in-Err.ensures.reads))
+    rw (told_fault _ _ _ _ _ c.go_out_before.ensures) (faulted _ _ _ _ _ (and_then _ _ _ _ _ _ tt (Err c.in-Err.fault) c.rows.invariant.reads c.in-Err.ensures.reads))
 
 pub returns-in-Err-clause-out : goal.returns-in-Err-clause-out
-returns-in-Err-clause-out g c text gathered clean t same at =
-    let going = c.rows.invariant.out text gathered (c.in-Err.ensures.reads.spares.clean clean) t same at in
-    rw c.go_out_before.ensures.told (stopped _ _ _ _ _ _ c.in-Err.fault going (c.go_out_before.ensures.out going.rest going.gathered))
+returns-in-Err-clause-out g c gathered unflagged clean t same at =
+    let layout = g.T.StoredTable.layout in
+    let kept = c.rows.invariant in
+    let read = c.in-Err.ensures in
+    let it = kept.gone gathered in
+    lines_for (header_line layout) (row_line layout) (Err c.go_out_before.result) (g.W.Write.contents c.args.out.now) (g.W.Write.contents c.go_out_before.new.out) _ _ (it.typed (read.reads.spares.clean clean) t same at)
+    (stopped (header_line layout) (row_line layout) _ _ _ _ it.done _ c.in-Err.fault c.go_out_before.result it.going (never_reopen _ _ c.in-Err.fault unflagged kept.reads.noted (λ is. read.only (ap Err is)))
+    (subst (IsOutBefore c.in-Err.fault c.go_out_before.result _ _) it.going.gathered.lines c.go_out_before.ensures))
+
+pub returns-in-Err-clause-stored : goal.returns-in-Err-clause-stored
+returns-in-Err-clause-stored g c gathered unflagged clean stored same on =
+    let layout = g.T.StoredTable.layout in
+    let rows = stored.rows g.T.Keeps.name in
+    let kept = c.rows.invariant in
+    let read = c.in-Err.ensures in
+    let before = read.reads.spares.clean clean in
+    let it = kept.gone gathered in
+    let seen = it.stored before stored same on in
+    record {
+      rows = it.done;
+      read = seen_some layout rows _ it.done seen.0 (left_there layout g.T.Keeps.bind rows _ _ _);
+      out = lines_for (header_line layout) (row_line layout) (Err c.go_out_before.result) (g.W.Write.contents c.args.out.now) (g.W.Write.contents c.go_out_before.new.out) _ _ (append-nil it.done)
+          (stopped (header_line layout) (row_line layout) _ _ _ _ it.done [] c.in-Err.fault c.go_out_before.result it.going (never_reopen _ _ c.in-Err.fault unflagged kept.reads.noted (λ is. read.only (ap Err is)))
+          (subst (IsOutBefore c.in-Err.fault c.go_out_before.result _ _) it.going.gathered.lines c.go_out_before.ensures));
+      named = named_before g.T.Keeps.name c.in-Err.fault c.go_out_before.result _ _ _ c.go_out_before.ensures (read.named clean stored (kept.reads.spares.rests before stored on tt));
+    }
+
+pub returns-in-Err-clause-kinds : goal.returns-in-Err-clause-kinds
+returns-in-Err-clause-kinds g c = told_dump _ _ _ _ _ c.go_out_before.ensures
+
+pub returns-clause-reads : goal.returns-clause-reads
+returns-clause-reads g c = rw (told_fault _ _ _ _ _ c.go_out_before-2.ensures) (out_of_memory _ _ _ _ _ c.rows.invariant.reads)
 
 pub returns-clause-out : goal.returns-clause-out
-returns-clause-out g c text gathered clean t same at =
-    let going = c.rows.invariant.out text gathered clean t same at in
-    (_, going.out)
+returns-clause-out g c gathered unflagged clean t same at =
+    let layout = g.T.StoredTable.layout in
+    let it = c.rows.invariant.gone gathered in
+    lines_for (header_line layout) (row_line layout) (Err c.go_out_before-2.result) (g.W.Write.contents c.args.out.now) (g.W.Write.contents c.go_out_before-2.new.out) _ _ (it.typed clean t same at)
+    (stopped (header_line layout) (row_line layout) _ _ _ _ it.done _ faults.Memory c.go_out_before-2.result it.going (λ e. cc) (subst (IsOutBefore faults.Memory c.go_out_before-2.result _ _) it.going.gathered.lines c.go_out_before-2.ensures))
+
+pub returns-clause-stored : goal.returns-clause-stored
+returns-clause-stored g c gathered unflagged clean stored same on =
+    let layout = g.T.StoredTable.layout in
+    let rows = stored.rows g.T.Keeps.name in
+    let it = c.rows.invariant.gone gathered in
+    let seen = it.stored clean stored same on in
+    record {
+      rows = it.done;
+      read = seen_some layout rows _ it.done seen.0 (left_there layout g.T.Keeps.bind rows _ _ _);
+      out = lines_for (header_line layout) (row_line layout) (Err c.go_out_before-2.result) (g.W.Write.contents c.args.out.now) (g.W.Write.contents c.go_out_before-2.new.out) _ _ (append-nil it.done)
+          (stopped (header_line layout) (row_line layout) _ _ _ _ it.done [] faults.Memory c.go_out_before-2.result it.going (λ e. cc) (subst (IsOutBefore faults.Memory c.go_out_before-2.result _ _) it.going.gathered.lines c.go_out_before-2.ensures));
+      named = named_before g.T.Keeps.name faults.Memory c.go_out_before-2.result _ _ _ c.go_out_before-2.ensures tt;
+    }
+
+pub returns-clause-kinds : goal.returns-clause-kinds
+returns-clause-kinds g c = told_dump _ _ _ _ _ c.go_out_before-2.ensures

@@ -1,6 +1,7 @@
 use Rattle.std.proofs.Common.{ap}
 use Rattle.wh_store.specs.Reads.{state_of}
 use Rattle.wh_report.specs.Labels.{text_of}
+use Rattle.wh_report.proofs.StoredReports.{of_request, summed_stored, cut_stored}
 use Rattle.wh_report.proofs.SummedFacts.{summed_by_labels, cut_by_labels}
 use Rattle.wh_report.proofs.fact_sums.summary_of.Goals as goal
 
@@ -18,3 +19,18 @@ returns-clause-sums g c clean t at =
     rw c.uncounted.ensures
     (cut_by_labels c.args.request.now c.args.column (text_of c.args.labels.now) (state_of g.S.Store c.args.engine.now.tables) t at c.fact_key.result c.fact_key.ensures counted.0 counted.1 tally.request.now (ap (λ q. q.now) counted.2.request) tally.sums tally.fault counted.2.made
     c.by_label.result c.by_label.ensures c.in-Err.fault c.in-Err.is)
+
+pub returns-in-Ok-clause-stored : goal.returns-in-Ok-clause-stored
+returns-in-Ok-clause-stored g c clean stored on =
+    let counted = c.in_ok-tally_facts.ensures.stored clean stored on in
+    let tally = c.tally_facts.new.tally in
+    summed_stored c.args.request.now c.args.column (text_of c.args.labels.now) stored c.fact_key.result c.fact_key.ensures counted.0 counted.1
+    c.by_label.result (of_request c.args.request.now tally.request.now (ap (λ q. q.now) counted.2.request) _ _ _ _ _ counted.2.made c.by_label.ensures) c.in-Ok.summary c.in-Ok.is
+
+pub returns-clause-stored : goal.returns-clause-stored
+returns-clause-stored g c clean stored on =
+    let counted = c.in_ok-tally_facts.ensures.stored clean stored on in
+    let tally = c.tally_facts.new.tally in
+    rw c.uncounted.ensures
+    (cut_stored c.args.request.now c.args.column (text_of c.args.labels.now) stored c.fact_key.result c.fact_key.ensures counted.0 counted.1
+    c.by_label.result (of_request c.args.request.now tally.request.now (ap (λ q. q.now) counted.2.request) _ _ _ _ _ counted.2.made c.by_label.ensures) c.in-Err.fault c.in-Err.is)

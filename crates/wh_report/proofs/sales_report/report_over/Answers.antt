@@ -2,6 +2,7 @@ use Rattle.std.proofs.Common.{ap, ◌∙◌}
 use Rattle.std.proofs.lemmas.Result.{err_from_is_err_and}
 use Rattle.wh_report.proofs.EngineReading.{and_then, answered, faulted, out_of_memory}
 use Rattle.wh_report.proofs.ReadReports.{text_read, fault_read}
+use Rattle.wh_report.proofs.StoredReports.{stored_text, stored_fault}
 use Rattle.wh_report.proofs.sales_report.report_over.Goals as goal
 
 pub returns-in_err-labels-clause-reads : goal.returns-in_err-labels-clause-reads
@@ -37,3 +38,21 @@ returns-clause-tables g c clean t at =
     let before = second.reads.spares.clean clean in
     let sums = second.sums clean t (first.reads.spares.same before t at tt) in
     text_read _ _ t _ (first.labels before t at) c.into_bytes.result (ap (λ v. v.items) c.into_bytes.ensures.value ∙ c.in_ok-text.ensures _ sums.0) sums.1
+
+pub returns-in_err-summary-clause-stored : goal.returns-in_err-summary-clause-stored
+returns-in_err-summary-clause-stored g c clean stored on =
+    let first = c.in_ok-labels.ensures in
+    let second = c.in_err-summary.ensures in
+    let before = second.reads.spares.clean clean in
+    let read = first.stored before stored on in
+    let p = err_from_is_err_and c.from_residual-in_err-summary.result c.from_residual-in_err-summary.ensures.1 in
+    rw (p.1, p.2) (stored_fault c.args.request.now c.args.column stored _ read.0 read.1 read.2 _ (second.stored clean stored (first.reads.spares.rests before stored on tt)))
+
+pub returns-clause-stored : goal.returns-clause-stored
+returns-clause-stored g c clean stored on =
+    let first = c.in_ok-labels.ensures in
+    let second = c.in_ok-summary.ensures in
+    let before = second.reads.spares.clean clean in
+    let read = first.stored before stored on in
+    let sums = second.stored clean stored (first.reads.spares.rests before stored on tt) in
+    stored_text c.args.request.now c.args.column stored _ read.0 read.1 read.2 c.into_bytes.result _ sums (ap (λ v. v.items) c.into_bytes.ensures.value ∙ c.in_ok-text.ensures _ sums.2)

@@ -1,6 +1,5 @@
 use Rattle.std.proofs.Common.{[]}
-use Rattle.wh_report.proofs.Parts.{if_ok}
 use Rattle.wh_report.proofs.table_texts.row_line.Goals as goal
 
 pub returns : goal.returns
-returns g c = if_ok c.take.result (λ line taken. taken _ (c.in_ok-add_row.ensures [] c.new-part.ensures)) c.take.ensures
+returns g c = c.into_lines.ensures _ (c.in_ok-add_row.ensures.added [] c.new-part.ensures)

@@ -1,6 +1,6 @@
 use Rattle.std.proofs.Common.{rules}
 use Rattle.sqlite.specs.Held.{state}
-use Rattle.wh_engine.proofs.Scanning.{serving}
+use Rattle.wh_engine.proofs.Scanning.{serving, not_reopen}
 use Rattle.wh_engine.proofs.engine.Engine.advance.Goals as goal
 
 pub returns-clause-reads : goal.returns-clause-reads
@@ -15,4 +15,5 @@ returns-clause-reads g c = record {
       (c.row_after-found.ensures.sound clean t rests) (c.row_after-found.ensures.reads.same clean t rests) (c.row_after-found.ensures.reads.left clean t rests));
   blames = c.row_after-found.ensures.blames;
   noted = search rules;
+  only = not_reopen _ _ c.row_after-found.ensures.work;
 }

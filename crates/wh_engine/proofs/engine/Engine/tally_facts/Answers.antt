@@ -1,6 +1,6 @@
 use Rattle.std.proofs.Common.{rules}
 use Rattle.sqlite.specs.Held.{state}
-use Rattle.wh_engine.proofs.Scanning.{serving}
+use Rattle.wh_engine.proofs.Scanning.{serving, not_reopen}
 use Rattle.wh_engine.proofs.engine.Engine.tally_facts.Goals as goal
 
 pub returns-clause-reads : goal.returns-clause-reads
@@ -15,4 +15,5 @@ returns-clause-reads g c = record {
       (c.tally_facts-counted.ensures.sound clean t rests) (c.tally_facts-counted.ensures.reads.same clean t rests) (c.tally_facts-counted.ensures.reads.left clean t rests));
   blames = c.tally_facts-counted.ensures.blames;
   noted = search rules;
+  only = not_reopen _ _ c.tally_facts-counted.ensures.work;
 }

@@ -5,4 +5,4 @@ use Rattle.wh_report.proofs.Parts.{on_ok}
 use Rattle.wh_report.proofs.part.Part.add_names.Goals as goal
 
 pub returns : goal.returns
-returns g c = on_ok c.add.result (λ added text gathered. subst (λ fields. Gathers c.add.new.self (text ++ row_text default_writer fields)) c.in_ok-self.ensures (added text gathered)) c.add.ensures
+returns g c = on_ok c.add.result (λ added text gathered. subst (λ fields. Gathers c.add.new.self (text ++ row_text default_writer fields)) c.in_ok-self.ensures (added text gathered)) c.add.ensures.added

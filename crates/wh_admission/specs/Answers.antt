@@ -1,0 +1,85 @@
+-- Admission, case by case: the first case that applies gives the answer.
+use Rattle.std.specs.Prelude.{◌≡◌, ◌≢◌, ◌<◌, ◌≤◌, ℕ, suc, ◌+◌, ◌-◌, Bool, true, false, List, [], ◌∷◌, ◌++◌, length, map, take, Some, bytes_eq, Result, Ok, Err}
+use Rattle.std.specs.List.{list_any, AllByRecursion, IsDistinct}
+use Rattle.wh_policy.specs.declared.record.SaleRecord.{SaleRecord}
+use Rattle.wh_batch.specs.Kind.{command_word}
+use Rattle.wh_history.specs.Accepted.{Accepted, Content, sold, sold_by}
+use Rattle.wh_history.specs.Keys.{at_place}
+use Rattle.wh_history.specs.Tables.{Limits}
+use Rattle.wh_rows.specs.Sound.{changes_kept, same_line}
+use Rattle.wh_rows.specs.Types.{is_key}
+use Rattle.wh_admission.specs.Admission.{current_policy, content_of, accepted_as, receipt_of, changes_in, answer}
+use Rattle.wh_admission.specs.declared.command.Command.{Command}
+use Rattle.wh_admission.specs.declared.command.Reply.{Reply}
+use Rattle.wh_admission.specs.declared.command.Reply.TheVariants.{Accepted as Accepts, Already}
+use Rattle.wh_admission.specs.declared.command.Refused.{Refused}
+use Rattle.wh_admission.specs.declared.command.Refused.TheVariants.{BadId, Reused, LineThere, Full}
+use Rattle.wh_admission.specs.declared.command.Limit.TheVariants.{Commands, Changes, Facts}
+
+-- the id is a good one, and an accepted command with this number has it
+pub record HasIdOf (commands : List Accepted) (c : Command) (number : ℕ) (a : Accepted) : Type 0 where
+  pub good : is_key 40 c.id ≡ true
+  pub there : at_place number commands ≡ Some a
+  pub same_id : a.id ≡ c.id
+
+-- an accepted command has this one's kind and bytes
+pub record IsAlike (a : Accepted) (c : Command) : Type 0 where
+  pub kind : a.kind ≡ command_word c.kind
+  pub bytes : a.bytes ≡ c.bytes
+
+-- the id is a good one, and no accepted command has it
+pub record IsNew (commands : List Accepted) (c : Command) : Type 0 where
+  pub good : is_key 40 c.id ≡ true
+  pub others : AllByRecursion (λ a. a.id ≢ c.id) commands
+
+-- it is new, and under the policy in force it says this
+pub record Says (commands : List Accepted) (c : Command) (content : Content) : Type 0 where
+  pub new : IsNew commands c
+  pub read : content_of c.kind (current_policy commands) c.bytes ≡ Ok content
+
+-- and the limit of commands isn't reached
+pub record MayBeCounted (limits : Limits) (commands : List Accepted) (c : Command) (content : Content) : Type 0 where
+  pub says : Says commands c content
+  pub commands_left : length commands < limits.commands
+
+-- a sale's ticket and line are those of a sale that was accepted
+abbrev pub is_sold : List Accepted → SaleRecord → Bool
+is_sold commands s = list_any (λ t. same_line t s) (sold commands)
+
+-- and none of its lines is there
+pub record BringsNewLines (limits : Limits) (commands : List Accepted) (c : Command) (content : Content) : Type 0 where
+  pub counted : MayBeCounted limits commands c content
+  pub lines_new : AllByRecursion (λ s. is_sold commands s ≡ false) (sold_by content)
+
+-- and the limit of changes isn't passed
+pub record KeepsToChanges (limits : Limits) (commands : List Accepted) (c : Command) (content : Content) : Type 0 where
+  pub lines : BringsNewLines limits commands c content
+  pub changes_left : changes_kept commands + changes_in content ≤ limits.changes
+
+-- of these sales the one with this number is the first whose line is there
+pub record IsFirstSold (commands : List Accepted) (sales : List SaleRecord) (number : ℕ) : Type 0 where
+  pub sale : SaleRecord
+  pub here : at_place number sales ≡ Some sale
+  pub line_there : is_sold commands sale ≡ true
+  pub before : AllByRecursion (λ s. is_sold commands s ≡ false) (take (number - 1) sales)
+
+-- The answer to a command after these.
+pub data IsAnswer (limits : Limits) (commands : List Accepted) (c : Command) : Result Reply Refused → Type 0 where
+  bad_id : is_key 40 c.id ≡ false → IsAnswer limits commands c (Err BadId)
+  already : (number : ℕ) (a : Accepted) → HasIdOf commands c number a → IsAlike a c → IsAnswer limits commands c (Ok (Already (receipt_of commands number a.content)))
+  reused : (number : ℕ) (a : Accepted) → HasIdOf commands c number a → ¬ IsAlike a c → IsAnswer limits commands c (Err Reused)
+  faulty : (why : Refused) → IsNew commands c → content_of c.kind (current_policy commands) c.bytes ≡ Err why → IsAnswer limits commands c (Err why)
+  commands_full : (content : Content) → Says commands c content → limits.commands ≤ length commands → IsAnswer limits commands c (Err (Full Commands))
+  line_there : (content : Content) (number : ℕ) → MayBeCounted limits commands c content → IsFirstSold commands (sold_by content) number → IsAnswer limits commands c (Err (LineThere number))
+  changes_full : (content : Content) → BringsNewLines limits commands c content → limits.changes < changes_kept commands + changes_in content → IsAnswer limits commands c (Err (Full Changes))
+  facts_full : (content : Content) → KeepsToChanges limits commands c content → limits.facts < length (sold commands) + length (sold_by content) → IsAnswer limits commands c (Err (Full Facts))
+  accepted : (content : Content) → KeepsToChanges limits commands c content → length (sold commands) + length (sold_by content) ≤ limits.facts
+      → IsAnswer limits commands c (Ok (Accepts (receipt_of (commands ++ accepted_as c content ∷ []) (suc (length commands)) content)))
+
+-- The function of admission gives such an answer.
+abbrev pub AnswerIsByCases : Type 0
+AnswerIsByCases = (limits : Limits) (commands : List Accepted) (c : Command) → IsAnswer limits commands c (answer limits commands c)
+
+-- And where no two accepted commands have one id, there is no other.
+abbrev pub AnswersAreOne : Type 0
+AnswersAreOne = (limits : Limits) (commands : List Accepted) (c : Command) (said : Result Reply Refused) → IsDistinct bytes_eq (map (λ (a : Accepted). a.id) commands) → IsAnswer limits commands c said → said ≡ answer limits commands c

@@ -1,0 +1,11 @@
+use Rattle.std.proofs.Common.{Some, filter}
+use Rattle.std.proofs.lemmas.Result.{err_from_is_err_and}
+use Rattle.wh_rows.specs.Parts.{forward, stands_behind}
+use Rattle.wh_engine.proofs.Scanning.{names_it}
+use Rattle.wh_engine.proofs.scan.row_after.Goals as goal
+
+pub returns-in_err-found-clause-named : goal.returns-in_err-found-clause-named
+returns-in_err-found-clause-named g c clean stored on =
+    let layout = g.T.StoredTable.layout in
+    let p = err_from_is_err_and c.from_residual.result c.from_residual.ensures.1 in
+    rw (p.1, p.2) (names_it (Some (forward g.T.Scanned.part_texts.most)) layout g.T.Keeps.name (filter (stands_behind layout g.T.Keeps.bind c.args.cursor.now.unread.after) (stored.rows g.T.Keeps.name)) c.in_err-found.field-0.0 (c.in_err-found.ensures.damaged clean stored on))

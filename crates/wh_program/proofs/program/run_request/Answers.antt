@@ -1,0 +1,16 @@
+use Rattle.std.proofs.Common.{refl, inl, inr, subst}
+use Rattle.wh_program.specs.Answer.{done, wrong_words}
+use Rattle.wh_program.specs.Request.{IsDeclined}
+use Rattle.wh_program.proofs.program.run_request.Goals as goal
+
+pub returns-in-Help-clause-declined : goal.returns-in-Help-clause-declined
+returns-in-Help-clause-declined g c = λ faults declined. (
+  refl,
+  (done c.as_bytes.result.now, (c.as_bytes.result.now, inl (subst (IsDeclined faults) c.in-Help.is declined, refl)), rw (← c.code-in-Help.ensures) at c.print.ensures),
+)
+
+pub returns-in-Usage-clause-declined : goal.returns-in-Usage-clause-declined
+returns-in-Usage-clause-declined g c = λ faults declined. (
+  refl,
+  (wrong_words c.as_bytes-in-Usage.result.now, (c.as_bytes-in-Usage.result.now, inr (subst (IsDeclined faults) c.in-Usage.is declined, refl)), c.print_usage.ensures),
+)

@@ -1,0 +1,194 @@
+//! The second format: made of the first, and its facts.
+
+pub const UPGRADED: &str = "
+# All facts go into the second format, and all else stays.
+warehouse
+write
+> row store 1 Bern
+> put fact 'T1', 1, 20240610, 1, 1, 0, 1, 1, 0, 0, 2, 300, 200
+> put fact 'T1', 2, 20240611, 1, 1, 0, 1, 1, 0, 0, -1, -150, -100
+> commit
+= 3 written
+format
+= first, free
+upgrade
+format
+= second, taken
+show
+= limits 10, 200, 3000
+= meta 'changes_max', 200
+= meta 'commands_max', 10
+= meta 'facts_max', 3000
+= meta 'format', 2
+= store 1, 1, 'M1', 19000101, 99991231, 1, 'Bern', '', '', '', '', '', '', '', '', '', '', '', 0
+= fact2 'T1', 1, 20240610, 1, 1, 0, 1, 1, 0, 0, 2, 300, 200, 0
+= fact2 'T1', 2, 20240611, 1, 1, 0, 1, 1, 0, 0, -1, -150, -100, 0
+
+# Sixteen facts at once; one gets other keys, and a line is withdrawn.
+write
+> insert2 16 T2 20240612, 1, 1, 0, 1, 1, 0, 0, 1, 150, 100, 25
+> rekey2 T2 16 2 3 4 5
+> put void 'T1', 2, 3
+> remove fact2 T1 2
+> commit
+= inserted
+= 19 written
+get fact2 T2 16
+= fact2 'T2', 16, 20240612, 2, 3, 4, 1, 1, 0, 5, 1, 150, 100, 25
+get fact2 T2 15
+= fact2 'T2', 15, 20240612, 1, 1, 0, 1, 1, 0, 0, 1, 150, 100, 25
+get fact2 T1 2
+get void T1 2
+= void 'T1', 2, 3
+get void T1 1
+
+# Not sixteen, and lines that are taken.
+write
+> insert2 15 T3 20240612, 1, 1, 0, 1, 1, 0, 0, 1, 150, 100, 25
+> insert2 17 T3 20240612, 1, 1, 0, 1, 1, 0, 0, 1, 150, 100, 25
+> insert2 16 T1 20240612, 1, 1, 0, 1, 1, 0, 0, 1, 150, 100, 25
+> commit
+= as before
+= as before
+= as before
+= 0 written
+count fact2
+= 17
+
+# Sales, the sums of their keys, quantities, amounts and costs: T1 is of 2 pieces, each line of T2 of one.
+tally2 surrogate store
+= 17, 18, 18, 2700, 1800
+tally2 surrogate customer
+= 17, 4, 18, 2700, 1800
+tally2 durable product
+= 17, 17, 18, 2700, 1800
+tally2 profile
+= 17, 5, 18, 2700, 1800
+tally2 day
+= 17, 344090402, 18, 2700, 1800
+sales2 store 1 20240610 20240611
+= fact2 'T1', 1, 20240610, 1, 1, 0, 1, 1, 0, 0, 2, 300, 200, 0
+sales store 1 20240610 20240612
+
+# No second upgrade. The next run opens the second format.
+upgrade
+= refused disk
+close
+open
+= opened
+format
+= second, taken
+count fact
+= 0
+count fact2
+= 17
+
+# Damage is told of the table that it is in. A tally doesn't read a discount.
+close
+sql UPDATE fact2 SET discount = 1000000000 WHERE ticket = 'T2' AND line = 16; UPDATE void SET command = -1
+open
+= opened
+all fact2
+= damaged fact2
+get fact2 T1 1
+= fact2 'T1', 1, 20240610, 1, 1, 0, 1, 1, 0, 0, 2, 300, 200, 0
+all void
+= damaged void
+tally2 profile
+= 17, 5, 18, 2700, 1800
+close
+sql UPDATE fact2 SET amount = 1000000000 WHERE ticket = 'T1'
+open
+= opened
+tally2 profile
+= damaged fact2
+";
+
+pub const FIRST: &str = "
+# The first format has no such facts, and takes none.
+warehouse
+all fact2
+get void T1 1
+count fact2
+= 0
+scan void 1
+= 0
+tally2 day
+= 0, 0, 0, 0, 0
+write
+> tries rekey2 T1 1 1 1 1 1
+> tries insert2 16 T1 20240612, 1, 1, 0, 1, 1, 0, 0, 1, 150, 100, 25
+> commit
+= refused disk
+= refused disk
+= 0 written
+= refused disk
+
+# Where one of its names is taken there is no upgrade, and all stays.
+opens CREATE TABLE void (x)
+= opened
+write
+> put fact 'T1', 1, 20240610, 1, 1, 0, 1, 1, 0, 0, 2, 300, 200
+> commit
+= 1 written
+upgrade
+= refused disk
+format
+= first, taken
+count fact
+= 1
+get meta format
+= meta 'format', 1
+";
+
+pub const STOPS: &str = "
+# An upgrade over files that stop at each call: the first format is found, or the second.
+files
+make
+write
+> row store 1 Bern
+> put fact 'T1', 1, 20240610, 1, 1, 0, 1, 1, 0, 0, 2, 300, 200
+> put fact 'T1', 2, 20240611, 1, 1, 0, 1, 1, 0, 0, -1, -150, -100
+> commit
+= 3 written
+stops log
+> upgrade
+= at each call what was there, or all
+= limits 10, 200, 3000
+= meta 'changes_max', 200
+= meta 'commands_max', 10
+= meta 'facts_max', 3000
+= meta 'format', 2
+= store 1, 1, 'M1', 19000101, 99991231, 1, 'Bern', '', '', '', '', '', '', '', '', '', '', '', 0
+= fact2 'T1', 1, 20240610, 1, 1, 0, 1, 1, 0, 0, 2, 300, 200, 0
+= fact2 'T1', 2, 20240611, 1, 1, 0, 1, 1, 0, 0, -1, -150, -100, 0
+stops database
+> upgrade
+= at each call what was there, or all
+= limits 10, 200, 3000
+= meta 'changes_max', 200
+= meta 'commands_max', 10
+= meta 'facts_max', 3000
+= meta 'format', 2
+= store 1, 1, 'M1', 19000101, 99991231, 1, 'Bern', '', '', '', '', '', '', '', '', '', '', '', 0
+= fact2 'T1', 1, 20240610, 1, 1, 0, 1, 1, 0, 0, 2, 300, 200, 0
+= fact2 'T1', 2, 20240611, 1, 1, 0, 1, 1, 0, 0, -1, -150, -100, 0
+
+# The next runs find the second.
+upgrade left
+write
+> rekey2 T1 1 2 3 4 5
+> put void 'T9', 1, 2
+> commit
+= 2 written
+ask
+> format
+> count fact
+> all fact2
+> all void
+= second, taken
+= 0
+= fact2 'T1', 1, 20240610, 2, 3, 4, 1, 1, 0, 5, 2, 300, 200, 0
+= fact2 'T1', 2, 20240611, 1, 1, 0, 1, 1, 0, 0, -1, -150, -100, 0
+= void 'T9', 1, 2
+";

@@ -1,0 +1,20 @@
+//! The second format: made of the first, its facts, and what a stop leaves.
+
+use crate::cases::check_store;
+use std::test::Fail;
+use wh_scenarios::store::second;
+
+#[test]
+fn facts_of_the_second_format(rt: HostRuntime) -> Result<(), Fail> {
+    check_store(&rt, rt.alloc(), second::UPGRADED)
+}
+
+#[test]
+fn what_the_first_format_refuses(rt: HostRuntime) -> Result<(), Fail> {
+    check_store(&rt, rt.alloc(), second::FIRST)
+}
+
+#[test]
+fn an_upgrade_over_files_that_stop(rt: HostRuntime) -> Result<(), Fail> {
+    check_store(&rt, rt.alloc(), second::STOPS)
+}

@@ -1,0 +1,136 @@
+//! Steps that only the second format has.
+
+use crate::rows::row_of;
+use crate::trouble::Trouble;
+use crate::words::{dim, number, push_answer, push_count, push_number};
+use sqlite::Alter;
+use std::alloc::{AllocError, Global};
+use wh_history::{Edit, Fact};
+use wh_rows::{Fact2, FactKey, KeyedSale, LineKey, tables};
+use wh_scenarios::parted;
+use wh_store::{Tables, Tally, Writing, upgrade};
+
+/// The edits that take facts out of the first format and put them, with no discount, into the second.
+#[derive(Drop)]
+struct Carried {
+    removes: Vec<Edit<Fact, LineKey>>,
+    puts: Vec<Edit<Fact2, LineKey>>,
+}
+
+fn carry(alloc: Global, facts: Vec<Fact>) -> Result<Carried, AllocError> {
+    let mut removes = Vec::new(alloc);
+    let mut puts = Vec::new(alloc);
+    for fact in facts {
+        let ticket = fact.ticket.copy()?;
+        let line = fact.line;
+        removes.push(Edit::Remove(LineKey { ticket, line }))?;
+        puts.push(Edit::Put(Fact2 { fact, discount: 0 }))?;
+    }
+    Ok(Carried { removes, puts })
+}
+
+/// Makes the second format of the first, into which all facts go, and keeps it.
+pub fn upgrade_all<S: Alter>(alloc: Global, tables: &mut Tables<S>) -> Result<(), Trouble> {
+    let facts = tables.all::<tables::Fact>(alloc)?;
+    let carried = carry(alloc, facts)?;
+    upgrade(tables, alloc, &carried.removes, &carried.puts)?;
+    Ok(())
+}
+
+/// So many facts that differ in their lines alone, from line 1 on.
+fn facts_of(alloc: Global, count: u64, ticket: &str, values: &str) -> Result<Vec<Fact2>, Trouble> {
+    let mut facts = Vec::new(alloc);
+    for before in 0..count {
+        let line = before.saturating_add(1);
+        let columns = format!(in alloc; "'{ticket}', {line}, {values}")?;
+        facts.push(row_of::<tables::Fact2>(alloc, columns.as_str())?)?;
+    }
+    Ok(facts)
+}
+
+fn borrowed(alloc: Global, facts: &[Fact2]) -> Result<Vec<&Fact2>, AllocError> {
+    let mut found = Vec::new(alloc);
+    for fact in facts {
+        found.push(fact)?;
+    }
+    Ok(found)
+}
+
+/// `COUNT TICKET VALUES`: puts so many facts in at once, and tells whether it did.
+pub fn insert<S: Alter>(
+    alloc: Global,
+    writing: &mut Writing<'_, S>,
+    words: &str,
+    out: &mut String,
+) -> Result<(), Trouble> {
+    let (count, words) = parted(words, ' ');
+    let (ticket, values) = parted(words, ' ');
+    let facts = facts_of(alloc, number(count)?, ticket, values)?;
+    let inserted = writing.insert_facts2(alloc, &borrowed(alloc, &facts)?)?;
+    Ok(push_answer(out, if inserted { "inserted" } else { "as before" })?)
+}
+
+/// How many sales were counted, and the sums of their keys and measures.
+#[derive(Drop)]
+struct Sums {
+    sales: u64,
+    keys: u64,
+    quantity: i64,
+    amount: i64,
+    cost: i64,
+}
+
+impl Tally for Sums {
+    ghost use Rattle.std.specs.Prelude.{⊤};
+
+    ghost counts = { λ _ _ _. ⊤ };
+
+    fn count(&mut self, sale: KeyedSale) {
+        self.sales = self.sales.saturating_add(1);
+        self.keys = self.keys.saturating_add(sale.key);
+        self.quantity = self.quantity.saturating_add(sale.quantity);
+        self.amount = self.amount.saturating_add(sale.amount);
+        self.cost = self.cost.saturating_add(sale.cost);
+    }
+}
+
+impl Sums {
+    fn push(&self, out: &mut String) -> Result<(), Trouble> {
+        push_count(out, self.sales)?;
+        push_count(out, self.keys)?;
+        push_number(out, self.quantity)?;
+        push_number(out, self.amount)?;
+        push_number(out, self.cost)?;
+        out.push_str("\n")?;
+        Ok(())
+    }
+}
+
+/// `surrogate DIMENSION`, `durable DIMENSION`, `profile` or `day`.
+fn fact_key(words: &str) -> Result<FactKey, Trouble> {
+    let (name, rest) = parted(words, ' ');
+    match name {
+        "surrogate" => Ok(FactKey::Surrogate(dim(rest)?)),
+        "durable" => Ok(FactKey::Durable(dim(rest)?)),
+        "profile" => Ok(FactKey::Profile),
+        "day" => Ok(FactKey::Day),
+        _ => Err(Trouble::Unknown),
+    }
+}
+
+/// Tells what the facts come to by one of their keys.
+pub fn tally<S: Alter>(
+    tables: &mut Tables<S>,
+    words: &str,
+    out: &mut String,
+) -> Result<(), Trouble> {
+    let mut sums = Sums {
+        sales: 0,
+        keys: 0,
+        quantity: 0,
+        amount: 0,
+        cost: 0,
+    };
+    tables.tally_facts2(fact_key(words)?, &mut sums)?;
+    sums.push(out)
+}
