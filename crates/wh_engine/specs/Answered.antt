@@ -103,7 +103,7 @@ pub record IsNoted (old new : Session) (c : Command) (result : Result Reply Faul
   pub limits : new.limits ≡ old.limits
   pub policy : IsGoverned old.policy new.policy c result
 
--- there are just these edits that lead from the tables of the commands to those of the list after the command, and as many keys are written; none where it isn't accepted
+-- Exact edits lead from the tables of the commands to those of the list after the command, and as many keys are written; none where it isn't accepted.
 abbrev pub IsWritten : Limits → List Accepted → Command → Result Reply Fault → ℕ → Type 0
 IsWritten limits commands c (Ok (replies.Accepted receipt)) writes = (edits : Edits) × AreEdits commands (accepted_after limits commands c) edits × (writes ≡ edit_count edits)
 IsWritten limits commands c (Ok (replies.Already receipt)) writes = writes ≡ 0

@@ -1,4 +1,4 @@
--- What was read of stored rows, whoever wrote them, as a report of them.
+-- A report of any stored rows, from what was read of them.
 use Rattle.std.proofs.Common.{◌≡◌, inl, inr, ℕ, List, [], ◌∷◌, Option, Ok, Err, refl, sym, ◌∙◌, ap, subst}
 use Rattle.std.specs.Prelude.{Result, filter_map, option_map, IfOk, IsSome}
 use Rattle.std.specs.List.{cons_option}

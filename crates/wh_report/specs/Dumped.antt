@@ -1,4 +1,4 @@
--- What a dump says of stored rows, whoever wrote them.
+-- What a dump says of any stored rows.
 use Rattle.std.specs.Prelude.{List, [], ◌++◌, map, Option, Result, Ok, Err, IfErr, IsTrue, ℕ}
 use Rattle.std.specs.List.{list_all}
 use Rattle.sqlite.specs.Order.{Row}

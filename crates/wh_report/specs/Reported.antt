@@ -101,7 +101,7 @@ ReportsTables r column t (Ok text) = (text.items ≡ text_asked r (sold_by_keys 
 ReportsTables r column t (Err (Inconsistent found)) = IsInconsistent r column (text_at column t) (values t.fact) found
 ReportsTables r column t (Err fault) = ⊤
 
--- ---- of any stored rows, whoever wrote them
+-- ---- of any stored rows
 
 abbrev pub layout_of_dim : Dim → Layout ℕ DimRow
 layout_of_dim Product = row.product
