@@ -13,3 +13,4 @@ pub mod StoredMaps
 pub mod CheckedTables
 pub mod SoundTables
 pub mod AnswersByCases
+pub mod KeptRows

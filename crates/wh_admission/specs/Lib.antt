@@ -3,3 +3,4 @@ pub mod Answers
 pub mod Steps
 pub mod Checked
 pub mod Sound
+pub mod Repeated

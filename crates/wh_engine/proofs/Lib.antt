@@ -28,3 +28,4 @@ pub mod Answering
 pub mod JudgedTables
 pub mod SoundTables
 pub mod DeliveredNights
+pub mod Repeating

@@ -15,7 +15,9 @@ use Rattle.wh_rows.specs.Defined.{AreOf}
 use Rattle.wh_plan.specs.Edits.{Edits, AreEdits, edit_count}
 use Rattle.wh_rows.specs.Sound.{changes_kept}
 use Rattle.wh_engine.specs.Faults.{stops}
+use Rattle.wh_admission.specs.Repeated.{IsKept}
 use Rattle.wh_admission.specs.declared.command.Command.{Command}
+use Rattle.wh_admission.specs.declared.command.Receipt.{Receipt}
 use Rattle.wh_admission.specs.declared.command.Reply.{Reply}
 use Rattle.wh_admission.specs.declared.command.Reply.TheVariants as replies
 use Rattle.wh_engine.specs.declared.counts.Counts.{Counts}
@@ -84,6 +86,16 @@ KeepsNothing (Ok (replies.Accepted receipt)) = ⊥
 KeepsNothing (Ok (replies.Already receipt)) = ⊤
 KeepsNothing (Err (Store cause)) = ⊥
 KeepsNothing (Err fault) = ⊤
+
+-- whatever is stored, the answer that a command came again has the receipt of a row that was kept for it
+abbrev pub IsAgain : Stored → Command → Result Reply Fault → Type 0
+IsAgain stored c (Ok (replies.Accepted receipt)) = ⊤
+IsAgain stored c (Ok (replies.Already receipt)) = IsKept stored c receipt
+IsAgain stored c (Err fault) = ⊤
+
+-- and a plan that writes nothing is that of a command for which a row was kept
+abbrev pub IsPlannedAgain : Stored → Command → Edits → Type 0
+IsPlannedAgain stored c edits = edit_count edits ≡ 0 → (receipt : Receipt) × IsKept stored c receipt
 
 -- nothing was accepted
 abbrev pub IsNotAccepted : Result Reply Fault → Type 0

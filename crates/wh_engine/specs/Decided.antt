@@ -1,5 +1,5 @@
 -- What is decided about a command, by what is read of the tables.
-use Rattle.std.specs.Prelude.{◌≡◌, ℕ, List, [], ◌∷◌, ◌++◌, find, Option, None, unwrap_or, bytes_eq, Result, Ok, ⊤}
+use Rattle.std.specs.Prelude.{◌≡◌, ℕ, List, [], ◌∷◌, ◌++◌, length, find, Option, None, unwrap_or, bytes_eq, Result, Ok, ⊤}
 use Rattle.wh_policy.specs.declared.policy.Policy.{Policy}
 use Rattle.wh_history.specs.Accepted.{Accepted, Content, governed}
 use Rattle.wh_rows.specs.declared.rows.CommandRow.{CommandRow}
@@ -9,6 +9,8 @@ use Rattle.wh_rows.specs.Tables.{Tables}
 use Rattle.wh_rows.specs.Defined.{AreOf}
 use Rattle.wh_plan.specs.Edits.{Edits, AreEdits}
 use Rattle.wh_rows.specs.Sound.{IsAccepted}
+use Rattle.wh_rows.specs.Raw.{Stored}
+use Rattle.wh_admission.specs.Repeated.{IsKept}
 use Rattle.wh_admission.specs.declared.command.Command.{Command}
 use Rattle.wh_admission.specs.declared.command.Receipt.{Receipt}
 use Rattle.wh_admission.specs.declared.command.Reply.{Reply}
@@ -55,3 +57,13 @@ Decides commands c (Accept receipt edits newer) reply = (reply ≡ Accepts recei
 abbrev pub Brings : Policy → Command → Decision → Type 0
 Brings policy c (Repeat receipt) = ⊤
 Brings policy c (Accept receipt edits newer) = policy_brought c.kind policy c.bytes ≡ Ok (unwrap_or newer policy)
+
+-- whatever is stored, a command that is accepted has an edit of its own row
+abbrev pub WritesItsRow : Decision → Type 0
+WritesItsRow (Repeat receipt) = ⊥
+WritesItsRow (Accept receipt edits newer) = length edits.commands ≡ 1
+
+-- and one that came again was kept before, with this receipt
+abbrev pub RepeatsKept : Stored → Command → Decision → Type 0
+RepeatsKept stored c (Repeat receipt) = IsKept stored c receipt
+RepeatsKept stored c (Accept receipt edits newer) = length edits.commands ≡ 1

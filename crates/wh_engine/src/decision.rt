@@ -7,7 +7,7 @@ ghost use Rattle.wh_history.specs.Accepted.{Accepted, Sells};
 ghost use Rattle.wh_rows.specs.Raw.{Stored};
 ghost use Rattle.wh_rows.specs.Types.{is_key};
 ghost use Rattle.wh_admission.specs.Admission.{answer, content_of, current_policy, policy_told, records_told, sales_told};
-ghost use Rattle.wh_engine.specs.Decided.{row_of_command, IsNew, reply_to_known, Brings, Decides};
+ghost use Rattle.wh_engine.specs.Decided.{row_of_command, IsNew, reply_to_known, Brings, Decides, RepeatsKept, WritesItsRow};
 ghost use Rattle.wh_batch.specs.declared.kind.CommandKind.TheVariants.{Batch, Migration};
 ghost use Rattle.wh_engine.specs.Faults.{IsServed, BlamesDamage, IsWorkedOut, Judges};
 ghost use Rattle.wh_store.specs.Reads.{Spares, SaysAsStored, state_of};
@@ -119,6 +119,7 @@ fn decide_records<S: Alter>(
     ensures decided { Works (state_of S.Store tables.old) (state_of S.Store tables.new) session.now (λ commands. command.now.kind ≡ Batch (Dimension dim) → is_key 40 command.now.id ≡ true
         → IsNew commands command.now → Judges (Decides commands command.now) result (answer session.now.limits commands command.now)) }
     ensures brings { command.now.kind ≡ Batch (Dimension dim) → IfOk result (Brings session.now.policy command.now) }
+    ensures own { IfOk result WritesItsRow }
     ensures work { IsWorkedOut result }
 {
     let records = records_of(alloc, &session.policy, dim, command.bytes.as_slice())?;
@@ -151,6 +152,7 @@ fn decide_sold<S: Alter>(
         → content_of command.now.kind (current_policy commands) command.now.bytes ≡ Ok (Sells sales.now)
         → Judges (Decides commands command.now) result (answer session.now.limits commands command.now)) }
     ensures brings { command.now.kind ≡ Batch Sales → IfOk result (Brings session.now.policy command.now) }
+    ensures own { IfOk result WritesItsRow }
     ensures work { IsWorkedOut result }
 {
     let number = match number_for_sales(tables, alloc, session.limits, sales) {
@@ -179,6 +181,7 @@ fn decide_sales<S: Alter>(
     ensures decided { Works (state_of S.Store tables.old) (state_of S.Store tables.new) session.now (λ commands. command.now.kind ≡ Batch Sales → is_key 40 command.now.id ≡ true → IsNew commands command.now
         → Judges (Decides commands command.now) result (answer session.now.limits commands command.now)) }
     ensures brings { command.now.kind ≡ Batch Sales → IfOk result (Brings session.now.policy command.now) }
+    ensures own { IfOk result WritesItsRow }
     ensures work { IsWorkedOut result }
 {
     let sales = sales_of(alloc, &session.policy, command.bytes.as_slice())?;
@@ -197,6 +200,7 @@ fn decide_migration<S: Alter>(
     ensures decided { Works (state_of S.Store tables.old) (state_of S.Store tables.new) session.now (λ commands. command.now.kind ≡ Migration → is_key 40 command.now.id ≡ true → IsNew commands command.now
         → Judges (Decides commands command.now) result (answer session.now.limits commands command.now)) }
     ensures brings { command.now.kind ≡ Migration → IfOk result (Brings session.now.policy command.now) }
+    ensures own { IfOk result WritesItsRow }
     ensures work { IsWorkedOut result }
 {
     let newer = policy_of(alloc, &session.policy, command.bytes.as_slice())?;
@@ -226,6 +230,7 @@ fn decide_new<S: Alter>(
     ensures decided { Works (state_of S.Store tables.old) (state_of S.Store tables.new) session.now (λ commands. is_key 40 command.now.id ≡ true → IsNew commands command.now
         → Judges (Decides commands command.now) result (answer session.now.limits commands command.now)) }
     ensures brings { IfOk result (Brings session.now.policy command.now) }
+    ensures own { IfOk result WritesItsRow }
     ensures work { IsWorkedOut result }
 {
     match command.kind {
@@ -261,6 +266,7 @@ pub(crate) fn decide<S: Alter>(
     ensures blames { SaysAsStored (state_of S.Store tables.old) (state_of S.Store tables.new) (λ stored. BlamesDamage stored result) }
     ensures decided { Works (state_of S.Store tables.old) (state_of S.Store tables.new) session.now (λ commands. Judges (Decides commands command.now) result (answer session.now.limits commands command.now)) }
     ensures brings { IfOk result (Brings session.now.policy command.now) }
+    ensures again { SaysAsStored (state_of S.Store tables.old) (state_of S.Store tables.new) (λ stored. IfOk result (RepeatsKept stored command.now)) }
     ensures work { IsWorkedOut result }
 {
     if !is_key(40, command.id.as_str().as_bytes()) {

@@ -8,7 +8,7 @@ ghost use Rattle.wh_rows.specs.AtRest.{IsAtRest};
 ghost use Rattle.wh_rows.specs.Tables.{Tables as TenTables};
 ghost use Rattle.wh_rows.specs.Raw.{Stored, RestsOn};
 ghost use Rattle.wh_store.specs.Reads.{SaysAsStored, state_of};
-ghost use Rattle.wh_engine.specs.Answered.{IsReady, IsAnswered, IsPerformed, IsWritten, IsGoverned, IsNotAccepted, IsNoted, KeepsNothing};
+ghost use Rattle.wh_engine.specs.Answered.{IsAgain, IsReady, IsAnswered, IsPerformed, IsWritten, IsGoverned, IsNotAccepted, IsNoted, KeepsNothing};
 ghost use Rattle.wh_engine.specs.Faults.{BlamesDamage, IsWorkedOut};
 
 use crate::decision::{Decision, decide};
@@ -44,6 +44,7 @@ fn perform<S: Alter>(
     ensures untouched { HasCleanDisk (state_of S.Store tables.new) → (t : TenTables) → IsAtRest (Some t) (state_of S.Store tables.old) → KeepsNothing result → IsAtRest (Some t) (state_of S.Store tables.new) }
     ensures untouched_stored { HasCleanDisk (state_of S.Store tables.new) → (stored : Stored) → RestsOn stored (state_of S.Store tables.old) → KeepsNothing result → RestsOn stored (state_of S.Store tables.new) }
     ensures blames { SaysAsStored (state_of S.Store tables.old) (state_of S.Store tables.new) (λ stored. BlamesDamage stored result) }
+    ensures again { SaysAsStored (state_of S.Store tables.old) (state_of S.Store tables.new) (λ stored. IsAgain stored command.now result) }
     ensures work { IsWorkedOut result }
     ensures written { HasCleanDisk (state_of S.Store tables.new) → (limits : LimitCounts) (commands : List Accepted) → IsReady limits commands session.old (state_of S.Store tables.old)
         → IsWritten limits commands command.now result writes.new }
@@ -106,6 +107,8 @@ impl<S: Alter> Engine<S> {
         ensures untouched_stored { HasCleanDisk (state_of S.Store self.new.tables) → (stored : Stored) → RestsOn stored (state_of S.Store self.old.tables) → KeepsNothing result → RestsOn stored (state_of S.Store self.new.tables) }
         // The table that is named as damaged stores a damaged row, whoever wrote it.
         ensures blames { SaysAsStored (state_of S.Store self.old.tables) (state_of S.Store self.new.tables) (λ stored. BlamesDamage stored result) }
+        // That a command came again is answered only where an undamaged row is stored with its id, kind and bytes; the receipt is that row's.
+        ensures again { SaysAsStored (state_of S.Store self.old.tables) (state_of S.Store self.new.tables) (λ stored. IsAgain stored command.now result) }
         ensures reopen { IsTrue self.old.session.must_reopen → (result ≡ Err Fault.Reopen) × (self.new.tables ≡ self.old.tables) × (self.new.session ≡ self.old.session) }
         ensures only { result ≡ Err Fault.Reopen → IsTrue self.old.session.must_reopen }
         // The limits stay, and so does the policy, but for that of an accepted migration.

@@ -1,6 +1,6 @@
 //! What a command would write.
 
-ghost use Rattle.std.specs.Prelude.{◌≡◌, List, false, Some, Err, IsTrue};
+ghost use Rattle.std.specs.Prelude.{◌≡◌, List, false, Some, Err, IfOk, IsTrue};
 ghost use Rattle.sqlite.specs.State.{HasCleanDisk};
 ghost use Rattle.wh_history.specs.Accepted.{Accepted};
 ghost use Rattle.wh_history.specs.Tables.{Limits as LimitCounts};
@@ -8,7 +8,7 @@ ghost use Rattle.wh_rows.specs.AtRest.{IsAtRest};
 ghost use Rattle.wh_rows.specs.Raw.{Stored, RestsOn};
 ghost use Rattle.wh_rows.specs.Tables.{Tables as TenTables};
 ghost use Rattle.wh_store.specs.Reads.{Spares, SaysAsStored, state_of};
-ghost use Rattle.wh_engine.specs.Answered.{IsReady, IsForeseen, IsForetold};
+ghost use Rattle.wh_engine.specs.Answered.{IsReady, IsForeseen, IsForetold, IsPlannedAgain};
 ghost use Rattle.wh_engine.specs.Faults.{BlamesDamage, IsServed, IsWorkedOut, stops};
 
 use crate::decision::{Decision, decide};
@@ -32,6 +32,7 @@ fn foretell<S: Alter>(
     ensures foretold { HasCleanDisk (state_of S.Store tables.new) → (limits : LimitCounts) (commands : List Accepted) → IsReady limits commands session.now (state_of S.Store tables.old)
         → IsForeseen limits commands command.now result session.now (state_of S.Store tables.new) }
     ensures blames { SaysAsStored (state_of S.Store tables.old) (state_of S.Store tables.new) (λ stored. BlamesDamage stored result) }
+    ensures again { SaysAsStored (state_of S.Store tables.old) (state_of S.Store tables.new) (λ stored. IfOk result (IsPlannedAgain stored command.now)) }
     ensures work { IsWorkedOut result }
 {
     match decide(tables, alloc, session, command) {
@@ -51,6 +52,8 @@ impl<S: Alter> Engine<S> {
         ensures untouched { HasCleanDisk (state_of S.Store self.new.tables) → (t : TenTables) → IsAtRest (Some t) (state_of S.Store self.old.tables) → IsServed result → IsAtRest (Some t) (state_of S.Store self.new.tables) }
         ensures untouched_stored { HasCleanDisk (state_of S.Store self.new.tables) → (stored : Stored) → RestsOn stored (state_of S.Store self.old.tables) → IsServed result → RestsOn stored (state_of S.Store self.new.tables) }
         ensures blames { SaysAsStored (state_of S.Store self.old.tables) (state_of S.Store self.new.tables) (λ stored. BlamesDamage stored result) }
+        // Nothing is planned only where an undamaged row is stored with the command's id, kind and bytes.
+        ensures again { SaysAsStored (state_of S.Store self.old.tables) (state_of S.Store self.new.tables) (λ stored. IfOk result (IsPlannedAgain stored command.now)) }
         ensures reopen { IsTrue self.old.session.must_reopen → (result ≡ Err Fault.Reopen) × (self.new.tables ≡ self.old.tables) × (self.new.session ≡ self.old.session) }
         ensures only { result ≡ Err Fault.Reopen → IsTrue self.old.session.must_reopen }
         ensures noted { self.old.session.must_reopen ≡ false → self.new.session ≡ record (self.old.session) { must_reopen = stops result } }

@@ -1,6 +1,6 @@
 //! The rows that a batch brings, and the edits that they are.
 
-ghost use Rattle.std.specs.Prelude.{◌≡◌, ◌++◌, ◌∷◌, [], false, List, map, IfOk};
+ghost use Rattle.std.specs.Prelude.{◌≡◌, ◌++◌, ◌∷◌, [], false, List, map, length, IfOk};
 ghost use Rattle.wh_history.specs.Accepted.{Accepted};
 ghost use Rattle.wh_history.specs.Laws.{governs};
 ghost use Rattle.wh_history.specs.declared.plan.Edit.TheVariants.{Put};
@@ -60,7 +60,8 @@ fn puts<Row: Drop, Key: Drop>(
 
 /// The edits of a batch, by the rows that it brings.
 pub(crate) fn edits_of_batch(alloc: Global, rows: BatchRows) -> Result<Edits, AllocError>
-    ensures { (commands : List Accepted) (c : Accepted) → governs c.content ≡ false → AreBatchRows commands c rows → IfOk result (AreEdits commands (commands ++ c ∷ [])) }
+    ensures exact { (commands : List Accepted) (c : Accepted) → governs c.content ≡ false → AreBatchRows commands c rows → IfOk result (AreEdits commands (commands ++ c ∷ [])) }
+    ensures own { IfOk result (λ edits. length edits.commands ≡ 1) }
 {
     let mut commands = Vec::new(alloc);
     commands.push(Edit::Put(rows.command))?;

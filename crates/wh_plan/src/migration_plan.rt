@@ -83,6 +83,8 @@ pub fn plan_migration<S: Alter>(
     ensures reads { ReadsOnly (state_of S.Store tables.old) (state_of S.Store tables.new) result }
     ensures edits { Finds (state_of S.Store tables.old) (state_of S.Store tables.new) (λ limits commands. (c : Accepted) → IsAccepted limits (commands ++ c ∷ []) → c.content ≡ Governs newer.now → policy_after None commands ≡ Some older.now → IsSound newer.now → fits older.now newer.now ≡ true
         → command_at (commands ++ c ∷ []) (suc (length commands)) ≡ Some command → IfOk result (AreEdits commands (commands ++ c ∷ []))) }
+    // Whatever is stored, a command that is planned writes its own row.
+    ensures own { IfOk result (λ edits. length edits.commands ≡ 1) }
 {
     let anew = shown_anew(tables, alloc, newer)?;
     let migrated = migrated_tables(tables, alloc, &anew.members, &anew.profiles.known)?;

@@ -7,7 +7,11 @@ ghost use Rattle.wh_history.specs.Laws.{RecordsHaveDays};
 ghost use Rattle.wh_history.specs.Plan.{row_of};
 ghost use Rattle.wh_history.specs.Tables.{member_rows};
 ghost use Rattle.wh_plan.specs.Reading.{HaveDistinctIds, HaveNoEmptyValue, command_with, given_text, change_in, last_opening, rows_with};
-ghost use Rattle.wh_store.specs.Reads.{ReadsOnly, state_of};
+ghost use Rattle.wh_rows.specs.declared.table.Table.TheVariants.{Command};
+ghost use Rattle.wh_rows.specs.Questions.{has_id};
+ghost use Rattle.wh_rows.specs.Raw.{IsLastOf};
+ghost use Rattle.wh_rows.specs.Rows as row;
+ghost use Rattle.wh_store.specs.Reads.{ReadsOnly, SaysAsStored, state_of};
 ghost use Rattle.wh_plan.specs.Reads.{Finds, Tells};
 
 use sqlite::Alter;
@@ -26,6 +30,8 @@ pub fn command_of<S: Alter>(
 ) -> Result<Option<CommandRow>, ReadFault>
     ensures reads { ReadsOnly (state_of S.Store tables.old) (state_of S.Store tables.new) result }
     ensures command { Finds (state_of S.Store tables.old) (state_of S.Store tables.new) (λ _ commands. HaveDistinctIds commands → IfOk result (λ row. row ≡ command_with commands id.now)) }
+    // The same of any rows, whoever wrote them.
+    ensures stored { SaysAsStored (state_of S.Store tables.old) (state_of S.Store tables.new) (λ stored. IfOk result (IsLastOf row.command (filter (has_id id.now) (stored.rows Command)))) }
 {
     let mut found = tables.ask::<tables::Command, CommandOf<'_>>(alloc, &CommandOf { id })?;
     Ok(found.pop())

@@ -221,6 +221,8 @@ pub fn plan_batch<S: Alter>(
 ) -> Result<Edits, ReadFault>
     ensures reads { ReadsOnly (state_of S.Store tables.old) (state_of S.Store tables.new) result }
     ensures edits { Finds (state_of S.Store tables.old) (state_of S.Store tables.new) (λ limits commands. (c : Accepted) → IsAccepted limits (commands ++ c ∷ []) → c.content ≡ Describes dim records.now → policy_after None commands ≡ Some policy.now → IsSound policy.now → command_at (commands ++ c ∷ []) (suc (length commands)) ≡ Some command → IfOk result (AreEdits commands (commands ++ c ∷ []))) }
+    // Whatever is stored, a command that is planned writes its own row.
+    ensures own { IfOk result (λ edits. length edits.commands ≡ 1) }
 {
     let types = policy.types(alloc, dim)?;
     let batch = Batch {

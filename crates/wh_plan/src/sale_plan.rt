@@ -75,6 +75,8 @@ pub fn plan_sales<S: Alter>(
     ensures reads { ReadsOnly (state_of S.Store tables.old) (state_of S.Store tables.new) result }
     ensures edits { Finds (state_of S.Store tables.old) (state_of S.Store tables.new) (λ limits commands. (c : Accepted) → IsAccepted limits (commands ++ c ∷ []) → c.content ≡ Sells sales.now → policy_after None commands ≡ Some policy.now → IsSound policy.now
         → command_at (commands ++ c ∷ []) (suc (length commands)) ≡ Some (record command { placeholders = placeholders_by (commands ++ c ∷ []) (suc (length commands)) c.content }) → IfOk result (AreEdits commands (commands ++ c ∷ []))) }
+    // Whatever is stored, a command that is planned writes its own row.
+    ensures own { IfOk result (λ edits. length edits.commands ≡ 1) }
 {
     let products = read_sold_dimension(tables, alloc, policy, Dim::Product, sales)?;
     let stores = read_sold_dimension(tables, alloc, policy, Dim::Store, sales)?;

@@ -1,7 +1,8 @@
-use Rattle.std.proofs.Common.{◌≡◌, ◌∙◌, true, None, Some, sym}
+use Rattle.std.proofs.Common.{◌≡◌, ◌∙◌, true, [], None, Some, sym}
 use Rattle.wh_rows.specs.Types.{is_key}
 use Rattle.wh_plan.specs.Reading.{command_with}
 use Rattle.wh_engine.proofs.Decisions.{known_answer, is_new}
+use Rattle.wh_engine.proofs.Repeating.{repeats_kept}
 use Rattle.wh_engine.proofs.decision.decide.Goals as goal
 
 pub returns-in-Some-clause-decided : goal.returns-in-Some-clause-decided
@@ -27,3 +28,7 @@ returns-in-Some-clause-blames g c clean stored rests = c.decide_known.ensures.bl
 
 pub returns-in-Some-clause-brings : goal.returns-in-Some-clause-brings
 returns-in-Some-clause-brings g c = c.decide_known.ensures.brings c.args.session.now.policy
+
+pub returns-in-Some-clause-again : goal.returns-in-Some-clause-again
+returns-in-Some-clause-again g c clean stored rests =
+    repeats_kept stored c.args.command.now c.in-Some.row c.decide_known.result (rw c.in-Some.is at (c.in_ok-row.ensures.stored clean stored rests)) (c.decide_known.ensures.known [])

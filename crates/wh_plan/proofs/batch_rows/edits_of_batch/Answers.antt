@@ -4,7 +4,7 @@ use Rattle.wh_plan.specs.BatchRows.{AreBatchRows}
 use Rattle.wh_plan.proofs.BatchPlans.{brought_as_edits}
 use Rattle.wh_plan.proofs.batch_rows.edits_of_batch.Goals as goal
 
-pub returns : goal.returns
-returns c commands sent batch are =
+pub returns-clause-exact : goal.returns-clause-exact
+returns-clause-exact c commands sent batch are =
     let inside = subst (AreBatchRows commands sent) (sym c.rows.view_is) are in
     brought_as_edits commands sent batch _ inside _ (c.in_ok-push.ensures.items ∙ ap (λ es. es ++ Put c.rows.inside.command ∷ []) c.new-commands.ensures.items) c.in_ok-puts.ensures c.in_ok-puts-2.ensures refl refl refl c.in_ok-puts-3.ensures c.new.ensures.items refl

@@ -26,4 +26,4 @@ returns-clause-edits g c clean limits commands t are at sent accepted is governe
     let facts = c.in_ok-facts.ensures.moved clean limits commands t are at_second sent c.args.records.now accepted is typed_now (c.deref-4.ensures.value ∙ found.members_read) list enough in
     let rows = c.in_ok-rows.ensures commands sent is typed_now (days_before limits commands sent accepted) (days_after limits commands sent accepted) command_is
     (record { found = found; touched = list; enough = enough; profiles = learned.fresh; facts = facts.0; rekeyed = facts.1 }) in
-    c.in_ok-edits_of_batch.ensures commands sent (ap governs is) rows
+    c.in_ok-edits_of_batch.ensures.exact commands sent (ap governs is) rows

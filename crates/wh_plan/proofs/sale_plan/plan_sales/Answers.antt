@@ -13,7 +13,7 @@ returns-clause-edits g c clean limits commands t are at sold accepted is governe
     let at_second = c.in_ok-stores.ensures.reads.same second t at_first tt in
     let full = values_before limits commands sold accepted in
     let few = numbers_small limits commands sold accepted in
-    c.in_ok-edits_of_batch.ensures commands sold (ap governs is) (c.in_ok-rows.ensures commands sold is
+    c.in_ok-edits_of_batch.ensures.exact commands sold (ap governs is) (c.in_ok-rows.ensures commands sold is
     (c.in_ok-products.ensures.sold first limits commands t are at sold full (few Product).0 (few Product).1 is governed sound)
     (c.in_ok-stores.ensures.sold second limits commands t are at_first sold full (few Store).0 (few Store).1 is governed sound)
     (c.in_ok-customers.ensures.sold clean limits commands t are at_second sold full (few Customer).0 (few Customer).1 is governed sound)
