@@ -2,9 +2,9 @@
 use Rattle.std.proofs.Common.{◌≡◌, List, [], ◌∷◌, ◌++◌, Result, Ok, Err, refl, sym, ap, subst, ◌∙◌, append_assoc}
 use Rattle.wh_history.specs.Accepted.{Accepted, Content}
 use Rattle.wh_history.specs.Tables.{Limits}
-use Rattle.wh_rows.specs.Sound.{making_of}
-use Rattle.wh_rows.specs.Sound.{IsAccepted}
-use Rattle.wh_rows.proofs.StaysBegun.{accepted_lists_begin}
+use Rattle.wh_model.specs.Sound.{making_of}
+use Rattle.wh_model.specs.Sound.{IsAccepted}
+use Rattle.wh_model.proofs.StaysBegun.{accepted_lists_begin}
 use Rattle.wh_admission.specs.Admission.{current_policy, content_of, accepted_as, answer, with_content, after_answer, accepted_after, accepted_after_all, AreAdmitted, AdmittedListsAreSound, IsOfItsBytes, AreOfTheirBytes, ContentsAreRead}
 use Rattle.wh_admission.specs.declared.command.Command.{Command}
 use Rattle.wh_admission.specs.declared.command.Reply.{Reply}

@@ -4,7 +4,7 @@ use Rattle.std.specs.Prelude.{find, bytes_eq}
 use Rattle.wh_batch.specs.declared.kind.CommandKind.{CommandKind}
 use Rattle.wh_history.specs.Accepted.{Accepted, Content}
 use Rattle.wh_history.specs.Tables.{Limits}
-use Rattle.wh_rows.specs.Sound.{making_of}
+use Rattle.wh_model.specs.Sound.{making_of}
 use Rattle.wh_rows.specs.Types.{is_key}
 use Rattle.wh_admission.specs.Admission.{current_policy, content_of, number_for, accepted_as, when_read, answer, with_content, after_answer, accepted_after, accepted_after_all, AreAdmitted}
 use Rattle.wh_admission.specs.Steps.{ComesAfter, ComeAfter, AreStepped, AdmittedIsStepped}

@@ -11,7 +11,7 @@ use Rattle.wh_history.specs.Accepted.{Accepted, Content, sold, sold_by}
 use Rattle.wh_history.specs.Keys.{place, after_one, at_place}
 use Rattle.wh_history.specs.Tables.{Limits}
 use Rattle.wh_history.proofs.Basics.{some_is, both_true, find_passes}
-use Rattle.wh_rows.specs.Sound.{changes_kept}
+use Rattle.wh_model.specs.Sound.{changes_kept}
 use Rattle.wh_rows.specs.Types.{is_key}
 use Rattle.wh_admission.specs.Admission.{content_of, current_policy, receipt_of, changes_in, first_line_there, number_past_lines, number_for, answer_with, when_read, already as told_already, by_id, answer}
 use Rattle.wh_admission.specs.Answers.{HasIdOf, IsAlike, IsNew, Says, MayBeCounted, is_sold, BringsNewLines, KeepsToChanges, IsFirstSold, IsAnswer, AnswerIsByCases, AnswersAreOne}

@@ -15,16 +15,16 @@ use Rattle.wh_admission.specs.declared.command.Refused.{Refused}
 use Rattle.wh_history.specs.Keys.{at_place}
 use Rattle.wh_history.specs.Tables.{Limits, meta_value}
 use Rattle.wh_history.proofs.Basics.{some_is}
-use Rattle.wh_rows.specs.Defined.{meta_at, command_at}
+use Rattle.wh_model.specs.Defined.{meta_at, command_at}
 use Rattle.wh_rows.specs.declared.rows.MetaRow.{MetaRow}
 use Rattle.wh_rows.specs.declared.rows.CommandRow.{CommandRow}
 use Rattle.wh_rows.specs.declared.table.Table.{Table}
 use Rattle.wh_rows.specs.declared.table.Table.TheVariants.{Meta, Command, Member, Change, Product, Store, Customer, Profile, Calendar, Fact, Fact2, Void}
 use Rattle.wh_rows.specs.Raw.{Stored, HasDamageIn}
 use Rattle.wh_rows.specs.Rows as row
-use Rattle.wh_rows.specs.Sound.{making_of}
-use Rattle.wh_rows.proofs.GrownCommands.{command_keyed}
-use Rattle.wh_rows.proofs.GrownKeys.{keyed_map}
+use Rattle.wh_model.specs.Sound.{making_of}
+use Rattle.wh_model.proofs.GrownCommands.{command_keyed}
+use Rattle.wh_model.proofs.GrownKeys.{keyed_map}
 use Rattle.wh_rows.proofs.Places as places
 use Rattle.wh_admission.specs.Admission.{current_policy, content_of, AreAdmitted}
 use Rattle.wh_admission.specs.Steps.{ComeAfter, AreStepped}
@@ -34,7 +34,7 @@ use Rattle.wh_admission.proofs.StoredMaps.{same_function, undamaged}
 
 -- ---- limits
 
-meta_keyed : (limits : Limits) (name : List ℕ) (v : MetaRow) → meta_at limits name ≡ Some v → row.meta.key v ≡ name
+pub meta_keyed : (limits : Limits) (name : List ℕ) (v : MetaRow) → meta_at limits name ≡ Some v → row.meta.key v ≡ name
 meta_keyed limits name v is = keyed_map row.meta.key name (λ (value : ℕ). record { name = name; value = pos value }) (λ _. refl) (meta_value limits name) v is
 
 number_of : Option MetaRow → ℤ

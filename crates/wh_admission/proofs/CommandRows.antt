@@ -12,7 +12,7 @@ use Rattle.wh_batch.specs.declared.kind.CommandKind.{CommandKind}
 use Rattle.wh_history.specs.Accepted.{Accepted, Content, Governs, Describes, Sells, records_by, members_after, placeholders_by}
 use Rattle.wh_history.specs.Tables as history
 use Rattle.wh_history.proofs.Basics.{some_is}
-use Rattle.wh_rows.specs.Defined.{command_at}
+use Rattle.wh_model.specs.Defined.{command_at}
 use Rattle.wh_rows.specs.declared.rows.CommandRow.{CommandRow}
 
 -- ---- the row of a command

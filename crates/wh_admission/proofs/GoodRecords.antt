@@ -19,7 +19,7 @@ use Rattle.wh_batch.specs.Fields.{or_fault, key_at, day_at, last_effective_day, 
 use Rattle.wh_batch.specs.Layouts.{dimension_record, dimension_layout, dimension_records}
 use Rattle.wh_batch.proofs.GoodLemmas.{bind_ok, cond_ok, reads_batches}
 use Rattle.wh_rows.specs.Types.{is_key, is_special, is_given, is_slot}
-use Rattle.wh_rows.specs.Sound.{IsGivenValue, IsGoodRecord}
+use Rattle.wh_model.specs.Sound.{IsGivenValue, IsGoodRecord}
 
 -- the keys of records are those of rows
 pub same_key : (most : ℕ) (text : List ℕ) → day.is_key most text ≡ is_key most text

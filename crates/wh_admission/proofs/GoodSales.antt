@@ -24,9 +24,9 @@ use Rattle.wh_batch.proofs.NumberLemmas.{digits-bound}
 use Rattle.wh_history.specs.Accepted.{member_of_sale}
 use Rattle.wh_history.proofs.Basics.{some_is}
 use Rattle.wh_rows.specs.Types.{is_key, is_line, is_measure}
-use Rattle.wh_rows.specs.Sound.{IsGoodSale, same_line}
+use Rattle.wh_model.specs.Sound.{IsGoodSale, same_line}
 use Rattle.wh_admission.proofs.GoodRecords.{read_ok, good_key, all_read}
-use Rattle.wh_rows.proofs.SameLines.{same_either}
+use Rattle.wh_model.proofs.SameLines.{same_either}
 
 -- ---- the numbers
 

@@ -17,8 +17,8 @@ use Rattle.wh_rows.specs.Rows as layout
 use Rattle.wh_rows.specs.declared.format.Format.TheVariants.{One}
 use Rattle.wh_rows.specs.declared.rows.CommandRow.{CommandRow}
 use Rattle.wh_rows.specs.declared.table.Table.TheVariants as table
-use Rattle.wh_rows.proofs.FoundPlaces.{same_text_is}
-use Rattle.wh_rows.proofs.Commands.{of_id_stored}
+use Rattle.wh_model.proofs.FoundPlaces.{same_text_is}
+use Rattle.wh_rows.proofs.EachTable.Commands.{of_id_stored}
 use Rattle.wh_rows.proofs.Raw.{has_again}
 use Rattle.wh_admission.specs.Admission.{receipt_again}
 use Rattle.wh_admission.specs.Repeated.{IsKept}
@@ -27,7 +27,7 @@ use Rattle.wh_admission.specs.declared.command.Receipt.{Receipt}
 use Rattle.wh_admission.specs.declared.command.Refused.{Refused}
 use Rattle.wh_admission.specs.declared.command.Refused.TheVariants.{Reused}
 
-last_valid : {V : Type 0} (p : V → Bool) (before : List V) (v : V) → list_all p (before ++ v ∷ []) ≡ true → p v ≡ true
+pub last_valid : {V : Type 0} (p : V → Bool) (before : List V) (v : V) → list_all p (before ++ v ∷ []) ≡ true → p v ≡ true
 last_valid p [] v all = (and_parts (p v) true all).0
 last_valid p (b ∷ before) v all = last_valid p before v (and_parts (p b) (list_all p (before ++ v ∷ [])) all).1
 

@@ -14,11 +14,11 @@ use Rattle.wh_admission.proofs.AdmittedSteps.{parted}
 use Rattle.wh_admission.proofs.CheckedTables.{header, told_by_headers}
 use Rattle.std.proofs.lemmas.List.{length-append}
 use Rattle.wh_history.specs.Accepted.{Accepted}
-use Rattle.wh_rows.specs.Defined.{command_at}
+use Rattle.wh_model.specs.Defined.{command_at}
 use Rattle.wh_rows.specs.Rows as row
 use Rattle.wh_rows.specs.declared.rows.CommandRow.{CommandRow}
-use Rattle.wh_rows.proofs.GrownKeys.{at_past}
-use Rattle.wh_rows.proofs.Listed.{keyed, Ascends, equal_is}
+use Rattle.wh_model.proofs.GrownKeys.{at_past}
+use Rattle.wh_model.proofs.Listed.{keyed, Ascends, equal_is}
 use Rattle.wh_admission.proofs.CommandRows.{row_of, row_is, row_with, placed}
 
 -- the rows of commands that come after others, in the order of their numbers

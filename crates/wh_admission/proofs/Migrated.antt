@@ -16,7 +16,7 @@ use Rattle.wh_history.specs.Accepted.{Accepted, Content, Governs, Describes, Sel
 use Rattle.wh_admission.specs.Admission.{of_file, policy_told}
 use Rattle.wh_admission.specs.declared.command.Refused.{Refused}
 use Rattle.wh_admission.specs.declared.command.Refused.TheVariants.{Unfit}
-use Rattle.wh_rows.specs.Sound.{GivesPolicy}
+use Rattle.wh_model.specs.Sound.{GivesPolicy}
 
 -- ---- one that takes the place of another
 

@@ -3,7 +3,7 @@ use Rattle.std.proofs.Common.{◌≡◌, ℕ, suc, ◌+◌, true, false, cond, L
 use Rattle.std.specs.List.{list_any}
 use Rattle.wh_policy.specs.declared.record.SaleRecord.{SaleRecord}
 use Rattle.wh_admission.specs.Admission.{first_line_there}
-use Rattle.wh_rows.specs.Sound.{same_line}
+use Rattle.wh_model.specs.Sound.{same_line}
 
 module _ (before : List SaleRecord) where
   pub none_first : (number : ℕ) (s : SaleRecord) (sales : List SaleRecord) → list_any (λ t. same_line t s) before ≡ false → first_line_there before number (s ∷ sales) ≡ first_line_there before (number + 1) sales

@@ -25,7 +25,7 @@ use Rattle.wh_rows.specs.Questions.{gives_policy}
 use Rattle.wh_rows.specs.Types.{is_key, is_kind}
 use Rattle.wh_batch.specs.Kind.{command_word}
 use Rattle.wh_admission.specs.Admission.{of_batch, records_told, sales_told, policy_told, content_of, current_policy, accepted_as, receipt_of, changes_in, first_line_there, number_past_lines, number_for, answer_with, when_read, answer, with_content, after_answer, accepted_after, AcceptedListsStaySound}
-use Rattle.wh_rows.specs.Sound.{IsGoodRecord, IsGoodSale, same_line, changes_kept, GivesPolicy, IsAccepted}
+use Rattle.wh_model.specs.Sound.{IsGoodRecord, IsGoodSale, same_line, changes_kept, GivesPolicy, IsAccepted}
 use Rattle.wh_admission.specs.declared.command.Command.{Command}
 use Rattle.wh_batch.specs.declared.kind.CommandKind.{CommandKind}
 use Rattle.wh_batch.specs.declared.kind.CommandKind.TheVariants.{Batch, Migration}
@@ -36,7 +36,7 @@ use Rattle.wh_admission.specs.declared.command.Refused.{Refused}
 use Rattle.wh_admission.specs.declared.command.Refused.TheVariants.{Full}
 use Rattle.wh_admission.specs.declared.command.Limit.TheVariants.{Commands, Changes, Facts}
 use Rattle.wh_admission.proofs.Migrated.{HasSix, policy_taken, policy_with, still_governed, still_six}
-use Rattle.wh_admission.proofs.Repeats.{new_id}
+use Rattle.wh_admission.proofs.Repeats.{first_or, new_id}
 use Rattle.wh_admission.proofs.GoodRecords.{good_records, few_records}
 use Rattle.wh_admission.proofs.GoodSales.{good_sales, few_sales, sales_once}
 
@@ -46,9 +46,6 @@ distinct_last : {X : Type 0} (same : X → X → Bool) (xs : List X) (x : X) →
 unfolding IsDistinct
 distinct_last same [] x new once = (tt, tt)
 distinct_last same (y ∷ ys) x new once = (all_append (λ z. same y z ≡ false) ys (x ∷ []) once.0 (new.0, tt), distinct_last same ys x new.1 once.1)
-
-abbrev first_or : Bool → Accepted → Option Accepted → Option Accepted
-first_or b a o = cond b (Some a) o
 
 none_first : (b : Bool) (a : Accepted) (o : Option Accepted) → first_or b a o ≡ None → (b ≡ false) × (o ≡ None)
 none_first true a o h = absurd cc

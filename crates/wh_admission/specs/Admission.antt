@@ -19,8 +19,8 @@ use Rattle.wh_history.specs.Accepted.{Accepted, Content, Governs, Describes, Sel
 use Rattle.wh_history.specs.Tables.{Limits}
 use Rattle.wh_rows.specs.Types.{is_key}
 use Rattle.wh_rows.specs.Limits.{are_limits}
-use Rattle.wh_rows.specs.Sound.{making_of}
-use Rattle.wh_rows.specs.Sound.{IsAccepted, changes_kept, same_line}
+use Rattle.wh_model.specs.Sound.{making_of}
+use Rattle.wh_model.specs.Sound.{IsAccepted, changes_kept, same_line}
 use Rattle.wh_admission.specs.declared.command.Command.{Command}
 use Rattle.wh_batch.specs.declared.kind.CommandKind.{CommandKind}
 use Rattle.wh_batch.specs.declared.kind.CommandKind.TheVariants.{Batch, Migration}

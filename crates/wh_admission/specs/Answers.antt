@@ -6,7 +6,7 @@ use Rattle.wh_batch.specs.Kind.{command_word}
 use Rattle.wh_history.specs.Accepted.{Accepted, Content, sold, sold_by}
 use Rattle.wh_history.specs.Keys.{at_place}
 use Rattle.wh_history.specs.Tables.{Limits}
-use Rattle.wh_rows.specs.Sound.{changes_kept, same_line}
+use Rattle.wh_model.specs.Sound.{changes_kept, same_line}
 use Rattle.wh_rows.specs.Types.{is_key}
 use Rattle.wh_admission.specs.Admission.{current_policy, content_of, accepted_as, receipt_of, changes_in, answer}
 use Rattle.wh_admission.specs.declared.command.Command.{Command}

@@ -2,7 +2,7 @@
 use Rattle.std.proofs.Common.{◌≡◌, ℕ, refl, zero, suc, ◌+◌, ◌<◌, ◌≤◌, List, [], ◌∷◌, ◌++◌, length, take, drop, get_or, map, Some, Ok, Err, ap, arith, Bor}
 use Rattle.std.proofs.lemmas.List.{drop_more, drop_all}
 use Rattle.csv.specs.Records.{field_at}
-use Rattle.wh_day.specs.declared.error.ReadError.{ReadError}
+use Rattle.wh_day.specs.declared.error.ParseError.{ParseError}
 use Rattle.wh_day.specs.Reading.{Fails}
 use Rattle.wh_day.proofs.Loops.{with_front, with_front-cons, with_front-nil, with_front-fails}
 use Rattle.wh_batch.specs.declared.fault.FaultKind.{FaultKind}
@@ -15,7 +15,7 @@ pub values-next : (front : List (List ℕ)) (field : List ℕ) (rest : List (Lis
 unfolding values_at
 values-next front field rest value e = rw e (with_front-cons front value (values_at rest))
 
-pub values-fail : (error : ReadError FaultKind) (front : List (List ℕ)) (field : List ℕ) (rest : List (List ℕ)) → Fails error (value_at field) → Fails error (with_front front (values_at (field ∷ rest)))
+pub values-fail : (error : ParseError FaultKind) (front : List (List ℕ)) (field : List ℕ) (rest : List (List ℕ)) → Fails error (value_at field) → Fails error (with_front front (values_at (field ∷ rest)))
 unfolding values_at
 values-fail error front field rest h = with_front-fails error front (value_at field) _ h
 

@@ -12,7 +12,7 @@ use crate::layout::RecordLayout;
 use crate::rows::Rows;
 use csv::ByteRecord;
 use std::alloc::Global;
-use wh_day::ReadError;
+use wh_day::ParseError;
 
 /// The records of a batch, in order. `Memory` comes where a growth was refused, or where the CSV reader gave up.
 #[tactic(auto, unfolding(crate::specs::Batch::batch_of, crate::specs::Batch::below_header))]
@@ -20,7 +20,7 @@ pub(crate) fn batch_of<L: RecordLayout>(
     alloc: Global,
     layout: &L,
     bytes: &[u8],
-) -> Result<Vec<L::Record>, ReadError<BatchFault>>
+) -> Result<Vec<L::Record>, ParseError<BatchFault>>
     ensures { Gives (λ records. records.items) result (batch_of (L.layout layout.now) bytes.now) }
 {
     if bytes.len() > 1_000_000 {
@@ -45,7 +45,7 @@ fn records_below<L: RecordLayout>(
     layout: &L,
     room: usize,
     rows: &mut Rows,
-) -> Result<Vec<L::Record>, ReadError<BatchFault>>
+) -> Result<Vec<L::Record>, ParseError<BatchFault>>
     ensures { Gives (λ records. records.items) result (records_after (L.layout layout.now) [] 1 rows.old) }
 {
     let mut row = ByteRecord::new(alloc);
@@ -57,8 +57,8 @@ fn records_below<L: RecordLayout>(
         }
         match next_record(alloc, layout, &mut keys, &row) {
             Ok(record) => records.push(record)?,
-            Err(ReadError::Memory) => return Err(ReadError::Memory),
-            Err(ReadError::Fault(kind)) => return Err(fault(number, kind)),
+            Err(ParseError::Memory) => return Err(ParseError::Memory),
+            Err(ParseError::Fault(kind)) => return Err(fault(number, kind)),
         }
     }
     if rows.next(&mut row)? {
@@ -73,22 +73,22 @@ fn next_record<L: RecordLayout>(
     layout: &L,
     keys: &mut Keys,
     row: &ByteRecord,
-) -> Result<L::Record, ReadError<FaultKind>>
+) -> Result<L::Record, ParseError<FaultKind>>
     ensures reads { Gives (λ r. r) result (next_record (L.layout layout.now) keys.old (fields_of row.now)) }
     ensures keeps { IfOk result (λ r. keys.new ≡ keys.old ++ (L.layout layout.now).key r ∷ []) }
 {
     let record = layout.read(alloc, row)?;
     if !keys.insert(layout.key(&record))? {
-        return Err(ReadError::Fault(FaultKind::TwiceInBatch));
+        return Err(ParseError::Fault(FaultKind::TwiceInBatch));
     }
     if !layout.is_within(&record) {
-        return Err(ReadError::Fault(FaultKind::OutsideCalendar));
+        return Err(ParseError::Fault(FaultKind::OutsideCalendar));
     }
     Ok(record)
 }
 
-fn fault(number: u32, kind: FaultKind) -> ReadError<BatchFault>
-    ensures { result ≡ ReadError.Fault (record { kind = kind; number = number }) }
+fn fault(number: u32, kind: FaultKind) -> ParseError<BatchFault>
+    ensures { result ≡ ParseError.Fault (record { kind = kind; number = number }) }
 {
-    ReadError::Fault(BatchFault { kind, number })
+    ParseError::Fault(BatchFault { kind, number })
 }

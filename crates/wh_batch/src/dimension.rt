@@ -15,7 +15,7 @@ use crate::layout::RecordLayout;
 use crate::records::DimensionRecords;
 use csv::ByteRecord;
 use std::alloc::Global;
-use wh_day::ReadError;
+use wh_day::ParseError;
 use wh_policy::{Attribute, Dim, DimensionRecord, Policy};
 
 /// The records of a batch for a dimension, in order. `Memory` comes where a growth was refused, or where the CSV reader
@@ -27,7 +27,7 @@ pub fn dimension_records(
     policy: &Policy,
     format: Format,
     bytes: &[u8],
-) -> Result<DimensionRecords, ReadError<BatchFault>>
+) -> Result<DimensionRecords, ParseError<BatchFault>>
     ensures { Gives (λ records. records) result (dimension_records dim policy.now format bytes.now) }
 {
     match format {
@@ -64,7 +64,7 @@ impl<'a> RecordLayout for DimensionLayout<'a> {
         &self,
         alloc: Global,
         row: &ByteRecord,
-    ) -> Result<DimensionRecord, ReadError<FaultKind>> {
+    ) -> Result<DimensionRecord, ParseError<FaultKind>> {
         let fields = fields_of(alloc, row)?;
         dimension_record(alloc, self.attributes.len(), &fields)
     }
@@ -83,14 +83,14 @@ fn dimension_record(
     alloc: Global,
     attributes: usize,
     fields: &[&[u8]],
-) -> Result<DimensionRecord, ReadError<FaultKind>>
+) -> Result<DimensionRecord, ParseError<FaultKind>>
     ensures { Gives (λ r. r) result (dimension_record attributes (map (λ f. f.now) fields.now)) }
 {
     let [id, day, values @ ..] = fields else {
-        return Err(ReadError::Fault(FaultKind::WrongLength));
+        return Err(ParseError::Fault(FaultKind::WrongLength));
     };
     if values.len() != attributes {
-        return Err(ReadError::Fault(FaultKind::WrongLength));
+        return Err(ParseError::Fault(FaultKind::WrongLength));
     }
     let natural = key_of(32, id)?;
     let day = effective_day_of(day)?;

@@ -10,7 +10,7 @@ ghost use Rattle.wh_batch.specs.Fields.{or_fault, key_at, customer_at, day_at, e
 use crate::fault::FaultKind;
 use csv::ByteRecord;
 use std::alloc::{AllocError, Global};
-use wh_day::{Day, NaturalKey, ReadError, Value, Values};
+use wh_day::{Day, NaturalKey, ParseError, Value, Values};
 
 /// The fields of a row.
 pub(crate) fn fields_of(alloc: Global, row: &ByteRecord) -> Result<Vec<&[u8]>, AllocError>
@@ -33,18 +33,21 @@ pub(crate) fn are_same(fields: &[&[u8]], others: &[&[u8]]) -> bool
 }
 
 /// What was read, or this fault.
-pub(crate) fn or_fault<T: Drop>(read: Option<T>, kind: FaultKind) -> Result<T, ReadError<FaultKind>>
+pub(crate) fn or_fault<T: Drop>(
+    read: Option<T>,
+    kind: FaultKind,
+) -> Result<T, ParseError<FaultKind>>
     ensures { Gives (λ x. x) result (or_fault kind read) }
 {
     match read {
         Some(x) => Ok(x),
-        None => Err(ReadError::Fault(kind)),
+        None => Err(ParseError::Fault(kind)),
     }
 }
 
 /// The key of at most so many bytes that a field is.
 #[tactic(auto, unfolding(crate::specs::Fields::key_at))]
-pub(crate) fn key_of(most: usize, field: &[u8]) -> Result<NaturalKey, ReadError<FaultKind>>
+pub(crate) fn key_of(most: usize, field: &[u8]) -> Result<NaturalKey, ParseError<FaultKind>>
     requires { most ≤ 32 }
     ensures { Gives (λ key. key) result (key_at most field.now) }
 {
@@ -53,7 +56,7 @@ pub(crate) fn key_of(most: usize, field: &[u8]) -> Result<NaturalKey, ReadError<
 
 /// The key of the customer, whom a sale needn't have.
 #[tactic(auto, unfolding(crate::specs::Fields::customer_at))]
-pub(crate) fn customer_of(field: &[u8]) -> Result<Option<NaturalKey>, ReadError<FaultKind>>
+pub(crate) fn customer_of(field: &[u8]) -> Result<Option<NaturalKey>, ParseError<FaultKind>>
     ensures { Gives (λ customer. customer) result (customer_at field.now) }
 {
     match field {
@@ -63,32 +66,32 @@ pub(crate) fn customer_of(field: &[u8]) -> Result<Option<NaturalKey>, ReadError<
 }
 
 #[tactic(auto, unfolding(crate::specs::Fields::day_at))]
-pub(crate) fn day_of(field: &[u8]) -> Result<Day, ReadError<FaultKind>>
+pub(crate) fn day_of(field: &[u8]) -> Result<Day, ParseError<FaultKind>>
     ensures { Gives (λ day. day) result (day_at field.now) }
 {
     or_fault(Day::read(field), FaultKind::BadDay)
 }
 
 #[tactic(auto, unfolding(crate::specs::Fields::effective_day_at))]
-pub(crate) fn effective_day_of(field: &[u8]) -> Result<Day, ReadError<FaultKind>>
+pub(crate) fn effective_day_of(field: &[u8]) -> Result<Day, ParseError<FaultKind>>
     ensures { Gives (λ day. day) result (effective_day_at field.now) }
 {
     let day = day_of(field)?;
     if day.key() <= 21_991_231 {
         Ok(day)
     } else {
-        Err(ReadError::Fault(FaultKind::BadDay))
+        Err(ParseError::Fault(FaultKind::BadDay))
     }
 }
 
 #[tactic(auto, unfolding(crate::specs::Fields::value_at))]
-fn value_of(alloc: Global, field: &[u8]) -> Result<Value, ReadError<FaultKind>>
+fn value_of(alloc: Global, field: &[u8]) -> Result<Value, ParseError<FaultKind>>
     ensures { Gives (λ value. value) result (value_at field.now) }
 {
     or_fault(Value::read(alloc, field)?, FaultKind::BadValue)
 }
 
-pub(crate) fn values_of(alloc: Global, fields: &[&[u8]]) -> Result<Values, ReadError<FaultKind>>
+pub(crate) fn values_of(alloc: Global, fields: &[&[u8]]) -> Result<Values, ParseError<FaultKind>>
     ensures { Gives (λ values. values) result (values_at (map (λ f. f.now) fields.now)) }
 {
     let mut values = Values::new(alloc);

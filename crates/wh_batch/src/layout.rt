@@ -12,7 +12,7 @@ use crate::fault::FaultKind;
 use crate::keys::RecordKey;
 use csv::ByteRecord;
 use std::alloc::Global;
-use wh_day::ReadError;
+use wh_day::ParseError;
 
 /// How the records of a kind are laid out.
 pub(crate) trait RecordLayout {
@@ -24,7 +24,7 @@ pub(crate) trait RecordLayout {
         ensures { result ≡ pointwise bytes_eq (map (λ f. f.now) fields.now) (layout self.now).header };
 
     /// The record of a row.
-    fn read(&self, alloc: Global, row: &ByteRecord) -> Result<Self::Record, ReadError<FaultKind>>
+    fn read(&self, alloc: Global, row: &ByteRecord) -> Result<Self::Record, ParseError<FaultKind>>
         ensures { Gives (λ r. r) result ((layout self.now).read (fields_of row.now)) };
 
     fn key(&self, record: &Self::Record) -> RecordKey

@@ -13,7 +13,7 @@ use csv::ByteRecord;
 use std::alloc::{AllocError, Global};
 use std::marker::Model;
 use thiserror::Error;
-use wh_day::{ReadError, Value};
+use wh_day::{ParseError, Value};
 
 /// One command of a delivery, and where its input is.
 #[derive(Debug, Drop)]
@@ -54,7 +54,7 @@ impl Manifest {
     /// The commands that a text lists, in order. It has no header. `Memory` comes where a growth was refused, or where the CSV
     /// reader gave up.
     #[tactic(auto, unfolding(crate::specs::Manifest::manifest_of))]
-    pub fn read(alloc: Global, bytes: &[u8]) -> Result<Manifest, ReadError<BadManifest>>
+    pub fn read(alloc: Global, bytes: &[u8]) -> Result<Manifest, ParseError<BadManifest>>
         ensures { Gives (λ manifest. manifest) result (manifest_of bytes.now) }
     {
         let mut rows = Rows::new(alloc, bytes);
@@ -74,7 +74,7 @@ impl Manifest {
 fn entries_from(
     alloc: Global,
     rows: &mut Rows,
-) -> Result<Vec<ManifestEntry>, ReadError<BadManifest>>
+) -> Result<Vec<ManifestEntry>, ParseError<BadManifest>>
     ensures { Gives (λ entries. entries.items) result (entries_from 1 rows.old) }
 {
     let mut row = ByteRecord::new(alloc);
@@ -86,11 +86,11 @@ fn entries_from(
         let fields = fields_of(alloc, &row)?;
         match entry_of(alloc, &fields)? {
             Some(entry) => entries.push(entry)?,
-            None => return Err(ReadError::Fault(BadManifest { number })),
+            None => return Err(ParseError::Fault(BadManifest { number })),
         }
     }
     // Memory has no room for so many.
-    Err(ReadError::Memory)
+    Err(ParseError::Memory)
 }
 
 /// The entry that a record writes, if it writes one.

@@ -9,7 +9,7 @@ ghost use Rattle.wh_batch.specs.Numbers.{is_point, read_digits, read_fraction, r
 
 use crate::fault::FaultKind;
 use crate::fields::or_fault;
-use wh_day::ReadError;
+use wh_day::ParseError;
 
 // The number that one up to `most` digits write.
 #[tactic(auto, unfolding(crate::specs::Numbers::read_digits))]
@@ -98,20 +98,20 @@ fn read_amount(text: &[u8]) -> Option<i64>
 }
 
 /// The number of a line on its ticket, 1 to 9999.
-pub(crate) fn line_of(field: &[u8]) -> Result<u32, ReadError<FaultKind>>
+pub(crate) fn line_of(field: &[u8]) -> Result<u32, ParseError<FaultKind>>
     ensures { Gives (λ line. line) result (line_at field.now) }
 {
     or_fault(read_line(field), FaultKind::BadNumber)
 }
 
-pub(crate) fn quantity_of(field: &[u8]) -> Result<i64, ReadError<FaultKind>>
+pub(crate) fn quantity_of(field: &[u8]) -> Result<i64, ParseError<FaultKind>>
     ensures { Gives (λ quantity. quantity) result (quantity_at field.now) }
 {
     or_fault(read_quantity(field), FaultKind::BadNumber)
 }
 
 /// An amount of money, in hundredths.
-pub(crate) fn amount_of(field: &[u8]) -> Result<i64, ReadError<FaultKind>>
+pub(crate) fn amount_of(field: &[u8]) -> Result<i64, ParseError<FaultKind>>
     ensures { Gives (λ amount. amount) result (amount_at field.now) }
 {
     or_fault(read_amount(field), FaultKind::BadNumber)

@@ -10,7 +10,7 @@ use crate::kind::{Format, Kind};
 use crate::records::Records;
 use crate::sale::sale_records;
 use std::alloc::Global;
-use wh_day::ReadError;
+use wh_day::ParseError;
 use wh_policy::Policy;
 
 /// The records of a batch of this kind, in order. `Memory` comes where a growth was refused, or where the CSV reader
@@ -22,7 +22,7 @@ pub fn read(
     policy: &Policy,
     format: Format,
     bytes: &[u8],
-) -> Result<Records, ReadError<BatchFault>>
+) -> Result<Records, ParseError<BatchFault>>
     ensures { Gives (λ records. records) result (records_of kind policy.now format bytes.now) }
 {
     match kind {

@@ -15,7 +15,7 @@ use crate::numbers::{amount_of, line_of, quantity_of};
 use crate::sales::SaleRecords;
 use csv::ByteRecord;
 use std::alloc::Global;
-use wh_day::ReadError;
+use wh_day::ParseError;
 use wh_policy::{Policy, SaleRecord, Years};
 
 /// The records of a batch of sales, in order. `Memory` comes where a growth was refused, or where the CSV reader gave up.
@@ -25,7 +25,7 @@ pub fn sale_records(
     policy: &Policy,
     format: Format,
     bytes: &[u8],
-) -> Result<SaleRecords, ReadError<BatchFault>>
+) -> Result<SaleRecords, ParseError<BatchFault>>
     ensures { Gives (λ records. records) result (sale_records policy.now format bytes.now) }
 {
     match format {
@@ -66,7 +66,7 @@ impl RecordLayout for SalesLayout {
         are_same(fields, &names)
     }
 
-    fn read(&self, _alloc: Global, row: &ByteRecord) -> Result<SaleRecord, ReadError<FaultKind>> {
+    fn read(&self, _alloc: Global, row: &ByteRecord) -> Result<SaleRecord, ParseError<FaultKind>> {
         read_sale(row)
     }
 
@@ -80,11 +80,11 @@ impl RecordLayout for SalesLayout {
 }
 
 #[tactic(auto, using(crate::proofs::FieldLemmas::other_than_nine))]
-fn read_sale(row: &ByteRecord) -> Result<SaleRecord, ReadError<FaultKind>>
+fn read_sale(row: &ByteRecord) -> Result<SaleRecord, ParseError<FaultKind>>
     ensures { Gives (λ r. r) result (sale_record (fields_of row.now)) }
 {
     if row.len() != 9 {
-        return Err(ReadError::Fault(FaultKind::WrongLength));
+        return Err(ParseError::Fault(FaultKind::WrongLength));
     }
     sale_record(&nine_fields(row))
 }
@@ -104,7 +104,7 @@ fn nine_fields(row: &ByteRecord) -> [&[u8]; 9]
 }
 
 #[tactic(auto, using(crate::proofs::FieldLemmas::nine_fields), unfolding(crate::specs::Layouts::sale_record))]
-fn sale_record(fields: &[&[u8]; 9]) -> Result<SaleRecord, ReadError<FaultKind>>
+fn sale_record(fields: &[&[u8]; 9]) -> Result<SaleRecord, ParseError<FaultKind>>
     ensures { Gives (λ r. r) result (sale_record (map (λ f. f.now) fields.now)) }
 {
     let [

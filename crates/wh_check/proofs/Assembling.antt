@@ -2,7 +2,7 @@
 use Rattle.std.proofs.Common.{◌<◌, List, subst, arith}
 use Rattle.wh_history.specs.Accepted.{Accepted}
 use Rattle.wh_history.specs.Tables.{Limits}
-use Rattle.wh_rows.specs.Defined.{command_at}
+use Rattle.wh_model.specs.Defined.{command_at}
 use Rattle.wh_rows.specs.Raw.{Stored, HasDamageIn}
 use Rattle.wh_rows.specs.Rows as row
 use Rattle.wh_rows.specs.declared.table.Table.{Table}

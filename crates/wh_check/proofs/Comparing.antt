@@ -27,6 +27,7 @@ use Rattle.wh_sql.specs.declared.fault.ReadFault.TheVariants.{Memory, Damaged, S
 use Rattle.wh_store.specs.Scan.{HandsOut}
 use Rattle.wh_check.specs.Alike.{AreAlike}
 use Rattle.wh_check.specs.Compared.{IsNext, IsEnd}
+use Rattle.wh_rows.proofs.BehindStored.{all_two, none_kept}
 
 -- the keys of the rows rise
 abbrev pub DoKeysRise : {K V : Type 0} → Layout K V → List V → Type 0
@@ -40,14 +41,6 @@ IsCompared layout stored rows false = (¬ IsPermutation stored (map layout.encod
 
 -- ---- lists that ascend
 
-none_kept : {X : Type 0} (p : X → Bool) (xs : List X) → length (filter p xs) ≤ 0 → AllByRecursion (λ x. p x ≡ false) xs
-none_kept p [] none = tt
-none_kept p (x ∷ xs) none = go (p x) refl none (none_kept p xs)
-  where
-    go : (b : Bool) → p x ≡ b → length (cond b (x ∷ filter p xs) (filter p xs)) ≤ 0 → (length (filter p xs) ≤ 0 → AllByRecursion (λ y. p y ≡ false) xs) → AllByRecursion (λ y. p y ≡ false) (x ∷ xs)
-    go true is none rest = absurd (omega (arith, none))
-    go false is none rest = (is, rest none)
-
 fewer_later : {X : Type 0} (p : X → Bool) (x : X) (xs : List X) → length (filter p (x ∷ xs)) ≤ 1 → length (filter p xs) ≤ 1
 fewer_later p x xs one = go (p x) one
   where
@@ -57,10 +50,6 @@ fewer_later p x xs one = go (p x) one
 
 none_later : {X : Type 0} (p : X → Bool) (x : X) (xs : List X) → length (filter p (x ∷ xs)) ≤ 1 → p x ≡ true → AllByRecursion (λ y. p y ≡ false) xs
 none_later p x xs one here = none_kept p xs (let more : length (filter p (x ∷ xs)) ≡ length (filter p xs) + 1 = ap (λ b. length (cond b (x ∷ filter p xs) (filter p xs))) here ∙ omega arith in omega (arith, one, more))
-
-all_two : {X : Type 0} (P Q S : X → Type 0) (xs : List X) → ((x : X) → P x → Q x → S x) → AllByRecursion P xs → AllByRecursion Q xs → AllByRecursion S xs
-all_two P Q S [] to first second = tt
-all_two P Q S (x ∷ xs) to first second = (to x first.0 second.0, all_two P Q S xs to first.1 second.1)
 
 not_less : (o : Ordering) → o ≡ Less → ordering_reverse o ≡ Less → ⊥
 not_less Less is back = absurd cc

@@ -18,14 +18,8 @@ use Rattle.wh_rows.specs.Raw.{IsLastOf}
 use Rattle.wh_rows.proofs.Maps.{filter-get}
 use Rattle.wh_admission.specs.Checked.{AreRowsAt}
 use Rattle.wh_admission.proofs.StoredMaps.{each_found, valid_at}
-
-all_mapped : {X : Type 0} (P Q : X → Type 0) (xs : List X) → ((x : X) → P x → Q x) → AllByRecursion P xs → AllByRecursion Q xs
-all_mapped P Q [] to all = tt
-all_mapped P Q (x ∷ xs) to all = (to x all.0, all_mapped P Q xs to all.1)
-
-last_valid : {V : Type 0} (p : V → Bool) (before : List V) (v : V) → list_all p (before ++ v ∷ []) ≡ true → p v ≡ true
-last_valid p [] v all = (and_parts (p v) true all).0
-last_valid p (b ∷ before) v all = last_valid p before v (and_parts (p b) (list_all p (before ++ v ∷ [])) all).1
+use Rattle.wh_rows.proofs.BehindStored.{all_mapped}
+use Rattle.wh_admission.proofs.KeptRows.{last_valid}
 
 module _ {K V : Type 0} (layout : Layout K V) (total : IsTotalOrder layout.order) (one : (v w : V) → IsTrue (layout.is_valid v) → IsTrue (layout.is_valid w) → layout.encode v ≡ layout.encode w → v ≡ w)
     (stands_at : K → Row → Bool) (agree : (k : K) (v : V) → stands_at k (layout.encode v) ≡ eq_by_cmp layout.order k (layout.key v)) (row_at : K → Option V) (keyed : (k : K) (v : V) → row_at k ≡ Some v → layout.key v ≡ k)

@@ -12,20 +12,14 @@ use Rattle.wh_rows.specs.Holds.{Layout}
 use Rattle.wh_admission.specs.Checked.{AreRowsAt}
 use Rattle.wh_check.specs.Compared.{AreRowsOrNot}
 use Rattle.wh_check.proofs.Comparing.{DoKeysRise, IsCompared}
+use Rattle.wh_rows.proofs.Maps.{both_hold}
+use Rattle.wh_model.proofs.Listed.{is_true}
 
 -- the rows are of their types, their keys rise, and each key has the row that the function gives it
 pub record AreListed {K V : Type 0} (layout : Layout K V) (row_at : K → Option V) (rows : List V) : Type 0 where
   pub rise : DoKeysRise layout rows
   pub valid : IsTrue (list_all layout.is_valid rows)
   pub found : (key : K) → find layout.order key (map (λ v. (layout.key v, v)) rows) ≡ row_at key
-
-is_true : (b : Bool) → T b → b ≡ true
-is_true true h = refl
-is_true false h = absurd h
-
-both_hold : (a b : Bool) → a ≡ true → T b → T (a && b)
-both_hold true b p q = q
-both_hold false b p q = absurd (cc)
 
 module _ {K V : Type 0} (layout : Layout K V) where
   abbrev keyed : List V → List (K × V)

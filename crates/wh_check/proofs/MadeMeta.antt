@@ -8,7 +8,7 @@ use Rattle.std.proofs.lemmas.Bool.{cases_Bool}
 use Rattle.std.proofs.lemmas.Map.Text.{is_eq-slice_cmp}
 use Rattle.std.proofs.lemmas.Slice.Eq.{bytes_eq-Decides}
 use Rattle.wh_history.specs.Tables.{Limits}
-use Rattle.wh_rows.specs.Defined.{meta_at}
+use Rattle.wh_model.specs.Defined.{meta_at}
 use Rattle.wh_rows.specs.declared.rows.MetaRow.{MetaRow}
 use Rattle.wh_store.specs.Meta.{made_with}
 

@@ -4,13 +4,13 @@ use Rattle.std.specs.Prelude.{codes}
 use Rattle.std.specs.Ordering.{eq_by_cmp, nat_cmp}
 use Rattle.std.specs.Cmp.Lexicographic.{slice_cmp}
 use Rattle.wh_history.specs.Tables.{Limits, meta_value}
-use Rattle.wh_rows.specs.Defined.{meta_at}
+use Rattle.wh_model.specs.Defined.{meta_at}
 use Rattle.wh_rows.specs.Keys.{stands_at_text}
 use Rattle.wh_rows.specs.Raw.{Stored, HasDamage}
 use Rattle.wh_rows.specs.Rows as row
 use Rattle.wh_rows.specs.declared.rows.MetaRow.{MetaRow}
 use Rattle.wh_rows.specs.declared.table.Table.TheVariants.{Meta}
-use Rattle.wh_rows.proofs.GrownKeys.{keyed_map}
+use Rattle.wh_model.proofs.GrownKeys.{keyed_map}
 use Rattle.wh_rows.proofs.Keys.{equal-Text}
 use Rattle.wh_rows.proofs.Places as places
 use Rattle.wh_store.specs.Meta.{meta_number, limits_of_numbers}
@@ -26,6 +26,7 @@ use Rattle.wh_check.proofs.Comparing.{kept_has}
 use Rattle.wh_admission.specs.Checked.{AreRowsAt, SaysLimits}
 use Rattle.wh_admission.proofs.StoredMaps.{undamaged}
 use Rattle.wh_check.proofs.FoundRows.{found_at}
+use Rattle.wh_admission.proofs.CheckedTables.{meta_keyed}
 
 -- ---- the limits that are read
 
@@ -35,9 +36,6 @@ and_true false = refl
 
 stands_so : (k : List ℕ) (v : MetaRow) → stands_at_text k (row.meta.encode v) ≡ eq_by_cmp (slice_cmp nat_cmp) k v.name
 stands_so k v = and_true _ ∙ equal-Text v.name k
-
-meta_keyed : (limits : Limits) (name : List ℕ) (v : MetaRow) → meta_at limits name ≡ Some v → row.meta.key v ≡ name
-meta_keyed limits name v is = keyed_map row.meta.key name (λ (value : ℕ). record { name = name; value = pos value }) (λ _. refl) (meta_value limits name) v is
 
 number_read : (stored : Stored) (limits : Limits) → AreRowsAt row.meta (meta_at limits) (stored.rows Meta) → (name : List ℕ) (number : Option ℤ) → IsNumberIn stored name number → number ≡ meta_number (meta_at limits name)
 number_read stored limits are name number it =

@@ -11,11 +11,11 @@ ghost use Rattle.wh_check.specs.Alike.{is_plain, same_value, same_values, AreAli
 use sqlite::types::ValueRef;
 use std::alloc::{AllocError, Global};
 use wh_rows::tables;
-use wh_store::Scanned;
+use wh_store::PagedTable;
 
 /// A table that each format has, whose columns hold integers, texts and blobs alone.
-pub trait Plain: Scanned {
-    ghost in_each: { (format : Format) → is_there Self.Keeps.name format ≡ true };
+pub trait Plain: PagedTable {
+    ghost in_each: { (format : Format) → is_there Self.KeyedTable.name format ≡ true };
 
     ghost plain: { (row : Self.Row) → IsTrue (list_all is_plain (Self.StoredTable.layout.encode row)) };
 }

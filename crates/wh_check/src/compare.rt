@@ -70,8 +70,8 @@ pub fn holds_the_same<T: Plain, S: Alter, M: Alter>(
     ensures reads { ReadsOnly (state_of S.Store tables.old) (state_of S.Store tables.new) result }
     ensures rests { (t : TypedTables) → RestsFaithfully M.Store (Some t) expected.old.conn → OnOk result (RestsFaithfully M.Store (Some t) expected.new.conn) }
     ensures same { SaysAsStored (state_of S.Store tables.old) (state_of S.Store tables.new) (λ stored. (t : TypedTables) → RestsFaithfully M.Store (Some t) expected.old.conn
-        → IfOk result (AreRowsOrNot T.StoredTable.layout (get (T.StoredTable.rows t)) (stored.rows T.Keeps.name))) }
-    ensures damaged { SaysAsStored (state_of S.Store tables.old) (state_of S.Store tables.new) (λ stored. IfErr result (IsOfDamage T.StoredTable.layout T.Keeps.name (stored.rows T.Keeps.name))) }
+        → IfOk result (AreRowsOrNot T.StoredTable.layout (get (T.StoredTable.rows t)) (stored.rows T.KeyedTable.name))) }
+    ensures damaged { SaysAsStored (state_of S.Store tables.old) (state_of S.Store tables.new) (λ stored. IfErr result (IsOfDamage T.StoredTable.layout T.KeyedTable.name (stored.rows T.KeyedTable.name))) }
 {
     let mut cursor = Cursor::new(alloc);
     let mut ahead = Cursor::new(alloc);

@@ -3,7 +3,7 @@
 ghost use Rattle.std.specs.Prelude.{◌≡◌, true, None, Some, IfSome, IfOk, IfErr, OnOk};
 ghost use Rattle.sqlite.specs.Steps.{over_memory};
 ghost use Rattle.wh_rows.specs.AtRest.{IsAtRest};
-ghost use Rattle.wh_rows.specs.Defined.{meta_at};
+ghost use Rattle.wh_model.specs.Defined.{meta_at};
 ghost use Rattle.wh_rows.specs.Limits.{are_limits};
 ghost use Rattle.wh_rows.specs.Raw.{HasDamage};
 ghost use Rattle.wh_rows.specs.Rows as row;

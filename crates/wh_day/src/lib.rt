@@ -12,7 +12,7 @@ mod values;
 
 pub use calendar::{DateRow, date_row};
 pub use day::Day;
-pub use error::ReadError;
+pub use error::ParseError;
 pub use holiday::{Holiday, Holidays};
 pub use natural_key::{NaturalKey, is_key};
 pub use value::Value;

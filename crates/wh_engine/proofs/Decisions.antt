@@ -19,10 +19,10 @@ use Rattle.wh_rows.specs.Types.{is_key}
 use Rattle.wh_batch.specs.Kind.{command_word}
 use Rattle.wh_admission.specs.Admission.{records_told, sales_told, policy_told, content_of, current_policy, accepted_as, receipt_of, changes_in, first_line_there, number_past_lines, number_for, answer_with, when_read, by_id, answer, with_content, after_answer, accepted_after}
 use Rattle.wh_engine.specs.Decided.{reply_to_known, IsNew}
-use Rattle.wh_rows.specs.Defined.{command_at}
+use Rattle.wh_model.specs.Defined.{command_at}
 use Rattle.wh_engine.specs.Faults.{Judges}
 use Rattle.wh_plan.specs.Reading.{number_by_id, command_with}
-use Rattle.wh_rows.specs.Sound.{changes_kept, IsAccepted}
+use Rattle.wh_model.specs.Sound.{changes_kept, IsAccepted}
 use Rattle.wh_admission.specs.declared.command.Command.{Command}
 use Rattle.wh_batch.specs.declared.kind.CommandKind.TheVariants.{Batch, Migration}
 use Rattle.wh_engine.specs.declared.fault.Fault.{Fault}
@@ -33,7 +33,7 @@ use Rattle.wh_admission.specs.declared.command.Refused.{Refused}
 use Rattle.wh_admission.specs.declared.command.Refused.TheVariants.{BadId, LineThere, Full}
 use Rattle.wh_admission.specs.declared.command.Limit.TheVariants.{Commands, Changes, Facts}
 use Rattle.wh_plan.proofs.FoundCommands.{stored, told, find_numbered}
-use Rattle.wh_rows.proofs.GrownKeys.{at_last}
+use Rattle.wh_model.proofs.GrownKeys.{at_last}
 use Rattle.wh_admission.proofs.Migrated.{IsSoundIf, sound_after}
 use Rattle.wh_admission.proofs.StaysAccepted.{stays_accepted, had_number}
 

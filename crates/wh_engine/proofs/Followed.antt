@@ -11,8 +11,8 @@ use Rattle.wh_batch.specs.declared.kind.CommandKind.{CommandKind}
 use Rattle.wh_history.specs.Accepted.{Accepted, Content}
 use Rattle.wh_history.specs.Tables.{Limits}
 use Rattle.wh_history.proofs.Basics.{some_is}
-use Rattle.wh_rows.specs.Defined.{command_at}
-use Rattle.wh_rows.specs.Sound.{making_of}
+use Rattle.wh_model.specs.Defined.{command_at}
+use Rattle.wh_model.specs.Sound.{making_of}
 use Rattle.wh_rows.specs.Types.{is_key}
 use Rattle.wh_rows.specs.declared.rows.CommandRow.{CommandRow}
 use Rattle.wh_admission.specs.Admission.{current_policy, content_of, number_for, accepted_as, receipt_of, when_read, answer, with_content, after_answer, accepted_after, AreAdmitted}

@@ -8,16 +8,16 @@ use Rattle.wh_history.specs.Tables.{Limits}
 use Rattle.wh_rows.specs.AtRest.{IsAtRest, Leaves}
 use Rattle.wh_rows.specs.Tables.{Tables}
 use Rattle.wh_engine.specs.Answered.{IsReady, IsCounted, counts_of}
-use Rattle.wh_rows.specs.Defined.{AreOf}
+use Rattle.wh_model.specs.Defined.{AreOf}
 use Rattle.wh_engine.specs.Faults.{IsServed, Judges, stops}
-use Rattle.wh_rows.specs.Sound.{IsAccepted}
+use Rattle.wh_model.specs.Sound.{IsAccepted}
 use Rattle.wh_engine.specs.declared.counts.Counts.{Counts}
 use Rattle.wh_engine.specs.declared.fault.Fault.{Fault}
 use Rattle.wh_engine.specs.declared.fault.Fault.TheVariants as faults
 use Rattle.wh_engine.specs.declared.session.Session.{Session}
 use Rattle.wh_plan.proofs.FoundCommands.{commands_counted}
 use Rattle.wh_engine.proofs.FoundFacts.{facts_counted}
-use Rattle.wh_rows.proofs.ListedChanges.{changes_counted}
+use Rattle.wh_model.proofs.ListedChanges.{changes_counted}
 
 pub counts_are : (limits : Limits) (commands : List Accepted) (t : Tables) → AreOf limits commands t → IsAccepted limits commands → (held changes facts products stores customers : ℕ)
     → held ≡ len t.command → changes ≡ len t.change → facts ≡ len t.fact → products ≡ length (members Product commands) → stores ≡ length (members Store commands) → customers ≡ length (members Customer commands)

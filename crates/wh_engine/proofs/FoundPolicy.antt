@@ -9,9 +9,10 @@ use Rattle.wh_history.specs.Accepted.{Accepted, Content, Governs, Describes, Sel
 use Rattle.wh_history.specs.Keys.{at_place}
 use Rattle.wh_rows.specs.Questions.{gives_policy}
 use Rattle.wh_rows.specs.declared.rows.CommandRow.{CommandRow}
-use Rattle.wh_rows.specs.Defined.{command_at}
-use Rattle.wh_rows.specs.Sound.{GivesPolicy}
+use Rattle.wh_model.specs.Defined.{command_at}
+use Rattle.wh_model.specs.Sound.{GivesPolicy}
 use Rattle.wh_plan.proofs.FoundCommands.{stored, told}
+use Rattle.wh_history.proofs.Trials.{get_middle}
 
 pub first_taken : {X : Type 0} (xs : List X) → slice_get (take 1 xs) 0 ≡ slice_get xs 0
 first_taken [] = refl
@@ -20,10 +21,6 @@ first_taken (x ∷ xs) = refl
 get_more : {X : Type 0} (xs ys : List X) (x : X) → slice_get xs 0 ≡ Some x → slice_get (xs ++ ys) 0 ≡ Some x
 get_more [] ys x is = cc
 get_more (y ∷ xs) ys x is = is
-
-get_middle : {X : Type 0} (front back : List X) (x : X) → slice_get (front ++ x ∷ back) (length front) ≡ Some x
-get_middle [] back x = refl
-get_middle (y ∷ front) back x = get_middle front back x
 
 abbrev givers : List CommandRow → List CommandRow
 givers rows = filter (λ (r : CommandRow). gives_policy r.kind) rows

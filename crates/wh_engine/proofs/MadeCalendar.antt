@@ -13,11 +13,12 @@ use Rattle.wh_day.proofs.Days.{Parts, parts, number_is}
 use Rattle.wh_policy.specs.declared.policy.Policy.{Policy}
 use Rattle.wh_history.proofs.Basics.{some_is}
 use Rattle.wh_rows.specs.Rows as row
-use Rattle.wh_rows.specs.Defined.{day_at}
+use Rattle.wh_model.specs.Defined.{day_at}
 use Rattle.wh_plan.specs.FirstRows.{calendar_rows}
 use Rattle.wh_plan.proofs.WrittenRows.{written}
-use Rattle.wh_rows.proofs.Growing.{Grows}
+use Rattle.wh_model.proofs.Growing.{Grows}
 use Rattle.wh_rows.specs.Steps.{with_rows}
+use Rattle.wh_migration.proofs.PlanCalendar.{month_short}
 
 -- the rows of the days from a number on
 abbrev pub rows_from : Policy → ℕ → ℕ → List DateRow
@@ -81,9 +82,6 @@ keyed policy day found is =
           ap (λ (r : DateRow). r.date_key) (sym (some_is (calendar_row policy.holidays day) found some))
       | inr not_all ↦ let none : None ≡ Some found = rw not_all at is in absurd (cc)
     ]
-
-month_short : (n : ℕ) → Parts n → day_of_month n ≤ 31
-month_short n p = grind (arith, p.day_high)
 
 grows : (policy : Policy) (day : ℕ) → Grows (λ n. n) (policy.years.first * 10000 + 100) (policy.years.last * 10000 + 1231) (λ _. None) (day_at policy) day
 grows policy day =

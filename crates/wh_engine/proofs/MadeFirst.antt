@@ -9,9 +9,9 @@ use Rattle.wh_history.specs.declared.rows.DimRow.{DimRow}
 use Rattle.wh_rows.specs.declared.rows.CommandRow.{CommandRow}
 use Rattle.wh_rows.specs.declared.rows.ProfileRow.{ProfileRow}
 use Rattle.wh_store.specs.Meta.{made_with}
-use Rattle.wh_rows.specs.Defined.{AreOf}
+use Rattle.wh_model.specs.Defined.{AreOf}
 use Rattle.wh_plan.specs.FirstRows.{IsGoodPolicy, making_row, first_profiles, calendar_rows, with_first, MayBeFirst}
-use Rattle.wh_rows.specs.Sound.{making_of}
+use Rattle.wh_model.specs.Sound.{making_of}
 use Rattle.wh_engine.proofs.MadeRows.{first_may}
 use Rattle.wh_engine.proofs.MadeTables.{tables_are}
 

@@ -12,15 +12,7 @@ use Rattle.wh_policy.specs.declared.policy.Years.{Years}
 use Rattle.wh_policy.proofs.FileLaws.{ok_is, policies_are_sound}
 use Rattle.wh_policy.proofs.HolidayLaws.{IsHoliday, HolidaysAre}
 use Rattle.wh_plan.specs.FirstRows.{PoliciesAreGood}
-
--- a value that is read, and isn't what stands for none, is text
-value_utf8 : (name : List ℕ) → name ≢ [] → read_value name ≡ Some name → is_utf8 name ≡ true
-unfolding read_value is_plain
-value_utf8 [] some read = absurd (some refl)
-value_utf8 (first ∷ rest) some read =
-    let name = first ∷ rest in
-    let plain = (and_parts (not (first == 40)) (is_plain name) (cond_some (not (first == 40) && is_plain name) name name read).0).1 in
-    (and_parts (leb (length name) 60 && list_all is_printed name) (is_utf8 name) plain).1
+use Rattle.wh_model.proofs.ValidCalendar.{value_utf8}
 
 all_named : (years : Years) (tables : _) (holidays : List Holiday) → AllZip (IsHoliday years) tables holidays → AllByRecursion (λ (h : Holiday). is_utf8 h.name ≡ true) holidays
 all_named years [] [] zip = tt

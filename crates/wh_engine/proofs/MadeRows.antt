@@ -26,8 +26,9 @@ use Rattle.wh_history.specs.Tables.{no_card_main, no_card_second, no_card_row}
 use Rattle.wh_history.proofs.Basics.{some_is}
 use Rattle.wh_rows.specs.Rows as row
 use Rattle.wh_rows.specs.Types.{is_special, is_slot, are_slots}
-use Rattle.wh_rows.specs.Defined.{day_at}
+use Rattle.wh_model.specs.Defined.{day_at}
 use Rattle.wh_plan.specs.FirstRows.{IsGoodPolicy, making_row, first_profiles, calendar_rows, MayBeFirst}
+use Rattle.wh_model.proofs.ValidCalendar.{weekday_utf8, ascii_utf8, AreAscii, none_utf8, one_of, ascii, day_utf8, ascii_text}
 
 -- ---- any rows
 
@@ -116,42 +117,6 @@ no_card_valid kinds few =
     (columns_filled no_card_main (λ place kind. slot_either (is_profile kind) [] no_card_text slot_empty slot_no_card) kinds few) (columns_filled no_card_second slot_second kinds few)
 
 -- ---- calendar
-
-abbrev AreAscii : List ℕ → Type 0
-AreAscii = AllByRecursion (λ b. b < 128)
-
-ascii : (bytes : List ℕ) → AreAscii bytes → IsAscii bytes
-ascii [] all i = omega arith
-ascii (b ∷ bytes) all zero = all.0
-ascii (b ∷ bytes) all (suc i) = ascii bytes all.1 i
-
--- a text of the program's own is seen to be
-ascii_text : (bytes : List ℕ) → list_all (λ b. ltb b 128) bytes ≡ true → AreAscii bytes
-ascii_text [] all = tt
-ascii_text (b ∷ bytes) all =
-    let both = and_parts (ltb b 128) (list_all (λ b. ltb b 128) bytes) all in
-    (ltb-true _ _ both.0, ascii_text bytes both.1)
-
-ascii_utf8 : (bytes : List ℕ) → AreAscii bytes → is_utf8 bytes ≡ true
-ascii_utf8 bytes all = is_utf8-from_IsUtf8 bytes (IsUtf8-from_ascii bytes (ascii bytes all))
-
-day_utf8 : (day : ℕ) → is_day day ≡ true → is_utf8 (day_text day) ≡ true
-day_utf8 day is =
-    let p = parts day is in
-    let year : year_of day ≤ 9999 = p.year_high in
-    ascii_utf8 (day_text day) (omega arith, (omega arith, (omega arith, (omega arith, (omega arith, (omega arith, (omega arith, (omega arith, (omega arith, (omega arith, tt))))))))))
-
-one_of : (P : List ℕ → Type 0) → P [] → (texts : List (List ℕ)) → AllByRecursion P texts → (n : ℕ) → P (get_or texts n [])
-one_of P none [] all n = none
-one_of P none (t ∷ texts) all zero = all.0
-one_of P none (t ∷ texts) all (suc n) = one_of P none texts all.1 n
-
-weekday_utf8 : (number : ℕ) → is_utf8 (name_of_weekday number) ≡ true
-weekday_utf8 number = ascii_utf8 (name_of_weekday number) (one_of AreAscii tt weekday_names (ascii_text (codes "Monday") refl, (ascii_text (codes "Tuesday") refl, (ascii_text (codes "Wednesday") refl, (ascii_text (codes "Thursday") refl, (ascii_text (codes "Friday") refl, (ascii_text (codes "Saturday") refl, (ascii_text (codes "Sunday") refl, tt))))))) (number - 1))
-
-none_utf8 : is_utf8 none_text ≡ true
-unfolding none_text
-none_utf8 = ascii_utf8 (codes "(none)") (ascii_text (codes "(none)") refl)
 
 holiday_utf8 : (holidays : List Holiday) (day : ℕ) → AllByRecursion (λ (h : Holiday). is_utf8 h.name ≡ true) holidays → is_utf8 (holiday_text holidays day) ≡ true
 holiday_utf8 [] day names = none_utf8

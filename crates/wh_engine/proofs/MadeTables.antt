@@ -20,9 +20,9 @@ use Rattle.wh_rows.specs.declared.key.ChangeKey.{ChangeKey}
 use Rattle.wh_rows.specs.declared.rows.ProfileRow.{ProfileRow}
 use Rattle.wh_store.specs.Meta.{made_with}
 use Rattle.wh_check.proofs.MadeMeta.{meta_made}
-use Rattle.wh_rows.specs.Defined.{command_at, member_at, change_at, profile_at, AreOf}
+use Rattle.wh_model.specs.Defined.{command_at, member_at, change_at, profile_at, AreOf}
 use Rattle.wh_plan.specs.FirstRows.{making_row, profile_of, first_profiles, calendar_rows, with_first}
-use Rattle.wh_rows.specs.Sound.{making_of}
+use Rattle.wh_model.specs.Sound.{making_of}
 use Rattle.wh_engine.proofs.MadeCalendar.{calendar_made}
 
 -- the tables of a warehouse that was just made

@@ -16,7 +16,7 @@ use Rattle.wh_history.specs.Accepted.{Accepted, Governs, Describes, types_in}
 use Rattle.wh_history.specs.Accepted as history
 use Rattle.wh_history.specs.Tables.{Limits}
 use Rattle.wh_rows.specs.Types.{is_slot, is_special}
-use Rattle.wh_rows.specs.Sound.{IsGivenValue, IsGoodRecord, IsAccepted}
+use Rattle.wh_model.specs.Sound.{IsGivenValue, IsGoodRecord, IsAccepted}
 
 abbrev policy : Policy
 policy = record {

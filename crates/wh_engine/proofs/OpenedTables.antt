@@ -28,10 +28,10 @@ use Rattle.wh_sql.specs.declared.fault.ReadFault.TheVariants as reading
 use Rattle.wh_store.specs.declared.fault.OpenFault.{OpenFault}
 use Rattle.wh_admission.specs.Admission.{current_policy, AreAdmitted}
 use Rattle.wh_engine.specs.Answered.{Rests, IsReady}
-use Rattle.wh_rows.specs.Defined.{AreOf, meta_at}
-use Rattle.wh_rows.specs.Sound.{making_of}
+use Rattle.wh_model.specs.Defined.{AreOf, meta_at}
+use Rattle.wh_model.specs.Sound.{making_of}
 use Rattle.wh_engine.specs.Opened.{last_policy_in, of_limits, of_policy, of_command, session_in, opened, IsTold, IsRead, IsNotOpened, LeavesMaking, LeavesMade}
-use Rattle.wh_rows.specs.Sound.{IsAccepted}
+use Rattle.wh_model.specs.Sound.{IsAccepted}
 use Rattle.wh_store.specs.declared.fault.OpenFault.TheVariants as faults
 use Rattle.wh_engine.specs.declared.session.Session.{Session}
 use Rattle.wh_engine.proofs.Decisions.{policy_in_force}

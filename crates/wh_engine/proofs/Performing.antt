@@ -12,10 +12,10 @@ use Rattle.wh_rows.specs.Tables.{Tables}
 use Rattle.wh_admission.specs.Admission.{accepted_as, answer, accepted_after, current_policy, AreAdmitted}
 use Rattle.wh_engine.specs.Answered.{AreTreesOf, LeavesOneOf, IsReady, IsAnswered, IsPerformed, IsWritten, IsForeseen, IsForetold}
 use Rattle.wh_engine.specs.Decided.{IsHeld, IsEffectOf, Decides}
-use Rattle.wh_rows.specs.Defined.{AreOf}
+use Rattle.wh_model.specs.Defined.{AreOf}
 use Rattle.wh_engine.specs.Faults.{IsServed, Judges, stops}
 use Rattle.wh_plan.specs.Edits.{Edits, AreEdits, no_edits, edit_count, with_all_edits}
-use Rattle.wh_rows.specs.Sound.{IsAccepted}
+use Rattle.wh_model.specs.Sound.{IsAccepted}
 use Rattle.wh_plan.specs.Writable.{MayBeWritten}
 use Rattle.wh_admission.specs.declared.command.Command.{Command}
 use Rattle.wh_admission.specs.declared.command.Receipt.{Receipt}

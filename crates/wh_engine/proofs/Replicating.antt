@@ -10,7 +10,7 @@ use Rattle.sqlite.specs.Order.{Row}
 use Rattle.wh_history.specs.Accepted.{Accepted}
 use Rattle.wh_history.specs.Tables.{Limits}
 use Rattle.wh_history.proofs.Basics.{some_is}
-use Rattle.wh_rows.specs.Defined.{command_at}
+use Rattle.wh_model.specs.Defined.{command_at}
 use Rattle.wh_rows.specs.Keys.{bind_number, stands_at_number}
 use Rattle.wh_rows.specs.Limits.{are_limits}
 use Rattle.wh_rows.specs.Parts.{IsKeyed, IsArranged}
@@ -18,7 +18,7 @@ use Rattle.wh_rows.specs.Raw.{Stored}
 use Rattle.wh_rows.specs.Rows as row
 use Rattle.wh_rows.specs.declared.rows.CommandRow.{CommandRow}
 use Rattle.wh_rows.specs.declared.table.Table.TheVariants.{Command}
-use Rattle.wh_rows.proofs.Listed.{Ascends}
+use Rattle.wh_model.proofs.Listed.{Ascends}
 use Rattle.wh_rows.proofs.Places as places
 use Rattle.wh_rows.proofs.Raw.{no_damage}
 use Rattle.wh_admission.specs.Admission.{AreAdmitted}

@@ -19,6 +19,8 @@ use Rattle.wh_engine.specs.Scanned.{IsWanting, IsServing, ReadsThrough, noting}
 use Rattle.wh_engine.specs.declared.fault.Fault.{Fault}
 use Rattle.wh_engine.specs.declared.fault.Fault.TheVariants as faults
 use Rattle.wh_engine.specs.declared.session.Session.{Session}
+use Rattle.wh_history.proofs.Basics.{or_true}
+use Rattle.wh_history.proofs.Records.{or_false}
 
 -- ---- faults of a reading
 
@@ -46,10 +48,6 @@ still_served {A} (Err fault) (reading.Store cause) came served = subst (λ (f : 
 
 -- ---- a row that was handed out, or refused
 
-or_true : (b : Bool) → (b || true) ≡ true
-or_true true = refl
-or_true false = refl
-
 module _ (limits : Limits) (commands : List Accepted) (session : Session) (old new : State) (ready : IsReady limits commands session old) where
   abbrev tables : Tables
   tables = ready.rests.tables
@@ -66,10 +64,6 @@ module _ (limits : Limits) (commands : List Accepted) (session : Session) (old n
   serving (Err faults.Reopen) wants rests left = absurd wants
 
 -- ---- an engine that has to be opened again
-
-or_false : (b : Bool) → (b || false) ≡ b
-or_false true = refl
-or_false false = refl
 
 pub unserved : {A : Type 0} (s : Session) (st : State) → IsTrue s.must_reopen → ReadsThrough {A = A} s s st st (Err faults.Reopen)
 unserved s st flagged = record {

@@ -6,7 +6,7 @@ use Rattle.sqlite.specs.State.{State}
 use Rattle.wh_history.specs.Accepted.{Accepted}
 use Rattle.wh_history.specs.Tables.{Limits}
 use Rattle.wh_rows.specs.AtRest.{IsAtRest, Leaves}
-use Rattle.wh_rows.specs.Defined.{AreOf}
+use Rattle.wh_model.specs.Defined.{AreOf}
 use Rattle.wh_rows.specs.Holds.{Layout}
 use Rattle.wh_rows.specs.Raw.{stored_of, IsTyped, AreTyped}
 use Rattle.wh_rows.specs.Rows as row

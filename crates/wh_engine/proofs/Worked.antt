@@ -11,8 +11,8 @@ use Rattle.wh_policy.specs.declared.record.DimensionRecord.{DimensionRecord}
 use Rattle.wh_history.specs.Accepted.{Accepted, Governs, Describes, profiles_of}
 use Rattle.wh_history.specs.Tables.{Limits, dimension_row}
 use Rattle.wh_history.specs.declared.rows.DimRow.{DimRow}
-use Rattle.wh_rows.specs.Defined.{meta_at, command_at, member_at, change_at, profile_at, calendar_at, fact_at}
-use Rattle.wh_plan.specs.BatchRows.{behind}
+use Rattle.wh_model.specs.Defined.{meta_at, command_at, member_at, change_at, profile_at, calendar_at, fact_at}
+use Rattle.wh_plan.specs.BatchRows.{numbers_after}
 
 abbrev policy : Policy
 policy = record {
@@ -132,13 +132,13 @@ fact-none : fact_at (take 2 commands) (record { ticket = codes "T1"; line = 1 })
 fact-none = refl
 
 -- the edits of the second batch: what it writes of commands, members, changes and profiles
-new-commands : filter_map (command_at commands) (behind 2 3) ≡ record { number = 3; id = codes "p2"; kind = codes "product"; bytes = codes "second"; records = 2; placeholders = 0 } ∷ []
+new-commands : filter_map (command_at commands) (numbers_after 2 3) ≡ record { number = 3; id = codes "p2"; kind = codes "product"; bytes = codes "second"; records = 2; placeholders = 0 } ∷ []
 new-commands = refl
 
-new-members : filter_map (λ n. member_at commands (record { dim = Product; durable = n })) (behind 1 2) ≡ record { dim = Product; durable = 2; natural = codes "P2"; opening = 4 } ∷ []
+new-members : filter_map (λ n. member_at commands (record { dim = Product; durable = n })) (numbers_after 1 2) ≡ record { dim = Product; durable = 2; natural = codes "P2"; opening = 4 } ∷ []
 new-members = refl
 
-new-changes : filter_map (λ n. change_at commands (record { command = 3; place = n })) (behind 0 2) ≡
+new-changes : filter_map (λ n. change_at commands (record { command = 3; place = n })) (numbers_after 0 2) ≡
     record { command = 3; place = 1; dim = Product; durable = 2; day = 20240301; anchor = 5; values = slots (codes "Leaf") }
     ∷ record { command = 3; place = 2; dim = Product; durable = 1; day = 20240120; anchor = 6; values = slots (codes "Bolt") }
     ∷ []
@@ -184,7 +184,7 @@ with_customers =
     ∷ []
 
 -- profiles have numbers from 2 on
-new-profiles : filter_map (profile_at with_customers) (behind 1 3) ≡ record { number = 2; values = [] ∷ codes "30-39" ∷ [] ∷ [] ∷ [] ∷ [] ∷ [] } ∷ record { number = 3; values = [] ∷ codes "40-49" ∷ [] ∷ [] ∷ [] ∷ [] ∷ [] } ∷ []
+new-profiles : filter_map (profile_at with_customers) (numbers_after 1 3) ≡ record { number = 2; values = [] ∷ codes "30-39" ∷ [] ∷ [] ∷ [] ∷ [] ∷ [] } ∷ record { number = 3; values = [] ∷ codes "40-49" ∷ [] ∷ [] ∷ [] ∷ [] ∷ [] } ∷ []
 unfolding none_text
 new-profiles = refl
 

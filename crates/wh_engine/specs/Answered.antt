@@ -11,9 +11,9 @@ use Rattle.wh_rows.specs.Tables.{Tables}
 use Rattle.wh_rows.specs.Raw.{Stored}
 use Rattle.wh_rows.specs.declared.table.Table.TheVariants as table
 use Rattle.wh_admission.specs.Admission.{current_policy, policy_brought, answer, accepted_after, AreAdmitted}
-use Rattle.wh_rows.specs.Defined.{AreOf}
+use Rattle.wh_model.specs.Defined.{AreOf}
 use Rattle.wh_plan.specs.Edits.{Edits, AreEdits, edit_count}
-use Rattle.wh_rows.specs.Sound.{changes_kept}
+use Rattle.wh_model.specs.Sound.{changes_kept}
 use Rattle.wh_engine.specs.Faults.{stops}
 use Rattle.wh_admission.specs.Repeated.{IsKept}
 use Rattle.wh_admission.specs.declared.command.Command.{Command}

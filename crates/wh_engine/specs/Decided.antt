@@ -6,9 +6,9 @@ use Rattle.wh_rows.specs.declared.rows.CommandRow.{CommandRow}
 use Rattle.wh_batch.specs.Kind.{command_word}
 use Rattle.wh_admission.specs.Admission.{content_of, accepted_as, current_policy, policy_brought, receipt_again, already}
 use Rattle.wh_rows.specs.Tables.{Tables}
-use Rattle.wh_rows.specs.Defined.{AreOf}
+use Rattle.wh_model.specs.Defined.{AreOf}
 use Rattle.wh_plan.specs.Edits.{Edits, AreEdits}
-use Rattle.wh_rows.specs.Sound.{IsAccepted}
+use Rattle.wh_model.specs.Sound.{IsAccepted}
 use Rattle.wh_rows.specs.Raw.{Stored}
 use Rattle.wh_admission.specs.Repeated.{IsKept}
 use Rattle.wh_admission.specs.declared.command.Command.{Command}

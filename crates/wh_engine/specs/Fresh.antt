@@ -4,7 +4,7 @@ use Rattle.sqlite.specs.State.{State}
 use Rattle.wh_policy.specs.Policy.{policy_at}
 use Rattle.wh_policy.specs.declared.policy.Policy.{Policy}
 use Rattle.wh_history.specs.Tables.{Limits}
-use Rattle.wh_rows.specs.Sound.{making_of}
+use Rattle.wh_model.specs.Sound.{making_of}
 use Rattle.wh_engine.specs.Delivered.{IsDelivered}
 use Rattle.wh_admission.specs.declared.command.Command.{Command}
 use Rattle.wh_admission.specs.declared.command.Refused.{Refused}

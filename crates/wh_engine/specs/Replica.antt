@@ -4,7 +4,7 @@ use Rattle.sqlite_trees.specs.declared.store.Store.{Ghosts}
 use Rattle.sqlite.specs.Files.{over_files}
 use Rattle.wh_history.specs.Accepted.{Accepted}
 use Rattle.wh_history.specs.Tables.{Limits}
-use Rattle.wh_rows.specs.Defined.{command_at}
+use Rattle.wh_model.specs.Defined.{command_at}
 use Rattle.wh_rows.specs.Raw.{Stored, HasDamage}
 use Rattle.wh_rows.specs.Rows as row
 use Rattle.wh_rows.specs.declared.rows.CommandRow.{CommandRow}

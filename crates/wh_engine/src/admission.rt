@@ -10,10 +10,10 @@ ghost use Rattle.wh_rows.specs.Tables.{Tables as TenTables};
 ghost use Rattle.wh_store.specs.Reads.{SaysInFormat, ReadsOnly, Spares, SaysAsStored, state_of};
 ghost use Rattle.wh_admission.specs.Admission.{changes_in, first_line_there, number_for};
 ghost use Rattle.wh_engine.specs.Decided.{receipt_of_known};
-ghost use Rattle.wh_rows.specs.Defined.{AreOf};
+ghost use Rattle.wh_model.specs.Defined.{AreOf};
 ghost use Rattle.wh_engine.specs.Faults.{IsServed, BlamesDamage, IsWorkedOut, Judges};
 ghost use Rattle.wh_plan.specs.Reads.{Finds, Tells};
-ghost use Rattle.wh_rows.specs.Sound.{IsAccepted, same_line};
+ghost use Rattle.wh_model.specs.Sound.{IsAccepted, same_line};
 
 use crate::fault::Fault;
 use sqlite::Alter;
@@ -22,7 +22,7 @@ use wh_admission::{Command, Limit, Receipt, Refused};
 use wh_day::Value;
 use wh_policy::SaleRecord;
 use wh_rows::{CommandRow, Limits, LineKey, tables};
-use wh_store::{Keeps, ReadFault, Tables};
+use wh_store::{KeyedTable, ReadFault, Tables};
 
 /// The receipt that was kept for a command whose id is known. It came again where kind and bytes are the same too.
 pub(crate) fn receipt_of_known(row: &CommandRow, command: &Command) -> Result<Receipt, Refused>
@@ -45,7 +45,7 @@ const MOST_RECORDS: u64 = 5_000;
 
 /// Whether there is room for so many more rows of a table that a limit counts. They are counted only where full batches
 /// could have left too little.
-fn has_room_for<T: Keeps, S: Alter>(
+fn has_room_for<T: KeyedTable, S: Alter>(
     tables: &mut Tables<S>,
     alloc: Global,
     limit: u64,

@@ -9,9 +9,9 @@ ghost use Rattle.wh_store.specs.Reads.{Spares, SaysAsStored, state_of};
 ghost use Rattle.wh_rows.specs.Tables.{Tables as TenTables};
 ghost use Rattle.wh_rows.specs.Raw.{Stored, RestsOn};
 ghost use Rattle.wh_engine.specs.Answered.{IsReady, IsCounted, CountsStored, counts_of};
-ghost use Rattle.wh_rows.specs.Defined.{AreOf};
+ghost use Rattle.wh_model.specs.Defined.{AreOf};
 ghost use Rattle.wh_engine.specs.Faults.{IsServed, BlamesDamage, IsWorkedOut, Judges, stops};
-ghost use Rattle.wh_rows.specs.Sound.{IsAccepted};
+ghost use Rattle.wh_model.specs.Sound.{IsAccepted};
 
 use crate::engine::Engine;
 use crate::fault::{Fault, stops};

@@ -23,9 +23,10 @@ use wh_admission::{Command, Receipt, Refused};
 use wh_batch::{
     CommandKind, DimensionRecords, Format, Kind, SaleRecords, dimension_records, sale_records,
 };
-use wh_day::{ReadError, Value, is_key};
+use wh_day::{ParseError, Value, is_key};
+use wh_migration::plan_migration;
 use wh_plan::reading::command_of;
-use wh_plan::{Edits, plan_batch, plan_migration, plan_sales};
+use wh_plan::{Edits, plan_batch, plan_sales};
 use wh_policy::{Dim, Policy, SaleRecord};
 use wh_rows::CommandRow;
 use wh_store::Tables;
@@ -52,8 +53,8 @@ fn records_of(
 {
     match dimension_records(alloc, dim, policy, Format::One, bytes) {
         Ok(records) => Ok(records),
-        Err(ReadError::Fault(fault)) => Err(Fault::Refused(Refused::Batch(fault))),
-        Err(ReadError::Memory) => Err(Fault::Memory),
+        Err(ParseError::Fault(fault)) => Err(Fault::Refused(Refused::Batch(fault))),
+        Err(ParseError::Memory) => Err(Fault::Memory),
     }
 }
 
@@ -65,8 +66,8 @@ fn sales_of(alloc: Global, policy: &Policy, bytes: &[u8]) -> Result<SaleRecords,
 {
     match sale_records(alloc, policy, Format::One, bytes) {
         Ok(sales) => Ok(sales),
-        Err(ReadError::Fault(fault)) => Err(Fault::Refused(Refused::Batch(fault))),
-        Err(ReadError::Memory) => Err(Fault::Memory),
+        Err(ParseError::Fault(fault)) => Err(Fault::Refused(Refused::Batch(fault))),
+        Err(ParseError::Memory) => Err(Fault::Memory),
     }
 }
 
@@ -78,8 +79,8 @@ fn policy_of(alloc: Global, older: &Policy, bytes: &[u8]) -> Result<Policy, Faul
 {
     let newer = match Policy::read(alloc, bytes) {
         Ok(newer) => newer,
-        Err(ReadError::Fault(fault)) => return Err(Fault::Refused(Refused::Policy(fault))),
-        Err(ReadError::Memory) => return Err(Fault::Memory),
+        Err(ParseError::Fault(fault)) => return Err(Fault::Refused(Refused::Policy(fault))),
+        Err(ParseError::Memory) => return Err(Fault::Memory),
     };
     if !older.fits(&newer) {
         return Err(Fault::Refused(Refused::Unfit));

@@ -6,9 +6,9 @@ ghost use Rattle.wh_rows.specs.AtRest.{IsWriting, Leaves};
 ghost use Rattle.wh_rows.specs.Tables.{Tables as TenTables};
 ghost use Rattle.wh_store.specs.Reads.{state_of};
 ghost use Rattle.wh_store.specs.Writes.{WritesOnly, Makes};
-ghost use Rattle.wh_rows.specs.Defined.{AreOf};
+ghost use Rattle.wh_model.specs.Defined.{AreOf};
 ghost use Rattle.wh_plan.specs.FirstRows.{IsGoodPolicy, making_row, calendar_rows, with_first, MayBeFirst};
-ghost use Rattle.wh_rows.specs.Sound.{making_of};
+ghost use Rattle.wh_model.specs.Sound.{making_of};
 
 use sqlite::Alter;
 use sqlite::types::Bytes;

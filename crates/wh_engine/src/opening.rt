@@ -16,7 +16,7 @@ ghost use Rattle.wh_store.specs.Raw.{FormatIs};
 ghost use Rattle.wh_rows.specs.Raw.{Stored, RestsOn, LeavesStored};
 ghost use Rattle.wh_engine.specs.Answered.{Rests, IsReady};
 ghost use Rattle.wh_plan.specs.FirstRows.{IsGoodPolicy};
-ghost use Rattle.wh_rows.specs.Sound.{making_of};
+ghost use Rattle.wh_model.specs.Sound.{making_of};
 ghost use Rattle.wh_engine.specs.Opened.{of_command, last_policy_in, session_in, opened, IsTold, IsRead, PolicyIs, IsPolicyless, SessionIs, IsSessionless, IsUnopened, IsNotOpened, LeavesMaking, IsNotMade, NothingIsWritten, LeavesMade};
 ghost use Rattle.wh_admission.specs.Admission.{AreAdmitted};
 ghost use Rattle.wh_store.specs.declared.fault.OpenFault.TheVariants.{Store};
@@ -28,7 +28,7 @@ use crate::session::Session;
 use sqlite::{Alter, Connection};
 use std::alloc::Global;
 use thiserror::Error;
-use wh_day::ReadError;
+use wh_day::ParseError;
 use wh_policy::{Policy, PolicyFault};
 use wh_rows::{Cause, CommandRow, Format, Limits, Table, tables};
 use wh_store::{LastPolicy, MakeFault, OpenFault, Tables};
@@ -78,8 +78,8 @@ fn policy_of(alloc: Global, commands: &[CommandRow]) -> Result<Policy, OpenFault
     };
     match Policy::read(alloc, command.bytes.as_slice()) {
         Ok(policy) => Ok(policy),
-        Err(ReadError::Memory) => Err(OpenFault::Memory),
-        Err(ReadError::Fault(_)) => Err(OpenFault::Damaged(Table::Command)),
+        Err(ParseError::Memory) => Err(OpenFault::Memory),
+        Err(ParseError::Fault(_)) => Err(OpenFault::Damaged(Table::Command)),
     }
 }
 
@@ -139,8 +139,8 @@ impl<S: Alter> Engine<S> {
     {
         let read = match Policy::read(alloc, policy) {
             Ok(read) => read,
-            Err(ReadError::Memory) => return Err((InitFault::Memory, conn)),
-            Err(ReadError::Fault(fault)) => return Err((InitFault::Policy(fault), conn)),
+            Err(ParseError::Memory) => return Err((InitFault::Memory, conn)),
+            Err(ParseError::Fault(fault)) => return Err((InitFault::Policy(fault), conn)),
         };
         let mut tables = match Tables::make(conn) {
             Ok(tables) => tables,

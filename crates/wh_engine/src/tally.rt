@@ -12,13 +12,13 @@ use crate::engine::Engine;
 use crate::fault::{Fault, stops};
 use crate::scan::note;
 use sqlite::Alter;
-use wh_rows::FactKey;
-use wh_store::{Tables, Tally};
+use wh_rows::FactColumn;
+use wh_store::{FactAggregate, Tables};
 
 /// Has a tally count each fact by one of its keys.
-fn tally_facts<C: Tally, S: Alter>(
+fn tally_facts<C: FactAggregate, S: Alter>(
     tables: &mut Tables<S>,
-    which: FactKey,
+    which: FactColumn,
     tally: &mut C,
 ) -> Result<(), Fault>
     requires { C.counts tally.old [] tally.old }
@@ -37,7 +37,11 @@ fn tally_facts<C: Tally, S: Alter>(
 impl<S: Alter> Engine<S> {
     /// Has a tally count each fact by one of its keys, in whatever order they are stored. After a refusal of the store it
     /// answers `Reopen`. `Memory`: there are more facts than a `u64` counts.
-    pub fn tally_facts<C: Tally>(&mut self, which: FactKey, tally: &mut C) -> Result<(), Fault>
+    pub fn tally_facts<C: FactAggregate>(
+        &mut self,
+        which: FactColumn,
+        tally: &mut C,
+    ) -> Result<(), Fault>
         requires { C.counts tally.old [] tally.old }
         ensures reads { ReadsThrough self.old.session self.new.session (state_of S.Store self.old.tables) (state_of S.Store self.new.tables) result }
         ensures counted { SaysAtRest (state_of S.Store self.old.tables) (state_of S.Store self.new.tables) (λ t. IfOk result (λ _. HasCounted C.counts which tally.old tally.new (values t.fact))) }

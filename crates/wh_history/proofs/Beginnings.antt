@@ -21,7 +21,7 @@ use Rattle.wh_history.proofs.Spans.{Follows, InOrder, InOrder-dated}
 use Rattle.wh_history.proofs.Until.{any_among, first_among, among_rest}
 use Rattle.wh_history.proofs.Walks.{all_own}
 
-either : (a b : Bool) → (a || b) ≡ true → (a ≡ true) ⊎ (b ≡ true)
+pub either : (a b : Bool) → (a || b) ≡ true → (a ≡ true) ⊎ (b ≡ true)
 either true b h = inl refl
 either false b h = inr h
 

@@ -34,7 +34,7 @@ map_filter_each f g p (x ∷ xs) all =
       | false ↦ rest
     ]
 
-and_false : (b : Bool) → (b && false) ≡ false
+pub and_false : (b : Bool) → (b && false) ≡ false
 and_false true = refl
 and_false false = refl
 
@@ -98,7 +98,7 @@ module _ (dim : Dim) (commands : List Accepted) where
   day_of_records natural day [] = refl
   day_of_records natural day (r ∷ rs) = rw (and_false (bytes_eq r.natural natural), day_of_records natural day rs) refl
 
-or_false : (b : Bool) → (b || false) ≡ b
+pub or_false : (b : Bool) → (b || false) ≡ b
 or_false true = refl
 or_false false = refl
 

@@ -62,7 +62,7 @@ at_place-map f (suc zero) (y ∷ ys) x is = let here : y ≡ x = cc in ap (λ z.
 at_place-map f (suc (suc n)) [] x is = cc
 at_place-map f (suc (suc n)) (y ∷ ys) x is = at_place-map f (suc n) ys x is
 
-get_middle : {X : Type 0} (front back : List X) (x : X) → slice_get (front ++ x ∷ back) (length front) ≡ Some x
+pub get_middle : {X : Type 0} (front back : List X) (x : X) → slice_get (front ++ x ∷ back) (length front) ≡ Some x
 get_middle [] back x = refl
 get_middle (y ∷ front) back x = get_middle front back x
 

@@ -7,7 +7,7 @@ use Rattle.wh_history.specs.Dated.{dated}
 use Rattle.wh_history.specs.Known.{number_in}
 use Rattle.wh_history.specs.Profiles.{profile_number}
 use Rattle.wh_history.specs.Rows.{rows_by}
-use Rattle.wh_history.specs.declared.dimension.Dimension.{Dimension}
+use Rattle.wh_history.specs.declared.dimension.DimensionShape.{DimensionShape}
 use Rattle.wh_history.specs.declared.dimension.Rendered.{Rendered}
 use Rattle.wh_history.specs.declared.member.Change.{Change}
 use Rattle.wh_history.specs.declared.member.Member.{Member}
@@ -20,7 +20,7 @@ pub record Shape : Type 0 where
   pub number : List (List ℕ) → Option ℕ
 
 -- by what is known of the profiles
-abbrev pub shape_of : Dimension → Shape
+abbrev pub shape_of : DimensionShape → Shape
 shape_of d = record { dim = d.dim; kinds = d.types.now; number = number_in d.profiles.now }
 
 -- by all that was accepted

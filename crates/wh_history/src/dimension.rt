@@ -15,7 +15,7 @@ use wh_policy::{AttributeType, Dim};
 /// What the rows of a dimension's members and the keys of their facts depend on beside the members: the types of the
 /// slots, and what is known of profiles. A batch makes it once.
 #[derive(Drop)]
-pub struct Dimension<'a> {
+pub struct DimensionShape<'a> {
     pub dim: Dim,
     pub types: &'a [AttributeType],
     pub profiles: &'a Profiles,
@@ -29,7 +29,7 @@ pub struct Rendered<'a> {
     pub dated: Vec<&'a Change>,
 }
 
-impl Dimension<'_> {
+impl DimensionShape<'_> {
     /// A member's rows, in order of their starts.
     pub fn rows_of(&self, alloc: Global, member: &Member) -> Result<Vec<DimRow>, AllocError>
         ensures rows { IfOk result (λ found. found.items ≡ rows_in (shape_of self.now) member.now) }

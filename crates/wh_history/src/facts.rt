@@ -5,7 +5,7 @@ ghost use Rattle.wh_history.specs.Facts.{key_in, keys_with, same_keys, profile_o
 ghost use Rattle.wh_history.specs.Shapes.{shape_of, shown};
 
 use crate::dated::change_at;
-use crate::dimension::{Dimension, Rendered};
+use crate::dimension::{DimensionShape, Rendered};
 use crate::profiles::current_profile;
 use crate::rows::DimRow;
 use std::alloc::{AllocError, Global};
@@ -92,7 +92,7 @@ fn keys_with(dim: Dim, own: MemberKeys, keys: FactKeys) -> FactKeys
     }
 }
 
-impl Dimension<'_> {
+impl DimensionShape<'_> {
     /// The number of a customer's profile on a day. Other members have none.
     fn profile_on(&self, alloc: Global, member: &Rendered, day: Day) -> Result<u64, AllocError>
         ensures { IfOk result (λ n. n ≡ profile_on (shape_of self.now) (shown member.now) day) }

@@ -6,7 +6,7 @@ ghost use Rattle.std.specs.Option.{option_copied};
 ghost use Rattle.wh_history.specs.MovingDays.{before_record, earliest, first_kept, latest_day, moves_since, moves_until};
 ghost use Rattle.wh_history.specs.Shapes.{rendered_in, shape_of, shown};
 
-use crate::dimension::{Dimension, Rendered};
+use crate::dimension::{DimensionShape, Rendered};
 use crate::facts::key_in;
 use crate::member::{Change, Member};
 use std::alloc::{AllocError, Global};
@@ -101,7 +101,7 @@ fn before_record(kept: Option<&Change>) -> Day
     }
 }
 
-impl Dimension<'_> {
+impl DimensionShape<'_> {
     /// The last day whose facts can move, of a member as it is stored and as it is after a batch. Where none of its records
     /// is of a later day than the new ones, it isn't rendered as it is stored.
     pub fn moves_until(

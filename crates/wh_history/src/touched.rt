@@ -9,11 +9,11 @@ use crate::slots::padded;
 use indexmap::IndexSet;
 use std::alloc::{AllocError, Global};
 use std::marker::Model;
-use wh_day::{Day, NaturalKey, ReadError, Value};
+use wh_day::{Day, NaturalKey, ParseError, Value};
 use wh_policy::DimensionRecord;
 
 /// Where the members stand that a batch may touch.
-pub trait Stored {
+pub trait MemberSource {
     ghost use Rattle.std.specs.Prelude.{ℕ, List};
     ghost use Rattle.wh_history.specs.declared.member.Member.{Member};
 
@@ -23,7 +23,7 @@ pub trait Stored {
     ghost stored: { Self → List ℕ → Member };
 
     /// The member with a natural key, as it is stored. Of one that isn't all numbers are 0, and no change is there.
-    fn member(&self, alloc: Global, natural: &Value) -> Result<Member, ReadError<Self::Fault>>
+    fn member(&self, alloc: Global, natural: &Value) -> Result<Member, ParseError<Self::Fault>>
         ensures member { IfOk result (λ m. m ≡ stored self.now natural.now) }
         ensures natural { IfOk result (λ m. m.natural ≡ natural.now) };
 }
@@ -132,11 +132,11 @@ fn add_record(
     Ok(())
 }
 
-fn stored_member<S: Stored>(
+fn stored_member<S: MemberSource>(
     alloc: Global,
     stored: &S,
     natural: &NaturalKey,
-) -> Result<Member, ReadError<S::Fault>>
+) -> Result<Member, ParseError<S::Fault>>
     ensures member { IfOk result (λ m. m ≡ S.stored stored.now natural.now) }
     ensures natural { IfOk result (λ m. m.natural ≡ natural.now) }
 {
@@ -145,13 +145,13 @@ fn stored_member<S: Stored>(
 }
 
 /// The place of the member with a natural key. One that was not touched before comes from where it is stored.
-fn place_of<S: Stored>(
+fn place_of<S: MemberSource>(
     alloc: Global,
     stored: &S,
     naturals: &mut IndexSet<String>,
     list: &mut Vec<Member>,
     natural: &NaturalKey,
-) -> Result<usize, ReadError<S::Fault>>
+) -> Result<usize, ParseError<S::Fault>>
     requires { map (λ n. string_bytes n) naturals.old.keys ≡ map (λ m. m.natural) list.old.items }
     ensures naturals { OnOk result (map (λ n. string_bytes n) naturals.new.keys ≡ map (λ m. m.natural) list.new.items) }
     ensures list { OnOk result (list.new.items ≡ with_stored (S.stored stored.now) list.old.items natural.now) }
@@ -177,12 +177,12 @@ fn add_owners(owners: &mut Vec<u64>, count: u64, owner: u64) -> Result<(), Alloc
 }
 
 /// Adds a record to its member, and notes the anchors that got surrogate keys.
-fn touch<S: Stored>(
+fn touch<S: MemberSource>(
     alloc: Global,
     stored: &S,
     touching: &mut Touching,
     told: &DimensionRecord,
-) -> Result<(), ReadError<S::Fault>>
+) -> Result<(), ParseError<S::Fault>>
     requires naturals { map (λ n. string_bytes n) touching.old.naturals.keys ≡ map (λ m. m.natural) touching.old.list.items }
     requires members { touching.old.members + 1 < 2 ^ 64 }
     requires anchors { touching.old.anchors + 2 < 2 ^ 64 }
@@ -212,13 +212,13 @@ fn touch<S: Stored>(
 
 /// The members that a batch touches, as they are after it, where so many members have durable keys and so many anchors
 /// surrogate keys before it.
-pub fn touch_all<S: Stored>(
+pub fn touch_all<S: MemberSource>(
     alloc: Global,
     stored: &S,
     members: u64,
     anchors: u64,
     records: &[DimensionRecord],
-) -> Result<Touched, ReadError<S::Fault>>
+) -> Result<Touched, ParseError<S::Fault>>
     requires members { members + length records.now < 2 ^ 64 }
     requires anchors { anchors + 2 * length records.now < 2 ^ 64 }
     ensures { IfOk result (λ t. t ≡ touched (S.stored stored.now) (untouched members anchors) records.now) }

@@ -11,27 +11,27 @@ ghost use Rattle.wh_history.specs.Tables.{no_card_main, no_card_second, no_card_
 ghost use Rattle.wh_history.specs.Touched.{touched, untouched, nothing_stored};
 ghost use Rattle.wh_history.specs.Picked.{owned_row, picked_from, first_rows, profiles_in};
 
-use crate::dimension::Dimension;
+use crate::dimension::DimensionShape;
 use crate::member::Member;
 use crate::profiles::{Profiles, profile_texts};
 use crate::rows::{DimRow, DimRows, row_of};
 use crate::slots::fill_columns;
-use crate::touched::{Stored, Touched, touch_all};
+use crate::touched::{MemberSource, Touched, touch_all};
 use std::alloc::{AllocError, Global};
-use wh_day::{Day, ReadError, Value, Values};
+use wh_day::{Day, ParseError, Value, Values};
 use wh_policy::{AttributeType, Dim, DimensionRecord, Policy};
 
 /// A warehouse that holds no member yet.
 struct NothingStored;
 
-impl Stored for NothingStored {
+impl MemberSource for NothingStored {
     ghost use Rattle.wh_history.specs.Touched.{nothing_stored};
 
     type Fault = AllocError;
 
     ghost stored = { λ _. nothing_stored };
 
-    fn member(&self, alloc: Global, natural: &Value) -> Result<Member, ReadError<AllocError>> {
+    fn member(&self, alloc: Global, natural: &Value) -> Result<Member, ParseError<AllocError>> {
         Ok(Member::absent(alloc, natural)?)
     }
 }
@@ -155,7 +155,7 @@ pub fn first_rows(
 /// The rows of each member.
 fn member_rows(
     alloc: Global,
-    dimension: &Dimension,
+    dimension: &DimensionShape,
     members: &[Member],
 ) -> Result<Vec<DimRows>, AllocError>
     ensures { IfOk result (λ found. found.items ≡ map (rows_in (shape_of dimension.now)) members.now) }
@@ -210,7 +210,7 @@ pub fn trial_table(
     let types = policy.types(alloc, dim)?;
     let members = first_members(alloc, records)?;
     let profiles = profiles_in(alloc, dim, &types, records)?;
-    let dimension = Dimension {
+    let dimension = DimensionShape {
         dim,
         types: &types,
         profiles: &profiles,

@@ -22,22 +22,22 @@ use Rattle.wh_rows.proofs.Orders.{member_cmp_total, member_cmp-IsAntisymmetric, 
 use Rattle.wh_rows.specs.Rows as row
 use Rattle.wh_rows.specs.declared.rows.MemberRow.{MemberRow}
 use Rattle.wh_rows.specs.declared.key.MemberKey.{MemberKey}
-use Rattle.wh_rows.specs.Defined.{command_at, member_at, change_at, profile_at, calendar_at, day_at}
-use Rattle.wh_plan.specs.BatchRows.{BatchRows, AreBatchRows, behind, members_behind, new_members}
+use Rattle.wh_model.specs.Defined.{command_at, member_at, change_at, profile_at, calendar_at, day_at}
+use Rattle.wh_plan.specs.BatchRows.{BatchRows, AreBatchRows, numbers_after, members_behind, new_members}
 use Rattle.wh_plan.specs.Edits.{Edits, AreEdits, IsTablePlan, rows_of_dimension}
-use Rattle.wh_rows.proofs.Growing.{AmongKeys, among_front, among_back, among_mapped, among_range}
+use Rattle.wh_model.proofs.Growing.{AmongKeys, among_front, among_back, among_mapped, among_range}
 use Rattle.wh_plan.proofs.Plans.{added_plan, grown_plan, one_plan, empty_plan, AboveKey, AscendKeys, keys_ascend, all_in_range}
 use Rattle.wh_plan.proofs.PlanEdits.{own_row}
-use Rattle.wh_rows.proofs.GrownCommands.{command_keyed, command_grows}
-use Rattle.wh_rows.proofs.GrownCommands as command
-use Rattle.wh_rows.proofs.GrownMembers.{member_keyed}
-use Rattle.wh_rows.proofs.GrownMembers as member
-use Rattle.wh_rows.proofs.GrownChanges.{change_keyed, changes_grow}
-use Rattle.wh_rows.proofs.GrownChanges as change
-use Rattle.wh_rows.proofs.GrownProfiles.{profile_keyed, profile_grows}
-use Rattle.wh_rows.proofs.GrownProfiles as profile
+use Rattle.wh_model.proofs.GrownCommands.{command_keyed, command_grows}
+use Rattle.wh_model.proofs.GrownCommands as command
+use Rattle.wh_model.proofs.GrownMembers.{member_keyed}
+use Rattle.wh_model.proofs.GrownMembers as member
+use Rattle.wh_model.proofs.GrownChanges.{change_keyed, changes_grow}
+use Rattle.wh_model.proofs.GrownChanges as change
+use Rattle.wh_model.proofs.GrownProfiles.{profile_keyed, profile_grows}
+use Rattle.wh_model.proofs.GrownProfiles as profile
 
-less : (n m : ℕ) → n < m → nat_cmp n m ≡ Less
+pub less : (n m : ℕ) → n < m → nat_cmp n m ≡ Less
 less n m h = sym (nat_cmp_is n m Less h)
 
 -- ---- the keys of the members of three dimensions
@@ -108,7 +108,7 @@ module _ (commands : List Accepted) (c : Accepted) where
             let above = added.above in
             let within = added.within in
             let among = among_range (member.key_of key.dim) key added.number (suc low) (high - low) added.is (omega arith) (omega arith) in
-            inr (behind_all key.dim key (among_mapped (member.key_of key.dim) key (behind low high) among))
+            inr (behind_all key.dim key (among_mapped (member.key_of key.dim) key (numbers_after low high) among))
       ]
 
   -- the edits of member put the rows of the new ones

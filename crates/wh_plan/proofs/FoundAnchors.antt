@@ -17,11 +17,11 @@ use Rattle.wh_history.proofs.Basics.{some_is, or_true, both_true}
 use Rattle.wh_history.proofs.Places.{anchors_decide}
 use Rattle.wh_history.proofs.Once.{once_distinct, among_distinct}
 use Rattle.wh_history.proofs.Members.{place_within}
-use Rattle.wh_history.proofs.Records.{day_mentioned}
+use Rattle.wh_history.proofs.Records.{and_false, day_mentioned}
 use Rattle.wh_rows.specs.Tables.{Tables}
-use Rattle.wh_rows.specs.Defined.{AreOf}
+use Rattle.wh_model.specs.Defined.{AreOf}
 use Rattle.wh_plan.specs.Reading.{last_opening}
-use Rattle.wh_rows.proofs.FoundPlaces.{at_place-map, at_place_among, place_at}
+use Rattle.wh_model.proofs.FoundPlaces.{at_place-map, at_place_among, place_at}
 use Rattle.wh_plan.proofs.FoundMembers.{same_dim}
 use Rattle.wh_plan.proofs.FoundChanges.{anchors_read}
 
@@ -60,13 +60,9 @@ filter_of_map f p (x ∷ xs) =
       | false ↦ rest
     ]
 
-and_true : (b : Bool) → (b && true) ≡ b
+pub and_true : (b : Bool) → (b && true) ≡ b
 and_true true = refl
 and_true false = refl
-
-and_false : (b : Bool) → (b && false) ≡ false
-and_false true = refl
-and_false false = refl
 
 filter_every : {X : Type 0} (p : X → Bool) → ((x : X) → p x ≡ true) → (xs : List X) → filter p xs ≡ xs
 filter_every p passes [] = refl

@@ -18,14 +18,15 @@ use Rattle.wh_history.specs.Tables.{Limits}
 use Rattle.wh_history.specs.declared.member.Change.{Change}
 use Rattle.wh_history.proofs.Places.{one_place}
 use Rattle.wh_history.proofs.Joins.{all_weaker}
-use Rattle.wh_rows.proofs.Listed.{filter_all}
+use Rattle.wh_model.proofs.Listed.{filter_all}
 use Rattle.wh_rows.specs.declared.rows.ChangeRow.{ChangeRow}
 use Rattle.wh_rows.specs.Tables.{Tables}
-use Rattle.wh_rows.specs.Defined.{AreOf}
+use Rattle.wh_model.specs.Defined.{AreOf}
 use Rattle.wh_plan.specs.Reading.{HaveNoEmptyValue, given_text, change_in}
-use Rattle.wh_rows.proofs.FoundPlaces.{same_number_is, number_itself}
+use Rattle.wh_model.proofs.FoundPlaces.{same_number_is, number_itself}
 use Rattle.wh_plan.proofs.FoundMembers.{same_dim, same_dim_is, dim_itself}
-use Rattle.wh_rows.proofs.ListedChanges.{made, record_rows, content_rows, change_rows, changes_listed}
+use Rattle.wh_model.proofs.ListedChanges.{made, record_rows, content_rows, change_rows, changes_listed}
+use Rattle.wh_rows.proofs.BehindStored.{all_front}
 
 -- ---- the texts of the slots
 
@@ -50,10 +51,6 @@ read_back texts all =
     map-append given_text texts (replicate (6 - length texts) [])
     ∙ ap (λ ts. ts ++ map given_text (replicate (6 - length texts) [])) (given_all texts all)
     ∙ ap (λ ts. texts ++ ts) (given_none (6 - length texts))
-
-all_front : {X : Type 0} (P : X → Type 0) (xs ys : List X) → AllByRecursion P (xs ++ ys) → AllByRecursion P xs
-all_front P [] ys all = tt
-all_front P (x ∷ xs) ys all = (all.0, all_front P xs ys all.1)
 
 all_back : {X : Type 0} (P : X → Type 0) (xs ys : List X) → AllByRecursion P (xs ++ ys) → AllByRecursion P ys
 all_back P [] ys all = all

@@ -15,10 +15,10 @@ use Rattle.wh_history.specs.Tables.{Limits, command_row, CommandRow as Told}
 use Rattle.wh_rows.specs.declared.rows.CommandRow.{CommandRow}
 use Rattle.wh_rows.specs.Tables.{Tables}
 use Rattle.wh_store.specs.Reads.{same_text}
-use Rattle.wh_rows.specs.Defined.{AreOf, command_at}
+use Rattle.wh_model.specs.Defined.{AreOf, command_at}
 use Rattle.wh_plan.specs.Reading.{HaveDistinctIds, number_by_id, command_with}
-use Rattle.wh_rows.proofs.Listed.{passes_at, values-numbered, len-values, length_numbered}
-use Rattle.wh_rows.proofs.FoundPlaces.{same_text_is, text_itself, at_place-map, at_place_past, at_place_there, behind_one, place_given, place_at, once_is}
+use Rattle.wh_model.proofs.Listed.{passes_at, values-numbered, len-values, length_numbered}
+use Rattle.wh_model.proofs.FoundPlaces.{same_text_is, text_itself, at_place-map, at_place_past, at_place_there, behind_one, place_given, place_at, once_is}
 
 abbrev pub stored : ℕ → Told → CommandRow
 stored number c = record { number = number; id = c.id; kind = c.kind; bytes = c.bytes; records = c.records; placeholders = c.placeholders }

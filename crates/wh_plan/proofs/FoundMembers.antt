@@ -24,9 +24,9 @@ use Rattle.wh_rows.specs.Tables.{Tables}
 use Rattle.wh_rows.specs.Firsts.{part}
 use Rattle.wh_rows.proofs.Orders.{dim_once, member_cmp_total, member_cmp-IsAntisymmetric}
 use Rattle.wh_store.specs.Reads.{same_text}
-use Rattle.wh_rows.specs.Defined.{AreOf, member_at}
-use Rattle.wh_rows.proofs.Listed.{filter-values, passes_at, ascends_numbered, all_numbered, among_numbered, last_numbered, number_rises}
-use Rattle.wh_rows.proofs.FoundPlaces.{same_text_is, text_itself, same_number_is, number_itself, at_place_past, at_place_there, place_given, place_at}
+use Rattle.wh_model.specs.Defined.{AreOf, member_at}
+use Rattle.wh_model.proofs.Listed.{filter-values, passes_at, ascends_numbered, all_numbered, among_numbered, last_numbered, number_rises}
+use Rattle.wh_model.proofs.FoundPlaces.{same_text_is, text_itself, same_number_is, number_itself, at_place_past, at_place_there, place_given, place_at}
 
 abbrev stored : MemberKey → Told → MemberRow
 stored key m = record { dim = key.dim; durable = key.durable; natural = m.natural; opening = m.opening }

@@ -24,11 +24,11 @@ use Rattle.wh_rows.specs.Firsts.{part}
 use Rattle.wh_rows.specs.Tables.{Tables}
 use Rattle.wh_rows.specs.declared.rows.ProfileRow.{ProfileRow}
 use Rattle.wh_store.specs.Reads.{same_text, same_slots}
-use Rattle.wh_rows.specs.Defined.{AreOf, profile_at}
+use Rattle.wh_model.specs.Defined.{AreOf, profile_at}
 use Rattle.wh_plan.specs.Profiles.{number_kept}
-use Rattle.wh_rows.proofs.FoundPlaces.{same_text_is, text_itself, at_place_there, place_at}
-use Rattle.wh_rows.proofs.GrownProfiles.{profile_keyed, none_past}
-use Rattle.wh_rows.proofs.Listed.{passes_at, none_passes, values-numbered, filter_all, last_numbered}
+use Rattle.wh_model.proofs.FoundPlaces.{same_text_is, text_itself, at_place_there, place_at}
+use Rattle.wh_model.proofs.GrownProfiles.{profile_keyed, none_past}
+use Rattle.wh_model.proofs.Listed.{passes_at, none_passes, values-numbered, filter_all, last_numbered}
 
 -- ---- the texts of six slots
 

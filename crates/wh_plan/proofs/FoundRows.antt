@@ -18,8 +18,8 @@ use Rattle.wh_history.specs.declared.rows.DimRow.{DimRow}
 use Rattle.wh_history.proofs.Basics.{some_is, find_passes}
 use Rattle.wh_history.proofs.Effective.{came_from}
 use Rattle.wh_plan.specs.Reading.{rows_with}
-use Rattle.wh_rows.proofs.Listed.{kept, values-numbered}
-use Rattle.wh_rows.proofs.FoundPlaces.{at_place_past, same_number_is, number_ties}
+use Rattle.wh_model.proofs.Listed.{kept, values-numbered}
+use Rattle.wh_model.proofs.FoundPlaces.{at_place_past, same_number_is, number_ties}
 
 -- ---- the table in order of its keys
 

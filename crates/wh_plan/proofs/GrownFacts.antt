@@ -16,7 +16,7 @@ use Rattle.wh_rows.proofs.Orders.{line_cmp_total, line_cmp-IsAntisymmetric}
 use Rattle.wh_rows.specs.Rows as row
 use Rattle.wh_rows.specs.declared.key.LineKey.{LineKey}
 use Rattle.wh_plan.specs.BatchRows.{has_line}
-use Rattle.wh_rows.specs.Sound.{same_line}
+use Rattle.wh_model.specs.Sound.{same_line}
 use Rattle.wh_rows.specs.Steps.{with_rows}
 
 -- ---- the key of a fact

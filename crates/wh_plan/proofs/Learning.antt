@@ -23,9 +23,10 @@ use Rattle.wh_history.proofs.Mixtures.{put_last}
 use Rattle.wh_history.proofs.Numbers.{distinct-append}
 use Rattle.wh_history.proofs.Once.{among_distinct}
 use Rattle.wh_rows.specs.declared.rows.ProfileRow.{ProfileRow}
-use Rattle.wh_rows.specs.Defined.{profile_at}
+use Rattle.wh_model.specs.Defined.{profile_at}
 use Rattle.wh_plan.specs.Profiles.{with_combination, with_combinations, said_of, said_by, numbered_as, learned, is_none, row_of_profile}
-use Rattle.wh_plan.specs.BatchRows.{behind}
+use Rattle.wh_plan.specs.BatchRows.{numbers_after}
+use Rattle.wh_history.proofs.Trials.{get_middle}
 
 abbrev pub any_of : List (List ℕ) → List (List (List ℕ)) → Bool
 any_of t D = list_any (λ c. are_same c t) D
@@ -161,10 +162,6 @@ none_known base t = by_option (number_in (all_numbered base) t) (number_all base
     by_option None is any = ap is_none (sym is) ∙ sym (ap not any)
     by_option (Some n) is any = ap is_none (sym is) ∙ sym (ap not any)
 
-get_middle : {X : Type 0} (front back : List X) (x : X) → slice_get (front ++ x ∷ back) (length front) ≡ Some x
-get_middle [] back x = refl
-get_middle (y ∷ front) back x = get_middle front back x
-
 -- the rows of combinations after others
 rows_from : (list : List Accepted) (front back : List (List (List ℕ))) (next : ℕ) → next ≡ suc (suc (length front)) → front ++ back ≡ profiles_of list
     → filter_map (profile_at list) (range_with_len next (length back)) ≡ map row_of_profile (numbered_from next back)
@@ -183,7 +180,7 @@ rows_from list front (x ∷ back) next at whole =
     ∙ ap (λ rs. row_of_profile (record { texts = x; number = next }) ∷ rs) rest
 
 pub rows_fresh : (before after : List Accepted) (new : List (List (List ℕ))) (next : ℕ) → next ≡ suc (suc (length (profiles_of before))) → profiles_of before ++ new ≡ profiles_of after
-    → map row_of_profile (numbered_from next new) ≡ filter_map (profile_at after) (behind (suc (length (profiles_of before))) (suc (length (profiles_of after))))
+    → map row_of_profile (numbered_from next new) ≡ filter_map (profile_at after) (numbers_after (suc (length (profiles_of before))) (suc (length (profiles_of after))))
 rows_fresh before after new next at grown =
     let long = length-append (profiles_of before) new in
     let longer : length (profiles_of after) ≡ length (profiles_of before ++ new) = ap (λ (cs : List (List (List ℕ))). length cs) (sym grown) in

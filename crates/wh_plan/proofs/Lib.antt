@@ -26,28 +26,11 @@ pub mod PlanRows
 pub mod Learning
 pub mod FoundProfiles
 pub mod PlanProfiles
-pub mod AllMembers
-pub mod AllRows
-pub mod AnewFacts
-mod ScannedFacts
-mod ScannedRecords
 pub mod MayBeWritten
-pub mod Selling
-pub mod Placeholders
+pub mod SaleBatches
 pub mod MovedLists
 pub mod FactPlans
 pub mod WrittenEdits
 pub mod MovedFacts
 pub mod MovedBetween
 pub mod MovedTouched
-pub mod SalesMembers
-pub mod SalesNaturals
-pub mod SalesRows
-pub mod SalesKeys
-pub mod SalesEdits
-pub mod NumberedPlans
-pub mod PlanCalendar
-pub mod MigrationPlans
-pub mod FoundCombinations
-pub mod PlanRenumbered
-pub mod SalePremises

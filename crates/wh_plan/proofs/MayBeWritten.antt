@@ -26,25 +26,25 @@ use Rattle.wh_rows.specs.declared.key.LineKey.{LineKey}
 use Rattle.wh_rows.specs.Rows.{is_command, is_change, is_dimension, is_fact}
 use Rattle.wh_rows.specs.Rows as row
 use Rattle.wh_rows.specs.Tables.{Tables}
-use Rattle.wh_rows.specs.Defined.{command_at, member_at, change_at, profile_at, calendar_at, fact_at, AreOf}
+use Rattle.wh_model.specs.Defined.{command_at, member_at, change_at, profile_at, calendar_at, fact_at, AreOf}
 use Rattle.wh_plan.specs.Laws.{CommandsMayBeWritten}
 use Rattle.wh_plan.specs.Edits.{Edits, AreEdits, NeedsFact, rows_of_dimension, edited_line}
-use Rattle.wh_rows.specs.Sound.{IsGoodRecord, IsAccepted}
+use Rattle.wh_model.specs.Sound.{IsGoodRecord, IsAccepted}
 use Rattle.wh_store.specs.Edits.{IsValid, Puts}
 use Rattle.wh_plan.specs.Writable.{MayBeWritten, IsValidFactEdit}
 use Rattle.wh_plan.specs.declared.edits.FactEdit.{FactEdit}
 use Rattle.wh_plan.specs.declared.edits.FactEdit.TheVariants.{Row, Rekey}
 use Rattle.wh_plan.proofs.Exact.{exact_all}
 use Rattle.wh_plan.proofs.Plans.{plan_puts}
-use Rattle.wh_rows.proofs.GrownCommands.{command_grows}
-use Rattle.wh_rows.proofs.GrownKeys.{at_last, all_at}
-use Rattle.wh_rows.proofs.GrownChanges.{all_apart, new_row, changes_grow}
-use Rattle.wh_rows.proofs.GrownChanges as change
-use Rattle.wh_rows.proofs.SmallNumbers.{is_small, commands_few, described_few, members_few, sold_few}
-use Rattle.wh_rows.proofs.ValidTables.{made_of, dimension_valid, member_valid, change_made, profile_valid}
-use Rattle.wh_rows.proofs.ValidCalendar.{calendar_valid}
-use Rattle.wh_rows.proofs.ValidFacts.{fact_valid}
-use Rattle.wh_plan.proofs.Selling.{sold_more}
+use Rattle.wh_model.proofs.GrownCommands.{command_grows}
+use Rattle.wh_model.proofs.GrownKeys.{at_last, all_at}
+use Rattle.wh_model.proofs.GrownChanges.{all_apart, new_row, changes_grow}
+use Rattle.wh_model.proofs.GrownChanges as change
+use Rattle.wh_model.proofs.SmallNumbers.{is_small, commands_few, described_few, members_few, sold_few}
+use Rattle.wh_model.proofs.ValidTables.{made_of, dimension_valid, member_valid, change_made, profile_valid}
+use Rattle.wh_model.proofs.ValidCalendar.{calendar_valid}
+use Rattle.wh_model.proofs.ValidFacts.{fact_valid}
+use Rattle.wh_plan.proofs.SaleBatches.Selling.{sold_more}
 
 take_all : {X : Type 0} (xs : List X) → take (length xs) xs ≡ xs
 take_all [] = refl

@@ -46,16 +46,16 @@ use Rattle.wh_rows.specs.Rows as row
 use Rattle.wh_rows.specs.Tables.{Tables}
 use Rattle.wh_rows.specs.declared.key.LineKey.{LineKey}
 use Rattle.wh_rows.specs.Questions.{durable_of}
-use Rattle.wh_rows.specs.Defined.{AreOf, fact_at}
+use Rattle.wh_model.specs.Defined.{AreOf, fact_at}
 use Rattle.wh_plan.specs.MovedFacts.{moved_for, rekeyed_facts, facts_with, facts_between, FactsOutsideTheDaysStay}
-use Rattle.wh_rows.specs.Sound.{IsGoodSale, IsAccepted}
-use Rattle.wh_rows.proofs.Following.{Named, owned, all_named, late_records_move_facts}
-use Rattle.wh_rows.proofs.FoundPlaces.{same_number_is}
-use Rattle.wh_rows.proofs.GrownKeys.{all_at}
-use Rattle.wh_rows.proofs.GrownMembers.{opening_given}
-use Rattle.wh_rows.proofs.Listed.{none_passes}
+use Rattle.wh_model.specs.Sound.{IsGoodSale, IsAccepted}
+use Rattle.wh_model.proofs.Following.{Named, owned, all_named, late_records_move_facts}
+use Rattle.wh_model.proofs.FoundPlaces.{same_number_is}
+use Rattle.wh_model.proofs.GrownKeys.{all_at}
+use Rattle.wh_model.proofs.GrownMembers.{opening_given}
+use Rattle.wh_model.proofs.Listed.{none_passes}
 use Rattle.wh_plan.proofs.MovedFacts.{on_line}
-use Rattle.wh_rows.proofs.MovedKeys.{with_keys, keys_for, own_keys, follows_member, owner_is, same_as_itself, sold_same}
+use Rattle.wh_model.proofs.MovedKeys.{with_keys, keys_for, own_keys, follows_member, owner_is, same_as_itself, sold_same}
 use Rattle.wh_plan.proofs.MovedLists.{found_has, idle_left_out, none_left}
 use Rattle.wh_plan.proofs.PlanPremises.{days_after, days_before}
 

@@ -23,18 +23,18 @@ use Rattle.wh_rows.specs.Rows as row
 use Rattle.wh_rows.specs.Tables.{Tables}
 use Rattle.wh_rows.specs.declared.key.LineKey.{LineKey}
 use Rattle.wh_rows.specs.Questions.{durable_of}
-use Rattle.wh_rows.specs.Defined.{AreOf, fact_at}
-use Rattle.wh_rows.specs.Laws.{ShowsNoProfile, followed}
+use Rattle.wh_model.specs.Defined.{AreOf, fact_at}
+use Rattle.wh_model.specs.Laws.{ShowsNoProfile, followed}
 use Rattle.wh_plan.specs.MovedFacts.{moved_for, moves_of_member, moves_of_members, MovedFactsAreExact}
 use Rattle.wh_plan.specs.BatchRows.{AreRekeyed, has_line}
 use Rattle.wh_plan.specs.NewRows.{members_among, naturals_told}
-use Rattle.wh_rows.proofs.Following.{Named, all_named, late_records_move_facts}
-use Rattle.wh_rows.proofs.FoundPlaces.{same_number_is, number_itself}
-use Rattle.wh_rows.proofs.GrownChanges.{natural_among}
+use Rattle.wh_model.proofs.Following.{Named, all_named, late_records_move_facts}
+use Rattle.wh_model.proofs.FoundPlaces.{same_number_is, number_itself}
+use Rattle.wh_model.proofs.GrownChanges.{natural_among}
 use Rattle.wh_plan.proofs.GrownFacts.{own_line, line_is, Once, found_each}
-use Rattle.wh_rows.proofs.GrownKeys.{all_at}
-use Rattle.wh_rows.proofs.Listed.{passes_at}
-use Rattle.wh_rows.proofs.MovedKeys.{with_keys, keys_for, moved_gives, moved_has, moved_is_other, sold_same, follows_member, follows_none, follows_unmentioned, owner_is, durable_is, at_found}
+use Rattle.wh_model.proofs.GrownKeys.{all_at}
+use Rattle.wh_model.proofs.Listed.{passes_at}
+use Rattle.wh_model.proofs.MovedKeys.{with_keys, keys_for, moved_gives, moved_has, moved_is_other, sold_same, follows_member, follows_none, follows_unmentioned, owner_is, durable_is, at_found}
 use Rattle.wh_plan.proofs.MovedLists.{find_by_filter, distinct_by_filter, filter_flat, flat_none, filter_moves, moves_of_some, moves_of_one, owner_gives, found_has, not_found}
 use Rattle.wh_plan.proofs.PlanningMembers.{naturals}
 use Rattle.wh_plan.proofs.PlanningOwners.{any_kept, above_none, none_above}

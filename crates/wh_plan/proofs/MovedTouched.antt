@@ -31,12 +31,12 @@ use Rattle.wh_history.proofs.Knowing.{rows_enough, with_those, rekeyed_enough}
 use Rattle.wh_history.proofs.Stays.{policy_last}
 use Rattle.wh_rows.specs.Rows as row
 use Rattle.wh_rows.specs.Tables.{Tables}
-use Rattle.wh_rows.specs.Defined.{AreOf, fact_at}
+use Rattle.wh_model.specs.Defined.{AreOf, fact_at}
 use Rattle.wh_plan.specs.MovedFacts.{facts_with, facts_between, rekeyed_facts, moved_of_touched, moves_of_member, moves_of_members}
 use Rattle.wh_plan.specs.BatchRows.{AreFacts, AreRekeyed}
 use Rattle.wh_plan.specs.NewRows.{members_among, naturals_told}
-use Rattle.wh_rows.specs.Sound.{AreTypes, IsAccepted}
-use Rattle.wh_rows.proofs.GrownPlain.{sound_policies_show_none}
+use Rattle.wh_model.specs.Sound.{AreTypes, IsAccepted}
+use Rattle.wh_model.proofs.GrownPlain.{sound_policies_show_none}
 use Rattle.wh_plan.proofs.MovedFacts.{moved_facts_are_exact}
 use Rattle.wh_plan.proofs.MovedLists.{pairs_through}
 use Rattle.wh_plan.proofs.MovedBetween.{moves_between_are_all}

@@ -17,16 +17,16 @@ use Rattle.wh_history.specs.declared.rows.DimRow.{DimRow}
 use Rattle.wh_history.proofs.Basics.{some_is}
 use Rattle.wh_rows.specs.declared.key.MemberKey.{MemberKey}
 use Rattle.wh_rows.specs.Rows as row
-use Rattle.wh_rows.specs.Defined.{member_at}
-use Rattle.wh_rows.specs.Laws.{ShowsNoProfile}
-use Rattle.wh_plan.specs.BatchRows.{BatchRows, rows_brought, in_dimension, behind, members_behind, new_members}
+use Rattle.wh_model.specs.Defined.{member_at}
+use Rattle.wh_model.specs.Laws.{ShowsNoProfile}
+use Rattle.wh_plan.specs.BatchRows.{BatchRows, rows_brought, in_dimension, numbers_after, members_behind, new_members}
 use Rattle.wh_plan.proofs.Plans.{empty_plan, made_mapped}
-use Rattle.wh_rows.proofs.GrownOthers.{same_dim_is, mentions_stay, table_stays, plain_table_stays}
-use Rattle.wh_rows.proofs.GrownPlain.{sound_policies_show_none}
+use Rattle.wh_model.proofs.GrownOthers.{same_dim_is, mentions_stay, table_stays, plain_table_stays}
+use Rattle.wh_model.proofs.GrownPlain.{sound_policies_show_none}
 
 -- ---- no member
 
-pub none_behind : (low high : ℕ) → high ≡ low → behind low high ≡ []
+pub none_behind : (low high : ℕ) → high ≡ low → numbers_after low high ≡ []
 none_behind low high same = let none : high - low ≡ 0 = omega (arith, same) in ap (range_with_len (suc low)) none
 
 alone : (xs ys zs : List MemberKey) → ys ≡ [] → zs ≡ [] → xs ++ ys ++ zs ≡ xs
@@ -50,10 +50,10 @@ module _ (dim : Dim) (commands : List Accepted) (c : Accepted) (records : List D
 
   -- the new members are those of the batch's dimension
   pub members_told : filter_map (member_at (commands ++ c ∷ [])) (new_members commands (commands ++ c ∷ []))
-      ≡ filter_map (λ n. member_at (commands ++ c ∷ []) (record { dim = dim; durable = n })) (behind (length (members dim commands)) (length (members dim (commands ++ c ∷ []))))
+      ≡ filter_map (λ n. member_at (commands ++ c ∷ []) (record { dim = dim; durable = n })) (numbers_after (length (members dim commands)) (length (members dim (commands ++ c ∷ []))))
   members_told =
       ap (filter_map (member_at after)) (joined dim (members_behind commands after) no_members)
-      ∙ made_mapped (λ n. record { dim = dim; durable = n }) (member_at after) (behind (length (members dim commands)) (length (members dim after)))
+      ∙ made_mapped (λ n. record { dim = dim; durable = n }) (member_at after) (numbers_after (length (members dim commands)) (length (members dim after)))
 
   module _ (policy : Policy) (governed : policy_after None commands ≡ Some policy) (sound : IsSound policy) where
     plain : (other : Dim) → same_dim other dim ≡ false → same_dim Customer dim ≡ true → ShowsNoProfile commands other

@@ -13,12 +13,9 @@ use Rattle.wh_history.proofs.Growth.{anchors-append, members-append}
 use Rattle.wh_history.proofs.Joins.{all_weaker}
 use Rattle.wh_history.proofs.Untouched.{described-last}
 use Rattle.wh_plan.specs.Reading.{HaveNoEmptyValue}
-use Rattle.wh_rows.specs.Sound.{IsGivenValue, IsGoodRecord, IsAccepted}
-use Rattle.wh_rows.proofs.SmallNumbers.{anchors_few, members_few}
-
-all_front : {X : Type 0} (P : X → Type 0) (xs ys : List X) → AllByRecursion P (xs ++ ys) → AllByRecursion P xs
-all_front P [] ys all = tt
-all_front P (x ∷ xs) ys all = (all.0, all_front P xs ys all.1)
+use Rattle.wh_model.specs.Sound.{IsGivenValue, IsGoodRecord, IsAccepted}
+use Rattle.wh_model.proofs.SmallNumbers.{anchors_few, members_few}
+use Rattle.wh_rows.proofs.BehindStored.{all_front}
 
 abbrev HasDay : DimensionRecord → Type 0
 HasDay r = is_day r.day ≡ true

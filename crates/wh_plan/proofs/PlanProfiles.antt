@@ -28,26 +28,26 @@ use Rattle.wh_history.proofs.Stays.{types-last, profiles-last}
 use Rattle.wh_history.proofs.Untouched.{described-last}
 use Rattle.wh_rows.specs.Tables.{Tables}
 use Rattle.wh_rows.specs.declared.rows.ProfileRow.{ProfileRow}
-use Rattle.wh_rows.specs.Defined.{AreOf, profile_at}
+use Rattle.wh_model.specs.Defined.{AreOf, profile_at}
 use Rattle.wh_plan.specs.Profiles.{with_combinations, told_of, said_by, number_kept, learned, is_none, unknown, row_of_profile}
-use Rattle.wh_plan.specs.BatchRows.{behind}
+use Rattle.wh_plan.specs.BatchRows.{numbers_after}
 use Rattle.wh_plan.proofs.FoundProfiles.{number_kept_is}
-use Rattle.wh_rows.proofs.GrownPlain.{none_of}
+use Rattle.wh_model.proofs.GrownPlain.{none_of}
 use Rattle.wh_plan.proofs.Learning.{any_of, distinct_with, with_append, all_there, any_left, each_change, number_looked_up, number_with, none_known, rows_fresh}
 use Rattle.wh_plan.proofs.PlanningLists.{filter_same, fresh_is}
 
 -- the profiles that are in the second list's table and not in the first's
 abbrev pub NewProfiles : List Accepted → List Accepted → List ProfileRow
-NewProfiles before after = filter_map (profile_at after) (behind (suc (length (profiles_of before))) (suc (length (profiles_of after))))
+NewProfiles before after = filter_map (profile_at after) (numbers_after (suc (length (profiles_of before))) (suc (length (profiles_of after))))
 
-none_behind : (n : ℕ) → behind n n ≡ []
+none_behind : (n : ℕ) → numbers_after n n ≡ []
 none_behind n = let none : n - n ≡ 0 = omega arith in ap (range_with_len (suc n)) none
 
 -- where there are as many combinations as before, there are none
 none_new : (before after : List Accepted) → length (profiles_of after) ≡ length (profiles_of before) → [] ≡ NewProfiles before after
 none_new before after same =
     let count = length (profiles_of before) in
-    sym (ap (filter_map (profile_at after)) (ap (λ n. behind (suc count) (suc n)) same ∙ none_behind (suc count)))
+    sym (ap (filter_map (profile_at after)) (ap (λ n. numbers_after (suc count) (suc n)) same ∙ none_behind (suc count)))
 
 -- records of products and stores are none of customers
 pub others_bring_nothing : (dim : Dim) (records : List DimensionRecord) → dim ≢ Customer → described_by Customer (Describes dim records) ≡ []

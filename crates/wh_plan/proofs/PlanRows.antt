@@ -24,10 +24,10 @@ use Rattle.wh_history.specs.declared.member.Member.{Member}
 use Rattle.wh_history.specs.declared.plan.Edit.{Edit}
 use Rattle.wh_history.specs.declared.rows.DimRow.{DimRow}
 use Rattle.wh_history.proofs.Stays.{policy_last}
-use Rattle.wh_rows.specs.Laws.{ShowsNoProfile}
+use Rattle.wh_model.specs.Laws.{ShowsNoProfile}
 use Rattle.wh_plan.specs.NewRows.{naturals_told, rows_of_members, members_among}
-use Rattle.wh_rows.specs.Sound.{AreTypes}
-use Rattle.wh_rows.proofs.GrownPlain.{none_of}
+use Rattle.wh_model.specs.Sound.{AreTypes}
+use Rattle.wh_model.proofs.GrownPlain.{none_of}
 use Rattle.wh_plan.proofs.PlanningOwners.{touched_rows_before, touched_rows_after}
 use Rattle.wh_plan.proofs.PlanningRendered.{rendered_planned}
 use Rattle.wh_plan.proofs.PlanningTable.{touched_rows_are_the_plan}

@@ -18,10 +18,10 @@ use Rattle.wh_history.proofs.Basics.{first_or}
 use Rattle.wh_history.proofs.Once.{among_distinct}
 use Rattle.wh_history.proofs.Records.{anchor_is}
 use Rattle.wh_rows.specs.declared.rows.ChangeRow.{ChangeRow}
-use Rattle.wh_rows.specs.Defined.{change_at}
-use Rattle.wh_plan.specs.BatchRows.{behind}
+use Rattle.wh_model.specs.Defined.{change_at}
+use Rattle.wh_plan.specs.BatchRows.{numbers_after}
 use Rattle.wh_plan.specs.NewRows.{by_place, row_of_record, named, new_change}
-use Rattle.wh_rows.proofs.GrownKeys.{at_last}
+use Rattle.wh_model.proofs.GrownKeys.{at_last}
 use Rattle.wh_plan.proofs.PlanningMembers.{Among, all_among, naturals, twice}
 use Rattle.wh_plan.proofs.PlanningPlaces.{filter_map_same, by_place_same, behind_gives}
 
@@ -108,20 +108,20 @@ module _ (dim : Dim) (commands : List Accepted) (c : Accepted) (rs : List Dimens
       ap (option_map (keyed k)) (ap (option_and_then (row_in k)) (at_last commands c) ∙ ap (change_row_in after k) is)
       ∙ twice (keyed k) (change_row_of after dim) (at_place k rs)
 
-  pub changes_planned : by_place (new_change dim (length after) (touched_by dim commands after rs).list) 1 rs ≡ filter_map (λ k. change_at after (record { command = length after; place = k })) (behind 0 (length rs))
+  pub changes_planned : by_place (new_change dim (length after) (touched_by dim commands after rs).list) 1 rs ≡ filter_map (λ k. change_at after (record { command = length after; place = k })) (numbers_after 0 (length rs))
   changes_planned =
       let give = λ (k : ℕ) (r : DimensionRecord). Some (keyed k (change_row_of after dim r)) in
       by_place_same (new_change dim (length after) touched) give 1 rs (rows_are rs (all_among (naturals rs)))
       ∙ sym (behind_gives give rs [] rs refl)
-      ∙ sym (filter_map_same (λ k. change_at after (record { command = length after; place = k })) (λ k. option_and_then (give k) (at_place k rs)) at_key (behind 0 (length rs)))
+      ∙ sym (filter_map_same (λ k. change_at after (record { command = length after; place = k })) (λ k. option_and_then (give k) (at_place k rs)) at_key (numbers_after 0 (length rs)))
 
 -- for rows that a call gives
 pub new_changes_planned : (dim : Dim) (command : ℕ) (touched : List Member) (rs : List DimensionRecord) (rows : List ChangeRow) → rows ≡ by_place (new_change dim command touched) 1 rs
     → (commands : List Accepted) (c : Accepted) → c.content ≡ Describes dim rs → touched ≡ (touched_by dim commands (commands ++ c ∷ []) rs).list → command ≡ length (commands ++ c ∷ [])
-    → rows ≡ filter_map (λ k. change_at (commands ++ c ∷ []) (record { command = command; place = k })) (behind 0 (length rs))
+    → rows ≡ filter_map (λ k. change_at (commands ++ c ∷ []) (record { command = command; place = k })) (numbers_after 0 (length rs))
 new_changes_planned dim command touched rs rows made commands c is list number =
     made
     ∙ ap (λ k. by_place (new_change dim k touched) 1 rs) number
     ∙ ap (λ ms. by_place (new_change dim (length (commands ++ c ∷ [])) ms) 1 rs) list
     ∙ changes_planned dim commands c rs is
-    ∙ ap (λ n. filter_map (λ k. change_at (commands ++ c ∷ []) (record { command = n; place = k })) (behind 0 (length rs))) (sym number)
+    ∙ ap (λ n. filter_map (λ k. change_at (commands ++ c ∷ []) (record { command = n; place = k })) (numbers_after 0 (length rs))) (sym number)

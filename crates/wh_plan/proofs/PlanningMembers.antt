@@ -26,8 +26,8 @@ use Rattle.wh_history.proofs.Owners.{all_distinct}
 use Rattle.wh_history.proofs.Places.{place-distinct_given}
 use Rattle.wh_history.proofs.Untouched.{mentions-last}
 use Rattle.wh_rows.specs.declared.rows.MemberRow.{MemberRow}
-use Rattle.wh_rows.specs.Defined.{member_at}
-use Rattle.wh_plan.specs.BatchRows.{behind}
+use Rattle.wh_model.specs.Defined.{member_at}
+use Rattle.wh_plan.specs.BatchRows.{numbers_after}
 use Rattle.wh_plan.specs.NewRows.{row_of_member, new_member}
 use Rattle.wh_plan.proofs.PlanningLists.{filter_same, filter_twice, fresh_is}
 use Rattle.wh_plan.proofs.PlanningPlaces.{filter_map_same, behind_gives, by_number}
@@ -98,13 +98,13 @@ module _ (dim : Dim) (commands after : List Accepted) where
 
   -- where the members grow by those of a list, the member table gets their rows
   pub rows_behind : (ns : List (List ℕ)) → members dim after ≡ members dim commands ++ filter (λ n. nat_lt (length (members dim commands)) (durable_key dim after n)) ns
-      → filter_map (new_member dim (length (members dim commands))) (map (member_of dim after) ns) ≡ filter_map (λ n. member_at after (record { dim = dim; durable = n })) (behind (length (members dim commands)) (length (members dim after)))
+      → filter_map (new_member dim (length (members dim commands))) (map (member_of dim after) ns) ≡ filter_map (λ n. member_at after (record { dim = dim; durable = n })) (numbers_after (length (members dim commands)) (length (members dim after)))
   rows_behind ns grow =
       let there = members dim commands in
       new_rows ns
       ∙ sym (by_number bytes_eq bytes_eq-Decides row_under (members dim after) there (filter is_later ns) grow (once_distinct bytes_eq bytes_eq-Decides (members_in (mentions dim after))))
       ∙ sym (behind_gives (λ k n. Some (row_under k n)) (members dim after) there (filter is_later ns) grow)
-      ∙ sym (filter_map_same (λ k. member_at after (record { dim = dim; durable = k })) (λ k. option_and_then (λ n. Some (row_under k n)) (at_place k (members dim after))) at_key (behind (length there) (length (members dim after))))
+      ∙ sym (filter_map_same (λ k. member_at after (record { dim = dim; durable = k })) (λ k. option_and_then (λ n. Some (row_under k n)) (at_place k (members dim after))) at_key (numbers_after (length there) (length (members dim after))))
 
   -- and so many
   pub rows_counted : (ns : List (List ℕ)) → members dim after ≡ members dim commands ++ filter (λ n. nat_lt (length (members dim commands)) (durable_key dim after n)) ns
@@ -175,12 +175,12 @@ module _ (dim : Dim) (commands : List Accepted) (c : Accepted) (rs : List Dimens
       ∙ ap (λ ms. members dim commands ++ ms) (fresh_is bytes_eq before ns ∙ filter_same (λ n. not (list_any (λ m. bytes_eq m n) before)) is_new ns (new_each ns (all_distinct (Among (naturals rs)) bytes_eq (naturals rs) (all_among (naturals rs)))))
 
   -- the rows of the touched members with later durable keys are those that the member table gets
-  pub members_planned : filter_map (new_member dim (length (members dim commands))) (touched_by dim commands after rs).list ≡ filter_map (λ n. member_at after (record { dim = dim; durable = n })) (behind (length (members dim commands)) (length (members dim after)))
+  pub members_planned : filter_map (new_member dim (length (members dim commands))) (touched_by dim commands after rs).list ≡ filter_map (λ n. member_at after (record { dim = dim; durable = n })) (numbers_after (length (members dim commands)) (length (members dim after)))
   members_planned = rows_behind dim commands after (distinct bytes_eq (naturals rs)) members_grow
 
 -- for rows that a call gives
 pub new_members_planned : (dim : Dim) (given : ℕ) (touched : List Member) (rows : List MemberRow) → rows ≡ filter_map (new_member dim given) touched
     → (commands : List Accepted) (c : Accepted) (rs : List DimensionRecord) → c.content ≡ Describes dim rs → touched ≡ (touched_by dim commands (commands ++ c ∷ []) rs).list → given ≡ length (members dim commands)
-    → rows ≡ filter_map (λ n. member_at (commands ++ c ∷ []) (record { dim = dim; durable = n })) (behind (length (members dim commands)) (length (members dim (commands ++ c ∷ []))))
+    → rows ≡ filter_map (λ n. member_at (commands ++ c ∷ []) (record { dim = dim; durable = n })) (numbers_after (length (members dim commands)) (length (members dim (commands ++ c ∷ []))))
 new_members_planned dim given touched rows made commands c rs is list count =
     made ∙ ap (λ k. filter_map (new_member dim k) touched) count ∙ ap (filter_map (new_member dim (length (members dim commands)))) list ∙ members_planned dim commands c rs is

@@ -31,8 +31,8 @@ use Rattle.wh_history.proofs.Places.{at_place-place, anchors_decide, one_place}
 use Rattle.wh_history.proofs.Spans.{InOrder-dated}
 use Rattle.wh_plan.specs.Laws.{TouchedRowsBefore, TouchedRowsAfter}
 use Rattle.wh_plan.specs.NewRows.{of_members, naturals_told, durables_touched, rows_of_members, members_among}
-use Rattle.wh_rows.proofs.GrownKeys.{all_at}
-use Rattle.wh_rows.proofs.GrownMembers.{all_mapped, opened_in_all}
+use Rattle.wh_model.proofs.GrownKeys.{all_at}
+use Rattle.wh_model.proofs.GrownMembers.{all_mapped, opened_in_all}
 use Rattle.wh_plan.proofs.PlanningMembers.{Among, all_among, naturals, mentioned_given}
 use Rattle.wh_plan.proofs.PlanningTable.{durable_given}
 

@@ -9,7 +9,7 @@ use Rattle.wh_history.specs.Keys.{place, at_place}
 use Rattle.wh_history.proofs.Basics.{or_none}
 use Rattle.wh_history.proofs.Once.{IsOnce, apart}
 use Rattle.wh_history.proofs.Untouched.{any_none}
-use Rattle.wh_plan.specs.BatchRows.{behind}
+use Rattle.wh_plan.specs.BatchRows.{numbers_after}
 use Rattle.wh_plan.specs.NewRows.{by_place}
 
 get_here : {X : Type 0} (front : List X) (x : X) (back : List X) → slice_get (front ++ x ∷ back) (length front) ≡ Some x
@@ -45,7 +45,7 @@ given_behind give whole front (x ∷ back) is =
     ∙ ap (λ k. cons_option (give (suc (length front)) x) (by_place give (suc k) back)) longer
 
 pub behind_gives : {X Y : Type 0} (give : ℕ → X → Option Y) (whole front back : List X) → whole ≡ front ++ back
-    → filter_map (λ n. option_and_then (give n) (at_place n whole)) (behind (length front) (length whole)) ≡ by_place give (suc (length front)) back
+    → filter_map (λ n. option_and_then (give n) (at_place n whole)) (numbers_after (length front) (length whole)) ≡ by_place give (suc (length front)) back
 behind_gives give whole front back is =
     let long : length whole ≡ length (front ++ back) = ap length is in
     let sum = length-append front back in

@@ -27,10 +27,10 @@ use Rattle.wh_history.proofs.Once.{among_distinct}
 use Rattle.wh_history.proofs.Owners.{owners_given}
 use Rattle.wh_history.proofs.Stays.{types-last}
 use Rattle.wh_plan.specs.Laws.{TouchedRowsAreThePlan}
-use Rattle.wh_rows.specs.Laws.{ShowsNoProfile}
+use Rattle.wh_model.specs.Laws.{ShowsNoProfile}
 use Rattle.wh_plan.specs.NewRows.{of_members, durables_touched, naturals_told}
-use Rattle.wh_rows.proofs.GrownKeys.{all_at}
-use Rattle.wh_rows.proofs.GrownUntouched.{found_at, untouched_member_keeps}
+use Rattle.wh_model.proofs.GrownKeys.{all_at}
+use Rattle.wh_model.proofs.GrownUntouched.{found_at, untouched_member_keeps}
 use Rattle.wh_plan.proofs.PlanningMembers.{Among}
 
 -- ---- what a key needs, where some rows are kept out

@@ -12,9 +12,9 @@ use Rattle.wh_history.specs.declared.plan.Edit.TheVariants.{Put, Remove}
 use Rattle.wh_history.proofs.Basics.{or_none, some_is}
 use Rattle.wh_rows.specs.Holds.{Layout}
 use Rattle.wh_store.specs.Edits.{Puts, with_edit}
-use Rattle.wh_plan.specs.BatchRows.{behind}
+use Rattle.wh_plan.specs.BatchRows.{numbers_after}
 use Rattle.wh_plan.specs.Edits.{with_edits, IsTablePlan}
-use Rattle.wh_rows.proofs.Growing.{AmongKeys, Grows, among_mapped, among_range}
+use Rattle.wh_model.proofs.Growing.{AmongKeys, Grows, among_mapped, among_range}
 use Rattle.wh_plan.proofs.Exact as exact
 
 pub made_mapped : {X Y Z : Type 0} (f : X → Y) (make : Y → Option Z) (xs : List X) → filter_map make (map f xs) ≡ filter_map (λ x. make (f x)) xs
@@ -264,16 +264,16 @@ module _ {K V : Type 0} (layout : Layout K V) (total : IsTotalOrder layout.order
       all_in_range P start (suc len) each = (each start (omega arith), all_in_range P (start + 1) len (λ n h. each n (omega arith)))
 
       pub grown_plan : (old : K → Option V) (low high : ℕ) → ((n : ℕ) → low < n → old (at n) ≡ None) → ((key : K) → Grows at low high old new key)
-          → IsTablePlan layout old new (map Put (filter_map (λ n. new (at n)) (behind low high)))
+          → IsTablePlan layout old new (map Put (filter_map (λ n. new (at n)) (numbers_after low high)))
       grown_plan old low high none grows =
-          subst (λ rows. IsTablePlan layout old new (map Put rows)) (made_mapped at new (behind low high))
-          (added_plan old (map at (behind low high)) (keys_ascend (suc low) (high - low)) (all_in_range (λ k. old k ≡ None) (suc low) (high - low) (λ n h. none n (omega arith))) kept)
+          subst (λ rows. IsTablePlan layout old new (map Put rows)) (made_mapped at new (numbers_after low high))
+          (added_plan old (map at (numbers_after low high)) (keys_ascend (suc low) (high - low)) (all_in_range (λ k. old k ≡ None) (suc low) (high - low) (λ n h. none n (omega arith))) kept)
         where
-          kept : (key : K) → (new key ≡ old key) ⊎ AmongKeys (λ k. k) key (map at (behind low high))
+          kept : (key : K) → (new key ≡ old key) ⊎ AmongKeys (λ k. k) key (map at (numbers_after low high))
           kept key = elim (grows key) [
             | inl stays ↦ inl stays.same
             | inr added ↦
                 let above = added.above in
                 let within = added.within in
-                inr (among_mapped at key (behind low high) (among_range at key added.number (suc low) (high - low) added.is (omega arith) (omega arith)))
+                inr (among_mapped at key (numbers_after low high) (among_range at key added.number (suc low) (high - low) added.is (omega arith) (omega arith)))
           ]

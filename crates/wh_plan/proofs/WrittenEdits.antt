@@ -7,7 +7,7 @@ use Rattle.wh_history.specs.Plan.{IsRowPlan}
 use Rattle.wh_history.specs.Tables.{dimension_row}
 use Rattle.wh_rows.proofs.Orders.{member_cmp_total, change_cmp_total}
 use Rattle.wh_rows.specs.Rows as row
-use Rattle.wh_rows.specs.Defined.{command_at, member_at, change_at, profile_at, calendar_at, fact_at}
+use Rattle.wh_model.specs.Defined.{command_at, member_at, change_at, profile_at, calendar_at, fact_at}
 use Rattle.wh_plan.specs.Edits.{no_edits, rows_of_dimension}
 use Rattle.wh_plan.specs.Laws.{EditsAreWritten, ExactEditsAreOne, NoEditsStay}
 use Rattle.wh_plan.proofs.FactPlans.{facts_lead, no_facts, one_fact_plan}

@@ -6,8 +6,8 @@ use Rattle.std.specs.Ordering.{eq_by_cmp}
 use Rattle.std.specs.Cmp.{IsTotalOrder, eq_by_cmp_equiv, Equal-is}
 use Rattle.std.specs.FinMap.{FinMap, get, insert, IsAntisymmetric, get-insert}
 use Rattle.wh_rows.specs.Holds.{Layout}
-use Rattle.wh_plan.specs.BatchRows.{behind}
-use Rattle.wh_rows.proofs.Growing.{AmongKeys, among_range, Grows}
+use Rattle.wh_plan.specs.BatchRows.{numbers_after}
+use Rattle.wh_model.proofs.Growing.{AmongKeys, among_range, Grows}
 use Rattle.wh_rows.specs.Steps.{with_rows}
 
 module _ {I K V : Type 0} (layout : Layout K V) (total : IsTotalOrder layout.order) (same : IsAntisymmetric layout.order) (new : K → Option V) (keyed : (k : K) (v : V) → new k ≡ Some v → layout.key v ≡ k) (at : I → K) where
@@ -63,9 +63,9 @@ module _ {I K V : Type 0} (layout : Layout K V) (total : IsTotalOrder layout.ord
 
 module _ {K V : Type 0} (layout : Layout K V) (total : IsTotalOrder layout.order) (same : IsAntisymmetric layout.order) (new : K → Option V) (keyed : (k : K) (v : V) → new k ≡ Some v → layout.key v ≡ k) (at : ℕ → K) where
   -- a table that grows, with the new rows put, is the table after
-  pub written : (old : K → Option V) (low high : ℕ) (m : FinMap layout.order V) (rows : List V) (q : K) → get m q ≡ old q → rows ≡ filter_map (λ n. new (at n)) (behind low high) → Grows at low high old new q → get (with_rows layout rows m) q ≡ new q
+  pub written : (old : K → Option V) (low high : ℕ) (m : FinMap layout.order V) (rows : List V) (q : K) → get m q ≡ old q → rows ≡ filter_map (λ n. new (at n)) (numbers_after low high) → Grows at low high old new q → get (with_rows layout rows m) q ≡ new q
   written old low high m rows q has made grows =
-      written_where layout total same new keyed at old (behind low high) m rows q has made (elim grows [
+      written_where layout total same new keyed at old (numbers_after low high) m rows q has made (elim grows [
         | inl kept ↦ inl kept.same
         | inr added ↦ inr (added.none, among_range at q added.number (suc low) (high - low) added.is (let above = added.above in omega arith) (let above = added.above in let within = added.within in omega arith))
       ])

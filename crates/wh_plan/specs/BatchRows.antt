@@ -18,7 +18,7 @@ use Rattle.wh_rows.specs.declared.key.MemberKey.{MemberKey}
 use Rattle.wh_rows.specs.declared.key.LineKey.{LineKey}
 use Rattle.wh_rows.specs.Rows as row
 use Rattle.wh_plan.specs.declared.edits.FactEdit.{FactEdit}
-use Rattle.wh_rows.specs.Defined.{command_at, member_at, change_at, profile_at, fact_at}
+use Rattle.wh_model.specs.Defined.{command_at, member_at, change_at, profile_at, fact_at}
 use Rattle.wh_plan.specs.Edits.{IsFactPlan}
 
 -- its own row, those of the members that it is the first to mention, of its records and of new profiles, the edits of facts, and those of the rows of the three dimensions
@@ -43,12 +43,12 @@ abbrev pub in_dimension : Dim → Dim → List (Edit DimRow ℕ) → List (Edit 
 in_dimension other dim edits = if same_dim other dim then edits else []
 
 -- the numbers after a number, up to another
-abbrev pub behind : ℕ → ℕ → List ℕ
-behind number upto = range_with_len (suc number) (upto - number)
+abbrev pub numbers_after : ℕ → ℕ → List ℕ
+numbers_after number upto = range_with_len (suc number) (upto - number)
 
 -- the keys of the members of a dimension that the later list has and the earlier one hasn't
 abbrev pub members_behind : List Accepted → List Accepted → Dim → List MemberKey
-members_behind before after dim = map (λ n. record { dim = dim; durable = n }) (behind (length (members dim before)) (length (members dim after)))
+members_behind before after dim = map (λ n. record { dim = dim; durable = n }) (numbers_after (length (members dim before)) (length (members dim after)))
 
 -- those of all dimensions
 abbrev pub new_members : List Accepted → List Accepted → List MemberKey
@@ -72,7 +72,7 @@ AreRekeyed before facts = AllByRecursion (λ f. (old : Fact) × (before (row.fac
 pub record AreBatchRows (before : List Accepted) (c : Accepted) (brought : BatchRows) : Type 0 where
   pub command : command_at (before ++ c ∷ []) (suc (length before)) ≡ Some brought.command
   pub members : brought.members ≡ filter_map (member_at (before ++ c ∷ [])) (new_members before (before ++ c ∷ []))
-  pub changes : brought.changes ≡ filter_map (λ n. change_at (before ++ c ∷ []) (record { command = length (before ++ c ∷ []); place = n })) (behind 0 (records_by c.content))
+  pub changes : brought.changes ≡ filter_map (λ n. change_at (before ++ c ∷ []) (record { command = length (before ++ c ∷ []); place = n })) (numbers_after 0 (records_by c.content))
   pub rows : (dim : Dim) → IsRowPlan (dimension_row before dim) (dimension_row (before ++ c ∷ []) dim) (rows_brought dim brought)
-  pub profiles : brought.profiles ≡ filter_map (profile_at (before ++ c ∷ [])) (behind (suc (length (profiles_of before))) (suc (length (profiles_of (before ++ c ∷ [])))))
+  pub profiles : brought.profiles ≡ filter_map (profile_at (before ++ c ∷ [])) (numbers_after (suc (length (profiles_of before))) (suc (length (profiles_of (before ++ c ∷ [])))))
   pub facts : IsFactPlan (fact_at before) (fact_at (before ++ c ∷ [])) brought.facts

@@ -23,7 +23,7 @@ use Rattle.wh_rows.specs.Rekey.{rekeyed}
 use Rattle.wh_rows.specs.Rows as row
 use Rattle.wh_rows.specs.Tables.{Tables}
 use Rattle.wh_store.specs.Edits.{with_edit}
-use Rattle.wh_rows.specs.Defined.{command_at, member_at, change_at, profile_at, calendar_at, fact_at}
+use Rattle.wh_model.specs.Defined.{command_at, member_at, change_at, profile_at, calendar_at, fact_at}
 use Rattle.wh_rows.specs.Steps.{after_all}
 use Rattle.wh_plan.specs.declared.edits.FactEdit.{FactEdit}
 use Rattle.wh_plan.specs.declared.edits.FactEdit.TheVariants.{Row, Rekey}

@@ -16,9 +16,9 @@ use Rattle.wh_rows.specs.Tables.{Tables}
 use Rattle.wh_rows.specs.declared.rows.CommandRow.{CommandRow}
 use Rattle.wh_rows.specs.declared.rows.ProfileRow.{ProfileRow}
 use Rattle.wh_store.specs.Edits.{IsValid}
-use Rattle.wh_rows.specs.Defined.{day_at}
+use Rattle.wh_model.specs.Defined.{day_at}
 use Rattle.wh_rows.specs.Steps.{with_row, with_rows}
-use Rattle.wh_plan.specs.BatchRows.{behind}
+use Rattle.wh_plan.specs.BatchRows.{numbers_after}
 
 -- up to six attributes a dimension, and holidays whose names are text
 pub record IsGoodPolicy (policy : Policy) : Type 0 where
@@ -47,7 +47,7 @@ first_profiles kinds = profile_of 0 no_card_text kinds ∷ profile_of 1 unknown_
 
 -- the rows of the days of the policy's years, in their order: the numbers from the first day of the first year to the last day of the last year that are days
 abbrev pub calendar_rows : Policy → List DateRow
-calendar_rows policy = filter_map (day_at policy) (behind (policy.years.first * 10000 + 100) (policy.years.last * 10000 + 1231))
+calendar_rows policy = filter_map (day_at policy) (numbers_after (policy.years.first * 10000 + 100) (policy.years.last * 10000 + 1231))
 
 -- the tables with a row of command and one of customer, and with rows of profile and calendar
 abbrev pub with_first : CommandRow → DimRow → List ProfileRow → List DateRow → Tables → Tables

@@ -13,13 +13,13 @@ use Rattle.wh_history.specs.declared.plan.Edit.{Edit}
 use Rattle.wh_history.specs.declared.plan.Edit.TheVariants.{Put}
 use Rattle.wh_history.specs.declared.rows.DimRow.{DimRow}
 use Rattle.wh_rows.specs.Tables.{Tables}
-use Rattle.wh_rows.specs.Defined.{fact_at, AreOf}
+use Rattle.wh_model.specs.Defined.{fact_at, AreOf}
 use Rattle.wh_plan.specs.Edits.{Edits, no_edits, with_all_edits, AreEdits}
-use Rattle.wh_plan.specs.BatchRows.{behind, AreFacts}
-use Rattle.wh_rows.specs.Sound.{IsAccepted, same_line}
+use Rattle.wh_plan.specs.BatchRows.{numbers_after, AreFacts}
+use Rattle.wh_model.specs.Sound.{IsAccepted, same_line}
 use Rattle.wh_plan.specs.Writable.{MayBeWritten}
 use Rattle.wh_plan.specs.NewRows.{of_members, naturals_told, durables_touched, rows_of_members, members_among}
-use Rattle.wh_rows.specs.Laws.{ShowsNoProfile}
+use Rattle.wh_model.specs.Laws.{ShowsNoProfile}
 
 -- From the tables of some commands the exact edits lead to those of others.
 abbrev pub EditsAreWritten : Type 0
@@ -82,4 +82,4 @@ abbrev pub SalesPutPlaceholders : Type 0
 SalesPutPlaceholders = (commands : List Accepted) (c : Accepted) (dim : Dim) (sales : List SaleRecord)
     → c.content ≡ Sells sales
     → IsRowPlan (dimension_row commands dim) (dimension_row (commands ++ c ∷ []) dim)
-    (map Put (filter_map (dimension_row (commands ++ c ∷ []) dim) (behind (length (anchors dim commands)) (length (anchors dim (commands ++ c ∷ []))))))
+    (map Put (filter_map (dimension_row (commands ++ c ∷ []) dim) (numbers_after (length (anchors dim commands)) (length (anchors dim (commands ++ c ∷ []))))))

@@ -5,11 +5,9 @@ pub mod BatchRows
 pub mod FactEdits
 pub mod Writable
 pub mod FirstRows
-pub mod Migration
 pub mod NewRows
 pub mod RecordPlan
 pub mod Profiles
 pub mod Laws
 pub mod MovedFacts
-pub mod Migrated
 pub mod SoldMembers

@@ -16,12 +16,12 @@ use Rattle.wh_history.specs.declared.facts.Fact.{Fact}
 use Rattle.wh_history.specs.declared.member.Member.{Member}
 use Rattle.wh_rows.specs.Rows as row
 use Rattle.wh_rows.specs.Tables.{Tables}
-use Rattle.wh_rows.specs.Questions.{durable_of}
-use Rattle.wh_rows.specs.Defined.{AreOf, fact_at}
-use Rattle.wh_rows.specs.Laws.{ShowsNoProfile}
-use Rattle.wh_rows.specs.Sound.{IsAccepted}
+use Rattle.wh_rows.specs.Questions.{durable_of, is_sold_between}
+use Rattle.wh_model.specs.Defined.{AreOf, fact_at}
+use Rattle.wh_model.specs.Laws.{ShowsNoProfile}
+use Rattle.wh_model.specs.Sound.{IsAccepted}
 use Rattle.wh_plan.specs.BatchRows.{AreFacts, AreRekeyed}
-use Rattle.wh_plan.specs.declared.touched.TouchedMember.{TouchedMember}
+use Rattle.wh_plan.specs.declared.records.touched.TouchedMember.{TouchedMember}
 use Rattle.wh_plan.specs.NewRows.{members_among, naturals_told}
 
 -- a fact with the keys that a member's rows of a dimension give it under these commands, where they are others than it has
@@ -38,7 +38,7 @@ rekeyed_facts shape m facts = filter_map (rekeyed_fact shape (rendered_in shape 
 
 -- of those facts the ones from one day to another
 abbrev pub facts_between : FinMap row.fact.order Fact → Dim → ℕ → ℕ → ℕ → List Fact
-facts_between table dim durable from to = filter (λ f. eq_by_cmp nat_cmp durable (durable_of dim f) && (is_ge (nat_cmp f.day from) && is_le (nat_cmp f.day to))) (values table)
+facts_between table dim durable from to = filter (is_sold_between dim durable from to) (values table)
 
 -- a member that a batch touches, as it is stored and as it is after the batch
 abbrev pub pair_of : TouchedMember → Member × Member

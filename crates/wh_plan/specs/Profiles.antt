@@ -15,9 +15,9 @@ use Rattle.wh_history.specs.declared.profiles.Numbered.{Numbered}
 use Rattle.wh_rows.specs.declared.rows.ProfileRow.{ProfileRow}
 use Rattle.wh_rows.specs.Rows as row
 use Rattle.wh_store.specs.Reads.{same_slots}
-use Rattle.wh_rows.specs.Defined.{profile_at}
-use Rattle.wh_plan.specs.BatchRows.{behind}
-use Rattle.wh_plan.specs.declared.profiles.Learned.{Learned}
+use Rattle.wh_model.specs.Defined.{profile_at}
+use Rattle.wh_plan.specs.BatchRows.{numbers_after}
+use Rattle.wh_plan.specs.declared.profiles.KnownProfiles.{KnownProfiles}
 
 -- combinations with one more, unless it is there
 abbrev pub with_combination : List (List (List ℕ)) → List (List ℕ) → List (List (List ℕ))
@@ -62,6 +62,6 @@ abbrev pub row_of_profile : Numbered → ProfileRow
 row_of_profile k = record { number = k.number; values = six k.texts }
 
 -- What is read of profiles for a batch: enough of the members' for their rows and facts, and the rows of the profiles that it is the first to show.
-pub record IsLearned (dim : Dim) (kinds : List AttributeType) (before after : List Accepted) (members : List Member) (profiles : Learned) : Type 0 where
+pub record IsLearned (dim : Dim) (kinds : List AttributeType) (before after : List Accepted) (members : List Member) (profiles : KnownProfiles) : Type 0 where
   pub enough : AllByRecursion (KnowsEnough dim kinds (number_in profiles.known) (profiles_of after)) members
-  pub fresh : profiles.fresh.items ≡ filter_map (profile_at after) (behind (suc (length (profiles_of before))) (suc (length (profiles_of after))))
+  pub fresh : profiles.fresh.items ≡ filter_map (profile_at after) (numbers_after (suc (length (profiles_of before))) (suc (length (profiles_of after))))

@@ -10,7 +10,7 @@ use Rattle.wh_history.specs.declared.member.Change.{Change}
 use Rattle.wh_history.specs.declared.rows.DimRow.{DimRow}
 use Rattle.wh_rows.specs.declared.rows.CommandRow.{CommandRow}
 use Rattle.wh_rows.specs.declared.rows.ChangeRow.{ChangeRow}
-use Rattle.wh_rows.specs.Defined.{command_at}
+use Rattle.wh_model.specs.Defined.{command_at}
 
 -- no two commands have one id
 abbrev pub HaveDistinctIds : List Accepted → Type 0

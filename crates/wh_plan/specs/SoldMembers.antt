@@ -1,12 +1,14 @@
 -- The members that a batch of sales mentions, and what they give its facts.
-use Rattle.std.specs.Prelude.{◌≡◌, ℕ, ◌-◌, nat_lt, if◌then◌else◌, List, [], ◌∷◌, ◌++◌, map, filter_map, length, Option, None, option_map, unwrap_or, slice_get, find, bytes_eq}
+use Rattle.std.specs.Prelude.{◌≡◌, ◌≤◌, ℕ, ◌-◌, nat_lt, if◌then◌else◌, List, [], ◌∷◌, ◌++◌, map, filter_map, length, Option, None, Some, Result, IfOk, option_map, unwrap_or, slice_get, find, bytes_eq}
 use Rattle.std.specs.List.{list_any}
 use Rattle.std.specs.Option.{option_and_then}
 use Rattle.wh_policy.specs.declared.attribute.Dim.{Dim}
+use Rattle.wh_policy.specs.declared.policy.Policy.{Policy}
 use Rattle.wh_policy.specs.declared.record.SaleRecord.{SaleRecord}
-use Rattle.wh_history.specs.Accepted.{Accepted, members, anchors, member_of_sale, member_of}
+use Rattle.wh_policy.specs.Written.{IsSound}
+use Rattle.wh_history.specs.Accepted.{Accepted, Sells, members, anchors, member_of_sale, member_of, policy_after}
 use Rattle.wh_history.specs.Facts.{keys_on}
-use Rattle.wh_history.specs.Keys.{distinct}
+use Rattle.wh_history.specs.Keys.{distinct, greatest_number}
 use Rattle.wh_history.specs.Shapes.{Shape, RenderedMember, shape_after, rendered_in}
 use Rattle.wh_history.specs.Tables.{dimension_row}
 use Rattle.wh_history.specs.Touched.{grown, with_numbers}
@@ -15,9 +17,11 @@ use Rattle.wh_history.specs.declared.facts.MemberKeys.{MemberKeys}
 use Rattle.wh_history.specs.declared.member.Member.{Member}
 use Rattle.wh_history.specs.declared.plan.Edit.TheVariants.{Put}
 use Rattle.wh_history.specs.declared.rows.DimRow.{DimRow}
-use Rattle.wh_rows.specs.Defined.{member_at}
-use Rattle.wh_plan.specs.BatchRows.{behind}
-use Rattle.wh_plan.specs.declared.sold_dimension.SoldDimension.{SoldDimension}
+use Rattle.wh_sql.specs.declared.fault.ReadFault.{ReadFault}
+use Rattle.wh_model.specs.Defined.{member_at}
+use Rattle.wh_plan.specs.BatchRows.{numbers_after}
+use Rattle.wh_plan.specs.Reading.{HaveNoEmptyValue}
+use Rattle.wh_plan.specs.declared.sales.sold_dimension.SoldDimension.{SoldDimension}
 
 -- the members of a dimension that sales mention, each once, in order of first mention
 abbrev pub naturals_sold : Dim → List SaleRecord → List (List ℕ)
@@ -74,5 +78,16 @@ with_natural natural naturals = if list_any (bytes_eq natural) naturals then nat
 -- What a batch of sales has of one dimension: the numbers for its facts, the rows of the members that it is the first to mention, and the edits of the dimension's table.
 pub record IsSoldDimension (dim : Dim) (before after : List Accepted) (sales : List SaleRecord) (sold : SoldDimension) : Type 0 where
   pub keys : sold.keys.items ≡ map (keys_sold dim after) sales
-  pub members : sold.members.items ≡ filter_map (λ n. member_at after (record { dim = dim; durable = n })) (behind (length (members dim before)) (length (members dim after)))
-  pub rows : sold.rows.items ≡ map Put (filter_map (dimension_row after dim) (behind (length (anchors dim before)) (length (anchors dim after))))
+  pub members : sold.members.items ≡ filter_map (λ n. member_at after (record { dim = dim; durable = n })) (numbers_after (length (members dim before)) (length (members dim after)))
+  pub rows : sold.rows.items ≡ map Put (filter_map (dimension_row after dim) (numbers_after (length (anchors dim before)) (length (anchors dim after))))
+
+-- Of a batch of these sales under the policy in force, while numbers are left, it is what they have of the dimension.
+abbrev pub FindsSold : List Accepted → Dim → List SaleRecord → Policy → Result SoldDimension ReadFault → Type 0
+FindsSold commands dim sales policy result = (c : Accepted)
+    → HaveNoEmptyValue commands
+    → length (members dim (commands ++ c ∷ [])) ≤ greatest_number
+    → length (anchors dim (commands ++ c ∷ [])) ≤ greatest_number
+    → c.content ≡ Sells sales
+    → policy_after None commands ≡ Some policy
+    → IsSound policy
+    → IfOk result (IsSoldDimension dim commands (commands ++ c ∷ []) sales)

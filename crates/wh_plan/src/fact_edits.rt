@@ -83,7 +83,7 @@ pub(crate) fn fact_puts(alloc: Global, facts: Vec<Fact>) -> Result<Vec<FactEdit>
 }
 
 /// The edits that give stored facts other keys, in order of their lines.
-pub(crate) fn fact_rekeys(alloc: Global, facts: Vec<Fact>) -> Result<Vec<FactEdit>, AllocError>
+pub fn fact_rekeys(alloc: Global, facts: Vec<Fact>) -> Result<Vec<FactEdit>, AllocError>
     ensures { (before after : Facts) → AreFacts before after facts.items → AreRekeyed before facts.items → IfOk result (λ edits. IsFactPlan before after edits.items) }
 {
     let mut facts = facts;

@@ -2,7 +2,6 @@
 
 ghost use Rattle.wh_plan.specs.MovedFacts.{FactsOutsideTheDaysStay, MovedFactsAreExact};
 ghost use Rattle.wh_plan.specs.Laws.{CommandsMayBeWritten, EditsAreWritten, ExactEditsAreOne, NoEditsStay, SalesAreFacts, SalesPutPlaceholders, TouchedRowsAfter, TouchedRowsAreThePlan, TouchedRowsBefore};
-ghost use Rattle.wh_rows.specs.Laws.{AcceptedListsBegin, FactsAreEffective, LateRecordsMoveFacts, SecondKeysAreApart, SoundPoliciesShowNone, UntouchedMembersKeep};
 
 /// From the tables of some accepted commands the exact edits lead to those of others, in all tables.
 pub fn edits_are_written()
@@ -19,30 +18,9 @@ pub fn no_edits_stay()
     ensures { NoEditsStay }
 {}
 
-/// Under a sound policy no row of a product or a store shows a profile, as a batch of customers asks.
-pub fn sound_policies_show_none()
-    ensures { SoundPoliciesShowNone }
-{}
-
-/// A member that a batch does not mention has the same rows under the same keys before and after it.
-pub fn untouched_member_keeps()
-    ensures { UntouchedMembersKeep }
-{}
-
-/// A making under a sound policy begins a list of commands that a warehouse can have accepted.
-pub fn accepted_lists_begin()
-    ensures { AcceptedListsBegin }
-{}
-
 /// The edits of a command that can be accepted may be written: each row that they put is valid.
 pub fn a_command_may_be_written()
     ensures { CommandsMayBeWritten }
-{}
-
-/// In the tables of accepted commands no two commands have one id, and no two members of a dimension one natural key. So
-/// no row that a batch puts is refused for a second key that another row has.
-pub fn second_keys_are_apart()
-    ensures { SecondKeysAreApart }
 {}
 
 /// The edits between the rows that the touched members have before and with a batch are those of their dimension's table.
@@ -50,12 +28,6 @@ pub fn touched_rows_are_the_plan()
     ensures plan { TouchedRowsAreThePlan }
     ensures before { TouchedRowsBefore }
     ensures after { TouchedRowsAfter }
-{}
-
-/// After a batch of records each stored fact has the keys that its member's rows of that dimension then give it, and its
-/// other keys as they were. A late record moves facts of its own member alone.
-pub fn late_records_move_facts()
-    ensures { LateRecordsMoveFacts }
 {}
 
 /// The facts of the touched members whose keys change with a batch of records, with their new keys, are exactly what leads
@@ -79,10 +51,4 @@ pub fn sales_are_facts()
 /// their surrogate keys, and changes nothing else.
 pub fn sales_put_placeholders()
     ensures { SalesPutPlaceholders }
-{}
-
-/// Each fact of the table is that of an accepted sale of its line, and names, in each dimension, the member that this sale names
-/// and its one row that holds the sale's day, whatever came late; without a card it names the customer row 0.
-pub fn facts_are_effective()
-    ensures { FactsAreEffective }
 {}

@@ -4,7 +4,7 @@ ghost use Rattle.std.specs.Prelude.{◌≡◌, IfOk, OnOk};
 ghost use Rattle.wh_plan.specs.NewRows.{naturals_told};
 ghost use Rattle.wh_plan.specs.SoldMembers.{naturals_sold, with_natural};
 
-use crate::sale_keys::member_of_sale;
+use crate::sales::sale_keys::member_of_sale;
 use indexmap::IndexSet;
 use std::alloc::{AllocError, Global};
 use wh_day::{NaturalKey, Value};

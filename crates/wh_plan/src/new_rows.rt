@@ -6,13 +6,13 @@ ghost use Rattle.wh_history.specs.Accepted.{Accepted, Describes, members, profil
 ghost use Rattle.wh_history.specs.Known.{number_in, KnowsEnough};
 ghost use Rattle.wh_history.specs.Shapes.{shape_of, rows_in};
 ghost use Rattle.wh_history.specs.Touched.{touched_by};
-ghost use Rattle.wh_rows.specs.Defined.{member_at, change_at};
-ghost use Rattle.wh_plan.specs.BatchRows.{behind};
+ghost use Rattle.wh_model.specs.Defined.{member_at, change_at};
+ghost use Rattle.wh_plan.specs.BatchRows.{numbers_after};
 ghost use Rattle.wh_plan.specs.NewRows.{Records, rows_of_members, naturals_told, by_place, row_of_member, new_member, row_of_record, new_change};
 
 use crate::by_natural::by_natural;
 use std::alloc::{AllocError, Global};
-use wh_history::{DimRow, Dimension, Member, anchor_of_day, six_texts};
+use wh_history::{DimRow, DimensionShape, Member, anchor_of_day, six_texts};
 use wh_policy::{Dim, DimensionRecord};
 use wh_rows::{ChangeKey, ChangeRow, MemberRow};
 
@@ -38,7 +38,7 @@ pub fn new_members(
     // They are what the member table gets.
     ensures planned { (commands : List Accepted) (c : Accepted) (records : Records) → c.content ≡ Describes dim records
         → touched.now ≡ (touched_by dim commands (commands ++ c ∷ []) records).list → members_before ≡ length (members dim commands)
-        → IfOk result (λ rows. rows.items ≡ filter_map (λ n. member_at (commands ++ c ∷ []) (record { dim = dim; durable = n })) (behind (length (members dim commands)) (length (members dim (commands ++ c ∷ []))))) }
+        → IfOk result (λ rows. rows.items ≡ filter_map (λ n. member_at (commands ++ c ∷ []) (record { dim = dim; durable = n })) (numbers_after (length (members dim commands)) (length (members dim (commands ++ c ∷ []))))) }
 {
     let mut rows = Vec::new(alloc);
     for member in touched {
@@ -81,7 +81,7 @@ pub fn new_changes(
     // They are what the change table gets.
     ensures planned { (commands : List Accepted) (c : Accepted) → c.content ≡ Describes dim records.now
         → touched.now ≡ (touched_by dim commands (commands ++ c ∷ []) records.now).list → command ≡ length (commands ++ c ∷ [])
-        → IfOk result (λ rows. rows.items ≡ filter_map (λ n. change_at (commands ++ c ∷ []) (record { command = command; place = n })) (behind 0 (length records.now))) }
+        → IfOk result (λ rows. rows.items ≡ filter_map (λ n. change_at (commands ++ c ∷ []) (record { command = command; place = n })) (numbers_after 0 (length records.now))) }
 {
     let found = by_natural(alloc, touched)?;
     let mut rows = Vec::new(alloc);
@@ -98,7 +98,7 @@ pub fn new_changes(
 /// The rows of the touched members, one member after the other.
 pub fn rows_of_members(
     alloc: Global,
-    dimension: &Dimension,
+    dimension: &DimensionShape,
     touched: &[Member],
 ) -> Result<Vec<DimRow>, AllocError>
     ensures rows { IfOk result (λ found. found.items ≡ flat_map (rows_in (shape_of dimension.now)) touched.now) }

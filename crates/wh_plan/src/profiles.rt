@@ -12,9 +12,9 @@ ghost use Rattle.wh_history.specs.Slots.{are_same};
 ghost use Rattle.wh_plan.specs.Profiles.{with_combination, with_combinations, told_of, said_of, said_by, number_kept, learned, is_none, unknown, row_of_profile, IsLearned};
 ghost use Rattle.wh_store.specs.Reads.{ReadsOnly, state_of};
 ghost use Rattle.wh_plan.specs.Reads.{Finds, Tells};
-ghost use Rattle.wh_rows.specs.Sound.{AreTypes, IsAccepted};
+ghost use Rattle.wh_model.specs.Sound.{AreTypes, IsAccepted};
 
-use crate::batch::Batch;
+use crate::records::batch::Batch;
 use sqlite::Alter;
 use std::alloc::{AllocError, Global};
 use wh_day::Values;
@@ -24,11 +24,11 @@ use wh_rows::{ProfileRow, tables};
 use wh_store::{Greatest, ProfileOf, ReadFault, Tables};
 
 /// The number of the first combination; before it stand no card and unknown.
-pub(crate) const FIRST: u64 = 2;
+pub const FIRST: u64 = 2;
 
 /// What is read of profiles for a batch of records.
 #[derive(Drop)]
-pub(crate) struct Learned {
+pub(crate) struct KnownProfiles {
     /// What is known of the combinations of the members that it touches.
     pub(crate) known: Profiles,
     /// The rows of the profiles that it is the first to show.
@@ -43,7 +43,7 @@ fn contains(combinations: &[Values], texts: &Values) -> bool
 }
 
 /// Adds a combination, unless it is there.
-pub(crate) fn add_combination(found: &mut Vec<Values>, texts: Values) -> Result<(), AllocError>
+pub fn add_combination(found: &mut Vec<Values>, texts: Values) -> Result<(), AllocError>
     ensures { OnOk result (found.new.items ≡ with_combination found.old.items texts) }
 {
     if !contains(found.as_slice(), &texts) {
@@ -186,7 +186,7 @@ fn unknown(
 }
 
 /// Gives combinations the next numbers, and makes their rows.
-pub(crate) fn add_fresh(
+pub fn add_fresh(
     alloc: Global,
     known: &mut Profiles,
     next: u64,
@@ -272,7 +272,7 @@ fn learned_of_customers<S: Alter>(
     alloc: Global,
     batch: &Batch,
     touched: &[Member],
-) -> Result<Learned, ReadFault>
+) -> Result<KnownProfiles, ReadFault>
     ensures reads { ReadsOnly (state_of S.Store tables.old) (state_of S.Store tables.new) result }
     ensures learned { Finds (state_of S.Store tables.old) (state_of S.Store tables.new) (λ limits commands. (c : Accepted) → IsAccepted limits (commands ++ c ∷ []) → c.content ≡ Describes Customer batch.now.records.now → AreTypes commands Customer batch.now.types.now → IfOk result (IsLearned Customer batch.now.types.now commands (commands ++ c ∷ []) touched.now)) }
 {
@@ -282,7 +282,7 @@ fn learned_of_customers<S: Alter>(
     let given = profiles_given(tables, alloc)?;
     let combinations = unknown(alloc, &known, &told)?;
     let fresh = add_fresh(alloc, &mut known, given + 1, &combinations)?;
-    Ok(Learned { known, fresh })
+    Ok(KnownProfiles { known, fresh })
 }
 
 /// What is read of profiles for a batch of records. Only customers have profiles.
@@ -291,13 +291,13 @@ pub(crate) fn learned_of<S: Alter>(
     alloc: Global,
     batch: &Batch,
     touched: &[Member],
-) -> Result<Learned, ReadFault>
+) -> Result<KnownProfiles, ReadFault>
     ensures reads { ReadsOnly (state_of S.Store tables.old) (state_of S.Store tables.new) result }
     ensures learned { Finds (state_of S.Store tables.old) (state_of S.Store tables.new) (λ limits commands. (c : Accepted) → IsAccepted limits (commands ++ c ∷ []) → c.content ≡ Describes batch.now.dim batch.now.records.now → AreTypes commands batch.now.dim batch.now.types.now → IfOk result (IsLearned batch.now.dim batch.now.types.now commands (commands ++ c ∷ []) touched.now)) }
 {
     match batch.dim {
         Dim::Customer => learned_of_customers(tables, alloc, batch, touched),
-        _ => Ok(Learned {
+        _ => Ok(KnownProfiles {
             known: Profiles::new(alloc),
             fresh: Vec::new(alloc),
         }),

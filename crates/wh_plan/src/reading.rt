@@ -48,7 +48,7 @@ fn given_text(alloc: Global, text: &Value) -> Result<Value, AllocError>
 }
 
 /// The texts of all slots that a record gave.
-pub(crate) fn given_texts(alloc: Global, texts: &[Value]) -> Result<Values, AllocError>
+pub fn given_texts(alloc: Global, texts: &[Value]) -> Result<Values, AllocError>
     ensures { IfOk result (λ given. given ≡ map given_text texts.now) }
 {
     let mut given = Values::new(alloc);

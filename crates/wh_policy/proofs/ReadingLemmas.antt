@@ -4,7 +4,7 @@ use Rattle.std.proofs.lemmas.List.{drop_more, drop_all}
 use Rattle.toml.specs.Data.{Members}
 use Rattle.toml.specs.View.{table_view}
 use Rattle.toml.specs.declared.value.Value.{Value}
-use Rattle.wh_day.specs.declared.error.ReadError.{ReadError}
+use Rattle.wh_day.specs.declared.error.ParseError.{ParseError}
 use Rattle.wh_day.specs.Reading.{Fails}
 use Rattle.wh_day.proofs.Loops.{with_front, with_front-cons, with_front-nil, with_front-fails}
 use Rattle.wh_policy.specs.declared.fault.PolicyFault.{PolicyFault}
@@ -18,7 +18,7 @@ pub each-next : {A : Type 0} (read : Reader A) (front earlier : List A) (m : Mem
 unfolding each_after
 each-next read front earlier m tables x e = rw e (with_front-cons front x (each_after read (earlier ++ x ∷ []) tables))
 
-pub each-fail : {A : Type 0} (read : Reader A) (error : ReadError PolicyFault) (front earlier : List A) (m : Members) (tables : List Members) → Fails error (read earlier m)
+pub each-fail : {A : Type 0} (read : Reader A) (error : ParseError PolicyFault) (front earlier : List A) (m : Members) (tables : List Members) → Fails error (read earlier m)
     → Fails error (with_front front (each_after read earlier (m ∷ tables)))
 unfolding each_after
 each-fail read error front earlier m tables h = with_front-fails error front (read earlier m) _ h

@@ -13,7 +13,7 @@ use crate::document::{has_only, required, tables};
 use crate::fault::PolicyFault;
 use std::alloc::Global;
 use toml::{Table, Value as TomlValue};
-use wh_day::{ReadError, Value};
+use wh_day::{ParseError, Value};
 
 fn is_name_byte(byte: u8) -> bool
     ensures { result ≡ is_name_byte byte }
@@ -45,25 +45,25 @@ fn is_name(name: &str) -> bool
 }
 
 #[tactic(auto, unfolding(crate::specs::Attributes::name_at))]
-fn name_of(alloc: Global, value: &TomlValue) -> Result<Value, ReadError<PolicyFault>>
+fn name_of(alloc: Global, value: &TomlValue) -> Result<Value, ParseError<PolicyFault>>
     ensures { Gives (λ name. name) result (name_at (view value.now)) }
 {
     match value.as_str() {
         Some(name) if is_name(name) => Ok(Value::new(alloc, name)?),
-        _ => Err(ReadError::Fault(PolicyFault::BadName)),
+        _ => Err(ParseError::Fault(PolicyFault::BadName)),
     }
 }
 
 #[tactic(auto, unfolding(crate::specs::Attributes::kind_at))]
-fn kind_of(value: &TomlValue) -> Result<AttributeType, ReadError<PolicyFault>>
+fn kind_of(value: &TomlValue) -> Result<AttributeType, ParseError<PolicyFault>>
     ensures { Gives (λ kind. kind) result (kind_at (view value.now)) }
 {
     let Some(number) = value.as_integer() else {
-        return Err(ReadError::Fault(PolicyFault::BadType));
+        return Err(ParseError::Fault(PolicyFault::BadType));
     };
     match AttributeType::from_number(number) {
         Some(kind) => Ok(kind),
-        None => Err(ReadError::Fault(PolicyFault::BadType)),
+        None => Err(ParseError::Fault(PolicyFault::BadType)),
     }
 }
 
@@ -112,21 +112,21 @@ fn attribute_of(
     dim: Dim,
     earlier: &[Attribute],
     table: &Table,
-) -> Result<Attribute, ReadError<PolicyFault>>
+) -> Result<Attribute, ParseError<PolicyFault>>
     ensures { Gives (λ attribute. attribute) result (attribute_at dim earlier.now (table_view table.now)) }
 {
     if !has_only(table, &["name", "type"]) {
-        return Err(ReadError::Fault(PolicyFault::UnknownKey));
+        return Err(ParseError::Fault(PolicyFault::UnknownKey));
     }
     let name = required(table, "name")?;
     let kind = required(table, "type")?;
     let name = name_of(alloc, name)?;
     let kind = kind_of(kind)?;
     if kind.is_profile() && !takes_profile(dim) {
-        return Err(ReadError::Fault(PolicyFault::ProfileOutside));
+        return Err(ParseError::Fault(PolicyFault::ProfileOutside));
     }
     if has_name(earlier, name.as_str()) {
-        return Err(ReadError::Fault(PolicyFault::NamedTwice));
+        return Err(ParseError::Fault(PolicyFault::NamedTwice));
     }
     Ok(Attribute { name, kind })
 }
@@ -135,7 +135,7 @@ fn attribute_list(
     alloc: Global,
     dim: Dim,
     tables: &[&Table],
-) -> Result<Attributes, ReadError<PolicyFault>>
+) -> Result<Attributes, ParseError<PolicyFault>>
     ensures { Gives (λ attributes. attributes) result (each_after (attribute_at dim) [] (map (λ t. table_view t.now) tables.now)) }
 {
     let mut attributes = Attributes::new(alloc);
@@ -152,15 +152,15 @@ pub(crate) fn attributes_of(
     alloc: Global,
     dim: Dim,
     value: &TomlValue,
-) -> Result<Attributes, ReadError<PolicyFault>>
+) -> Result<Attributes, ParseError<PolicyFault>>
     ensures { Gives (λ attributes. attributes) result (attributes_at dim (view value.now)) }
 {
     let tables = tables(alloc, PolicyFault::Missing, value)?;
     if tables.is_empty() {
-        return Err(ReadError::Fault(PolicyFault::Missing));
+        return Err(ParseError::Fault(PolicyFault::Missing));
     }
     if tables.len() > 6 {
-        return Err(ReadError::Fault(PolicyFault::TooMany));
+        return Err(ParseError::Fault(PolicyFault::TooMany));
     }
     attribute_list(alloc, dim, &tables)
 }

@@ -12,26 +12,26 @@ ghost use Rattle.wh_policy.specs.Document.{document_at, has_only, required, tabl
 use crate::fault::PolicyFault;
 use std::alloc::Global;
 use toml::{Table, Value};
-use wh_day::ReadError;
+use wh_day::ParseError;
 
 /// The table that the bytes write.
 #[tactic(auto, unfolding(crate::specs::Document::document_at))]
-pub(crate) fn document(alloc: Global, bytes: &[u8]) -> Result<Table, ReadError<PolicyFault>>
+pub(crate) fn document(alloc: Global, bytes: &[u8]) -> Result<Table, ParseError<PolicyFault>>
     ensures { Gives table_view result (document_at bytes.now) }
 {
     if bytes.len() > 65_536 {
-        return Err(ReadError::Fault(PolicyFault::NotToml));
+        return Err(ParseError::Fault(PolicyFault::NotToml));
     }
     let Ok(text) = std::str::from_utf8(bytes) else {
-        return Err(ReadError::Fault(PolicyFault::NotToml));
+        return Err(ParseError::Fault(PolicyFault::NotToml));
     };
     match toml::table_from_str(alloc, text) {
         Ok(table) => Ok(table),
         Err(error) => {
             if error.is_memory() {
-                Err(ReadError::Memory)
+                Err(ParseError::Memory)
             } else {
-                Err(ReadError::Fault(PolicyFault::NotToml))
+                Err(ParseError::Fault(PolicyFault::NotToml))
             }
         }
     }
@@ -46,12 +46,15 @@ pub(crate) fn optional<'a>(table: &'a Table, key: &str) -> Option<&'a Value>
 
 /// The value at a key that has to be there.
 #[tactic(auto, unfolding(crate::specs::Document::required))]
-pub(crate) fn required<'a>(table: &'a Table, key: &str) -> Result<&'a Value, ReadError<PolicyFault>>
+pub(crate) fn required<'a>(
+    table: &'a Table,
+    key: &str,
+) -> Result<&'a Value, ParseError<PolicyFault>>
     ensures { Gives (λ value. view value.now) result (required key.now (table_view table.now)) }
 {
     match optional(table, key) {
         Some(value) => Ok(value),
-        None => Err(ReadError::Fault(PolicyFault::Missing)),
+        None => Err(ParseError::Fault(PolicyFault::Missing)),
     }
 }
 
@@ -80,11 +83,11 @@ pub(crate) fn tables(
     alloc: Global,
     fault: PolicyFault,
     value: &Value,
-) -> Result<Vec<&Table>, ReadError<PolicyFault>>
+) -> Result<Vec<&Table>, ParseError<PolicyFault>>
     ensures { Gives (λ tables. map (λ t. table_view t.now) tables.items) result (tables_at fault (view value.now)) }
 {
     let Some(items) = value.as_array() else {
-        return Err(ReadError::Fault(fault));
+        return Err(ParseError::Fault(fault));
     };
     table_list(alloc, fault, items)
 }
@@ -93,14 +96,14 @@ fn table_list(
     alloc: Global,
     fault: PolicyFault,
     items: &[Value],
-) -> Result<Vec<&Table>, ReadError<PolicyFault>>
+) -> Result<Vec<&Table>, ParseError<PolicyFault>>
     ensures { Gives (λ tables. map (λ t. table_view t.now) tables.items) result (tables_in fault (items_view items.now)) }
 {
     let mut tables = Vec::new(alloc);
     for item in items {
         match item.as_table() {
             Some(table) => tables.push(table)?,
-            None => return Err(ReadError::Fault(fault)),
+            None => return Err(ParseError::Fault(fault)),
         }
     }
     Ok(tables)

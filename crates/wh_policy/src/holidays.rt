@@ -13,33 +13,33 @@ use crate::fault::PolicyFault;
 use crate::policy::Years;
 use std::alloc::Global;
 use toml::{Table, Value as TomlValue};
-use wh_day::{Day, Holiday, Holidays, ReadError, Value};
+use wh_day::{Day, Holiday, Holidays, ParseError, Value};
 
 #[tactic(auto, unfolding(crate::specs::Holidays::day_at))]
-fn day_of(years: Years, value: &TomlValue) -> Result<Day, ReadError<PolicyFault>>
+fn day_of(years: Years, value: &TomlValue) -> Result<Day, ParseError<PolicyFault>>
     ensures { Gives (λ day. day) result (day_at years (view value.now)) }
 {
     let Some(text) = value.as_str() else {
-        return Err(ReadError::Fault(PolicyFault::BadHoliday));
+        return Err(ParseError::Fault(PolicyFault::BadHoliday));
     };
     match Day::read(text.as_bytes()) {
         Some(day) if years.contains(day) => Ok(day),
-        _ => Err(ReadError::Fault(PolicyFault::BadHoliday)),
+        _ => Err(ParseError::Fault(PolicyFault::BadHoliday)),
     }
 }
 
 #[tactic(auto, unfolding(crate::specs::Holidays::title_at))]
-fn title_of(alloc: Global, value: &TomlValue) -> Result<Value, ReadError<PolicyFault>>
+fn title_of(alloc: Global, value: &TomlValue) -> Result<Value, ParseError<PolicyFault>>
     ensures { Gives (λ name. name) result (title_at (view value.now)) }
 {
     let Some(text) = value.as_str() else {
-        return Err(ReadError::Fault(PolicyFault::BadHoliday));
+        return Err(ParseError::Fault(PolicyFault::BadHoliday));
     };
     match text.as_bytes() {
-        [] => Err(ReadError::Fault(PolicyFault::BadHoliday)),
+        [] => Err(ParseError::Fault(PolicyFault::BadHoliday)),
         bytes => match Value::read(alloc, bytes)? {
             Some(name) => Ok(name),
-            None => Err(ReadError::Fault(PolicyFault::BadHoliday)),
+            None => Err(ParseError::Fault(PolicyFault::BadHoliday)),
         },
     }
 }
@@ -50,19 +50,19 @@ fn holiday_of(
     years: Years,
     earlier: &Holidays,
     table: &Table,
-) -> Result<Holiday, ReadError<PolicyFault>>
+) -> Result<Holiday, ParseError<PolicyFault>>
     ensures value { Gives (λ holiday. holiday) result (holiday_at years earlier.now (table_view table.now)) }
     ensures new { IfOk result (λ holiday. list_any (is_on holiday.day) earlier.now ≡ false) }
 {
     if !has_only(table, &["day", "name"]) {
-        return Err(ReadError::Fault(PolicyFault::UnknownKey));
+        return Err(ParseError::Fault(PolicyFault::UnknownKey));
     }
     let day = required(table, "day")?;
     let name = required(table, "name")?;
     let day = day_of(years, day)?;
     let name = title_of(alloc, name)?;
     if earlier.has(day) {
-        return Err(ReadError::Fault(PolicyFault::BadHoliday));
+        return Err(ParseError::Fault(PolicyFault::BadHoliday));
     }
     Ok(Holiday { day, name })
 }
@@ -71,7 +71,7 @@ fn holiday_list(
     alloc: Global,
     years: Years,
     tables: &[&Table],
-) -> Result<Holidays, ReadError<PolicyFault>>
+) -> Result<Holidays, ParseError<PolicyFault>>
     ensures { Gives (λ holidays. holidays) result (each_after (holiday_at years) [] (map (λ t. table_view t.now) tables.now)) }
 {
     let mut holidays = Holidays::new(alloc);
@@ -88,7 +88,7 @@ pub(crate) fn holidays_of(
     alloc: Global,
     years: Years,
     value: Option<&TomlValue>,
-) -> Result<Holidays, ReadError<PolicyFault>>
+) -> Result<Holidays, ParseError<PolicyFault>>
     ensures { Gives (λ holidays. holidays) result (holidays_at years (option_map (λ v. view v.now) value.entry)) }
 {
     match value {

@@ -16,7 +16,7 @@ use crate::names::{are_kept, slot_of};
 use crate::years::years_of;
 use std::alloc::{AllocError, Global};
 use toml::Table;
-use wh_day::{Day, Holidays, ReadError, Value};
+use wh_day::{Day, Holidays, ParseError, Value};
 
 const TOP_KEYS: [&str; 6] = [
     "first_year",
@@ -69,9 +69,9 @@ fn add(
 impl Policy {
     /// The policy that the bytes of a file write: a TOML text of at most 65,536 bytes, as docs/formats.md says.
     ///
-    /// The fault is the first one in the order that stands there; [`ReadError::Memory`] where memory ran out.
+    /// The fault is the first one in the order that stands there; [`ParseError::Memory`] where memory ran out.
     #[tactic(auto, unfolding(crate::specs::Policy::policy_at))]
-    pub fn read(alloc: Global, bytes: &[u8]) -> Result<Policy, ReadError<PolicyFault>>
+    pub fn read(alloc: Global, bytes: &[u8]) -> Result<Policy, ParseError<PolicyFault>>
         ensures { Gives (λ policy. policy) result (policy_at bytes.now) }
     {
         let table = document(alloc, bytes)?;
@@ -79,11 +79,11 @@ impl Policy {
     }
 
     #[tactic(auto, unfolding(crate::specs::Policy::policy_in))]
-    fn of_table(alloc: Global, table: &Table) -> Result<Policy, ReadError<PolicyFault>>
+    fn of_table(alloc: Global, table: &Table) -> Result<Policy, ParseError<PolicyFault>>
         ensures { Gives (λ policy. policy) result (policy_in (table_view table.now)) }
     {
         if !has_only(table, &TOP_KEYS) {
-            return Err(ReadError::Fault(PolicyFault::UnknownKey));
+            return Err(ParseError::Fault(PolicyFault::UnknownKey));
         }
         let first_year = required(table, "first_year")?;
         let last_year = required(table, "last_year")?;
@@ -94,7 +94,7 @@ impl Policy {
         let store = dimension::attributes_of(alloc, Dim::Store, store)?;
         let customer = dimension::attributes_of(alloc, Dim::Customer, customer)?;
         if dimension::is_mixed(customer.as_slice()) {
-            return Err(ReadError::Fault(PolicyFault::ProfileMixed));
+            return Err(ParseError::Fault(PolicyFault::ProfileMixed));
         }
         let years = years_of(first_year, last_year)?;
         let holidays = holidays_of(alloc, years, optional(table, "holiday"))?;

@@ -7,11 +7,11 @@ ghost use Rattle.wh_policy.specs.Years.{years_at};
 use crate::fault::PolicyFault;
 use crate::policy::Years;
 use toml::Value;
-use wh_day::ReadError;
+use wh_day::ParseError;
 
 /// The years from one value to another.
 #[tactic(auto, unfolding(crate::specs::Years::years_at))]
-pub(crate) fn years_of(first: &Value, last: &Value) -> Result<Years, ReadError<PolicyFault>>
+pub(crate) fn years_of(first: &Value, last: &Value) -> Result<Years, ParseError<PolicyFault>>
     ensures { Gives (λ years. years) result (years_at (view first.now) (view last.now)) }
 {
     match (first.as_integer(), last.as_integer()) {
@@ -22,6 +22,6 @@ pub(crate) fn years_of(first: &Value, last: &Value) -> Result<Years, ReadError<P
                 last: last as u16,
             })
         }
-        _ => Err(ReadError::Fault(PolicyFault::BadYears)),
+        _ => Err(ParseError::Fault(PolicyFault::BadYears)),
     }
 }

@@ -25,7 +25,7 @@ use Rattle.wh_engine.specs.declared.fault.Fault.TheVariants as fault
 use Rattle.wh_engine.specs.declared.session.Session.{Session}
 use Rattle.wh_program.specs.Check.{IsFoundClean, IsVerdictOn, Checks}
 use Rattle.wh_program.specs.Reply.{opening_answer, verdict_answer}
-use Rattle.wh_program.specs.Standing.{Content, Nothing, Holds, Keeps, Standing, Rests, LeftAt, IsAt, Stands}
+use Rattle.wh_program.specs.Standing.{DatabaseContent, Nothing, Holds, Keeps, Standing, Rests, LeftAt, IsAt, Stands}
 use Rattle.wh_program.specs.Warehouse.{Told, IsOpenedBy}
 use Rattle.wh_program.proofs.WarehouseLemmas.{opened, unopened, opened_by, unread}
 
@@ -56,7 +56,7 @@ judged stored told (Err (fault.Store cause)) s tells first opened due rests left
     (LeftAt (Keeps stored) (Keeps stored), record { opened = opened; verdict = Err (fault.Store cause); due = due; leaves = refl; tells = tells }, record { each = λ trees may. inl (left.each trees may) })
 judged stored told (Err fault.Reopen) s tells first opened due rests left = absurd due
 
-module _ (content : Content) (told : Told) where
+module _ (content : DatabaseContent) (told : Told) where
   -- a file that was opened and checked
   pub checked : (format : Format) (verdict : Result Verdict Fault) (first last : Session) (s0 s1 s2 : State)
       → ((limits : Limits) (commands : List Accepted) → AreAdmitted limits commands → engine.Rests limits commands s0 → IsReady limits commands first s1)

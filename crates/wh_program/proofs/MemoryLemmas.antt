@@ -6,7 +6,7 @@ use Rattle.sqlite.specs.Effect.{Database, IsDatabase}
 use Rattle.sqlite_trees.specs.declared.memory.MemStore.{MemStore}
 use Rattle.wh_rows.specs.Schema.{no_schema}
 use Rattle.wh_rows.specs.AtRest.{AreTrees, IsAtRest}
-use Rattle.wh_program.specs.Standing.{Content, Nothing, Standing, Unknown, Rests, LeftAt, IsAt, IsKept}
+use Rattle.wh_program.specs.Standing.{DatabaseContent, Nothing, Standing, Unknown, Rests, LeftAt, IsAt, IsKept}
 
 -- a database with no object in it
 trees_are : (db : Database) → IsDatabase db → db.schema ≡ no_schema → AreTrees None db.trees
@@ -25,12 +25,12 @@ empty_rests c (opens, live, schema) =
       left = record { each = λ trees is. subst (λ t. AreTrees None t) (sym is) last };
     }
 
-abbrev content_of : Standing → Content
+abbrev content_of : Standing → DatabaseContent
 content_of Unknown = Nothing
 content_of (Rests content) = content
 content_of (LeftAt first second) = first
 
 -- what is lent where nothing was kept
-pub is_empty : (content : Content) (kept : Option (Held MemStore)) (c : Held MemStore) → kept ≡ None → IsKept (Rests content) kept → IsEmpty (state over_memory c) → IsAt content (state over_memory c)
+pub is_empty : (content : DatabaseContent) (kept : Option (Held MemStore)) (c : Held MemStore) → kept ≡ None → IsKept (Rests content) kept → IsEmpty (state over_memory c) → IsAt content (state over_memory c)
 is_empty content kept c none stood empty =
     subst (λ x. IsAt x (state over_memory c)) (sym (ap content_of (subst (IsKept (Rests content)) none stood))) (empty_rests c empty)

@@ -1,6 +1,6 @@
 -- What reports and dumps answer, and what they leave of what stood.
 use Rattle.std.proofs.Common.{◌≡◌, ◌∙◌, inl, refl, sym, ap, subst, ℕ, List, [], ◌∷◌, ◌++◌, Bool, true, false, Option, Some, None, Ok, Err}
-use Rattle.std.specs.Prelude.{Result, IfOk, not, nat_lt}
+use Rattle.std.specs.Prelude.{Result, IfOk, not, nat_lt, ok_or}
 use Rattle.std.specs.declared.alloc.AllocError.{AllocError}
 use Rattle.std.specs.declared.alloc.Global.{Global}
 use Rattle.std.specs.declared.vec.Vec.{Vec}
@@ -26,7 +26,7 @@ use Rattle.wh_engine.specs.declared.session.Session.{Session}
 use Rattle.wh_report.specs.Asked.{Asked}
 use Rattle.wh_report.specs.Output.{AreOut, IsOutInLines, IsOfDump, of_warehouse}
 use Rattle.wh_report.specs.Reported.{Reports}
-use Rattle.wh_report.specs.Request.{asked, or_fault, unless_fault, subject_reads, has_reading, no_reading}
+use Rattle.wh_report.specs.Request.{asked, unless_fault, subject_reads, has_reading, no_reading}
 use Rattle.wh_report.specs.Subject.{subject_in}
 use Rattle.wh_report.specs.declared.mode.Mode.{Mode}
 use Rattle.wh_report.specs.declared.output.ReportFault.{ReportFault}
@@ -36,12 +36,12 @@ use Rattle.wh_report.specs.declared.request.RequestFault.TheVariants.{NoAttribut
 use Rattle.wh_report.specs.declared.subject.Subject.{Subject}
 use Rattle.wh_program.specs.Answer.{done, refused}
 use Rattle.wh_program.specs.Reply.{request_line, report_answer}
-use Rattle.wh_program.specs.Readings.{LeavesRead, asked_under, asked_answer, IsReported, behind, TellsText, SaysStop}
+use Rattle.wh_program.specs.Readings.{LeavesRead, asked_under, asked_answer, IsReported, answer_after, TellsText, SaysStop}
 use Rattle.wh_program.specs.Run.{Prints}
-use Rattle.wh_program.specs.Standing.{Content, Nothing, Holds, Keeps, IsOfCommands, Standing, Unknown, Rests, LeftAt, IsAt, Stands}
+use Rattle.wh_program.specs.Standing.{DatabaseContent, Nothing, Holds, Keeps, IsOfCommands, Standing, Unknown, Rests, LeftAt, IsAt, Stands}
 use Rattle.wh_program.specs.Task.{ReportWords}
 use Rattle.wh_program.specs.Warehouse.{Told, printed, Opens}
-use Rattle.wh_program.proofs.RunLemmas.{prints-behind, prints-cut}
+use Rattle.wh_program.proofs.RunLemmas.{prints-answer_after, prints-cut}
 
 -- ---- what is left
 
@@ -56,7 +56,7 @@ left limits commands (Err (fault.Store cause)) session s stopped = (LeftAt (Hold
 left limits commands (Err fault.Reopen) session s none = absurd none
 
 -- a warehouse that is opened, and what is done then and printed
-pub opened-printing : (does : Limits → List Accepted → Told → Standing → Type 0) (prints : Told → Type 0) (content : Content) (first : Session) (s0 s1 s2 : State)
+pub opened-printing : (does : Limits → List Accepted → Told → Standing → Type 0) (prints : Told → Type 0) (content : DatabaseContent) (first : Session) (s0 s1 s2 : State)
     → ((limits : Limits) (commands : List Accepted) → AreAdmitted limits commands → engine.Rests limits commands s0 → IsReady limits commands first s1)
     → ((limits : Limits) (commands : List Accepted) → IsReady limits commands first s1 → (after : Standing) × ((told : Told) × does limits commands told after × prints told) × Stands after s2)
     → (IsAtRest None s0 → ⊥)
@@ -74,7 +74,7 @@ range_asked true made request is = cc
 range_asked false made request is = absurd (cc)
 
 days_asked : (words : List ℕ) (mode : Mode) (from to : Option ℕ) (request : Asked)
-    → (or_fault BadRange from >>= λ first. or_fault BadRange to >>= λ last. unless_fault (not (nat_lt last first)) BadRange (Ok (record { words = words; mode = mode; from = first; to = last }))) ≡ Ok request
+    → (ok_or from BadRange >>= λ first. ok_or to BadRange >>= λ last. unless_fault (not (nat_lt last first)) BadRange (Ok (record { words = words; mode = mode; from = first; to = last }))) ≡ Ok request
     → (request.words ≡ words) × (request.mode ≡ mode)
 days_asked words mode None to request is = absurd (cc)
 days_asked words mode (Some first) None request is = absurd (cc)
@@ -88,7 +88,7 @@ past_test true why read request is = (refl, is)
 past_test false why read request is = absurd (cc)
 
 subject_asked : (found : Option Subject) (mode : Mode) (read : Subject → Result Asked RequestFault) (request : Asked)
-    → (or_fault NoAttribute found >>= λ subject. unless_fault (subject_reads mode (Some subject)) (no_reading subject mode) (read subject)) ≡ Ok request
+    → (ok_or found NoAttribute >>= λ subject. unless_fault (subject_reads mode (Some subject)) (no_reading subject mode) (read subject)) ≡ Ok request
     → (subject_reads mode found ≡ true) × ((subject : Subject) × (read subject ≡ Ok request))
 subject_asked None mode read request is = absurd (cc)
 subject_asked (Some subject) mode read request is = let past = past_test (subject_reads mode (Some subject)) (no_reading subject mode) (read subject) request is in (past.0, (subject, past.1))
@@ -97,7 +97,7 @@ subject_asked (Some subject) mode read request is = let past = past_test (subjec
 pub given-reads : (policy : Policy) (words : List ℕ) (mode : Mode) (from to : List ℕ) (request : Asked) → asked policy words mode from to ≡ Ok request → has_reading policy request ≡ true
 unfolding asked
 given-reads policy words mode from to request is =
-    let found = subject_asked (subject_in policy words) mode (λ subject. or_fault BadRange (read_day from) >>= λ first. or_fault BadRange (read_day to) >>= λ last.
+    let found = subject_asked (subject_in policy words) mode (λ subject. ok_or (read_day from) BadRange >>= λ first. ok_or (read_day to) BadRange >>= λ last.
     unless_fault (not (nat_lt last first)) BadRange (Ok (record { words = words; mode = mode; from = first; to = last }))) request is in
     let same = days_asked words mode (read_day from) (read_day to) request found.1.1 in
     rw (same.0, same.1) found.0
@@ -134,9 +134,9 @@ not_read words limits commands e session s ready = (Rests (Holds limits commands
 cut-short : (text part rest : List ℕ) (why : Fault) (old mid new : Option (List ℕ)) (code : ℕ) → text ≡ part ++ rest → Appends old mid part → SaysStop (report.Warehouse why) mid new code
     → (told : Told) × TellsText text (Err why) told × Prints old new code (printed told)
 cut-short text part rest why old mid new code begins went (line, tells, prints) = (
-  Ok (behind part (printed line)),
+  Ok (answer_after part (printed line)),
   record { part = part; rest = rest; begins = begins; line = line; tells = tells; told_is = refl },
-  prints-behind old mid new code part (printed line) went prints,
+  prints-answer_after old mid new code part (printed line) went prints,
 )
 
 lines-out : (lines out : List (List ℕ)) (why : Fault) (old mid new : Option (List ℕ)) (code : ℕ) → AreOut out lines old mid → SaysStop (report.Warehouse why) mid new code

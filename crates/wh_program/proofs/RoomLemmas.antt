@@ -5,7 +5,7 @@ use Rattle.std.specs.declared.alloc.Global.{Global}
 use Rattle.std.specs.declared.vec.Vec.{Vec}
 use Rattle.wh_program.specs.Answer.{Printed}
 use Rattle.wh_program.specs.Room.{TellsIn}
-use Rattle.wh_program.specs.Standing.{Content, Nothing, Holds, Keeps, Standing}
+use Rattle.wh_program.specs.Standing.{DatabaseContent, Nothing, Holds, Keeps, Standing}
 use Rattle.wh_program.specs.Warehouse.{Told, printed, Opens}
 use Rattle.wh_history.specs.Accepted.{Accepted}
 use Rattle.wh_history.specs.Tables.{Limits}
@@ -22,7 +22,7 @@ printed_in most room told answer enough tells = ap printed (told_in most room to
 -- ---- a visit that needs room
 
 -- what opens what stands and needs room for it, where there is room
-pub opens_with : (room : Type 0) (does : Limits → List Accepted → Told → Standing → Type 0) (content : Content) (told : Told) (after : Standing)
+pub opens_with : (room : Type 0) (does : Limits → List Accepted → Told → Standing → Type 0) (content : DatabaseContent) (told : Told) (after : Standing)
     → Opens (λ limits commands told after. room → does limits commands told after) content told after → room → Opens does content told after
 opens_with room does Nothing told after opens has = opens
 opens_with room does (Holds limits commands) told after (inl did) has = inl (did has)
@@ -30,7 +30,7 @@ opens_with room does (Holds limits commands) told after (inr other) has = inr ot
 opens_with room does (Keeps stored) told after opens has = opens
 
 -- the same of what a visit leaves
-pub left_with : (room : Type 0) (does : Limits → List Accepted → Told → Standing → Type 0) (content : Content) (told : Told) (stands : Standing → Type 0)
+pub left_with : (room : Type 0) (does : Limits → List Accepted → Told → Standing → Type 0) (content : DatabaseContent) (told : Told) (stands : Standing → Type 0)
     → (after : Standing) × Opens (λ limits commands told after. room → does limits commands told after) content told after × stands after
     → (after : Standing) × (room → Opens does content told after) × stands after
 left_with room does content told stands (after, opens, stood) = (after, opens_with room does content told after opens, stood)

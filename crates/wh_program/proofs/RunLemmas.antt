@@ -7,13 +7,13 @@ use Rattle.std.proofs.Math.Seq.{take-append-add, take-append_seam}
 use Rattle.std.proofs.lemmas.List.{length-append}
 use Rattle.wh_program.specs.Answer.{Printed, done, status_code, write_line}
 use Rattle.wh_program.specs.Inputs.{Files, Refusals}
-use Rattle.wh_program.specs.Readings.{behind}
+use Rattle.wh_program.specs.Readings.{answer_after}
 use Rattle.wh_program.specs.Run.{Prints}
 use Rattle.wh_program.specs.Task.{Task, Trial, Init, Load, Migrate, Deliver, Plan, Report, Dump, Check, Status}
 use Rattle.wh_program.specs.Tasks.{Stores, Runs}
 use Rattle.wh_program.specs.Warehouse.{Told}
-use Rattle.wh_program.specs.declared.answer.Status.{Status as Ending}
-use Rattle.wh_program.specs.declared.answer.Status.TheVariants.{Done, Refused, Failed}
+use Rattle.wh_program.specs.declared.lines.answer.Status.{Status as Ending}
+use Rattle.wh_program.specs.declared.lines.answer.Status.TheVariants.{Done, Refused, Failed}
 
 -- no command ends as wrong words do
 pub is_no_usage : (s : Ending) → status_code s ≢ 4
@@ -22,9 +22,9 @@ is_no_usage Refused = λ e. absurd (omega arith)
 is_no_usage Failed = λ e. absurd (omega arith)
 
 -- what is printed after a part of it
-pub prints-behind : (old mid new : Option (List ℕ)) (code : ℕ) (part : List ℕ) (a : Printed) → Appends old mid part → Prints mid new code a → Prints old new code (behind part a)
-prints-behind old mid new code part a went (inl whole) = inl (record { status = whole.status; text = Appends-trans old mid new part a.text went whole.text })
-prints-behind old mid new code part a went (inr cut) =
+pub prints-answer_after : (old mid new : Option (List ℕ)) (code : ℕ) (part : List ℕ) (a : Printed) → Appends old mid part → Prints mid new code a → Prints old new code (answer_after part a)
+prints-answer_after old mid new code part a went (inl whole) = inl (record { status = whole.status; text = Appends-trans old mid new part a.text went whole.text })
+prints-answer_after old mid new code part a went (inr cut) =
     let line = take cut.told write_line in
     let same : part ++ (take cut.kept a.text ++ line) ≡ take (length part + cut.kept) (part ++ a.text) ++ line =
     sym (append_assoc part (take cut.kept a.text) line) ∙ ap (λ (t : List ℕ). t ++ line) (sym (take-append-add part a.text cut.kept)) in

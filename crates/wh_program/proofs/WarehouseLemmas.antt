@@ -15,7 +15,7 @@ use Rattle.wh_rows.specs.Schema.{no_schema, schema_in}
 use Rattle.wh_sql.specs.Present.{are_all_there, is_any_taken}
 use Rattle.wh_sql.proofs.Worked.{taken_in_a_warehouse, taken_in_none}
 use Rattle.wh_plan.specs.Edits.{Edits}
-use Rattle.wh_rows.specs.Sound.{making_of}
+use Rattle.wh_model.specs.Sound.{making_of}
 use Rattle.wh_admission.specs.Admission.{accepted_after, AreAdmitted}
 use Rattle.wh_engine.specs.Answered as engine
 use Rattle.wh_engine.specs.Answered.{IsReady, IsAnswered, IsForetold as EngineForetold, IsCounted as EngineCounted}
@@ -39,7 +39,7 @@ use Rattle.wh_engine.specs.declared.session.Session.{Session}
 use Rattle.wh_program.specs.Answer.{done, failed, no_file_line}
 use Rattle.wh_program.specs.Inputs.{Files, Refusals}
 use Rattle.wh_program.specs.Reply.{sent_answer, plan_answer, opening_answer, status_answer, making_answer, made_line}
-use Rattle.wh_program.specs.Standing.{Content, Nothing, Holds, Keeps, Standing, Unknown, Rests, LeftAt, IsAt, Stands}
+use Rattle.wh_program.specs.Standing.{DatabaseContent, Nothing, Holds, Keeps, Standing, Unknown, Rests, LeftAt, IsAt, Stands}
 use Rattle.wh_program.specs.Warehouse.{Told, printed, Opens, IsOpenedBy, IsUnread, IsReplied, IsForetold, IsCounted, Makes, AnswersWith, IsTried, IsNotConnected}
 use Rattle.wh_program.specs.declared.host.HostError.{HostError}
 use Rattle.wh_program.specs.declared.host.HostError.TheVariants.{NoFile}
@@ -67,7 +67,7 @@ unread stored told (opening.Store cause) s first tells bad =
 
 -- ---- a warehouse that is opened
 
-module _ (does : Limits → List Accepted → Told → Standing → Type 0) (content : Content) (told : Told) where
+module _ (does : Limits → List Accepted → Told → Standing → Type 0) (content : DatabaseContent) (told : Told) where
   -- and what is done then
   pub opened : (format : Format) (first : Session) (s0 s1 s2 : State)
       → ((limits : Limits) (commands : List Accepted) → AreAdmitted limits commands → engine.Rests limits commands s0 → IsReady limits commands first s1)
@@ -156,7 +156,7 @@ counted limits commands told (Err fault.Reopen) session s tells none = absurd no
 
 -- ---- init
 
-pub made_ok : (content : Content) (bytes : List ℕ) (told : Told) (policy : Policy) (limits : Limits) (session : Session) (s0 s1 : State)
+pub made_ok : (content : DatabaseContent) (bytes : List ℕ) (told : Told) (policy : Policy) (limits : Limits) (session : Session) (s0 s1 : State)
     → limits ≡ greatest_limits → policy_at bytes ≡ Ok policy → (IsAtRest None s0 → IsReady limits (making_of policy bytes ∷ []) session s1) → is_any_taken s0.now.schema ≡ false
     → told ≡ Ok (done made_line) → IsAt content s0 → (after : Standing) × Makes bytes content told after × Stands after s1
 made_ok Nothing bytes told policy limits session s0 s1 most reads makes free tells at =
@@ -193,9 +193,9 @@ unmade_nothing bytes told making.Memory s1 refused same left tells = (Rests Noth
 unmade_nothing bytes told (making.Store cause) s1 refused same left tells =
     unmade_store bytes told (making.Store cause) s1 (policy_at bytes) refl refused (λ policy after e is. inr (record { why = making.Store cause; leaves = (policy, e, is); tells = tells })) left
 
-pub unmade : (content : Content) (bytes : List ℕ) (told : Told) (why : InitFault) (limits : Limits) (s0 s1 : State)
+pub unmade : (content : DatabaseContent) (bytes : List ℕ) (told : Told) (why : InitFault) (limits : Limits) (s0 s1 : State)
     → limits ≡ greatest_limits → IsNotMade bytes (is_any_taken s0.now.schema) why → (NothingIsWritten why → IsAtRest None s0 → IsAtRest None s1) → (IsAtRest None s0 → LeavesMade limits bytes s1)
-    → (is_any_taken s0.now.schema ≡ true → (c : Content) → IsAt c s0 → IsAt c s1)
+    → (is_any_taken s0.now.schema ≡ true → (c : DatabaseContent) → IsAt c s0 → IsAt c s1)
     → printed told ≡ making_answer why → IsAt content s0 → (after : Standing) × Makes bytes content told after × Stands after s1
 unmade Nothing bytes told why limits s0 s1 most refused same left kept tells at =
     let free : is_any_taken s0.now.schema ≡ false = ap is_any_taken at.now.schema ∙ taken_in_none in
@@ -208,18 +208,18 @@ unmade (Keeps stored) bytes told why limits s0 s1 most refused same left kept te
     (Rests (Keeps stored), record { why = why; refused = subst (λ b. IsNotMade bytes b why) taken refused; same = refl; tells = tells }, kept taken (Keeps stored) at)
 
 -- no memory for the line
-pub not_begun : (content : Content) (bytes : List ℕ) (e : AllocError) (s : State) → IsAt content s → (after : Standing) × Makes bytes content (Err e) after × Stands after s
+pub not_begun : (content : DatabaseContent) (bytes : List ℕ) (e : AllocError) (s : State) → IsAt content s → (after : Standing) × Makes bytes content (Err e) after × Stands after s
 not_begun Nothing bytes e s at = (Rests Nothing, inr (record { why = making.Memory; leaves = (tt, refl); tells = refl }), at)
 not_begun (Keeps stored) bytes e s at = (Rests (Keeps stored), record { why = making.Memory; refused = tt; same = refl; tells = refl }, at)
 not_begun (Holds l cs) bytes e s at = (Rests (Holds l cs), record { why = making.Memory; refused = tt; same = refl; tells = refl }, at)
 
 -- ---- a visit
 
-module _ (refuses : Refusals) (stands : Standing → Type 0) (content : Content) (file : List ℕ) (visit : Result Told HostError) (told : Told)
+module _ (refuses : Refusals) (stands : Standing → Type 0) (content : DatabaseContent) (file : List ℕ) (visit : Result Told HostError) (told : Told)
     (same : OnErr visit (stands (Rests content))) (why : IfErr visit (λ e. e ≡ NoFile → refuses file)) (is : IfOk visit (λ output. told ≡ output))
     (other : IfErr visit (λ e. IfOk told (λ a. (e ≡ NoFile) × (a ≡ failed (no_file_line file))))) where
   -- with the bytes of an input
-  pub answered_with : (holds : Files) (does : List ℕ → Content → Told → Standing → Type 0) (path bytes : List ℕ) → holds path (Some bytes)
+  pub answered_with : (holds : Files) (does : List ℕ → DatabaseContent → Told → Standing → Type 0) (path bytes : List ℕ) → holds path (Some bytes)
       → IfOk visit (λ output. (after : Standing) × does bytes content output after × stands after)
       → AnswersWith holds refuses stands does content file path told
   answered_with holds does path bytes held did = elim visit as

@@ -10,8 +10,8 @@ use Rattle.clap.proofs.OnLiterals.{clap_on_literals}
 use Rattle.wh_program.specs.CommandLine.{CommandLine, program_app, named}
 use Rattle.wh_program.specs.Request.{asked_in, IsDeclined, IsReadAs}
 use Rattle.wh_program.specs.Task.{Task, task_of, no_line, when_none, faults_in, asked_by}
-use Rattle.wh_program.specs.declared.command.Request.{Request}
-use Rattle.wh_program.specs.declared.command.Request.TheVariants as request
+use Rattle.wh_program.specs.declared.words.command.Request.{Request}
+use Rattle.wh_program.specs.declared.words.command.Request.TheVariants as request
 
 -- none of the arguments has a rule on another
 pub free : is_simple_and_free program_app ≡ true

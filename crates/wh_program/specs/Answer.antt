@@ -16,8 +16,8 @@ use Rattle.wh_history.specs.Tables.{dimension_table, trial_commands}
 use Rattle.wh_history.specs.declared.rows.DimRow.{DimRow}
 use Rattle.wh_report.specs.Dump.{dimension_text}
 use Rattle.wh_program.specs.Inputs.{Files, up_to, batch_limit, policy_limit}
-use Rattle.wh_program.specs.declared.answer.Status.{Status}
-use Rattle.wh_program.specs.declared.answer.Status.TheVariants.{Done, Refused, Failed}
+use Rattle.wh_program.specs.declared.lines.answer.Status.{Status}
+use Rattle.wh_program.specs.declared.lines.answer.Status.TheVariants.{Done, Refused, Failed}
 
 pub record Printed : Type 0 where
   pub status : ℕ

@@ -3,8 +3,8 @@ use Rattle.std.specs.Prelude.{◌≡◌, ◌⊎◌, ⊤, ℕ, suc, ◌<◌, List
 use Rattle.std.specs.Borrow.{Bor}
 use Rattle.std.specs.Fmt.{decimal}
 use Rattle.std.specs.List.{AllZip, list_any, zip}
-use Rattle.wh_day.specs.declared.error.ReadError.{ReadError}
-use Rattle.wh_day.specs.declared.error.ReadError.TheVariants as errors
+use Rattle.wh_day.specs.declared.error.ParseError.{ParseError}
+use Rattle.wh_day.specs.declared.error.ParseError.TheVariants as errors
 use Rattle.wh_batch.specs.Manifest.{manifest_of}
 use Rattle.wh_batch.specs.declared.manifest.BadManifest.{BadManifest}
 use Rattle.wh_batch.specs.declared.manifest.ManifestEntry.{ManifestEntry}
@@ -20,10 +20,10 @@ use Rattle.wh_engine.specs.declared.fault.Fault.TheVariants as fault
 use Rattle.wh_program.specs.Answer.{Printed, refused, failed, line, no_file_line, status_code}
 use Rattle.wh_program.specs.Inputs.{Files, Refusals}
 use Rattle.wh_program.specs.Reply.{reply_answer, refused_line, fault_answer}
-use Rattle.wh_program.specs.Standing.{Content, Holds, Standing, Rests, LeftAt}
+use Rattle.wh_program.specs.Standing.{DatabaseContent, Holds, Standing, Rests, LeftAt}
 use Rattle.wh_program.specs.Warehouse.{Told, printed, Opens, IsTried, IsCommandOf, IsNotConnected}
-use Rattle.wh_program.specs.declared.answer.Status.{Status}
-use Rattle.wh_program.specs.declared.answer.Status.TheVariants.{Done, Refused, Failed}
+use Rattle.wh_program.specs.declared.lines.answer.Status.{Status}
+use Rattle.wh_program.specs.declared.lines.answer.Status.TheVariants.{Done, Refused, Failed}
 
 -- ---- the text
 
@@ -88,34 +88,34 @@ IsFirstMissing holds [] path = ⊥
 IsFirstMissing holds (e ∷ entries) path = (holds e.path None × (path ≡ e.path)) ⊎ ((bytes : List ℕ) × holds e.path (Some bytes) × IsFirstMissing holds entries path)
 
 -- why the commands of entries weren't had
-abbrev pub LacksInput : Files → List ManifestEntry → ReadError (Bor (List ℕ)) → Type 0
+abbrev pub LacksInput : Files → List ManifestEntry → ParseError (Bor (List ℕ)) → Type 0
 LacksInput holds entries errors.Memory = ⊤
 LacksInput holds entries (errors.Fault path) = IsFirstMissing holds entries path.now
 
 -- ---- the word
 
 -- nothing was sent, and the answer says why, or memory ran out before; nothing changed
-pub record IsNotSent (stands : Standing → Type 0) (content : Content) (told : Told) (Tells : Printed → Type 0) : Type 0 where
+pub record IsNotSent (stands : Standing → Type 0) (content : DatabaseContent) (told : Told) (Tells : Printed → Type 0) : Type 0 where
   pub same : stands (Rests content)
   pub tells : IfOk told Tells
 
 -- these commands were sent to the warehouse in a file, or the host refuses its name
-abbrev pub AnswersSent : Refusals → (Standing → Type 0) → Content → (file : List ℕ) → List Command → Told → Type 0
+abbrev pub AnswersSent : Refusals → (Standing → Type 0) → DatabaseContent → (file : List ℕ) → List Command → Told → Type 0
 AnswersSent refuses stands content file sent told = IsTried stands (Opens (IsDelivered sent) content) told ⊎ IsNotConnected refuses stands content file told
 
 -- all commands of these entries were, or an input isn't there
-abbrev pub AnswersListed : Files → Refusals → (Standing → Type 0) → Content → (file : List ℕ) → List ManifestEntry → Told → Type 0
+abbrev pub AnswersListed : Files → Refusals → (Standing → Type 0) → DatabaseContent → (file : List ℕ) → List ManifestEntry → Told → Type 0
 AnswersListed holds refuses stands content file entries told =
     ((sent : List Command) × AreCommandsOf holds entries sent × AnswersSent refuses stands content file sent told)
     ⊎ IsNotSent stands content told (λ a. (path : List ℕ) × IsFirstMissing holds entries path × (a ≡ failed (no_file_line path)))
 
 -- those of a manifest that was read, or it is a bad one
-abbrev pub AnswersRead : Files → Refusals → (Standing → Type 0) → Content → (file : List ℕ) → Result (List ManifestEntry) BadManifest → Told → Type 0
+abbrev pub AnswersRead : Files → Refusals → (Standing → Type 0) → DatabaseContent → (file : List ℕ) → Result (List ManifestEntry) BadManifest → Told → Type 0
 AnswersRead holds refuses stands content file (Ok entries) told = AnswersListed holds refuses stands content file entries told
 AnswersRead holds refuses stands content file (Err bad) told = IsNotSent stands content told (λ a. a ≡ refused (manifest_line bad))
 
 -- A delivery of the commands that the manifest in a file lists. It is read first, then its inputs in order, and then the warehouse is opened.
-abbrev pub AnswersDelivery : Files → Refusals → (Standing → Type 0) → Content → (file manifest : List ℕ) → Told → Type 0
+abbrev pub AnswersDelivery : Files → Refusals → (Standing → Type 0) → DatabaseContent → (file manifest : List ℕ) → Told → Type 0
 AnswersDelivery holds refuses stands content file manifest told =
     ((bytes : List ℕ) × holds manifest (Some bytes) × AnswersRead holds refuses stands content file (manifest_of bytes) told)
     ⊎ IsNotSent stands content told (λ a. holds manifest None × (a ≡ failed (no_file_line manifest)))

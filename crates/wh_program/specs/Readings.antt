@@ -6,7 +6,7 @@ use Rattle.wh_history.specs.Accepted.{Accepted}
 use Rattle.wh_history.specs.Tables.{Limits}
 use Rattle.wh_rows.specs.Tables.{Tables}
 use Rattle.wh_rows.specs.declared.table.Table.{Table}
-use Rattle.wh_rows.specs.Defined.{AreOf}
+use Rattle.wh_model.specs.Defined.{AreOf}
 use Rattle.wh_admission.specs.Admission.{current_policy}
 use Rattle.wh_engine.specs.declared.fault.Fault.{Fault}
 use Rattle.wh_engine.specs.declared.fault.Fault.TheVariants as fault
@@ -21,7 +21,7 @@ use Rattle.wh_program.specs.Answer.{Printed, done, refused, write_line}
 use Rattle.wh_program.specs.Inputs.{Refusals}
 use Rattle.wh_program.specs.Reply.{fault_answer, request_line, report_fault_answer}
 use Rattle.wh_program.specs.Run.{Prints}
-use Rattle.wh_program.specs.Standing.{Content, Holds, Standing, Rests, LeftAt}
+use Rattle.wh_program.specs.Standing.{DatabaseContent, Holds, Standing, Rests, LeftAt}
 use Rattle.wh_program.specs.Task.{ReportWords}
 use Rattle.wh_program.specs.Warehouse.{Told, printed, Opens, IsTried, IsNotConnected}
 
@@ -53,14 +53,14 @@ pub record IsReported (words : ReportWords) (limits : Limits) (commands : List A
   pub leaves : LeavesRead limits commands read after
   pub tells : IfOk told (λ a. a ≡ read_answer read (asked_answer commands (asked_under (current_policy commands) words)))
 
-abbrev pub AnswersReport : Refusals → (Standing → Type 0) → Content → (file : List ℕ) → ReportWords → Told → Type 0
+abbrev pub AnswersReport : Refusals → (Standing → Type 0) → DatabaseContent → (file : List ℕ) → ReportWords → Told → Type 0
 AnswersReport refuses stands content file words told = IsTried stands (Opens (IsReported words) content) told ⊎ IsNotConnected refuses stands content file told
 
 -- ---- dump
 
 -- an answer after what was printed before it
-abbrev pub behind : List ℕ → Printed → Printed
-behind part answer = record { status = answer.status; text = part ++ answer.text }
+abbrev pub answer_after : List ℕ → Printed → Printed
+answer_after part answer = record { status = answer.status; text = part ++ answer.text }
 
 -- a beginning of the text, and then the line of the fault, or of the lack of memory for that
 pub record IsCutShort (text : List ℕ) (fault : Fault) (told : Told) : Type 0 where
@@ -69,7 +69,7 @@ pub record IsCutShort (text : List ℕ) (fault : Fault) (told : Told) : Type 0 w
   pub begins : text ≡ part ++ rest
   pub line : Told
   pub tells : IfOk line (λ a. a ≡ fault_answer fault)
-  pub told_is : told ≡ Ok (behind part (printed line))
+  pub told_is : told ≡ Ok (answer_after part (printed line))
 
 -- the whole text, where the table was read
 abbrev pub TellsText : List ℕ → Result (Unit {0}) Fault → Told → Type 0
@@ -84,7 +84,7 @@ pub record IsDumped (table : Table) (limits : Limits) (commands : List Accepted)
   pub leaves : LeavesRead limits commands read after
   pub tells : TellsText (text_of_table table tables) read told
 
-abbrev pub AnswersDump : Refusals → (Standing → Type 0) → Content → (file : List ℕ) → Table → Told → Type 0
+abbrev pub AnswersDump : Refusals → (Standing → Type 0) → DatabaseContent → (file : List ℕ) → Table → Told → Type 0
 AnswersDump refuses stands content file table told = IsTried stands (Opens (IsDumped table) content) told ⊎ IsNotConnected refuses stands content file told
 
 -- what ended a dump is said after what went out of it: that the writer failed, as far as it could still be written, or the line of the fault

@@ -7,14 +7,14 @@ use Rattle.wh_program.specs.CommandLine.{CommandLine, Sent}
 use Rattle.wh_program.specs.CommandLine as line
 use Rattle.wh_program.specs.Task.{Task, ReportWords, task_of}
 use Rattle.wh_program.specs.Task as task
-use Rattle.wh_program.specs.declared.command.AskedReport.{AskedReport}
-use Rattle.wh_program.specs.declared.command.Operands.{Operands}
-use Rattle.wh_program.specs.declared.command.Operands.TheVariants as operands
-use Rattle.wh_program.specs.declared.command.Request.{Request}
-use Rattle.wh_program.specs.declared.command.Request.TheVariants as request
-use Rattle.wh_program.specs.declared.command.SentOperands.{SentOperands}
-use Rattle.wh_program.specs.declared.command.Task.{Task as TaskFound}
-use Rattle.wh_program.specs.declared.command.Task.TheVariants as found
+use Rattle.wh_program.specs.declared.words.command.AskedReport.{AskedReport}
+use Rattle.wh_program.specs.declared.words.command.Operands.{Operands}
+use Rattle.wh_program.specs.declared.words.command.Operands.TheVariants as operands
+use Rattle.wh_program.specs.declared.words.command.Request.{Request}
+use Rattle.wh_program.specs.declared.words.command.Request.TheVariants as request
+use Rattle.wh_program.specs.declared.words.command.SentOperands.{SentOperands}
+use Rattle.wh_program.specs.declared.words.command.Task.{Task as TaskFound}
+use Rattle.wh_program.specs.declared.words.command.Task.TheVariants as found
 
 -- what an option points to
 abbrev pub text_of : Option (Bor (List ℕ)) → Option (List ℕ)

@@ -16,13 +16,13 @@ use Rattle.wh_engine.specs.Answered as engine
 
 -- What a database holds: no object at all; or the tables of a warehouse that was made with these limits and has accepted these commands; or the ten tables of the
 -- first format, whose rows anybody may have written.
-pub data Content : Type 0 where
-  Nothing : Content
-  Holds : Limits → List Accepted → Content
-  Keeps : Stored → Content
+pub data DatabaseContent : Type 0 where
+  Nothing : DatabaseContent
+  Holds : Limits → List Accepted → DatabaseContent
+  Keeps : Stored → DatabaseContent
 
 -- what accepted commands left, or nothing
-abbrev pub IsOfCommands : Content → Type 0
+abbrev pub IsOfCommands : DatabaseContent → Type 0
 IsOfCommands Nothing = ⊤
 IsOfCommands (Holds limits commands) = ⊤
 IsOfCommands (Keeps stored) = ⊥
@@ -30,23 +30,23 @@ IsOfCommands (Keeps stored) = ⊥
 -- It is at rest with a content; or the store refused a call, and a crash leaves the one or the other; or nothing is said.
 pub data Standing : Type 0 where
   Unknown : Standing
-  Rests : Content → Standing
-  LeftAt : Content → Content → Standing
+  Rests : DatabaseContent → Standing
+  LeftAt : DatabaseContent → DatabaseContent → Standing
 
 -- the connection is at rest with the content
-abbrev pub IsAt : Content → State → Type 0
+abbrev pub IsAt : DatabaseContent → State → Type 0
 IsAt Nothing s = IsAtRest None s
 IsAt (Holds limits commands) s = AreAdmitted limits commands × engine.Rests limits commands s
 IsAt (Keeps stored) s = (stored.format ≡ One) × RestsOn stored s
 
 -- the trees are those of a database with the content
-abbrev pub HasTrees : Content → Trees → Type 0
+abbrev pub HasTrees : DatabaseContent → Trees → Type 0
 HasTrees Nothing trees = AreTrees None trees
 HasTrees (Holds limits commands) trees = engine.AreTreesOf limits commands trees
 HasTrees (Keeps stored) trees = IsStored stored (record { schema = schema_in stored.format; trees = trees })
 
 -- whatever a crash leaves has the one content or the other
-pub record LeavesEither (first second : Content) (s : State) : Type 0 where
+pub record LeavesEither (first second : DatabaseContent) (s : State) : Type 0 where
   pub each : (trees : Trees) → s.may_leave trees → HasTrees first trees ⊎ HasTrees second trees
 
 -- what stands, of a connection

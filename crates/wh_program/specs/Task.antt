@@ -1,5 +1,5 @@
 -- What the words of a command are to do.
-use Rattle.std.specs.Prelude.{ℕ, List, [], ◌∷◌, Option, Some, None, option_map, Result, Ok, Err}
+use Rattle.std.specs.Prelude.{ℕ, List, [], ◌∷◌, Option, Some, None, option_map, Result, Ok, Err, ok_or}
 use Rattle.wh_policy.specs.declared.attribute.Dim.{Dim}
 use Rattle.wh_policy.specs.Words.{dim_of_word}
 use Rattle.wh_batch.specs.declared.kind.Kind.{Kind}
@@ -35,22 +35,17 @@ pub data Task : Type 0 where
   Check : (file : List ℕ) → Task
   Status : (file : List ℕ) → Task
 
--- what is there, or else the line that says what is wrong
-abbrev pub or_line : {A : Type 0} → List ℕ → Option A → Result A (List ℕ)
-or_line line (Some x) = Ok x
-or_line line None = Err line
-
 abbrev pub trial_asked : (dimension path : List ℕ) → (policy : Option (List ℕ)) → Result Task (List ℕ)
-trial_asked dimension path policy = or_line no_dimension_line (option_map (λ dim. Trial dim path policy) (dim_of_word dimension))
+trial_asked dimension path policy = ok_or (option_map (λ dim. Trial dim path policy) (dim_of_word dimension)) no_dimension_line
 
 abbrev pub load_asked : (file kind id path : List ℕ) → Result Task (List ℕ)
-load_asked file kind id path = or_line no_kind_line (option_map (λ k. Load file k id path) (kind_of_word kind))
+load_asked file kind id path = ok_or (option_map (λ k. Load file k id path) (kind_of_word kind)) no_kind_line
 
 abbrev pub plan_asked : (file kind id path : List ℕ) → Result Task (List ℕ)
-plan_asked file kind id path = or_line no_command_kind_line (option_map (λ k. Plan file k id path) (command_kind_of kind))
+plan_asked file kind id path = ok_or (option_map (λ k. Plan file k id path) (command_kind_of kind)) no_command_kind_line
 
 abbrev pub report_asked : (file attribute mode from to : List ℕ) → Result Task (List ℕ)
-report_asked file attribute mode from to = or_line no_mode_line (option_map (λ m. Report file (record { attribute = attribute; mode = m; from = from; to = to })) (mode_of_word mode))
+report_asked file attribute mode from to = ok_or (option_map (λ m. Report file (record { attribute = attribute; mode = m; from = from; to = to })) (mode_of_word mode)) no_mode_line
 
 -- a table that the first format has
 abbrev pub of_first : Table → Option Table
@@ -63,7 +58,7 @@ abbrev pub table_asked : List ℕ → Option Table
 table_asked word = option_and_then of_first (table_named word)
 
 abbrev pub dump_asked : (file table : List ℕ) → Result Task (List ℕ)
-dump_asked file table = or_line no_table_line (option_map (λ t. Dump file t) (table_asked table))
+dump_asked file table = ok_or (option_map (λ t. Dump file t) (table_asked table)) no_table_line
 
 -- what the words of a command ask for, or the line that says which of them is none of those that are listed
 abbrev pub task_of : CommandLine → Result Task (List ℕ)

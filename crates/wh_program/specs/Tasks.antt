@@ -6,7 +6,7 @@ use Rattle.wh_program.specs.Check.{AnswersCheck}
 use Rattle.wh_program.specs.Delivery.{AnswersDelivery}
 use Rattle.wh_program.specs.Inputs.{Files, Refusals, up_to, batch_limit, policy_limit, input_limit}
 use Rattle.wh_program.specs.Readings.{AnswersReport, AnswersDump}
-use Rattle.wh_program.specs.Standing.{Content, IsOfCommands, Standing, Rests}
+use Rattle.wh_program.specs.Standing.{DatabaseContent, IsOfCommands, Standing, Rests}
 use Rattle.wh_program.specs.Task.{Task, Trial, Init, Load, Migrate, Deliver, Plan, Report, Dump, Check, Status}
 use Rattle.wh_program.specs.Warehouse.{Told, Makes, Sends, Plans, AnswersWith, AnswersStatus}
 
@@ -15,12 +15,12 @@ abbrev pub Stores : Type 1
 Stores = List ℕ → Standing → Type 0
 
 -- over what stands under a file: this is answered and printed
-abbrev pub RunsOver : Stores → (file : List ℕ) → (Content → Told → Type 0) → (Told → Type 0) → Type 0
-RunsOver before file answers prints = (content : Content) → before file (Rests content) → (told : Told) × answers content told × prints told
+abbrev pub RunsOver : Stores → (file : List ℕ) → (DatabaseContent → Told → Type 0) → (Told → Type 0) → Type 0
+RunsOver before file answers prints = (content : DatabaseContent) → before file (Rests content) → (told : Told) × answers content told × prints told
 
 -- the same over what accepted commands left there
-abbrev pub RunsOverCommands : Stores → (file : List ℕ) → (Content → Told → Type 0) → (Told → Type 0) → Type 0
-RunsOverCommands before file answers prints = (content : Content) → IsOfCommands content → before file (Rests content) → (told : Told) × answers content told × prints told
+abbrev pub RunsOverCommands : Stores → (file : List ℕ) → (DatabaseContent → Told → Type 0) → (Told → Type 0) → Type 0
+RunsOverCommands before file answers prints = (content : DatabaseContent) → IsOfCommands content → before file (Rests content) → (told : Told) × answers content told × prints told
 
 -- What is answered and printed, by the files that a host holds, each as far as it is read, by the names that it refuses, and by what it stores before and after.
 abbrev pub Runs : Files → Refusals → (before after : Stores) → (prints : Told → Type 0) → Task → Type 0

@@ -8,7 +8,7 @@ use Rattle.wh_history.specs.Tables.{Limits}
 use Rattle.wh_rows.specs.Limits.{greatest_limits}
 use Rattle.wh_rows.specs.Raw.{Stored}
 use Rattle.wh_plan.specs.Edits.{Edits, AreEdits}
-use Rattle.wh_rows.specs.Sound.{making_of}
+use Rattle.wh_model.specs.Sound.{making_of}
 use Rattle.wh_admission.specs.Admission.{answer, accepted_after}
 use Rattle.wh_engine.specs.Answered.{counts_of}
 use Rattle.wh_engine.specs.Opened.{IsNotMade, SessionIs, IsUnopened as UnopenedBy}
@@ -31,7 +31,7 @@ use Rattle.wh_program.specs.Answer.{Printed, done, failed, no_file_line}
 use Rattle.wh_program.specs.Inputs.{Files, Refusals, up_to, input_limit}
 use Rattle.wh_program.specs.Reply.{sent_answer, plan_answer, opening_answer, status_answer, making_answer, made_line}
 use Rattle.wh_program.specs.Run.{out_of_memory}
-use Rattle.wh_program.specs.Standing.{Content, Nothing, Holds, Keeps, Standing, Unknown, Rests, LeftAt}
+use Rattle.wh_program.specs.Standing.{DatabaseContent, Nothing, Holds, Keeps, Standing, Unknown, Rests, LeftAt}
 
 -- an answer, where there is memory for one
 abbrev pub Told : Type 0
@@ -75,7 +75,7 @@ pub record IsOpenedBy (stored : Stored) : Type 0 where
 
 -- What opens what stands and does this to a warehouse: where there is none, that is the answer, and nothing changed. Over rows that anybody wrote it says whether they
 -- are opened, and here nothing of what is done then.
-abbrev pub Opens : (Limits → List Accepted → Told → Standing → Type 0) → Content → Told → Standing → Type 0
+abbrev pub Opens : (Limits → List Accepted → Told → Standing → Type 0) → DatabaseContent → Told → Standing → Type 0
 Opens does Nothing told after = (after ≡ Rests Nothing) × IfOk told (λ a. a ≡ opening_answer opening.NotAWarehouse)
 Opens does (Holds limits commands) told after = does limits commands told after ⊎ IsUnopened limits commands told after
 Opens does (Keeps stored) told after = (IsOpenedBy stored × (after ≡ Unknown)) ⊎ IsUnread stored told after
@@ -148,14 +148,14 @@ pub record IsUnmade (bytes : List ℕ) (told : Told) (after : Standing) : Type 0
   pub tells : printed told ≡ making_answer why
 
 -- the tables of a warehouse are there, so none is made, and nothing changed
-pub record IsNotEmpty (bytes : List ℕ) (content : Content) (told : Told) (after : Standing) : Type 0 where
+pub record IsNotEmpty (bytes : List ℕ) (content : DatabaseContent) (told : Told) (after : Standing) : Type 0 where
   pub why : InitFault
   pub refused : IsNotMade bytes true why
   pub same : after ≡ Rests content
   pub tells : printed told ≡ making_answer why
 
 -- a making in what stands
-abbrev pub Makes : List ℕ → Content → Told → Standing → Type 0
+abbrev pub Makes : List ℕ → DatabaseContent → Told → Standing → Type 0
 Makes bytes Nothing told after = IsMade bytes told after ⊎ IsUnmade bytes told after
 Makes bytes content told after = IsNotEmpty bytes content told after
 
@@ -183,26 +183,26 @@ abbrev pub IsRefused : Refusals → (file : List ℕ) → Printed → Type 0
 IsRefused refuses file answer = refuses file × (answer ≡ failed (no_file_line file))
 
 -- its input isn't there, or the host refuses the warehouse's name, or memory ran out before; nothing changed
-pub record IsNotTried (holds : Files) (refuses : Refusals) (stands : Standing → Type 0) (content : Content) (file path : List ℕ) (told : Told) : Type 0 where
+pub record IsNotTried (holds : Files) (refuses : Refusals) (stands : Standing → Type 0) (content : DatabaseContent) (file path : List ℕ) (told : Told) : Type 0 where
   pub same : stands (Rests content)
   pub tells : IfOk told (λ a. (holds path None × (a ≡ failed (no_file_line path))) ⊎ IsRefused refuses file a)
 
 -- a word with no input: the host refuses the warehouse's name, or memory ran out before; nothing changed
-pub record IsNotConnected (refuses : Refusals) (stands : Standing → Type 0) (content : Content) (file : List ℕ) (told : Told) : Type 0 where
+pub record IsNotConnected (refuses : Refusals) (stands : Standing → Type 0) (content : DatabaseContent) (file : List ℕ) (told : Told) : Type 0 where
   pub same : stands (Rests content)
   pub tells : IfOk told (IsRefused refuses file)
 
 -- what a word with an input answers and leaves
-abbrev pub AnswersWith : Files → Refusals → (Standing → Type 0) → (List ℕ → Content → Told → Standing → Type 0) → Content → (file path : List ℕ) → Told → Type 0
+abbrev pub AnswersWith : Files → Refusals → (Standing → Type 0) → (List ℕ → DatabaseContent → Told → Standing → Type 0) → DatabaseContent → (file path : List ℕ) → Told → Type 0
 AnswersWith holds refuses stands does content file path told = IsTriedWith holds stands (λ bytes. does bytes content) path told ⊎ IsNotTried holds refuses stands content file path told
 
 -- a load of the batch of a file, or a migration to its policy
-abbrev pub Sends : CommandKind → (id bytes : List ℕ) → Content → Told → Standing → Type 0
+abbrev pub Sends : CommandKind → (id bytes : List ℕ) → DatabaseContent → Told → Standing → Type 0
 Sends kind id bytes = Opens (IsReplied (record { id = id; kind = kind; bytes = bytes }))
 
 -- a plan of one
-abbrev pub Plans : CommandKind → (id bytes : List ℕ) → Content → Told → Standing → Type 0
+abbrev pub Plans : CommandKind → (id bytes : List ℕ) → DatabaseContent → Told → Standing → Type 0
 Plans kind id bytes = Opens (IsForetold (record { id = id; kind = kind; bytes = bytes }))
 
-abbrev pub AnswersStatus : Refusals → (Standing → Type 0) → Content → (file : List ℕ) → Told → Type 0
+abbrev pub AnswersStatus : Refusals → (Standing → Type 0) → DatabaseContent → (file : List ℕ) → Told → Type 0
 AnswersStatus refuses stands content file told = IsTried stands (Opens IsCounted content) told ⊎ IsNotConnected refuses stands content file told

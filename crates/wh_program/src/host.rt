@@ -4,7 +4,7 @@ ghost use Rattle.std.specs.Prelude.{◌≡◌, ◌≢◌, ℕ, suc, List, take, 
 ghost use Rattle.sqlite.specs.Held.{state};
 ghost use Rattle.sqlite.specs.State.{HasCleanDisk};
 ghost use Rattle.wh_program.specs.Inputs.{up_to};
-ghost use Rattle.wh_program.specs.Standing.{Content, Standing, Rests, Stands};
+ghost use Rattle.wh_program.specs.Standing.{DatabaseContent, Standing, Rests, Stands};
 ghost use Rattle.wh_program.specs.declared.host.HostError.TheVariants.{NoFile};
 
 use sqlite::{Alter, Connection};
@@ -28,7 +28,7 @@ pub trait Visitor: Drop {
     type Output;
 
     /// Over what the connection holds at rest, what is answered, what the writer holds before and after, and what then stands.
-    ghost promises: { Self → Content → Self.Output → Option (List ℕ) → Option (List ℕ) → Standing → Type 0 };
+    ghost promises: { Self → DatabaseContent → Self.Output → Option (List ℕ) → Option (List ℕ) → Standing → Type 0 };
 
     /// Works on the connection, and hands it back.
     fn visit<T: Alter + Drop, W: Write>(
@@ -37,7 +37,7 @@ pub trait Visitor: Drop {
         connection: Connection<T>,
         out: &mut W,
     ) -> (Self::Output, Connection<T>)
-        ensures { HasCleanDisk (state T.Store result.1) → (content : Content) → Stands (Rests content) (state T.Store connection)
+        ensures { HasCleanDisk (state T.Store result.1) → (content : DatabaseContent) → Stands (Rests content) (state T.Store connection)
             → (after : Standing) × promises self content result.0 (W.contents out.old) (W.contents out.new) after × Stands after (state T.Store result.1) };
 }
 
@@ -66,7 +66,7 @@ pub trait Host {
         visitor: V,
         out: &mut W,
     ) -> Result<V::Output, HostError>
-        ensures visited { (content : Content) → stores self.old name.now (Rests content)
+        ensures visited { (content : DatabaseContent) → stores self.old name.now (Rests content)
             → IfOk result (λ output. (after : Standing) × V.promises visitor content output (W.contents out.old) (W.contents out.new) after × stores self.new name.now after) }
         ensures refused { IfErr result (λ e. e ≡ NoFile → refuses self.old name.now) }
         ensures not_printed { OnErr result (W.contents out.new ≡ W.contents out.old) }
@@ -82,7 +82,7 @@ pub trait Host {
         visitor: V,
         out: &mut W,
     ) -> Result<V::Output, HostError>
-        ensures visited { (content : Content) → stores self.old name.now (Rests content)
+        ensures visited { (content : DatabaseContent) → stores self.old name.now (Rests content)
             → IfOk result (λ output. (after : Standing) × V.promises visitor content output (W.contents out.old) (W.contents out.new) after × stores self.new name.now after) }
         ensures refused { IfErr result (λ e. e ≡ NoFile → refuses self.old name.now) }
         ensures not_printed { OnErr result (W.contents out.new ≡ W.contents out.old) }

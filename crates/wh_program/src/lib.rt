@@ -1,11 +1,6 @@
 //! The words of the program, over any files: what each asks for, and what a run prints and leaves.
 #![tactic(auto)]
 
-mod answer;
-mod command;
-mod delivery;
-mod delivery_text;
-mod dump;
 mod host;
 pub mod laws;
 mod limits;
@@ -13,17 +8,13 @@ mod lines;
 mod memory;
 mod named;
 mod output;
-mod plan_text;
 mod program;
-mod report;
-mod trial;
-mod verdict;
-mod warehouse;
+mod visits;
 mod words;
 
-pub use answer::Answer;
-pub use delivery_text::delivery_answer;
 pub use host::{Host, HostError, Visitor, beginning_of};
+pub use lines::answer::Answer;
+pub use lines::delivery_text::delivery_answer;
 pub use lines::{
     made, making_answer, opening_answer, plan_answer, room_for_line, room_for_receipt, sent_answer,
     status_answer,

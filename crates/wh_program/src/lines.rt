@@ -1,5 +1,9 @@
 //! The lines that a run can answer.
 
+pub(crate) mod answer;
+pub(crate) mod delivery_text;
+pub(crate) mod plan_text;
+
 ghost use Rattle.std.specs.Prelude.{◌≡◌, ◌+◌, ◌≤◌, ◌++◌, IfOk, OnOk, codes, length, string_bytes, vec_capacity};
 ghost use Rattle.std.specs.Fmt.{decimal};
 ghost use Rattle.wh_program.specs.Answer.{status_code, done, refused, failed, line, no_file_line, batch_line, batch_fault_name, policy_line, policy_fault_name};
@@ -7,8 +11,8 @@ ghost use Rattle.wh_program.specs.Delivery.{manifest_line};
 ghost use Rattle.wh_program.specs.Room.{Fits, TellsIn, longest_line, longest_answer, longest_delivery};
 ghost use Rattle.wh_program.specs.Reply.{receipt_line, reply_answer, limit_name, full_line, sale_there_line, refused_line, damaged_line, cause_name, store_line, fault_answer, sent_answer, plan_answer, wrong_line, verdict_answer, made_line, making_answer, opening_answer, members_line, totals_text, counts_text, status_answer};
 
-use crate::answer::{Answer, Status};
-use crate::plan_text::{plan_text, push_number};
+use crate::lines::answer::{Answer, Status};
+use crate::lines::plan_text::{plan_text, push_number};
 use itoa::Buffer;
 use std::alloc::{AllocError, Global};
 use wh_batch::{BadManifest, BatchFault, FaultKind};

@@ -4,7 +4,7 @@ ghost use Rattle.std.specs.Prelude.{◌≡◌, ◌≢◌, ℕ, List, Option, Som
 ghost use Rattle.wh_program.specs.declared.host.HostError.TheVariants.{Memory};
 ghost use Rattle.wh_program.specs.Memory.{file_named, kept_named};
 ghost use Rattle.wh_program.specs.Named.{named};
-ghost use Rattle.wh_program.specs.Standing.{Content, IsAt, IsKept, Nothing, Rests, Standing, Stands};
+ghost use Rattle.wh_program.specs.Standing.{DatabaseContent, IsAt, IsKept, Nothing, Rests, Standing, Stands};
 ghost use Rattle.sqlite.specs.Held.{state};
 ghost use Rattle.sqlite.specs.Steps.{over_memory};
 
@@ -123,7 +123,7 @@ fn taken_or_new(
     alloc: Global,
     name: &str,
 ) -> Result<Connection<MemStore>, AllocError>
-    ensures lent { IfOk result (λ connection. (content : Content) → IsKept (Rests content) (kept_named kept.old name.now) → IsAt content (state over_memory connection)) }
+    ensures lent { IfOk result (λ connection. (content : DatabaseContent) → IsKept (Rests content) (kept_named kept.old name.now) → IsAt content (state over_memory connection)) }
     ensures placed { named kept.new name.now ≡ option_map (λ _. None) (named kept.old name.now) }
     ensures others { (other : List ℕ) → other ≢ name.now → kept_named kept.new other ≡ kept_named kept.old other }
     ensures not_lent { OnErr result ((any : List ℕ) → kept_named kept.new any ≡ kept_named kept.old any) }
@@ -143,7 +143,7 @@ fn lent(
     alloc: Global,
     name: &str,
 ) -> Result<Connection<MemStore>, AllocError>
-    ensures lent { IfOk result (λ connection. (content : Content) → IsKept (Rests content) (kept_named kept.old.items name.now) → IsAt content (state over_memory connection)) }
+    ensures lent { IfOk result (λ connection. (content : DatabaseContent) → IsKept (Rests content) (kept_named kept.old.items name.now) → IsAt content (state over_memory connection)) }
     ensures placed { IfOk result (λ _. named kept.new.items name.now ≢ None) }
     ensures others { (other : List ℕ) → other ≢ name.now → kept_named kept.new.items other ≡ kept_named kept.old.items other }
     ensures not_lent { OnErr result ((any : List ℕ) → kept_named kept.new.items any ≡ kept_named kept.old.items any) }

@@ -5,9 +5,9 @@ ghost use Rattle.std.specs.Io.KnownBytes.{Appends};
 ghost use Rattle.wh_program.specs.Answer.{status_code, wrong_words, write_line};
 ghost use Rattle.wh_program.specs.Run.{Prints};
 ghost use Rattle.wh_program.specs.Warehouse.{printed};
-ghost use Rattle.wh_program.specs.declared.answer.Status.TheVariants.{Failed};
+ghost use Rattle.wh_program.specs.declared.lines.answer.Status.TheVariants.{Failed};
 
-use crate::answer::{Answer, Status};
+use crate::lines::answer::{Answer, Status};
 use crate::lines::{MEMORY_LINE, WRITE_LINE};
 use std::alloc::AllocError;
 use std::io::Write;
@@ -36,7 +36,7 @@ pub fn print<W: Write>(out: &mut W, status: Status, text: &[u8]) -> Status
 }
 
 /// Prints an answer, or that memory ran out.
-pub fn print_told<W: Write>(out: &mut W, told: Result<Answer, AllocError>) -> Status
+pub fn print_answer<W: Write>(out: &mut W, told: Result<Answer, AllocError>) -> Status
     ensures { Prints (W.contents out.old) (W.contents out.new) (status_code result) (printed told) }
 {
     match told {

@@ -10,17 +10,17 @@ ghost use Rattle.wh_program.specs.Task.{Task as TaskAsked, asked_by, faults_in, 
 ghost use Rattle.wh_program.specs.Tasks.{Runs};
 ghost use Rattle.wh_program.specs.Warehouse.{printed};
 
-use crate::answer::Status;
-use crate::command::{Request, Task, parse};
-use crate::delivery::deliver;
-use crate::dump::print_dump;
 use crate::host::Host;
+use crate::lines::answer::Status;
 use crate::lines::{MEMORY_LINE, NO_TEXT_LINE};
-use crate::output::{print, print_told, print_usage};
-use crate::report::told_report;
-use crate::trial::trial;
-use crate::verdict::check;
-use crate::warehouse::{init, plan, send, status};
+use crate::output::{print, print_answer, print_usage};
+use crate::visits::delivery::deliver;
+use crate::visits::dump::print_dump;
+use crate::visits::report::report_answer;
+use crate::visits::trial::trial;
+use crate::visits::verdict::check;
+use crate::visits::warehouse::{init, plan, send, status};
+use crate::words::command::{Request, Task, parse};
 use std::alloc::Global;
 use std::convert::AsStr;
 use std::io;
@@ -33,9 +33,9 @@ fn run_task<H: Host, W: Write>(alloc: Global, task: Task, host: &mut H, out: &mu
 {
     match task {
         Task::Trial { dim, path, policy } => {
-            print_told(out, trial(alloc, dim, path, policy, host))
+            print_answer(out, trial(alloc, dim, path, policy, host))
         }
-        Task::Init { file, policy } => print_told(out, init(alloc, file, policy, host)),
+        Task::Init { file, policy } => print_answer(out, init(alloc, file, policy, host)),
         Task::Load {
             file,
             kind,
@@ -43,23 +43,23 @@ fn run_task<H: Host, W: Write>(alloc: Global, task: Task, host: &mut H, out: &mu
             path,
         } => {
             let kind = CommandKind::Batch(kind);
-            print_told(out, send(alloc, file, kind, id, path, host))
+            print_answer(out, send(alloc, file, kind, id, path, host))
         }
         Task::Migrate { file, id, policy } => {
             let kind = CommandKind::Migration;
-            print_told(out, send(alloc, file, kind, id, policy, host))
+            print_answer(out, send(alloc, file, kind, id, policy, host))
         }
-        Task::Deliver { file, manifest } => print_told(out, deliver(alloc, file, manifest, host)),
+        Task::Deliver { file, manifest } => print_answer(out, deliver(alloc, file, manifest, host)),
         Task::Plan {
             file,
             kind,
             id,
             path,
-        } => print_told(out, plan(alloc, file, kind, id, path, host)),
-        Task::Report { file, asked } => print_told(out, told_report(alloc, file, asked, host)),
+        } => print_answer(out, plan(alloc, file, kind, id, path, host)),
+        Task::Report { file, asked } => print_answer(out, report_answer(alloc, file, asked, host)),
         Task::Dump { file, table } => print_dump(alloc, file, table, host, out),
-        Task::Check { file } => print_told(out, check(alloc, file, host)),
-        Task::Status { file } => print_told(out, status(alloc, file, host)),
+        Task::Check { file } => print_answer(out, check(alloc, file, host)),
+        Task::Status { file } => print_answer(out, status(alloc, file, host)),
     }
 }
 

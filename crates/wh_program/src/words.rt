@@ -1,5 +1,7 @@
 //! The words that the program takes, as `clap` reads them, and their help.
 
+pub(crate) mod command;
+
 ghost use Rattle.std.specs.Prelude.{◌≡◌, IfOk, false, map};
 ghost use Rattle.clap.specs.Words.{app_of, with_rule};
 ghost use Rattle.clap.specs.declared.builder.command.Command.TheViews.{out-Command};

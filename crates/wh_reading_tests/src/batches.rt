@@ -25,7 +25,7 @@ use wh_batch::{
     BatchFault, DimensionRecords, Format, Kind, Manifest, ManifestEntry, Records, SaleRecords,
     dimension_records, read, sale_records,
 };
-use wh_day::{Day, NaturalKey, ReadError, Values};
+use wh_day::{Day, NaturalKey, ParseError, Values};
 use wh_policy::{DimensionRecord, Policy, SaleRecord};
 use wh_scenarios::{Driver, NotMade, Step, bytes_of, parted};
 
@@ -99,10 +99,10 @@ fn with_header(alloc: Global, word: &str, text: &str) -> Result<Vec<u8>, AllocEr
     Ok(found)
 }
 
-fn push_fault(answer: &mut String, e: ReadError<BatchFault>) -> Result<(), AllocError> {
+fn push_fault(answer: &mut String, e: ParseError<BatchFault>) -> Result<(), AllocError> {
     match e {
-        ReadError::Memory => Err(AllocError),
-        ReadError::Fault(fault) => {
+        ParseError::Memory => Err(AllocError),
+        ParseError::Fault(fault) => {
             push_number(answer, fault.number as i128)?;
             write!(answer, " {:?}", fault.kind)
         }
@@ -287,8 +287,8 @@ fn push_made_sale(alloc: Global, answer: &mut String) -> Result<(), AllocError> 
 fn push_manifest(alloc: Global, answer: &mut String, text: &[u8]) -> Result<(), AllocError> {
     match Manifest::read(alloc, text) {
         Ok(manifest) => push_entries(answer, manifest.as_slice()),
-        Err(ReadError::Fault(fault)) => write!(answer, "{} is none", fault.number),
-        Err(ReadError::Memory) => Err(AllocError),
+        Err(ParseError::Fault(fault)) => write!(answer, "{} is none", fault.number),
+        Err(ParseError::Memory) => Err(AllocError),
     }
 }
 

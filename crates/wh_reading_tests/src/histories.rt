@@ -27,8 +27,8 @@ use std::alloc::{AllocError, Global};
 use std::test::Fail;
 use wh_day::{Day, NaturalKey, Value, Values};
 use wh_history::{
-    Change, Changes, DimRow, Dimension, Edit, Fact, FactKeys, Member, Profiles, latest, original,
-    plan_rows, prior, profile_texts, row_at, trial_table, value_at,
+    Change, Changes, DimRow, DimensionShape, Edit, Fact, FactKeys, Member, Profiles, latest,
+    original, plan_rows, prior, profile_texts, row_at, trial_table, value_at,
 };
 use wh_policy::{AttributeType, Dim, DimensionRecord, Policy};
 use wh_scenarios::{Driver, NotMade, Step, parted};
@@ -160,8 +160,8 @@ impl HistoryDriver {
         Ok(())
     }
 
-    fn dimension<'a>(&'a self, dim: Dim, types: &'a [AttributeType]) -> Dimension<'a> {
-        Dimension {
+    fn dimension<'a>(&'a self, dim: Dim, types: &'a [AttributeType]) -> DimensionShape<'a> {
+        DimensionShape {
             dim,
             types,
             profiles: &self.profiles,

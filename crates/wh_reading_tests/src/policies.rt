@@ -27,7 +27,7 @@ use crate::words::{attribute_type, dim, number, push_day, push_next, push_number
 use std::alloc::{AllocError, Global};
 use std::fmt::Write;
 use std::test::Fail;
-use wh_day::{Holiday, ReadError};
+use wh_day::{Holiday, ParseError};
 use wh_policy::{Policy, PolicyFault};
 use wh_scenarios::{Driver, FLAT, NotMade, Step, bytes_of, changed_flat, parted};
 
@@ -111,8 +111,8 @@ fn bytes_step(
 fn fault_of(alloc: Global, text: &[u8]) -> Result<Option<PolicyFault>, AllocError> {
     match Policy::read(alloc, text) {
         Ok(_) => Ok(None),
-        Err(ReadError::Memory) => Err(AllocError),
-        Err(ReadError::Fault(fault)) => Ok(Some(fault)),
+        Err(ParseError::Memory) => Err(AllocError),
+        Err(ParseError::Fault(fault)) => Ok(Some(fault)),
     }
 }
 
@@ -213,8 +213,8 @@ fn push_type(answer: &mut String, rest: &str) -> Result<(), AllocError> {
 fn policy_of(alloc: Global, text: &str) -> Result<Option<Policy>, AllocError> {
     match Policy::read(alloc, text.as_bytes()) {
         Ok(policy) => Ok(Some(policy)),
-        Err(ReadError::Memory) => Err(AllocError),
-        Err(ReadError::Fault(_)) => Ok(None),
+        Err(ParseError::Memory) => Err(AllocError),
+        Err(ParseError::Fault(_)) => Ok(None),
     }
 }
 

@@ -20,11 +20,11 @@ use Rattle.wh_history.proofs.Joins.{InSpans, all_weaker}
 use Rattle.wh_history.proofs.Owners.{owners_given}
 use Rattle.wh_history.proofs.Shown.{span_found}
 use Rattle.wh_history.proofs.Spans.{Rises, InOrder-dated, Rises-starts}
-use Rattle.wh_rows.proofs.GrownKeys.{all_at}
-use Rattle.wh_rows.proofs.ValidTables.{then_of}
+use Rattle.wh_model.proofs.GrownKeys.{all_at}
+use Rattle.wh_model.proofs.ValidTables.{then_of}
 use Rattle.wh_report.specs.Defined.{AreRowsOf}
 use Rattle.wh_report.specs.Labels.{entry, first_text}
-use Rattle.wh_report.proofs.DefinedTexts.{last_is_day}
+use Rattle.wh_model.proofs.ValidRows.{last_is_day}
 use Rattle.wh_report.proofs.FoundTexts.{found_first}
 
 -- no span begins past the last day, and one that reaches it ends there

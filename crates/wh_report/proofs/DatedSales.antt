@@ -25,9 +25,9 @@ use Rattle.wh_batch.proofs.GoodLemmas.{reads_batches}
 use Rattle.wh_history.specs.Accepted.{Accepted, Content, Governs, Describes, Sells, governed, policy_after, sold, sold_by}
 use Rattle.wh_history.specs.Tables.{Limits}
 use Rattle.wh_history.proofs.Joins.{all_append, all_weaker}
-use Rattle.wh_rows.specs.Defined.{calendar_at, day_at}
-use Rattle.wh_rows.specs.Sound.{making_of}
-use Rattle.wh_rows.specs.Sound.{IsGoodSale}
+use Rattle.wh_model.specs.Defined.{calendar_at, day_at}
+use Rattle.wh_model.specs.Sound.{making_of}
+use Rattle.wh_model.specs.Sound.{IsGoodSale}
 use Rattle.wh_admission.specs.Admission.{current_policy, of_batch, of_file, records_told, content_of, accepted_as, answer, with_content, after_answer, accepted_after, accepted_after_all}
 use Rattle.wh_admission.specs.declared.command.Command.{Command}
 use Rattle.wh_batch.specs.declared.kind.CommandKind.{CommandKind}

@@ -9,10 +9,7 @@ use Rattle.wh_engine.specs.declared.session.Session.{Session}
 use Rattle.wh_report.specs.Output.{IsOfNoTable, of_warehouse}
 use Rattle.wh_report.specs.declared.output.ReportFault.{ReportFault}
 use Rattle.wh_report.specs.declared.output.ReportFault.TheVariants as report
-
-or_false : (b : Bool) → (b || false) ≡ b
-or_false true = refl
-or_false false = refl
+use Rattle.wh_history.proofs.Records.{or_false}
 
 noted_twice : {A B : Type 0} (s : Session) (x : A) (result : Result B Fault) → noting (noting s (Ok x)) result ≡ noting s result
 noted_twice s x result = ap (λ (m : Bool). record { limits = s.limits; policy = s.policy; must_reopen = m || stops result }) (or_false s.must_reopen)

@@ -16,9 +16,9 @@ use Rattle.wh_history.specs.Tables.{dimension_row, profile_row, key_at, profile_
 use Rattle.wh_history.specs.declared.rows.DimRow.{DimRow}
 use Rattle.wh_history.proofs.Basics.{some_is}
 use Rattle.wh_history.proofs.Effective.{found_row, in_order}
-use Rattle.wh_rows.specs.Defined as defined
+use Rattle.wh_model.specs.Defined as defined
 use Rattle.wh_plan.proofs.FoundRows.{row_key}
-use Rattle.wh_rows.proofs.ValidTables.{then_of}
+use Rattle.wh_model.proofs.ValidTables.{then_of}
 use Rattle.wh_rows.specs.declared.rows.ProfileRow.{ProfileRow}
 use Rattle.wh_report.specs.Defined.{AreRowsOf, AreDefined}
 use Rattle.wh_report.specs.Joined.{slot_column, surrogate_in, durable_in, fact_key}
@@ -32,7 +32,8 @@ use Rattle.wh_report.specs.declared.mode.Mode.TheVariants.{Was, Is, Prior}
 use Rattle.wh_report.specs.declared.subject.Reading.{Reading}
 use Rattle.wh_report.specs.declared.subject.Reading.TheVariants.{AtSaleDay, Latest, Original, PriorValue}
 use Rattle.wh_report.proofs.CurrentRows.{current_row, no_card_current, found_current}
-use Rattle.wh_report.proofs.DefinedTexts.{last_is_day, the_row, main_shows, second_shows, tracked_shows, latest_on_last_day, no_card_a, no_card_b}
+use Rattle.wh_report.proofs.DefinedTexts.{the_row, main_shows, second_shows, tracked_shows, latest_on_last_day, no_card_a, no_card_b}
+use Rattle.wh_model.proofs.ValidRows.{last_is_day}
 use Rattle.wh_report.proofs.FoundTexts.{found_by_key}
 use Rattle.wh_report.proofs.ProfileTexts.{profile_text, at_sale_day, no_card_profile, newest_profile}
 

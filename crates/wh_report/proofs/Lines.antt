@@ -203,7 +203,7 @@ lines-append sales s =
 
 -- one sale more, in what a summary has
 
-abbrev summed_of : List (List ℕ × Figures) → Figures → Summed
+abbrev pub summed_of : List (List ℕ × Figures) → Figures → Summed
 summed_of lines total = record { lines = lines; total = total }
 
 summed_parts : (new : Summed) (sales : List Sold) → new.lines ≡ lines_by (of_label sales) (labels sales) → new.total ≡ totals sales → new ≡ summed sales

@@ -19,10 +19,10 @@ use Rattle.wh_rows.specs.Rows as row
 use Rattle.wh_rows.specs.Tables.{Tables}
 use Rattle.wh_rows.specs.declared.key.LineKey.{LineKey}
 use Rattle.wh_plan.specs.BatchRows.{has_line}
-use Rattle.wh_rows.specs.Defined.{AreOf}
-use Rattle.wh_rows.specs.Sound.{same_line}
+use Rattle.wh_model.specs.Defined.{AreOf}
+use Rattle.wh_model.specs.Sound.{same_line}
 use Rattle.wh_plan.proofs.GrownFacts.{own_line, line_is, line_tied, Once, facts_put, found_mapped, facts_once, or_none}
-use Rattle.wh_rows.proofs.Listed.{len-values}
+use Rattle.wh_model.proofs.Listed.{len-values}
 use Rattle.wh_rows.specs.Steps.{with_rows}
 use Rattle.wh_report.specs.Defined.{AreRowsOf}
 use Rattle.wh_report.specs.Summary.{Sold, summed}

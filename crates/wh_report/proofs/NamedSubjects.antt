@@ -13,7 +13,7 @@ use Rattle.wh_policy.specs.declared.attribute.Dim.{Dim}
 use Rattle.wh_policy.specs.declared.attribute.Dim.TheVariants.{Product, Store, Customer}
 use Rattle.wh_policy.specs.declared.policy.Policy.{Policy}
 use Rattle.wh_history.proofs.Basics.{some_is}
-use Rattle.wh_rows.proofs.ValidTables.{made_of, then_of}
+use Rattle.wh_model.proofs.ValidTables.{made_of, then_of}
 use Rattle.wh_report.specs.Subject.{after, attribute_at, attribute_in, named_or, subject_in}
 use Rattle.wh_report.specs.declared.subject.SlotAttribute.{SlotAttribute}
 use Rattle.wh_report.specs.declared.subject.Subject.{Subject}

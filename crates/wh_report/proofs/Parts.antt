@@ -18,10 +18,10 @@ use Rattle.wh_engine.specs.declared.fault.Fault.{Fault}
 use Rattle.wh_engine.specs.declared.fault.Fault.TheVariants as faults
 use Rattle.wh_report.specs.Dumped.{BeginsWith, AreReadOf}
 use Rattle.wh_report.specs.Output.{IsOutBut, IsCut, IsOutWhole, IsOutBefore, AreOut, IsOutInLines, IsOfNoTable, IsOfDump, of_warehouse}
-use Rattle.wh_report.specs.Part.{AreMade, Gathers, IsOutOrGathered}
+use Rattle.wh_report.specs.CsvBuffer.{AreMade, Gathers, IsOutOrGathered}
 use Rattle.wh_report.specs.declared.output.ReportFault.{ReportFault}
 use Rattle.wh_report.specs.declared.output.ReportFault.TheVariants.{Write, Warehouse, Unwritten, Inconsistent}
-use Rattle.wh_report.specs.declared.part.Part.{Part}
+use Rattle.wh_report.specs.declared.csv_buffer.CsvBuffer.{CsvBuffer}
 use Rattle.wh_report.proofs.Outputs.{none_out, longer, joined, sent, cut_then, cut_before}
 
 -- what a call says where it is answered, further on
@@ -79,7 +79,7 @@ told_memory Write a b text none = absurd none
 told_memory (Inconsistent table) a b text none = absurd none
 
 -- memory ran out for a line, and those before went out
-pub line_lost : (part : Part) (told : ReportFault) (a b : Option (List ℕ)) (lines line : List ℕ) → IsOutBefore faults.Memory told a b lines → IsOutOrGathered (Err told) part a b lines line
+pub line_lost : (part : CsvBuffer) (told : ReportFault) (a b : Option (List ℕ)) (lines line : List ℕ) → IsOutBefore faults.Memory told a b lines → IsOutOrGathered (Err told) part a b lines line
 line_lost part (Warehouse why) a b lines line (is, went) = went
 line_lost part (Unwritten why) a b lines line (is, cut) = cut
 line_lost part Write a b lines line none = absurd none
@@ -89,7 +89,7 @@ whole_out : (a b : Option (List ℕ)) (text : List ℕ) → Appends a b text →
 whole_out a b text went = record { part = text; whole = sym (append-nil text); went = went }
 
 -- all went out, and none is gathered
-pub gone : (part : Part) (a b : Option (List ℕ)) (lines line : List ℕ) (result : Result (Unit {0}) ReportFault) → OnOk result (Gathers part []) → IsOutWhole result a b (lines ++ line) → IsOutOrGathered result part a b lines line
+pub gone : (part : CsvBuffer) (a b : Option (List ℕ)) (lines line : List ℕ) (result : Result (Unit {0}) ReportFault) → OnOk result (Gathers part []) → IsOutWhole result a b (lines ++ line) → IsOutOrGathered result part a b lines line
 gone part a b lines line (Ok done) anew out = ([], anew, whole_out a b (lines ++ line) out)
 gone part a b lines line (Err Write) anew out = out
 gone part a b lines line (Err (Warehouse fault)) anew none = absurd none
@@ -115,15 +115,15 @@ module _ {R : Type 0} (header : List ℕ) (line : R → List ℕ) where
   text_row done row = text_more done (row ∷ []) ∙ ap (λ t. text_of done ++ t) (append-nil (line row))
 
   -- of the lines of these rows all went out but what is gathered
-  pub record IsGoing (part : Part) (old new : Option (List ℕ)) (done : List R) : Type 0 where
+  pub record IsGoing (part : CsvBuffer) (old new : Option (List ℕ)) (done : List R) : Type 0 where
     pub rest : List ℕ
     pub gathered : Gathers part rest
     pub out : IsOutBut rest old new (text_of done)
 
-  pub begun : (part : Part) (a : Option (List ℕ)) → Gathers part header → IsGoing part a a []
+  pub begun : (part : CsvBuffer) (a : Option (List ℕ)) → Gathers part header → IsGoing part a a []
   begun part a gathered = record { rest = header; gathered = gathered; out = subst (λ t. IsOutBut header a a t) (sym (append-nil header)) (none_out a header) }
 
-  pub row_added : (p q : Part) (a b c : Option (List ℕ)) (done : List R) (row : R) (x : Unit {0}) (before : IsGoing p a b done) → IsOutOrGathered (Ok x) q b c before.rest (line row) → IsGoing q a c (done ++ row ∷ [])
+  pub row_added : (p q : CsvBuffer) (a b c : Option (List ℕ)) (done : List R) (row : R) (x : Unit {0}) (before : IsGoing p a b done) → IsOutOrGathered (Ok x) q b c before.rest (line row) → IsGoing q a c (done ++ row ∷ [])
   row_added p q a b c done row x before now = record {
     rest = now.0;
     gathered = now.1;
@@ -138,7 +138,7 @@ module _ {R : Type 0} (header : List ℕ) (line : R → List ℕ) where
   out_to : (a b : Option (List ℕ)) (done more : List R) → Appends a b (text_of done) → AreOut (lines_of done) (lines_of (done ++ more)) a b
   out_to a b done more went = record { left = map line more; whole = lines_more done more; went = went }
 
-  pub row_not_added : (p q : Part) (a b c : Option (List ℕ)) (done : List R) (row : R) (more : List R) (fault : ReportFault) (before : IsGoing p a b done) → IsOfNoTable fault → IsOutOrGathered (Err fault) q b c before.rest (line row)
+  pub row_not_added : (p q : CsvBuffer) (a b c : Option (List ℕ)) (done : List R) (row : R) (more : List R) (fault : ReportFault) (before : IsGoing p a b done) → IsOfNoTable fault → IsOutOrGathered (Err fault) q b c before.rest (line row)
       → IsOutInLines (Err fault) a c (lines_of (done ++ row ∷ more))
   row_not_added p q a b c done row more Write before kind out =
       subst (λ rows. IsCut a c (text_of rows)) (append_assoc done (row ∷ []) more)
@@ -159,7 +159,7 @@ module _ {R : Type 0} (header : List ℕ) (line : R → List ℕ) where
   whole_lines a b done more (faults.Damaged table) other went = (header, map line done, out_to a b done more went)
   whole_lines a b done more (faults.Store cause) other went = (header, map line done, out_to a b done more went)
 
-  pub stopped : (part : Part) (a b c : Option (List ℕ)) (done more : List R) (fault : Fault) (told : ReportFault) (before : IsGoing part a b done) → fault ≢ faults.Reopen → IsOutBefore fault told b c before.rest
+  pub stopped : (part : CsvBuffer) (a b c : Option (List ℕ)) (done more : List R) (fault : Fault) (told : ReportFault) (before : IsGoing part a b done) → fault ≢ faults.Reopen → IsOutBefore fault told b c before.rest
       → IsOutInLines (Err told) a c (lines_of (done ++ more))
   stopped part a b c done more fault (Warehouse why) before other (is, went) = whole_lines a c done more why (subst (λ (f : Fault). f ≢ faults.Reopen) (sym is) other) (sent a b c (text_of done) before.rest before.out went)
   stopped part a b c done more fault (Unwritten why) before other (is, cut) = cut_in a c done more (cut_then a b c (text_of done) before.rest before.out cut)
@@ -167,7 +167,7 @@ module _ {R : Type 0} (header : List ℕ) (line : R → List ℕ) where
   stopped part a b c done more fault (Inconsistent table) before other none = absurd none
 
   -- the last part goes out
-  pub last_out : (part : Part) (a b c : Option (List ℕ)) (done : List R) (result : Result (Unit {0}) ReportFault) (before : IsGoing part a b done) → IsOutWhole result b c before.rest → IsOutInLines result a c (lines_of done)
+  pub last_out : (part : CsvBuffer) (a b c : Option (List ℕ)) (done : List R) (result : Result (Unit {0}) ReportFault) (before : IsGoing part a b done) → IsOutWhole result b c before.rest → IsOutInLines result a c (lines_of done)
   last_out part a b c done (Ok x) before out = sent a b c (text_of done) before.rest before.out out
   last_out part a b c done (Err Write) before out = cut_then a b c (text_of done) before.rest before.out out
   last_out part a b c done (Err (Warehouse fault)) before none = absurd none
@@ -179,7 +179,7 @@ module _ {R : Type 0} (header : List ℕ) (line : R → List ℕ) where
   lines_for result a b rows others same = subst (λ vs. IsOutInLines result a b (lines_of vs)) same
 
   -- These rows were handed out; and what is said of them, where their table was at rest, and where it was stored.
-  pub record HasGone (Typed Stored : List R → Type 0) (part : Part) (old new : Option (List ℕ)) : Type 0 where
+  pub record HasGone (Typed Stored : List R → Type 0) (part : CsvBuffer) (old new : Option (List ℕ)) : Type 0 where
     pub done : List R
     pub going : IsGoing part old new done
     pub typed : Typed done

@@ -25,10 +25,8 @@ use Rattle.wh_history.proofs.Joins.{all_weaker, all_dated}
 use Rattle.wh_history.proofs.Places.{at_place-place, place-distinct_given}
 use Rattle.wh_history.proofs.Shown.{get_column, span_found}
 use Rattle.wh_history.proofs.Stays.{picks_from, IfThere, all_newest, all_at}
-use Rattle.wh_report.proofs.DefinedTexts.{last_is_day}
-
-no_zero : (place : ℕ) → 0 + place ≡ place
-no_zero place = omega arith
+use Rattle.wh_model.proofs.ValidRows.{last_is_day}
+use Rattle.wh_report.proofs.DefinedTexts.{no_zero}
 
 any_at : (p : AttributeType → Bool) (kinds : List AttributeType) (place : ℕ) (kind : AttributeType) → slice_get kinds place ≡ Some kind → p kind ≡ true → list_any p kinds ≡ true
 any_at p [] place kind is passes = cc

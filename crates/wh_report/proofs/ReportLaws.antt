@@ -20,11 +20,11 @@ use Rattle.wh_history.specs.Accepted.{Accepted, policy_after, sold, types_in}
 use Rattle.wh_history.specs.Tables.{Limits, fact_of}
 use Rattle.wh_history.proofs.Basics.{some_is}
 use Rattle.wh_history.proofs.Joins.{all_weaker}
-use Rattle.wh_rows.specs.Defined.{calendar_at, day_at}
-use Rattle.wh_rows.specs.Sound.{IsAccepted, IsGoodSale}
-use Rattle.wh_rows.proofs.Following.{Named, all_named}
+use Rattle.wh_model.specs.Defined.{calendar_at, day_at}
+use Rattle.wh_model.specs.Sound.{IsAccepted, IsGoodSale}
+use Rattle.wh_model.proofs.Following.{Named, all_named}
 use Rattle.wh_plan.proofs.PlanProfiles.{types_are}
-use Rattle.wh_rows.proofs.ValidFacts.{days}
+use Rattle.wh_model.proofs.ValidFacts.{days}
 use Rattle.wh_report.specs.Asked.{Asked}
 use Rattle.wh_report.specs.Counting.{counted}
 use Rattle.wh_report.specs.Defined.{AreDefined}

@@ -28,14 +28,14 @@ use Rattle.wh_rows.specs.declared.key.LineKey.{LineKey}
 use Rattle.wh_rows.specs.declared.keyed_sale.KeyedSale.{KeyedSale}
 use Rattle.wh_rows.specs.declared.rows.ProfileRow.{ProfileRow}
 use Rattle.wh_rows.specs.declared.table.Table.{Table}
-use Rattle.wh_rows.specs.Defined.{AreOf, calendar_at, day_at, fact_at, profile_at}
-use Rattle.wh_rows.specs.Sound.{IsAccepted}
+use Rattle.wh_model.specs.Defined.{AreOf, calendar_at, day_at, fact_at, profile_at}
+use Rattle.wh_model.specs.Sound.{IsAccepted}
 use Rattle.wh_plan.proofs.FoundRows.{row_key}
 use Rattle.wh_plan.proofs.GrownFacts.{line_is}
-use Rattle.wh_rows.proofs.GrownKeys.{found_is}
-use Rattle.wh_rows.proofs.GrownProfiles.{profile_keyed}
-use Rattle.wh_rows.proofs.ValidTables.{made_of}
-use Rattle.wh_rows.proofs.Listed.{len-values}
+use Rattle.wh_model.proofs.GrownKeys.{found_is}
+use Rattle.wh_model.proofs.GrownProfiles.{profile_keyed}
+use Rattle.wh_model.proofs.ValidTables.{made_of}
+use Rattle.wh_model.proofs.Listed.{len-values}
 use Rattle.wh_admission.specs.Admission.{current_policy, AreAdmitted}
 use Rattle.wh_engine.specs.Answered.{IsReady}
 use Rattle.wh_engine.specs.Scanned.{ReadsThrough, IsServing, IsWanting}
@@ -67,6 +67,7 @@ use Rattle.wh_report.proofs.MappedRows.{are_rows, each_under_key, sums_of_sales}
 use Rattle.wh_report.proofs.ReadReports.{asks_of}
 use Rattle.wh_report.proofs.ReportLaws.{counted_as, each_of, sales_labelled}
 use Rattle.wh_report.proofs.SummedFacts.{sale_of_fact}
+use Rattle.wh_plan.proofs.MovedFacts.{on_line}
 
 -- ---- sales that come to the same
 
@@ -113,10 +114,6 @@ few_facts limits within =
     let last = and_parts _ (nat_le 1 limits.facts && nat_le limits.facts 1_000_000) within in
     let most = and_parts (nat_le 1 limits.facts) (nat_le limits.facts 1_000_000) last.1 in
     grind (arith, nat_tests)
-
--- the test of the sales on a line
-abbrev on_line : LineKey → SaleRecord → Bool
-on_line key s = bytes_eq s.ticket key.ticket && (s.line == key.line)
 
 fact_keyed : (commands : List Accepted) (key : LineKey) (f : Fact) → fact_at commands key ≡ Some f → row.fact.key f ≡ key
 fact_keyed commands key f is = by_sale (find (on_line key) (sold commands)) refl is

@@ -12,7 +12,7 @@ use Rattle.wh_report.specs.Sums.{Measured, Figures}
 use Rattle.wh_report.specs.Summary.{Sold, Summed, by_bytes, sum_of, totals, sold_as, labels_with, labels, summed}
 use Rattle.wh_report.specs.Text.{line_text, lines_text, summed_text, heading, report_text}
 use Rattle.wh_report.specs.Laws.{EndsWith, total_line, unlabelled}
-use Rattle.wh_report.proofs.Lines.{same_label, turned, lines_by, of_label}
+use Rattle.wh_report.proofs.Lines.{summed_of, same_label, turned, lines_by, of_label}
 
 -- the total
 
@@ -100,9 +100,6 @@ sold_moved label before after s =
 lines_same : (old new : List ℕ → Figures) (ls : List (List ℕ)) → ((l : List ℕ) → old l ≡ new l) → lines_by old ls ≡ lines_by new ls
 lines_same old new [] same = refl
 lines_same old new (l ∷ ls) same = let here = same l in let rest = lines_same old new ls same in cc
-
-abbrev summed_of : List (List ℕ × Figures) → Figures → Summed
-summed_of lines total = record { lines = lines; total = total }
 
 pub moved : (before after : List Sold) (s : Sold) → summed (before ++ s ∷ after) ≡ summed (s ∷ before ++ after)
 unfolding summed

@@ -10,7 +10,7 @@ use Rattle.wh_history.specs.declared.rows.DimRow.{DimRow}
 use Rattle.wh_rows.specs.Raw.{Stored}
 use Rattle.wh_rows.specs.declared.rows.ProfileRow.{ProfileRow}
 use Rattle.wh_engine.specs.declared.fault.Fault.{Fault}
-use Rattle.wh_rows.specs.declared.keyed_sale.FactKey.{FactKey}
+use Rattle.wh_rows.specs.declared.keyed_sale.FactColumn.{FactColumn}
 use Rattle.wh_rows.specs.declared.keyed_sale.KeyedSale.{KeyedSale}
 use Rattle.wh_report.specs.Asked.{Asked}
 use Rattle.wh_report.specs.Counting.{measures_of, with_label, sales_asked, AreLabelled}
@@ -35,20 +35,20 @@ pub of_request : (r q : Asked) → q ≡ r → (labels : ℕ → Option (List �
     → ((sales : List KeyedSale) → IsTally q sales sums fault → IsCounted q labels sales result) → IsCounted r labels sales result
 of_request r q same labels sales sums fault result tally told = subst (λ (a : Asked). IsCounted a labels sales result) same (told sales (subst (λ (a : Asked). IsTally a sales sums fault) (sym same) tally))
 
-pub summed_stored : (r : Asked) (column : LabelColumn) (labels : ℕ → Option (List ℕ)) (stored : Stored) (which : FactKey) → which ≡ key_by column → (sales : List KeyedSale) → AreAllSales which stored sales
+pub summed_stored : (r : Asked) (column : LabelColumn) (labels : ℕ → Option (List ℕ)) (stored : Stored) (which : FactColumn) → which ≡ key_by column → (sales : List KeyedSale) → AreAllSales which stored sales
     → (told : Result Summed FactFault) → IsCounted r labels sales told → (sums : Summed) → told ≡ Ok sums → IsSummedOf r column labels stored (Ok sums)
 summed_stored r column labels stored which by sales all told counted sums is =
     let sold = subst (IsCounted r labels sales) is counted in
-    (sales, subst (λ (k : FactKey). AreAllSales k stored sales) by all, sold.0, sold.1)
+    (sales, subst (λ (k : FactColumn). AreAllSales k stored sales) by all, sold.0, sold.1)
 
-pub cut_stored : (r : Asked) (column : LabelColumn) (labels : ℕ → Option (List ℕ)) (stored : Stored) (which : FactKey) → which ≡ key_by column → (sales : List KeyedSale) → AreAllSales which stored sales
+pub cut_stored : (r : Asked) (column : LabelColumn) (labels : ℕ → Option (List ℕ)) (stored : Stored) (which : FactColumn) → which ≡ key_by column → (sales : List KeyedSale) → AreAllSales which stored sales
     → (told : Result Summed FactFault) → IsCounted r labels sales told → (fault : FactFault) → told ≡ Err fault → IsSummedOf r column labels stored (Err (uncounted column fault))
 cut_stored r column labels stored which by sales all told counted fault is = of_fault fault (subst (IsCounted r labels sales) is counted)
   where
     of_fault : (fault : FactFault) → IsCounted r labels sales (Err fault) → IsSummedOf r column labels stored (Err (uncounted column fault))
     of_fault uncountable.Memory cut = tt
-    of_fault uncountable.NoLabel cut = (sales, subst (λ (k : FactKey). AreAllSales k stored sales) by all, inl (refl, cut))
-    of_fault uncountable.Damaged cut = (sales, subst (λ (k : FactKey). AreAllSales k stored sales) by all, inr (refl, cut))
+    of_fault uncountable.NoLabel cut = (sales, subst (λ (k : FactColumn). AreAllSales k stored sales) by all, inl (refl, cut))
+    of_fault uncountable.Damaged cut = (sales, subst (λ (k : FactColumn). AreAllSales k stored sales) by all, inr (refl, cut))
 
 -- ---- the labels that were read are those that the rows give
 

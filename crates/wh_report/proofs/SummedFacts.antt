@@ -20,7 +20,7 @@ use Rattle.wh_rows.specs.KeyedSales.{keyed}
 use Rattle.wh_rows.specs.Rows.{is_fact}
 use Rattle.wh_rows.specs.Tables.{Tables}
 use Rattle.wh_rows.specs.Types.{is_key, is_line, is_measure, is_number}
-use Rattle.wh_rows.specs.declared.keyed_sale.FactKey.{FactKey}
+use Rattle.wh_rows.specs.declared.keyed_sale.FactColumn.{FactColumn}
 use Rattle.wh_rows.specs.declared.keyed_sale.KeyedSale.{KeyedSale}
 use Rattle.wh_report.specs.Asked.{Asked}
 use Rattle.wh_report.specs.Counting.{counted, counted_sale, fault_of, measures_of, sales_asked, sales_of, AreLabelled, HasNoLabel}
@@ -180,7 +180,7 @@ sales_labelled r column labels (f ∷ facts) all =
       | false ↦ λ own. sales_labelled r column labels facts all.1
     ] all.0
 
-module _ (r : Asked) (column : LabelColumn) (labels : ℕ → Option (List ℕ)) (st : State) (t : Tables) (at : IsAtRest (Some t) st) (which : FactKey) (leads : which ≡ key_by column) (ordered : List Fact) (same : IsPermutation ordered (values t.fact)) where
+module _ (r : Asked) (column : LabelColumn) (labels : ℕ → Option (List ℕ)) (st : State) (t : Tables) (at : IsAtRest (Some t) st) (which : FactColumn) (leads : which ≡ key_by column) (ordered : List Fact) (same : IsPermutation ordered (values t.fact)) where
   labelled_too : AreLabelled labels (sales_of r column ordered) → AreLabelled labels (sales_of r column (values t.fact))
   labelled_too all =
       sales_labelled r column labels (values t.fact) (recursion_from_All (HasLabel r column labels) (values t.fact)
@@ -213,7 +213,7 @@ module _ (r : Asked) (column : LabelColumn) (labels : ℕ → Option (List ℕ))
   module _ (q : Asked) (same_request : q ≡ r) (sums : List (ℕ × Figures)) (fault : Option AddError) (tally : IsTally r (map (keyed which) ordered) sums fault) (result : Result Summed FactFault) (told : (sales : List KeyedSale) → IsTally q sales sums fault → IsCounted q labels sales result) where
     counted_by_labels : IsCounted r labels (map (keyed (key_by column)) ordered) result
     counted_by_labels =
-        subst₂ (λ (a : Asked) (w : FactKey). IsCounted a labels (map (keyed w) ordered) result) same_request leads
+        subst₂ (λ (a : Asked) (w : FactColumn). IsCounted a labels (map (keyed w) ordered) result) same_request leads
         (told (map (keyed which) ordered) (subst (λ (a : Asked). IsTally a (map (keyed which) ordered) sums fault) (sym same_request) tally))
 
     pub summed_by_labels : (made : Summed) → result ≡ Ok made → IsSummed r column labels (values t.fact) (Ok made)

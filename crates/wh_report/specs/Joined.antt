@@ -7,8 +7,8 @@ use Rattle.wh_policy.specs.declared.attribute.Dim.TheVariants.{Product, Store, C
 use Rattle.wh_history.specs.declared.facts.Fact.{Fact}
 use Rattle.wh_rows.specs.KeyedSales.{key_of}
 pub use Rattle.wh_rows.specs.KeyedSales.{surrogate_in, durable_in}
-use Rattle.wh_rows.specs.declared.keyed_sale.FactKey.{FactKey}
-use Rattle.wh_rows.specs.declared.keyed_sale.FactKey.TheVariants.{Surrogate, Durable, Profile, Day}
+use Rattle.wh_rows.specs.declared.keyed_sale.FactColumn.{FactColumn}
+use Rattle.wh_rows.specs.declared.keyed_sale.FactColumn.TheVariants.{Surrogate, Durable, Profile, Day}
 use Rattle.wh_rows.specs.declared.table.Table.{Table}
 use Rattle.wh_rows.specs.declared.table.Table.TheVariants as table
 use Rattle.wh_report.specs.declared.column.LabelColumn.{LabelColumn}
@@ -52,7 +52,7 @@ column_of Month which = CalendarMonth
 column_of Holiday which = CalendarHoliday
 
 -- the key by which a fact names the row of its label
-abbrev pub key_by : LabelColumn → FactKey
+abbrev pub key_by : LabelColumn → FactColumn
 key_by (Main dim place) = Surrogate dim
 key_by (Second dim place) = Surrogate dim
 key_by (CurrentMain dim place) = Durable dim

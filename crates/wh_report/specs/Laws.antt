@@ -7,8 +7,8 @@ use Rattle.wh_policy.specs.declared.policy.Policy.{Policy}
 use Rattle.wh_policy.specs.declared.record.SaleRecord.{SaleRecord}
 use Rattle.wh_history.specs.Accepted.{Accepted, policy_after, sold}
 use Rattle.wh_history.specs.Tables.{Limits, fact_of}
-use Rattle.wh_rows.specs.Defined.{calendar_at}
-use Rattle.wh_rows.specs.Sound.{IsAccepted}
+use Rattle.wh_model.specs.Defined.{calendar_at}
+use Rattle.wh_model.specs.Sound.{IsAccepted}
 use Rattle.wh_admission.specs.Admission.{AreAdmitted}
 use Rattle.wh_report.specs.Asked.{Asked}
 use Rattle.wh_report.specs.Counting.{counted}

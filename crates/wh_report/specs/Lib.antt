@@ -16,6 +16,6 @@ pub mod Defined
 pub mod Dump
 pub mod Dumped
 pub mod Output
-pub mod Part
+pub mod CsvBuffer
 pub mod Reported
 pub mod Tallied

@@ -18,7 +18,7 @@ use Rattle.wh_rows.specs.KeyedSales.{columns_of, shown_of}
 use Rattle.wh_rows.specs.Raw.{Stored}
 use Rattle.wh_rows.specs.Rows as row
 use Rattle.wh_rows.specs.Tables.{Tables}
-use Rattle.wh_rows.specs.declared.keyed_sale.FactKey.{FactKey}
+use Rattle.wh_rows.specs.declared.keyed_sale.FactColumn.{FactColumn}
 use Rattle.wh_rows.specs.declared.keyed_sale.KeyedSale.{KeyedSale}
 use Rattle.wh_rows.specs.declared.rows.ProfileRow.{ProfileRow}
 use Rattle.wh_rows.specs.declared.table.Table.{Table}
@@ -133,7 +133,7 @@ abbrev pub label_in : LabelColumn → LabelRows → ℕ → Option (List ℕ)
 label_in column t key = first_text key (labels_in column t)
 
 -- the stored facts are these sales by one of their keys, in any order: each is of its types in the columns that are read
-abbrev pub AreAllSales : FactKey → Stored → List KeyedSale → Type 0
+abbrev pub AreAllSales : FactColumn → Stored → List KeyedSale → Type 0
 AreAllSales which stored sales = IsPermutation (map columns_of sales) (map (shown_of which) (stored.rows table.Fact))
 
 -- a row that a sale of the range names is missing in the table that is found; or that is the facts', and it has more than can be counted, or measures that no sale has

@@ -1,5 +1,5 @@
 -- Which reports can be asked for.
-use Rattle.std.specs.Prelude.{ℕ, Bool, false, ◌&&◌, not, nat_le, nat_lt, is_some, if◌then◌else◌, List, Option, Some, None, Result, Ok, Err}
+use Rattle.std.specs.Prelude.{ℕ, Bool, false, ◌&&◌, not, nat_le, nat_lt, is_some, if◌then◌else◌, List, Option, Some, None, Result, Ok, Err, ok_or}
 use Rattle.wh_day.specs.Reading.{◌>>=◌}
 use Rattle.wh_day.specs.Day.{read_day}
 use Rattle.wh_policy.specs.declared.policy.Policy.{Policy}
@@ -16,11 +16,6 @@ no_reading (Attribute a) mode = NoReading a.kind mode
 no_reading Month mode = NoDateReading mode
 no_reading Holiday mode = NoDateReading mode
 
--- what is there, or else the fault
-abbrev pub or_fault : {A : Type 0} → RequestFault → Option A → Result A RequestFault
-or_fault fault (Some x) = Ok x
-or_fault fault None = Err fault
-
 -- the fault, unless something holds
 abbrev pub unless_fault : {A : Type 0} → Bool → RequestFault → Result A RequestFault → Result A RequestFault
 unless_fault holds fault read = if holds then read else Err fault
@@ -28,10 +23,10 @@ unless_fault holds fault read = if holds then read else Err fault
 -- the request that the words make, or the first fault: no attribute, no reading, no range
 unfoldable pub asked : Policy → List ℕ → Mode → List ℕ → List ℕ → Result Asked RequestFault
 asked policy words mode from to = do
-  subject ← or_fault NoAttribute (subject_in policy words)
+  subject ← ok_or (subject_in policy words) NoAttribute
   unless_fault (is_some (reading_of subject mode)) (no_reading subject mode) (do
-    first ← or_fault BadRange (read_day from)
-    last ← or_fault BadRange (read_day to)
+    first ← ok_or (read_day from) BadRange
+    last ← ok_or (read_day to) BadRange
     unless_fault (not (nat_lt last first)) BadRange (Ok (record { words = words; mode = mode; from = first; to = last })))
 
 abbrev pub subject_reads : Mode → Option Subject → Bool

@@ -5,7 +5,7 @@ ghost use Rattle.wh_report.specs.Joined.{attribute_column, column_of, key_by, ta
 
 use crate::subject::{Reading, SlotAttribute, Subject};
 use wh_policy::{AttributeType, Dim};
-use wh_rows::{FactKey, Table};
+use wh_rows::{FactColumn, Table};
 
 /// The column that has the labels, and by it the key of a fact that leads to its row. A slot's place is counted from 0.
 #[derive(Clone, Copy, Debug, PartialEq, Eq)]
@@ -72,15 +72,15 @@ impl LabelColumn {
     }
 
     /// The key by which a fact names the row of its label.
-    pub fn fact_key(self) -> FactKey
+    pub fn fact_key(self) -> FactColumn
         ensures { result ≡ key_by self }
     {
         match self {
-            LabelColumn::Main(dim, _) | LabelColumn::Second(dim, _) => FactKey::Surrogate(dim),
-            LabelColumn::CurrentMain(dim, _) => FactKey::Durable(dim),
-            LabelColumn::FactProfile(_) => FactKey::Profile,
-            LabelColumn::CurrentProfile(_) => FactKey::Durable(Dim::Customer),
-            LabelColumn::CalendarMonth | LabelColumn::CalendarHoliday => FactKey::Day,
+            LabelColumn::Main(dim, _) | LabelColumn::Second(dim, _) => FactColumn::Surrogate(dim),
+            LabelColumn::CurrentMain(dim, _) => FactColumn::Durable(dim),
+            LabelColumn::FactProfile(_) => FactColumn::Profile,
+            LabelColumn::CurrentProfile(_) => FactColumn::Durable(Dim::Customer),
+            LabelColumn::CalendarMonth | LabelColumn::CalendarHoliday => FactColumn::Day,
         }
     }
 }

@@ -7,26 +7,26 @@ ghost use Rattle.wh_store.specs.Reads.{SaysInFormat, SaysAsStoredIn, state_of};
 ghost use Rattle.wh_report.specs.Dump.{header_line, row_line, table_lines, lines_of_table};
 ghost use Rattle.wh_report.specs.Dumped.{IsDumpOf, DumpsStored};
 ghost use Rattle.wh_report.specs.Output.{IsOutInLines, IsOfDump, IsOfNoTable, of_warehouse};
-ghost use Rattle.wh_report.specs.Part.{Gathers, IsOutOrGathered};
+ghost use Rattle.wh_report.specs.CsvBuffer.{Gathers, IsOutOrGathered};
 ghost use Rattle.wh_engine.specs.declared.fault.Fault.TheVariants as faults;
 ghost use Rattle.wh_report.specs.declared.output.ReportFault.TheVariants as report;
 
+use crate::csv_buffer::CsvBuffer;
 use crate::output::ReportFault;
-use crate::part::Part;
 use crate::table_texts::DumpedTable;
 use sqlite::Alter;
 use std::alloc::{AllocError, Global};
 use std::io::Write;
 use wh_engine::{Engine, Fault};
 use wh_rows::{Table, tables};
-use wh_store::{Cursor, Scanned};
+use wh_store::{Cursor, PagedTable};
 
 /// Adds the line of a row to those that are gathered, and writes them out where they are many enough. Where memory runs out
 /// for the line, those before it go out.
 fn write_row<T: DumpedTable, W: Write>(
     alloc: Global,
     row: &T::Row,
-    part: &mut Part,
+    part: &mut CsvBuffer,
     out: &mut W,
 ) -> Result<(), ReportFault>
     ensures out { (lines : List ℕ) → Gathers part.old lines → IsOutOrGathered result part.new (W.contents out.old) (W.contents out.new) lines (row_line T.layout row.now) }
@@ -41,18 +41,18 @@ fn write_row<T: DumpedTable, W: Write>(
 
 /// Writes what is gathered, the line of the columns' names, and the lines of all rows. `Memory`: also where they are more than
 /// can be counted.
-fn write_rows<T: DumpedTable + Scanned, S: Alter, W: Write>(
+fn write_rows<T: DumpedTable + PagedTable, S: Alter, W: Write>(
     alloc: Global,
     engine: &mut Engine<S>,
-    part: &mut Part,
+    part: &mut CsvBuffer,
     out: &mut W,
 ) -> Result<(), ReportFault>
     ensures reads { ReadsThrough engine.old.session engine.new.session (state_of S.Store engine.old.tables) (state_of S.Store engine.new.tables) (of_warehouse result) }
     ensures writes { engine.new.writes ≡ engine.old.writes }
     ensures out { Gathers part.old (header_line T.StoredTable.layout) → engine.old.session.must_reopen ≡ false
-        → SaysInFormat S.Store T.Keeps.name engine.old.tables engine.new.tables (λ t. IsOutInLines result (W.contents out.old) (W.contents out.new) (table_lines T.StoredTable.layout (values (T.StoredTable.rows t)))) }
+        → SaysInFormat S.Store T.KeyedTable.name engine.old.tables engine.new.tables (λ t. IsOutInLines result (W.contents out.old) (W.contents out.new) (table_lines T.StoredTable.layout (values (T.StoredTable.rows t)))) }
     ensures stored { Gathers part.old (header_line T.StoredTable.layout) → engine.old.session.must_reopen ≡ false
-        → SaysAsStoredIn S.Store T.Keeps.name engine.old.tables engine.new.tables (λ stored. IsDumpOf T.StoredTable.layout T.Keeps.name (stored.rows T.Keeps.name) result (W.contents out.old) (W.contents out.new)) }
+        → SaysAsStoredIn S.Store T.KeyedTable.name engine.old.tables engine.new.tables (λ stored. IsDumpOf T.StoredTable.layout T.KeyedTable.name (stored.rows T.KeyedTable.name) result (W.contents out.old) (W.contents out.new)) }
     ensures kinds { IfErr result IsOfDump }
 {
     let mut cursor = Cursor::new(alloc);
@@ -70,16 +70,16 @@ fn write_rows<T: DumpedTable + Scanned, S: Alter, W: Write>(
 /// warehouse what went out ends with the line of the last row that was read before it, or of the last for which there was
 /// memory; nothing went out where no row was asked for yet.
 #[tactic(auto, using(crate::proofs::EngineReading::unread_memory))]
-pub fn write_table<T: DumpedTable + Scanned, S: Alter, W: Write>(
+pub fn write_table<T: DumpedTable + PagedTable, S: Alter, W: Write>(
     alloc: Global,
     engine: &mut Engine<S>,
     out: &mut W,
 ) -> Result<(), ReportFault>
     ensures reads { ReadsThrough engine.old.session engine.new.session (state_of S.Store engine.old.tables) (state_of S.Store engine.new.tables) (of_warehouse result) }
     ensures writes { engine.new.writes ≡ engine.old.writes }
-    ensures out { SaysInFormat S.Store T.Keeps.name engine.old.tables engine.new.tables (λ t. IsOutInLines result (W.contents out.old) (W.contents out.new) (table_lines T.StoredTable.layout (values (T.StoredTable.rows t)))) }
+    ensures out { SaysInFormat S.Store T.KeyedTable.name engine.old.tables engine.new.tables (λ t. IsOutInLines result (W.contents out.old) (W.contents out.new) (table_lines T.StoredTable.layout (values (T.StoredTable.rows t)))) }
     // Of any rows, whoever wrote them: all are of their types and went out, or those that come first by key.
-    ensures stored { SaysAsStoredIn S.Store T.Keeps.name engine.old.tables engine.new.tables (λ stored. IsDumpOf T.StoredTable.layout T.Keeps.name (stored.rows T.Keeps.name) result (W.contents out.old) (W.contents out.new)) }
+    ensures stored { SaysAsStoredIn S.Store T.KeyedTable.name engine.old.tables engine.new.tables (λ stored. IsDumpOf T.StoredTable.layout T.KeyedTable.name (stored.rows T.KeyedTable.name) result (W.contents out.old) (W.contents out.new)) }
     ensures reopen { IsTrue engine.old.session.must_reopen → (result ≡ Err (report.Warehouse faults.Reopen)) × (engine.new.tables ≡ engine.old.tables) × (engine.new.session ≡ engine.old.session) × (W.contents out.new ≡ W.contents out.old) }
     ensures only { result ≡ Err (report.Warehouse faults.Reopen) → IsTrue engine.old.session.must_reopen }
     ensures kinds { IfErr result IsOfDump }
@@ -87,7 +87,7 @@ pub fn write_table<T: DumpedTable + Scanned, S: Alter, W: Write>(
     if engine.must_reopen() {
         return Err(ReportFault::Warehouse(Fault::Reopen));
     }
-    let mut part = Part::new(alloc);
+    let mut part = CsvBuffer::new(alloc);
     part.add_names::<T>(alloc)?;
     write_rows::<T, S, W>(alloc, engine, &mut part, out)
 }

@@ -21,7 +21,7 @@ use sqlite::Alter;
 use std::alloc::Global;
 use wh_engine::{Engine, Fault};
 use wh_rows::{KeyedSale, Table};
-use wh_store::Tally;
+use wh_store::FactAggregate;
 
 /// Why a sale isn't counted, as a fault of the report. A row that a sale names for its label isn't there; or there are more
 /// sales than can be counted.
@@ -43,7 +43,7 @@ struct FactSums<'r> {
     fault: Option<AddError>,
 }
 
-impl Tally for FactSums<'_> {
+impl FactAggregate for FactSums<'_> {
     ghost use Rattle.wh_report.specs.Tallied.{HasTallied};
 
     ghost counts = { λ first sales now. HasTallied first sales now };

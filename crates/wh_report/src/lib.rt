@@ -3,6 +3,7 @@
 
 mod column;
 mod column_labels;
+mod csv_buffer;
 mod dumps;
 mod fact;
 mod fact_sums;
@@ -11,7 +12,6 @@ mod labels;
 pub mod laws;
 mod mode;
 mod output;
-mod part;
 mod request;
 mod sales_report;
 mod subject;

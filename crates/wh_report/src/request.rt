@@ -9,7 +9,7 @@ use crate::subject::{Subject, reading_of, subject_in};
 use std::alloc::Global;
 use std::marker::Model;
 use thiserror::Error;
-use wh_day::{Day, ReadError};
+use wh_day::{Day, ParseError};
 use wh_policy::{AttributeType, Policy};
 
 /// Why a report can't be asked for.
@@ -58,23 +58,23 @@ impl Request {
         mode: Mode,
         from: &[u8],
         to: &[u8],
-    ) -> Result<Request, ReadError<RequestFault>>
+    ) -> Result<Request, ParseError<RequestFault>>
         ensures { Gives (λ request. request) result (asked policy.now attribute.now mode from.now to.now) }
     {
         let Some(subject) = subject_in(policy, attribute) else {
-            return Err(ReadError::Fault(RequestFault::NoAttribute));
+            return Err(ParseError::Fault(RequestFault::NoAttribute));
         };
         if reading_of(subject, mode).is_none() {
-            return Err(ReadError::Fault(no_reading(subject, mode)));
+            return Err(ParseError::Fault(no_reading(subject, mode)));
         }
         let Some(first) = Day::read(from) else {
-            return Err(ReadError::Fault(RequestFault::BadRange));
+            return Err(ParseError::Fault(RequestFault::BadRange));
         };
         let Some(last) = Day::read(to) else {
-            return Err(ReadError::Fault(RequestFault::BadRange));
+            return Err(ParseError::Fault(RequestFault::BadRange));
         };
         if last < first {
-            return Err(ReadError::Fault(RequestFault::BadRange));
+            return Err(ParseError::Fault(RequestFault::BadRange));
         }
         Ok(Request {
             words: String::from_str(alloc, attribute)?,

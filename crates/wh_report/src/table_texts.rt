@@ -7,7 +7,7 @@ ghost use Rattle.hex.specs.Hex.{encode_lower};
 ghost use Rattle.wh_rows.specs.Rows.{product, slot_columns, encode_dimension};
 ghost use Rattle.wh_report.specs.Dump.{value_field, column_names, row_fields, header_line, row_line, table_text, dimension_text};
 
-use crate::part::Part;
+use crate::csv_buffer::CsvBuffer;
 use csv::StringRecord;
 use itoa::Buffer;
 use std::alloc::{AllocError, Global};
@@ -34,7 +34,7 @@ pub trait DumpedTable: StoredTable {
 pub fn header_line<T: DumpedTable>(alloc: Global) -> Result<Vec<u8>, AllocError>
     ensures { IfOk result (λ line. line.items ≡ header_line T.layout) }
 {
-    let mut part = Part::new(alloc);
+    let mut part = CsvBuffer::new(alloc);
     part.add_names::<T>(alloc)?;
     Ok(part.into_lines())
 }
@@ -43,7 +43,7 @@ pub fn header_line<T: DumpedTable>(alloc: Global) -> Result<Vec<u8>, AllocError>
 pub fn row_line<T: DumpedTable>(alloc: Global, row: &T::Row) -> Result<Vec<u8>, AllocError>
     ensures { IfOk result (λ line. line.items ≡ row_line T.layout row.now) }
 {
-    let mut part = Part::new(alloc);
+    let mut part = CsvBuffer::new(alloc);
     part.add_row::<T>(alloc, row)?;
     Ok(part.into_lines())
 }
@@ -52,7 +52,7 @@ pub fn row_line<T: DumpedTable>(alloc: Global, row: &T::Row) -> Result<Vec<u8>, 
 pub fn table_text<T: DumpedTable>(alloc: Global, rows: &[T::Row]) -> Result<Vec<u8>, AllocError>
     ensures { IfOk result (λ text. text.items ≡ table_text T.layout rows.now) }
 {
-    let mut text = Part::new(alloc);
+    let mut text = CsvBuffer::new(alloc);
     text.add_names::<T>(alloc)?;
     for row in rows {
         text.add_row::<T>(alloc, row)?;

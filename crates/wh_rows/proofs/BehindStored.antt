@@ -22,15 +22,15 @@ all_append : {X : Type 0} (P : X → Type 0) (xs ys : List X) → AllByRecursion
 all_append P [] ys first second = second
 all_append P (x ∷ xs) ys first second = (first.0, all_append P xs ys first.1 second)
 
-all_front : {X : Type 0} (P : X → Type 0) (xs ys : List X) → AllByRecursion P (xs ++ ys) → AllByRecursion P xs
+pub all_front : {X : Type 0} (P : X → Type 0) (xs ys : List X) → AllByRecursion P (xs ++ ys) → AllByRecursion P xs
 all_front P [] ys all = tt
 all_front P (x ∷ xs) ys all = (all.0, all_front P xs ys all.1)
 
-all_mapped : {X : Type 0} (P Q : X → Type 0) (xs : List X) → ((x : X) → P x → Q x) → AllByRecursion P xs → AllByRecursion Q xs
+pub all_mapped : {X : Type 0} (P Q : X → Type 0) (xs : List X) → ((x : X) → P x → Q x) → AllByRecursion P xs → AllByRecursion Q xs
 all_mapped P Q [] to all = tt
 all_mapped P Q (x ∷ xs) to all = (to x all.0, all_mapped P Q xs to all.1)
 
-all_two : {X : Type 0} (P Q S : X → Type 0) (xs : List X) → ((x : X) → P x → Q x → S x) → AllByRecursion P xs → AllByRecursion Q xs → AllByRecursion S xs
+pub all_two : {X : Type 0} (P Q S : X → Type 0) (xs : List X) → ((x : X) → P x → Q x → S x) → AllByRecursion P xs → AllByRecursion Q xs → AllByRecursion S xs
 all_two P Q S [] to first second = tt
 all_two P Q S (x ∷ xs) to first second = (to x first.0 second.0, all_two P Q S xs to first.1 second.1)
 
@@ -68,7 +68,7 @@ fewer {X = X} p q (x ∷ xs) = go (q x) (fewer p q xs)
     go true less = both_sides (p x) (filter p (filter q xs)) (filter p xs) less
     go false less = one_side (p x) (filter p (filter q xs)) (filter p xs) less
 
-none_kept : {X : Type 0} (p : X → Bool) (xs : List X) → length (filter p xs) ≤ 0 → AllByRecursion (λ x. p x ≡ false) xs
+pub none_kept : {X : Type 0} (p : X → Bool) (xs : List X) → length (filter p xs) ≤ 0 → AllByRecursion (λ x. p x ≡ false) xs
 none_kept p [] none = tt
 none_kept p (x ∷ xs) none = go (p x) refl none (none_kept p xs)
   where

@@ -25,6 +25,7 @@ use Rattle.wh_day.proofs.KeyBytes.{key_is_text}
 use Rattle.wh_rows.specs.Types.{is_number, is_discount, is_line, is_measure, is_key, is_kind, kinds, is_special, is_given, is_slot, are_slots, dim_number}
 use Rattle.wh_rows.specs.Rows.{flag, slot_column, is_natural}
 use Rattle.wh_rows.specs.Columns.{damaged, of_type, or_damaged, integer_of, number_of, discount_of, line_of, measure_of, day_of, flag_of, dim_of, blob_of, text_of, tested_of, slot_of, slots_of}
+use Rattle.wh_history.proofs.Beginnings.{either}
 
 -- ---- reading in steps
 
@@ -45,10 +46,6 @@ of_type_ok false x y h = absurd (cc)
 
 pub both : {a b : Bool} → a ≡ true → b ≡ true → (a && b) ≡ true
 both p q = rw (p, q) refl
-
-either : (a b : Bool) → (a || b) ≡ true → (a ≡ true) ⊎ (b ≡ true)
-either true b h = inl refl
-either false b h = inr h
 
 -- a list is its elements, one by one
 pub whole : {X : Type 0} (d : X) (xs : List X) (n : ℕ) → length xs ≡ n → xs ≡ map (λ i. slice_index_or xs i d) (range_with_len 0 n)

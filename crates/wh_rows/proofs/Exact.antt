@@ -7,8 +7,8 @@ use Rattle.sqlite_value.specs.declared.value.Value.TheVariants.{Null, Int}
 use Rattle.sqlite.specs.Order.{Row, column}
 use Rattle.wh_day.specs.Day.{is_day}
 use Rattle.wh_day.specs.Reading.{Gives}
-use Rattle.wh_day.specs.declared.error.ReadError.{ReadError}
-use Rattle.wh_day.specs.declared.error.ReadError.TheVariants.{Memory, Fault}
+use Rattle.wh_day.specs.declared.error.ParseError.{ParseError}
+use Rattle.wh_day.specs.declared.error.ParseError.TheVariants.{Memory, Fault}
 use Rattle.wh_day.specs.declared.calendar.DateRow.{DateRow}
 use Rattle.wh_policy.specs.declared.attribute.Dim.{Dim}
 use Rattle.wh_history.specs.declared.rows.DimRow.{DimRow}
@@ -31,11 +31,11 @@ use Rattle.wh_rows.proofs.ColumnLemmas.{when_ok, bind_ok, bind_is, both, whole, 
 -- what a function that reads gives, by what it reads
 module _ {V : Type 0} (of : Row → Result V Damaged) (encode : V → Row) (is_valid : V → Bool)
     (sound : (row : Row) (r : V) → of row ≡ Ok r → (is_valid r ≡ true) × (row ≡ encode r)) (complete : (r : V) → is_valid r ≡ true → of (encode r) ≡ Ok r) (row : Row) where
-  pub read_ok : (result : Result V (ReadError Damaged)) → Gives (λ r. r) result (of row) → IfOk result (λ r. IsTrue (is_valid r) × (row ≡ encode r))
+  pub read_ok : (result : Result V (ParseError Damaged)) → Gives (λ r. r) result (of row) → IfOk result (λ r. IsTrue (is_valid r) × (row ≡ encode r))
   read_ok (Ok r) gives = sound row r gives
   read_ok (Err e) gives = tt
 
-  pub read_err : (result : Result V (ReadError Damaged)) → Gives (λ r. r) result (of row) → IfErr result (λ e. e ≢ Memory → (r : V) → IsTrue (is_valid r) → row ≢ encode r)
+  pub read_err : (result : Result V (ParseError Damaged)) → Gives (λ r. r) result (of row) → IfErr result (λ e. e ≢ Memory → (r : V) → IsTrue (is_valid r) → row ≢ encode r)
   read_err (Ok r) gives = tt
   read_err (Err Memory) gives = λ fault. absurd (fault refl)
   read_err (Err (Fault f)) gives = λ fault r valid is. let one = sym gives ∙ ap of is ∙ complete r valid in absurd (cc)

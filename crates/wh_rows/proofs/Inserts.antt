@@ -47,6 +47,7 @@ use Rattle.wh_rows.proofs.RawKeys.{at_most_one, ids_differ, none_clashes}
 use Rattle.wh_rows.proofs.Typed.{holds_filtered, put_is_more}
 use Rattle.wh_rows.proofs.ColumnLemmas.{both}
 use Rattle.wh_rows.specs.Steps.{with_rows}
+use Rattle.wh_rows.proofs.Puts.{has_permuted}
 
 -- ---- a list that is written out
 
@@ -120,9 +121,6 @@ module _ (limit : Option ℕ) (mode : Mode) (params : Row) (db : Database) (at :
 no_more : {X : Type 0} (x : X) (xs : List X) → length (x ∷ xs) ≤ 1 → xs ≡ []
 no_more x [] short = refl
 no_more x (y ∷ xs) short = absurd (omega (arith, short))
-
-has_permuted : {X : Type 0} {xs ys : List X} → IsPermutation xs ys → (x : X) → Has xs x → Has ys x
-has_permuted {X} {xs} {ys} same x here = all_has (λ y. Has ys y) xs x (all-permutation (λ y. Has ys y) ys xs (IsPermutation-sym _ _ same) (all_from (λ y. Has ys y) ys (λ y h. h))) here
 
 module _ {K V : Type 0} (layout : Layout K V) (total : IsTotalOrder layout.order) (same : IsAntisymmetric layout.order) where
   abbrev pub same_key : V → V → Bool

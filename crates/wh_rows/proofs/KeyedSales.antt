@@ -20,13 +20,13 @@ use Rattle.sqlite.specs.State.{State, Shown}
 use Rattle.sqlite.proofs.Callers.{reads_as}
 use Rattle.wh_day.specs.Day.{is_day}
 use Rattle.wh_day.specs.Reading.{Gives}
-use Rattle.wh_day.specs.declared.error.ReadError.{ReadError}
-use Rattle.wh_day.specs.declared.error.ReadError.TheVariants.{Memory, Fault}
+use Rattle.wh_day.specs.declared.error.ParseError.{ParseError}
+use Rattle.wh_day.specs.declared.error.ParseError.TheVariants.{Memory, Fault}
 use Rattle.wh_policy.specs.declared.attribute.Dim.TheVariants.{Product, Store, Customer}
 use Rattle.wh_history.specs.declared.facts.Fact.{Fact}
 use Rattle.wh_rows.specs.declared.columns.Damaged.{Damaged}
-use Rattle.wh_rows.specs.declared.keyed_sale.FactKey.{FactKey}
-use Rattle.wh_rows.specs.declared.keyed_sale.FactKey.TheVariants.{Surrogate, Durable, Profile, Day}
+use Rattle.wh_rows.specs.declared.keyed_sale.FactColumn.{FactColumn}
+use Rattle.wh_rows.specs.declared.keyed_sale.FactColumn.TheVariants.{Surrogate, Durable, Profile, Day}
 use Rattle.wh_rows.specs.declared.keyed_sale.KeyedSale.{KeyedSale}
 use Rattle.wh_rows.specs.declared.table.Table.TheVariants as tables
 use Rattle.wh_rows.specs.declared.format.Format.{Format}
@@ -79,7 +79,7 @@ keyed_sound row s h =
     ∙ ap₂ ◌∷◌ (day_so _ _ day.1).0 (ap₂ ◌∷◌ (key_so _ _ key.1) (ap₂ ◌∷◌ (measure_so 9999 _ _ quantity.1).0 (ap₂ ◌∷◌ (measure_so 999999999 _ _ amount.1).0 (ap₂ ◌∷◌ (measure_so 999999999 _ _ cost.1).0 refl)))) in
     subst (λ s. row ≡ columns_of s) (same_value cost.2) columns
 
-keyed_complete : (which : FactKey) (f : Fact) → is_fact f ≡ true → keyed_of (columns_of (keyed which f)) ≡ Ok (keyed which f)
+keyed_complete : (which : FactColumn) (f : Fact) → is_fact f ≡ true → keyed_of (columns_of (keyed which f)) ≡ Ok (keyed which f)
 unfolding keyed_of key_in
 keyed_complete which f valid =
     let cost = and_parts _ (is_measure 999999999 f.cost) valid in
@@ -99,11 +99,11 @@ keyed_complete which f valid =
     (bind_is _ f.cost _ (keyed which f) (measure_is 999999999 f.cost cost.1) refl)))
 
 -- what a function that reads gives, by what it reads
-pub keyed_ok : (row : Row) (result : Result KeyedSale (ReadError Damaged)) → Gives (λ s. s) result (keyed_of row) → IfOk result (λ s. row ≡ columns_of s)
+pub keyed_ok : (row : Row) (result : Result KeyedSale (ParseError Damaged)) → Gives (λ s. s) result (keyed_of row) → IfOk result (λ s. row ≡ columns_of s)
 keyed_ok row (Ok s) gives = keyed_sound row s gives
 keyed_ok row (Err e) gives = tt
 
-pub keyed_err : (row : Row) (result : Result KeyedSale (ReadError Damaged)) → Gives (λ s. s) result (keyed_of row) → IfErr result (λ e. e ≢ Memory → (which : FactKey) (f : Fact) → IsTrue (is_fact f) → row ≢ columns_of (keyed which f))
+pub keyed_err : (row : Row) (result : Result KeyedSale (ParseError Damaged)) → Gives (λ s. s) result (keyed_of row) → IfErr result (λ e. e ≢ Memory → (which : FactColumn) (f : Fact) → IsTrue (is_fact f) → row ≢ columns_of (keyed which f))
 keyed_err row (Ok s) gives = tt
 keyed_err row (Err Memory) gives = λ fault. absurd (fault refl)
 keyed_err row (Err (Fault d)) gives = λ fault which f valid is. let one = sym gives ∙ ap keyed_of is ∙ keyed_complete which f valid in absurd (cc)
@@ -116,7 +116,7 @@ showing place = col 1 3 ∷ col 1 (place + 1) ∷ col 1 11 ∷ col 1 12 ∷ col 
 abbrev naming : List ℕ → List (List ℕ)
 naming key = codes "day" ∷ key ∷ codes "quantity" ∷ codes "amount" ∷ codes "cost" ∷ []
 
-pub shows_sales : (format : Format) (which : FactKey) → ShowsSales (schema_in format) row.fact.table which (keyed_sales which)
+pub shows_sales : (format : Format) (which : FactColumn) → ShowsSales (schema_in format) row.fact.table which (keyed_sales which)
 unfolding understood everything
 shows_sales format (Surrogate Product) = record { project = showing 4; names = naming (codes "product_key"); command = refl; plain = (refl, refl); unlisted = refl; shows = λ r. refl }
 shows_sales format (Surrogate Store) = record { project = showing 3; names = naming (codes "store_key"); command = refl; plain = (refl, refl); unlisted = refl; shows = λ r. refl }
@@ -127,7 +127,7 @@ shows_sales format (Durable Customer) = record { project = showing 8; names = na
 shows_sales format Profile = record { project = showing 9; names = naming (codes "profile"); command = refl; plain = (refl, refl); unlisted = refl; shows = λ r. refl }
 shows_sales format Day = record { project = showing 2; names = naming (codes "day"); command = refl; plain = (refl, refl); unlisted = refl; shows = λ r. refl }
 
-pub shows_sales2 : (which : FactKey) → ShowsSales (schema_in Two) row.fact2.table which (keyed_sales2 which)
+pub shows_sales2 : (which : FactColumn) → ShowsSales (schema_in Two) row.fact2.table which (keyed_sales2 which)
 unfolding understood everything
 shows_sales2 (Surrogate Product) = record { project = showing 4; names = naming (codes "product_key"); command = refl; plain = (refl, refl); unlisted = refl; shows = λ r. refl }
 shows_sales2 (Surrogate Store) = record { project = showing 3; names = naming (codes "store_key"); command = refl; plain = (refl, refl); unlisted = refl; shows = λ r. refl }
@@ -138,7 +138,7 @@ shows_sales2 (Durable Customer) = record { project = showing 8; names = naming (
 shows_sales2 Profile = record { project = showing 9; names = naming (codes "profile"); command = refl; plain = (refl, refl); unlisted = refl; shows = λ r. refl }
 shows_sales2 Day = record { project = showing 2; names = naming (codes "day"); command = refl; plain = (refl, refl); unlisted = refl; shows = λ r. refl }
 
-pub shows_sales2_in : (format : Format) (which : FactKey) → Means (is_two format) (ShowsSales (schema_in format) row.fact2.table which (keyed_sales2 which)) (understood (schema_in format) (keyed_sales2 which))
+pub shows_sales2_in : (format : Format) (which : FactColumn) → Means (is_two format) (ShowsSales (schema_in format) row.fact2.table which (keyed_sales2 which)) (understood (schema_in format) (keyed_sales2 which))
 unfolding understood everything listing_schema
 shows_sales2_in One (Surrogate Product) = tt
 shows_sales2_in One (Surrogate Store) = tt
@@ -153,7 +153,7 @@ shows_sales2_in Two which = shows_sales2 which
 -- ---- what it shows of the facts that are stored
 
 -- a fact's row shows the fact's sale
-pub shown_fact : (which : FactKey) (f : Fact) → shown_of which (encode_fact f) ≡ columns_of (keyed which f)
+pub shown_fact : (which : FactColumn) (f : Fact) → shown_of which (encode_fact f) ≡ columns_of (keyed which f)
 shown_fact (Surrogate Product) f = refl
 shown_fact (Surrogate Store) f = refl
 shown_fact (Surrogate Customer) f = refl
@@ -163,7 +163,7 @@ shown_fact (Durable Customer) f = refl
 shown_fact Profile f = refl
 shown_fact Day f = refl
 
-module _ (which : FactKey) (old new : State) (answer : List Row) (shown : Shown (keyed_sales which) [] old new answer) where
+module _ (which : FactColumn) (old new : State) (answer : List Row) (shown : Shown (keyed_sales which) [] old new answer) where
   -- the answer is what each row of the table shows, in some order
   shows_each : (format : Format) → old.now.schema ≡ schema_in format → IsPermutation (map (shown_of which) (rows_in row.fact.table old.now.trees)) answer
   shows_each format is =
@@ -201,7 +201,7 @@ no_fact_damaged db t is = no_damage row.fact ((stored_of t).rows tables.Fact) (v
 
 -- ---- the same of the second format
 
-pub shown_fact2 : (which : FactKey) (r : Fact2) → shown_of which (encode_fact2 r) ≡ columns_of (keyed which r.fact)
+pub shown_fact2 : (which : FactColumn) (r : Fact2) → shown_of which (encode_fact2 r) ≡ columns_of (keyed which r.fact)
 shown_fact2 (Surrogate Product) r = refl
 shown_fact2 (Surrogate Store) r = refl
 shown_fact2 (Surrogate Customer) r = refl
@@ -211,7 +211,7 @@ shown_fact2 (Durable Customer) r = refl
 shown_fact2 Profile r = refl
 shown_fact2 Day r = refl
 
-module _ (which : FactKey) (old new : State) (answer : List Row) (shown : Shown (keyed_sales2 which) [] old new answer) where
+module _ (which : FactColumn) (old new : State) (answer : List Row) (shown : Shown (keyed_sales2 which) [] old new answer) where
   shows_each2 : (format : Format) → old.now.schema ≡ schema_in format → IsPermutation (map (shown_of which) (rows_shown format tables.Fact2 old.now.trees)) answer
   shows_each2 One is = absurd (never_shows (keyed_sales2 which) [] old (schema_in One) is (shows_sales2_in One which) new answer shown)
   shows_each2 Two is =

@@ -13,7 +13,7 @@ pub both_true : (a b : Bool) → T (a && b) → (a ≡ true) × T b
 both_true true b h = (refl, h)
 both_true false b h = absurd h
 
-both_hold : (a b : Bool) → a ≡ true → T b → T (a && b)
+pub both_hold : (a b : Bool) → a ≡ true → T b → T (a && b)
 both_hold true b p q = q
 both_hold false b p q = absurd (cc)
 

@@ -33,8 +33,8 @@ use Rattle.wh_rows.proofs.Puts.{holds_put, was_free, is_moved}
 use Rattle.wh_rows.specs.Rows as row
 use Rattle.wh_rows.specs.Formats.{is_two}
 use Rattle.wh_rows.specs.Rekey.{Rekey, rekey_text, bind_rekey, are_keys, with_keys, rekeyed, rekey2_text, with_keys2, rekeyed2}
-use Rattle.wh_rows.proofs.Facts.{rekey, valid_rekeyed}
-use Rattle.wh_rows.proofs.Facts2.{valid_rekeyed2}
+use Rattle.wh_rows.proofs.EachTable.Facts.{rekey, valid_rekeyed}
+use Rattle.wh_rows.proofs.EachTable.Facts2.{valid_rekeyed2}
 use Rattle.wh_rows.proofs.Places as places
 use Rattle.wh_rows.proofs.Puts
 use Rattle.wh_rows.proofs.Removes

@@ -132,7 +132,7 @@ rowid_finds rows r tests rising here is = only_one tests rows r rising.0 here (i
 cc_some : {X : Type 0} {x y : X} → ◌≡◌ {A = Option X} (Some x) (Some y) → x ≡ y
 cc_some e = cc
 
-has_permuted : {X : Type 0} {xs ys : List X} → IsPermutation xs ys → (x : X) → Has xs x → Has ys x
+pub has_permuted : {X : Type 0} {xs ys : List X} → IsPermutation xs ys → (x : X) → Has xs x → Has ys x
 has_permuted {X} {xs} {ys} same x here = all_has (λ y. Has ys y) xs x (all-permutation (λ y. Has ys y) ys xs (IsPermutation-sym _ _ same) (all_from (λ y. Has ys y) ys (λ y h. h))) here
 
 -- ---- the upsert

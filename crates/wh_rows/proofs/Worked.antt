@@ -12,7 +12,7 @@ use Rattle.wh_rows.specs.Types.{is_key, is_kind}
 use Rattle.wh_rows.specs.Columns.{damaged, integer_of, number_of, line_of, measure_of, day_of, flag_of, dim_of, blob_of, text_of, slot_of}
 use Rattle.wh_rows.specs.Stored.{meta_of, command_of, member_of, change_of, dimension_of, profile_of, date_of, fact_of}
 use Rattle.wh_rows.specs.KeyedSales.{shown_of, keyed_of}
-use Rattle.wh_rows.specs.declared.keyed_sale.FactKey.TheVariants.{Surrogate, Durable, Profile, Day}
+use Rattle.wh_rows.specs.declared.keyed_sale.FactColumn.TheVariants.{Surrogate, Durable, Profile, Day}
 use Rattle.wh_rows.specs.Questions.{anchor_column}
 use Rattle.wh_rows.specs.Raw.{IsGreatestIn, IsGreatestAnchor}
 use Rattle.wh_rows.proofs.OnLiterals.{rows_on_literals}

@@ -19,8 +19,8 @@ use Rattle.wh_rows.specs.Meaning.{command_of}
 use Rattle.wh_rows.specs.Statements.{reading}
 use Rattle.wh_rows.specs.Columns.{damaged, day_of, measure_of}
 use Rattle.wh_rows.specs.declared.columns.Damaged.{Damaged}
-use Rattle.wh_rows.specs.declared.keyed_sale.FactKey.{FactKey}
-use Rattle.wh_rows.specs.declared.keyed_sale.FactKey.TheVariants.{Surrogate, Durable, Profile, Day}
+use Rattle.wh_rows.specs.declared.keyed_sale.FactColumn.{FactColumn}
+use Rattle.wh_rows.specs.declared.keyed_sale.FactColumn.TheVariants.{Surrogate, Durable, Profile, Day}
 use Rattle.wh_rows.specs.declared.keyed_sale.KeyedSale.{KeyedSale}
 
 -- a fact's surrogate key and durable key in a dimension
@@ -34,14 +34,14 @@ durable_in Product f = f.product_durable
 durable_in Store f = f.store_durable
 durable_in Customer f = f.customer_durable
 
-abbrev pub key_of : FactKey → Fact → ℕ
+abbrev pub key_of : FactColumn → Fact → ℕ
 key_of (Surrogate dim) f = surrogate_in dim f
 key_of (Durable dim) f = durable_in dim f
 key_of Profile f = f.keys.profile
 key_of Day f = f.day
 
 -- the sale of a fact, by one of its keys
-abbrev pub keyed : FactKey → Fact → KeyedSale
+abbrev pub keyed : FactColumn → Fact → KeyedSale
 keyed which f = record { day = f.day; key = key_of which f; quantity = f.quantity; amount = f.amount; cost = f.cost }
 
 -- how it is shown
@@ -67,7 +67,7 @@ unfoldable pub keyed_of : Row → Result KeyedSale Damaged
 keyed_of row = if length row == 5 then keyed_columns row else damaged
 
 -- the column of the table in which a key stands, from 0
-abbrev pub place_of : FactKey → ℕ
+abbrev pub place_of : FactColumn → ℕ
 place_of (Surrogate Store) = 3
 place_of (Surrogate Product) = 4
 place_of (Surrogate Customer) = 5
@@ -78,11 +78,11 @@ place_of Profile = 9
 place_of Day = 2
 
 -- what is shown of a stored row of the facts, whoever wrote it
-abbrev pub shown_of : FactKey → Row → Row
+abbrev pub shown_of : FactColumn → Row → Row
 shown_of which r = column r 2 ∷ column r (place_of which) ∷ column r 10 ∷ column r 11 ∷ column r 12 ∷ []
 
 -- the text that shows all facts so, in no order
-abbrev pub keyed_sales : FactKey → List ℕ
+abbrev pub keyed_sales : FactColumn → List ℕ
 keyed_sales (Surrogate Product) = codes "SELECT day, product_key, quantity, amount, cost FROM fact"
 keyed_sales (Surrogate Store) = codes "SELECT day, store_key, quantity, amount, cost FROM fact"
 keyed_sales (Surrogate Customer) = codes "SELECT day, customer_key, quantity, amount, cost FROM fact"
@@ -93,7 +93,7 @@ keyed_sales Profile = codes "SELECT day, profile, quantity, amount, cost FROM fa
 keyed_sales Day = codes "SELECT day, day, quantity, amount, cost FROM fact"
 
 -- the same of the second format
-abbrev pub keyed_sales2 : FactKey → List ℕ
+abbrev pub keyed_sales2 : FactColumn → List ℕ
 keyed_sales2 (Surrogate Product) = codes "SELECT day, product_key, quantity, amount, cost FROM fact2"
 keyed_sales2 (Surrogate Store) = codes "SELECT day, store_key, quantity, amount, cost FROM fact2"
 keyed_sales2 (Surrogate Customer) = codes "SELECT day, customer_key, quantity, amount, cost FROM fact2"
@@ -104,7 +104,7 @@ keyed_sales2 Profile = codes "SELECT day, profile, quantity, amount, cost FROM f
 keyed_sales2 Day = codes "SELECT day, day, quantity, amount, cost FROM fact2"
 
 -- what the text has to mean
-pub record ShowsSales (under : Schema) (table : Table) (which : FactKey) (text : List ℕ) : Type 0 where
+pub record ShowsSales (under : Schema) (table : Table) (which : FactColumn) (text : List ℕ) : Type 0 where
   pub project : List Term
   pub names : List (List ℕ)
   pub command : command_of (understood under text) ≡ Select (record { lets = []; body = reading table.tree [] project [] }) names

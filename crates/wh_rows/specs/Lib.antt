@@ -25,6 +25,3 @@ pub mod KeyedSales
 pub mod Steps
 pub mod Inserting
 pub mod Parts
-pub mod Defined
-pub mod Sound
-pub mod Laws

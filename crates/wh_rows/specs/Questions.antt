@@ -1,5 +1,6 @@
 -- Which stored rows answer a question, whoever wrote them.
 use Rattle.std.specs.Prelude.{ℕ, List, [], Bool, true, ◌&&◌, ◌||◌, pos, slice_index_or, bytes_eq, codes}
+use Rattle.std.specs.Ordering.{eq_by_cmp, is_ge, is_le, nat_cmp}
 use Rattle.sqlite_value.specs.declared.value.Value.{Value}
 use Rattle.sqlite_value.specs.declared.value.Value.TheVariants.{Int, Text}
 use Rattle.sqlite_sql.specs.Ops.{binary, is_true}
@@ -86,3 +87,7 @@ abbrev pub durable_of : Dim → Fact → ℕ
 durable_of Product fact = fact.product_durable
 durable_of Store fact = fact.store_durable
 durable_of Customer fact = fact.customer_durable
+
+-- whether the fact carries this durable key of a dimension, and its day is one from the first to the last
+abbrev pub is_sold_between : Dim → (durable from to : ℕ) → Fact → Bool
+is_sold_between dim durable from to fact = eq_by_cmp nat_cmp durable (durable_of dim fact) && (is_ge (nat_cmp fact.day from) && is_le (nat_cmp fact.day to))

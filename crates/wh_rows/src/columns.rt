@@ -13,7 +13,7 @@ use sqlite::Row;
 use sqlite::types::{Bytes, ValueRef};
 use std::alloc::Global;
 use thiserror::Error;
-use wh_day::{Day, ReadError, Value, Values, is_key};
+use wh_day::{Day, ParseError, Value, Values, is_key};
 use wh_history::GREATEST_NUMBER;
 use wh_policy::Dim;
 
@@ -33,112 +33,112 @@ fn column<'a>(row: &'a Row, at: usize) -> ValueRef<'a>
 }
 
 #[tactic(auto, unfolding(crate::specs::Columns::integer_of))]
-pub(crate) fn integer(row: &Row, at: usize) -> Result<i64, ReadError<Damaged>>
+pub(crate) fn integer(row: &Row, at: usize) -> Result<i64, ParseError<Damaged>>
     ensures { Gives (λ n. n) result (integer_of (column row.now at)) }
 {
     match column(row, at) {
         ValueRef::Int(n) => Ok(n),
-        _ => Err(ReadError::Fault(Damaged)),
+        _ => Err(ParseError::Fault(Damaged)),
     }
 }
 
 #[tactic(auto, unfolding(crate::specs::Columns::number_of))]
-pub(crate) fn number(row: &Row, at: usize) -> Result<u64, ReadError<Damaged>>
+pub(crate) fn number(row: &Row, at: usize) -> Result<u64, ParseError<Damaged>>
     ensures { Gives (λ n. n) result (number_of (column row.now at)) }
 {
     match column(row, at) {
         ValueRef::Int(n) if 0 <= n && n <= GREATEST_NUMBER as i64 => Ok(n as u64),
-        _ => Err(ReadError::Fault(Damaged)),
+        _ => Err(ParseError::Fault(Damaged)),
     }
 }
 
 #[tactic(auto, unfolding(crate::specs::Columns::line_of))]
-pub(crate) fn line(row: &Row, at: usize) -> Result<u32, ReadError<Damaged>>
+pub(crate) fn line(row: &Row, at: usize) -> Result<u32, ParseError<Damaged>>
     ensures { Gives (λ n. n) result (line_of (column row.now at)) }
 {
     match column(row, at) {
         ValueRef::Int(n) if 1 <= n && n <= 9999 => Ok(n as u32),
-        _ => Err(ReadError::Fault(Damaged)),
+        _ => Err(ParseError::Fault(Damaged)),
     }
 }
 
 #[tactic(auto, unfolding(crate::specs::Columns::discount_of))]
-pub(crate) fn discount(row: &Row, at: usize) -> Result<u64, ReadError<Damaged>>
+pub(crate) fn discount(row: &Row, at: usize) -> Result<u64, ParseError<Damaged>>
     ensures { Gives (λ n. n) result (discount_of (column row.now at)) }
 {
     match column(row, at) {
         ValueRef::Int(n) if 0 <= n && n <= 999_999_999 => Ok(n as u64),
-        _ => Err(ReadError::Fault(Damaged)),
+        _ => Err(ParseError::Fault(Damaged)),
     }
 }
 
 /// A number from `-most` to `most`.
 #[tactic(auto, unfolding(crate::specs::Columns::measure_of))]
-pub(crate) fn measure(most: u64, row: &Row, at: usize) -> Result<i64, ReadError<Damaged>>
+pub(crate) fn measure(most: u64, row: &Row, at: usize) -> Result<i64, ParseError<Damaged>>
     ensures { Gives (λ n. n) result (measure_of most (column row.now at)) }
 {
     match column(row, at) {
         ValueRef::Int(n) if n.unsigned_abs() <= most => Ok(n),
-        _ => Err(ReadError::Fault(Damaged)),
+        _ => Err(ParseError::Fault(Damaged)),
     }
 }
 
 #[tactic(auto, unfolding(crate::specs::Columns::day_of))]
-pub(crate) fn day(row: &Row, at: usize) -> Result<Day, ReadError<Damaged>>
+pub(crate) fn day(row: &Row, at: usize) -> Result<Day, ParseError<Damaged>>
     ensures { Gives (λ n. n) result (day_of (column row.now at)) }
 {
     let ValueRef::Int(key) = column(row, at) else {
-        return Err(ReadError::Fault(Damaged));
+        return Err(ParseError::Fault(Damaged));
     };
     match Day::from_key(key) {
         Some(day) => Ok(day),
-        None => Err(ReadError::Fault(Damaged)),
+        None => Err(ParseError::Fault(Damaged)),
     }
 }
 
 #[tactic(auto, unfolding(crate::specs::Columns::flag_of))]
-pub(crate) fn flag(row: &Row, at: usize) -> Result<bool, ReadError<Damaged>>
+pub(crate) fn flag(row: &Row, at: usize) -> Result<bool, ParseError<Damaged>>
     ensures { Gives (λ n. n) result (flag_of (column row.now at)) }
 {
     match column(row, at) {
         ValueRef::Int(0) => Ok(false),
         ValueRef::Int(1) => Ok(true),
-        _ => Err(ReadError::Fault(Damaged)),
+        _ => Err(ParseError::Fault(Damaged)),
     }
 }
 
 #[tactic(auto, unfolding(crate::specs::Columns::dim_of))]
-pub(crate) fn dim(row: &Row, at: usize) -> Result<Dim, ReadError<Damaged>>
+pub(crate) fn dim(row: &Row, at: usize) -> Result<Dim, ParseError<Damaged>>
     ensures { Gives (λ n. n) result (dim_of (column row.now at)) }
 {
     match column(row, at) {
         ValueRef::Int(1) => Ok(Dim::Product),
         ValueRef::Int(2) => Ok(Dim::Store),
         ValueRef::Int(3) => Ok(Dim::Customer),
-        _ => Err(ReadError::Fault(Damaged)),
+        _ => Err(ParseError::Fault(Damaged)),
     }
 }
 
 #[tactic(auto, unfolding(crate::specs::Columns::blob_of))]
-pub(crate) fn blob(alloc: Global, row: &Row, at: usize) -> Result<Bytes, ReadError<Damaged>>
+pub(crate) fn blob(alloc: Global, row: &Row, at: usize) -> Result<Bytes, ParseError<Damaged>>
     ensures { Gives (λ n. n) result (blob_of (column row.now at)) }
 {
     match column(row, at) {
         ValueRef::Blob(bytes) => Ok(Bytes::from_slice(alloc, bytes)?),
-        _ => Err(ReadError::Fault(Damaged)),
+        _ => Err(ParseError::Fault(Damaged)),
     }
 }
 
 #[tactic(auto, unfolding(crate::specs::Columns::text_of))]
-fn words<'a>(row: &'a Row, at: usize) -> Result<&'a str, ReadError<Damaged>>
+fn words<'a>(row: &'a Row, at: usize) -> Result<&'a str, ParseError<Damaged>>
     ensures { Gives (λ text. text.now) result (text_of (column row.now at)) }
 {
     let ValueRef::Text(bytes) = column(row, at) else {
-        return Err(ReadError::Fault(Damaged));
+        return Err(ParseError::Fault(Damaged));
     };
     match as_text(bytes) {
         Some(text) => Ok(text),
-        None => Err(ReadError::Fault(Damaged)),
+        None => Err(ParseError::Fault(Damaged)),
     }
 }
 
@@ -153,7 +153,7 @@ fn as_text(bytes: &[u8]) -> Option<&str>
 
 /// Any text.
 #[tactic(auto, unfolding(crate::specs::Columns::text_of))]
-pub(crate) fn text(alloc: Global, row: &Row, at: usize) -> Result<Value, ReadError<Damaged>>
+pub(crate) fn text(alloc: Global, row: &Row, at: usize) -> Result<Value, ParseError<Damaged>>
     ensures { Gives (λ text. text) result (text_of (column row.now at)) }
 {
     let text = words(row, at)?;
@@ -167,14 +167,14 @@ pub(crate) fn key(
     most: usize,
     row: &Row,
     at: usize,
-) -> Result<Value, ReadError<Damaged>>
+) -> Result<Value, ParseError<Damaged>>
     ensures { Gives (λ text. text) result (tested_of (is_key most) (column row.now at)) }
 {
     let text = words(row, at)?;
     if is_key(most, text.as_bytes()) {
         Ok(Value::new(alloc, text)?)
     } else {
-        Err(ReadError::Fault(Damaged))
+        Err(ParseError::Fault(Damaged))
     }
 }
 
@@ -186,14 +186,14 @@ fn is_kind(text: &str) -> bool
 
 /// What a command is.
 #[tactic(auto, unfolding(crate::specs::Columns::tested_of))]
-pub(crate) fn kind(alloc: Global, row: &Row, at: usize) -> Result<Value, ReadError<Damaged>>
+pub(crate) fn kind(alloc: Global, row: &Row, at: usize) -> Result<Value, ParseError<Damaged>>
     ensures { Gives (λ text. text) result (tested_of is_kind (column row.now at)) }
 {
     let text = words(row, at)?;
     if is_kind(text) {
         Ok(Value::new(alloc, text)?)
     } else {
-        Err(ReadError::Fault(Damaged))
+        Err(ParseError::Fault(Damaged))
     }
 }
 
@@ -215,14 +215,14 @@ pub(crate) fn natural(
     surrogate: u64,
     row: &Row,
     at: usize,
-) -> Result<Value, ReadError<Damaged>>
+) -> Result<Value, ParseError<Damaged>>
     ensures { Gives (λ text. text) result (tested_of (is_natural dim surrogate) (column row.now at)) }
 {
     let text = words(row, at)?;
     if is_natural(dim, surrogate, text) {
         Ok(Value::new(alloc, text)?)
     } else {
-        Err(ReadError::Fault(Damaged))
+        Err(ParseError::Fault(Damaged))
     }
 }
 
@@ -237,7 +237,7 @@ fn is_special(text: &str) -> bool
 }
 
 #[tactic(auto, unfolding(crate::specs::Columns::slot_of))]
-fn slot(alloc: Global, row: &Row, at: usize) -> Result<Value, ReadError<Damaged>>
+fn slot(alloc: Global, row: &Row, at: usize) -> Result<Value, ParseError<Damaged>>
     ensures { Gives (λ text. text) result (slot_of (column row.now at)) }
 {
     let text = words(row, at)?;
@@ -246,13 +246,13 @@ fn slot(alloc: Global, row: &Row, at: usize) -> Result<Value, ReadError<Damaged>
     }
     match Value::read(alloc, text.as_bytes())? {
         Some(value) => Ok(value),
-        None => Err(ReadError::Fault(Damaged)),
+        None => Err(ParseError::Fault(Damaged)),
     }
 }
 
 /// The texts of the six slots from a column on.
 #[tactic(auto, unfolding(crate::specs::Columns::slots_of))]
-pub(crate) fn slots(alloc: Global, row: &Row, from: usize) -> Result<Values, ReadError<Damaged>>
+pub(crate) fn slots(alloc: Global, row: &Row, from: usize) -> Result<Values, ParseError<Damaged>>
     requires { from < 100 }
     ensures { Gives (λ texts. texts) result (slots_of row.now from) }
 {

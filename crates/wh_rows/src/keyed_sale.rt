@@ -3,19 +3,19 @@
 ghost use Rattle.std.specs.Prelude.{◌≡◌, ◌≢◌, IsTrue, IfOk, IfErr};
 ghost use Rattle.sqlite_value.specs.Order.{column};
 ghost use Rattle.wh_day.specs.Reading.{Gives};
-ghost use Rattle.wh_day.specs.declared.error.ReadError.TheVariants.{Memory};
+ghost use Rattle.wh_day.specs.declared.error.ParseError.TheVariants.{Memory};
 ghost use Rattle.wh_history.specs.declared.facts.Fact.{Fact};
 ghost use Rattle.wh_rows.specs.KeyedSales.{columns_of, keyed, key_in, keyed_of};
 ghost use Rattle.wh_rows.specs.Rows.{is_fact};
 
 use crate::columns::{self, Damaged};
 use sqlite::Row;
-use wh_day::{Day, ReadError};
+use wh_day::{Day, ParseError};
 use wh_policy::Dim;
 
 /// The keys by which a fact names rows of other tables.
 #[derive(Clone, Copy, Debug, PartialEq, Eq)]
-pub enum FactKey {
+pub enum FactColumn {
     /// The surrogate key of the row of a dimension that holds the day of sale.
     Surrogate(Dim),
     /// The durable key of a member of a dimension.
@@ -40,23 +40,23 @@ pub struct KeyedSale {
 
 /// A key of another table's row: a number, or a day.
 #[tactic(auto, unfolding(crate::specs::KeyedSales::key_in, crate::specs::Columns::integer_of))]
-fn key(row: &Row, at: usize) -> Result<u64, ReadError<Damaged>>
+fn key(row: &Row, at: usize) -> Result<u64, ParseError<Damaged>>
     ensures { Gives (λ key. key) result (key_in (column row.now at)) }
 {
     let key = columns::integer(row, at)?;
     if key < 0 {
-        return Err(ReadError::Fault(Damaged));
+        return Err(ParseError::Fault(Damaged));
     }
     Ok(key as u64)
 }
 
 /// The five columns.
 #[tactic(auto, unfolding(crate::specs::KeyedSales::keyed_of))]
-fn read_columns(row: &Row) -> Result<KeyedSale, ReadError<Damaged>>
+fn read_columns(row: &Row) -> Result<KeyedSale, ParseError<Damaged>>
     ensures { Gives (λ sale. sale) result (keyed_of row.now) }
 {
     if row.column_count() != 5 {
-        return Err(ReadError::Fault(Damaged));
+        return Err(ParseError::Fault(Damaged));
     }
     let day = columns::day(row, 0)?;
     let key = key(row, 1)?;
@@ -74,7 +74,7 @@ fn read_columns(row: &Row) -> Result<KeyedSale, ReadError<Damaged>>
 
 impl KeyedSale {
     /// Reads a row of these five columns. `Damaged`: it has others, or a value is out of its type.
-    pub fn read(row: &Row) -> Result<KeyedSale, ReadError<Damaged>>
+    pub fn read(row: &Row) -> Result<KeyedSale, ParseError<Damaged>>
         ensures ok { IfOk result (λ sale. row.now ≡ columns_of sale) }
         // Refused are the columns that no fact shows by any of its keys.
         ensures err { IfErr result (λ e. e ≢ Memory → (which : _) (fact : Fact) → IsTrue (is_fact fact) → row.now ≢ columns_of (keyed which fact)) }

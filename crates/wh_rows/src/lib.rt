@@ -17,7 +17,7 @@ pub use cause::Cause;
 pub use columns::Damaged;
 pub use format::Format;
 pub use key::{ChangeKey, LineKey, MemberKey, dim_number};
-pub use keyed_sale::{FactKey, KeyedSale};
+pub use keyed_sale::{FactColumn, KeyedSale};
 pub use limits::Limits;
 pub use rows::{ChangeRow, CommandRow, Fact2, MemberRow, MetaRow, ProfileRow, TableRow, VoidRow};
 pub use table::Table;

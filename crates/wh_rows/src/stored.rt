@@ -8,17 +8,17 @@ use crate::columns::{self, Damaged};
 use crate::rows::{ChangeRow, CommandRow, Fact2, MemberRow, MetaRow, ProfileRow, VoidRow};
 use sqlite::Row;
 use std::alloc::Global;
-use wh_day::{DateRow, ReadError};
+use wh_day::{DateRow, ParseError};
 use wh_history::{DimRow, Fact, FactKeys};
 use wh_policy::Dim;
 
 /// A row of meta.
 #[tactic(auto, unfolding(crate::specs::Stored::meta_of))]
-pub(crate) fn read_meta(alloc: Global, row: &Row) -> Result<MetaRow, ReadError<Damaged>>
+pub(crate) fn read_meta(alloc: Global, row: &Row) -> Result<MetaRow, ParseError<Damaged>>
     ensures { Gives (λ r. r) result (meta_of row.now) }
 {
     if row.column_count() != 2 {
-        return Err(ReadError::Fault(Damaged));
+        return Err(ParseError::Fault(Damaged));
     }
     let name = columns::text(alloc, row, 0)?;
     let value = columns::integer(row, 1)?;
@@ -27,11 +27,11 @@ pub(crate) fn read_meta(alloc: Global, row: &Row) -> Result<MetaRow, ReadError<D
 
 /// A row of command.
 #[tactic(auto, unfolding(crate::specs::Stored::command_of))]
-pub(crate) fn read_command(alloc: Global, row: &Row) -> Result<CommandRow, ReadError<Damaged>>
+pub(crate) fn read_command(alloc: Global, row: &Row) -> Result<CommandRow, ParseError<Damaged>>
     ensures { Gives (λ r. r) result (command_of row.now) }
 {
     if row.column_count() != 6 {
-        return Err(ReadError::Fault(Damaged));
+        return Err(ParseError::Fault(Damaged));
     }
     let number = columns::number(row, 0)?;
     let id = columns::key(alloc, 40, row, 1)?;
@@ -51,11 +51,11 @@ pub(crate) fn read_command(alloc: Global, row: &Row) -> Result<CommandRow, ReadE
 
 /// A row of member.
 #[tactic(auto, unfolding(crate::specs::Stored::member_of))]
-pub(crate) fn read_member(alloc: Global, row: &Row) -> Result<MemberRow, ReadError<Damaged>>
+pub(crate) fn read_member(alloc: Global, row: &Row) -> Result<MemberRow, ParseError<Damaged>>
     ensures { Gives (λ r. r) result (member_of row.now) }
 {
     if row.column_count() != 4 {
-        return Err(ReadError::Fault(Damaged));
+        return Err(ParseError::Fault(Damaged));
     }
     let dim = columns::dim(row, 0)?;
     let durable = columns::number(row, 1)?;
@@ -71,11 +71,11 @@ pub(crate) fn read_member(alloc: Global, row: &Row) -> Result<MemberRow, ReadErr
 
 /// A row of change.
 #[tactic(auto, unfolding(crate::specs::Stored::change_of))]
-pub(crate) fn read_change(alloc: Global, row: &Row) -> Result<ChangeRow, ReadError<Damaged>>
+pub(crate) fn read_change(alloc: Global, row: &Row) -> Result<ChangeRow, ParseError<Damaged>>
     ensures { Gives (λ r. r) result (change_of row.now) }
 {
     if row.column_count() != 12 {
-        return Err(ReadError::Fault(Damaged));
+        return Err(ParseError::Fault(Damaged));
     }
     let command = columns::number(row, 0)?;
     let place = columns::number(row, 1)?;
@@ -101,11 +101,11 @@ pub(crate) fn read_dimension(
     alloc: Global,
     dim: Dim,
     row: &Row,
-) -> Result<DimRow, ReadError<Damaged>>
+) -> Result<DimRow, ParseError<Damaged>>
     ensures { Gives (λ r. r) result (dimension_of dim row.now) }
 {
     if row.column_count() != 19 {
-        return Err(ReadError::Fault(Damaged));
+        return Err(ParseError::Fault(Damaged));
     }
     let surrogate = columns::number(row, 0)?;
     let durable = columns::number(row, 1)?;
@@ -131,11 +131,11 @@ pub(crate) fn read_dimension(
 
 /// A row of profile.
 #[tactic(auto, unfolding(crate::specs::Stored::profile_of))]
-pub(crate) fn read_profile(alloc: Global, row: &Row) -> Result<ProfileRow, ReadError<Damaged>>
+pub(crate) fn read_profile(alloc: Global, row: &Row) -> Result<ProfileRow, ParseError<Damaged>>
     ensures { Gives (λ r. r) result (profile_of row.now) }
 {
     if row.column_count() != 7 {
-        return Err(ReadError::Fault(Damaged));
+        return Err(ParseError::Fault(Damaged));
     }
     let number = columns::number(row, 0)?;
     let values = columns::slots(alloc, row, 1)?;
@@ -144,11 +144,11 @@ pub(crate) fn read_profile(alloc: Global, row: &Row) -> Result<ProfileRow, ReadE
 
 /// A row of calendar.
 #[tactic(auto, unfolding(crate::specs::Stored::date_of))]
-pub(crate) fn read_date(alloc: Global, row: &Row) -> Result<DateRow, ReadError<Damaged>>
+pub(crate) fn read_date(alloc: Global, row: &Row) -> Result<DateRow, ParseError<Damaged>>
     ensures { Gives (λ r. r) result (date_of row.now) }
 {
     if row.column_count() != 11 {
-        return Err(ReadError::Fault(Damaged));
+        return Err(ParseError::Fault(Damaged));
     }
     let date_key = columns::day(row, 0)?;
     let iso = columns::text(alloc, row, 1)?;
@@ -178,22 +178,22 @@ pub(crate) fn read_date(alloc: Global, row: &Row) -> Result<DateRow, ReadError<D
 
 /// A row of fact.
 #[tactic(auto, unfolding(crate::specs::Stored::fact_of))]
-pub(crate) fn read_fact(alloc: Global, row: &Row) -> Result<Fact, ReadError<Damaged>>
+pub(crate) fn read_fact(alloc: Global, row: &Row) -> Result<Fact, ParseError<Damaged>>
     ensures { Gives (λ r. r) result (fact_of row.now) }
 {
     if row.column_count() != 13 {
-        return Err(ReadError::Fault(Damaged));
+        return Err(ParseError::Fault(Damaged));
     }
     fact_columns(alloc, row)
 }
 
 /// A row of fact2.
 #[tactic(auto, unfolding(crate::specs::Stored::fact2_of))]
-pub(crate) fn read_fact2(alloc: Global, row: &Row) -> Result<Fact2, ReadError<Damaged>>
+pub(crate) fn read_fact2(alloc: Global, row: &Row) -> Result<Fact2, ParseError<Damaged>>
     ensures { Gives (λ r. r) result (fact2_of row.now) }
 {
     if row.column_count() != 14 {
-        return Err(ReadError::Fault(Damaged));
+        return Err(ParseError::Fault(Damaged));
     }
     let fact = fact_columns(alloc, row)?;
     let discount = columns::discount(row, 13)?;
@@ -202,11 +202,11 @@ pub(crate) fn read_fact2(alloc: Global, row: &Row) -> Result<Fact2, ReadError<Da
 
 /// A row of void.
 #[tactic(auto, unfolding(crate::specs::Stored::void_of))]
-pub(crate) fn read_void(alloc: Global, row: &Row) -> Result<VoidRow, ReadError<Damaged>>
+pub(crate) fn read_void(alloc: Global, row: &Row) -> Result<VoidRow, ParseError<Damaged>>
     ensures { Gives (λ r. r) result (void_of row.now) }
 {
     if row.column_count() != 3 {
-        return Err(ReadError::Fault(Damaged));
+        return Err(ParseError::Fault(Damaged));
     }
     let ticket = columns::key(alloc, 20, row, 0)?;
     let line = columns::line(row, 1)?;
@@ -219,7 +219,7 @@ pub(crate) fn read_void(alloc: Global, row: &Row) -> Result<VoidRow, ReadError<D
 }
 
 /// The first columns of a row, as a fact.
-fn fact_columns(alloc: Global, row: &Row) -> Result<Fact, ReadError<Damaged>>
+fn fact_columns(alloc: Global, row: &Row) -> Result<Fact, ParseError<Damaged>>
     ensures { Gives (λ r. r) result (fact_columns row.now) }
 {
     let ticket = columns::key(alloc, 20, row, 0)?;

@@ -1,7 +1,7 @@
 //! The tables as types, for code that is the same for each of them.
 
 ghost use Rattle.std.specs.Prelude.{◌≡◌, ◌≢◌, IsTrue, IfOk, IfErr};
-ghost use Rattle.wh_day.specs.declared.error.ReadError.TheVariants.{Memory};
+ghost use Rattle.wh_day.specs.declared.error.ParseError.TheVariants.{Memory};
 ghost use Rattle.std.specs.FinMap.{FinMap};
 ghost use Rattle.wh_rows.specs.Holds.{Layout};
 ghost use Rattle.wh_rows.specs.Tables.{Tables};
@@ -12,7 +12,7 @@ use crate::rows::{self, ChangeRow, CommandRow, MemberRow, MetaRow, ProfileRow, V
 use crate::stored;
 use sqlite::Row;
 use std::alloc::Global;
-use wh_day::{DateRow, Day, ReadError, Value};
+use wh_day::{DateRow, Day, ParseError, Value};
 use wh_history::DimRow;
 use wh_policy::Dim;
 
@@ -31,7 +31,7 @@ pub trait StoredTable {
     ghost with_rows: { FinMap layout.order Self.Row → Tables → Tables };
 
     /// Reads a stored row. `Damaged`: it hasn't the columns of the table, or a value is out of its type.
-    fn read(alloc: Global, row: &Row) -> Result<Self::Row, ReadError<Damaged>>
+    fn read(alloc: Global, row: &Row) -> Result<Self::Row, ParseError<Damaged>>
         // What is read is of its types, and stands so in the columns.
         ensures ok { IfOk result (λ r. IsTrue (layout.is_valid r) × (row.now ≡ layout.encode r)) }
         // Refused are the columns in which no such row stands.
@@ -54,7 +54,7 @@ impl StoredTable for Meta {
 
     ghost with_rows = { λ rows t. record t { meta = rows } };
 
-    fn read(alloc: Global, row: &Row) -> Result<MetaRow, ReadError<Damaged>> {
+    fn read(alloc: Global, row: &Row) -> Result<MetaRow, ParseError<Damaged>> {
         stored::read_meta(alloc, row)
     }
 }
@@ -75,7 +75,7 @@ impl StoredTable for Command {
 
     ghost with_rows = { λ rows t. record t { command = rows } };
 
-    fn read(alloc: Global, row: &Row) -> Result<CommandRow, ReadError<Damaged>> {
+    fn read(alloc: Global, row: &Row) -> Result<CommandRow, ParseError<Damaged>> {
         stored::read_command(alloc, row)
     }
 }
@@ -96,7 +96,7 @@ impl StoredTable for Member {
 
     ghost with_rows = { λ rows t. record t { member = rows } };
 
-    fn read(alloc: Global, row: &Row) -> Result<MemberRow, ReadError<Damaged>> {
+    fn read(alloc: Global, row: &Row) -> Result<MemberRow, ParseError<Damaged>> {
         stored::read_member(alloc, row)
     }
 }
@@ -117,7 +117,7 @@ impl StoredTable for Change {
 
     ghost with_rows = { λ rows t. record t { change = rows } };
 
-    fn read(alloc: Global, row: &Row) -> Result<ChangeRow, ReadError<Damaged>> {
+    fn read(alloc: Global, row: &Row) -> Result<ChangeRow, ParseError<Damaged>> {
         stored::read_change(alloc, row)
     }
 }
@@ -138,7 +138,7 @@ impl StoredTable for Product {
 
     ghost with_rows = { λ rows t. record t { product = rows } };
 
-    fn read(alloc: Global, row: &Row) -> Result<DimRow, ReadError<Damaged>> {
+    fn read(alloc: Global, row: &Row) -> Result<DimRow, ParseError<Damaged>> {
         stored::read_dimension(alloc, Dim::Product, row)
     }
 }
@@ -159,7 +159,7 @@ impl StoredTable for Store {
 
     ghost with_rows = { λ rows t. record t { store = rows } };
 
-    fn read(alloc: Global, row: &Row) -> Result<DimRow, ReadError<Damaged>> {
+    fn read(alloc: Global, row: &Row) -> Result<DimRow, ParseError<Damaged>> {
         stored::read_dimension(alloc, Dim::Store, row)
     }
 }
@@ -180,7 +180,7 @@ impl StoredTable for Customer {
 
     ghost with_rows = { λ rows t. record t { customer = rows } };
 
-    fn read(alloc: Global, row: &Row) -> Result<DimRow, ReadError<Damaged>> {
+    fn read(alloc: Global, row: &Row) -> Result<DimRow, ParseError<Damaged>> {
         stored::read_dimension(alloc, Dim::Customer, row)
     }
 }
@@ -201,7 +201,7 @@ impl StoredTable for Profile {
 
     ghost with_rows = { λ rows t. record t { profile = rows } };
 
-    fn read(alloc: Global, row: &Row) -> Result<ProfileRow, ReadError<Damaged>> {
+    fn read(alloc: Global, row: &Row) -> Result<ProfileRow, ParseError<Damaged>> {
         stored::read_profile(alloc, row)
     }
 }
@@ -222,7 +222,7 @@ impl StoredTable for Calendar {
 
     ghost with_rows = { λ rows t. record t { calendar = rows } };
 
-    fn read(alloc: Global, row: &Row) -> Result<DateRow, ReadError<Damaged>> {
+    fn read(alloc: Global, row: &Row) -> Result<DateRow, ParseError<Damaged>> {
         stored::read_date(alloc, row)
     }
 }
@@ -243,7 +243,7 @@ impl StoredTable for Fact {
 
     ghost with_rows = { λ rows t. record t { fact = rows } };
 
-    fn read(alloc: Global, row: &Row) -> Result<wh_history::Fact, ReadError<Damaged>> {
+    fn read(alloc: Global, row: &Row) -> Result<wh_history::Fact, ParseError<Damaged>> {
         stored::read_fact(alloc, row)
     }
 }
@@ -264,7 +264,7 @@ impl StoredTable for Fact2 {
 
     ghost with_rows = { λ rows t. record t { fact2 = rows } };
 
-    fn read(alloc: Global, row: &Row) -> Result<rows::Fact2, ReadError<Damaged>> {
+    fn read(alloc: Global, row: &Row) -> Result<rows::Fact2, ParseError<Damaged>> {
         stored::read_fact2(alloc, row)
     }
 }
@@ -285,7 +285,7 @@ impl StoredTable for Void {
 
     ghost with_rows = { λ rows t. record t { void = rows } };
 
-    fn read(alloc: Global, row: &Row) -> Result<VoidRow, ReadError<Damaged>> {
+    fn read(alloc: Global, row: &Row) -> Result<VoidRow, ParseError<Damaged>> {
         stored::read_void(alloc, row)
     }
 }

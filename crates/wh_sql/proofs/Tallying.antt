@@ -26,7 +26,7 @@ use Rattle.wh_rows.specs.Tables.{Tables, Stores}
 use Rattle.wh_rows.specs.Raw.{Stored, IsStored, HasDamage, HasDamageIn, stored_of}
 use Rattle.wh_rows.specs.Rows as row
 use Rattle.wh_rows.specs.KeyedSales.{columns_of, keyed, keyed_sales, keyed_sales2, shown_of}
-use Rattle.wh_rows.specs.declared.keyed_sale.FactKey.{FactKey}
+use Rattle.wh_rows.specs.declared.keyed_sale.FactColumn.{FactColumn}
 use Rattle.wh_rows.specs.declared.keyed_sale.KeyedSale.{KeyedSale}
 use Rattle.wh_rows.proofs.KeyedSales.{shows_sales, shows_stored_sales, shows_damage, shows_typed_sales, no_fact_damaged, shows_sales2, shows_sales2_in, shows_stored_sales2, shows_damage2, shows_typed_sales2, no_fact2_damaged}
 use Rattle.wh_rows.proofs.Means.{means_or}
@@ -70,12 +70,12 @@ all_once_shown (s ∷ ss) (t ∷ ts) same =
 
 -- ---- what is known of the texts, by format
 
-pub tally_returns_nothing : (of : Format) (which : FactKey) (schema : Schema) → ¬ Returns (understood schema (facts_by of which))
+pub tally_returns_nothing : (of : Format) (which : FactColumn) (schema : Schema) → ¬ Returns (understood schema (facts_by of which))
 tally_returns_nothing One which = plain_returns_nothing (schema_in One) (keyed_sales which) (shows_sales One which).plain
 tally_returns_nothing Two which = plain_returns_nothing (schema_in Two) (keyed_sales2 which) (shows_sales2 which).plain
 
 -- its command ends in any case; in the first format that of the second isn't understood
-module _ {S : Type 0} (g : Ghosts S) (which : FactKey) (now : Held S) (format : Format) (is : (state g now).now.schema ≡ schema_in format) where
+module _ {S : Type 0} (g : Ghosts S) (which : FactColumn) (now : Held S) (format : Format) (is : (state g now).now.schema ≡ schema_in format) where
   ends_anyhow : (of : Format) (c : Compiled) (db : Database) (it : IsStatement (state g now) (facts_by of which) [] c) → IsSourceOf (reads_listing (state g now).now.schema (facts_by of which)) (state g now).now db → EndsIn c.command db (timed [] c.formats it.now)
   ends_anyhow One c db it source =
       let known : c.command ≡ _ = ap command_of (sym it.is ∙ ap (λ s. understood s (keyed_sales which)) is) ∙ (shows_sales format which).command in
@@ -85,7 +85,7 @@ module _ {S : Type 0} (g : Ghosts S) (which : FactKey) (now : Held S) (format : 
       (λ there shows. let known : c.command ≡ _ = ap command_of (sym it.is ∙ ap (λ s. understood s (keyed_sales2 which)) is) ∙ shows.command in subst (λ k. EndsIn k db (timed [] c.formats it.now)) (sym known) tt)
       (λ none. absurd (subst IsUnknown (sym (ap (λ s. understood s (keyed_sales2 which)) is) ∙ it.is) none))
 
-module _ (which : FactKey) (old new : State) (answer : List Row) where
+module _ (which : FactColumn) (old new : State) (answer : List Row) where
   stored_shown : (of : Format) → Shown (facts_by of which) [] old new answer → (stored : Stored) → IsStored stored old.now → IsPermutation (map (shown_of which) (stored.rows (facts_table of))) answer
   stored_shown One shown = shows_stored_sales which old new answer shown
   stored_shown Two shown = shows_stored_sales2 which old new answer shown
@@ -109,14 +109,14 @@ damage_in Two stored damage = damage
 
 -- ---- what the rows are that were given
 
-module _ {S : Type 0} (g : Ghosts S) (of : Format) (which : FactKey) (now : Held S) (format : Format) (is : (state g now).now.schema ≡ schema_in format) where
+module _ {S : Type 0} (g : Ghosts S) (of : Format) (which : FactColumn) (now : Held S) (format : Format) (is : (state g now).now.schema ≡ schema_in format) where
   -- an answer begins so
   given_shown : (rows : List Row) → HasGiven g (facts_by of which) [] now rows → IsTrue (state g now).is_open → (tail : List Row) × Shown (facts_by of which) [] (state g now) (state g now) (rows ++ tail)
   given_shown rows given open_now =
       let same : IsUnchanged (state g now) (state g now) = (record { was_open = open_now; is_open = open_now; now_is = refl; committed_is = refl; mode = refl }, record { changes = refl; last_rowid = refl }, refl) in
       begins_shown (facts_by of which) [] (state g now) (state g now) rows (given_begin g (facts_by of which) [] now rows given) same (ends_anyhow g which now format is of)
 
-module _ {S : Type 0} (g : Ghosts S) (of : Format) (which : FactKey) (start : Held S) where
+module _ {S : Type 0} (g : Ghosts S) (of : Format) (which : FactColumn) (start : Held S) where
   -- ---- the query begins
 
   pub tally_begins : {C : Type 0} (Counts : C → List KeyedSale → C → Type 0) (now : Held S) (first : C) → (HasCleanDisk (state g now) → HasBegun g (facts_by of which) [] start now)

@@ -27,11 +27,11 @@ use Rattle.wh_rows.specs.Rekey.{Rekey, rekey_text, bind_rekey, are_keys, rekeyed
 use Rattle.wh_history.specs.declared.facts.Fact.{Fact}
 use Rattle.wh_rows.specs.Rows as row
 use Rattle.wh_rows.specs.Inserting.{facts_at_once, insert_text, bind_facts, insert2_text, bind_facts2, BreaksRule}
-use Rattle.wh_rows.proofs.Facts.{rekey}
-use Rattle.wh_rows.proofs.Facts2.{rekey2_in}
-use Rattle.wh_rows.proofs.InsertedFacts2.{inserts_in, facts2_inserted}
+use Rattle.wh_rows.proofs.EachTable.Facts.{rekey}
+use Rattle.wh_rows.proofs.EachTable.Facts2.{rekey2_in}
+use Rattle.wh_rows.proofs.FactBatches.InsertedFacts2.{inserts_in, facts2_inserted}
 use Rattle.wh_rows.proofs.Formats.{second_is}
-use Rattle.wh_rows.proofs.InsertedFacts.{inserts, facts_inserted, refused_stays}
+use Rattle.wh_rows.proofs.FactBatches.InsertedFacts.{inserts, facts_inserted, refused_stays}
 use Rattle.wh_rows.proofs.OnTables.{row_put, key_removed, fact_rekeyed, fact2_rekeyed}
 use Rattle.wh_rows.specs.Steps.{with_rows}
 use Rattle.wh_sql.specs.Facts.{rekeying, with_rekeyed, HasRun, IsNotPut}

@@ -6,7 +6,7 @@ use Rattle.sqlite.specs.State.{State, Executes}
 use Rattle.wh_history.specs.declared.facts.Fact.{Fact}
 use Rattle.wh_rows.specs.declared.format.Format.{Format}
 use Rattle.wh_rows.specs.declared.format.Format.TheVariants.{One, Two}
-use Rattle.wh_rows.specs.declared.keyed_sale.FactKey.{FactKey}
+use Rattle.wh_rows.specs.declared.keyed_sale.FactColumn.{FactColumn}
 use Rattle.wh_rows.specs.declared.rows.Fact2.{Fact2}
 use Rattle.wh_rows.specs.declared.table.Table.{Table}
 use Rattle.wh_rows.specs.declared.table.Table.TheVariants as tables
@@ -37,7 +37,7 @@ facts_in One t = values t.fact
 facts_in Two t = map (λ r. r.fact) (values t.fact2)
 
 -- the text that shows all of them by one of their keys
-abbrev pub facts_by : Format → FactKey → List ℕ
+abbrev pub facts_by : Format → FactColumn → List ℕ
 facts_by One = keyed_sales
 facts_by Two = keyed_sales2
 

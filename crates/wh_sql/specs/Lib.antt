@@ -2,6 +2,6 @@ pub mod Refused
 pub mod Reads
 pub mod Present
 pub mod Asked
-pub mod Part
+pub mod Page
 pub mod Tally
 pub mod Facts

@@ -5,15 +5,15 @@ use Rattle.sqlite.specs.Order.{Row}
 use Rattle.wh_history.specs.declared.facts.Fact.{Fact}
 use Rattle.wh_rows.specs.Rows.{is_fact}
 use Rattle.wh_rows.specs.KeyedSales.{keyed, columns_of, shown_of}
-use Rattle.wh_rows.specs.declared.keyed_sale.FactKey.{FactKey}
+use Rattle.wh_rows.specs.declared.keyed_sale.FactColumn.{FactColumn}
 use Rattle.wh_rows.specs.declared.keyed_sale.KeyedSale.{KeyedSale}
 
 -- The sales of these facts were counted, each once, in some order. `Counts` says what a tally comes to by sales.
-abbrev pub HasCounted : {C : Type 0} → (C → List KeyedSale → C → Type 0) → FactKey → C → C → List Fact → Type 0
+abbrev pub HasCounted : {C : Type 0} → (C → List KeyedSale → C → Type 0) → FactColumn → C → C → List Fact → Type 0
 HasCounted Counts which old new facts = (ordered : List Fact) × IsPermutation ordered facts × Counts old (map (keyed which) ordered) new
 
 -- the same of stored rows, whoever wrote them
-abbrev pub HasCountedStored : {C : Type 0} → (C → List KeyedSale → C → Type 0) → FactKey → C → C → List Row → Type 0
+abbrev pub HasCountedStored : {C : Type 0} → (C → List KeyedSale → C → Type 0) → FactColumn → C → C → List Row → Type 0
 HasCountedStored Counts which old new stored = (sales : List KeyedSale) × IsPermutation (map columns_of sales) (map (shown_of which) stored) × Counts old sales new
 
 -- one more sale was counted
@@ -22,4 +22,4 @@ CountsOne {C} Counts old new sale = (first : C) (sales : List KeyedSale) → Cou
 
 -- no fact is shown so, by any of its keys
 abbrev pub ShowsNoFact : Row → Type 0
-ShowsNoFact row = (which : FactKey) (fact : Fact) → IsTrue (is_fact fact) → row ≢ columns_of (keyed which fact)
+ShowsNoFact row = (which : FactColumn) (fact : Fact) → IsTrue (is_fact fact) → row ≢ columns_of (keyed which fact)

@@ -12,13 +12,13 @@ ghost use Rattle.wh_rows.specs.Meaning.{Means, ReadsSome};
 ghost use Rattle.wh_rows.specs.Raw.{ReadsStored};
 ghost use Rattle.wh_rows.specs.Questions.{has_durable};
 
-use crate::keeps::Keeps;
+use crate::keeps::KeyedTable;
 use wh_history::DimRow;
 use wh_policy::Dim;
 use wh_rows::tables;
 
 /// The table of a dimension. Its key is the surrogate key.
-pub trait Dimension: Keeps<Row = DimRow, Key = u64> {
+pub trait Dimension: KeyedTable<Row = DimRow, Key = u64> {
     ghost dimension: { Dim };
 
     ghost rows_of_means: { List ℕ };
@@ -30,15 +30,15 @@ pub trait Dimension: Keeps<Row = DimRow, Key = u64> {
         ensures { result.now ≡ rows_of_means };
 
     // What the text means.
-    ghost finds_rows: { (format : Format) (durable : ℕ) → Means (is_there Self.Keeps.name format) (ReadsSome (schema_in format) Self.StoredTable.layout (Int (pos durable) ∷ []) (λ row. eq_by_cmp nat_cmp durable row.durable) rows_of_means) (understood (schema_in format) rows_of_means) };
+    ghost finds_rows: { (format : Format) (durable : ℕ) → Means (is_there Self.KeyedTable.name format) (ReadsSome (schema_in format) Self.StoredTable.layout (Int (pos durable) ∷ []) (λ row. eq_by_cmp nat_cmp durable row.durable) rows_of_means) (understood (schema_in format) rows_of_means) };
 
     // The same, whoever wrote the rows.
-    ghost finds_rows_stored: { (format : Format) (durable : ℕ) → Means (is_there Self.Keeps.name format) (ReadsStored (schema_in format) Self.StoredTable.layout (Int (pos durable) ∷ []) (has_durable durable) (λ row. eq_by_cmp nat_cmp durable row.durable) rows_of_means) (understood (schema_in format) rows_of_means) };
+    ghost finds_rows_stored: { (format : Format) (durable : ℕ) → Means (is_there Self.KeyedTable.name format) (ReadsStored (schema_in format) Self.StoredTable.layout (Int (pos durable) ∷ []) (has_durable durable) (λ row. eq_by_cmp nat_cmp durable row.durable) rows_of_means) (understood (schema_in format) rows_of_means) };
 }
 
 impl Dimension for tables::Product {
     ghost use Rattle.wh_policy.specs.declared.attribute.Dim.TheVariants.{Product};
-    ghost use Rattle.wh_rows.proofs.Products.{of_durable, of_durable_stored};
+    ghost use Rattle.wh_rows.proofs.EachTable.Products.{of_durable, of_durable_stored};
     ghost use Rattle.wh_rows.specs.Texts.{rows_of_member};
 
     ghost dimension = { Product };
@@ -60,7 +60,7 @@ impl Dimension for tables::Product {
 
 impl Dimension for tables::Store {
     ghost use Rattle.wh_policy.specs.declared.attribute.Dim.TheVariants.{Store};
-    ghost use Rattle.wh_rows.proofs.Stores.{of_durable, of_durable_stored};
+    ghost use Rattle.wh_rows.proofs.EachTable.Stores.{of_durable, of_durable_stored};
     ghost use Rattle.wh_rows.specs.Texts.{rows_of_member};
 
     ghost dimension = { Store };
@@ -82,7 +82,7 @@ impl Dimension for tables::Store {
 
 impl Dimension for tables::Customer {
     ghost use Rattle.wh_policy.specs.declared.attribute.Dim.TheVariants.{Customer};
-    ghost use Rattle.wh_rows.proofs.Customers.{of_durable, of_durable_stored};
+    ghost use Rattle.wh_rows.proofs.EachTable.Customers.{of_durable, of_durable_stored};
     ghost use Rattle.wh_rows.specs.Texts.{rows_of_member};
 
     ghost dimension = { Customer };

@@ -9,16 +9,16 @@ ghost use Rattle.wh_policy.specs.declared.attribute.Dim.{Dim};
 ghost use Rattle.wh_rows.specs.declared.format.Format.{Format};
 ghost use Rattle.wh_rows.specs.Meaning.{Means, ReadsSome};
 ghost use Rattle.wh_rows.specs.Names.{is_there};
-ghost use Rattle.wh_rows.specs.Questions.{durable_of, is_sale_between};
+ghost use Rattle.wh_rows.specs.Questions.{is_sale_between, is_sold_between};
 ghost use Rattle.wh_rows.specs.Raw.{ReadsStored};
 ghost use Rattle.wh_rows.specs.Schema.{schema_in};
 
-use crate::keeps::Keeps;
+use crate::keeps::KeyedTable;
 use wh_policy::Dim;
 use wh_rows::tables;
 
 /// The table of the facts of a format.
-pub trait Facts: Keeps {
+pub trait Facts: KeyedTable {
     // The fact of a row, without what a format keeps beside it.
     ghost fact: { Self.Row → Fact };
 
@@ -29,14 +29,14 @@ pub trait Facts: Keeps {
         ensures { result.now ≡ sales_means dim };
 
     // What the text means.
-    ghost finds_sales: { (format : Format) (dim : Dim) (durable from to : ℕ) → Means (is_there Self.Keeps.name format) (ReadsSome (schema_in format) Self.StoredTable.layout (Int (pos durable) ∷ Int (pos from) ∷ Int (pos to) ∷ []) (λ row. eq_by_cmp nat_cmp durable (durable_of dim (fact row)) && (is_ge (nat_cmp (fact row).day from) && is_le (nat_cmp (fact row).day to))) (sales_means dim)) (understood (schema_in format) (sales_means dim)) };
+    ghost finds_sales: { (format : Format) (dim : Dim) (durable from to : ℕ) → Means (is_there Self.KeyedTable.name format) (ReadsSome (schema_in format) Self.StoredTable.layout (Int (pos durable) ∷ Int (pos from) ∷ Int (pos to) ∷ []) (λ row. is_sold_between dim durable from to (fact row)) (sales_means dim)) (understood (schema_in format) (sales_means dim)) };
 
     // The same, whoever wrote the rows.
-    ghost finds_sales_stored: { (format : Format) (dim : Dim) (durable from to : ℕ) → Means (is_there Self.Keeps.name format) (ReadsStored (schema_in format) Self.StoredTable.layout (Int (pos durable) ∷ Int (pos from) ∷ Int (pos to) ∷ []) (is_sale_between dim durable from to) (λ row. eq_by_cmp nat_cmp durable (durable_of dim (fact row)) && (is_ge (nat_cmp (fact row).day from) && is_le (nat_cmp (fact row).day to))) (sales_means dim)) (understood (schema_in format) (sales_means dim)) };
+    ghost finds_sales_stored: { (format : Format) (dim : Dim) (durable from to : ℕ) → Means (is_there Self.KeyedTable.name format) (ReadsStored (schema_in format) Self.StoredTable.layout (Int (pos durable) ∷ Int (pos from) ∷ Int (pos to) ∷ []) (is_sale_between dim durable from to) (λ row. is_sold_between dim durable from to (fact row)) (sales_means dim)) (understood (schema_in format) (sales_means dim)) };
 }
 
 impl Facts for tables::Fact {
-    ghost use Rattle.wh_rows.proofs.Facts.{of_sales_between, of_sales_between_stored};
+    ghost use Rattle.wh_rows.proofs.EachTable.Facts.{of_sales_between, of_sales_between_stored};
     ghost use Rattle.wh_rows.specs.Texts.{sales_between};
 
     ghost fact = { λ row. row };
@@ -63,7 +63,7 @@ impl Facts for tables::Fact {
 }
 
 impl Facts for tables::Fact2 {
-    ghost use Rattle.wh_rows.proofs.Facts2.{of_sales_between_in, of_sales_between_stored_in};
+    ghost use Rattle.wh_rows.proofs.EachTable.Facts2.{of_sales_between_in, of_sales_between_stored_in};
     ghost use Rattle.wh_rows.specs.Texts.{sales_between2};
 
     ghost fact = { λ row. row.fact };

@@ -31,7 +31,7 @@ pub struct Greatest;
 
 impl Question<tables::Profile> for Greatest {
     ghost use Rattle.std.specs.Prelude.{true, [], Some};
-    ghost use Rattle.wh_rows.proofs.Profiles.{greatest, greatest_stored};
+    ghost use Rattle.wh_rows.proofs.EachTable.Profiles.{greatest, greatest_stored};
     ghost use Rattle.wh_rows.specs.Firsts.{last_one};
     ghost use Rattle.wh_rows.specs.Texts.{last_profile};
 
@@ -71,7 +71,7 @@ impl Question<tables::Member> for GreatestOf {
     ghost use Rattle.std.specs.Ordering.{eq_by_cmp, nat_cmp};
     ghost use Rattle.sqlite_value.specs.declared.value.Value.TheVariants.{Int};
     ghost use Rattle.wh_rows.specs.Types.{dim_number};
-    ghost use Rattle.wh_rows.proofs.Members.{greatest, greatest_stored};
+    ghost use Rattle.wh_rows.proofs.EachTable.Members.{greatest, greatest_stored};
     ghost use Rattle.wh_rows.specs.Questions.{is_of_dim};
     ghost use Rattle.wh_rows.specs.Firsts.{last_one};
     ghost use Rattle.wh_rows.specs.Texts.{last_member};

@@ -35,7 +35,7 @@ pub struct Statements {
 }
 
 /// One of the tables, with the texts of its statements.
-pub trait Keeps: StoredTable {
+pub trait KeyedTable: StoredTable {
     // A key as the parameters of a statement.
     ghost bind: { Self.Key → Columns };
 

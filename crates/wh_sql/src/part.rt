@@ -1,30 +1,30 @@
 //! The question after a part of a table.
 
-use crate::keeps::Keeps;
+use crate::keeps::KeyedTable;
 use crate::question::Question;
-use crate::scanned::Scanned;
+use crate::scanned::PagedTable;
 use sqlite::types::ValueRef;
 use std::alloc::Global;
 use wh_rows::Cause;
 
 /// The part of a table that stands after a key, or its first part: some rows in the order of their keys.
 #[derive(Debug, Drop)]
-pub struct Part<K> {
+pub struct Page<K> {
     pub after: Option<K>,
 }
 
-impl<T: Scanned> Question<T> for Part<T::Key> {
+impl<T: PagedTable> Question<T> for Page<T::Key> {
     ghost use Rattle.std.specs.Prelude.{Some};
     ghost use Rattle.wh_rows.specs.Parts.{forward, part_text, bind_part, is_behind, stands_behind};
     ghost use Rattle.wh_rows.specs.Names.{is_there};
     ghost use Rattle.wh_rows.proofs.Means.{means_weaker};
-    ghost use Rattle.wh_sql.specs.Part.{HasKey};
+    ghost use Rattle.wh_sql.specs.Page.{HasKey};
 
     ghost keep = { λ q. is_behind T.StoredTable.layout q.after };
 
     ghost front = { Some (forward T.part_texts.most) };
 
-    ghost bind = { λ q. bind_part T.Keeps.bind q.after };
+    ghost bind = { λ q. bind_part T.KeyedTable.bind q.after };
 
     ghost can_be_asked = { λ q. HasKey T.StoredTable.layout q.after };
 
@@ -44,9 +44,9 @@ impl<T: Scanned> Question<T> for Part<T::Key> {
         }
     }
 
-    ghost stands = { λ q. stands_behind T.StoredTable.layout T.Keeps.bind q.after };
+    ghost stands = { λ q. stands_behind T.StoredTable.layout T.KeyedTable.bind q.after };
 
-    ghost reads = { λ format q. means_weaker _ (is_there T.Keeps.name format) (λ it. it.reads) (T.shows_parts format q.after) };
+    ghost reads = { λ format q. means_weaker _ (is_there T.KeyedTable.name format) (λ it. it.reads) (T.shows_parts format q.after) };
 
     ghost reads_stored = { λ format q. T.shows_parts format q.after };
 }

@@ -1,6 +1,6 @@
 //! The tables: the texts that show a part of them, and the keys of their rows.
 
-use crate::scanned::{PartStatements, Scanned};
+use crate::scanned::{PagedTable, PartStatements};
 use std::alloc::AllocError;
 use wh_day::{DateRow, Day, Value};
 use wh_history::{DimRow, Fact};
@@ -9,7 +9,7 @@ use wh_rows::{
     VoidRow, tables,
 };
 
-impl Scanned for tables::Meta {
+impl PagedTable for tables::Meta {
     ghost use Rattle.wh_rows.specs.Parts as texts;
     ghost use Rattle.wh_rows.proofs.Parts as meanings;
     ghost use Rattle.wh_rows.proofs.Once as once;
@@ -35,7 +35,7 @@ impl Scanned for tables::Meta {
     }
 }
 
-impl Scanned for tables::Command {
+impl PagedTable for tables::Command {
     ghost use Rattle.wh_rows.specs.Parts as texts;
     ghost use Rattle.wh_rows.proofs.Parts as meanings;
     ghost use Rattle.wh_rows.proofs.Once as once;
@@ -61,7 +61,7 @@ impl Scanned for tables::Command {
     }
 }
 
-impl Scanned for tables::Member {
+impl PagedTable for tables::Member {
     ghost use Rattle.wh_rows.specs.Parts as texts;
     ghost use Rattle.wh_rows.proofs.Parts as meanings;
     ghost use Rattle.wh_rows.proofs.Once as once;
@@ -90,7 +90,7 @@ impl Scanned for tables::Member {
     }
 }
 
-impl Scanned for tables::Change {
+impl PagedTable for tables::Change {
     ghost use Rattle.wh_rows.specs.Parts as texts;
     ghost use Rattle.wh_rows.proofs.Parts as meanings;
     ghost use Rattle.wh_rows.proofs.Once as once;
@@ -119,7 +119,7 @@ impl Scanned for tables::Change {
     }
 }
 
-impl Scanned for tables::Product {
+impl PagedTable for tables::Product {
     ghost use Rattle.wh_rows.specs.Parts as texts;
     ghost use Rattle.wh_rows.proofs.Parts as meanings;
     ghost use Rattle.wh_rows.proofs.Once as once;
@@ -145,7 +145,7 @@ impl Scanned for tables::Product {
     }
 }
 
-impl Scanned for tables::Store {
+impl PagedTable for tables::Store {
     ghost use Rattle.wh_rows.specs.Parts as texts;
     ghost use Rattle.wh_rows.proofs.Parts as meanings;
     ghost use Rattle.wh_rows.proofs.Once as once;
@@ -171,7 +171,7 @@ impl Scanned for tables::Store {
     }
 }
 
-impl Scanned for tables::Customer {
+impl PagedTable for tables::Customer {
     ghost use Rattle.wh_rows.specs.Parts as texts;
     ghost use Rattle.wh_rows.proofs.Parts as meanings;
     ghost use Rattle.wh_rows.proofs.Once as once;
@@ -197,7 +197,7 @@ impl Scanned for tables::Customer {
     }
 }
 
-impl Scanned for tables::Profile {
+impl PagedTable for tables::Profile {
     ghost use Rattle.wh_rows.specs.Parts as texts;
     ghost use Rattle.wh_rows.proofs.Parts as meanings;
     ghost use Rattle.wh_rows.proofs.Once as once;
@@ -223,7 +223,7 @@ impl Scanned for tables::Profile {
     }
 }
 
-impl Scanned for tables::Calendar {
+impl PagedTable for tables::Calendar {
     ghost use Rattle.wh_rows.specs.Parts as texts;
     ghost use Rattle.wh_rows.proofs.Parts as meanings;
     ghost use Rattle.wh_rows.proofs.Once as once;
@@ -249,7 +249,7 @@ impl Scanned for tables::Calendar {
     }
 }
 
-impl Scanned for tables::Fact {
+impl PagedTable for tables::Fact {
     ghost use Rattle.wh_rows.specs.Parts as texts;
     ghost use Rattle.wh_rows.proofs.Parts as meanings;
     ghost use Rattle.wh_rows.proofs.Once as once;
@@ -279,7 +279,7 @@ impl Scanned for tables::Fact {
     }
 }
 
-impl Scanned for tables::Fact2 {
+impl PagedTable for tables::Fact2 {
     ghost use Rattle.wh_rows.specs.Parts as texts;
     ghost use Rattle.wh_rows.proofs.Parts as meanings;
     ghost use Rattle.wh_rows.proofs.Once as once;
@@ -309,7 +309,7 @@ impl Scanned for tables::Fact2 {
     }
 }
 
-impl Scanned for tables::Void {
+impl PagedTable for tables::Void {
     ghost use Rattle.wh_rows.specs.Parts as texts;
     ghost use Rattle.wh_rows.proofs.Parts as meanings;
     ghost use Rattle.wh_rows.proofs.Once as once;

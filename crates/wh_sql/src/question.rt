@@ -17,7 +17,7 @@ ghost use Rattle.wh_rows.specs.Raw.{AreAsked, ReadsPartStored};
 ghost use Rattle.wh_sql.specs.Reads.{ReadsOnly, SaysOfTables, SaysOfStored, IsUndamaged, IsOfAskedDamage, Shows, FailsToShow};
 
 use crate::fault::ReadFault;
-use crate::keeps::Keeps;
+use crate::keeps::KeyedTable;
 use crate::read::rows_shown;
 use sqlite::types::ValueRef;
 use sqlite::{Alter, Connection};
@@ -25,7 +25,7 @@ use std::alloc::Global;
 use wh_rows::Cause;
 
 /// A question about the rows of one table.
-pub trait Question<T: Keeps> {
+pub trait Question<T: KeyedTable> {
     // Which rows of the table answer it, and which part of them is asked for, in the order of their keys.
     ghost keep: { Self → T.Row → Bool };
 
@@ -56,7 +56,7 @@ pub trait Question<T: Keeps> {
 }
 
 /// The rows that answer the question, in the order of their keys.
-pub fn ask<T: Keeps, Q: Question<T>, S: Alter>(
+pub fn ask<T: KeyedTable, Q: Question<T>, S: Alter>(
     alloc: Global,
     conn: &mut Connection<S>,
     question: &Q,

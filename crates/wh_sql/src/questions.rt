@@ -22,7 +22,7 @@ impl Question<tables::Change> for RecordsOf {
     ghost use Rattle.std.specs.Ordering.{eq_by_cmp, nat_cmp};
     ghost use Rattle.sqlite_value.specs.declared.value.Value.TheVariants.{Int};
     ghost use Rattle.wh_rows.specs.Types.{is_number, dim_number};
-    ghost use Rattle.wh_rows.proofs.Changes.{of_member, of_member_stored};
+    ghost use Rattle.wh_rows.proofs.EachTable.Changes.{of_member, of_member_stored};
     ghost use Rattle.wh_rows.specs.Texts.{changes_of_member};
     ghost use Rattle.wh_rows.specs.Questions.{is_of_member};
 
@@ -98,7 +98,7 @@ pub struct CommandOf<'q> {
 impl<'q> Question<tables::Command> for CommandOf<'q> {
     ghost use Rattle.std.specs.Prelude.{[], ◌∷◌, None};
     ghost use Rattle.sqlite_value.specs.declared.value.Value.TheVariants.{Text};
-    ghost use Rattle.wh_rows.proofs.Commands.{of_id, of_id_stored};
+    ghost use Rattle.wh_rows.proofs.EachTable.Commands.{of_id, of_id_stored};
     ghost use Rattle.wh_rows.specs.Texts.{command_of_id};
     ghost use Rattle.wh_rows.specs.Questions.{has_id};
     ghost use Rattle.wh_sql.specs.Asked.{same_text};
@@ -134,7 +134,7 @@ pub struct LastPolicy;
 
 impl Question<tables::Command> for LastPolicy {
     ghost use Rattle.std.specs.Prelude.{true, [], Some};
-    ghost use Rattle.wh_rows.proofs.Commands.{last_policy as reads_last, last_policy_stored};
+    ghost use Rattle.wh_rows.proofs.EachTable.Commands.{last_policy as reads_last, last_policy_stored};
     ghost use Rattle.wh_rows.specs.Firsts.{last_one};
     ghost use Rattle.wh_rows.specs.Texts.{last_policy};
     ghost use Rattle.wh_rows.specs.Questions.{gives_policy, has_policy};
@@ -176,7 +176,7 @@ impl<'q> Question<tables::Member> for MemberOf<'q> {
     ghost use Rattle.std.specs.Ordering.{eq_by_cmp, nat_cmp};
     ghost use Rattle.sqlite_value.specs.declared.value.Value.TheVariants.{Int, Text};
     ghost use Rattle.wh_rows.specs.Types.{dim_number};
-    ghost use Rattle.wh_rows.proofs.Members.{of_natural, of_natural_stored};
+    ghost use Rattle.wh_rows.proofs.EachTable.Members.{of_natural, of_natural_stored};
     ghost use Rattle.wh_rows.specs.Texts.{member_of_natural};
     ghost use Rattle.wh_rows.specs.Questions.{has_natural};
     ghost use Rattle.wh_sql.specs.Asked.{same_text};
@@ -256,7 +256,7 @@ pub struct ProfileOf<'q> {
 impl<'q> Question<tables::Profile> for ProfileOf<'q> {
     ghost use Rattle.std.specs.Prelude.{None};
     ghost use Rattle.wh_rows.specs.Rows.{slot_columns};
-    ghost use Rattle.wh_rows.proofs.Profiles.{of_values, of_values_stored};
+    ghost use Rattle.wh_rows.proofs.EachTable.Profiles.{of_values, of_values_stored};
     ghost use Rattle.wh_rows.specs.Texts.{profile_of_values};
     ghost use Rattle.wh_rows.specs.Questions.{has_values};
     ghost use Rattle.wh_sql.specs.Asked.{same_slots};

@@ -15,15 +15,15 @@ ghost use Rattle.wh_sql.specs.declared.fault.ReadFault.TheVariants.{Memory, Dama
 ghost use Rattle.wh_rows.specs.declared.cause.Cause.TheVariants.{Size};
 
 use crate::fault::ReadFault;
-use crate::keeps::Keeps;
+use crate::keeps::KeyedTable;
 use sqlite::types::ValueRef;
 use sqlite::{Alter, Connection, Row};
 use std::alloc::Global;
-use wh_day::ReadError;
+use wh_day::ParseError;
 use wh_rows::{Cause, Table};
 
 /// The rows that were read, and one more behind them. `None`: one of these is out of its type.
-fn read_on<T: Keeps>(
+fn read_on<T: KeyedTable>(
     alloc: Global,
     read: Option<Vec<T::Row>>,
     row: &Row,
@@ -39,14 +39,14 @@ fn read_on<T: Keeps>(
             rows.push(row)?;
             Ok(Some(rows))
         }
-        Err(ReadError::Memory) => Err(ReadFault::Memory),
-        Err(ReadError::Fault(_)) => Ok(None),
+        Err(ParseError::Memory) => Err(ReadFault::Memory),
+        Err(ParseError::Fault(_)) => Ok(None),
     }
 }
 
 /// The rows of the table that a query shows, each read as the store hands it out, with what the connection says of them.
 /// `Damaged` is answered at the end of all that is shown. `Memory`: also where there are more rows than a `u64` counts.
-pub(crate) fn rows_shown<T: Keeps, S: Alter>(
+pub(crate) fn rows_shown<T: KeyedTable, S: Alter>(
     alloc: Global,
     conn: &mut Connection<S>,
     text: &str,
@@ -79,7 +79,7 @@ pub(crate) fn rows_shown<T: Keeps, S: Alter>(
 }
 
 /// All rows of the table.
-pub fn all<T: Keeps, S: Alter>(
+pub fn all<T: KeyedTable, S: Alter>(
     alloc: Global,
     conn: &mut Connection<S>,
 ) -> Result<Vec<T::Row>, ReadFault>
@@ -96,7 +96,7 @@ pub fn all<T: Keeps, S: Alter>(
 }
 
 /// The row at the key, if one is there.
-pub fn get<T: Keeps, S: Alter>(
+pub fn get<T: KeyedTable, S: Alter>(
     alloc: Global,
     conn: &mut Connection<S>,
     key: &T::Key,
@@ -116,7 +116,10 @@ pub fn get<T: Keeps, S: Alter>(
 }
 
 /// How many rows the table has. `Size`: more than the store counts.
-pub fn count<T: Keeps, S: Alter>(alloc: Global, conn: &mut Connection<S>) -> Result<u64, ReadFault>
+pub fn count<T: KeyedTable, S: Alter>(
+    alloc: Global,
+    conn: &mut Connection<S>,
+) -> Result<u64, ReadFault>
     ensures reads { ReadsOnly (state S.Store conn.old) (state S.Store conn.new) result }
     ensures count { SaysOfTables (state S.Store conn.old) (state S.Store conn.new) (λ t. IfOk result (λ count. count ≡ len (T.rows t))) }
     ensures sound { SaysOfTables (state S.Store conn.old) (state S.Store conn.new) (λ _. IsUndamaged result) }

@@ -9,7 +9,7 @@ ghost use Rattle.wh_rows.specs.Meaning.{Means};
 ghost use Rattle.wh_rows.specs.Raw.{ReadsFrontStored};
 ghost use Rattle.wh_rows.specs.Parts.{PartTexts, forward, part_text, bind_part, stands_behind, is_behind, IsKeyed, StandsOnce};
 
-use crate::keeps::Keeps;
+use crate::keeps::KeyedTable;
 use std::alloc::AllocError;
 
 /// The texts that show the first part of a table, and the part after a key, and how many rows are a part at the most.
@@ -21,7 +21,7 @@ pub struct PartStatements {
 }
 
 /// A table that can be read in the order of its keys, a part at a time.
-pub trait Scanned: Keeps {
+pub trait PagedTable: KeyedTable {
     ghost part_texts: { PartTexts };
 
     fn part_statements() -> PartStatements
@@ -32,12 +32,12 @@ pub trait Scanned: Keeps {
         ensures { IfOk result (λ key. key ≡ Self.StoredTable.layout.key row.now) };
 
     // What the texts mean, whoever wrote the rows.
-    ghost shows_parts: { (format : Format) (after : Option Self.Key) → Means (is_there Self.Keeps.name format)
-        (ReadsFrontStored (schema_in format) (forward part_texts.most) Self.StoredTable.layout (bind_part Self.Keeps.bind after) (stands_behind Self.StoredTable.layout Self.Keeps.bind after) (is_behind Self.StoredTable.layout after) (part_text part_texts after))
+    ghost shows_parts: { (format : Format) (after : Option Self.Key) → Means (is_there Self.KeyedTable.name format)
+        (ReadsFrontStored (schema_in format) (forward part_texts.most) Self.StoredTable.layout (bind_part Self.KeyedTable.bind after) (stands_behind Self.StoredTable.layout Self.KeyedTable.bind after) (is_behind Self.StoredTable.layout after) (part_text part_texts after))
         (understood (schema_in format) (part_text part_texts after)) };
 
     // A key is the first columns of a row, and at a key at most one row is stored.
-    ghost keyed: { IsKeyed Self.StoredTable.layout Self.Keeps.bind Self.Keeps.stands_at };
+    ghost keyed: { IsKeyed Self.StoredTable.layout Self.KeyedTable.bind Self.KeyedTable.stands_at };
 
-    ghost once: { StandsOnce Self.Keeps.stands_at Self.Keeps.name };
+    ghost once: { StandsOnce Self.KeyedTable.stands_at Self.KeyedTable.name };
 }

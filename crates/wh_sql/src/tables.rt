@@ -1,6 +1,6 @@
 //! The tables: the texts of their statements, and how their rows and keys are bound.
 
-use crate::keeps::{Keeps, Statements};
+use crate::keeps::{KeyedTable, Statements};
 use crate::keys::{change_key, day_key, dim_and_number, line_key, number_key, text_key};
 use sqlite::types::ValueRef;
 use std::alloc::Global;
@@ -12,10 +12,10 @@ use wh_rows::{
     ProfileRow, Table, VoidRow, bound, tables,
 };
 
-impl Keeps for tables::Meta {
+impl KeyedTable for tables::Meta {
     ghost use Rattle.wh_rows.specs.Keys.{bind_text, stands_at_text};
     ghost use Rattle.wh_rows.specs.Texts.{meta as texts};
-    ghost use Rattle.wh_rows.proofs.Metas.{put, remove, all, get, all_stored, get_stored, count};
+    ghost use Rattle.wh_rows.proofs.EachTable.Metas.{put, remove, all, get, all_stored, get_stored, count};
     ghost use Rattle.std.specs.Prelude.{refl};
     ghost use Rattle.wh_rows.proofs.Places.{meta as place};
     ghost use Rattle.wh_rows.specs.declared.table.Table.TheVariants.{Meta};
@@ -75,10 +75,10 @@ impl Keeps for tables::Meta {
     ghost placed = { place };
 }
 
-impl Keeps for tables::Command {
+impl KeyedTable for tables::Command {
     ghost use Rattle.wh_rows.specs.Keys.{bind_number, stands_at_number};
     ghost use Rattle.wh_rows.specs.Texts.{command as texts};
-    ghost use Rattle.wh_rows.proofs.Commands.{put, remove, all, get, all_stored, get_stored, count};
+    ghost use Rattle.wh_rows.proofs.EachTable.Commands.{put, remove, all, get, all_stored, get_stored, count};
     ghost use Rattle.std.specs.Prelude.{refl};
     ghost use Rattle.wh_rows.proofs.Places.{command as place};
     ghost use Rattle.wh_rows.specs.declared.table.Table.TheVariants.{Command};
@@ -138,10 +138,10 @@ impl Keeps for tables::Command {
     ghost placed = { place };
 }
 
-impl Keeps for tables::Member {
+impl KeyedTable for tables::Member {
     ghost use Rattle.wh_rows.specs.Keys.{bind_member, stands_at_member};
     ghost use Rattle.wh_rows.specs.Texts.{member as texts};
-    ghost use Rattle.wh_rows.proofs.Members.{put, remove, all, get, all_stored, get_stored, count};
+    ghost use Rattle.wh_rows.proofs.EachTable.Members.{put, remove, all, get, all_stored, get_stored, count};
     ghost use Rattle.std.specs.Prelude.{refl};
     ghost use Rattle.wh_rows.proofs.Places.{member as place};
     ghost use Rattle.wh_rows.specs.declared.table.Table.TheVariants.{Member};
@@ -201,10 +201,10 @@ impl Keeps for tables::Member {
     ghost placed = { place };
 }
 
-impl Keeps for tables::Change {
+impl KeyedTable for tables::Change {
     ghost use Rattle.wh_rows.specs.Keys.{bind_change, stands_at_change};
     ghost use Rattle.wh_rows.specs.Texts.{change as texts};
-    ghost use Rattle.wh_rows.proofs.Changes.{put, remove, all, get, all_stored, get_stored, count};
+    ghost use Rattle.wh_rows.proofs.EachTable.Changes.{put, remove, all, get, all_stored, get_stored, count};
     ghost use Rattle.std.specs.Prelude.{refl};
     ghost use Rattle.wh_rows.proofs.Places.{change as place};
     ghost use Rattle.wh_rows.specs.declared.table.Table.TheVariants.{Change};
@@ -264,10 +264,10 @@ impl Keeps for tables::Change {
     ghost placed = { place };
 }
 
-impl Keeps for tables::Product {
+impl KeyedTable for tables::Product {
     ghost use Rattle.wh_rows.specs.Keys.{bind_number, stands_at_number};
     ghost use Rattle.wh_rows.specs.Texts.{product as texts};
-    ghost use Rattle.wh_rows.proofs.Products.{put, remove, all, get, all_stored, get_stored, count};
+    ghost use Rattle.wh_rows.proofs.EachTable.Products.{put, remove, all, get, all_stored, get_stored, count};
     ghost use Rattle.std.specs.Prelude.{refl};
     ghost use Rattle.wh_rows.proofs.Places.{product as place};
     ghost use Rattle.wh_rows.specs.declared.table.Table.TheVariants.{Product};
@@ -327,10 +327,10 @@ impl Keeps for tables::Product {
     ghost placed = { place };
 }
 
-impl Keeps for tables::Store {
+impl KeyedTable for tables::Store {
     ghost use Rattle.wh_rows.specs.Keys.{bind_number, stands_at_number};
     ghost use Rattle.wh_rows.specs.Texts.{store as texts};
-    ghost use Rattle.wh_rows.proofs.Stores.{put, remove, all, get, all_stored, get_stored, count};
+    ghost use Rattle.wh_rows.proofs.EachTable.Stores.{put, remove, all, get, all_stored, get_stored, count};
     ghost use Rattle.std.specs.Prelude.{refl};
     ghost use Rattle.wh_rows.proofs.Places.{store as place};
     ghost use Rattle.wh_rows.specs.declared.table.Table.TheVariants.{Store};
@@ -390,10 +390,10 @@ impl Keeps for tables::Store {
     ghost placed = { place };
 }
 
-impl Keeps for tables::Customer {
+impl KeyedTable for tables::Customer {
     ghost use Rattle.wh_rows.specs.Keys.{bind_number, stands_at_number};
     ghost use Rattle.wh_rows.specs.Texts.{customer as texts};
-    ghost use Rattle.wh_rows.proofs.Customers.{put, remove, all, get, all_stored, get_stored, count};
+    ghost use Rattle.wh_rows.proofs.EachTable.Customers.{put, remove, all, get, all_stored, get_stored, count};
     ghost use Rattle.std.specs.Prelude.{refl};
     ghost use Rattle.wh_rows.proofs.Places.{customer as place};
     ghost use Rattle.wh_rows.specs.declared.table.Table.TheVariants.{Customer};
@@ -453,10 +453,10 @@ impl Keeps for tables::Customer {
     ghost placed = { place };
 }
 
-impl Keeps for tables::Profile {
+impl KeyedTable for tables::Profile {
     ghost use Rattle.wh_rows.specs.Keys.{bind_number, stands_at_number};
     ghost use Rattle.wh_rows.specs.Texts.{profile as texts};
-    ghost use Rattle.wh_rows.proofs.Profiles.{put, remove, all, get, all_stored, get_stored, count};
+    ghost use Rattle.wh_rows.proofs.EachTable.Profiles.{put, remove, all, get, all_stored, get_stored, count};
     ghost use Rattle.std.specs.Prelude.{refl};
     ghost use Rattle.wh_rows.proofs.Places.{profile as place};
     ghost use Rattle.wh_rows.specs.declared.table.Table.TheVariants.{Profile};
@@ -516,10 +516,10 @@ impl Keeps for tables::Profile {
     ghost placed = { place };
 }
 
-impl Keeps for tables::Calendar {
+impl KeyedTable for tables::Calendar {
     ghost use Rattle.wh_rows.specs.Keys.{bind_number, stands_at_number};
     ghost use Rattle.wh_rows.specs.Texts.{calendar as texts};
-    ghost use Rattle.wh_rows.proofs.Calendars.{put, remove, all, get, all_stored, get_stored, count};
+    ghost use Rattle.wh_rows.proofs.EachTable.Calendars.{put, remove, all, get, all_stored, get_stored, count};
     ghost use Rattle.std.specs.Prelude.{refl};
     ghost use Rattle.wh_rows.proofs.Places.{calendar as place};
     ghost use Rattle.wh_rows.specs.declared.table.Table.TheVariants.{Calendar};
@@ -579,10 +579,10 @@ impl Keeps for tables::Calendar {
     ghost placed = { place };
 }
 
-impl Keeps for tables::Fact {
+impl KeyedTable for tables::Fact {
     ghost use Rattle.wh_rows.specs.Keys.{bind_line, stands_at_line};
     ghost use Rattle.wh_rows.specs.Texts.{fact as texts};
-    ghost use Rattle.wh_rows.proofs.Facts.{put, remove, all, get, all_stored, get_stored, count};
+    ghost use Rattle.wh_rows.proofs.EachTable.Facts.{put, remove, all, get, all_stored, get_stored, count};
     ghost use Rattle.std.specs.Prelude.{refl};
     ghost use Rattle.wh_rows.proofs.Places.{fact as place};
     ghost use Rattle.wh_rows.specs.declared.table.Table.TheVariants.{Fact};
@@ -642,10 +642,10 @@ impl Keeps for tables::Fact {
     ghost placed = { place };
 }
 
-impl Keeps for tables::Fact2 {
+impl KeyedTable for tables::Fact2 {
     ghost use Rattle.wh_rows.specs.Keys.{bind_line, stands_at_line};
     ghost use Rattle.wh_rows.specs.Texts.{fact2 as texts};
-    ghost use Rattle.wh_rows.proofs.Facts2.{put_in, remove_in, all_in, get_in, all_stored_in, get_stored_in, count_in};
+    ghost use Rattle.wh_rows.proofs.EachTable.Facts2.{put_in, remove_in, all_in, get_in, all_stored_in, get_stored_in, count_in};
     ghost use Rattle.std.specs.Prelude.{refl};
     ghost use Rattle.wh_rows.proofs.Places.{fact2 as place};
     ghost use Rattle.wh_rows.specs.declared.table.Table.TheVariants.{Fact2};
@@ -705,10 +705,10 @@ impl Keeps for tables::Fact2 {
     ghost placed = { place };
 }
 
-impl Keeps for tables::Void {
+impl KeyedTable for tables::Void {
     ghost use Rattle.wh_rows.specs.Keys.{bind_line, stands_at_line};
     ghost use Rattle.wh_rows.specs.Texts.{void as texts};
-    ghost use Rattle.wh_rows.proofs.Voids.{put_in, remove_in, all_in, get_in, all_stored_in, get_stored_in, count_in};
+    ghost use Rattle.wh_rows.proofs.EachTable.Voids.{put_in, remove_in, all_in, get_in, all_stored_in, get_stored_in, count_in};
     ghost use Rattle.std.specs.Prelude.{refl};
     ghost use Rattle.wh_rows.proofs.Places.{void as place};
     ghost use Rattle.wh_rows.specs.declared.table.Table.TheVariants.{Void};

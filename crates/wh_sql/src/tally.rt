@@ -14,12 +14,12 @@ ghost use Rattle.wh_sql.specs.declared.fault.ReadFault.TheVariants.{Memory, Dama
 
 use crate::fault::ReadFault;
 use sqlite::{Alter, Connection, Row};
-use wh_day::ReadError;
+use wh_day::ParseError;
 use wh_policy::Dim;
-use wh_rows::{Cause, FactKey, Format, KeyedSale, Table};
+use wh_rows::{Cause, FactColumn, Format, KeyedSale, Table};
 
 /// Counts sales one after the other, in whatever order they come. One that has failed keeps that to itself.
-pub trait Tally {
+pub trait FactAggregate {
     // What it comes to by some sales, from what it was before the first of them.
     ghost counts: { Self → List KeyedSale → Self → Type 0 };
 
@@ -28,60 +28,61 @@ pub trait Tally {
 }
 
 /// The text that shows a key of each fact of the first format, with its day and its measures.
-fn text_of(which: FactKey) -> &'static str
+fn text_of(which: FactColumn) -> &'static str
     ensures { result.now ≡ keyed_sales which }
 {
     match which {
-        FactKey::Surrogate(Dim::Product) => {
+        FactColumn::Surrogate(Dim::Product) => {
             "SELECT day, product_key, quantity, amount, cost FROM fact"
         }
-        FactKey::Surrogate(Dim::Store) => "SELECT day, store_key, quantity, amount, cost FROM fact",
-        FactKey::Surrogate(Dim::Customer) => {
+        FactColumn::Surrogate(Dim::Store) =>
+            "SELECT day, store_key, quantity, amount, cost FROM fact",
+        FactColumn::Surrogate(Dim::Customer) => {
             "SELECT day, customer_key, quantity, amount, cost FROM fact"
         }
-        FactKey::Durable(Dim::Product) => {
+        FactColumn::Durable(Dim::Product) => {
             "SELECT day, product_durable, quantity, amount, cost FROM fact"
         }
-        FactKey::Durable(Dim::Store) => {
+        FactColumn::Durable(Dim::Store) => {
             "SELECT day, store_durable, quantity, amount, cost FROM fact"
         }
-        FactKey::Durable(Dim::Customer) => {
+        FactColumn::Durable(Dim::Customer) => {
             "SELECT day, customer_durable, quantity, amount, cost FROM fact"
         }
-        FactKey::Profile => "SELECT day, profile, quantity, amount, cost FROM fact",
-        FactKey::Day => "SELECT day, day, quantity, amount, cost FROM fact",
+        FactColumn::Profile => "SELECT day, profile, quantity, amount, cost FROM fact",
+        FactColumn::Day => "SELECT day, day, quantity, amount, cost FROM fact",
     }
 }
 
 /// The same of the second format.
-fn text_of2(which: FactKey) -> &'static str
+fn text_of2(which: FactColumn) -> &'static str
     ensures { result.now ≡ keyed_sales2 which }
 {
     match which {
-        FactKey::Surrogate(Dim::Product) => {
+        FactColumn::Surrogate(Dim::Product) => {
             "SELECT day, product_key, quantity, amount, cost FROM fact2"
         }
-        FactKey::Surrogate(Dim::Store) =>
+        FactColumn::Surrogate(Dim::Store) =>
             "SELECT day, store_key, quantity, amount, cost FROM fact2",
-        FactKey::Surrogate(Dim::Customer) => {
+        FactColumn::Surrogate(Dim::Customer) => {
             "SELECT day, customer_key, quantity, amount, cost FROM fact2"
         }
-        FactKey::Durable(Dim::Product) => {
+        FactColumn::Durable(Dim::Product) => {
             "SELECT day, product_durable, quantity, amount, cost FROM fact2"
         }
-        FactKey::Durable(Dim::Store) => {
+        FactColumn::Durable(Dim::Store) => {
             "SELECT day, store_durable, quantity, amount, cost FROM fact2"
         }
-        FactKey::Durable(Dim::Customer) => {
+        FactColumn::Durable(Dim::Customer) => {
             "SELECT day, customer_durable, quantity, amount, cost FROM fact2"
         }
-        FactKey::Profile => "SELECT day, profile, quantity, amount, cost FROM fact2",
-        FactKey::Day => "SELECT day, day, quantity, amount, cost FROM fact2",
+        FactColumn::Profile => "SELECT day, profile, quantity, amount, cost FROM fact2",
+        FactColumn::Day => "SELECT day, day, quantity, amount, cost FROM fact2",
     }
 }
 
 /// The text for the facts of a format.
-fn facts_by(format: Format, which: FactKey) -> &'static str
+fn facts_by(format: Format, which: FactColumn) -> &'static str
     ensures { result.now ≡ facts_by format which }
 {
     match format {
@@ -101,7 +102,7 @@ fn facts_table(format: Format) -> Table
 }
 
 /// Counts the sale that a row of the facts of a format shows.
-fn count_row<C: Tally>(tally: &mut C, format: Format, row: &Row) -> Result<(), ReadFault>
+fn count_row<C: FactAggregate>(tally: &mut C, format: Format, row: &Row) -> Result<(), ReadFault>
     ensures counted { IfOk result (λ _. (sale : KeyedSale) × (row.now ≡ columns_of sale) × CountsOne C.counts tally.old tally.new sale) }
     ensures damaged { IfErr result (λ fault. (fault ≡ Memory) ⊎ ((fault ≡ Damaged (facts_table format)) × ShowsNoFact row.now)) }
 {
@@ -110,17 +111,17 @@ fn count_row<C: Tally>(tally: &mut C, format: Format, row: &Row) -> Result<(), R
             tally.count(sale);
             Ok(())
         }
-        Err(ReadError::Memory) => Err(ReadFault::Memory),
-        Err(ReadError::Fault(_)) => Err(ReadFault::Damaged(facts_table(format))),
+        Err(ParseError::Memory) => Err(ReadFault::Memory),
+        Err(ParseError::Fault(_)) => Err(ReadFault::Damaged(facts_table(format))),
     }
 }
 
 /// Has a tally count each fact of a format by one of its keys, in whatever order they are stored. `Memory`: also where there are more
 /// facts than a `u64` counts. Those of the second format are refused in a warehouse of the first.
-pub fn tally_facts<C: Tally, S: Alter>(
+pub fn tally_facts<C: FactAggregate, S: Alter>(
     conn: &mut Connection<S>,
     format: Format,
-    which: FactKey,
+    which: FactColumn,
     tally: &mut C,
 ) -> Result<(), ReadFault>
     requires { C.counts tally.old [] tally.old }

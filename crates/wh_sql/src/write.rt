@@ -10,7 +10,7 @@ ghost use Rattle.wh_rows.specs.Rekey.{bind_rekey, are_keys};
 ghost use Rattle.wh_rows.specs.AtRest.{IsWriting, Leaves, IsCauseOf};
 ghost use Rattle.wh_sql.specs.Facts.{rekeying, with_rekeyed};
 
-use crate::keeps::Keeps;
+use crate::keeps::KeyedTable;
 use crate::keys::line_and_keys;
 use sqlite::{Alter, Connection};
 use std::alloc::Global;
@@ -18,7 +18,7 @@ use wh_history::FactKeys;
 use wh_rows::{Cause, Format, LineKey};
 
 /// Puts the row at its key, in place of the one that was there. Outside a transaction it is refused.
-pub fn put<T: Keeps, S: Alter>(
+pub fn put<T: KeyedTable, S: Alter>(
     alloc: Global,
     conn: &mut Connection<S>,
     row: &T::Row,
@@ -41,7 +41,7 @@ pub fn put<T: Keeps, S: Alter>(
 }
 
 /// Takes out the row at the key, if one is there. Outside a transaction it is refused.
-pub fn remove<T: Keeps, S: Alter>(
+pub fn remove<T: KeyedTable, S: Alter>(
     alloc: Global,
     conn: &mut Connection<S>,
     key: &T::Key,

@@ -13,7 +13,7 @@ use Rattle.wh_rows.specs.Parts.{forward, is_behind}
 use Rattle.wh_rows.proofs.Behind.{part_and_rest}
 use Rattle.std.specs.List.{list_all}
 use Rattle.std.proofs.lemmas.Bool.{and_parts}
-use Rattle.wh_sql.specs.Part.{HasKey}
+use Rattle.wh_sql.specs.Page.{HasKey}
 use Rattle.wh_store.specs.Scan.{HandsOut}
 
 module _ {K V : Type 0} (layout : Layout K V) (rows : Tables → FinMap layout.order V) (with_rows : FinMap layout.order V → Tables → Tables) {is_in : Format → Bool} (placed : IsPlaced layout rows with_rows is_in) (s : State) (t : Tables) (at : IsAtRest (Some t) s) where

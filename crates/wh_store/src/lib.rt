@@ -17,7 +17,8 @@ pub use scratch::{Scratch, open_scratch};
 pub use tables::Tables;
 pub use wh_rows::{Cause, Format, Limits, Table};
 pub use wh_sql::{
-    CommandOf, Dimension, FACTS_AT_ONCE, Facts, Greatest, GreatestOf, Keeps, LastPolicy, MemberOf,
-    ProfileOf, Question, ReadFault, RecordsOf, RowsOf, SalesBetween, Scanned, Tally,
+    CommandOf, Dimension, FACTS_AT_ONCE, FactAggregate, Facts, Greatest, GreatestOf, KeyedTable,
+    LastPolicy, MemberOf, PagedTable, ProfileOf, Question, ReadFault, RecordsOf, RowsOf,
+    SalesBetween,
 };
 pub use writing::{Writing, upgrade};

@@ -9,7 +9,7 @@ ghost use Rattle.wh_rows.specs.Tables.{Tables as TypedTables};
 ghost use Rattle.wh_rows.specs.Parts.{forward, part_text, bind_part, stands_behind, IsArranged};
 ghost use Rattle.wh_rows.specs.Raw.{Stored};
 ghost use Rattle.sqlite.specs.Order.{Row as Columns};
-ghost use Rattle.wh_sql.specs.Part.{HasKey};
+ghost use Rattle.wh_sql.specs.Page.{HasKey};
 ghost use Rattle.wh_sql.specs.Reads.{ReadsOnly, IsOfAskedDamage, FailsToShow};
 ghost use Rattle.wh_store.specs.Reads.{state_of, SaysAsStored, SaysInFormat, SaysAsStoredIn};
 ghost use Rattle.wh_store.specs.Scan.{rows_left, HandsOut, IsOver, AreLeft, HandsOutOf, AreValid};
@@ -18,7 +18,7 @@ use crate::tables::Tables;
 use sqlite::Alter;
 use std::alloc::{AllocError, Global};
 use std::vec::IntoIter;
-use wh_sql::{Part, ReadFault, Scanned};
+use wh_sql::{Page, PagedTable, ReadFault};
 
 /// How far a scan of a table has come.
 #[derive(Drop)]
@@ -26,7 +26,7 @@ pub struct Cursor<K, R> {
     /// The rows that were read and are not handed out yet.
     ahead: IntoIter<R>,
     /// The part of the table after them.
-    unread: Part<K>,
+    unread: Page<K>,
     /// That part is empty, or a fault came.
     is_over: bool,
 }
@@ -42,14 +42,14 @@ impl<K: Drop, R: Drop> Cursor<K, R> {
     {
         Cursor {
             ahead: Vec::new(alloc).into_iter(),
-            unread: Part { after: None },
+            unread: Page { after: None },
             is_over: false,
         }
     }
 }
 
 /// The key of the last of these rows.
-fn last_key<T: Scanned>(rows: &[T::Row]) -> Result<Option<T::Key>, AllocError>
+fn last_key<T: PagedTable>(rows: &[T::Row]) -> Result<Option<T::Key>, AllocError>
     ensures { IfOk result (λ key. key ≡ option_map T.StoredTable.layout.key (slice_get rows.now (length rows.now - 1))) }
 {
     match rows.last() {
@@ -59,54 +59,54 @@ fn last_key<T: Scanned>(rows: &[T::Row]) -> Result<Option<T::Key>, AllocError>
 }
 
 /// Reads the next part of the table ahead.
-fn read_ahead<T: Scanned, S: Alter>(
+fn read_ahead<T: PagedTable, S: Alter>(
     tables: &mut Tables<S>,
     alloc: Global,
     cursor: &mut Cursor<T::Key, T::Row>,
 ) -> Result<(), ReadFault>
     ensures reads { ReadsOnly (state_of S.Store tables.old) (state_of S.Store tables.new) result }
     ensures same_format { tables.new.format ≡ tables.old.format }
-    ensures rows { SaysInFormat S.Store T.Keeps.name tables.old tables.new (λ t. IfOk result (λ _. cursor.old.is_over ≡ false → into_iter_items cursor.old.ahead ≡ [] → rows_left T.StoredTable.layout (T.StoredTable.rows t) cursor.new ≡ rows_left T.StoredTable.layout (T.StoredTable.rows t) cursor.old)) }
+    ensures rows { SaysInFormat S.Store T.KeyedTable.name tables.old tables.new (λ t. IfOk result (λ _. cursor.old.is_over ≡ false → into_iter_items cursor.old.ahead ≡ [] → rows_left T.StoredTable.layout (T.StoredTable.rows t) cursor.new ≡ rows_left T.StoredTable.layout (T.StoredTable.rows t) cursor.old)) }
     // Of any rows, whoever wrote them, none is missed and none comes twice.
-    ensures stored { SaysAsStoredIn S.Store T.Keeps.name tables.old tables.new (λ stored. IfOk result (λ _. cursor.old.is_over ≡ false → into_iter_items cursor.old.ahead ≡ [] → (left : List Columns)
-        → AreLeft T.StoredTable.layout T.Keeps.bind (stored.rows T.Keeps.name) cursor.new left → AreLeft T.StoredTable.layout T.Keeps.bind (stored.rows T.Keeps.name) cursor.old left)) }
+    ensures stored { SaysAsStoredIn S.Store T.KeyedTable.name tables.old tables.new (λ stored. IfOk result (λ _. cursor.old.is_over ≡ false → into_iter_items cursor.old.ahead ≡ [] → (left : List Columns)
+        → AreLeft T.StoredTable.layout T.KeyedTable.bind (stored.rows T.KeyedTable.name) cursor.new left → AreLeft T.StoredTable.layout T.KeyedTable.bind (stored.rows T.KeyedTable.name) cursor.old left)) }
     // A row of the part that is damaged is reported.
-    ensures damaged { SaysAsStored (state_of S.Store tables.old) (state_of S.Store tables.new) (λ stored. IfErr result (IsOfAskedDamage (Some (forward T.part_texts.most)) T.StoredTable.layout T.Keeps.name (filter (stands_behind T.StoredTable.layout T.Keeps.bind cursor.old.unread.after) (stored.rows T.Keeps.name)))) }
-    ensures refused { HasCleanDisk (state_of S.Store tables.new) → HasKey T.StoredTable.layout cursor.old.unread.after → IfErr result (FailsToShow T.StoredTable.layout T.Keeps.name (part_text T.part_texts cursor.old.unread.after) (bind_part T.Keeps.bind cursor.old.unread.after) (state_of S.Store tables.old) (state_of S.Store tables.new)) }
-    ensures keyed { SaysAsStoredIn S.Store T.Keeps.name tables.old tables.new (λ _. IfOk result (λ _. HasKey T.StoredTable.layout cursor.new.unread.after)) }
+    ensures damaged { SaysAsStored (state_of S.Store tables.old) (state_of S.Store tables.new) (λ stored. IfErr result (IsOfAskedDamage (Some (forward T.part_texts.most)) T.StoredTable.layout T.KeyedTable.name (filter (stands_behind T.StoredTable.layout T.KeyedTable.bind cursor.old.unread.after) (stored.rows T.KeyedTable.name)))) }
+    ensures refused { HasCleanDisk (state_of S.Store tables.new) → HasKey T.StoredTable.layout cursor.old.unread.after → IfErr result (FailsToShow T.StoredTable.layout T.KeyedTable.name (part_text T.part_texts cursor.old.unread.after) (bind_part T.KeyedTable.bind cursor.old.unread.after) (state_of S.Store tables.old) (state_of S.Store tables.new)) }
+    ensures keyed { SaysAsStoredIn S.Store T.KeyedTable.name tables.old tables.new (λ _. IfOk result (λ _. HasKey T.StoredTable.layout cursor.new.unread.after)) }
     // All that is read ahead is of its type.
-    ensures valid { SaysAsStoredIn S.Store T.Keeps.name tables.old tables.new (λ _. IfOk result (λ _. AreValid T.StoredTable.layout cursor.new)) }
+    ensures valid { SaysAsStoredIn S.Store T.KeyedTable.name tables.old tables.new (λ _. IfOk result (λ _. AreValid T.StoredTable.layout cursor.new)) }
     // Nothing is read ahead only where nothing is left.
     ensures short { IfOk result (λ _. into_iter_items cursor.new.ahead ≡ [] → IsTrue cursor.new.is_over) }
     ensures ended { into_iter_items cursor.old.ahead ≡ [] → OnErr result (IsOver cursor.new) }
 {
     cursor.is_over = true;
-    let rows = tables.ask::<T, Part<T::Key>>(alloc, &cursor.unread)?;
+    let rows = tables.ask::<T, Page<T::Key>>(alloc, &cursor.unread)?;
     let after = last_key::<T>(&rows)?;
     let is_over = rows.len() < T::part_statements().most;
     cursor.ahead = rows.into_iter();
-    cursor.unread = Part { after };
+    cursor.unread = Page { after };
     cursor.is_over = is_over;
     Ok(())
 }
 
 /// The next row of the table after those that the cursor handed out. After a fault none comes.
-pub fn next_row<T: Scanned, S: Alter>(
+pub fn next_row<T: PagedTable, S: Alter>(
     tables: &mut Tables<S>,
     alloc: Global,
     cursor: &mut Cursor<T::Key, T::Row>,
 ) -> Result<Option<T::Row>, ReadFault>
     ensures reads { ReadsOnly (state_of S.Store tables.old) (state_of S.Store tables.new) result }
     ensures same_format { tables.new.format ≡ tables.old.format }
-    ensures rows { SaysInFormat S.Store T.Keeps.name tables.old tables.new (λ t. IfOk result (λ found. HandsOut (rows_left T.StoredTable.layout (T.StoredTable.rows t) cursor.old) found (rows_left T.StoredTable.layout (T.StoredTable.rows t) cursor.new))) }
+    ensures rows { SaysInFormat S.Store T.KeyedTable.name tables.old tables.new (λ t. IfOk result (λ found. HandsOut (rows_left T.StoredTable.layout (T.StoredTable.rows t) cursor.old) found (rows_left T.StoredTable.layout (T.StoredTable.rows t) cursor.new))) }
     // Of any rows, whoever wrote them, none is missed and none comes twice.
-    ensures stored { SaysAsStoredIn S.Store T.Keeps.name tables.old tables.new (λ stored. IfOk result (λ found. HandsOutOf T.StoredTable.layout T.Keeps.bind (stored.rows T.Keeps.name) cursor.old found cursor.new)) }
+    ensures stored { SaysAsStoredIn S.Store T.KeyedTable.name tables.old tables.new (λ stored. IfOk result (λ found. HandsOutOf T.StoredTable.layout T.KeyedTable.bind (stored.rows T.KeyedTable.name) cursor.old found cursor.new)) }
     // What is handed out is of its type.
-    ensures valid { SaysAsStoredIn S.Store T.Keeps.name tables.old tables.new (λ _. AreValid T.StoredTable.layout cursor.old → IfOk result (λ found. IfSome found (λ row. IsTrue (T.StoredTable.layout.is_valid row)) × AreValid T.StoredTable.layout cursor.new)) }
+    ensures valid { SaysAsStoredIn S.Store T.KeyedTable.name tables.old tables.new (λ _. AreValid T.StoredTable.layout cursor.old → IfOk result (λ found. IfSome found (λ row. IsTrue (T.StoredTable.layout.is_valid row)) × AreValid T.StoredTable.layout cursor.new)) }
     // A damaged row is reported with the part that it is in.
-    ensures damaged { SaysAsStored (state_of S.Store tables.old) (state_of S.Store tables.new) (λ stored. IfErr result (IsOfAskedDamage (Some (forward T.part_texts.most)) T.StoredTable.layout T.Keeps.name (filter (stands_behind T.StoredTable.layout T.Keeps.bind cursor.old.unread.after) (stored.rows T.Keeps.name)))) }
-    ensures refused { HasCleanDisk (state_of S.Store tables.new) → HasKey T.StoredTable.layout cursor.old.unread.after → IfErr result (FailsToShow T.StoredTable.layout T.Keeps.name (part_text T.part_texts cursor.old.unread.after) (bind_part T.Keeps.bind cursor.old.unread.after) (state_of S.Store tables.old) (state_of S.Store tables.new)) }
-    ensures keyed { SaysAsStoredIn S.Store T.Keeps.name tables.old tables.new (λ _. HasKey T.StoredTable.layout cursor.old.unread.after → IfOk result (λ _. HasKey T.StoredTable.layout cursor.new.unread.after)) }
+    ensures damaged { SaysAsStored (state_of S.Store tables.old) (state_of S.Store tables.new) (λ stored. IfErr result (IsOfAskedDamage (Some (forward T.part_texts.most)) T.StoredTable.layout T.KeyedTable.name (filter (stands_behind T.StoredTable.layout T.KeyedTable.bind cursor.old.unread.after) (stored.rows T.KeyedTable.name)))) }
+    ensures refused { HasCleanDisk (state_of S.Store tables.new) → HasKey T.StoredTable.layout cursor.old.unread.after → IfErr result (FailsToShow T.StoredTable.layout T.KeyedTable.name (part_text T.part_texts cursor.old.unread.after) (bind_part T.KeyedTable.bind cursor.old.unread.after) (state_of S.Store tables.old) (state_of S.Store tables.new)) }
+    ensures keyed { SaysAsStoredIn S.Store T.KeyedTable.name tables.old tables.new (λ _. HasKey T.StoredTable.layout cursor.old.unread.after → IfOk result (λ _. HasKey T.StoredTable.layout cursor.new.unread.after)) }
     ensures ended { OnErr result (IsOver cursor.new) }
     ensures over { IsOver cursor.old → (result ≡ Ok None) × (tables.new ≡ tables.old) × IsOver cursor.new }
 {
@@ -123,24 +123,24 @@ pub fn next_row<T: Scanned, S: Alter>(
 /// The rows of a table in the order of their keys, one at a time. The tables belong to it until it is dropped, and it leaves
 /// them as they are.
 #[derive(Drop)]
-pub struct Scan<'t, S: Alter, T: Scanned> {
+pub struct Scan<'t, S: Alter, T: PagedTable> {
     tables: &'t mut Tables<S>,
     cursor: Cursor<T::Key, T::Row>,
 }
 
-impl<'t, S: Alter, T: Scanned> Scan<'t, S, T> {
+impl<'t, S: Alter, T: PagedTable> Scan<'t, S, T> {
     /// The next row. After a fault none comes.
     pub fn next_row(&mut self, alloc: Global) -> Result<Option<T::Row>, ReadFault>
         ensures same_reference { self.new.tables.ghost_name ≡ self.old.tables.ghost_name }
         ensures reads { ReadsOnly (state_of S.Store self.old.tables.now) (state_of S.Store self.new.tables.now) result }
         ensures same_format { self.new.tables.now.format ≡ self.old.tables.now.format }
-        ensures rows { SaysInFormat S.Store T.Keeps.name self.old.tables.now self.new.tables.now (λ t. IfOk result (λ found. HandsOut (rows_left T.StoredTable.layout (T.StoredTable.rows t) self.old.cursor) found (rows_left T.StoredTable.layout (T.StoredTable.rows t) self.new.cursor))) }
+        ensures rows { SaysInFormat S.Store T.KeyedTable.name self.old.tables.now self.new.tables.now (λ t. IfOk result (λ found. HandsOut (rows_left T.StoredTable.layout (T.StoredTable.rows t) self.old.cursor) found (rows_left T.StoredTable.layout (T.StoredTable.rows t) self.new.cursor))) }
         // Of any rows, whoever wrote them, none is missed and none comes twice.
-        ensures stored { SaysAsStoredIn S.Store T.Keeps.name self.old.tables.now self.new.tables.now (λ stored. IfOk result (λ found. HandsOutOf T.StoredTable.layout T.Keeps.bind (stored.rows T.Keeps.name) self.old.cursor found self.new.cursor)) }
+        ensures stored { SaysAsStoredIn S.Store T.KeyedTable.name self.old.tables.now self.new.tables.now (λ stored. IfOk result (λ found. HandsOutOf T.StoredTable.layout T.KeyedTable.bind (stored.rows T.KeyedTable.name) self.old.cursor found self.new.cursor)) }
         // A damaged row is reported with the part that it is in.
-        ensures damaged { SaysAsStored (state_of S.Store self.old.tables.now) (state_of S.Store self.new.tables.now) (λ stored. IfErr result (IsOfAskedDamage (Some (forward T.part_texts.most)) T.StoredTable.layout T.Keeps.name (filter (stands_behind T.StoredTable.layout T.Keeps.bind self.old.cursor.unread.after) (stored.rows T.Keeps.name)))) }
-        ensures refused { HasCleanDisk (state_of S.Store self.new.tables.now) → HasKey T.StoredTable.layout self.old.cursor.unread.after → IfErr result (FailsToShow T.StoredTable.layout T.Keeps.name (part_text T.part_texts self.old.cursor.unread.after) (bind_part T.Keeps.bind self.old.cursor.unread.after) (state_of S.Store self.old.tables.now) (state_of S.Store self.new.tables.now)) }
-        ensures keyed { SaysAsStoredIn S.Store T.Keeps.name self.old.tables.now self.new.tables.now (λ _. HasKey T.StoredTable.layout self.old.cursor.unread.after → IfOk result (λ _. HasKey T.StoredTable.layout self.new.cursor.unread.after)) }
+        ensures damaged { SaysAsStored (state_of S.Store self.old.tables.now) (state_of S.Store self.new.tables.now) (λ stored. IfErr result (IsOfAskedDamage (Some (forward T.part_texts.most)) T.StoredTable.layout T.KeyedTable.name (filter (stands_behind T.StoredTable.layout T.KeyedTable.bind self.old.cursor.unread.after) (stored.rows T.KeyedTable.name)))) }
+        ensures refused { HasCleanDisk (state_of S.Store self.new.tables.now) → HasKey T.StoredTable.layout self.old.cursor.unread.after → IfErr result (FailsToShow T.StoredTable.layout T.KeyedTable.name (part_text T.part_texts self.old.cursor.unread.after) (bind_part T.KeyedTable.bind self.old.cursor.unread.after) (state_of S.Store self.old.tables.now) (state_of S.Store self.new.tables.now)) }
+        ensures keyed { SaysAsStoredIn S.Store T.KeyedTable.name self.old.tables.now self.new.tables.now (λ _. HasKey T.StoredTable.layout self.old.cursor.unread.after → IfOk result (λ _. HasKey T.StoredTable.layout self.new.cursor.unread.after)) }
         ensures ended { OnErr result (IsOver self.new.cursor) }
         ensures over { IsOver self.old.cursor → (result ≡ Ok None) × (self.new.tables.now ≡ self.old.tables.now) × IsOver self.new.cursor }
     {
@@ -150,11 +150,11 @@ impl<'t, S: Alter, T: Scanned> Scan<'t, S, T> {
 
 impl<S: Alter> Tables<S> {
     /// The rows of a table in the order of their keys, one at a time.
-    pub fn scan<T: Scanned>(&mut self, alloc: Global) -> Scan<'_, S, T>
+    pub fn scan<T: PagedTable>(&mut self, alloc: Global) -> Scan<'_, S, T>
         ensures same_reference { result.tables.ghost_name ≡ self.entry.ghost_name }
         ensures same { result.tables.now ≡ self.old }
         ensures left { (t : TypedTables) → rows_left T.StoredTable.layout (T.StoredTable.rows t) result.cursor ≡ values (T.StoredTable.rows t) }
-        ensures left_stored { (stored : Stored) (left : List Columns) → AreLeft T.StoredTable.layout T.Keeps.bind (stored.rows T.Keeps.name) result.cursor left → IsArranged T.StoredTable.layout.table (stored.rows T.Keeps.name) left }
+        ensures left_stored { (stored : Stored) (left : List Columns) → AreLeft T.StoredTable.layout T.KeyedTable.bind (stored.rows T.KeyedTable.name) result.cursor left → IsArranged T.StoredTable.layout.table (stored.rows T.KeyedTable.name) left }
     {
         Scan {
             tables: self,

@@ -40,10 +40,10 @@ use crate::writing::Writing;
 use sqlite::{Alter, Connection};
 use std::alloc::Global;
 use wh_policy::Dim;
-use wh_rows::{Cause, FactKey, Format, Limits, Table, tables};
+use wh_rows::{Cause, FactColumn, Format, Limits, Table, tables};
 use wh_sql::{
-    Keeps, Question, ReadFault, Tally, all, ask, count, get, greatest_anchor, has_second,
-    has_second_name, has_tables, has_taken_name, tally_facts,
+    FactAggregate, KeyedTable, Question, ReadFault, all, ask, count, get, greatest_anchor,
+    has_second, has_second_name, has_tables, has_taken_name, tally_facts,
 };
 
 /// The tables over one connection.
@@ -143,7 +143,7 @@ impl<S: Alter> Tables<S> {
     }
 
     /// All rows of a table, in the order of their keys.
-    pub fn all<T: Keeps>(&mut self, alloc: Global) -> Result<Vec<T::Row>, ReadFault>
+    pub fn all<T: KeyedTable>(&mut self, alloc: Global) -> Result<Vec<T::Row>, ReadFault>
         ensures reads { ReadsOnly (state_of S.Store self.old) (state_of S.Store self.new) result }
         ensures same_format { self.new.format ≡ self.old.format }
         ensures rows { SaysInFormat S.Store T.name self.old self.new (λ t. IfOk result (λ rows. rows.items ≡ values (T.rows t))) }
@@ -161,7 +161,7 @@ impl<S: Alter> Tables<S> {
     }
 
     /// The row at a key, if one is there.
-    pub fn get<T: Keeps>(
+    pub fn get<T: KeyedTable>(
         &mut self,
         alloc: Global,
         key: &T::Key,
@@ -183,7 +183,7 @@ impl<S: Alter> Tables<S> {
     }
 
     /// How many rows a table has.
-    pub fn count<T: Keeps>(&mut self, alloc: Global) -> Result<u64, ReadFault>
+    pub fn count<T: KeyedTable>(&mut self, alloc: Global) -> Result<u64, ReadFault>
         ensures reads { ReadsOnly (state_of S.Store self.old) (state_of S.Store self.new) result }
         ensures same_format { self.new.format ≡ self.old.format }
         ensures count { SaysInFormat S.Store T.name self.old self.new (λ t. IfOk result (λ count. count ≡ len (T.rows t))) }
@@ -200,7 +200,7 @@ impl<S: Alter> Tables<S> {
     }
 
     /// The rows that answer a question about one table.
-    pub fn ask<T: Keeps, Q: Question<T>>(
+    pub fn ask<T: KeyedTable, Q: Question<T>>(
         &mut self,
         alloc: Global,
         question: &Q,
@@ -223,7 +223,11 @@ impl<S: Alter> Tables<S> {
 
     /// Has a tally count each fact by one of its keys, in whatever order they are stored. `Memory`: there are more facts than a
     /// `u64` counts.
-    pub fn tally_facts<C: Tally>(&mut self, which: FactKey, tally: &mut C) -> Result<(), ReadFault>
+    pub fn tally_facts<C: FactAggregate>(
+        &mut self,
+        which: FactColumn,
+        tally: &mut C,
+    ) -> Result<(), ReadFault>
         requires { C.counts tally.old [] tally.old }
         ensures reads { ReadsOnly (state_of S.Store self.old) (state_of S.Store self.new) result }
         ensures same_format { self.new.format ≡ self.old.format }
@@ -237,7 +241,11 @@ impl<S: Alter> Tables<S> {
     }
 
     /// The same of the facts of the second format, of which the first has none.
-    pub fn tally_facts2<C: Tally>(&mut self, which: FactKey, tally: &mut C) -> Result<(), ReadFault>
+    pub fn tally_facts2<C: FactAggregate>(
+        &mut self,
+        which: FactColumn,
+        tally: &mut C,
+    ) -> Result<(), ReadFault>
         requires { C.counts tally.old [] tally.old }
         ensures reads { ReadsOnly (state_of S.Store self.old) (state_of S.Store self.new) result }
         ensures same_format { self.new.format ≡ self.old.format }

@@ -34,7 +34,7 @@ use std::mem::replace;
 use wh_history::{Edit, Fact, FactKeys};
 use wh_rows::tables::{self, Meta};
 use wh_rows::{Cause, Fact2, Format, Limits, LineKey};
-use wh_sql::{Keeps, add_second, create, insert_facts, insert_facts2, put, rekey, remove};
+use wh_sql::{KeyedTable, add_second, create, insert_facts, insert_facts2, put, rekey, remove};
 
 /// Edits of the tables. They are kept by `commit` alone: where it is dropped before that, it leaves nothing.
 pub struct Writing<'t, S: Alter> {
@@ -90,7 +90,7 @@ impl<'t, S: Alter> Writing<'t, S> {
     }
 
     /// Puts the row at its key, in place of the one that was there.
-    pub fn put<T: Keeps>(&mut self, alloc: Global, row: &T::Row) -> Result<(), Cause>
+    pub fn put<T: KeyedTable>(&mut self, alloc: Global, row: &T::Row) -> Result<(), Cause>
         ensures same_reference { self.new.tables.ghost_name ≡ self.old.tables.ghost_name }
         ensures same_format { (self.new.tables.now.format ≡ self.old.tables.now.format) × (self.new.makes ≡ self.old.makes) }
         ensures writes { WritesOnly (state_of S.Store self.old.tables.now) (state_of S.Store self.new.tables.now) ⊤ }
@@ -109,7 +109,7 @@ impl<'t, S: Alter> Writing<'t, S> {
     }
 
     /// Takes out the row at the key, if one is there.
-    pub fn remove<T: Keeps>(&mut self, alloc: Global, key: &T::Key) -> Result<(), Cause>
+    pub fn remove<T: KeyedTable>(&mut self, alloc: Global, key: &T::Key) -> Result<(), Cause>
         ensures same_reference { self.new.tables.ghost_name ≡ self.old.tables.ghost_name }
         ensures same_format { (self.new.tables.now.format ≡ self.old.tables.now.format) × (self.new.makes ≡ self.old.makes) }
         ensures writes { WritesOnly (state_of S.Store self.old.tables.now) (state_of S.Store self.new.tables.now) ⊤ }
@@ -226,7 +226,7 @@ impl<'t, S: Alter> Writing<'t, S> {
     }
 
     /// Puts rows at their keys, one after the other.
-    pub fn put_all<T: Keeps>(&mut self, alloc: Global, rows: &[T::Row]) -> Result<(), Cause>
+    pub fn put_all<T: KeyedTable>(&mut self, alloc: Global, rows: &[T::Row]) -> Result<(), Cause>
         ensures same_reference { self.new.tables.ghost_name ≡ self.old.tables.ghost_name }
         ensures same_format { (self.new.tables.now.format ≡ self.old.tables.now.format) × (self.new.makes ≡ self.old.makes) }
         ensures writes { WritesOnly (state_of S.Store self.old.tables.now) (state_of S.Store self.new.tables.now) (AllByRecursion (IsValid T.layout) rows.now) }
@@ -243,7 +243,7 @@ impl<'t, S: Alter> Writing<'t, S> {
     }
 
     /// Makes one edit.
-    pub fn edit<T: Keeps>(
+    pub fn edit<T: KeyedTable>(
         &mut self,
         alloc: Global,
         edit: &Edit<T::Row, T::Key>,
@@ -264,7 +264,7 @@ impl<'t, S: Alter> Writing<'t, S> {
     }
 
     /// Makes edits, one after the other.
-    pub fn edit_all<T: Keeps>(
+    pub fn edit_all<T: KeyedTable>(
         &mut self,
         alloc: Global,
         edits: &[Edit<T::Row, T::Key>],

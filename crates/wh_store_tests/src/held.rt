@@ -5,22 +5,22 @@ use std::alloc::Global;
 use wh_history::FactKeys;
 use wh_policy::Dim;
 use wh_rows::{Cause, Format, LineKey};
-use wh_sql::{Keeps, Question, ReadFault};
+use wh_sql::{KeyedTable, Question, ReadFault};
 use wh_store::{Tables, Writing};
 
 /// Where rows are read.
 pub trait Reads {
-    fn read_all<T: Keeps>(&mut self, alloc: Global) -> Result<Vec<T::Row>, ReadFault>;
+    fn read_all<T: KeyedTable>(&mut self, alloc: Global) -> Result<Vec<T::Row>, ReadFault>;
 
-    fn read_at<T: Keeps>(
+    fn read_at<T: KeyedTable>(
         &mut self,
         alloc: Global,
         key: &T::Key,
     ) -> Result<Option<T::Row>, ReadFault>;
 
-    fn count_rows<T: Keeps>(&mut self, alloc: Global) -> Result<u64, ReadFault>;
+    fn count_rows<T: KeyedTable>(&mut self, alloc: Global) -> Result<u64, ReadFault>;
 
-    fn answer<T: Keeps, Q: Question<T>>(
+    fn answer<T: KeyedTable, Q: Question<T>>(
         &mut self,
         alloc: Global,
         question: &Q,
@@ -30,11 +30,11 @@ pub trait Reads {
 }
 
 impl<S: Alter> Reads for Connection<S> {
-    fn read_all<T: Keeps>(&mut self, alloc: Global) -> Result<Vec<T::Row>, ReadFault> {
+    fn read_all<T: KeyedTable>(&mut self, alloc: Global) -> Result<Vec<T::Row>, ReadFault> {
         wh_sql::all::<T, S>(alloc, self)
     }
 
-    fn read_at<T: Keeps>(
+    fn read_at<T: KeyedTable>(
         &mut self,
         alloc: Global,
         key: &T::Key,
@@ -42,11 +42,11 @@ impl<S: Alter> Reads for Connection<S> {
         wh_sql::get::<T, S>(alloc, self, key)
     }
 
-    fn count_rows<T: Keeps>(&mut self, alloc: Global) -> Result<u64, ReadFault> {
+    fn count_rows<T: KeyedTable>(&mut self, alloc: Global) -> Result<u64, ReadFault> {
         wh_sql::count::<T, S>(alloc, self)
     }
 
-    fn answer<T: Keeps, Q: Question<T>>(
+    fn answer<T: KeyedTable, Q: Question<T>>(
         &mut self,
         alloc: Global,
         question: &Q,
@@ -60,11 +60,11 @@ impl<S: Alter> Reads for Connection<S> {
 }
 
 impl<S: Alter> Reads for Tables<S> {
-    fn read_all<T: Keeps>(&mut self, alloc: Global) -> Result<Vec<T::Row>, ReadFault> {
+    fn read_all<T: KeyedTable>(&mut self, alloc: Global) -> Result<Vec<T::Row>, ReadFault> {
         self.all::<T>(alloc)
     }
 
-    fn read_at<T: Keeps>(
+    fn read_at<T: KeyedTable>(
         &mut self,
         alloc: Global,
         key: &T::Key,
@@ -72,11 +72,11 @@ impl<S: Alter> Reads for Tables<S> {
         self.get::<T>(alloc, key)
     }
 
-    fn count_rows<T: Keeps>(&mut self, alloc: Global) -> Result<u64, ReadFault> {
+    fn count_rows<T: KeyedTable>(&mut self, alloc: Global) -> Result<u64, ReadFault> {
         self.count::<T>(alloc)
     }
 
-    fn answer<T: Keeps, Q: Question<T>>(
+    fn answer<T: KeyedTable, Q: Question<T>>(
         &mut self,
         alloc: Global,
         question: &Q,
@@ -91,9 +91,9 @@ impl<S: Alter> Reads for Tables<S> {
 
 /// Where rows are written.
 pub trait Writes {
-    fn put_row<T: Keeps>(&mut self, alloc: Global, row: &T::Row) -> Result<(), Cause>;
+    fn put_row<T: KeyedTable>(&mut self, alloc: Global, row: &T::Row) -> Result<(), Cause>;
 
-    fn remove_row<T: Keeps>(&mut self, alloc: Global, key: &T::Key) -> Result<(), Cause>;
+    fn remove_row<T: KeyedTable>(&mut self, alloc: Global, key: &T::Key) -> Result<(), Cause>;
 
     fn rekey_fact(
         &mut self,
@@ -105,11 +105,11 @@ pub trait Writes {
 }
 
 impl<S: Alter> Writes for Connection<S> {
-    fn put_row<T: Keeps>(&mut self, alloc: Global, row: &T::Row) -> Result<(), Cause> {
+    fn put_row<T: KeyedTable>(&mut self, alloc: Global, row: &T::Row) -> Result<(), Cause> {
         wh_sql::put::<T, S>(alloc, self, row)
     }
 
-    fn remove_row<T: Keeps>(&mut self, alloc: Global, key: &T::Key) -> Result<(), Cause> {
+    fn remove_row<T: KeyedTable>(&mut self, alloc: Global, key: &T::Key) -> Result<(), Cause> {
         wh_sql::remove::<T, S>(alloc, self, key)
     }
 
@@ -125,11 +125,11 @@ impl<S: Alter> Writes for Connection<S> {
 }
 
 impl<S: Alter> Writes for Writing<'_, S> {
-    fn put_row<T: Keeps>(&mut self, alloc: Global, row: &T::Row) -> Result<(), Cause> {
+    fn put_row<T: KeyedTable>(&mut self, alloc: Global, row: &T::Row) -> Result<(), Cause> {
         self.put::<T>(alloc, row)
     }
 
-    fn remove_row<T: Keeps>(&mut self, alloc: Global, key: &T::Key) -> Result<(), Cause> {
+    fn remove_row<T: KeyedTable>(&mut self, alloc: Global, key: &T::Key) -> Result<(), Cause> {
         self.remove::<T>(alloc, key)
     }
 

@@ -6,7 +6,7 @@ use crate::trouble::Trouble;
 use crate::words::{Step, line_number, number, push_answer, push_count};
 use sqlite::{Connection, Row};
 use std::alloc::{AllocError, Global};
-use wh_day::{ReadError, Value};
+use wh_day::{ParseError, Value};
 use wh_history::FactKeys;
 use wh_rows::tables::{
     Calendar, Change, Command, Customer, Fact, Fact2, Member, Meta, Product, Profile, Store, Void,
@@ -25,8 +25,8 @@ pub fn columns_of(alloc: Global, values: &str) -> Result<Row, Trouble> {
 pub fn row_of<T: Told>(alloc: Global, values: &str) -> Result<T::Row, Trouble> {
     match T::read(alloc, &columns_of(alloc, values)?) {
         Ok(row) => Ok(row),
-        Err(ReadError::Memory) => Err(Trouble::Refused(Cause::Memory)),
-        Err(ReadError::Fault(_)) => Err(Trouble::Damaged(T::table())),
+        Err(ParseError::Memory) => Err(Trouble::Refused(Cause::Memory)),
+        Err(ParseError::Fault(_)) => Err(Trouble::Damaged(T::table())),
     }
 }
 

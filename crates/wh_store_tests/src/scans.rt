@@ -10,10 +10,10 @@ use wh_rows::Table;
 use wh_rows::tables::{
     Calendar, Change, Command, Customer, Fact, Fact2, Member, Meta, Product, Profile, Store, Void,
 };
-use wh_store::{Scan, Scanned, Tables};
+use wh_store::{PagedTable, Scan, Tables};
 
 /// Hands out up to so many rows.
-fn hand_out<T: Told + Scanned, S: Alter>(
+fn hand_out<T: Told + PagedTable, S: Alter>(
     alloc: Global,
     scan: &mut Scan<'_, S, T>,
     most: u64,
@@ -34,7 +34,7 @@ fn push_last<T: Told>(out: &mut String, rows: &[T::Row]) -> Result<(), Trouble> 
 }
 
 /// Tells of a scan that answered a fault if it answers otherwise than `None` from then on.
-fn tell_more<T: Told + Scanned, S: Alter>(
+fn tell_more<T: Told + PagedTable, S: Alter>(
     alloc: Global,
     scan: &mut Scan<'_, S, T>,
     out: &mut String,
@@ -46,7 +46,7 @@ fn tell_more<T: Told + Scanned, S: Alter>(
 }
 
 /// `MOST`: up to so many rows, of which it tells the number and the last one.
-fn scan<T: Told + Scanned, S: Alter>(
+fn scan<T: Told + PagedTable, S: Alter>(
     alloc: Global,
     tables: &mut Tables<S>,
     words: &str,

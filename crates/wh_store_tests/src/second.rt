@@ -6,9 +6,9 @@ use crate::words::{dim, number, push_answer, push_count, push_number};
 use sqlite::Alter;
 use std::alloc::{AllocError, Global};
 use wh_history::{Edit, Fact};
-use wh_rows::{Fact2, FactKey, KeyedSale, LineKey, tables};
+use wh_rows::{Fact2, FactColumn, KeyedSale, LineKey, tables};
 use wh_scenarios::parted;
-use wh_store::{Tables, Tally, Writing, upgrade};
+use wh_store::{FactAggregate, Tables, Writing, upgrade};
 
 /// The edits that take facts out of the first format and put them, with no discount, into the second.
 #[derive(Drop)]
@@ -80,7 +80,7 @@ struct Sums {
     cost: i64,
 }
 
-impl Tally for Sums {
+impl FactAggregate for Sums {
     ghost use Rattle.std.specs.Prelude.{⊤};
 
     ghost counts = { λ _ _ _. ⊤ };
@@ -107,13 +107,13 @@ impl Sums {
 }
 
 /// `surrogate DIMENSION`, `durable DIMENSION`, `profile` or `day`.
-fn fact_key(words: &str) -> Result<FactKey, Trouble> {
+fn fact_key(words: &str) -> Result<FactColumn, Trouble> {
     let (name, rest) = parted(words, ' ');
     match name {
-        "surrogate" => Ok(FactKey::Surrogate(dim(rest)?)),
-        "durable" => Ok(FactKey::Durable(dim(rest)?)),
-        "profile" => Ok(FactKey::Profile),
-        "day" => Ok(FactKey::Day),
+        "surrogate" => Ok(FactColumn::Surrogate(dim(rest)?)),
+        "durable" => Ok(FactColumn::Durable(dim(rest)?)),
+        "profile" => Ok(FactColumn::Profile),
+        "day" => Ok(FactColumn::Day),
         _ => Err(Trouble::Unknown),
     }
 }

@@ -13,10 +13,10 @@ use wh_rows::{
     VoidRow, tables,
 };
 use wh_scenarios::parted;
-use wh_sql::Keeps;
+use wh_sql::KeyedTable;
 
 /// A table that a scenario tells of.
-pub trait Told: Keeps {
+pub trait Told: KeyedTable {
     /// The key that these words say.
     fn key_of(alloc: Global, words: &str) -> Result<Self::Key, Trouble>;
 

@@ -11,7 +11,7 @@ use wh_policy::Dim;
 use wh_rows::tables::{Calendar, Change, Command, Customer, Member, Meta, Product, Profile, Store};
 use wh_rows::{ChangeRow, CommandRow, MemberRow, MetaRow, ProfileRow, Table, tables};
 use wh_scenarios::push_line;
-use wh_store::{Keeps, Tables};
+use wh_store::{KeyedTable, Tables};
 
 fn push_integer(out: &mut String, number: i64) -> Result<(), AllocError> {
     write!(out, ",{number}")
@@ -167,7 +167,7 @@ pub fn push_rows<R: Columns>(out: &mut String, word: &str, rows: &[R]) -> Result
     Ok(())
 }
 
-fn push_all<T: Keeps, S: Alter>(
+fn push_all<T: KeyedTable, S: Alter>(
     alloc: Global,
     tables: &mut Tables<S>,
     out: &mut String,

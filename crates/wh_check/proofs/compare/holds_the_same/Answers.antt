@@ -20,16 +20,16 @@ rows-init g c =
       rests = λ t at. at;
       valid = λ clean stored at. rw c.new-cursor.ensures.none refl;
       seen = λ clean stored at t rest.
-          seen_none layout g.T.Keeps.bind g.T.Keeps.stands_at g.met.T.Scanned.keyed (stored.rows g.T.Keeps.name) (g.met.T.Scanned.once (state_of g.S.Store c.args.tables.now).now stored at.now) (values (g.T.StoredTable.rows t))
-          (rows_left layout (g.T.StoredTable.rows t) c.new-ahead.result) (AreLeft layout g.T.Keeps.bind (stored.rows g.T.Keeps.name) c.new-cursor.result)
-          (c.new-ahead.ensures.left layout (g.T.StoredTable.rows t)) (λ left are. c.new-cursor.ensures.left_stored layout g.T.Keeps.bind (stored.rows g.T.Keeps.name) left are);
+          seen_none layout g.T.KeyedTable.bind g.T.KeyedTable.stands_at g.met.T.PagedTable.keyed (stored.rows g.T.KeyedTable.name) (g.met.T.PagedTable.once (state_of g.S.Store c.args.tables.now).now stored at.now) (values (g.T.StoredTable.rows t))
+          (rows_left layout (g.T.StoredTable.rows t) c.new-ahead.result) (AreLeft layout g.T.KeyedTable.bind (stored.rows g.T.KeyedTable.name) c.new-cursor.result)
+          (c.new-ahead.ensures.left layout (g.T.StoredTable.rows t)) (λ left are. c.new-cursor.ensures.left_stored layout g.T.KeyedTable.bind (stored.rows g.T.KeyedTable.name) left are);
     }
 
 pub returns-in_err-row-clause-damaged : goal.returns-in_err-row-clause-damaged
 returns-in_err-row-clause-damaged g c clean stored at =
     let read = c.in_err-row.ensures in
     let p = err_from_is_err_and c.from_residual.result c.from_residual.ensures.1 in
-    rw (p.1, p.2) (part_damaged (forward g.T.Scanned.part_texts.most) g.T.StoredTable.layout g.T.Keeps.name (stands_behind g.T.StoredTable.layout g.T.Keeps.bind c.rows.cursor.unread.after) (stored.rows g.T.Keeps.name) c.in_err-row.field-0.0
+    rw (p.1, p.2) (part_damaged (forward g.T.PagedTable.part_texts.most) g.T.StoredTable.layout g.T.KeyedTable.name (stands_behind g.T.StoredTable.layout g.T.KeyedTable.bind c.rows.cursor.unread.after) (stored.rows g.T.KeyedTable.name) c.in_err-row.field-0.0
     (read.damaged clean stored (c.rows.invariant.reads.rests (read.reads.clean clean) stored at tt)))
 
 pub returns-in_err-end-in-None-clause-reads : goal.returns-in_err-end-in-None-clause-reads
@@ -46,9 +46,9 @@ returns-in-None-clause-rests g c t at = c.in_ok-end-in-None.ensures.rests t (c.r
 pub returns-then-not-same-clause-same : goal.returns-then-not-same-clause-same
 returns-then-not-same-clause-same g c clean stored at t rest =
     let layout = g.T.StoredTable.layout in
-    let bind = g.T.Keeps.bind in
-    let rows = stored.rows g.T.Keeps.name in
-    let placed = g.met.T.Keeps.placed in
+    let bind = g.T.KeyedTable.bind in
+    let rows = stored.rows g.T.KeyedTable.name in
+    let placed = g.met.T.KeyedTable.placed in
     let m = g.T.StoredTable.rows t in
     let second = (state_of g.M.Store c.args.expected.now).now in
     let held = placed.held second t rest.1.now.tables (g.met.T.Plain.in_each t.format) in
@@ -58,18 +58,18 @@ returns-then-not-same-clause-same g c clean stored at t rest =
     let before = read.reads.clean clean in
     let Left = AreLeft layout bind rows c.rows.cursor in
     let ends : Left [] = subst (λ (found : Option _). HandsOutOf layout bind rows c.rows.cursor found c.next_row.new.cursor) c.in-None.is (read.stored clean stored here (kept.reads.rests before stored at tt)) in
-    let once = g.met.T.Scanned.once (state_of g.S.Store c.args.tables.now).now stored at.now in
+    let once = g.met.T.PagedTable.once (state_of g.S.Store c.args.tables.now).now stored at.now in
     let left = rows_left layout m c.rows.ahead in
     let seen : HasSeen layout rows (values m) left Left false = subst (HasSeen layout rows (values m) left Left) c.if-not-same.true (kept.seen before stored at t rest) in
     rows_or_not layout placed.total placed.same second.trees m held rows false
-    (compared_other layout bind g.T.Keeps.stands_at g.met.T.Scanned.keyed rows once (values m) (listed layout second.trees m (get m) held (λ _. refl)).rise Left ends left seen)
+    (compared_other layout bind g.T.KeyedTable.stands_at g.met.T.PagedTable.keyed rows once (values m) (listed layout second.trees m (get m) held (λ _. refl)).rise Left ends left seen)
 
 pub returns-in-None-clause-same : goal.returns-in-None-clause-same
 returns-in-None-clause-same g c clean stored at t rest =
     let layout = g.T.StoredTable.layout in
-    let bind = g.T.Keeps.bind in
-    let rows = stored.rows g.T.Keeps.name in
-    let placed = g.met.T.Keeps.placed in
+    let bind = g.T.KeyedTable.bind in
+    let rows = stored.rows g.T.KeyedTable.name in
+    let placed = g.met.T.KeyedTable.placed in
     let m = g.T.StoredTable.rows t in
     let second = (state_of g.M.Store c.args.expected.now).now in
     let held = placed.held second t rest.1.now.tables (g.met.T.Plain.in_each t.format) in
@@ -79,17 +79,17 @@ returns-in-None-clause-same g c clean stored at t rest =
     let before = read.reads.clean clean in
     let Left = AreLeft layout bind rows c.rows.cursor in
     let ends : Left [] = subst (λ (found : Option _). HandsOutOf layout bind rows c.rows.cursor found c.next_row.new.cursor) c.in-None.is (read.stored clean stored here (kept.reads.rests before stored at tt)) in
-    let once = g.met.T.Scanned.once (state_of g.S.Store c.args.tables.now).now stored at.now in
+    let once = g.met.T.PagedTable.once (state_of g.S.Store c.args.tables.now).now stored at.now in
     let left = rows_left layout m c.rows.ahead in
     let seen : HasSeen layout rows (values m) left Left true = subst (HasSeen layout rows (values m) left Left) c.if-not-same.false (kept.seen before stored at t rest) in
     let end = c.in_ok-end-in-None.end in
     rows_or_not layout placed.total placed.same second.trees m held rows end
-    (compared layout bind g.T.Keeps.stands_at g.met.T.Scanned.keyed rows once (values m) (listed layout second.trees m (get m) held (λ _. refl)).rise Left ends left end (c.in_ok-end-in-None.ensures.end t (kept.rests t rest)) seen)
+    (compared layout bind g.T.KeyedTable.stands_at g.met.T.PagedTable.keyed rows once (values m) (listed layout second.trees m (get m) held (λ _. refl)).rise Left ends left end (c.in_ok-end-in-None.ensures.end t (kept.rests t rest)) seen)
 
 pub rows-preserved : goal.rows-preserved
 rows-preserved g c =
     let layout = g.T.StoredTable.layout in
-    let bind = g.T.Keeps.bind in
+    let bind = g.T.KeyedTable.bind in
     let kept = c.rows.invariant in
     let read = c.in_ok-row.ensures in
     let row = c.in-Some.row in
@@ -106,16 +106,16 @@ rows-preserved g c =
       seen = λ clean stored at t rest.
           let before = read.reads.clean clean in
           let here = g.met.T.Plain.in_each stored.format ∙ sym (g.met.T.Plain.in_each c.rows.tables.format) in
-          let rows = stored.rows g.T.Keeps.name in
+          let rows = stored.rows g.T.KeyedTable.name in
           let m = g.T.StoredTable.rows t in
           let then_at = kept.reads.rests before stored at tt in
           let Left = AreLeft layout bind rows c.rows.cursor in
           let Rest = AreLeft layout bind rows c.next_row.new.cursor in
           let hands : (left : List Row) → Rest left → Left (layout.encode row ∷ left) = subst (λ (found : Option _). HandsOutOf layout bind rows c.rows.cursor found c.next_row.new.cursor) c.in-Some.is (read.stored clean stored here then_at) in
           let good : IsTrue (layout.is_valid row) = subst (λ (found : Option _). IfSome found (λ r. IsTrue (layout.is_valid r))) c.in-Some.is (read.valid clean stored here then_at (kept.valid before stored at)).0 in
-          let once = g.met.T.Scanned.once (state_of g.S.Store c.args.tables.now).now stored at.now in
-          let keyed = g.met.T.Scanned.keyed in
-          let stands_at = g.T.Keeps.stands_at in
+          let once = g.met.T.PagedTable.once (state_of g.S.Store c.args.tables.now).now stored at.now in
+          let keyed = g.met.T.PagedTable.keyed in
+          let stands_at = g.T.KeyedTable.stands_at in
           let left = rows_left layout m c.rows.ahead in
           let now : (same : Bool) → c.rows.same ≡ same → HasSeen layout rows (values m) left Left same = λ same is. subst (HasSeen layout rows (values m) left Left) is (kept.seen before stored at t rest) in
           elim c.if-same.branch [

@@ -14,5 +14,5 @@ invariant-rows g l = record {
   rests : (t : TypedTables) → RestsFaithfully g.M.Store (Some t) l.fn.expected.conn → RestsFaithfully g.M.Store (Some t) l.expected.conn;
   valid : SaysAsStored (state_of g.S.Store l.fn.tables) (state_of g.S.Store l.tables) (λ _. AreValid g.T.StoredTable.layout l.cursor);
   seen : SaysAsStored (state_of g.S.Store l.fn.tables) (state_of g.S.Store l.tables) (λ stored. (t : TypedTables) → RestsFaithfully g.M.Store (Some t) l.fn.expected.conn
-      → HasSeen g.T.StoredTable.layout (stored.rows g.T.Keeps.name) (values (g.T.StoredTable.rows t)) (rows_left g.T.StoredTable.layout (g.T.StoredTable.rows t) l.ahead) (AreLeft g.T.StoredTable.layout g.T.Keeps.bind (stored.rows g.T.Keeps.name) l.cursor) l.same);
+      → HasSeen g.T.StoredTable.layout (stored.rows g.T.KeyedTable.name) (values (g.T.StoredTable.rows t)) (rows_left g.T.StoredTable.layout (g.T.StoredTable.rows t) l.ahead) (AreLeft g.T.StoredTable.layout g.T.KeyedTable.bind (stored.rows g.T.KeyedTable.name) l.cursor) l.same);
 }

@@ -1,5 +1,5 @@
 use Rattle.std.specs.FinMap.{get}
-use Rattle.wh_rows.specs.Defined.{meta_at}
+use Rattle.wh_model.specs.Defined.{meta_at}
 use Rattle.wh_rows.specs.Rows as row
 use Rattle.wh_rows.specs.declared.table.Table.TheVariants.{Meta}
 use Rattle.wh_store.specs.Meta.{made_with}

@@ -1,4 +1,4 @@
-use Rattle.wh_rows.specs.Defined.{meta_at}
+use Rattle.wh_model.specs.Defined.{meta_at}
 use Rattle.wh_rows.specs.declared.table.Table.TheVariants.{Meta}
 use Rattle.wh_check.proofs.MetaRows.{undamaged_by}
 use Rattle.wh_check.proofs.meta.is_undamaged.Goals as goal

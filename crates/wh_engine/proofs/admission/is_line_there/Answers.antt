@@ -1,7 +1,7 @@
 use Rattle.std.proofs.Common.{◌∙◌, ap, refl}
 use Rattle.std.specs.Prelude.{is_some}
-use Rattle.wh_rows.specs.Defined.{fact_at}
-use Rattle.wh_rows.proofs.SameLines.{line_stored}
+use Rattle.wh_model.specs.Defined.{fact_at}
+use Rattle.wh_model.proofs.SameLines.{line_stored}
 use Rattle.wh_engine.proofs.admission.is_line_there.Goals as goal
 
 pub returns-clause-there : goal.returns-clause-there

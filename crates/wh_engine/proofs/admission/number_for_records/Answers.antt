@@ -3,9 +3,9 @@ use Rattle.std.specs.FinMap.{len}
 use Rattle.std.proofs.lemmas.Bool.{leb-true, leb-false}
 use Rattle.wh_history.specs.Accepted.{sold_by}
 use Rattle.wh_admission.specs.Admission.{changes_in}
-use Rattle.wh_rows.specs.Sound.{changes_kept}
+use Rattle.wh_model.specs.Sound.{changes_kept}
 use Rattle.wh_plan.proofs.FoundCommands.{commands_counted}
-use Rattle.wh_rows.proofs.ListedChanges.{changes_counted}
+use Rattle.wh_model.proofs.ListedChanges.{changes_counted}
 use Rattle.wh_engine.proofs.Decisions.{no_room, too_many_changes, has_room, no_line}
 use Rattle.wh_engine.proofs.admission.number_for_records.Goals as goal
 

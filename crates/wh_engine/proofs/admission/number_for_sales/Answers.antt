@@ -3,7 +3,7 @@ use Rattle.std.specs.FinMap.{len}
 use Rattle.std.proofs.lemmas.Bool.{leb-true, leb-false}
 use Rattle.wh_history.specs.Accepted.{Sells, sold}
 use Rattle.wh_admission.specs.Admission.{first_line_there}
-use Rattle.wh_rows.specs.Sound.{changes_kept}
+use Rattle.wh_model.specs.Sound.{changes_kept}
 use Rattle.wh_plan.proofs.FoundCommands.{commands_counted}
 use Rattle.wh_engine.proofs.FoundFacts.{facts_counted}
 use Rattle.wh_engine.proofs.Decisions.{no_room, line_is_there, too_many_facts, has_room, is_none}

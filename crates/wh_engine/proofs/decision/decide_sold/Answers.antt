@@ -7,7 +7,7 @@ use Rattle.wh_rows.specs.declared.rows.CommandRow.{CommandRow}
 use Rattle.wh_plan.specs.Edits.{Edits}
 use Rattle.wh_admission.specs.declared.command.Reply.TheVariants.{Accepted as Accepts}
 use Rattle.wh_engine.proofs.Decisions.{judged_ok, judged_err, number_refused, command_accepted, next_number, list_accepted, own_row, policy_in_force, sound_in_force}
-use Rattle.wh_plan.proofs.SalePremises.{members_counted}
+use Rattle.wh_plan.proofs.SaleBatches.SalePremises.{members_counted}
 use Rattle.wh_engine.proofs.decision.decide_sold.Goals as goal
 
 pub returns-clause-decided : goal.returns-clause-decided

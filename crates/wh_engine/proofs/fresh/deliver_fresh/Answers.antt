@@ -2,7 +2,7 @@ use Rattle.std.proofs.Common.{[], ◌∷◌, sym, subst}
 use Rattle.sqlite.specs.Held.{state}
 use Rattle.sqlite.specs.State.{HasCleanDisk}
 use Rattle.sqlite.specs.Steps.{over_memory}
-use Rattle.wh_rows.specs.Sound.{making_of}
+use Rattle.wh_model.specs.Sound.{making_of}
 use Rattle.wh_engine.specs.Delivered.{IsDelivered}
 use Rattle.wh_engine.proofs.fresh.deliver_fresh.Goals as goal
 

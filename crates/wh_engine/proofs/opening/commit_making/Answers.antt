@@ -3,7 +3,7 @@ use Rattle.sqlite.specs.Held.{state}
 use Rattle.sqlite.specs.State.{HasCleanDisk}
 use Rattle.wh_rows.specs.AtRest.{IsAtRest}
 use Rattle.wh_plan.specs.FirstRows.{IsGoodPolicy}
-use Rattle.wh_rows.specs.Sound.{making_of}
+use Rattle.wh_model.specs.Sound.{making_of}
 use Rattle.wh_engine.proofs.OpenedTables.{rests_if_kept, leaves_making}
 use Rattle.wh_engine.proofs.opening.commit_making.Goals as goal
 

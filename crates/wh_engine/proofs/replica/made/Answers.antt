@@ -1,7 +1,7 @@
 use Rattle.std.proofs.Common.{[], ◌∷◌, sym, ap, subst, ◌∙◌}
 use Rattle.sqlite.specs.Files.{over_files}
 use Rattle.wh_policy.specs.Policy.{policy_at}
-use Rattle.wh_rows.specs.Sound.{making_of}
+use Rattle.wh_model.specs.Sound.{making_of}
 use Rattle.wh_store.specs.Reads.{state_of}
 use Rattle.wh_engine.specs.Answered.{IsReady}
 use Rattle.wh_engine.proofs.Followed.{made_next, no_making, no_policy}

@@ -8,4 +8,4 @@ pub returns-in_err-found-clause-named : goal.returns-in_err-found-clause-named
 returns-in_err-found-clause-named g c clean stored on =
     let layout = g.T.StoredTable.layout in
     let p = err_from_is_err_and c.from_residual.result c.from_residual.ensures.1 in
-    rw (p.1, p.2) (names_it (Some (forward g.T.Scanned.part_texts.most)) layout g.T.Keeps.name (filter (stands_behind layout g.T.Keeps.bind c.args.cursor.now.unread.after) (stored.rows g.T.Keeps.name)) c.in_err-found.field-0.0 (c.in_err-found.ensures.damaged clean stored on))
+    rw (p.1, p.2) (names_it (Some (forward g.T.PagedTable.part_texts.most)) layout g.T.KeyedTable.name (filter (stands_behind layout g.T.KeyedTable.bind c.args.cursor.now.unread.after) (stored.rows g.T.KeyedTable.name)) c.in_err-found.field-0.0 (c.in_err-found.ensures.damaged clean stored on))

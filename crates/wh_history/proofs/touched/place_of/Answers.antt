@@ -20,7 +20,7 @@ returns-then-not-is_new g c =
       naturals = rw (e.keys, there) c.requires;
       list = rw any refl;
       place = e.index ∙ index_by string_bytes (string_bytes name) c.args.naturals.now.keys list c.requires ∙ ap (λ (t : List ℕ). position_or_len (λ (m : Member). bytes_eq m.natural t) list) named;
-      natural = current_natural (g.S.Stored.stored c.args.stored.now) n list any;
+      natural = current_natural (g.S.MemberSource.stored c.args.stored.now) n list any;
     }
 
 pub returns : goal.returns
@@ -39,5 +39,5 @@ returns g c =
       naturals = rw (e.keys, missing, c.in_ok-push.ensures.items) (map-append string_bytes c.args.naturals.now.keys (name ∷ []) ∙ rw (named, c.requires) (sym (map-append seen list (c.in_ok-stored_member.field-0 ∷ []) ∙ ap (λ (t : List ℕ). map seen list ++ t ∷ []) new.natural)));
       list = c.in_ok-push.ensures.items ∙ rw (any, new.member) refl;
       place = e.index ∙ index_by string_bytes (string_bytes name) c.args.naturals.now.keys list c.requires ∙ ap (λ (t : List ℕ). position_or_len (λ (m : Member). bytes_eq m.natural t) list) named;
-      natural = ap seen (current_stored (g.S.Stored.stored c.args.stored.now) n list any ∙ sym new.member) ∙ new.natural;
+      natural = ap seen (current_stored (g.S.MemberSource.stored c.args.stored.now) n list any ∙ sym new.member) ∙ new.natural;
     }

@@ -8,7 +8,7 @@ index_mut-member-requires g c =
     let now = c.args.touching.now in
     let t : Touched = record { members = now.members; anchors = now.anchors; owners = now.owners.items; list = now.list.items } in
     let e = c.in_ok-place.ensures in
-    let within = place_within (g.S.Stored.stored c.args.stored.now) t c.args.told.now c.in_ok-place.place c.place_of.new.list.items e.list e.place in
+    let within = place_within (g.S.MemberSource.stored c.args.stored.now) t c.args.told.now c.in_ok-place.place c.place_of.new.list.items e.list e.place in
     omega (arith, within, c.place_of.new.list.ok.0)
 
 pub returns : goal.returns
@@ -17,7 +17,7 @@ returns g c =
     let t : Touched = record { members = now.members; anchors = now.anchors; owners = now.owners.items; list = now.list.items } in
     let e = c.in_ok-place.ensures in
     let a = c.in_ok-add_record.ensures in
-    let stored = g.S.Stored.stored c.args.stored.now in
+    let stored = g.S.MemberSource.stored c.args.stored.now in
     let old = c.index_mut-member.result.now in
     let made = c.add_record.new.member in
     record {

@@ -7,7 +7,7 @@ use Rattle.wh_history.proofs.touched.touch_all.Given as goal
 abbrev pub invariant-loop-told : goal.invariant-loop-told
 invariant-loop-told g l =
     let now = l.touching in
-    let stored = g.S.Stored.stored l.stored in
+    let stored = g.S.MemberSource.stored l.stored in
     record {
       naturals : map (λ n. string_bytes n) now.naturals.keys ≡ map (λ m. m.natural) now.list.items;
       members : now.members ≤ l.members + l.told-index;

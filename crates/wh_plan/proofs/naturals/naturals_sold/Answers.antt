@@ -1,7 +1,7 @@
 use Rattle.std.proofs.Common.{◌≡◌, Some, None, sym, ◌∙◌, ap}
 use Rattle.std.specs.Option.{option_copied}
 use Rattle.wh_history.specs.Accepted.{member_of_sale}
-use Rattle.wh_plan.proofs.SalesNaturals.{sold_more, sold_none}
+use Rattle.wh_plan.proofs.SaleBatches.SalesNaturals.{sold_more, sold_none}
 use Rattle.wh_plan.proofs.naturals.naturals_sold.Goals as goal
 use Rattle.wh_plan.proofs.naturals.naturals_sold.Goals.{in-Some+in_ok-add_natural, in_default}
 

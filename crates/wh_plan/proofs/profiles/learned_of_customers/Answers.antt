@@ -8,7 +8,7 @@ use Rattle.wh_history.specs.Known.{number_in, numbered_from, KnowsEnough}
 use Rattle.wh_history.specs.Laws.{governs}
 use Rattle.wh_plan.specs.Profiles.{with_combinations, told_of, said_by, number_kept, learned, unknown, row_of_profile}
 use Rattle.wh_plan.proofs.PlanProfiles.{touched_known, touched_fresh, base_few}
-use Rattle.wh_rows.proofs.SmallNumbers.{profiles_few}
+use Rattle.wh_model.proofs.SmallNumbers.{profiles_few}
 use Rattle.wh_plan.proofs.profiles.learned_of_customers.Goals as goal
 
 pub returns-clause-learned : goal.returns-clause-learned

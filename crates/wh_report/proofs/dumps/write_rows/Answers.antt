@@ -22,7 +22,7 @@ rows-init g c =
         done = [];
         going = begun (header_line layout) (row_line layout) _ _ gathered;
         typed = λ clean t same at. c.new-cursor.ensures.left layout (g.T.StoredTable.rows t);
-        stored = λ clean stored same on. (seen_none layout (stored.rows g.T.Keeps.name) _ (c.new-cursor.ensures.left_stored layout g.T.Keeps.bind (stored.rows g.T.Keeps.name)), none_ahead layout.is_valid _ c.new-cursor.ensures.none);
+        stored = λ clean stored same on. (seen_none layout (stored.rows g.T.KeyedTable.name) _ (c.new-cursor.ensures.left_stored layout g.T.KeyedTable.bind (stored.rows g.T.KeyedTable.name)), none_ahead layout.is_valid _ c.new-cursor.ensures.none);
       };
     }
 
@@ -43,14 +43,14 @@ rows-preserved g c =
             going = row_added (header_line layout) (row_line layout) _ _ _ _ _ it.done row c.in_ok-write_row-in-Ok-Some.field-0 it.going (c.in_ok-write_row-in-Ok-Some.ensures.out it.going.rest it.going.gathered);
             typed = λ clean t same at.
                 let before = read.reads.spares.clean clean in
-                one_more it.done _ _ _ row (row_handed _ _ _ row c.in-Ok-Some.field-0-is (read.rows clean t (same ∙ sym (ap (is_there g.T.Keeps.name) kept.same_format)) (kept.reads.spares.same before t at tt))) (it.typed before t same at);
+                one_more it.done _ _ _ row (row_handed _ _ _ row c.in-Ok-Some.field-0-is (read.rows clean t (same ∙ sym (ap (is_there g.T.KeyedTable.name) kept.same_format)) (kept.reads.spares.same before t at tt))) (it.typed before t same at);
             stored = λ clean stored same on.
                 let before = read.reads.spares.clean clean in
-                let there = same ∙ sym (ap (is_there g.T.Keeps.name) kept.same_format) in
+                let there = same ∙ sym (ap (is_there g.T.KeyedTable.name) kept.same_format) in
                 let rests = kept.reads.spares.rests before stored on tt in
                 let seen = it.stored before stored same on in
                 let good = valid_hands _ _ _ row c.in-Ok-Some.field-0-is (read.valid clean stored there rests seen.1) in
-                (seen_one layout (stored.rows g.T.Keeps.name) _ _ it.done row seen.0 good.0 (row_hands layout g.T.Keeps.bind (stored.rows g.T.Keeps.name) _ _ _ _ row _ c.in-Ok-Some.field-0-is (read.stored clean stored there rests)), good.1);
+                (seen_one layout (stored.rows g.T.KeyedTable.name) _ _ it.done row seen.0 good.0 (row_hands layout g.T.KeyedTable.bind (stored.rows g.T.KeyedTable.name) _ _ _ _ row _ c.in-Ok-Some.field-0-is (read.stored clean stored there rests)), good.1);
           };
     }
 
@@ -68,7 +68,7 @@ returns-in_err-write_row-in-Ok-Some-clause-out g c gathered unflagged clean t sa
     let failed = c.in_err-write_row-in-Ok-Some in
     let before = read.reads.spares.clean clean in
     let it = kept.gone gathered in
-    let left = row_handed _ _ _ c.in-Ok-Some.row c.in-Ok-Some.field-0-is (read.rows clean t (same ∙ sym (ap (is_there g.T.Keeps.name) kept.same_format)) (kept.reads.spares.same before t at tt)) in
+    let left = row_handed _ _ _ c.in-Ok-Some.row c.in-Ok-Some.field-0-is (read.rows clean t (same ∙ sym (ap (is_there g.T.KeyedTable.name) kept.same_format)) (kept.reads.spares.same before t at tt)) in
     let all = ap (λ rows. it.done ++ rows) (sym left) ∙ it.typed before t same at in
     let p = err_from_is_err_and c.from_residual.result c.from_residual.ensures.1 in
     rw (p.1, p.2) (lines_for (header_line layout) (row_line layout) (Err failed.field-0.0) (g.W.Write.contents c.args.out.now) (g.W.Write.contents c.write_row.new.out) _ _ all
@@ -77,24 +77,24 @@ returns-in_err-write_row-in-Ok-Some-clause-out g c gathered unflagged clean t sa
 pub returns-in_err-write_row-in-Ok-Some-clause-stored : goal.returns-in_err-write_row-in-Ok-Some-clause-stored
 returns-in_err-write_row-in-Ok-Some-clause-stored g c gathered unflagged clean stored same on =
     let layout = g.T.StoredTable.layout in
-    let rows = stored.rows g.T.Keeps.name in
+    let rows = stored.rows g.T.KeyedTable.name in
     let kept = c.rows.invariant in
     let read = c.in-Ok-Some.ensures in
     let failed = c.in_err-write_row-in-Ok-Some in
     let row = c.in-Ok-Some.row in
     let before = read.reads.spares.clean clean in
-    let there = same ∙ sym (ap (is_there g.T.Keeps.name) kept.same_format) in
+    let there = same ∙ sym (ap (is_there g.T.KeyedTable.name) kept.same_format) in
     let rests = kept.reads.spares.rests before stored on tt in
     let it = kept.gone gathered in
     let seen = it.stored before stored same on in
     let good = valid_hands _ _ _ row c.in-Ok-Some.field-0-is (read.valid clean stored there rests seen.1) in
-    let with_row = seen_one layout rows _ _ it.done row seen.0 good.0 (row_hands layout g.T.Keeps.bind rows _ _ _ _ row _ c.in-Ok-Some.field-0-is (read.stored clean stored there rests)) in
+    let with_row = seen_one layout rows _ _ it.done row seen.0 good.0 (row_hands layout g.T.KeyedTable.bind rows _ _ _ _ row _ c.in-Ok-Some.field-0-is (read.stored clean stored there rests)) in
     let p = err_from_is_err_and c.from_residual.result c.from_residual.ensures.1 in
     rw (p.1, p.2) (record {
       rows = it.done ++ row ∷ [];
-      read = seen_some layout rows _ (it.done ++ row ∷ []) with_row (left_there layout g.T.Keeps.bind rows _ _ _);
+      read = seen_some layout rows _ (it.done ++ row ∷ []) with_row (left_there layout g.T.KeyedTable.bind rows _ _ _);
       out = row_not_added (header_line layout) (row_line layout) _ c.write_row.new.part _ _ _ it.done row [] failed.field-0.0 it.going failed.ensures.kinds (failed.ensures.out it.going.rest it.going.gathered);
-      named = names_none g.T.Keeps.name failed.field-0.0 failed.ensures.kinds;
+      named = names_none g.T.KeyedTable.name failed.field-0.0 failed.ensures.kinds;
     })
 
 pub returns-in-Ok-None-clause-reads : goal.returns-in-Ok-None-clause-reads
@@ -108,7 +108,7 @@ returns-in-Ok-None-clause-out g c gathered unflagged clean t same at =
     let read = c.in-Ok-None.ensures in
     let before = read.reads.spares.clean clean in
     let it = kept.gone gathered in
-    let none = none_handed _ _ _ c.in-Ok-None.field-0-is (read.rows clean t (same ∙ sym (ap (is_there g.T.Keeps.name) kept.same_format)) (kept.reads.spares.same before t at tt)) in
+    let none = none_handed _ _ _ c.in-Ok-None.field-0-is (read.rows clean t (same ∙ sym (ap (is_there g.T.KeyedTable.name) kept.same_format)) (kept.reads.spares.same before t at tt)) in
     let all = sym (append-nil it.done) ∙ ap (λ rows. it.done ++ rows) (sym none) ∙ it.typed before t same at in
     lines_for (header_line layout) (row_line layout) _ _ _ _ _ all
     (last_out (header_line layout) (row_line layout) _ _ _ _ it.done c.go_out.result it.going (subst (IsOutWhole c.go_out.result _ _) it.going.gathered.lines c.go_out.ensures.out))
@@ -116,19 +116,19 @@ returns-in-Ok-None-clause-out g c gathered unflagged clean t same at =
 pub returns-in-Ok-None-clause-stored : goal.returns-in-Ok-None-clause-stored
 returns-in-Ok-None-clause-stored g c gathered unflagged clean stored same on =
     let layout = g.T.StoredTable.layout in
-    let rows = stored.rows g.T.Keeps.name in
+    let rows = stored.rows g.T.KeyedTable.name in
     let kept = c.rows.invariant in
     let read = c.in-Ok-None.ensures in
     let before = read.reads.spares.clean clean in
-    let there = same ∙ sym (ap (is_there g.T.Keeps.name) kept.same_format) in
+    let there = same ∙ sym (ap (is_there g.T.KeyedTable.name) kept.same_format) in
     let rests = kept.reads.spares.rests before stored on tt in
     let it = kept.gone gathered in
     let seen = it.stored before stored same on in
     record {
       rows = it.done;
-      read = read_to_end layout rows it.done c.go_out.result (seen_all layout rows _ it.done seen.0 (none_hands layout g.T.Keeps.bind rows _ _ _ _ _ c.in-Ok-None.field-0-is (read.stored clean stored there rests)));
+      read = read_to_end layout rows it.done c.go_out.result (seen_all layout rows _ it.done seen.0 (none_hands layout g.T.KeyedTable.bind rows _ _ _ _ _ c.in-Ok-None.field-0-is (read.stored clean stored there rests)));
       out = last_out (header_line layout) (row_line layout) _ _ _ _ it.done c.go_out.result it.going (subst (IsOutWhole c.go_out.result _ _) it.going.gathered.lines c.go_out.ensures.out);
-      named = named_none g.T.Keeps.name c.go_out.result c.go_out.ensures.kinds;
+      named = named_none g.T.KeyedTable.name c.go_out.result c.go_out.ensures.kinds;
     }
 
 pub returns-in-Err-clause-reads : goal.returns-in-Err-clause-reads
@@ -148,7 +148,7 @@ returns-in-Err-clause-out g c gathered unflagged clean t same at =
 pub returns-in-Err-clause-stored : goal.returns-in-Err-clause-stored
 returns-in-Err-clause-stored g c gathered unflagged clean stored same on =
     let layout = g.T.StoredTable.layout in
-    let rows = stored.rows g.T.Keeps.name in
+    let rows = stored.rows g.T.KeyedTable.name in
     let kept = c.rows.invariant in
     let read = c.in-Err.ensures in
     let before = read.reads.spares.clean clean in
@@ -156,11 +156,11 @@ returns-in-Err-clause-stored g c gathered unflagged clean stored same on =
     let seen = it.stored before stored same on in
     record {
       rows = it.done;
-      read = seen_some layout rows _ it.done seen.0 (left_there layout g.T.Keeps.bind rows _ _ _);
+      read = seen_some layout rows _ it.done seen.0 (left_there layout g.T.KeyedTable.bind rows _ _ _);
       out = lines_for (header_line layout) (row_line layout) (Err c.go_out_before.result) (g.W.Write.contents c.args.out.now) (g.W.Write.contents c.go_out_before.new.out) _ _ (append-nil it.done)
           (stopped (header_line layout) (row_line layout) _ _ _ _ it.done [] c.in-Err.fault c.go_out_before.result it.going (never_reopen _ _ c.in-Err.fault unflagged kept.reads.noted (λ is. read.only (ap Err is)))
           (subst (IsOutBefore c.in-Err.fault c.go_out_before.result _ _) it.going.gathered.lines c.go_out_before.ensures));
-      named = named_before g.T.Keeps.name c.in-Err.fault c.go_out_before.result _ _ _ c.go_out_before.ensures (read.named clean stored (kept.reads.spares.rests before stored on tt));
+      named = named_before g.T.KeyedTable.name c.in-Err.fault c.go_out_before.result _ _ _ c.go_out_before.ensures (read.named clean stored (kept.reads.spares.rests before stored on tt));
     }
 
 pub returns-in-Err-clause-kinds : goal.returns-in-Err-clause-kinds
@@ -179,15 +179,15 @@ returns-clause-out g c gathered unflagged clean t same at =
 pub returns-clause-stored : goal.returns-clause-stored
 returns-clause-stored g c gathered unflagged clean stored same on =
     let layout = g.T.StoredTable.layout in
-    let rows = stored.rows g.T.Keeps.name in
+    let rows = stored.rows g.T.KeyedTable.name in
     let it = c.rows.invariant.gone gathered in
     let seen = it.stored clean stored same on in
     record {
       rows = it.done;
-      read = seen_some layout rows _ it.done seen.0 (left_there layout g.T.Keeps.bind rows _ _ _);
+      read = seen_some layout rows _ it.done seen.0 (left_there layout g.T.KeyedTable.bind rows _ _ _);
       out = lines_for (header_line layout) (row_line layout) (Err c.go_out_before-2.result) (g.W.Write.contents c.args.out.now) (g.W.Write.contents c.go_out_before-2.new.out) _ _ (append-nil it.done)
           (stopped (header_line layout) (row_line layout) _ _ _ _ it.done [] faults.Memory c.go_out_before-2.result it.going (λ e. cc) (subst (IsOutBefore faults.Memory c.go_out_before-2.result _ _) it.going.gathered.lines c.go_out_before-2.ensures));
-      named = named_before g.T.Keeps.name faults.Memory c.go_out_before-2.result _ _ _ c.go_out_before-2.ensures tt;
+      named = named_before g.T.KeyedTable.name faults.Memory c.go_out_before-2.result _ _ _ c.go_out_before-2.ensures tt;
     }
 
 pub returns-clause-kinds : goal.returns-clause-kinds

@@ -12,7 +12,7 @@ pub returns-then-must_reopen-clause-reads : goal.returns-then-must_reopen-clause
 returns-then-must_reopen-clause-reads g c = unserved _ _ (sym c.must_reopen.ensures ∙ c.if-must_reopen.true)
 
 pub returns-then-must_reopen-clause-stored : goal.returns-then-must_reopen-clause-stored
-returns-then-must_reopen-clause-stored g c clean stored same on = record { rows = []; read = none_read g.T.StoredTable.layout (stored.rows g.T.Keeps.name); out = refl; named = tt }
+returns-then-must_reopen-clause-stored g c clean stored same on = record { rows = []; read = none_read g.T.StoredTable.layout (stored.rows g.T.KeyedTable.name); out = refl; named = tt }
 
 pub returns-in_err-add_names-clause-out : goal.returns-in_err-add_names-clause-out
 returns-in_err-add_names-clause-out g c clean t same at =
@@ -23,7 +23,7 @@ pub returns-in_err-add_names-clause-stored : goal.returns-in_err-add_names-claus
 returns-in_err-add_names-clause-stored g c clean stored same on =
     let layout = g.T.StoredTable.layout in
     let p = err_from_is_err_and c.from_residual.result c.from_residual.ensures.1 in
-    rw (p.1, p.2) (record { rows = []; read = none_read layout (stored.rows g.T.Keeps.name); out = no_line (header_line layout) (row_line layout) _ []; named = tt })
+    rw (p.1, p.2) (record { rows = []; read = none_read layout (stored.rows g.T.KeyedTable.name); out = no_line (header_line layout) (row_line layout) _ []; named = tt })
 
 pub returns-clause-out : goal.returns-clause-out
 returns-clause-out g c clean t same at = c.write_rows.ensures.out (c.in_ok-add_names.ensures [] c.new-part.ensures) (sym c.must_reopen.ensures ∙ c.if-must_reopen.false) clean t same at

@@ -1,7 +1,7 @@
 use Rattle.std.proofs.Common.{◌≡◌, ◌++◌, ◌∷◌, ◌+◌, ◌∙◌, [], sym, ap, subst, take, append-nil}
 use Rattle.std.proofs.lemmas.List.{take_all, take_more}
 use Rattle.wh_report.specs.Dump.{header_line, row_line, table_text}
-use Rattle.wh_report.specs.Part.{Gathers}
+use Rattle.wh_report.specs.CsvBuffer.{Gathers}
 use Rattle.wh_report.proofs.Parts.{text_row}
 use Rattle.wh_report.proofs.table_texts.table_text.Goals as goal
 

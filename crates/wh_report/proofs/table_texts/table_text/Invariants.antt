@@ -1,6 +1,6 @@
 use Rattle.std.proofs.Common.{take}
 use Rattle.wh_report.specs.Dump.{table_text}
-use Rattle.wh_report.specs.Part.{Gathers}
+use Rattle.wh_report.specs.CsvBuffer.{Gathers}
 use Rattle.wh_report.proofs.table_texts.table_text.Given as goal
 
 -- the text of the rows so far

@@ -1,6 +1,6 @@
 use Rattle.std.proofs.lemmas.Result.{err_from_is_err_and}
 use Rattle.wh_rows.specs.Rows.{encode_fact2, is_fact2}
-use Rattle.wh_rows.proofs.BoundFacts.{one_more, not_all}
+use Rattle.wh_rows.proofs.FactBatches.BoundFacts.{one_more, not_all}
 use Rattle.wh_rows.proofs.bound.facts2.Goals as goal
 
 pub returns-in_err-columns-clause-err : goal.returns-in_err-columns-clause-err

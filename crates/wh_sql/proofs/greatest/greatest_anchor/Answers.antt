@@ -14,7 +14,7 @@ use Rattle.wh_rows.specs.declared.table.Table.TheVariants.{Change}
 use Rattle.wh_rows.specs.Texts as texts
 use Rattle.wh_rows.specs.Raw.{IsGreatestAnchor}
 use Rattle.wh_rows.specs.Questions.{is_record_of}
-use Rattle.wh_rows.proofs.Changes.{greatest_anchor, greatest_anchor_stored}
+use Rattle.wh_rows.proofs.EachTable.Changes.{greatest_anchor, greatest_anchor_stored}
 use Rattle.wh_rows.proofs.Places.{change}
 use Rattle.wh_sql.proofs.Reading.{IsAnswered, IsLedByGreatest, greatest_answered, rows_are, undamaged, sorted_named, said_again, anchor_stored, anchor_damage}
 use Rattle.wh_sql.proofs.greatest.greatest_anchor.Goals as goal

@@ -76,7 +76,7 @@ returns-in-None-clause-refused g c clean =
     let shown : Shown c.args.text.now (bound c.args.params.now) (state g.S.Store c.args.conn.now) (state g.S.Store now) it.rows =
     all_given g.S.Store c.args.text.now (bound c.args.params.now) c.args.conn.now c.rows.shown.conn.now it.giving now c.advance.ensures.survives
     (handed g.S.Store c.rows.shown.conn.now now None (row_if c.advance.new.self.has_row now) (rw c.in-None.is at c.get.ensures) c.in_default.ensures.ok) late in
-    rw (c.ok_or.ensures.value, c.table.ensures) (fails_to_read g.T.StoredTable.layout g.T.Keeps.name _ _ _ _ it.rows (search rules) c.rows.read it.are)
+    rw (c.ok_or.ensures.value, c.table.ensures) (fails_to_read g.T.StoredTable.layout g.T.KeyedTable.name _ _ _ _ it.rows (search rules) c.rows.read it.are)
 
 pub returns-in-None-clause-reads : goal.returns-in-None-clause-reads
 returns-in-None-clause-reads g c plain sound named =

@@ -21,7 +21,7 @@ returns-in-Err-clause-reads g c =
 pub facts-init : goal.facts-init
 facts-init g c =
     let made = rw c.facts_by.ensures at c.in-Ok.ensures in
-    (refl, tally_begins g.S.Store c.args.format c.args.which c.args.conn.now g.C.Tally.counts c.in-Ok.rows.conn.now c.args.tally.now made.begun made.survives c.requires)
+    (refl, tally_begins g.S.Store c.args.format c.args.which c.args.conn.now g.C.FactAggregate.counts c.in-Ok.rows.conn.now c.args.tally.now made.begun made.survives c.requires)
 
 pub returns-in-Err-advance-clause-reads : goal.returns-in-Err-advance-clause-reads
 returns-in-Err-advance-clause-reads g c =

@@ -26,8 +26,8 @@ returns-clause-rows g c clean t same_format at =
 pub returns-clause-stored : goal.returns-clause-stored
 returns-clause-stored g c clean stored same_format at =
     let d = g.T.StoredTable in
-    let bind = g.T.Keeps.bind in
-    let rows = stored.rows g.T.Keeps.name in
+    let bind = g.T.KeyedTable.bind in
+    let rows = stored.rows g.T.KeyedTable.name in
     let none : c.next.result ≡ None = none_is c.next.result c.in_default.not-Some in
     let lens = rw none at c.next.ensures.cases in
     let empty : into_iter_items c.next.new.self ≡ [] = no_items _ _ c.next.new.self.rest.ok.0 lens.1 in

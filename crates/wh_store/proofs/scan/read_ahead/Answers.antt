@@ -11,7 +11,7 @@ returns-clause-rows g c clean t same at fresh none =
     let rows = c.in_ok-rows.rows in
     let len : vec_len rows ≡ length rows.items = omega arith in
     let last = c.in_ok-after.ensures ∙ ap (λ l. option_map d.layout.key (slice_get l (length l - 1))) c.deref.ensures.value in
-    let whole = part_read d.layout d.rows d.with_rows g.met.T.Keeps.placed (state g.S.Store c.args.tables.now.conn) t at g.T.Scanned.part_texts.most g.T.Scanned.part_texts.some c.args.cursor.now.unread.after c.in_ok-after.after rows.items c.len.result (c.in_ok-rows.ensures.rows clean t same at) last (c.len.ensures ∙ len) in
+    let whole = part_read d.layout d.rows d.with_rows g.met.T.KeyedTable.placed (state g.S.Store c.args.tables.now.conn) t at g.T.PagedTable.part_texts.most g.T.PagedTable.part_texts.some c.args.cursor.now.unread.after c.in_ok-after.after rows.items c.len.result (c.in_ok-rows.ensures.rows clean t same at) last (c.len.ensures ∙ len) in
     rw (c.into_iter.ensures.rest, none, fresh, c.part_statements.ensures.2) whole
 
 pub returns-clause-keyed : goal.returns-clause-keyed
@@ -26,6 +26,6 @@ returns-clause-stored g c clean stored same at fresh none left are =
     let len : vec_len rows ≡ length rows.items = omega arith in
     let last = c.in_ok-after.ensures ∙ ap (λ l. option_map d.layout.key (slice_get l (length l - 1))) c.deref.ensures.value in
     let front = (c.in_ok-rows.ensures.stored clean stored same at).0 in
-    let arranged = part_left d.layout g.T.Keeps.bind g.T.Keeps.stands_at g.met.T.Scanned.keyed (stored.rows g.T.Keeps.name) (g.met.T.Scanned.once (state g.S.Store c.args.tables.now.conn).now stored at.now)
-    g.T.Scanned.part_texts.most g.T.Scanned.part_texts.some c.args.cursor.now.unread.after c.in_ok-after.after rows.items c.len.result front last (c.len.ensures ∙ len) are.0 (rw c.part_statements.ensures.2 at are.1) in
+    let arranged = part_left d.layout g.T.KeyedTable.bind g.T.KeyedTable.stands_at g.met.T.PagedTable.keyed (stored.rows g.T.KeyedTable.name) (g.met.T.PagedTable.once (state g.S.Store c.args.tables.now.conn).now stored at.now)
+    g.T.PagedTable.part_texts.most g.T.PagedTable.part_texts.some c.args.cursor.now.unread.after c.in_ok-after.after rows.items c.len.result front last (c.len.ensures ∙ len) are.0 (rw c.part_statements.ensures.2 at are.1) in
     (map d.layout.encode rows.items ++ are.0, rw fresh arranged, are.2 ∙ ap (λ vs. map d.layout.encode vs ++ are.0) c.into_iter.ensures.rest ∙ ap (λ vs. map d.layout.encode vs ++ (map d.layout.encode rows.items ++ are.0)) (sym none))

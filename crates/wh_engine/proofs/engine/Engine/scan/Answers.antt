@@ -9,7 +9,7 @@ returns g c = (
     same_reference = refl;
     same = refl;
     left = λ t. c.new.ensures.left g.T.StoredTable.layout (g.T.StoredTable.rows t);
-    left_stored = λ stored left are. c.new.ensures.left_stored g.T.StoredTable.layout g.T.Keeps.bind (stored.rows g.T.Keeps.name) left are;
+    left_stored = λ stored left are. c.new.ensures.left_stored g.T.StoredTable.layout g.T.KeyedTable.bind (stored.rows g.T.KeyedTable.name) left are;
     reopen = c.if-self.false;
   },
 )

@@ -19,9 +19,9 @@ pub returns-then-not-is_in-clause-rows : goal.returns-then-not-is_in-clause-rows
 returns-then-not-is_in-clause-rows g c clean t same at =
     let d = g.T.StoredTable in
     let absent = same ∙ sym c.is_in.ensures ∙ c.if-not-is_in.true in
-    c.new.ensures.items ∙ sym (none_typed d.layout d.rows d.with_rows g.T.Keeps.name g.met.T.Keeps.placed (state_of g.S.Store c.args.self.now) t at absent)
+    c.new.ensures.items ∙ sym (none_typed d.layout d.rows d.with_rows g.T.KeyedTable.name g.met.T.KeyedTable.placed (state_of g.S.Store c.args.self.now) t at absent)
 
 pub returns-then-not-is_in-clause-stored : goal.returns-then-not-is_in-clause-stored
 returns-then-not-is_in-clause-stored g c clean stored same at =
     let absent = same ∙ sym c.is_in.ensures ∙ c.if-not-is_in.true in
-    subst (AreRows g.T.StoredTable.layout (stored.rows g.T.Keeps.name)) (sym c.new.ensures.items) (none_stored g.T.StoredTable.layout g.T.Keeps.name (state_of g.S.Store c.args.self.now) stored at absent)
+    subst (AreRows g.T.StoredTable.layout (stored.rows g.T.KeyedTable.name)) (sym c.new.ensures.items) (none_stored g.T.StoredTable.layout g.T.KeyedTable.name (state_of g.S.Store c.args.self.now) stored at absent)

@@ -21,12 +21,12 @@ returns-then-not-is_in-clause-rows g c clean t same at =
     let d = g.T.StoredTable in
     let q = g.Q.Question in
     let absent = same ∙ sym c.is_in.ensures ∙ c.if-not-is_in.true in
-    c.new.ensures.items ∙ sym (ap (λ rows. part q.front (filter (q.keep c.args.question.now) rows)) (none_typed d.layout d.rows d.with_rows g.T.Keeps.name g.met.T.Keeps.placed (state_of g.S.Store c.args.self.now) t at absent) ∙ part_of_none q.front)
+    c.new.ensures.items ∙ sym (ap (λ rows. part q.front (filter (q.keep c.args.question.now) rows)) (none_typed d.layout d.rows d.with_rows g.T.KeyedTable.name g.met.T.KeyedTable.placed (state_of g.S.Store c.args.self.now) t at absent) ∙ part_of_none q.front)
 
 pub returns-then-not-is_in-clause-stored : goal.returns-then-not-is_in-clause-stored
 returns-then-not-is_in-clause-stored g c clean stored same at =
     let d = g.T.StoredTable in
     let q = g.Q.Question in
     let absent = same ∙ sym c.is_in.ensures ∙ c.if-not-is_in.true in
-    let asked = subst (λ rows. AreAsked q.front d.layout (filter (q.stands c.args.question.now) rows) []) (sym (none_there g.T.Keeps.name (state_of g.S.Store c.args.self.now) stored at absent)) (asked_of_none q.front d.layout) in
-    subst (AreAsked q.front d.layout (filter (q.stands c.args.question.now) (stored.rows g.T.Keeps.name))) (sym c.new.ensures.items) asked
+    let asked = subst (λ rows. AreAsked q.front d.layout (filter (q.stands c.args.question.now) rows) []) (sym (none_there g.T.KeyedTable.name (state_of g.S.Store c.args.self.now) stored at absent)) (asked_of_none q.front d.layout) in
+    subst (AreAsked q.front d.layout (filter (q.stands c.args.question.now) (stored.rows g.T.KeyedTable.name))) (sym c.new.ensures.items) asked

@@ -15,9 +15,9 @@ pub returns-then-not-is_in-clause-count : goal.returns-then-not-is_in-clause-cou
 returns-then-not-is_in-clause-count g c clean t same at =
     let d = g.T.StoredTable in
     let absent = same ∙ sym c.is_in.ensures ∙ c.if-not-is_in.true in
-    sym (none_counted d.layout d.rows d.with_rows g.T.Keeps.name g.met.T.Keeps.placed (state_of g.S.Store c.args.self.now) t at absent)
+    sym (none_counted d.layout d.rows d.with_rows g.T.KeyedTable.name g.met.T.KeyedTable.placed (state_of g.S.Store c.args.self.now) t at absent)
 
 pub returns-then-not-is_in-clause-stored : goal.returns-then-not-is_in-clause-stored
 returns-then-not-is_in-clause-stored g c clean stored same at =
     let absent = same ∙ sym c.is_in.ensures ∙ c.if-not-is_in.true in
-    sym (ap length (none_there g.T.Keeps.name (state_of g.S.Store c.args.self.now) stored at absent))
+    sym (ap length (none_there g.T.KeyedTable.name (state_of g.S.Store c.args.self.now) stored at absent))

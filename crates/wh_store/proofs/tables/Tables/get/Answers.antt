@@ -19,9 +19,9 @@ pub returns-then-not-is_in-clause-row : goal.returns-then-not-is_in-clause-row
 returns-then-not-is_in-clause-row g c clean t same at =
     let d = g.T.StoredTable in
     let absent = same ∙ sym c.is_in.ensures ∙ c.if-not-is_in.true in
-    sym (none_at d.layout d.rows d.with_rows g.T.Keeps.name g.met.T.Keeps.placed (state_of g.S.Store c.args.self.now) t at absent c.args.key.now)
+    sym (none_at d.layout d.rows d.with_rows g.T.KeyedTable.name g.met.T.KeyedTable.placed (state_of g.S.Store c.args.self.now) t at absent c.args.key.now)
 
 pub returns-then-not-is_in-clause-stored : goal.returns-then-not-is_in-clause-stored
 returns-then-not-is_in-clause-stored g c clean stored same at =
     let absent = same ∙ sym c.is_in.ensures ∙ c.if-not-is_in.true in
-    subst (λ rows. IsLastOf g.T.StoredTable.layout (filter (g.T.Keeps.stands_at c.args.key.now) rows) None) (sym (none_there g.T.Keeps.name (state_of g.S.Store c.args.self.now) stored at absent)) (nothing_of g.T.StoredTable.layout)
+    subst (λ rows. IsLastOf g.T.StoredTable.layout (filter (g.T.KeyedTable.stands_at c.args.key.now) rows) None) (sym (none_there g.T.KeyedTable.name (state_of g.S.Store c.args.self.now) stored at absent)) (nothing_of g.T.StoredTable.layout)

@@ -1,0 +1,86 @@
+-- The edits of a command that gives a policy.
+use Rattle.std.proofs.Common.{◌≡◌, inl, inr, ℕ, suc, ◌<◌, List, [], ◌∷◌, ◌++◌, length, map, Option, Some, None, sym, ap, subst, arith}
+use Rattle.std.specs.Cmp.{nat_cmp_is}
+use Rattle.std.specs.FinMap.{nat_cmp-IsAntisymmetric}
+use Rattle.std.specs.Option.{option_and_then}
+use Rattle.std.specs.Ordering.{nat_cmp}
+use Rattle.std.specs.declared.cmp.Ordering.TheVariants.{Less}
+use Rattle.std.proofs.lemmas.Cmp.{nat_cmp_total}
+use Rattle.wh_policy.specs.declared.attribute.Dim.{Dim}
+use Rattle.wh_policy.specs.declared.attribute.Dim.TheVariants.{Product, Store, Customer}
+use Rattle.wh_policy.specs.declared.policy.Policy.{Policy}
+use Rattle.wh_history.specs.Accepted.{Accepted, Governs, members, policy_after}
+use Rattle.wh_history.specs.Laws.{governs}
+use Rattle.wh_history.specs.Plan.{IsRowPlan}
+use Rattle.wh_history.specs.Tables.{dimension_row}
+use Rattle.wh_history.specs.declared.plan.Edit.{Edit}
+use Rattle.wh_history.specs.declared.plan.Edit.TheVariants.{Put}
+use Rattle.wh_day.specs.declared.calendar.DateRow.{DateRow}
+use Rattle.wh_rows.proofs.Orders.{member_cmp_total, change_cmp_total}
+use Rattle.wh_rows.specs.Rows as row
+use Rattle.wh_rows.specs.declared.key.ChangeKey.{ChangeKey}
+use Rattle.wh_rows.specs.declared.key.MemberKey.{MemberKey}
+use Rattle.wh_rows.specs.declared.rows.CommandRow.{CommandRow}
+use Rattle.wh_model.specs.Defined.{command_at, member_at, change_at, profile_at, calendar_at, day_at}
+use Rattle.wh_plan.specs.Edits.{Edits, AreEdits, IsTablePlan, rows_of_dimension}
+use Rattle.wh_migration.specs.Migrated.{ArePlannedAnew}
+use Rattle.wh_migration.specs.declared.migrated.MigratedTables.{MigratedTables}
+use Rattle.wh_model.proofs.GovernedLists.{members_governed, policy_governed}
+use Rattle.wh_model.proofs.GrownChanges.{changes_grow}
+use Rattle.wh_model.proofs.GrownCommands.{command_keyed, command_grows}
+use Rattle.wh_model.proofs.GrownCommands as command
+use Rattle.wh_model.proofs.GrownMembers as member
+use Rattle.wh_plan.proofs.PlanEdits.{own_row}
+use Rattle.wh_plan.proofs.Plans.{empty_plan, grown_plan}
+use Rattle.wh_plan.proofs.BatchPlans.{less}
+
+-- a plan between the same rows
+same_plan : (before after old new : ℕ → Option DateRow) (edits : List (Edit DateRow ℕ)) → ((day : ℕ) → before day ≡ old day) → ((day : ℕ) → after day ≡ new day) → IsTablePlan row.calendar before after edits → IsTablePlan row.calendar old new edits
+same_plan before after old new edits old_is new_is plan = record { ordered = plan.ordered; exact = λ day. rw (sym (old_is day), sym (new_is day)) (plan.exact day) }
+
+module _ (commands : List Accepted) (c : Accepted) (policy : Policy) (is : c.content ≡ Governs policy) where
+  abbrev after : List Accepted
+  after = commands ++ c ∷ []
+
+  command_plan : (own : CommandRow) → command_at after (suc (length commands)) ≡ Some own → IsTablePlan row.command (command_at commands) (command_at after) (Put own ∷ [])
+  command_plan own stands =
+      subst (λ rows. IsTablePlan row.command (command_at commands) (command_at after) (map Put rows)) (sym (own_row commands c own stands))
+      (grown_plan row.command nat_cmp_total nat_cmp-IsAntisymmetric (command_at after) (command_keyed after) (λ n. n) less (command_at commands) (length commands) (length after)
+      (command.none_past commands c commands) (command_grows commands c))
+
+  -- members and changes stay
+  same_member : (key : MemberKey) → member_at after key ≡ member_at commands key
+  same_member key =
+      let as_many : length (members key.dim after) ≡ length (members key.dim commands) = ap length (members_governed commands c (ap governs is) key.dim) in
+      elim (member.of_dimension key.dim commands c key.durable) [
+        | inl kept ↦ kept.same
+        | inr added ↦ let above = added.above in let within = added.within in absurd (omega (arith, as_many))
+      ]
+
+  same_change : (key : ChangeKey) → change_at after key ≡ change_at commands key
+  same_change key = elim (changes_grow commands c (Governs policy) is key) [
+    | inl kept ↦ kept.same
+    | inr added ↦ let above = added.above in let within = added.within in absurd (omega arith)
+  ]
+
+  pub migration_edits : (older : Policy) (own : CommandRow) (migrated : MigratedTables) (edits : Edits) → policy_after None commands ≡ Some older → command_at (commands ++ c ∷ []) (suc (length commands)) ≡ Some own
+      → ArePlannedAnew commands (commands ++ c ∷ []) migrated
+      → IsTablePlan row.profile (profile_at commands) (profile_at (commands ++ c ∷ [])) edits.profiles
+      → IsTablePlan row.calendar (day_at older) (day_at policy) edits.calendar
+      → edits.commands ≡ Put own ∷ [] → edits.members ≡ [] → edits.changes ≡ [] → edits.products ≡ migrated.products.items → edits.stores ≡ migrated.stores.items → edits.customers ≡ migrated.customers.items → edits.facts ≡ migrated.facts.items
+      → AreEdits commands (commands ++ c ∷ []) edits
+  migration_edits older own migrated edits governed stands planned profiles days command_is no_members no_changes products_are stores_are customers_are facts_are = record {
+    commands = rw command_is (command_plan own stands);
+    members = rw no_members (empty_plan row.member member_cmp_total (member_at commands) (member_at after) same_member);
+    changes = rw no_changes (empty_plan row.change change_cmp_total (change_at commands) (change_at after) same_change);
+    rows = of_dimension;
+    profiles = profiles;
+    calendar = same_plan (day_at older) (day_at policy) (calendar_at commands) (calendar_at after) edits.calendar
+        (λ day. sym (ap (option_and_then (λ p. day_at p day)) governed)) (λ day. sym (ap (option_and_then (λ p. day_at p day)) (policy_governed None commands c policy is))) days;
+    facts = rw facts_are planned.facts;
+  }
+    where
+      of_dimension : (dim : Dim) → IsRowPlan (dimension_row commands dim) (dimension_row after dim) (rows_of_dimension dim edits)
+      of_dimension Product = rw products_are planned.products
+      of_dimension Store = rw stores_are planned.stores
+      of_dimension Customer = rw customers_are planned.customers

@@ -1,0 +1,10 @@
+//! What a migration to another policy writes, planned from reads of all members, records and facts.
+#![tactic(auto)]
+
+mod all_members;
+mod calendar_plan;
+mod migrated;
+mod migration_plan;
+mod profile_plan;
+
+pub use migration_plan::plan_migration;

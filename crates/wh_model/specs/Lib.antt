@@ -1,0 +1,3 @@
+pub mod Defined
+pub mod Sound
+pub mod Laws

@@ -1,0 +1,36 @@
+//! Laws of the tables that accepted commands define. They speak of the definitions alone and do nothing.
+
+ghost use Rattle.wh_model.specs.Laws.{AcceptedListsBegin, FactsAreEffective, LateRecordsMoveFacts, SecondKeysAreApart, SoundPoliciesShowNone, UntouchedMembersKeep};
+
+/// Under a sound policy no row of a product or a store shows a profile, as a batch of customers asks.
+pub fn sound_policies_show_none()
+    ensures { SoundPoliciesShowNone }
+{}
+
+/// A member that a batch does not mention has the same rows under the same keys before and after it.
+pub fn untouched_member_keeps()
+    ensures { UntouchedMembersKeep }
+{}
+
+/// A making under a sound policy begins a list of commands that a warehouse can have accepted.
+pub fn accepted_lists_begin()
+    ensures { AcceptedListsBegin }
+{}
+
+/// In the tables of accepted commands no two commands have one id, and no two members of a dimension one natural key. So
+/// no row that a batch puts is refused for a second key that another row has.
+pub fn second_keys_are_apart()
+    ensures { SecondKeysAreApart }
+{}
+
+/// After a batch of records each stored fact has the keys that its member's rows of that dimension then give it, and its
+/// other keys as they were. A late record moves facts of its own member alone.
+pub fn late_records_move_facts()
+    ensures { LateRecordsMoveFacts }
+{}
+
+/// Each fact of the table is that of an accepted sale of its line, and names, in each dimension, the member that this sale names
+/// and its one row that holds the sale's day, whatever came late; without a card it names the customer row 0.
+pub fn facts_are_effective()
+    ensures { FactsAreEffective }
+{}

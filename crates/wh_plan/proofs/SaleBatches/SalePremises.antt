@@ -1,0 +1,74 @@
+-- What holds of a batch of sales, where the list with it is one that can have been accepted.
+use Rattle.std.proofs.Common.{◌≡◌, suc, ◌≤◌, ◌||◌, Bool, false, List, [], ◌∷◌, ◌++◌, length, Option, Some, None, refl, sym, ap, ◌∙◌, subst, arith}
+use Rattle.std.specs.Prelude.{is_some, filter_map}
+use Rattle.std.specs.List.{AllByRecursion, IsDistinct, list_any}
+use Rattle.std.proofs.lemmas.List.{length-map}
+use Rattle.wh_policy.specs.declared.attribute.Dim.{Dim}
+use Rattle.wh_policy.specs.declared.record.SaleRecord.{SaleRecord}
+use Rattle.wh_history.specs.declared.plan.Edit.TheVariants.{Put}
+use Rattle.wh_history.specs.Accepted.{Accepted, Sells, anchors, members, placeholders_by, sold}
+use Rattle.wh_history.specs.Tables.{Limits}
+use Rattle.wh_plan.specs.BatchRows.{new_members}
+use Rattle.wh_model.specs.Defined.{fact_at, member_at}
+use Rattle.wh_plan.specs.Edits.{Edits, AreEdits}
+use Rattle.wh_model.specs.Sound.{same_line, IsAccepted}
+use Rattle.wh_plan.proofs.BatchPlans.{members_are}
+use Rattle.wh_plan.proofs.SaleBatches.SalesEdits.{members_joined, all_counted}
+use Rattle.wh_model.proofs.SameLines.{line_stored}
+use Rattle.wh_plan.proofs.SaleBatches.Selling.{sold_more}
+use Rattle.wh_model.proofs.SmallNumbers.{anchors_few, members_few}
+
+-- ---- the second part of a list whose elements are distinct
+
+distinct_after : {X : Type 0} (same : X → X → Bool) (xs ys : List X) → IsDistinct same (xs ++ ys) → IsDistinct same ys
+unfolding IsDistinct
+distinct_after same [] ys once = once
+distinct_after same (x ∷ xs) ys once = distinct_after same xs ys once.1
+
+all_after : {X : Type 0} (P : X → Type 0) (xs ys : List X) → AllByRecursion P (xs ++ ys) → AllByRecursion P ys
+all_after P [] ys all = all
+all_after P (x ∷ xs) ys all = all_after P xs ys all.1
+
+none_of_more : {X : Type 0} (same : X → X → Bool) (x : X) (xs ys : List X) → AllByRecursion (λ y. same x y ≡ false) ys → AllByRecursion (λ y. list_any (λ t. same t y) xs ≡ false) ys
+    → AllByRecursion (λ y. list_any (λ t. same t y) (x ∷ xs) ≡ false) ys
+none_of_more same x xs [] here rest = tt
+none_of_more same x xs (y ∷ ys) here rest = (ap (λ b. b || list_any (λ t. same t y) xs) here.0 ∙ rest.0, none_of_more same x xs ys here.1 rest.1)
+
+none_of_none : {X : Type 0} (same : X → X → Bool) (ys : List X) → AllByRecursion (λ y. list_any (λ t. same t y) [] ≡ false) ys
+none_of_none same [] = tt
+none_of_none same (y ∷ ys) = (refl, none_of_none same ys)
+
+none_before : {X : Type 0} (same : X → X → Bool) (xs ys : List X) → IsDistinct same (xs ++ ys) → AllByRecursion (λ y. list_any (λ t. same t y) xs ≡ false) ys
+unfolding IsDistinct
+none_before same [] ys once = none_of_none same ys
+none_before same (x ∷ xs) ys once = none_of_more same x xs ys (all_after (λ y. same x y ≡ false) xs ys once.0) (none_before same xs ys once.1)
+
+-- ---- a line that no sale has stands in no fact
+
+is_absent : {X : Type 0} (o : Option X) → is_some o ≡ false → o ≡ None
+is_absent None h = refl
+is_absent (Some x) h = absurd cc
+
+each_absent : (commands : List Accepted) (sales : List SaleRecord) → AllByRecursion (λ s. list_any (λ t. same_line t s) (sold commands) ≡ false) sales
+    → AllByRecursion (λ s. fact_at commands (record { ticket = s.ticket; line = s.line }) ≡ None) sales
+each_absent commands [] new = tt
+each_absent commands (s ∷ sales) new = (is_absent (fact_at commands (record { ticket = s.ticket; line = s.line })) (line_stored commands s ∙ new.0), each_absent commands sales new.1)
+
+module _ (limits : Limits) (commands : List Accepted) (c : Accepted) (ok : IsAccepted limits (commands ++ c ∷ [])) where
+  all_distinct : (sales : List SaleRecord) → c.content ≡ Sells sales → IsDistinct same_line (sold commands ++ sales)
+  all_distinct sales is = subst (IsDistinct same_line) (sold_more commands c sales is) ok.lines
+
+  pub lines_distinct : (sales : List SaleRecord) → c.content ≡ Sells sales → IsDistinct same_line sales
+  lines_distinct sales is = distinct_after same_line (sold commands) sales (all_distinct sales is)
+
+  pub lines_absent : (sales : List SaleRecord) → c.content ≡ Sells sales → AllByRecursion (λ s. fact_at commands (record { ticket = s.ticket; line = s.line }) ≡ None) sales
+  lines_absent sales is = each_absent commands sales (none_before same_line (sold commands) sales (all_distinct sales is))
+
+  pub numbers_small : (dim : Dim) → (length (members dim (commands ++ c ∷ [])) ≤ 9999999) × (length (anchors dim (commands ++ c ∷ [])) ≤ 9999999)
+  numbers_small dim = (let few = members_few limits (commands ++ c ∷ []) ok dim in omega arith, let few = anchors_few limits (commands ++ c ∷ []) ok dim in omega arith)
+
+-- as many members are new as the receipt counts
+pub members_counted : (commands : List Accepted) (c : Accepted) (sales : List SaleRecord) (edits : Edits) → c.content ≡ Sells sales → AreEdits commands (commands ++ c ∷ []) edits → length edits.members ≡ placeholders_by (commands ++ c ∷ []) (suc (length commands)) c.content
+members_counted commands c sales edits is are =
+    ap length (members_are commands c edits.members are.members) ∙ length-map (filter_map (member_at (commands ++ c ∷ [])) (new_members commands (commands ++ c ∷ []))) Put
+    ∙ ap length (sym (members_joined commands c sales is)) ∙ all_counted commands c sales is

@@ -1,5 +1,0 @@
-use Rattle.wh_rows.proofs.StaysBegun.{accepted_lists_begin}
-use Rattle.wh_plan.proofs.laws.accepted_lists_begin.Goals as goal
-
-pub returns : goal.returns
-returns c = accepted_lists_begin

@@ -1,5 +1,0 @@
-use Rattle.wh_rows.proofs.Following.{late_records_move_facts}
-use Rattle.wh_plan.proofs.laws.late_records_move_facts.Goals as goal
-
-pub returns : goal.returns
-returns c = late_records_move_facts

@@ -1,4 +1,0 @@
-use Rattle.wh_program.proofs.output.print_told.Goals as goal
-
-pub returns-in-Err : goal.returns-in-Err
-returns-in-Err g c = rw c.in-Err.is c.print-in-Err.ensures

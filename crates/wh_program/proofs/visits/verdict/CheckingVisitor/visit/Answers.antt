@@ -1,0 +1,27 @@
+use Rattle.std.proofs.Common.{rules}
+use Rattle.sqlite.specs.Held.{state}
+use Rattle.wh_program.proofs.CheckLemmas.{checked, unchecked}
+use Rattle.wh_program.proofs.WarehouseLemmas.{none_there}
+use Rattle.wh_program.proofs.visits.verdict.CheckingVisitor.visit.Goals as goal
+
+pub returns-in-Ok : goal.returns-in-Ok
+returns-in-Ok g c = rw c.close.ensures (λ clean content at.
+    let check = c.check-verdict.ensures in
+    checked content c.verdict_answer.result c.in-Ok.engine.tables.format c.check-verdict.result c.in-Ok.engine.session c.check-verdict.new.self.session
+    (state g.T.Store c.args.connection) (state g.T.Store c.in-Ok.engine.tables.conn) (state g.T.Store c.check-verdict.new.self.tables.conn)
+    (c.in-Ok.ensures.ready (check.clean clean))
+    (check.sound clean)
+    (λ rests. let e = c.in-Ok.ensures.missing rests.autocommit (rw rests.now.schema none_there) in cc)
+    (c.in-Ok.ensures.found_stored (check.clean clean))
+    (check.checked c.in-Ok.ensures.fresh.0 clean)
+    (check.untouched_stored clean)
+    (check.leaves clean)
+    c.verdict_answer.ensures at)
+
+pub returns-in-Err : goal.returns-in-Err
+returns-in-Err g c = λ clean content at.
+    unchecked content c.opening_answer.result c.in-Err.fault (state g.T.Store c.args.connection) (state g.T.Store c.in-Err.connection)
+    (c.in-Err.ensures.refused clean)
+    (λ rests. let e = c.in-Err.ensures.missing rests.autocommit (rw rests.now.schema none_there) in search rules)
+    (c.in-Err.ensures.fault_stored clean)
+    c.opening_answer.ensures at

@@ -1,0 +1,8 @@
+//! What each word does over the files that it names.
+
+pub(crate) mod delivery;
+pub(crate) mod dump;
+pub(crate) mod report;
+pub(crate) mod trial;
+pub(crate) mod verdict;
+pub(crate) mod warehouse;

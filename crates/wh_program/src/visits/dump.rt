@@ -1,0 +1,101 @@
+//! The tables of a warehouse in a file, printed row by row.
+
+ghost use Rattle.std.specs.Prelude.{◌≡◌, List};
+ghost use Rattle.sqlite.specs.State.{HasCleanDisk};
+ghost use Rattle.wh_history.specs.Accepted.{Accepted};
+ghost use Rattle.wh_history.specs.Tables.{Limits};
+ghost use Rattle.wh_rows.specs.declared.format.Format.TheVariants.{One};
+ghost use Rattle.wh_engine.specs.Answered.{IsReady};
+ghost use Rattle.wh_store.specs.Reads.{state_of};
+ghost use Rattle.wh_program.specs.Answer.{status_code};
+ghost use Rattle.wh_program.specs.Readings.{SaysStop, IsDumped, AnswersDump};
+ghost use Rattle.wh_program.specs.Run.{Prints};
+ghost use Rattle.wh_program.specs.Standing.{DatabaseContent, IsOfCommands, Standing, Rests, Stands};
+ghost use Rattle.wh_program.specs.Warehouse.{Told, Opens, printed};
+
+use crate::host::{Host, HostError, Visitor};
+use crate::lines::answer::Status;
+use crate::lines::{no_file, opening_answer};
+use crate::output::{print_answer, write_failed};
+use crate::visits::report::report_fault_answer;
+use sqlite::{Alter, Connection};
+use std::alloc::{AllocError, Global};
+use std::io::Write;
+use wh_engine::Engine;
+use wh_report::{ReportFault, dump};
+use wh_rows::Table;
+
+/// Says what ended a dump, after what went out of it.
+fn print_stop<W: Write>(alloc: Global, fault: ReportFault, out: &mut W) -> Status
+    ensures { SaysStop fault (W.contents out.old) (W.contents out.new) (status_code result) }
+{
+    match fault {
+        ReportFault::Write => write_failed(out),
+        fault => print_answer(out, report_fault_answer(alloc, fault)),
+    }
+}
+
+/// Prints a table of a warehouse that is open, each row as it is handed out.
+fn print_table<S: Alter, W: Write>(
+    alloc: Global,
+    engine: &mut Engine<S>,
+    table: Table,
+    out: &mut W,
+) -> Status
+    ensures clean { HasCleanDisk (state_of S.Store engine.new.tables) → HasCleanDisk (state_of S.Store engine.old.tables) }
+    ensures dumped { HasCleanDisk (state_of S.Store engine.new.tables) → engine.old.tables.format ≡ One → (limits : Limits) (commands : List Accepted) → IsReady limits commands engine.old.session (state_of S.Store engine.old.tables)
+        → (after : Standing) × ((told : Told) × IsDumped table limits commands told after × Prints (W.contents out.old) (W.contents out.new) (status_code result) (printed told)) × Stands after (state_of S.Store engine.new.tables) }
+{
+    match dump(alloc, engine, table, out) {
+        Ok(()) => Status::Done,
+        Err(fault) => print_stop(alloc, fault, out),
+    }
+}
+
+/// Dumps a table of a warehouse.
+#[derive(Clone, Copy, Drop)]
+struct Dumping {
+    table: Table,
+}
+
+impl Visitor for Dumping {
+    type Output = Status;
+
+    ghost promises = { λ dumping content status old new after. IsOfCommands content → (told : Told) × Opens (IsDumped dumping.table) content told after × Prints old new (status_code status) (printed told) };
+
+    fn visit<T: Alter + Drop, W: Write>(
+        self,
+        alloc: Global,
+        connection: Connection<T>,
+        out: &mut W,
+    ) -> (Status, Connection<T>) {
+        match Engine::open(alloc, connection) {
+            Ok(mut engine) => {
+                let status = print_table(alloc, &mut engine, self.table, out);
+                (status, engine.close())
+            }
+            Err((fault, connection)) => {
+                let status = print_answer(out, opening_answer(alloc, fault));
+                (status, connection)
+            }
+        }
+    }
+}
+
+/// Prints a table of the warehouse in a file.
+pub fn print_dump<H: Host, W: Write>(
+    alloc: Global,
+    file: &str,
+    table: Table,
+    host: &mut H,
+    out: &mut W,
+) -> Status
+    ensures { (content : DatabaseContent) → IsOfCommands content → H.stores host.old file.now (Rests content)
+        → (told : Told) × AnswersDump (H.refuses host.old) (H.stores host.new file.now) content file.now table told × Prints (W.contents out.old) (W.contents out.new) (status_code result) (printed told) }
+{
+    match host.with_existing(alloc, file, Dumping { table }, out) {
+        Ok(status) => status,
+        Err(HostError::NoFile) => print_answer(out, no_file(alloc, file)),
+        Err(HostError::Memory) => print_answer(out, Err(AllocError)),
+    }
+}

@@ -1,0 +1,47 @@
+//! Whether the warehouse in a file is what its commands define.
+
+ghost use Rattle.wh_program.specs.Check.{Checks, AnswersCheck};
+ghost use Rattle.wh_program.specs.Standing.{DatabaseContent, Standing, Rests};
+
+use crate::host::{Host, Visitor};
+use crate::lines::answer::Answer;
+use crate::lines::{opening_answer, verdict_answer};
+use crate::visits::warehouse::answered;
+use sqlite::{Alter, Connection};
+use std::alloc::{AllocError, Global};
+use std::io;
+use std::io::Write;
+use wh_engine::Engine;
+
+/// Checks what is stored.
+#[derive(Clone, Copy)]
+struct Checking;
+
+impl Visitor for Checking {
+    type Output = Result<Answer, AllocError>;
+
+    ghost promises = { λ _ content told old new after. Checks content told after };
+
+    fn visit<T: Alter + Drop, W: Write>(
+        self,
+        alloc: Global,
+        connection: Connection<T>,
+        _out: &mut W,
+    ) -> (Result<Answer, AllocError>, Connection<T>) {
+        match Engine::open(alloc, connection) {
+            Ok(mut engine) => {
+                let verdict = engine.check(alloc);
+                (verdict_answer(alloc, verdict), engine.close())
+            }
+            Err((fault, connection)) => (opening_answer(alloc, fault), connection),
+        }
+    }
+}
+
+/// Tells whether the warehouse in a file is what its commands define, or which table is the first that isn't.
+pub fn check<H: Host>(alloc: Global, file: &str, host: &mut H) -> Result<Answer, AllocError>
+    ensures { (content : DatabaseContent) → H.stores host.old file.now (Rests content) → AnswersCheck (H.refuses host.old) (H.stores host.new file.now) content file.now result }
+{
+    let visit = host.with_existing(alloc, file, Checking, &mut io::sink());
+    answered(alloc, file, visit)
+}

@@ -1,0 +1,237 @@
+//! The commands on a warehouse in a file.
+
+ghost use Rattle.std.specs.Prelude.{◌≡◌, ◌≤◌, IfOk, IfErr, vec_capacity};
+ghost use Rattle.wh_program.specs.Answer.{failed, no_file_line};
+ghost use Rattle.wh_program.specs.Inputs.{up_to, policy_limit, input_limit};
+ghost use Rattle.wh_program.specs.Room.{longest_answer};
+ghost use Rattle.wh_program.specs.Standing.{DatabaseContent, Standing, Rests};
+ghost use Rattle.wh_program.specs.Warehouse.{Opens, IsReplied, IsForetold, IsCounted, IsCommandOf, Makes, Sends, Plans, AnswersWith, AnswersStatus};
+ghost use Rattle.wh_program.specs.declared.host.HostError.TheVariants.{NoFile};
+
+use crate::host::{Host, HostError, Visitor, file_of};
+use crate::limits::{POLICY_LIMIT, input_limit};
+use crate::lines::answer::Answer;
+use crate::lines::{
+    made, making_answer, no_file, opening_answer, plan_answer, room_for_line, room_for_receipt,
+    sent_answer, status_answer,
+};
+use sqlite::{Alter, Connection};
+use sqlite_value::value::Bytes;
+use std::alloc::{AllocError, Global};
+use std::io;
+use std::io::Write;
+use wh_day::Value;
+use wh_engine::{Command, CommandKind, Engine};
+use wh_rows::Limits;
+
+/// Makes a warehouse under the policy that these bytes write.
+#[derive(Drop)]
+struct Making {
+    policy: Vec<u8>,
+}
+
+impl Visitor for Making {
+    type Output = Result<Answer, AllocError>;
+
+    ghost promises = { λ making content told old new after. Makes making.policy.items content told after };
+
+    fn visit<T: Alter + Drop, W: Write>(
+        self,
+        alloc: Global,
+        connection: Connection<T>,
+        _out: &mut W,
+    ) -> (Result<Answer, AllocError>, Connection<T>) {
+        // The room is there before anything is written, so that no memory is wanted once the warehouse is made.
+        let Ok(room) = room_for_line(alloc) else {
+            return (Err(AllocError), connection);
+        };
+        match Engine::init(alloc, connection, &self.policy, Limits::greatest()) {
+            Ok(engine) => (made(room), engine.close()),
+            Err((fault, connection)) => (making_answer(room, &fault), connection),
+        }
+    }
+}
+
+/// Sends a command to a warehouse.
+#[derive(Drop)]
+struct Sending {
+    command: Command,
+    /// Room for the line of its answer.
+    room: Vec<u8>,
+}
+
+impl Visitor for Sending {
+    type Output = Result<Answer, AllocError>;
+
+    // Of one with room for that line.
+    ghost promises = { λ sending content told old new after. longest_answer sending.command.id ≤ vec_capacity sending.room → Opens (IsReplied sending.command) content told after };
+
+    fn visit<T: Alter + Drop, W: Write>(
+        self,
+        alloc: Global,
+        connection: Connection<T>,
+        _out: &mut W,
+    ) -> (Result<Answer, AllocError>, Connection<T>) {
+        match Engine::open(alloc, connection) {
+            Ok(mut engine) => {
+                let reply = engine.apply(alloc, &self.command);
+                let answer = sent_answer(self.room, self.command.id.as_str(), &reply);
+                (answer, engine.close())
+            }
+            Err((fault, connection)) => (opening_answer(alloc, fault), connection),
+        }
+    }
+}
+
+/// Foretells what a command would write into a warehouse.
+#[derive(Drop)]
+struct Planning {
+    command: Command,
+}
+
+impl Visitor for Planning {
+    type Output = Result<Answer, AllocError>;
+
+    ghost promises = { λ planning content told old new after. Opens (IsForetold planning.command) content told after };
+
+    fn visit<T: Alter + Drop, W: Write>(
+        self,
+        alloc: Global,
+        connection: Connection<T>,
+        _out: &mut W,
+    ) -> (Result<Answer, AllocError>, Connection<T>) {
+        match Engine::open(alloc, connection) {
+            Ok(mut engine) => {
+                let edits = engine.plan(alloc, &self.command);
+                (plan_answer(alloc, edits), engine.close())
+            }
+            Err((fault, connection)) => (opening_answer(alloc, fault), connection),
+        }
+    }
+}
+
+/// Counts what a warehouse holds.
+#[derive(Clone, Copy)]
+struct Counting;
+
+impl Visitor for Counting {
+    type Output = Result<Answer, AllocError>;
+
+    ghost promises = { λ _ content told old new after. Opens IsCounted content told after };
+
+    fn visit<T: Alter + Drop, W: Write>(
+        self,
+        alloc: Global,
+        connection: Connection<T>,
+        _out: &mut W,
+    ) -> (Result<Answer, AllocError>, Connection<T>) {
+        match Engine::open(alloc, connection) {
+            Ok(mut engine) => {
+                let counts = engine.counts(alloc);
+                (status_answer(alloc, counts), engine.close())
+            }
+            Err((fault, connection)) => (opening_answer(alloc, fault), connection),
+        }
+    }
+}
+
+/// The answer of a visit, or that the host refuses the file's name.
+pub fn answered(
+    alloc: Global,
+    file: &str,
+    visit: Result<Result<Answer, AllocError>, HostError>,
+) -> Result<Answer, AllocError>
+    ensures visited { IfOk visit (λ told. result ≡ told) }
+    ensures not_visited { IfErr visit (λ e. IfOk result (λ answer. (e ≡ NoFile) × (answer ≡ failed (no_file_line file.now)))) }
+{
+    match visit {
+        Ok(answer) => answer,
+        Err(HostError::NoFile) => no_file(alloc, file),
+        Err(HostError::Memory) => Err(AllocError),
+    }
+}
+
+/// Makes the warehouse in a file, under the policy in another, which is read first.
+pub fn init<H: Host>(
+    alloc: Global,
+    file: &str,
+    policy: &str,
+    host: &mut H,
+) -> Result<Answer, AllocError>
+    ensures { (content : DatabaseContent) → H.stores host.old file.now (Rests content)
+        → AnswersWith (up_to policy_limit (H.holds host.old)) (H.refuses host.old) (H.stores host.new file.now) Makes content file.now policy.now result }
+{
+    let Some(text) = file_of(alloc, policy, POLICY_LIMIT, host)? else {
+        return no_file(alloc, policy);
+    };
+    let visit = host.with_connection(alloc, file, Making { policy: text }, &mut io::sink());
+    answered(alloc, file, visit)
+}
+
+/// The command whose batch, or whose policy, is in a file, if the file is there. It is read as far as it has to be.
+pub fn command_of<H: Host>(
+    alloc: Global,
+    kind: CommandKind,
+    id: &str,
+    path: &str,
+    host: &H,
+) -> Result<Option<Command>, AllocError>
+    ensures { IfOk result (IsCommandOf (H.holds host.now) kind id.now path.now) }
+{
+    let Some(text) = file_of(alloc, path, input_limit(kind), host)? else {
+        return Ok(None);
+    };
+    Ok(Some(Command {
+        id: Value::new(alloc, id)?,
+        kind,
+        bytes: Bytes::from_slice(alloc, &text)?,
+    }))
+}
+
+/// Sends the warehouse in a file the command in another: loads its batch, or puts its policy in force. The command's file is read
+/// first.
+pub fn send<H: Host>(
+    alloc: Global,
+    file: &str,
+    kind: CommandKind,
+    id: &str,
+    path: &str,
+    host: &mut H,
+) -> Result<Answer, AllocError>
+    ensures { (content : DatabaseContent) → H.stores host.old file.now (Rests content)
+        → AnswersWith (up_to (input_limit kind) (H.holds host.old)) (H.refuses host.old) (H.stores host.new file.now) (Sends kind id.now) content file.now path.now result }
+{
+    let Some(command) = command_of(alloc, kind, id, path, host)? else {
+        return no_file(alloc, path);
+    };
+    let room = room_for_receipt(alloc, id)?;
+    let visit = host.with_existing(alloc, file, Sending { command, room }, &mut io::sink());
+    answered(alloc, file, visit)
+}
+
+/// Tells what the command in a file would write into the warehouse in another, and writes nothing.
+pub fn plan<H: Host>(
+    alloc: Global,
+    file: &str,
+    kind: CommandKind,
+    id: &str,
+    path: &str,
+    host: &mut H,
+) -> Result<Answer, AllocError>
+    ensures { (content : DatabaseContent) → H.stores host.old file.now (Rests content)
+        → AnswersWith (up_to (input_limit kind) (H.holds host.old)) (H.refuses host.old) (H.stores host.new file.now) (Plans kind id.now) content file.now path.now result }
+{
+    let Some(command) = command_of(alloc, kind, id, path, host)? else {
+        return no_file(alloc, path);
+    };
+    let visit = host.with_existing(alloc, file, Planning { command }, &mut io::sink());
+    answered(alloc, file, visit)
+}
+
+/// Tells how much the warehouse in a file holds.
+pub fn status<H: Host>(alloc: Global, file: &str, host: &mut H) -> Result<Answer, AllocError>
+    ensures { (content : DatabaseContent) → H.stores host.old file.now (Rests content) → AnswersStatus (H.refuses host.old) (H.stores host.new file.now) content file.now result }
+{
+    let visit = host.with_existing(alloc, file, Counting, &mut io::sink());
+    answered(alloc, file, visit)
+}

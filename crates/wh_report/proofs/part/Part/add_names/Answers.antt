@@ -1,8 +1,0 @@
-use Rattle.std.proofs.Common.{◌++◌, subst}
-use Rattle.csv.specs.Writing.{default_writer, row_text}
-use Rattle.wh_report.specs.Part.{Gathers}
-use Rattle.wh_report.proofs.Parts.{on_ok}
-use Rattle.wh_report.proofs.part.Part.add_names.Goals as goal
-
-pub returns : goal.returns
-returns g c = on_ok c.add.result (λ added text gathered. subst (λ fields. Gathers c.add.new.self (text ++ row_text default_writer fields)) c.in_ok-self.ensures (added text gathered)) c.add.ensures.added
