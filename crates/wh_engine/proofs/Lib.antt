@@ -29,3 +29,4 @@ pub mod JudgedTables
 pub mod SoundTables
 pub mod DeliveredNights
 pub mod Repeating
+pub mod Keeping

@@ -1,6 +1,7 @@
--- What a scan leaves of a warehouse, and its faults.
+-- What a call that reads leaves of an engine, and its faults.
 use Rattle.std.proofs.Common.{◌≡◌, Bool, true, false, ◌||◌, List, Result, Ok, Err, Some, IfErr, IsTrue, refl, sym, ap, subst, inl}
 use Rattle.std.specs.Prelude.{IsErr, IsErrAnd, Option}
+use Rattle.sqlite_trees.specs.declared.store.Store.{Ghosts}
 use Rattle.sqlite.specs.Order.{Row}
 use Rattle.sqlite.specs.State.{State}
 use Rattle.wh_history.specs.Accepted.{Accepted}
@@ -9,13 +10,16 @@ use Rattle.wh_rows.specs.AtRest.{IsAtRest, Leaves}
 use Rattle.wh_rows.specs.Firsts.{Front}
 use Rattle.wh_rows.specs.Holds.{Layout}
 use Rattle.wh_rows.specs.Tables.{Tables}
+use Rattle.wh_rows.specs.Raw.{Stored}
 use Rattle.wh_rows.specs.declared.table.Table.{Table}
-use Rattle.wh_store.specs.Reads.{SparesRows, SparesStore, IsOfAskedDamage}
+use Rattle.wh_store.specs.Reads.{SparesRows, SparesStore, NamesDamage, IsOfAskedDamage, state_of}
+use Rattle.wh_store.specs.declared.tables.Tables.{Tables as HeldTables}
 use Rattle.wh_sql.specs.declared.fault.ReadFault.{ReadFault}
 use Rattle.wh_sql.specs.declared.fault.ReadFault.TheVariants as reading
 use Rattle.wh_engine.specs.Answered.{IsReady}
-use Rattle.wh_engine.specs.Faults.{of_reading, IsServed, IsWorkedOut, NamesTable}
-use Rattle.wh_engine.specs.Scanned.{IsWanting, IsServing, ReadsThrough, noting}
+use Rattle.wh_engine.specs.Faults.{of_reading, stops, IsServed, IsWorkedOut, BlamesDamage, NamesTable}
+use Rattle.wh_engine.specs.Scanned.{noting, EngineReads, IsServing, IsWanting, Reads, ReadsThrough, WhenAtRest, WhenReady}
+use Rattle.wh_engine.specs.declared.engine.Engine.{Engine}
 use Rattle.wh_engine.specs.declared.fault.Fault.{Fault}
 use Rattle.wh_engine.specs.declared.fault.Fault.TheVariants as faults
 use Rattle.wh_engine.specs.declared.session.Session.{Session}
@@ -46,6 +50,19 @@ still_served (Err fault) reading.Memory came served = tt
 still_served (Err fault) (reading.Damaged table) came served = tt
 still_served {A} (Err fault) (reading.Store cause) came served = subst (λ (f : Fault). IsServed {A = A} (Err f)) came.1 served
 
+-- it names the same table, and is no answer that is given before any work
+pub still_blames : {A : Type 0} (stored : Stored) (result : Result A Fault) (why : ReadFault) → IsErr result × IsErrAnd result (λ fault. fault ≡ of_reading why) → NamesDamage stored why → BlamesDamage stored result
+still_blames stored (Ok x) why came named = tt
+still_blames {A} stored (Err fault) reading.Memory came named = subst (λ (f : Fault). BlamesDamage {A = A} stored (Err f)) (sym came.1) tt
+still_blames {A} stored (Err fault) (reading.Damaged table) came named = subst (λ (f : Fault). BlamesDamage {A = A} stored (Err f)) (sym came.1) named
+still_blames {A} stored (Err fault) (reading.Store cause) came named = subst (λ (f : Fault). BlamesDamage {A = A} stored (Err f)) (sym came.1) tt
+
+pub still_works : {A : Type 0} (result : Result A Fault) (why : ReadFault) → IsErr result × IsErrAnd result (λ fault. fault ≡ of_reading why) → IsWorkedOut result
+still_works (Ok x) why came = tt
+still_works {A} (Err fault) reading.Memory came = subst (λ (f : Fault). IsWorkedOut {A = A} (Err f)) (sym came.1) tt
+still_works {A} (Err fault) (reading.Damaged table) came = subst (λ (f : Fault). IsWorkedOut {A = A} (Err f)) (sym came.1) tt
+still_works {A} (Err fault) (reading.Store cause) came = subst (λ (f : Fault). IsWorkedOut {A = A} (Err f)) (sym came.1) tt
+
 -- ---- a row that was handed out, or refused
 
 module _ (limits : Limits) (commands : List Accepted) (session : Session) (old new : State) (ready : IsReady limits commands session old) where
@@ -63,7 +80,56 @@ module _ (limits : Limits) (commands : List Accepted) (session : Session) (old n
   serving (Err (faults.Damaged table)) wants rests left = absurd wants
   serving (Err faults.Reopen) wants rests left = absurd wants
 
--- ---- an engine that has to be opened again
+-- ---- an engine
+
+module _ {S A : Type 0} (g : Ghosts S) where
+  -- it has to be opened again
+  pub shut : (e : Engine S) → IsTrue e.session.must_reopen → EngineReads {A = A} g e e (Err faults.Reopen)
+  shut e flagged = record {
+    spares = record {
+      clean = λ clean. clean;
+      same = λ clean t at calm. at;
+      left = λ clean t at. at.left;
+      rests = λ clean stored on calm. on;
+      leaves = λ clean stored on. on.left;
+    };
+    blames = λ clean stored on. tt;
+    noted = sym (ap (λ (m : Bool). record { limits = e.session.limits; policy = e.session.policy; must_reopen = m }) (or_false e.session.must_reopen));
+    shuts = record { same = λ is. (refl, refl, refl); only = λ is. flagged };
+    writes = refl;
+  }
+
+  -- or it hadn't to, and its tables were read
+  pub read : (old : Engine S) (tables : HeldTables S) (result : Result A Fault) → old.session.must_reopen ≡ false → Reads g old.tables tables result
+      → EngineReads g old (record { tables = tables; session = record { limits = old.session.limits; policy = old.session.policy; must_reopen = stops result }; writes = old.writes }) result
+  read old tables result unflagged reads = record {
+    spares = reads.spares;
+    blames = reads.blames;
+    noted = sym (ap (λ (m : Bool). record { limits = old.session.limits; policy = old.session.policy; must_reopen = m || stops result }) unflagged);
+    shuts = record { same = λ is. absurd (cc (is, unflagged)); only = not_reopen result _ reads.work };
+    writes = refl;
+  }
+
+  -- or by a call of it
+  pub read_through : (old new : Engine S) (result : Result A Fault) → old.session.must_reopen ≡ false → ReadsThrough old.session new.session (state_of g old.tables) (state_of g new.tables) result → new.writes ≡ old.writes
+      → EngineReads g old new result
+  read_through old new result unflagged reads writes = record {
+    spares = reads.spares;
+    blames = reads.blames;
+    noted = reads.noted;
+    shuts = record { same = λ is. absurd (cc (is, unflagged)); only = reads.only };
+    writes = writes;
+  }
+
+  -- one that was ready is so still, if no other fault comes
+  pub still_serves : (old new : Engine S) (result : Result A Fault) → EngineReads g old new result → WhenAtRest g old.tables new.tables (λ _. IfErr result IsWanting) → WhenReady g old new (λ limits commands. IsServing limits commands result)
+  still_serves old new result reads wants clean limits commands ready =
+      let t = ready.rests.tables in
+      let rests = ready.rests.rests in
+      subst (λ session. IsServing limits commands result session (state_of g new.tables)) (sym reads.noted)
+      (serving limits commands old.session (state_of g old.tables) (state_of g new.tables) ready result (wants clean t rests) (reads.spares.same clean t rests) (reads.spares.left clean t rests))
+
+-- ---- one of several readings
 
 pub unserved : {A : Type 0} (s : Session) (st : State) → IsTrue s.must_reopen → ReadsThrough {A = A} s s st st (Err faults.Reopen)
 unserved s st flagged = record {

@@ -1,14 +1,70 @@
--- What a call that reads through an engine leaves of it.
-use Rattle.std.specs.Prelude.{◌≡◌, ◌||◌, List, Result, Ok, Err, IsTrue, ⊤}
+-- What a call leaves of an engine, and how its clauses speak of that.
+use Rattle.std.specs.Prelude.{◌≡◌, ◌||◌, List, Some, Result, Ok, Err, IsTrue, ⊤}
+use Rattle.sqlite_trees.specs.declared.store.Store.{Ghosts}
 use Rattle.sqlite.specs.State.{State, HasCleanDisk}
 use Rattle.wh_history.specs.Accepted.{Accepted}
 use Rattle.wh_history.specs.Tables.{Limits}
-use Rattle.wh_store.specs.Reads.{Spares, SaysAsStored}
+use Rattle.wh_rows.specs.AtRest.{IsAtRest}
+use Rattle.wh_rows.specs.Raw.{Stored, RestsOn}
+use Rattle.wh_rows.specs.Tables.{Tables as TypedTables}
+use Rattle.wh_store.specs.Reads.{Spares, SaysAtRest, SaysAsStored, state_of}
+use Rattle.wh_store.specs.declared.tables.Tables.{Tables}
 use Rattle.wh_engine.specs.Answered.{IsReady, IsStopped}
-use Rattle.wh_engine.specs.Faults.{IsServed, BlamesDamage, stops}
+use Rattle.wh_engine.specs.Faults.{IsServed, IsWorkedOut, BlamesDamage, stops}
+use Rattle.wh_engine.specs.declared.engine.Engine.{Engine}
 use Rattle.wh_engine.specs.declared.fault.Fault.{Fault}
 use Rattle.wh_engine.specs.declared.fault.Fault.TheVariants.{Memory, Store, Reopen}
 use Rattle.wh_engine.specs.declared.session.Session.{Session}
+
+-- ---- what is so
+
+-- where these tables were at rest
+abbrev pub WhenAtRest : {S : Type 0} → Ghosts S → Tables S → Tables S → (TypedTables → Type 0) → Type 0
+WhenAtRest g old new fact = SaysAtRest (state_of g old) (state_of g new) fact
+
+-- where this was stored, whoever wrote it
+abbrev pub WhenStored : {S : Type 0} → Ghosts S → Tables S → Tables S → (Stored → Type 0) → Type 0
+WhenStored g old new fact = SaysAsStored (state_of g old) (state_of g new) fact
+
+-- where the engine was ready for commands, of what it has to know and of its tables
+abbrev pub WhenReady : {S : Type 0} → Ghosts S → Engine S → Engine S → (Limits → List Accepted → Session → State → Type 0) → Type 0
+WhenReady g old new fact =
+    HasCleanDisk (state_of g new.tables) → (limits : Limits) (commands : List Accepted) → IsReady limits commands old.session (state_of g old.tables) → fact limits commands new.session (state_of g new.tables)
+
+-- ---- what is left
+
+-- any tables, and whatever was stored, are as they were where this holds
+pub record Keeps {S : Type 0} (g : Ghosts S) (old new : Tables S) (calm : Type 0) : Type 0 where
+  pub clean : HasCleanDisk (state_of g new) → HasCleanDisk (state_of g old)
+  pub same : WhenAtRest g old new (λ t. calm → IsAtRest (Some t) (state_of g new))
+  pub rests : WhenStored g old new (λ stored. calm → RestsOn stored (state_of g new))
+
+-- What a reading leaves of the tables: they are as they were unless the store refused a call, and a crash leaves them. A table that is named as damaged is. It isn't
+-- answered that the warehouse has to be opened again.
+pub record Reads {S A : Type 0} (g : Ghosts S) (old new : Tables S) (result : Result A Fault) : Type 0 where
+  pub spares : Spares (state_of g old) (state_of g new) (IsServed result)
+  pub blames : WhenStored g old new (λ stored. BlamesDamage stored result)
+  pub work : IsWorkedOut result
+
+-- this is told exactly where the engine had to be opened again, and then all is as it was
+pub record Shuts {S : Type 0} (old new : Engine S) (told : Type 0) : Type 0 where
+  pub same : IsTrue old.session.must_reopen → told × (new.tables ≡ old.tables) × (new.session ≡ old.session)
+  pub only : told → IsTrue old.session.must_reopen
+
+-- where the store refuses a call the engine has to be opened again, and stays so
+abbrev pub noting : {A : Type 0} → Session → Result A Fault → Session
+noting session result = record session { must_reopen = session.must_reopen || stops result }
+
+-- What a call that reads leaves of an engine, whatever it answers: the same of its tables; it is noted where the store refused a call, and refused where one had
+-- before. What the last command wrote stays counted.
+pub record EngineReads {S A : Type 0} (g : Ghosts S) (old new : Engine S) (result : Result A Fault) : Type 0 where
+  pub spares : Spares (state_of g old.tables) (state_of g new.tables) (IsServed result)
+  pub blames : WhenStored g old.tables new.tables (λ stored. BlamesDamage stored result)
+  pub noted : new.session ≡ noting old.session result
+  pub shuts : Shuts old new (result ≡ Err Reopen)
+  pub writes : new.writes ≡ old.writes
+
+-- ---- what is left of one that was ready
 
 -- memory ran out, or the store refused a call
 abbrev pub IsWanting : Fault → Type 0
@@ -23,11 +79,7 @@ IsServing limits commands (Err Memory) session s = IsReady limits commands sessi
 IsServing limits commands (Err (Store cause)) session s = IsStopped limits commands commands session s
 IsServing limits commands (Err fault) session s = ⊥
 
--- where the store refuses a call the engine has to be opened again, and stays so
-abbrev pub noting : {A : Type 0} → Session → Result A Fault → Session
-noting session result = record session { must_reopen = session.must_reopen || stops result }
-
--- What was at rest is as it was, unless the store refused a call. An engine that was ready for commands is so still; or memory ran out, and it is; or the
+-- The same of several readings, one after the other. What was at rest is as it was, unless the store refused a call. An engine that was ready for commands is so still; or memory ran out, and it is; or the
 -- store refused a call, and it has to be opened again. A table that is named as damaged is. That it has to be opened again is answered only by one that had to be before.
 pub record ReadsThrough {A : Type 0} (before after : Session) (old new : State) (result : Result A Fault) : Type 0 where
   pub spares : Spares old new (IsServed result)

@@ -1,19 +1,17 @@
 //! Whether a command is accepted, as far as the tables say.
 
-ghost use Rattle.std.specs.Prelude.{◌≡◌, ◌+◌, ◌*◌, ◌≤◌, nat_le, [], List, length, Some, IfOk};
+ghost use Rattle.std.specs.Prelude.{◌≡◌, ◌+◌, ◌*◌, ◌≤◌, nat_le, [], List, IfOk};
 ghost use Rattle.std.specs.FinMap.{len};
 ghost use Rattle.std.specs.List.{list_any};
-ghost use Rattle.sqlite.specs.State.{HasCleanDisk};
 ghost use Rattle.wh_history.specs.Accepted.{Accepted, Content, Sells, sold, sold_by};
-ghost use Rattle.wh_rows.specs.AtRest.{IsAtRest};
-ghost use Rattle.wh_rows.specs.Tables.{Tables as TenTables};
-ghost use Rattle.wh_store.specs.Reads.{SaysInFormat, ReadsOnly, Spares, SaysAsStored, state_of};
+ghost use Rattle.wh_store.specs.Reads.{SaysInFormat, ReadsOnly, state_of};
 ghost use Rattle.wh_admission.specs.Admission.{changes_in, first_line_there, number_for};
 ghost use Rattle.wh_engine.specs.Decided.{receipt_of_known};
 ghost use Rattle.wh_model.specs.Defined.{AreOf};
-ghost use Rattle.wh_engine.specs.Faults.{IsServed, BlamesDamage, IsWorkedOut, Judges};
+ghost use Rattle.wh_engine.specs.Faults.{Judges};
 ghost use Rattle.wh_plan.specs.Reads.{Finds, Tells};
 ghost use Rattle.wh_model.specs.Sound.{IsAccepted, same_line};
+ghost use Rattle.wh_engine.specs.Scanned.{Reads, WhenAtRest};
 
 use crate::fault::Fault;
 use sqlite::Alter;
@@ -104,11 +102,9 @@ pub(crate) fn number_for_records<S: Alter>(
     limits: Limits,
     records: u64,
 ) -> Result<u64, Fault>
-    ensures reads { Spares (state_of S.Store tables.old) (state_of S.Store tables.new) (IsServed result) }
-    ensures blames { SaysAsStored (state_of S.Store tables.old) (state_of S.Store tables.new) (λ stored. BlamesDamage stored result) }
-    ensures number { HasCleanDisk (state_of S.Store tables.new) → (commands : List Accepted) (t : TenTables) → AreOf limits commands t → IsAccepted limits commands → IsAtRest (Some t) (state_of S.Store tables.old)
-        → (content : Content) → sold_by content ≡ [] → changes_in content ≡ records → Judges (λ number next. number ≡ next) result (number_for limits commands content) }
-    ensures work { IsWorkedOut result }
+    ensures reads { Reads S.Store tables.old tables.new result }
+    ensures number { WhenAtRest S.Store tables.old tables.new (λ t. (commands : List Accepted) → AreOf limits commands t → IsAccepted limits commands
+        → (content : Content) → sold_by content ≡ [] → changes_in content ≡ records → Judges (λ number next. number ≡ next) result (number_for limits commands content)) }
 {
     let commands = tables.count::<tables::Command>(alloc)?;
     if limits.commands() <= commands {
@@ -127,11 +123,9 @@ pub(crate) fn number_for_sales<S: Alter>(
     limits: Limits,
     sales: &[SaleRecord],
 ) -> Result<u64, Fault>
-    ensures reads { Spares (state_of S.Store tables.old) (state_of S.Store tables.new) (IsServed result) }
-    ensures blames { SaysAsStored (state_of S.Store tables.old) (state_of S.Store tables.new) (λ stored. BlamesDamage stored result) }
-    ensures number { HasCleanDisk (state_of S.Store tables.new) → (commands : List Accepted) (t : TenTables) → AreOf limits commands t → IsAccepted limits commands → IsAtRest (Some t) (state_of S.Store tables.old)
-        → Judges (λ number next. number ≡ next) result (number_for limits commands (Sells sales.now)) }
-    ensures work { IsWorkedOut result }
+    ensures reads { Reads S.Store tables.old tables.new result }
+    ensures number { WhenAtRest S.Store tables.old tables.new (λ t. (commands : List Accepted) → AreOf limits commands t → IsAccepted limits commands
+        → Judges (λ number next. number ≡ next) result (number_for limits commands (Sells sales.now))) }
 {
     let commands = tables.count::<tables::Command>(alloc)?;
     if limits.commands() <= commands {

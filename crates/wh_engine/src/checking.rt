@@ -1,23 +1,18 @@
 //! Whether what is stored is what its commands define: a second warehouse is sent them, and its tables are compared with those that are stored.
 
-ghost use Rattle.std.specs.Prelude.{◌≡◌, ◌≤◌, ◌<◌, List, false, Some, Err, IsTrue, IfOk, IfErr};
-ghost use Rattle.sqlite.specs.State.{HasCleanDisk};
+ghost use Rattle.std.specs.Prelude.{◌≡◌, ◌≤◌, List, false, Some, IfOk, IfErr};
 ghost use Rattle.wh_history.specs.Accepted.{Accepted};
 ghost use Rattle.wh_history.specs.Tables.{Limits as LimitCounts};
 ghost use Rattle.wh_rows.specs.declared.format.Format.TheVariants.{One};
-ghost use Rattle.wh_rows.specs.AtRest.{IsAtRest};
 ghost use Rattle.wh_rows.specs.Tables.{Tables as TenTables};
 ghost use Rattle.wh_store.specs.Faithful.{RestsFaithfully};
-ghost use Rattle.wh_rows.specs.Raw.{Stored, RestsOn, LeavesStored};
-ghost use Rattle.wh_sql.specs.Reads.{IsServed as IsServedRead};
-ghost use Rattle.wh_store.specs.Reads.{ReadsOnly, Spares, state_of, SaysAsStored};
+ghost use Rattle.wh_store.specs.Reads.{IsServed, NamesDamage, ReadsOnly, Spares, state_of, SaysAsStored};
 ghost use Rattle.wh_admission.specs.Checked.{SaysCommands, table_place};
 ghost use Rattle.wh_check.specs.Judged.{IsJudged};
-ghost use Rattle.wh_engine.specs.Answered.{IsReady};
-ghost use Rattle.wh_engine.specs.Faults.{IsServed, IsWorkedOut, stops};
 ghost use Rattle.wh_engine.specs.Checked.{IsChecked, IsCheckedOf};
 ghost use Rattle.wh_engine.specs.Replica.{HoldsAll};
 ghost use Rattle.wh_engine.specs.Judging.{IsDefinedIn, IsOfDamageIn};
+ghost use Rattle.wh_engine.specs.Scanned.{EngineReads, Reads, WhenReady, WhenStored};
 
 use crate::engine::Engine;
 use crate::fault::{Fault, stops};
@@ -97,8 +92,9 @@ fn judge_tables<S: Alter, M: Alter>(
 
 /// What is found of the tables.
 fn judge<S: Alter>(tables: &mut Tables<S>, alloc: Global) -> Result<Verdict, ReadFault>
-    ensures reads { Spares (state_of S.Store tables.old) (state_of S.Store tables.new) (IsServedRead result) }
+    ensures reads { Spares (state_of S.Store tables.old) (state_of S.Store tables.new) (IsServed result) }
     ensures judged { SaysAsStored (state_of S.Store tables.old) (state_of S.Store tables.new) (λ stored. stored.format ≡ One → IsJudged stored result) }
+    ensures named { SaysAsStored (state_of S.Store tables.old) (state_of S.Store tables.new) (λ stored. IfErr result (NamesDamage stored)) }
 {
     let Some(limits) = limits_said(tables, alloc)? else {
         return Ok(Verdict::Wrong(Table::Meta));
@@ -111,9 +107,8 @@ fn judge<S: Alter>(tables: &mut Tables<S>, alloc: Global) -> Result<Verdict, Rea
 
 /// The same, with the engine's faults.
 fn check_tables<S: Alter>(tables: &mut Tables<S>, alloc: Global) -> Result<Verdict, Fault>
-    ensures reads { Spares (state_of S.Store tables.old) (state_of S.Store tables.new) (IsServed result) }
-    ensures checked { SaysAsStored (state_of S.Store tables.old) (state_of S.Store tables.new) (λ stored. stored.format ≡ One → IsChecked stored result) }
-    ensures work { IsWorkedOut result }
+    ensures reads { Reads S.Store tables.old tables.new result }
+    ensures checked { WhenStored S.Store tables.old tables.new (λ stored. stored.format ≡ One → IsChecked stored result) }
 {
     let verdict = judge(tables, alloc)?;
     Ok(verdict)
@@ -124,18 +119,9 @@ impl<S: Alter> Engine<S> {
     /// stores a row out of its type. Anybody may have written the rows. A second warehouse is made anew in memory for it, and dropped. After a refusal of the store
     /// it answers `Reopen`.
     pub fn check(&mut self, alloc: Global) -> Result<Verdict, Fault>
-        ensures clean { HasCleanDisk (state_of S.Store self.new.tables) → HasCleanDisk (state_of S.Store self.old.tables) }
-        ensures checked { self.old.session.must_reopen ≡ false → SaysAsStored (state_of S.Store self.old.tables) (state_of S.Store self.new.tables) (λ stored. stored.format ≡ One → IsChecked stored result) }
-        ensures sound { HasCleanDisk (state_of S.Store self.new.tables) → (limits : LimitCounts) (commands : List Accepted) → IsReady limits commands self.old.session (state_of S.Store self.old.tables)
-            → IsCheckedOf limits commands result self.new.session (state_of S.Store self.new.tables) }
-        ensures untouched { HasCleanDisk (state_of S.Store self.new.tables) → (t : TenTables) → IsAtRest (Some t) (state_of S.Store self.old.tables) → IsServed result → IsAtRest (Some t) (state_of S.Store self.new.tables) }
-        ensures untouched_stored { HasCleanDisk (state_of S.Store self.new.tables) → (stored : Stored) → RestsOn stored (state_of S.Store self.old.tables) → IsServed result → RestsOn stored (state_of S.Store self.new.tables) }
-        // A crash leaves what was stored, whatever is answered.
-        ensures leaves { HasCleanDisk (state_of S.Store self.new.tables) → (stored : Stored) → RestsOn stored (state_of S.Store self.old.tables) → LeavesStored stored (state_of S.Store self.new.tables) }
-        ensures reopen { IsTrue self.old.session.must_reopen → (result ≡ Err Fault.Reopen) × (self.new.tables ≡ self.old.tables) × (self.new.session ≡ self.old.session) }
-        ensures only { result ≡ Err Fault.Reopen → IsTrue self.old.session.must_reopen }
-        ensures noted { self.old.session.must_reopen ≡ false → self.new.session ≡ record (self.old.session) { must_reopen = stops result } }
-        ensures writes { self.new.writes ≡ self.old.writes }
+        ensures reads { EngineReads S.Store self.old self.new result }
+        ensures checked { self.old.session.must_reopen ≡ false → WhenStored S.Store self.old.tables self.new.tables (λ stored. stored.format ≡ One → IsChecked stored result) }
+        ensures sound { WhenReady S.Store self.old self.new (λ limits commands. IsCheckedOf limits commands result) }
     {
         if self.session.must_reopen {
             return Err(Fault::Reopen);

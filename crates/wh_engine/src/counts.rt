@@ -1,16 +1,12 @@
 //! How much a warehouse holds.
 
-ghost use Rattle.std.specs.Prelude.{◌≡◌, List, length, false, Some, Ok, Err, IsTrue, IfOk};
-ghost use Rattle.sqlite.specs.State.{HasCleanDisk};
+ghost use Rattle.std.specs.Prelude.{◌≡◌, List, length, Ok, IfOk};
 ghost use Rattle.wh_history.specs.Accepted.{Accepted, members};
 ghost use Rattle.wh_history.specs.Tables.{Limits};
-ghost use Rattle.wh_rows.specs.AtRest.{IsAtRest};
-ghost use Rattle.wh_store.specs.Reads.{Spares, SaysAsStored, state_of};
-ghost use Rattle.wh_rows.specs.Tables.{Tables as TenTables};
-ghost use Rattle.wh_rows.specs.Raw.{Stored, RestsOn};
-ghost use Rattle.wh_engine.specs.Answered.{IsReady, IsCounted, CountsStored, counts_of};
+ghost use Rattle.wh_engine.specs.Answered.{IsCounted, CountsStored, counts_of};
+ghost use Rattle.wh_engine.specs.Faults.{Judges};
+ghost use Rattle.wh_engine.specs.Scanned.{EngineReads, Reads, WhenAtRest, WhenReady, WhenStored};
 ghost use Rattle.wh_model.specs.Defined.{AreOf};
-ghost use Rattle.wh_engine.specs.Faults.{IsServed, BlamesDamage, IsWorkedOut, Judges, stops};
 ghost use Rattle.wh_model.specs.Sound.{IsAccepted};
 
 use crate::engine::Engine;
@@ -38,11 +34,8 @@ pub struct Counts {
 
 /// How many members a dimension has.
 fn members_of<S: Alter>(tables: &mut Tables<S>, alloc: Global, dim: Dim) -> Result<u64, Fault>
-    ensures reads { Spares (state_of S.Store tables.old) (state_of S.Store tables.new) (IsServed result) }
-    ensures blames { SaysAsStored (state_of S.Store tables.old) (state_of S.Store tables.new) (λ stored. BlamesDamage stored result) }
-    ensures members { HasCleanDisk (state_of S.Store tables.new) → (limits : Limits) (commands : List Accepted) (t : TenTables) → AreOf limits commands t → IsAtRest (Some t) (state_of S.Store tables.old)
-        → Judges (λ count told. count ≡ told) result (Ok (length (members dim commands))) }
-    ensures work { IsWorkedOut result }
+    ensures reads { Reads S.Store tables.old tables.new result }
+    ensures members { WhenAtRest S.Store tables.old tables.new (λ t. (limits : Limits) (commands : List Accepted) → AreOf limits commands t → Judges (λ count told. count ≡ told) result (Ok (length (members dim commands)))) }
 {
     let last = last_member(tables, alloc, dim)?;
     Ok(last.durable)
@@ -50,12 +43,9 @@ fn members_of<S: Alter>(tables: &mut Tables<S>, alloc: Global, dim: Dim) -> Resu
 
 /// The rows that are there.
 fn counts_of<S: Alter>(tables: &mut Tables<S>, alloc: Global) -> Result<Counts, Fault>
-    ensures reads { Spares (state_of S.Store tables.old) (state_of S.Store tables.new) (IsServed result) }
-    ensures blames { SaysAsStored (state_of S.Store tables.old) (state_of S.Store tables.new) (λ stored. BlamesDamage stored result) }
-    ensures counts { HasCleanDisk (state_of S.Store tables.new) → (limits : Limits) (commands : List Accepted) (t : TenTables) → AreOf limits commands t → IsAccepted limits commands → IsAtRest (Some t) (state_of S.Store tables.old)
-        → Judges (λ counts told. counts ≡ told) result (Ok (counts_of commands)) }
-    ensures stored { SaysAsStored (state_of S.Store tables.old) (state_of S.Store tables.new) (λ stored. IfOk result (CountsStored stored)) }
-    ensures work { IsWorkedOut result }
+    ensures reads { Reads S.Store tables.old tables.new result }
+    ensures counts { WhenAtRest S.Store tables.old tables.new (λ t. (limits : Limits) (commands : List Accepted) → AreOf limits commands t → IsAccepted limits commands → Judges (λ counts told. counts ≡ told) result (Ok (counts_of commands))) }
+    ensures stored { WhenStored S.Store tables.old tables.new (λ stored. IfOk result (CountsStored stored)) }
 {
     let commands = tables.count::<tables::Command>(alloc)?;
     let changes = tables.count::<tables::Change>(alloc)?;
@@ -77,19 +67,10 @@ fn counts_of<S: Alter>(tables: &mut Tables<S>, alloc: Global) -> Result<Counts, 
 impl<S: Alter> Engine<S> {
     /// How much the warehouse holds. After a refusal of the store it answers `Reopen`.
     pub fn counts(&mut self, alloc: Global) -> Result<Counts, Fault>
-        ensures clean { HasCleanDisk (state_of S.Store self.new.tables) → HasCleanDisk (state_of S.Store self.old.tables) }
-        ensures counted { HasCleanDisk (state_of S.Store self.new.tables) → (limits : Limits) (commands : List Accepted) → IsReady limits commands self.old.session (state_of S.Store self.old.tables)
-            → IsCounted limits commands result self.new.session (state_of S.Store self.new.tables) }
-        ensures untouched { HasCleanDisk (state_of S.Store self.new.tables) → (t : TenTables) → IsAtRest (Some t) (state_of S.Store self.old.tables) → IsServed result → IsAtRest (Some t) (state_of S.Store self.new.tables) }
-        ensures untouched_stored { HasCleanDisk (state_of S.Store self.new.tables) → (stored : Stored) → RestsOn stored (state_of S.Store self.old.tables) → IsServed result → RestsOn stored (state_of S.Store self.new.tables) }
+        ensures reads { EngineReads S.Store self.old self.new result }
+        ensures counted { WhenReady S.Store self.old self.new (λ limits commands. IsCounted limits commands result) }
         // Of any rows, whoever wrote them: how many are stored, damaged or not.
-        ensures stored { SaysAsStored (state_of S.Store self.old.tables) (state_of S.Store self.new.tables) (λ stored. IfOk result (CountsStored stored)) }
-        // The table that is named as damaged stores a damaged row, whoever wrote it.
-        ensures blames { SaysAsStored (state_of S.Store self.old.tables) (state_of S.Store self.new.tables) (λ stored. BlamesDamage stored result) }
-        ensures reopen { IsTrue self.old.session.must_reopen → (result ≡ Err Fault.Reopen) × (self.new.tables ≡ self.old.tables) × (self.new.session ≡ self.old.session) }
-        ensures only { result ≡ Err Fault.Reopen → IsTrue self.old.session.must_reopen }
-        ensures noted { self.old.session.must_reopen ≡ false → self.new.session ≡ record (self.old.session) { must_reopen = stops result } }
-        ensures writes { self.new.writes ≡ self.old.writes }
+        ensures stored { WhenStored S.Store self.old.tables self.new.tables (λ stored. IfOk result (CountsStored stored)) }
     {
         if self.session.must_reopen {
             return Err(Fault::Reopen);

@@ -9,8 +9,8 @@ ghost use Rattle.wh_rows.specs.Types.{is_key};
 ghost use Rattle.wh_admission.specs.Admission.{answer, content_of, current_policy, policy_told, records_told, sales_told};
 ghost use Rattle.wh_engine.specs.Decided.{row_of_command, IsNew, reply_to_known, Brings, Decides, RepeatsKept, WritesItsRow};
 ghost use Rattle.wh_batch.specs.declared.kind.CommandKind.TheVariants.{Batch, Migration};
-ghost use Rattle.wh_engine.specs.Faults.{IsServed, BlamesDamage, IsWorkedOut, Judges};
-ghost use Rattle.wh_store.specs.Reads.{Spares, SaysAsStored, state_of};
+ghost use Rattle.wh_engine.specs.Faults.{BlamesDamage, IsWorkedOut, Judges};
+ghost use Rattle.wh_engine.specs.Scanned.{Reads, WhenStored};
 ghost use Rattle.wh_engine.specs.Serving.{Works};
 
 use crate::admission::{number_for_records, number_for_sales, receipt_of_known};
@@ -115,13 +115,11 @@ fn decide_records<S: Alter>(
     dim: Dim,
     command: &Command,
 ) -> Result<Decision, Fault>
-    ensures reads { Spares (state_of S.Store tables.old) (state_of S.Store tables.new) (IsServed result) }
-    ensures blames { SaysAsStored (state_of S.Store tables.old) (state_of S.Store tables.new) (λ stored. BlamesDamage stored result) }
-    ensures decided { Works (state_of S.Store tables.old) (state_of S.Store tables.new) session.now (λ commands. command.now.kind ≡ Batch (Dimension dim) → is_key 40 command.now.id ≡ true
+    ensures reads { Reads S.Store tables.old tables.new result }
+    ensures decided { Works S.Store tables.old tables.new session.now (λ commands. command.now.kind ≡ Batch (Dimension dim) → is_key 40 command.now.id ≡ true
         → IsNew commands command.now → Judges (Decides commands command.now) result (answer session.now.limits commands command.now)) }
     ensures brings { command.now.kind ≡ Batch (Dimension dim) → IfOk result (Brings session.now.policy command.now) }
     ensures own { IfOk result WritesItsRow }
-    ensures work { IsWorkedOut result }
 {
     let records = records_of(alloc, &session.policy, dim, command.bytes.as_slice())?;
     let count = records.as_slice().len() as u64;
@@ -147,14 +145,12 @@ fn decide_sold<S: Alter>(
     command: &Command,
     sales: &[SaleRecord],
 ) -> Result<Decision, Fault>
-    ensures reads { Spares (state_of S.Store tables.old) (state_of S.Store tables.new) (IsServed result) }
-    ensures blames { SaysAsStored (state_of S.Store tables.old) (state_of S.Store tables.new) (λ stored. BlamesDamage stored result) }
-    ensures decided { Works (state_of S.Store tables.old) (state_of S.Store tables.new) session.now (λ commands. is_key 40 command.now.id ≡ true → IsNew commands command.now
+    ensures reads { Reads S.Store tables.old tables.new result }
+    ensures decided { Works S.Store tables.old tables.new session.now (λ commands. is_key 40 command.now.id ≡ true → IsNew commands command.now
         → content_of command.now.kind (current_policy commands) command.now.bytes ≡ Ok (Sells sales.now)
         → Judges (Decides commands command.now) result (answer session.now.limits commands command.now)) }
     ensures brings { command.now.kind ≡ Batch Sales → IfOk result (Brings session.now.policy command.now) }
     ensures own { IfOk result WritesItsRow }
-    ensures work { IsWorkedOut result }
 {
     let number = match number_for_sales(tables, alloc, session.limits, sales) {
         Ok(number) => number,
@@ -177,13 +173,11 @@ fn decide_sales<S: Alter>(
     session: &Session,
     command: &Command,
 ) -> Result<Decision, Fault>
-    ensures reads { Spares (state_of S.Store tables.old) (state_of S.Store tables.new) (IsServed result) }
-    ensures blames { SaysAsStored (state_of S.Store tables.old) (state_of S.Store tables.new) (λ stored. BlamesDamage stored result) }
-    ensures decided { Works (state_of S.Store tables.old) (state_of S.Store tables.new) session.now (λ commands. command.now.kind ≡ Batch Sales → is_key 40 command.now.id ≡ true → IsNew commands command.now
+    ensures reads { Reads S.Store tables.old tables.new result }
+    ensures decided { Works S.Store tables.old tables.new session.now (λ commands. command.now.kind ≡ Batch Sales → is_key 40 command.now.id ≡ true → IsNew commands command.now
         → Judges (Decides commands command.now) result (answer session.now.limits commands command.now)) }
     ensures brings { command.now.kind ≡ Batch Sales → IfOk result (Brings session.now.policy command.now) }
     ensures own { IfOk result WritesItsRow }
-    ensures work { IsWorkedOut result }
 {
     let sales = sales_of(alloc, &session.policy, command.bytes.as_slice())?;
     decide_sold(tables, alloc, session, command, sales.as_slice())
@@ -196,13 +190,11 @@ fn decide_migration<S: Alter>(
     session: &Session,
     command: &Command,
 ) -> Result<Decision, Fault>
-    ensures reads { Spares (state_of S.Store tables.old) (state_of S.Store tables.new) (IsServed result) }
-    ensures blames { SaysAsStored (state_of S.Store tables.old) (state_of S.Store tables.new) (λ stored. BlamesDamage stored result) }
-    ensures decided { Works (state_of S.Store tables.old) (state_of S.Store tables.new) session.now (λ commands. command.now.kind ≡ Migration → is_key 40 command.now.id ≡ true → IsNew commands command.now
+    ensures reads { Reads S.Store tables.old tables.new result }
+    ensures decided { Works S.Store tables.old tables.new session.now (λ commands. command.now.kind ≡ Migration → is_key 40 command.now.id ≡ true → IsNew commands command.now
         → Judges (Decides commands command.now) result (answer session.now.limits commands command.now)) }
     ensures brings { command.now.kind ≡ Migration → IfOk result (Brings session.now.policy command.now) }
     ensures own { IfOk result WritesItsRow }
-    ensures work { IsWorkedOut result }
 {
     let newer = policy_of(alloc, &session.policy, command.bytes.as_slice())?;
     let number = match number_for_records(tables, alloc, session.limits, 0) {
@@ -226,13 +218,11 @@ fn decide_new<S: Alter>(
     session: &Session,
     command: &Command,
 ) -> Result<Decision, Fault>
-    ensures reads { Spares (state_of S.Store tables.old) (state_of S.Store tables.new) (IsServed result) }
-    ensures blames { SaysAsStored (state_of S.Store tables.old) (state_of S.Store tables.new) (λ stored. BlamesDamage stored result) }
-    ensures decided { Works (state_of S.Store tables.old) (state_of S.Store tables.new) session.now (λ commands. is_key 40 command.now.id ≡ true → IsNew commands command.now
+    ensures reads { Reads S.Store tables.old tables.new result }
+    ensures decided { Works S.Store tables.old tables.new session.now (λ commands. is_key 40 command.now.id ≡ true → IsNew commands command.now
         → Judges (Decides commands command.now) result (answer session.now.limits commands command.now)) }
     ensures brings { IfOk result (Brings session.now.policy command.now) }
     ensures own { IfOk result WritesItsRow }
-    ensures work { IsWorkedOut result }
 {
     match command.kind {
         CommandKind::Batch(Kind::Dimension(dim)) => {
@@ -263,12 +253,10 @@ pub(crate) fn decide<S: Alter>(
     session: &Session,
     command: &Command,
 ) -> Result<Decision, Fault>
-    ensures reads { Spares (state_of S.Store tables.old) (state_of S.Store tables.new) (IsServed result) }
-    ensures blames { SaysAsStored (state_of S.Store tables.old) (state_of S.Store tables.new) (λ stored. BlamesDamage stored result) }
-    ensures decided { Works (state_of S.Store tables.old) (state_of S.Store tables.new) session.now (λ commands. Judges (Decides commands command.now) result (answer session.now.limits commands command.now)) }
+    ensures reads { Reads S.Store tables.old tables.new result }
+    ensures decided { Works S.Store tables.old tables.new session.now (λ commands. Judges (Decides commands command.now) result (answer session.now.limits commands command.now)) }
     ensures brings { IfOk result (Brings session.now.policy command.now) }
-    ensures again { SaysAsStored (state_of S.Store tables.old) (state_of S.Store tables.new) (λ stored. IfOk result (RepeatsKept stored command.now)) }
-    ensures work { IsWorkedOut result }
+    ensures again { WhenStored S.Store tables.old tables.new (λ stored. IfOk result (RepeatsKept stored command.now)) }
 {
     if !is_key(40, command.id.as_str().as_bytes()) {
         return Err(Fault::Refused(Refused::BadId));

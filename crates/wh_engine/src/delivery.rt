@@ -1,15 +1,8 @@
 //! Commands that are delivered one after the other.
 
-ghost use Rattle.std.specs.Prelude.{◌≡◌, [], List, false, Some, IsTrue};
-ghost use Rattle.sqlite.specs.State.{HasCleanDisk};
-ghost use Rattle.wh_history.specs.Accepted.{Accepted};
-ghost use Rattle.wh_history.specs.Tables.{Limits as LimitCounts};
-ghost use Rattle.wh_rows.specs.AtRest.{IsAtRest};
-ghost use Rattle.wh_rows.specs.Tables.{Tables as TenTables};
-ghost use Rattle.wh_rows.specs.Raw.{Stored, RestsOn};
-ghost use Rattle.wh_store.specs.Reads.{SaysAsStored, state_of};
-ghost use Rattle.wh_engine.specs.Answered.{IsReady};
+ghost use Rattle.std.specs.Prelude.{◌≡◌, false, Some};
 ghost use Rattle.wh_engine.specs.Delivered.{answer_or_stop, is_of_the_store, AcceptNothing, AreAsMany, BlamesStored, IsDelivered, IsDeliveryNoted, IsDeliveryWritten, IsNoRefusal};
+ghost use Rattle.wh_engine.specs.Scanned.{Keeps, Shuts, WhenReady, WhenStored};
 
 use crate::engine::Engine;
 use crate::fault::Fault;
@@ -42,24 +35,17 @@ impl<S: Alter> Engine<S> {
     /// first: where that is refused, no command is begun. After a refusal of the store, in this call or an earlier one, the warehouse has
     /// to be opened again.
     pub fn deliver(&mut self, alloc: Global, commands: &[Command]) -> Replies
-        ensures clean { HasCleanDisk (state_of S.Store self.new.tables) → HasCleanDisk (state_of S.Store self.old.tables) }
-        ensures delivered { HasCleanDisk (state_of S.Store self.new.tables) → (limits : LimitCounts) (accepted : List Accepted) → IsReady limits accepted self.old.session (state_of S.Store self.old.tables)
-            → IsDelivered limits accepted commands.now result.answers.items result.stop self.new.session (state_of S.Store self.new.tables) }
+        // Any tables stay as they were, where nothing was accepted and the store refused no call, and any rows, whoever wrote them.
+        ensures keeps { Keeps S.Store self.old.tables self.new.tables (AcceptNothing result.answers.items × (is_of_the_store result.stop ≡ false)) }
+        ensures delivered { WhenReady S.Store self.old self.new (λ limits accepted. IsDelivered limits accepted commands.now result.answers.items result.stop) }
         // On any tables: how many are answered, and that no refusal of a command is a stop.
         ensures many { AreAsMany commands.now result.answers.items result.stop }
         ensures faults { IsNoRefusal result.stop }
-        // Any tables stay as they were, where nothing was accepted and the store refused no call, and any rows, whoever wrote them.
-        ensures untouched { HasCleanDisk (state_of S.Store self.new.tables) → (t : TenTables) → IsAtRest (Some t) (state_of S.Store self.old.tables) → AcceptNothing result.answers.items
-            → is_of_the_store result.stop ≡ false → IsAtRest (Some t) (state_of S.Store self.new.tables) }
-        ensures untouched_stored { HasCleanDisk (state_of S.Store self.new.tables) → (stored : Stored) → RestsOn stored (state_of S.Store self.old.tables) → AcceptNothing result.answers.items
-            → is_of_the_store result.stop ≡ false → RestsOn stored (state_of S.Store self.new.tables) }
         // The table that is named as damaged stores a damaged row, whoever wrote it, where nothing was accepted before.
-        ensures blames { SaysAsStored (state_of S.Store self.old.tables) (state_of S.Store self.new.tables) (λ stored. AcceptNothing result.answers.items → BlamesStored stored result.stop) }
-        ensures reopen { IsTrue self.old.session.must_reopen → (result.answers.items ≡ []) × (result.stop ≡ Some Fault.Reopen) × (self.new.tables ≡ self.old.tables) × (self.new.session ≡ self.old.session) }
-        ensures only { result.stop ≡ Some Fault.Reopen → IsTrue self.old.session.must_reopen }
+        ensures blames { WhenStored S.Store self.old.tables self.new.tables (λ stored. AcceptNothing result.answers.items → BlamesStored stored result.stop) }
+        ensures shuts { Shuts self.old self.new (result.stop ≡ Some Fault.Reopen) }
         // As many keys are written as the last command writes, and none where the delivery was stopped or nothing was accepted.
-        ensures written { HasCleanDisk (state_of S.Store self.new.tables) → (limits : LimitCounts) (accepted : List Accepted) → IsReady limits accepted self.old.session (state_of S.Store self.old.tables)
-            → IsDeliveryWritten limits accepted commands.now result.stop self.new.writes }
+        ensures written { WhenReady S.Store self.old self.new (λ limits accepted _ _. IsDeliveryWritten limits accepted commands.now result.stop self.new.writes) }
         ensures silent { AcceptNothing result.answers.items → self.new.writes ≡ 0 }
         // The limits stay, and the policy is what the accepted commands make of it.
         ensures noted { self.old.session.must_reopen ≡ false → IsDeliveryNoted self.old.session self.new.session commands.now result.answers.items result.stop }

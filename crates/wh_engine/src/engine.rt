@@ -1,15 +1,13 @@
 //! A warehouse that is open for commands.
 
-ghost use Rattle.std.specs.Prelude.{◌≡◌, List, false, Some, Err, IsTrue};
+ghost use Rattle.std.specs.Prelude.{◌≡◌, List, false, Err};
 ghost use Rattle.sqlite.specs.State.{HasCleanDisk};
 ghost use Rattle.wh_history.specs.Accepted.{Accepted};
 ghost use Rattle.wh_history.specs.Tables.{Limits as LimitCounts};
-ghost use Rattle.wh_rows.specs.AtRest.{IsAtRest};
-ghost use Rattle.wh_rows.specs.Tables.{Tables as TenTables};
-ghost use Rattle.wh_rows.specs.Raw.{Stored, RestsOn};
-ghost use Rattle.wh_store.specs.Reads.{SaysAsStored, state_of};
+ghost use Rattle.wh_store.specs.Reads.{state_of};
 ghost use Rattle.wh_engine.specs.Answered.{IsAgain, IsReady, IsAnswered, IsPerformed, IsWritten, IsGoverned, IsNotAccepted, IsNoted, KeepsNothing};
 ghost use Rattle.wh_engine.specs.Faults.{BlamesDamage, IsWorkedOut};
+ghost use Rattle.wh_engine.specs.Scanned.{Keeps, Shuts, WhenReady, WhenStored};
 
 use crate::decision::{Decision, decide};
 use crate::fault::{Fault, stops};
@@ -38,13 +36,11 @@ fn perform<S: Alter>(
     command: &Command,
     writes: &mut u64,
 ) -> Result<Reply, Fault>
-    ensures clean { HasCleanDisk (state_of S.Store tables.new) → HasCleanDisk (state_of S.Store tables.old) }
+    ensures keeps { Keeps S.Store tables.old tables.new (KeepsNothing result) }
     ensures performed { HasCleanDisk (state_of S.Store tables.new) → (limits : LimitCounts) (commands : List Accepted) → IsReady limits commands session.old (state_of S.Store tables.old)
         → IsPerformed limits commands command.now result session.new (state_of S.Store tables.new) }
-    ensures untouched { HasCleanDisk (state_of S.Store tables.new) → (t : TenTables) → IsAtRest (Some t) (state_of S.Store tables.old) → KeepsNothing result → IsAtRest (Some t) (state_of S.Store tables.new) }
-    ensures untouched_stored { HasCleanDisk (state_of S.Store tables.new) → (stored : Stored) → RestsOn stored (state_of S.Store tables.old) → KeepsNothing result → RestsOn stored (state_of S.Store tables.new) }
-    ensures blames { SaysAsStored (state_of S.Store tables.old) (state_of S.Store tables.new) (λ stored. BlamesDamage stored result) }
-    ensures again { SaysAsStored (state_of S.Store tables.old) (state_of S.Store tables.new) (λ stored. IsAgain stored command.now result) }
+    ensures blames { WhenStored S.Store tables.old tables.new (λ stored. BlamesDamage stored result) }
+    ensures again { WhenStored S.Store tables.old tables.new (λ stored. IsAgain stored command.now result) }
     ensures work { IsWorkedOut result }
     ensures written { HasCleanDisk (state_of S.Store tables.new) → (limits : LimitCounts) (commands : List Accepted) → IsReady limits commands session.old (state_of S.Store tables.old)
         → IsWritten limits commands command.now result writes.new }
@@ -99,23 +95,18 @@ impl<S: Alter> Engine<S> {
     /// Answers a command. An accepted one is kept, once, in one transaction whose commit is the last call of the store. After a
     /// refusal of the store every call answers `Reopen`.
     pub fn apply(&mut self, alloc: Global, command: &Command) -> Result<Reply, Fault>
-        ensures clean { HasCleanDisk (state_of S.Store self.new.tables) → HasCleanDisk (state_of S.Store self.old.tables) }
-        ensures answered { HasCleanDisk (state_of S.Store self.new.tables) → (limits : LimitCounts) (commands : List Accepted) → IsReady limits commands self.old.session (state_of S.Store self.old.tables)
-            → IsAnswered limits commands command.now result self.new.session (state_of S.Store self.new.tables) }
         // Any tables stay as they were, where nothing was accepted, and any rows, whoever wrote them.
-        ensures untouched { HasCleanDisk (state_of S.Store self.new.tables) → (t : TenTables) → IsAtRest (Some t) (state_of S.Store self.old.tables) → KeepsNothing result → IsAtRest (Some t) (state_of S.Store self.new.tables) }
-        ensures untouched_stored { HasCleanDisk (state_of S.Store self.new.tables) → (stored : Stored) → RestsOn stored (state_of S.Store self.old.tables) → KeepsNothing result → RestsOn stored (state_of S.Store self.new.tables) }
+        ensures keeps { Keeps S.Store self.old.tables self.new.tables (KeepsNothing result) }
+        ensures answered { WhenReady S.Store self.old self.new (λ limits commands. IsAnswered limits commands command.now result) }
         // The table that is named as damaged stores a damaged row, whoever wrote it.
-        ensures blames { SaysAsStored (state_of S.Store self.old.tables) (state_of S.Store self.new.tables) (λ stored. BlamesDamage stored result) }
+        ensures blames { WhenStored S.Store self.old.tables self.new.tables (λ stored. BlamesDamage stored result) }
         // That a command came again is answered only where an undamaged row is stored with its id, kind and bytes; the receipt is that row's.
-        ensures again { SaysAsStored (state_of S.Store self.old.tables) (state_of S.Store self.new.tables) (λ stored. IsAgain stored command.now result) }
-        ensures reopen { IsTrue self.old.session.must_reopen → (result ≡ Err Fault.Reopen) × (self.new.tables ≡ self.old.tables) × (self.new.session ≡ self.old.session) }
-        ensures only { result ≡ Err Fault.Reopen → IsTrue self.old.session.must_reopen }
+        ensures again { WhenStored S.Store self.old.tables self.new.tables (λ stored. IsAgain stored command.now result) }
+        ensures shuts { Shuts self.old self.new (result ≡ Err Fault.Reopen) }
         // The limits stay, and so does the policy, but for that of an accepted migration.
         ensures noted { self.old.session.must_reopen ≡ false → IsNoted self.old.session self.new.session command.now result }
         // As many keys are written as its exact edits are, and none by an answer that accepts nothing.
-        ensures written { HasCleanDisk (state_of S.Store self.new.tables) → (limits : LimitCounts) (commands : List Accepted) → IsReady limits commands self.old.session (state_of S.Store self.old.tables)
-            → IsWritten limits commands command.now result self.new.writes }
+        ensures written { WhenReady S.Store self.old self.new (λ limits commands _ _. IsWritten limits commands command.now result self.new.writes) }
         ensures silent { IsNotAccepted result → self.new.writes ≡ 0 }
     {
         if self.session.must_reopen {

@@ -1,15 +1,12 @@
 //! What a command would write.
 
-ghost use Rattle.std.specs.Prelude.{◌≡◌, List, false, Some, Err, IfOk, IsTrue};
+ghost use Rattle.std.specs.Prelude.{List, IfOk};
 ghost use Rattle.sqlite.specs.State.{HasCleanDisk};
 ghost use Rattle.wh_history.specs.Accepted.{Accepted};
 ghost use Rattle.wh_history.specs.Tables.{Limits as LimitCounts};
-ghost use Rattle.wh_rows.specs.AtRest.{IsAtRest};
-ghost use Rattle.wh_rows.specs.Raw.{Stored, RestsOn};
-ghost use Rattle.wh_rows.specs.Tables.{Tables as TenTables};
-ghost use Rattle.wh_store.specs.Reads.{Spares, SaysAsStored, state_of};
+ghost use Rattle.wh_store.specs.Reads.{state_of};
 ghost use Rattle.wh_engine.specs.Answered.{IsReady, IsForeseen, IsForetold, IsPlannedAgain};
-ghost use Rattle.wh_engine.specs.Faults.{BlamesDamage, IsServed, IsWorkedOut, stops};
+ghost use Rattle.wh_engine.specs.Scanned.{EngineReads, Reads, WhenReady, WhenStored};
 
 use crate::decision::{Decision, decide};
 use crate::engine::Engine;
@@ -28,12 +25,10 @@ fn foretell<S: Alter>(
     session: &Session,
     command: &Command,
 ) -> Result<Edits, Fault>
-    ensures reads { Spares (state_of S.Store tables.old) (state_of S.Store tables.new) (IsServed result) }
+    ensures reads { Reads S.Store tables.old tables.new result }
     ensures foretold { HasCleanDisk (state_of S.Store tables.new) → (limits : LimitCounts) (commands : List Accepted) → IsReady limits commands session.now (state_of S.Store tables.old)
         → IsForeseen limits commands command.now result session.now (state_of S.Store tables.new) }
-    ensures blames { SaysAsStored (state_of S.Store tables.old) (state_of S.Store tables.new) (λ stored. BlamesDamage stored result) }
-    ensures again { SaysAsStored (state_of S.Store tables.old) (state_of S.Store tables.new) (λ stored. IfOk result (IsPlannedAgain stored command.now)) }
-    ensures work { IsWorkedOut result }
+    ensures again { WhenStored S.Store tables.old tables.new (λ stored. IfOk result (IsPlannedAgain stored command.now)) }
 {
     match decide(tables, alloc, session, command) {
         Ok(Decision::Repeat(_)) => Ok(Edits::none(alloc)),
@@ -46,18 +41,10 @@ impl<S: Alter> Engine<S> {
     /// What a command would write, were it sent now: its edits of all tables, and none where it is the same as an accepted one.
     /// It is refused as `apply` would refuse it. Nothing is written. After a refusal of the store it answers `Reopen`.
     pub fn plan(&mut self, alloc: Global, command: &Command) -> Result<Edits, Fault>
-        ensures clean { HasCleanDisk (state_of S.Store self.new.tables) → HasCleanDisk (state_of S.Store self.old.tables) }
-        ensures foretold { HasCleanDisk (state_of S.Store self.new.tables) → (limits : LimitCounts) (commands : List Accepted) → IsReady limits commands self.old.session (state_of S.Store self.old.tables)
-            → IsForetold limits commands command.now result self.new.session (state_of S.Store self.new.tables) }
-        ensures untouched { HasCleanDisk (state_of S.Store self.new.tables) → (t : TenTables) → IsAtRest (Some t) (state_of S.Store self.old.tables) → IsServed result → IsAtRest (Some t) (state_of S.Store self.new.tables) }
-        ensures untouched_stored { HasCleanDisk (state_of S.Store self.new.tables) → (stored : Stored) → RestsOn stored (state_of S.Store self.old.tables) → IsServed result → RestsOn stored (state_of S.Store self.new.tables) }
-        ensures blames { SaysAsStored (state_of S.Store self.old.tables) (state_of S.Store self.new.tables) (λ stored. BlamesDamage stored result) }
+        ensures reads { EngineReads S.Store self.old self.new result }
+        ensures foretold { WhenReady S.Store self.old self.new (λ limits commands. IsForetold limits commands command.now result) }
         // Nothing is planned only where an undamaged row is stored with the command's id, kind and bytes.
-        ensures again { SaysAsStored (state_of S.Store self.old.tables) (state_of S.Store self.new.tables) (λ stored. IfOk result (IsPlannedAgain stored command.now)) }
-        ensures reopen { IsTrue self.old.session.must_reopen → (result ≡ Err Fault.Reopen) × (self.new.tables ≡ self.old.tables) × (self.new.session ≡ self.old.session) }
-        ensures only { result ≡ Err Fault.Reopen → IsTrue self.old.session.must_reopen }
-        ensures noted { self.old.session.must_reopen ≡ false → self.new.session ≡ record (self.old.session) { must_reopen = stops result } }
-        ensures writes { self.new.writes ≡ self.old.writes }
+        ensures again { WhenStored S.Store self.old.tables self.new.tables (λ stored. IfOk result (IsPlannedAgain stored command.now)) }
     {
         if self.session.must_reopen {
             return Err(Fault::Reopen);

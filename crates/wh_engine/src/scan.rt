@@ -7,10 +7,10 @@ ghost use Rattle.sqlite.specs.Order.{Row as Columns};
 ghost use Rattle.wh_rows.specs.Parts.{IsArranged};
 ghost use Rattle.wh_rows.specs.Raw.{Stored};
 ghost use Rattle.wh_rows.specs.Tables.{Tables as TenTables};
-ghost use Rattle.wh_store.specs.Reads.{Spares, SaysAtRest, SaysAsStored, SaysInFormat, SaysAsStoredIn, state_of};
+ghost use Rattle.wh_store.specs.Reads.{SaysInFormat, SaysAsStoredIn, state_of};
 ghost use Rattle.wh_store.specs.Scan.{rows_left, HandsOut, IsOver, AreLeft, HandsOutOf, AreValid};
-ghost use Rattle.wh_engine.specs.Faults.{IsServed, BlamesDamage, NamesTable, IsWorkedOut};
-ghost use Rattle.wh_engine.specs.Scanned.{IsWanting, ReadsThrough};
+ghost use Rattle.wh_engine.specs.Faults.{NamesTable, IsWorkedOut};
+ghost use Rattle.wh_engine.specs.Scanned.{EngineReads, IsServing, IsWanting, Reads, ReadsThrough, WhenAtRest, WhenReady, WhenStored};
 
 use crate::engine::Engine;
 use crate::fault::{Fault, stops};
@@ -25,19 +25,17 @@ fn row_after<T: PagedTable, S: Alter>(
     alloc: Global,
     cursor: &mut Cursor<T::Key, T::Row>,
 ) -> Result<Option<T::Row>, Fault>
-    ensures reads { Spares (state_of S.Store tables.old) (state_of S.Store tables.new) (IsServed result) }
+    ensures reads { Reads S.Store tables.old tables.new result }
     ensures same_format { tables.new.format ≡ tables.old.format }
     ensures rows { SaysInFormat S.Store T.KeyedTable.name tables.old tables.new (λ t. IfOk result (λ found. HandsOut (rows_left T.StoredTable.layout (T.StoredTable.rows t) cursor.old) found (rows_left T.StoredTable.layout (T.StoredTable.rows t) cursor.new))) }
     // Of any rows, whoever wrote them, none is missed and none comes twice.
     ensures stored { SaysAsStoredIn S.Store T.KeyedTable.name tables.old tables.new (λ stored. IfOk result (λ found. HandsOutOf T.StoredTable.layout T.KeyedTable.bind (stored.rows T.KeyedTable.name) cursor.old found cursor.new)) }
     // What is handed out is of its type, and a row that isn't is reported as one of this table.
     ensures valid { SaysAsStoredIn S.Store T.KeyedTable.name tables.old tables.new (λ _. AreValid T.StoredTable.layout cursor.old → IfOk result (λ found. IfSome found (λ row. IsTrue (T.StoredTable.layout.is_valid row)) × AreValid T.StoredTable.layout cursor.new)) }
-    ensures named { SaysAsStored (state_of S.Store tables.old) (state_of S.Store tables.new) (λ _. IfErr result (NamesTable T.KeyedTable.name)) }
-    ensures sound { SaysAtRest (state_of S.Store tables.old) (state_of S.Store tables.new) (λ _. IfErr result IsWanting) }
-    ensures blames { SaysAsStored (state_of S.Store tables.old) (state_of S.Store tables.new) (λ stored. BlamesDamage stored result) }
+    ensures named { WhenStored S.Store tables.old tables.new (λ _. IfErr result (NamesTable T.KeyedTable.name)) }
+    ensures sound { WhenAtRest S.Store tables.old tables.new (λ _. IfErr result IsWanting) }
     ensures ended { OnErr result (IsOver cursor.new) }
     ensures over { IsOver cursor.old → (result ≡ Ok None) × (tables.new ≡ tables.old) × IsOver cursor.new }
-    ensures work { IsWorkedOut result }
 {
     let found = next_row::<T, S>(tables, alloc, cursor)?;
     Ok(found)
@@ -71,7 +69,7 @@ impl<'e, S: Alter, T: PagedTable> Scan<'e, S, T> {
         ensures stored { SaysAsStoredIn S.Store T.KeyedTable.name self.old.engine.now.tables self.new.engine.now.tables (λ stored. IfOk result (λ found. HandsOutOf T.StoredTable.layout T.KeyedTable.bind (stored.rows T.KeyedTable.name) self.old.cursor found self.new.cursor)) }
         // What is handed out is of its type, and a row that isn't is reported as one of this table.
         ensures valid { SaysAsStoredIn S.Store T.KeyedTable.name self.old.engine.now.tables self.new.engine.now.tables (λ _. AreValid T.StoredTable.layout self.old.cursor → IfOk result (λ found. IfSome found (λ row. IsTrue (T.StoredTable.layout.is_valid row)) × AreValid T.StoredTable.layout self.new.cursor)) }
-        ensures named { SaysAsStored (state_of S.Store self.old.engine.now.tables) (state_of S.Store self.new.engine.now.tables) (λ _. IfErr result (NamesTable T.KeyedTable.name)) }
+        ensures named { WhenStored S.Store self.old.engine.now.tables self.new.engine.now.tables (λ _. IfErr result (NamesTable T.KeyedTable.name)) }
         ensures ended { OnErr result (IsOver self.new.cursor) }
         ensures over { IsOver self.old.cursor → (result ≡ Ok None) × (self.new.engine.now.tables ≡ self.old.engine.now.tables) × IsOver self.new.cursor }
         ensures writes { self.new.engine.now.writes ≡ self.old.engine.now.writes }
@@ -97,7 +95,7 @@ impl<S: Alter> Engine<S> {
         ensures stored { SaysAsStoredIn S.Store T.KeyedTable.name self.old.tables self.new.tables (λ stored. IfOk result (λ found. HandsOutOf T.StoredTable.layout T.KeyedTable.bind (stored.rows T.KeyedTable.name) cursor.old found cursor.new)) }
         // What is handed out is of its type, and a row that isn't is reported as one of this table.
         ensures valid { SaysAsStoredIn S.Store T.KeyedTable.name self.old.tables self.new.tables (λ _. AreValid T.StoredTable.layout cursor.old → IfOk result (λ found. IfSome found (λ row. IsTrue (T.StoredTable.layout.is_valid row)) × AreValid T.StoredTable.layout cursor.new)) }
-        ensures named { SaysAsStored (state_of S.Store self.old.tables) (state_of S.Store self.new.tables) (λ _. IfErr result (NamesTable T.KeyedTable.name)) }
+        ensures named { WhenStored S.Store self.old.tables self.new.tables (λ _. IfErr result (NamesTable T.KeyedTable.name)) }
         ensures ended { OnErr result (IsOver cursor.new) }
         ensures over { IsOver cursor.old → (result ≡ Ok None) × (self.new.tables ≡ self.old.tables) × IsOver cursor.new }
         ensures writes { self.new.writes ≡ self.old.writes }
@@ -117,18 +115,17 @@ impl<S: Alter> Engine<S> {
         alloc: Global,
         cursor: &mut Cursor<T::Key, T::Row>,
     ) -> Result<Option<T::Row>, Fault>
-        ensures reads { ReadsThrough self.old.session self.new.session (state_of S.Store self.old.tables) (state_of S.Store self.new.tables) result }
+        ensures reads { EngineReads S.Store self.old self.new result }
+        ensures serves { WhenReady S.Store self.old self.new (λ limits commands. IsServing limits commands result) }
         ensures rows { SaysInFormat S.Store T.KeyedTable.name self.old.tables self.new.tables (λ t. IfOk result (λ found. HandsOut (rows_left T.StoredTable.layout (T.StoredTable.rows t) cursor.old) found (rows_left T.StoredTable.layout (T.StoredTable.rows t) cursor.new))) }
         // Of any rows, whoever wrote them, none is missed and none comes twice.
         ensures stored { SaysAsStoredIn S.Store T.KeyedTable.name self.old.tables self.new.tables (λ stored. IfOk result (λ found. HandsOutOf T.StoredTable.layout T.KeyedTable.bind (stored.rows T.KeyedTable.name) cursor.old found cursor.new)) }
         // What is handed out is of its type, and a row that isn't is reported as one of this table.
         ensures valid { SaysAsStoredIn S.Store T.KeyedTable.name self.old.tables self.new.tables (λ _. AreValid T.StoredTable.layout cursor.old → IfOk result (λ found. IfSome found (λ row. IsTrue (T.StoredTable.layout.is_valid row)) × AreValid T.StoredTable.layout cursor.new)) }
-        ensures named { SaysAsStored (state_of S.Store self.old.tables) (state_of S.Store self.new.tables) (λ _. IfErr result (NamesTable T.KeyedTable.name)) }
-        ensures reopen { IsTrue self.old.session.must_reopen → (result ≡ Err Fault.Reopen) × (self.new.tables ≡ self.old.tables) × (cursor.new ≡ cursor.old) }
-        ensures only { result ≡ Err Fault.Reopen → IsTrue self.old.session.must_reopen }
+        ensures named { WhenStored S.Store self.old.tables self.new.tables (λ _. IfErr result (NamesTable T.KeyedTable.name)) }
+        ensures unread { IsTrue self.old.session.must_reopen → cursor.new ≡ cursor.old }
         ensures ended { self.old.session.must_reopen ≡ false → OnErr result (IsOver cursor.new) }
         ensures over { self.old.session.must_reopen ≡ false → IsOver cursor.old → (result ≡ Ok None) × (self.new.tables ≡ self.old.tables) × IsOver cursor.new }
-        ensures writes { self.new.writes ≡ self.old.writes }
         ensures same_format { self.new.tables.format ≡ self.old.tables.format }
     {
         if !self.session.must_reopen {

@@ -1,16 +1,14 @@
 //! Counting all facts of a warehouse, in whatever order they are stored.
 
-ghost use Rattle.std.specs.Prelude.{◌≡◌, false, [], Err, IsTrue, IfOk, IfErr};
+ghost use Rattle.std.specs.Prelude.{◌≡◌, [], IsTrue, IfOk, IfErr};
 ghost use Rattle.std.specs.FinMap.{values};
 ghost use Rattle.wh_rows.specs.declared.table.Table.TheVariants.{Fact};
 ghost use Rattle.wh_sql.specs.Tally.{HasCounted, HasCountedStored};
-ghost use Rattle.wh_store.specs.Reads.{Spares, SaysAtRest, SaysAsStored, state_of};
-ghost use Rattle.wh_engine.specs.Faults.{IsServed, BlamesDamage, NamesTable, IsWorkedOut};
-ghost use Rattle.wh_engine.specs.Scanned.{IsWanting, ReadsThrough};
+ghost use Rattle.wh_engine.specs.Faults.{NamesTable};
+ghost use Rattle.wh_engine.specs.Scanned.{EngineReads, IsServing, IsWanting, Reads, WhenAtRest, WhenReady, WhenStored};
 
 use crate::engine::Engine;
 use crate::fault::{Fault, stops};
-use crate::scan::note;
 use sqlite::Alter;
 use wh_rows::FactColumn;
 use wh_store::{FactAggregate, Tables};
@@ -22,13 +20,11 @@ fn tally_facts<C: FactAggregate, S: Alter>(
     tally: &mut C,
 ) -> Result<(), Fault>
     requires { C.counts tally.old [] tally.old }
-    ensures reads { Spares (state_of S.Store tables.old) (state_of S.Store tables.new) (IsServed result) }
-    ensures counted { SaysAtRest (state_of S.Store tables.old) (state_of S.Store tables.new) (λ t. IfOk result (λ _. HasCounted C.counts which tally.old tally.new (values t.fact))) }
-    ensures stored { SaysAsStored (state_of S.Store tables.old) (state_of S.Store tables.new) (λ stored. IfOk result (λ _. HasCountedStored C.counts which tally.old tally.new (stored.rows Fact))) }
-    ensures named { SaysAsStored (state_of S.Store tables.old) (state_of S.Store tables.new) (λ _. IfErr result (NamesTable Fact)) }
-    ensures sound { SaysAtRest (state_of S.Store tables.old) (state_of S.Store tables.new) (λ _. IfErr result IsWanting) }
-    ensures blames { SaysAsStored (state_of S.Store tables.old) (state_of S.Store tables.new) (λ stored. BlamesDamage stored result) }
-    ensures work { IsWorkedOut result }
+    ensures reads { Reads S.Store tables.old tables.new result }
+    ensures counted { WhenAtRest S.Store tables.old tables.new (λ t. IfOk result (λ _. HasCounted C.counts which tally.old tally.new (values t.fact))) }
+    ensures stored { WhenStored S.Store tables.old tables.new (λ stored. IfOk result (λ _. HasCountedStored C.counts which tally.old tally.new (stored.rows Fact))) }
+    ensures named { WhenStored S.Store tables.old tables.new (λ _. IfErr result (NamesTable Fact)) }
+    ensures sound { WhenAtRest S.Store tables.old tables.new (λ _. IfErr result IsWanting) }
 {
     tables.tally_facts(which, tally)?;
     Ok(())
@@ -43,20 +39,19 @@ impl<S: Alter> Engine<S> {
         tally: &mut C,
     ) -> Result<(), Fault>
         requires { C.counts tally.old [] tally.old }
-        ensures reads { ReadsThrough self.old.session self.new.session (state_of S.Store self.old.tables) (state_of S.Store self.new.tables) result }
-        ensures counted { SaysAtRest (state_of S.Store self.old.tables) (state_of S.Store self.new.tables) (λ t. IfOk result (λ _. HasCounted C.counts which tally.old tally.new (values t.fact))) }
+        ensures reads { EngineReads S.Store self.old self.new result }
+        ensures serves { WhenReady S.Store self.old self.new (λ limits commands. IsServing limits commands result) }
+        ensures counted { WhenAtRest S.Store self.old.tables self.new.tables (λ t. IfOk result (λ _. HasCounted C.counts which tally.old tally.new (values t.fact))) }
         // The same of any rows, whoever wrote them, by the columns that are read of them.
-        ensures stored { SaysAsStored (state_of S.Store self.old.tables) (state_of S.Store self.new.tables) (λ stored. IfOk result (λ _. HasCountedStored C.counts which tally.old tally.new (stored.rows Fact))) }
-        ensures named { SaysAsStored (state_of S.Store self.old.tables) (state_of S.Store self.new.tables) (λ _. IfErr result (NamesTable Fact)) }
-        ensures reopen { IsTrue self.old.session.must_reopen → (result ≡ Err Fault.Reopen) × (self.new.tables ≡ self.old.tables) × (tally.new ≡ tally.old) }
-        ensures only { result ≡ Err Fault.Reopen → IsTrue self.old.session.must_reopen }
-        ensures writes { self.new.writes ≡ self.old.writes }
+        ensures stored { WhenStored S.Store self.old.tables self.new.tables (λ stored. IfOk result (λ _. HasCountedStored C.counts which tally.old tally.new (stored.rows Fact))) }
+        ensures named { WhenStored S.Store self.old.tables self.new.tables (λ _. IfErr result (NamesTable Fact)) }
+        ensures unread { IsTrue self.old.session.must_reopen → tally.new ≡ tally.old }
     {
         if self.session.must_reopen {
             return Err(Fault::Reopen);
         }
         let counted = tally_facts(&mut self.tables, which, tally);
-        note(&mut self.session, stops(&counted));
+        self.session.must_reopen = stops(&counted);
         counted
     }
 }

@@ -1,12 +1,19 @@
 -- Calls that read through an engine, one after another.
 use Rattle.std.proofs.Common.{◌≡◌, ◌≢◌, true≢false, Bool, true, false, ◌||◌, Result, Ok, Err, IfErr, IsTrue, refl, sym, ap, ◌∙◌}
+use Rattle.sqlite_trees.specs.declared.store.Store.{Ghosts}
 use Rattle.sqlite.specs.State.{State}
+use Rattle.wh_store.specs.Reads.{state_of}
 use Rattle.wh_engine.specs.Faults.{stops}
-use Rattle.wh_engine.specs.Scanned.{ReadsThrough, noting}
+use Rattle.wh_engine.specs.Scanned.{noting, EngineReads, IsServing, ReadsThrough, WhenReady}
+use Rattle.wh_engine.specs.declared.engine.Engine.{Engine}
 use Rattle.wh_engine.specs.declared.fault.Fault.{Fault}
 use Rattle.wh_engine.specs.declared.fault.Fault.TheVariants as faults
 use Rattle.wh_engine.specs.declared.session.Session.{Session}
 use Rattle.wh_report.specs.Output.{IsOfNoTable, of_warehouse}
+use Rattle.wh_report.specs.Reported.{uncounted}
+use Rattle.wh_report.specs.declared.column.LabelColumn.{LabelColumn}
+use Rattle.wh_report.specs.declared.fact.FactFault.{FactFault}
+use Rattle.wh_report.specs.declared.fact.FactFault.TheVariants as uncountable
 use Rattle.wh_report.specs.declared.output.ReportFault.{ReportFault}
 use Rattle.wh_report.specs.declared.output.ReportFault.TheVariants as report
 use Rattle.wh_history.proofs.Records.{or_false}
@@ -21,6 +28,12 @@ flagged_before r s x noted flagged = sym (or_false r.must_reopen) ∙ ap (λ (q 
 -- so another that had not to be never answers that
 pub never_reopen : (r s : Session) (fault : Fault) → r.must_reopen ≡ false → s ≡ noting {A = Unit {0}} r (Ok tt) → (fault ≡ faults.Reopen → IsTrue s.must_reopen) → fault ≢ faults.Reopen
 never_reopen r s fault unflagged noted only is = true≢false (sym (flagged_before {A = Unit {0}} r s tt noted (only is)) ∙ unflagged)
+
+-- a call of an engine is a reading
+module _ {S A : Type 0} (g : Ghosts S) where
+  pub through : (old new : Engine S) (result : Result A Fault) → EngineReads g old new result → WhenReady g old new (λ limits commands. IsServing limits commands result)
+      → ReadsThrough old.session new.session (state_of g old.tables) (state_of g new.tables) result
+  through old new result reads serves = record { spares = reads.spares; serves = serves; blames = reads.blames; noted = reads.noted; only = reads.shuts.only }
 
 -- nothing was read yet
 pub unread : {A : Type 0} (s : Session) (st : State) (x : A) → ReadsThrough s s st st (Ok x)
@@ -69,6 +82,12 @@ faulted r s old new faults.Reopen reads = record { spares = reads.spares; serves
 -- memory ran out then
 pub out_of_memory : {A B : Type 0} (r s : Session) (old new : State) (x : A) → ReadsThrough r s old new (Ok x) → ReadsThrough {A = B} r s old new (Err faults.Memory)
 out_of_memory r s old new x reads = record { spares = reads.spares; serves = reads.serves; blames = reads.blames; noted = reads.noted; only = λ is. absurd (cc) }
+
+-- or what was read can't be counted
+pub read_not_counted : (B : Type 0) (r s : Session) (old new : State) (column : LabelColumn) (why : FactFault) → ReadsThrough {A = Unit {0}} r s old new (Ok tt) → ReadsThrough r s old new (of_warehouse {A = B} (Err (uncounted column why)))
+read_not_counted B r s old new column uncountable.Memory reads = out_of_memory r s old new tt reads
+read_not_counted B r s old new column uncountable.NoLabel reads = reads
+read_not_counted B r s old new column uncountable.Damaged reads = reads
 
 -- or it was all, or the writer failed
 pub ended : {A B : Type 0} (r s : Session) (old new : State) (x : A) (result : Result B ReportFault) → IfErr result IsOfNoTable → ReadsThrough r s old new (Ok x) → ReadsThrough r s old new (of_warehouse result)

@@ -3,7 +3,7 @@
 ghost use Rattle.std.specs.Prelude.{◌≡◌, List, None, IsTrue, IfSome, IfOk};
 ghost use Rattle.std.specs.FinMap.{values};
 ghost use Rattle.wh_policy.specs.declared.attribute.Dim.TheVariants.{Customer};
-ghost use Rattle.wh_engine.specs.Scanned.{ReadsThrough};
+ghost use Rattle.wh_engine.specs.Scanned.{EngineReads, IsServing, ReadsThrough, WhenReady};
 ghost use Rattle.wh_store.specs.Reads.{SaysAtRest, SaysAsStored, state_of};
 ghost use Rattle.wh_rows.specs.Keys.{bind_number};
 ghost use Rattle.wh_store.specs.Scan.{HandsOut, HandsOutOf, AreValid};
@@ -31,8 +31,8 @@ fn next_of_dimension<S: Alter>(
     dim: Dim,
     cursor: &mut Cursor<u64, DimRow>,
 ) -> Result<Option<DimRow>, Fault>
-    ensures reads { ReadsThrough engine.old.session engine.new.session (state_of S.Store engine.old.tables) (state_of S.Store engine.new.tables) result }
-    ensures writes { engine.new.writes ≡ engine.old.writes }
+    ensures reads { EngineReads S.Store engine.old engine.new result }
+    ensures serves { WhenReady S.Store engine.old engine.new (λ limits commands. IsServing limits commands result) }
     ensures rows { SaysAtRest (state_of S.Store engine.old.tables) (state_of S.Store engine.new.tables) (λ t. IfOk result (λ found. HandsOut (left_of_dim dim t cursor.old) found (left_of_dim dim t cursor.new))) }
     ensures stored { SaysAsStored (state_of S.Store engine.old.tables) (state_of S.Store engine.new.tables) (λ stored. IfOk result (λ found. HandsOutOf (layout_of_dim dim) bind_number (stored.rows (table_of_dim dim)) cursor.old found cursor.new)) }
     ensures valid { SaysAsStored (state_of S.Store engine.old.tables) (state_of S.Store engine.new.tables) (λ _. AreValid (layout_of_dim dim) cursor.old → IfOk result (λ found. IfSome found (λ row. IsTrue ((layout_of_dim dim).is_valid row)) × AreValid (layout_of_dim dim) cursor.new)) }

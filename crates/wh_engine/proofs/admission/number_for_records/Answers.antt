@@ -10,12 +10,12 @@ use Rattle.wh_engine.proofs.Decisions.{no_room, too_many_changes, has_room, no_l
 use Rattle.wh_engine.proofs.admission.number_for_records.Goals as goal
 
 pub returns-then-commands-clause-number : goal.returns-then-commands-clause-number
-returns-then-commands-clause-number g c clean commands t are accepted rests content unsold changes =
+returns-then-commands-clause-number g c clean t rests commands are accepted content unsold changes =
     let number = c.in_ok-commands.ensures.count clean t refl rests ∙ commands_counted c.args.limits commands t are in
     no_room c.args.limits commands content (omega (arith, number, c.commands.ensures, c.if-commands.true))
 
 pub returns-then-not-branch-clause-number : goal.returns-then-not-branch-clause-number
-returns-then-not-branch-clause-number g c clean commands t are accepted rests content unsold changes =
+returns-then-not-branch-clause-number g c clean t rests commands are accepted content unsold changes =
     let before = c.has_room_for.ensures.reads.clean clean in
     let still = c.in_ok-commands.ensures.reads.same before t rests tt in
     let number = c.in_ok-commands.ensures.count before t refl rests ∙ commands_counted c.args.limits commands t are in
@@ -27,7 +27,7 @@ returns-then-not-branch-clause-number g c clean commands t are accepted rests co
     too_many_changes c.args.limits commands content room (no_line commands content unsold) (omega (arith, counted, changes, c.changes.ensures, leb-false (len t.change + c.args.records) c.changes.result none))
 
 pub returns-clause-number : goal.returns-clause-number
-returns-clause-number g c clean commands t are accepted rests content unsold changes =
+returns-clause-number g c clean t rests commands are accepted content unsold changes =
     let before = c.has_room_for.ensures.reads.clean clean in
     let still = c.in_ok-commands.ensures.reads.same before t rests tt in
     let number = c.in_ok-commands.ensures.count before t refl rests ∙ commands_counted c.args.limits commands t are in

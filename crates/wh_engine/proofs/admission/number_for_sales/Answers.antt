@@ -10,12 +10,12 @@ use Rattle.wh_engine.proofs.Decisions.{no_room, line_is_there, too_many_facts, h
 use Rattle.wh_engine.proofs.admission.number_for_sales.Goals as goal
 
 pub returns-then-commands-clause-number : goal.returns-then-commands-clause-number
-returns-then-commands-clause-number g c clean commands t are accepted rests =
+returns-then-commands-clause-number g c clean t rests commands are accepted =
     let number = c.in_ok-commands.ensures.count clean t refl rests ∙ commands_counted c.args.limits commands t are in
     no_room c.args.limits commands (Sells c.args.sales.now) (omega (arith, number, c.commands.ensures, c.if-commands.true))
 
 pub returns-in-Some-clause-number : goal.returns-in-Some-clause-number
-returns-in-Some-clause-number g c clean commands t are accepted rests =
+returns-in-Some-clause-number g c clean t rests commands are accepted =
     let before = c.in_ok-number.ensures.reads.clean clean in
     let still = c.in_ok-commands.ensures.reads.same before t rests tt in
     let number = c.in_ok-commands.ensures.count before t refl rests ∙ commands_counted c.args.limits commands t are in
@@ -23,7 +23,7 @@ returns-in-Some-clause-number g c clean commands t are accepted rests =
     line_is_there c.args.limits commands (Sells c.args.sales.now) room c.in-Some.number (sym (c.in_ok-number.ensures.there clean c.args.limits commands t are still) ∙ c.in-Some.is)
 
 pub returns-then-not-branch-clause-number : goal.returns-then-not-branch-clause-number
-returns-then-not-branch-clause-number g c clean commands t are accepted rests =
+returns-then-not-branch-clause-number g c clean t rests commands are accepted =
     let asked = c.in_ok-has_room_for.ensures.reads.clean clean in
     let before = c.in_ok-number.ensures.reads.clean asked in
     let still = c.in_ok-commands.ensures.reads.same before t rests tt in
@@ -41,7 +41,7 @@ returns-then-not-branch-clause-number g c clean commands t are accepted rests =
     too_many_facts c.args.limits commands (Sells c.args.sales.now) room new changes over
 
 pub returns-clause-number : goal.returns-clause-number
-returns-clause-number g c clean commands t are accepted rests =
+returns-clause-number g c clean t rests commands are accepted =
     let asked = c.in_ok-has_room_for.ensures.reads.clean clean in
     let before = c.in_ok-number.ensures.reads.clean asked in
     let still = c.in_ok-commands.ensures.reads.same before t rests tt in

@@ -63,3 +63,11 @@ returns-clause-reads g c =
           let after = third.clean clean in
           third.leaves clean stored (second.rests after stored (first.rests (second.clean after) stored at tt) tt);
     }
+
+pub returns-clause-named : goal.returns-clause-named
+returns-clause-named g c clean stored rests =
+    let first = c.in_ok-limits.ensures.reads in
+    let second = c.in_ok-replica.ensures.reads in
+    let third = c.judge_tables.ensures.reads in
+    let after = third.clean clean in
+    third.named clean stored (second.rests after stored (first.rests (second.clean after) stored rests tt) tt)

@@ -16,65 +16,65 @@ not_counted (Store cause) number counts judged = tt
 not_counted Reopen number counts judged = absurd judged
 
 pub returns-in_err-products-clause-counts : goal.returns-in_err-products-clause-counts
-returns-in_err-products-clause-counts g c clean limits commands t are accepted rests =
-    let clean3 = c.in_err-products.ensures.reads.clean clean in
+returns-in_err-products-clause-counts g c clean t rests limits commands are accepted =
+    let clean3 = c.in_err-products.ensures.reads.spares.clean clean in
     let clean2 = c.count-3.ensures.reads.clean clean3 in
     let clean1 = c.count-2.ensures.reads.clean clean2 in
     let rests1 = c.in_ok-commands.ensures.reads.same clean1 t rests tt in
     let rests2 = c.in_ok-changes.ensures.reads.same clean2 t rests1 tt in
     let rests3 = c.in_ok-facts.ensures.reads.same clean3 t rests2 tt in
     let p = err_from_is_err_and c.from_residual-in_err-products.result c.from_residual-in_err-products.ensures.1 in
-    rw (p.1, p.2) (not_counted c.in_err-products.field-0.0 _ _ (c.in_err-products.ensures.members clean limits commands t are rests3))
+    rw (p.1, p.2) (not_counted c.in_err-products.field-0.0 _ _ (c.in_err-products.ensures.members clean t rests3 limits commands are))
 
 pub returns-in_err-stores-clause-counts : goal.returns-in_err-stores-clause-counts
-returns-in_err-stores-clause-counts g c clean limits commands t are accepted rests =
-    let clean4 = c.in_err-stores.ensures.reads.clean clean in
-    let clean3 = c.members_of.ensures.reads.clean clean4 in
+returns-in_err-stores-clause-counts g c clean t rests limits commands are accepted =
+    let clean4 = c.in_err-stores.ensures.reads.spares.clean clean in
+    let clean3 = c.members_of.ensures.reads.spares.clean clean4 in
     let clean2 = c.count-3.ensures.reads.clean clean3 in
     let clean1 = c.count-2.ensures.reads.clean clean2 in
     let rests1 = c.in_ok-commands.ensures.reads.same clean1 t rests tt in
     let rests2 = c.in_ok-changes.ensures.reads.same clean2 t rests1 tt in
     let rests3 = c.in_ok-facts.ensures.reads.same clean3 t rests2 tt in
-    let rests4 = c.in_ok-products.ensures.reads.same clean4 t rests3 tt in
+    let rests4 = c.in_ok-products.ensures.reads.spares.same clean4 t rests3 tt in
     let p = err_from_is_err_and c.from_residual-in_err-stores.result c.from_residual-in_err-stores.ensures.1 in
-    rw (p.1, p.2) (not_counted c.in_err-stores.field-0.0 _ _ (c.in_err-stores.ensures.members clean limits commands t are rests4))
+    rw (p.1, p.2) (not_counted c.in_err-stores.field-0.0 _ _ (c.in_err-stores.ensures.members clean t rests4 limits commands are))
 
 pub returns-in_err-customers-clause-counts : goal.returns-in_err-customers-clause-counts
-returns-in_err-customers-clause-counts g c clean limits commands t are accepted rests =
-    let clean5 = c.in_err-customers.ensures.reads.clean clean in
-    let clean4 = c.members_of-2.ensures.reads.clean clean5 in
-    let clean3 = c.members_of.ensures.reads.clean clean4 in
+returns-in_err-customers-clause-counts g c clean t rests limits commands are accepted =
+    let clean5 = c.in_err-customers.ensures.reads.spares.clean clean in
+    let clean4 = c.members_of-2.ensures.reads.spares.clean clean5 in
+    let clean3 = c.members_of.ensures.reads.spares.clean clean4 in
     let clean2 = c.count-3.ensures.reads.clean clean3 in
     let clean1 = c.count-2.ensures.reads.clean clean2 in
     let rests1 = c.in_ok-commands.ensures.reads.same clean1 t rests tt in
     let rests2 = c.in_ok-changes.ensures.reads.same clean2 t rests1 tt in
     let rests3 = c.in_ok-facts.ensures.reads.same clean3 t rests2 tt in
-    let rests4 = c.in_ok-products.ensures.reads.same clean4 t rests3 tt in
-    let rests5 = c.in_ok-stores.ensures.reads.same clean5 t rests4 tt in
+    let rests4 = c.in_ok-products.ensures.reads.spares.same clean4 t rests3 tt in
+    let rests5 = c.in_ok-stores.ensures.reads.spares.same clean5 t rests4 tt in
     let p = err_from_is_err_and c.from_residual-in_err-customers.result c.from_residual-in_err-customers.ensures.1 in
-    rw (p.1, p.2) (not_counted c.in_err-customers.field-0.0 _ _ (c.in_err-customers.ensures.members clean limits commands t are rests5))
+    rw (p.1, p.2) (not_counted c.in_err-customers.field-0.0 _ _ (c.in_err-customers.ensures.members clean t rests5 limits commands are))
 
 pub returns-clause-counts : goal.returns-clause-counts
-returns-clause-counts g c clean limits commands t are accepted rests =
-    let clean5 = c.members_of-3.ensures.reads.clean clean in
-    let clean4 = c.members_of-2.ensures.reads.clean clean5 in
-    let clean3 = c.members_of.ensures.reads.clean clean4 in
+returns-clause-counts g c clean t rests limits commands are accepted =
+    let clean5 = c.members_of-3.ensures.reads.spares.clean clean in
+    let clean4 = c.members_of-2.ensures.reads.spares.clean clean5 in
+    let clean3 = c.members_of.ensures.reads.spares.clean clean4 in
     let clean2 = c.count-3.ensures.reads.clean clean3 in
     let clean1 = c.count-2.ensures.reads.clean clean2 in
     let rests1 = c.in_ok-commands.ensures.reads.same clean1 t rests tt in
     let rests2 = c.in_ok-changes.ensures.reads.same clean2 t rests1 tt in
     let rests3 = c.in_ok-facts.ensures.reads.same clean3 t rests2 tt in
-    let rests4 = c.in_ok-products.ensures.reads.same clean4 t rests3 tt in
-    let rests5 = c.in_ok-stores.ensures.reads.same clean5 t rests4 tt in
+    let rests4 = c.in_ok-products.ensures.reads.spares.same clean4 t rests3 tt in
+    let rests5 = c.in_ok-stores.ensures.reads.spares.same clean5 t rests4 tt in
     counts_are limits commands t are accepted c.in_ok-commands.commands c.in_ok-changes.changes c.in_ok-facts.facts c.in_ok-products.products c.in_ok-stores.stores c.in_ok-customers.customers
     (c.in_ok-commands.ensures.count clean1 t refl rests) (c.in_ok-changes.ensures.count clean2 t refl rests1) (c.in_ok-facts.ensures.count clean3 t refl rests2)
-    (c.in_ok-products.ensures.members clean4 limits commands t are rests3) (c.in_ok-stores.ensures.members clean5 limits commands t are rests4) (c.in_ok-customers.ensures.members clean limits commands t are rests5)
+    (c.in_ok-products.ensures.members clean4 t rests3 limits commands are) (c.in_ok-stores.ensures.members clean5 t rests4 limits commands are) (c.in_ok-customers.ensures.members clean t rests5 limits commands are)
 
 pub returns-clause-stored : goal.returns-clause-stored
 returns-clause-stored g c clean stored rests =
-    let clean5 = c.members_of-3.ensures.reads.clean clean in
-    let clean4 = c.members_of-2.ensures.reads.clean clean5 in
-    let clean3 = c.members_of.ensures.reads.clean clean4 in
+    let clean5 = c.members_of-3.ensures.reads.spares.clean clean in
+    let clean4 = c.members_of-2.ensures.reads.spares.clean clean5 in
+    let clean3 = c.members_of.ensures.reads.spares.clean clean4 in
     let clean2 = c.count-3.ensures.reads.clean clean3 in
     let clean1 = c.count-2.ensures.reads.clean clean2 in
     let rests1 = c.in_ok-commands.ensures.reads.rests clean1 stored rests tt in

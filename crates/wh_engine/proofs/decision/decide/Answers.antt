@@ -17,14 +17,26 @@ pub returns-in-None-clause-decided : goal.returns-in-None-clause-decided
 returns-in-None-clause-decided g c clean commands t held rests =
     let limits = c.args.session.now.limits in
     let command = c.args.command.now in
-    let before = c.decide_new.ensures.reads.clean clean in
+    let before = c.decide_new.ensures.reads.spares.clean clean in
     let good : is_key 40 command.id ≡ true = rw (c.as_bytes.ensures.value ∙ c.as_str.ensures) at (sym c.is_key.ensures ∙ c.if-not-is_key.false) in
     let none : command_with commands command.id ≡ None = sym (c.in_ok-row.ensures.command before limits commands t held.are rests held.accepted.distinct) ∙ c.in-None.is in
     let still = c.in_ok-row.ensures.reads.same before t rests tt in
     c.decide_new.ensures.decided clean commands t held still good (is_new limits commands command none)
 
-pub returns-in-Some-clause-blames : goal.returns-in-Some-clause-blames
-returns-in-Some-clause-blames g c clean stored rests = c.decide_known.ensures.blames stored
+pub returns-in-Some-clause-reads : goal.returns-in-Some-clause-reads
+returns-in-Some-clause-reads g c =
+    let reads = c.in_ok-row.ensures.reads in
+    record {
+      spares = record {
+        clean = reads.clean;
+        same = λ clean t rests served. reads.same clean t rests tt;
+        left = reads.left;
+        rests = λ clean stored rests served. reads.rests clean stored rests tt;
+        leaves = reads.leaves;
+      };
+      blames = λ clean stored rests. c.decide_known.ensures.blames stored;
+      work = c.decide_known.ensures.work;
+    }
 
 pub returns-in-Some-clause-brings : goal.returns-in-Some-clause-brings
 returns-in-Some-clause-brings g c = c.decide_known.ensures.brings c.args.session.now.policy

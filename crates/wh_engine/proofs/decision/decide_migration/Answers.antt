@@ -5,7 +5,7 @@ use Rattle.wh_admission.specs.Admission.{current_policy, accepted_as, answer, nu
 use Rattle.wh_engine.specs.Decided.{Decides}
 use Rattle.wh_engine.proofs.Decisions.{judged_ok, judged_err, number_refused, policy_content, command_accepted, list_accepted, own_row, policy_in_force}
 use Rattle.wh_admission.proofs.Migrated.{policy_taken}
-use Rattle.wh_engine.proofs.Scanning.{still_served}
+use Rattle.wh_engine.proofs.Scanning.{still_served, still_blames, still_works}
 use Rattle.wh_engine.proofs.decision.decide_migration.Goals as goal
 
 pub returns-clause-decided : goal.returns-clause-decided
@@ -20,9 +20,9 @@ returns-clause-decided g c clean commands t held rests kind good new =
     let told : policy_told (current_policy commands) command.bytes ≡ Ok newer = found.1 ∙ ap Ok (sym found.2) in
     let taken = policy_taken (current_policy commands) command.bytes newer told in
     let read = policy_content limits commands command good new kind newer told in
-    let numbered = judged_ok (λ number next. number ≡ next) number (number_for limits commands content) (c.in-Ok.ensures.number before commands t held.are held.accepted rests content refl refl) in
+    let numbered = judged_ok (λ number next. number ≡ next) number (number_for limits commands content) (c.in-Ok.ensures.number before t rests commands held.are held.accepted content refl refl) in
     let room : number_for limits commands content ≡ Ok number = numbered.1 ∙ ap Ok (sym numbered.2) in
-    let still = c.in-Ok.ensures.reads.same before t rests tt in
+    let still = c.in-Ok.ensures.reads.spares.same before t rests tt in
     let stored = own_row limits commands command good new content read number room ∙ ap Some (sym c.in_ok-row.ensures) in
     let edits = c.in_ok-edits.ensures.edits clean limits commands t held.are still (accepted_as command content) (list_accepted limits commands command good new content read number room held.accepted)
     refl (policy_in_force commands held.accepted.governed ∙ ap Some (sym held.policy)) (policies_are_sound command.bytes newer taken.written) (rw held.policy taken.fit) stored in
@@ -37,20 +37,24 @@ returns-in-Err-clause-decided g c clean commands t held rests kind good new =
     let found = judged_ok (λ newer told. newer ≡ told) newer (policy_told (current_policy commands) command.bytes) (rw (held.policy, c.as_slice.ensures) at c.in_ok-newer.ensures.read) in
     let told : policy_told (current_policy commands) command.bytes ≡ Ok newer = found.1 ∙ ap Ok (sym found.2) in
     let read = policy_content limits commands command good new kind newer told in
-    let judged = c.in-Err.ensures.number clean commands t held.are held.accepted rests content refl refl in
+    let judged = c.in-Err.ensures.number clean t rests commands held.are held.accepted content refl refl in
     judged_err (λ (number next : ℕ). number ≡ next) (Decides commands command) c.in-Err.fault (number_for limits commands content) (answer limits commands command) judged
     (λ why none. number_refused limits commands command good new content why read none)
 
 pub returns-in_err-edits-clause-reads : goal.returns-in_err-edits-clause-reads
 returns-in_err-edits-clause-reads g c =
-    let first = c.in-Ok.ensures.reads in
+    let first = c.in-Ok.ensures.reads.spares in
     let last = c.in_err-edits.ensures.reads in
     let why = c.in_err-edits.field-0.0 in
     let came = c.from_residual-in_err-edits in
     record {
-      clean = λ clean. first.clean (last.clean clean);
-      same = λ clean t rests served. last.same clean t (first.same (last.clean clean) t rests tt) (still_served came.result why came.ensures served);
-      left = λ clean t rests. last.left clean t (first.same (last.clean clean) t rests tt);
-      rests = λ clean stored rests served. last.rests clean stored (first.rests (last.clean clean) stored rests tt) (still_served came.result why came.ensures served);
-      leaves = λ clean stored rests. last.leaves clean stored (first.rests (last.clean clean) stored rests tt);
+      spares = record {
+        clean = λ clean. first.clean (last.clean clean);
+        same = λ clean t rests served. last.same clean t (first.same (last.clean clean) t rests tt) (still_served came.result why came.ensures served);
+        left = λ clean t rests. last.left clean t (first.same (last.clean clean) t rests tt);
+        rests = λ clean stored rests served. last.rests clean stored (first.rests (last.clean clean) stored rests tt) (still_served came.result why came.ensures served);
+        leaves = λ clean stored rests. last.leaves clean stored (first.rests (last.clean clean) stored rests tt);
+      };
+      blames = λ clean stored rests. still_blames stored came.result why came.ensures (last.named clean stored (first.rests (last.clean clean) stored rests tt));
+      work = still_works came.result why came.ensures;
     }

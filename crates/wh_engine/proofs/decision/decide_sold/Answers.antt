@@ -17,9 +17,9 @@ returns-clause-decided g c clean commands t held rests good new read =
     let number = c.in-Ok.number in
     let content = Sells c.args.sales.now in
     let before = c.in_ok-edits.ensures.reads.clean clean in
-    let numbered = judged_ok (λ number next. number ≡ next) number (number_for limits commands content) (c.in-Ok.ensures.number before commands t held.are held.accepted rests) in
+    let numbered = judged_ok (λ number next. number ≡ next) number (number_for limits commands content) (c.in-Ok.ensures.number before t rests commands held.are held.accepted) in
     let room : number_for limits commands content ≡ Ok number = numbered.1 ∙ ap Ok (sym numbered.2) in
-    let still = c.in-Ok.ensures.reads.same before t rests tt in
+    let still = c.in-Ok.ensures.reads.spares.same before t rests tt in
     let accepted = list_accepted limits commands command good new content read number room held.accepted in
     let next = next_number limits commands command good new content read number room in
     let after = commands ++ accepted_as command content ∷ [] in
@@ -41,6 +41,6 @@ returns-in-Err-clause-decided g c clean commands t held rests good new read =
     let limits = c.args.session.now.limits in
     let command = c.args.command.now in
     let content = Sells c.args.sales.now in
-    let judged = c.in-Err.ensures.number clean commands t held.are held.accepted rests in
+    let judged = c.in-Err.ensures.number clean t rests commands held.are held.accepted in
     judged_err (λ (number next : ℕ). number ≡ next) (Decides commands command) c.in-Err.fault (number_for limits commands content) (answer limits commands command) judged
     (λ why none. number_refused limits commands command good new content why read none)

@@ -9,7 +9,7 @@ returns-in-Ok-Repeat-clause-performed g c clean limits commands ready =
     let rests = ready.rests.rests in
     let is_held = held limits commands c.args.command.now c.args.session.now old ready in
     repeat_performed limits commands c.args.command.now c.args.session.now old ready c.in-Ok-Repeat.receipt new
-    (rw c.in-Ok-Repeat.field-0-is at (c.in-Ok-Repeat.ensures.decided clean commands ready.rests.tables is_held rests)) (c.in-Ok-Repeat.ensures.reads.same clean ready.rests.tables rests tt)
+    (rw c.in-Ok-Repeat.field-0-is at (c.in-Ok-Repeat.ensures.decided clean commands ready.rests.tables is_held rests)) (c.in-Ok-Repeat.ensures.reads.spares.same clean ready.rests.tables rests tt)
 
 pub returns-in-Ok-clause-performed : goal.returns-in-Ok-clause-performed
 returns-in-Ok-clause-performed g c clean limits commands ready =
@@ -20,7 +20,7 @@ returns-in-Ok-clause-performed g c clean limits commands ready =
     let rests = ready.rests.rests in
     let is_held = held limits commands command c.args.session.now old ready in
     let judged = rw c.in-Ok-Accept.field-0-is at (c.in-Ok-Accept.ensures.decided before commands ready.rests.tables is_held rests) in
-    let still = c.in-Ok-Accept.ensures.reads.same before ready.rests.tables rests tt in
+    let still = c.in-Ok-Accept.ensures.reads.spares.same before ready.rests.tables rests tt in
     let may = may_write limits commands command c.args.session.now old ready c.in-Ok-Accept.receipt c.in-Ok-Accept.edits c.in-Ok-Accept.newer judged in
     rw c.govern.ensures (accept_performed limits commands command c.args.session.now old ready c.in-Ok-Accept.receipt c.in-Ok-Accept.edits c.in-Ok-Accept.newer judged new
     (c.in-Ok.ensures.written clean ready.rests.tables still may))
@@ -43,7 +43,7 @@ returns-in-Ok-Accept-clause-performed g c clean limits commands ready =
     let rests = ready.rests.rests in
     let is_held = held limits commands command c.args.session.now old ready in
     let judged = rw c.in-Ok-Accept.field-0-is at (c.in-Ok-Accept.ensures.decided before commands ready.rests.tables is_held rests) in
-    let still = c.in-Ok-Accept.ensures.reads.same before ready.rests.tables rests tt in
+    let still = c.in-Ok-Accept.ensures.reads.spares.same before ready.rests.tables rests tt in
     let may = may_write limits commands command c.args.session.now old ready c.in-Ok-Accept.receipt c.in-Ok-Accept.edits c.in-Ok-Accept.newer judged in
     stop_performed limits commands command c.args.session.now old ready c.in-Ok-Accept.receipt c.in-Ok-Accept.edits c.in-Ok-Accept.newer judged new
     (c.commit_edits.ensures.left clean ready.rests.tables still may)
@@ -55,4 +55,4 @@ returns-clause-performed g c clean limits commands ready =
     let rests = ready.rests.rests in
     let is_held = held limits commands c.args.command.now c.args.session.now old ready in
     fault_performed limits commands c.args.command.now c.args.session.now old ready c.in-Err.fault new
-    (c.in-Err.ensures.decided clean commands ready.rests.tables is_held rests) (c.in-Err.ensures.reads.same clean ready.rests.tables rests) (c.in-Err.ensures.reads.left clean ready.rests.tables rests)
+    (c.in-Err.ensures.decided clean commands ready.rests.tables is_held rests) (c.in-Err.ensures.reads.spares.same clean ready.rests.tables rests) (c.in-Err.ensures.reads.spares.left clean ready.rests.tables rests)

@@ -12,7 +12,7 @@ returns-in-Ok-init c clean =
     let last = c.deliver-replies.new.self in
     let commands = making_of first.session.policy c.args.policy.now ∷ [] in
     let delivered = subst (λ conn. HasCleanDisk (state over_memory conn)) c.close.ensures clean in
-    let ready = c.in-Ok-init.ensures.made (c.deliver-replies.ensures.clean delivered) c.in-Ok.ensures in
+    let ready = c.in-Ok-init.ensures.made (c.deliver-replies.ensures.keeps.clean delivered) c.in-Ok.ensures in
     record {
       policy = first.session.policy;
       read = c.in-Ok-init.ensures.written.0;

@@ -1,4 +1,4 @@
-use Rattle.wh_engine.proofs.Scanning.{still_served}
+use Rattle.wh_engine.proofs.Scanning.{still_served, still_blames, still_works}
 use Rattle.wh_engine.proofs.tally.tally_facts.Goals as goal
 
 pub returns-in_err-tally_facts-clause-reads : goal.returns-in_err-tally_facts-clause-reads
@@ -7,9 +7,13 @@ returns-in_err-tally_facts-clause-reads g c =
     let why = c.in_err-tally_facts.field-0.0 in
     let came = c.from_residual in
     record {
-      clean = read.clean;
-      same = λ clean t rests served. read.same clean t rests (still_served came.result why came.ensures served);
-      left = read.left;
-      rests = λ clean stored rests served. read.rests clean stored rests (still_served came.result why came.ensures served);
-      leaves = read.leaves;
+      spares = record {
+        clean = read.clean;
+        same = λ clean t rests served. read.same clean t rests (still_served came.result why came.ensures served);
+        left = read.left;
+        rests = λ clean stored rests served. read.rests clean stored rests (still_served came.result why came.ensures served);
+        leaves = read.leaves;
+      };
+      blames = λ clean stored rests. still_blames stored came.result why came.ensures (read.named clean stored rests);
+      work = still_works came.result why came.ensures;
     }

@@ -1,9 +1,9 @@
-use Rattle.std.proofs.Common.{refl, rules, []}
+use Rattle.std.proofs.Common.{refl, rules, [], ◌∙◌}
 use Rattle.wh_rows.specs.Keys.{bind_number}
 use Rattle.wh_rows.specs.declared.table.Table.TheVariants as table
 use Rattle.std.specs.Prelude.{Ok}
 use Rattle.wh_rows.specs.Rows as row
-use Rattle.wh_report.proofs.EngineReading.{unread, and_then, answered, handed_out}
+use Rattle.wh_report.proofs.EngineReading.{through, unread, and_then, answered, handed_out}
 use Rattle.wh_report.proofs.Arranged.{seen_none, none_ahead, made_more, made_all}
 use Rattle.wh_report.proofs.HandedRows.{none_seen, one_seen, all_seen, no_labels}
 use Rattle.wh_report.proofs.Outputs.{row_handed, none_handed}
@@ -22,8 +22,8 @@ profiles-preserved g c =
     let kept = c.profiles.invariant in
     let read = c.in_ok-row.ensures in
     record {
-      reads = handed_out _ _ _ _ _ _ _ c.in_ok-row.field-0 kept.reads read.reads;
-      writes = search rules;
+      reads = handed_out _ _ _ _ _ _ _ c.in_ok-row.field-0 kept.reads (through g.S.Store _ _ _ read.reads read.serves);
+      writes = read.reads.writes ∙ kept.writes;
       labels = λ clean t at.
           let before = read.reads.spares.clean clean in
           one_seen _ _ c.in-Some.row _ _ _ (row_handed _ _ _ c.in-Some.row c.in-Some.is (read.rows clean t refl (kept.reads.spares.same before t at tt))) (kept.labels before t at) (λ done made. c.in_ok-add_profile-in-Some.ensures done made);
@@ -34,7 +34,7 @@ profiles-preserved g c =
     }
 
 pub returns-in-None-clause-reads : goal.returns-in-None-clause-reads
-returns-in-None-clause-reads g c = answered _ _ _ _ _ _ (and_then _ _ _ _ _ _ tt (Ok c.in_ok-row.field-0) c.profiles.invariant.reads c.in_ok-row.ensures.reads)
+returns-in-None-clause-reads g c = answered _ _ _ _ _ _ (and_then _ _ _ _ _ _ tt (Ok c.in_ok-row.field-0) c.profiles.invariant.reads (through g.S.Store _ _ _ c.in_ok-row.ensures.reads c.in_ok-row.ensures.serves))
 
 pub returns-in-None-clause-labels : goal.returns-in-None-clause-labels
 returns-in-None-clause-labels g c clean t at =

@@ -6,7 +6,7 @@ use Rattle.wh_engine.specs.declared.fault.Fault.TheVariants as faults
 use Rattle.wh_report.specs.Dump.{header_line, row_line}
 use Rattle.wh_report.specs.Output.{IsOutWhole, IsOutBefore}
 use Rattle.wh_report.proofs.Arranged.{seen_none, seen_one, seen_all, seen_some, row_hands, none_hands, left_there, valid_hands, none_ahead}
-use Rattle.wh_report.proofs.EngineReading.{unread, and_then, faulted, handed_out, ended, out_of_memory, never_reopen}
+use Rattle.wh_report.proofs.EngineReading.{through, unread, and_then, faulted, handed_out, ended, out_of_memory, never_reopen}
 use Rattle.wh_report.proofs.Outputs.{row_handed, none_handed}
 use Rattle.wh_report.proofs.Parts.{begun, row_added, row_not_added, last_out, stopped, one_more, told_fault, told_dump, names_none, named_none, named_before, read_to_end, lines_for}
 use Rattle.wh_report.proofs.dumps.write_rows.Goals as goal
@@ -33,9 +33,9 @@ rows-preserved g c =
     let read = c.in-Ok-Some.ensures in
     let row = c.in-Ok-Some.row in
     record {
-      reads = handed_out _ _ _ _ _ _ _ c.in-Ok-Some.field-0 kept.reads read.reads;
+      reads = handed_out _ _ _ _ _ _ _ c.in-Ok-Some.field-0 kept.reads (through g.S.Store _ _ _ read.reads read.serves);
       same_format = read.same_format ∙ kept.same_format;
-      writes = search rules;
+      writes = read.reads.writes ∙ kept.writes;
       gone = λ gathered.
           let it = kept.gone gathered in
           record {
@@ -58,7 +58,7 @@ pub returns-in_err-write_row-in-Ok-Some-clause-reads : goal.returns-in_err-write
 returns-in_err-write_row-in-Ok-Some-clause-reads g c =
     let read = c.in-Ok-Some.ensures in
     let p = err_from_is_err_and c.from_residual.result c.from_residual.ensures.1 in
-    rw (p.1, p.2) (ended {B = Unit {0}} _ _ _ _ tt (Err c.in_err-write_row-in-Ok-Some.field-0.0) c.in_err-write_row-in-Ok-Some.ensures.kinds (handed_out _ _ _ _ _ _ _ c.in-Ok-Some.field-0 c.rows.invariant.reads read.reads))
+    rw (p.1, p.2) (ended {B = Unit {0}} _ _ _ _ tt (Err c.in_err-write_row-in-Ok-Some.field-0.0) c.in_err-write_row-in-Ok-Some.ensures.kinds (handed_out _ _ _ _ _ _ _ c.in-Ok-Some.field-0 c.rows.invariant.reads (through g.S.Store _ _ _ read.reads read.serves)))
 
 pub returns-in_err-write_row-in-Ok-Some-clause-out : goal.returns-in_err-write_row-in-Ok-Some-clause-out
 returns-in_err-write_row-in-Ok-Some-clause-out g c gathered unflagged clean t same at =
@@ -99,7 +99,7 @@ returns-in_err-write_row-in-Ok-Some-clause-stored g c gathered unflagged clean s
 
 pub returns-in-Ok-None-clause-reads : goal.returns-in-Ok-None-clause-reads
 returns-in-Ok-None-clause-reads g c =
-    ended {B = Unit {0}} _ _ _ _ tt c.go_out.result c.go_out.ensures.kinds (handed_out _ _ _ _ _ _ _ c.in-Ok-None.field-0 c.rows.invariant.reads c.in-Ok-None.ensures.reads)
+    ended {B = Unit {0}} _ _ _ _ tt c.go_out.result c.go_out.ensures.kinds (handed_out _ _ _ _ _ _ _ c.in-Ok-None.field-0 c.rows.invariant.reads (through g.S.Store _ _ _ c.in-Ok-None.ensures.reads c.in-Ok-None.ensures.serves))
 
 pub returns-in-Ok-None-clause-out : goal.returns-in-Ok-None-clause-out
 returns-in-Ok-None-clause-out g c gathered unflagged clean t same at =
@@ -133,7 +133,7 @@ returns-in-Ok-None-clause-stored g c gathered unflagged clean stored same on =
 
 pub returns-in-Err-clause-reads : goal.returns-in-Err-clause-reads
 returns-in-Err-clause-reads g c =
-    rw (told_fault _ _ _ _ _ c.go_out_before.ensures) (faulted _ _ _ _ _ (and_then _ _ _ _ _ _ tt (Err c.in-Err.fault) c.rows.invariant.reads c.in-Err.ensures.reads))
+    rw (told_fault _ _ _ _ _ c.go_out_before.ensures) (faulted _ _ _ _ _ (and_then _ _ _ _ _ _ tt (Err c.in-Err.fault) c.rows.invariant.reads (through g.S.Store _ _ _ c.in-Err.ensures.reads c.in-Err.ensures.serves)))
 
 pub returns-in-Err-clause-out : goal.returns-in-Err-clause-out
 returns-in-Err-clause-out g c gathered unflagged clean t same at =
@@ -142,7 +142,7 @@ returns-in-Err-clause-out g c gathered unflagged clean t same at =
     let read = c.in-Err.ensures in
     let it = kept.gone gathered in
     lines_for (header_line layout) (row_line layout) (Err c.go_out_before.result) (g.W.Write.contents c.args.out.now) (g.W.Write.contents c.go_out_before.new.out) _ _ (it.typed (read.reads.spares.clean clean) t same at)
-    (stopped (header_line layout) (row_line layout) _ _ _ _ it.done _ c.in-Err.fault c.go_out_before.result it.going (never_reopen _ _ c.in-Err.fault unflagged kept.reads.noted (λ is. read.only (ap Err is)))
+    (stopped (header_line layout) (row_line layout) _ _ _ _ it.done _ c.in-Err.fault c.go_out_before.result it.going (never_reopen _ _ c.in-Err.fault unflagged kept.reads.noted (λ is. read.reads.shuts.only (ap Err is)))
     (subst (IsOutBefore c.in-Err.fault c.go_out_before.result _ _) it.going.gathered.lines c.go_out_before.ensures))
 
 pub returns-in-Err-clause-stored : goal.returns-in-Err-clause-stored
@@ -158,7 +158,7 @@ returns-in-Err-clause-stored g c gathered unflagged clean stored same on =
       rows = it.done;
       read = seen_some layout rows _ it.done seen.0 (left_there layout g.T.KeyedTable.bind rows _ _ _);
       out = lines_for (header_line layout) (row_line layout) (Err c.go_out_before.result) (g.W.Write.contents c.args.out.now) (g.W.Write.contents c.go_out_before.new.out) _ _ (append-nil it.done)
-          (stopped (header_line layout) (row_line layout) _ _ _ _ it.done [] c.in-Err.fault c.go_out_before.result it.going (never_reopen _ _ c.in-Err.fault unflagged kept.reads.noted (λ is. read.only (ap Err is)))
+          (stopped (header_line layout) (row_line layout) _ _ _ _ it.done [] c.in-Err.fault c.go_out_before.result it.going (never_reopen _ _ c.in-Err.fault unflagged kept.reads.noted (λ is. read.reads.shuts.only (ap Err is)))
           (subst (IsOutBefore c.in-Err.fault c.go_out_before.result _ _) it.going.gathered.lines c.go_out_before.ensures));
       named = named_before g.T.KeyedTable.name c.in-Err.fault c.go_out_before.result _ _ _ c.go_out_before.ensures (read.named clean stored (kept.reads.spares.rests before stored on tt));
     }

@@ -1,9 +1,22 @@
-use Rattle.std.proofs.Common.{ap}
+use Rattle.std.proofs.Common.{ap, Ok, Err}
+use Rattle.std.proofs.lemmas.Result.{err_from_is_err_and}
 use Rattle.wh_store.specs.Reads.{state_of}
 use Rattle.wh_report.specs.Labels.{text_of}
+use Rattle.wh_report.proofs.EngineReading.{through, read_not_counted}
 use Rattle.wh_report.proofs.StoredReports.{of_request, summed_stored, cut_stored}
 use Rattle.wh_report.proofs.SummedFacts.{summed_by_labels, cut_by_labels}
 use Rattle.wh_report.proofs.fact_sums.summary_of.Goals as goal
+
+pub returns-in_err-tally_facts-clause-reads : goal.returns-in_err-tally_facts-clause-reads
+returns-in_err-tally_facts-clause-reads g c =
+    let p = err_from_is_err_and c.from_residual.result c.from_residual.ensures.1 in
+    rw (p.1, p.2) (through g.S.Store _ _ (Err c.in_err-tally_facts.field-0.0) c.in_err-tally_facts.ensures.reads c.in_err-tally_facts.ensures.serves)
+
+pub returns-in-Ok-clause-reads : goal.returns-in-Ok-clause-reads
+returns-in-Ok-clause-reads g c = through g.S.Store _ _ (Ok tt) c.in_ok-tally_facts.ensures.reads c.in_ok-tally_facts.ensures.serves
+
+pub returns-clause-reads : goal.returns-clause-reads
+returns-clause-reads g c = rw c.uncounted.ensures (read_not_counted _ _ _ _ _ c.args.column c.in-Err.fault (through g.S.Store _ _ (Ok tt) c.in_ok-tally_facts.ensures.reads c.in_ok-tally_facts.ensures.serves))
 
 pub returns-in-Ok-clause-sums : goal.returns-in-Ok-clause-sums
 returns-in-Ok-clause-sums g c clean t at =

@@ -5,6 +5,7 @@ use Rattle.sqlite.specs.Held.{state}
 use Rattle.wh_admission.specs.Admission.{accepted_after_all}
 use Rattle.wh_engine.specs.Answered.{IsReady, IsAnswered, IsGoverned, KeepsNothing, IsNotAccepted, IsWritten}
 use Rattle.wh_engine.specs.Delivered.{answers_to, answer_or_stop, as_called, AcceptNothing, AreGoverned, IsLastWritten}
+use Rattle.wh_engine.proofs.Keeping.{keeps_on, keeps_where}
 use Rattle.wh_engine.proofs.Delivering.{deliveries_join, answers_join, goes_on, not_stopped, keeps, keeps_at_stop, stop_is, stopped_at, nothing_before, called, last_written, policy_stays, governed_on, governed_among, flag_at_stop, many_at_stop}
 use Rattle.wh_engine.specs.Faults.{stops}
 use Rattle.wh_engine.proofs.engine.Engine.deliver.Goals as goal
@@ -17,7 +18,7 @@ returns-in-Err-clause-delivered g c clean limits accepted ready =
     let command = c.command-item.result in
     let session = c.apply-answered.new.self.session in
     let s = state g.S.Store c.apply-answered.new.self.tables.conn in
-    let was = c.loop-command.invariant.so_far (c.apply-answered.ensures.clean clean) limits accepted ready in
+    let was = c.loop-command.invariant.so_far (c.apply-answered.ensures.keeps.clean clean) limits accepted ready in
     let count : length answers ≡ i = sym c.loop-command.answers.ok.0 ∙ c.loop-command.invariant.count in
     let more : take (suc i) sent ≡ take i sent ++ command ∷ [] =
     let on : suc i ≡ i + 1 = omega arith in
@@ -28,15 +29,12 @@ returns-in-Err-clause-delivered g c clean limits accepted ready =
     (was.0 ∙ ap (λ n. answers_to limits accepted (take n sent)) (sym count)) within (subst (λ n. take (suc n) sent ≡ take n sent ++ command ∷ []) (sym count) more)
     (subst (λ n. IsAnswered limits (accepted_after_all limits accepted (take n sent)) command c.apply-answered.result session s) (sym count) told) (sym c.in-Err.ensures)
 
-pub returns-in-Err-clause-untouched : goal.returns-in-Err-clause-untouched
-returns-in-Err-clause-untouched g c clean t rests nothing off =
-    c.apply-answered.ensures.untouched clean t (c.loop-command.invariant.untouched (c.apply-answered.ensures.clean clean) t rests nothing)
-    (keeps_at_stop c.apply-answered.result c.in-Err.fault (sym c.in-Err.ensures) off)
+pub returns-in-Err-clause-keeps : goal.returns-in-Err-clause-keeps
+returns-in-Err-clause-keeps g c =
+    keeps_on g.S.Store _ _ _ _ _ _ (λ calm. calm.0) (λ calm. keeps_at_stop c.apply-answered.result c.in-Err.fault (sym c.in-Err.ensures) calm.1) c.loop-command.invariant.keeps c.apply-answered.ensures.keeps
 
-pub returns-in-Err-clause-untouched_stored : goal.returns-in-Err-clause-untouched_stored
-returns-in-Err-clause-untouched_stored g c clean stored rests nothing off =
-    c.apply-answered.ensures.untouched_stored clean stored (c.loop-command.invariant.untouched_stored (c.apply-answered.ensures.clean clean) stored rests nothing)
-    (keeps_at_stop c.apply-answered.result c.in-Err.fault (sym c.in-Err.ensures) off)
+pub returns-clause-keeps : goal.returns-clause-keeps
+returns-clause-keeps g c = keeps_where g.S.Store _ _ _ _ (λ calm. calm.0) c.loop-command.invariant.keeps
 
 pub returns-in-Err-clause-written : goal.returns-in-Err-clause-written
 returns-in-Err-clause-written g c clean limits accepted ready =
@@ -54,7 +52,7 @@ returns-in-Err-clause-many g c =
     let within : length answers < length c.args.commands.now = let less = c.loop-command-test.true in omega (arith, count, less) in
     let stop = stop_is c.apply-answered.result c.in-Err.fault (sym c.in-Err.ensures) in
     many_at_stop c.args.commands.now answers c.in-Err.fault
-    (λ reopen. let must = c.apply-answered.ensures.only (stop ∙ ap Err reopen) in let off = kept.goes_on in cc) within
+    (λ reopen. let must = c.apply-answered.ensures.shuts.only (stop ∙ ap Err reopen) in let off = kept.goes_on in cc) within
 
 pub returns-in-Err-clause-noted : goal.returns-in-Err-clause-noted
 returns-in-Err-clause-noted g c off =
@@ -98,7 +96,7 @@ loop-command-preserved g c =
       goes_on = noted.flag ∙ not_stopped answered answer e;
       count = c.push_reserved.ensures.len ∙ ap (λ n. n + 1) kept.count;
       room = c.push_reserved.ensures.capacity ∙ kept.room;
-      clean = λ clean. kept.clean (c.apply-answered.ensures.clean clean);
+      keeps = keeps_on g.S.Store _ _ _ _ _ _ (λ nothing. (split nothing).0) (λ nothing. (split nothing).1) kept.keeps c.apply-answered.ensures.keeps;
       limits = noted.limits ∙ kept.limits;
       policy = λ nothing. let parts = split nothing in policy_stays c.loop-command.self.session.policy session.policy command answered noted.policy parts.2 ∙ kept.policy parts.0;
       governed =
@@ -107,7 +105,7 @@ loop-command-preserved g c =
           subst₂ (AreGoverned c.args.self.now.session.policy session.policy) (sym c.push_reserved.ensures.items) (sym more)
           (governed_on c.args.self.now.session.policy c.loop-command.self.session.policy session.policy answers answer (take i sent) command kept.governed counted one);
       so_far = λ clean limits accepted ready.
-          let was = kept.so_far (c.apply-answered.ensures.clean clean) limits accepted ready in
+          let was = kept.so_far (c.apply-answered.ensures.keeps.clean clean) limits accepted ready in
           let before = accepted_after_all limits accepted (take i sent) in
           let on = goes_on limits before command answered answer session s (c.apply-answered.ensures.answered clean limits before was.1) e in (
             c.push_reserved.ensures.items ∙ ap₂ (λ xs x. xs ++ x ∷ []) was.0 on.0 ∙ sym (answers_join limits accepted (take i sent) (command ∷ [])) ∙ ap (answers_to limits accepted) (sym more),
@@ -115,18 +113,12 @@ loop-command-preserved g c =
           );
       silent = λ nothing. c.apply-answered.ensures.silent (split nothing).2;
       written = λ clean limits accepted ready.
-          let was = kept.so_far (c.apply-answered.ensures.clean clean) limits accepted ready in
+          let was = kept.so_far (c.apply-answered.ensures.keeps.clean clean) limits accepted ready in
           let before = accepted_after_all limits accepted (take i sent) in
           let on = goes_on limits before command answered answer session s (c.apply-answered.ensures.answered clean limits before was.1) e in
           let writes = c.apply-answered.new.self.writes in
           let wrote = subst (λ r. IsWritten limits before command r writes) (called answered answer e ∙ ap as_called on.0) (c.apply-answered.ensures.written clean limits before was.1) in
           subst (λ list. IsLastWritten limits accepted list writes) (sym more) (last_written limits accepted (take i sent) command writes wrote);
-      untouched = λ clean t rests nothing.
-          let parts = split nothing in
-          c.apply-answered.ensures.untouched clean t (kept.untouched (c.apply-answered.ensures.clean clean) t rests parts.0) parts.1;
-      untouched_stored = λ clean stored rests nothing.
-          let parts = split nothing in
-          c.apply-answered.ensures.untouched_stored clean stored (kept.untouched_stored (c.apply-answered.ensures.clean clean) stored rests parts.0) parts.1;
     }
 
 pub returns-clause-delivered : goal.returns-clause-delivered

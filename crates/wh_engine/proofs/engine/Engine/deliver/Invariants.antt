@@ -1,15 +1,13 @@
-use Rattle.std.proofs.Common.{◌≡◌, false, take, length, List, Some}
+use Rattle.std.proofs.Common.{◌≡◌, false, take, length, List}
 use Rattle.std.specs.Prelude.{vec_len, vec_capacity}
 use Rattle.sqlite.specs.Held.{state}
 use Rattle.sqlite.specs.State.{HasCleanDisk}
 use Rattle.wh_history.specs.Accepted.{Accepted}
 use Rattle.wh_history.specs.Tables.{Limits}
-use Rattle.wh_rows.specs.AtRest.{IsAtRest}
-use Rattle.wh_rows.specs.Raw.{Stored, RestsOn}
-use Rattle.wh_rows.specs.Tables.{Tables}
 use Rattle.wh_admission.specs.Admission.{accepted_after_all}
 use Rattle.wh_engine.specs.Answered.{IsReady}
 use Rattle.wh_engine.specs.Delivered.{answers_to, AcceptNothing, AreGoverned, IsLastWritten}
+use Rattle.wh_engine.specs.Scanned.{Keeps}
 use Rattle.wh_engine.proofs.engine.Engine.deliver.Given as goal
 
 abbrev pub invariant-loop-command : goal.invariant-loop-command
@@ -20,7 +18,7 @@ invariant-loop-command g l =
       goes_on : l.self.session.must_reopen ≡ false;
       count : vec_len l.answers ≡ l.command-index;
       room : vec_capacity l.answers ≡ length l.commands;
-      clean : HasCleanDisk now → HasCleanDisk old;
+      keeps : Keeps g.S.Store l.fn.self.tables l.self.tables (AcceptNothing l.answers.items);
       limits : l.self.session.limits ≡ l.fn.self.session.limits;
       policy : AcceptNothing l.answers.items → l.self.session.policy ≡ l.fn.self.session.policy;
       governed : AreGoverned l.fn.self.session.policy l.self.session.policy l.answers.items (take l.command-index l.commands);
@@ -28,6 +26,4 @@ invariant-loop-command g l =
           → (l.answers.items ≡ answers_to limits accepted (take l.command-index l.commands)) × IsReady limits (accepted_after_all limits accepted (take l.command-index l.commands)) l.self.session now;
       silent : AcceptNothing l.answers.items → l.self.writes ≡ 0;
       written : HasCleanDisk now → (limits : Limits) (accepted : List Accepted) → IsReady limits accepted l.fn.self.session old → IsLastWritten limits accepted (take l.command-index l.commands) l.self.writes;
-      untouched : HasCleanDisk now → (t : Tables) → IsAtRest (Some t) old → AcceptNothing l.answers.items → IsAtRest (Some t) now;
-      untouched_stored : HasCleanDisk now → (stored : Stored) → RestsOn stored old → AcceptNothing l.answers.items → RestsOn stored now;
     }

@@ -1,19 +1,14 @@
-use Rattle.std.proofs.Common.{rules}
-use Rattle.sqlite.specs.Held.{state}
-use Rattle.wh_engine.proofs.Scanning.{serving, not_reopen}
+use Rattle.wh_engine.proofs.Scanning.{read, shut, still_serves}
 use Rattle.wh_engine.proofs.engine.Engine.tally_facts.Goals as goal
 
+pub returns-then-self-clause-reads : goal.returns-then-self-clause-reads
+returns-then-self-clause-reads g c = shut g.S.Store c.args.self.now c.if-self.true
+
 pub returns-clause-reads : goal.returns-clause-reads
-returns-clause-reads g c = record {
-  spares = c.tally_facts-counted.ensures.reads;
-  serves = λ clean limits commands ready.
-      let old = state g.S.Store c.args.self.now.tables.conn in
-      let new = state g.S.Store c.tally_facts-counted.new.tables.conn in
-      let t = ready.rests.tables in
-      let rests = ready.rests.rests in
-      rw (c.note.ensures, c.stops.ensures) (serving limits commands c.args.self.now.session old new ready c.tally_facts-counted.result
-      (c.tally_facts-counted.ensures.sound clean t rests) (c.tally_facts-counted.ensures.reads.same clean t rests) (c.tally_facts-counted.ensures.reads.left clean t rests));
-  blames = c.tally_facts-counted.ensures.blames;
-  noted = search rules;
-  only = not_reopen _ _ c.tally_facts-counted.ensures.work;
-}
+returns-clause-reads g c =
+    rw c.stops-self.ensures (read g.S.Store c.args.self.now c.tally_facts-counted.new.tables c.tally_facts-counted.result c.if-self.false c.tally_facts-counted.ensures.reads)
+
+pub returns-clause-serves : goal.returns-clause-serves
+returns-clause-serves g c =
+    let reads = read g.S.Store c.args.self.now c.tally_facts-counted.new.tables c.tally_facts-counted.result c.if-self.false c.tally_facts-counted.ensures.reads in
+    rw c.stops-self.ensures (still_serves g.S.Store c.args.self.now _ c.tally_facts-counted.result reads c.tally_facts-counted.ensures.sound)

@@ -19,13 +19,13 @@ returns-in-Ok g c = rw c.close.ensures (λ clean content at.
     left_with has (IsDelivered commands) content c.delivery_answer-answer.result (λ after. Stands after (state g.T.Store c.deliver-replies.new.self.tables.conn)) (
     opened (λ limits kept told after. has → IsDelivered commands limits kept told after) content c.delivery_answer-answer.result c.in-Ok.engine.tables.format c.in-Ok.engine.session
     (state g.T.Store c.args.connection) (state g.T.Store c.in-Ok.engine.tables.conn) (state g.T.Store c.deliver-replies.new.self.tables.conn)
-    (c.in-Ok.ensures.ready (c.deliver-replies.ensures.clean clean))
+    (c.in-Ok.ensures.ready (c.deliver-replies.ensures.keeps.clean clean))
     (λ limits kept ready. delivered has commands limits kept c.delivery_answer-answer.result replies.answers.items replies.stop
     c.deliver-replies.new.self.session (state g.T.Store c.deliver-replies.new.self.tables.conn)
     (λ enough. printed_in (longest_delivery commands) c.args.self.room c.delivery_answer-answer.result (delivery_answer commands replies.answers.items replies.stop) enough tells)
     (done clean limits kept ready))
     (λ rests. let e = c.in-Ok.ensures.missing rests.autocommit (rw rests.now.schema none_there) in cc)
-    (c.in-Ok.ensures.found_stored (c.deliver-replies.ensures.clean clean)) at
+    (c.in-Ok.ensures.found_stored (c.deliver-replies.ensures.keeps.clean clean)) at
     ))
 
 pub returns-in-Err : goal.returns-in-Err

@@ -9,13 +9,13 @@ returns-in-Ok g c = rw c.close.ensures (λ clean content at.
     let check = c.check-verdict.ensures in
     checked content c.verdict_answer.result c.in-Ok.engine.tables.format c.check-verdict.result c.in-Ok.engine.session c.check-verdict.new.self.session
     (state g.T.Store c.args.connection) (state g.T.Store c.in-Ok.engine.tables.conn) (state g.T.Store c.check-verdict.new.self.tables.conn)
-    (c.in-Ok.ensures.ready (check.clean clean))
+    (c.in-Ok.ensures.ready (check.reads.spares.clean clean))
     (check.sound clean)
     (λ rests. let e = c.in-Ok.ensures.missing rests.autocommit (rw rests.now.schema none_there) in cc)
-    (c.in-Ok.ensures.found_stored (check.clean clean))
+    (c.in-Ok.ensures.found_stored (check.reads.spares.clean clean))
     (check.checked c.in-Ok.ensures.fresh.0 clean)
-    (check.untouched_stored clean)
-    (check.leaves clean)
+    (check.reads.spares.rests clean)
+    (check.reads.spares.leaves clean)
     c.verdict_answer.ensures at)
 
 pub returns-in-Err : goal.returns-in-Err

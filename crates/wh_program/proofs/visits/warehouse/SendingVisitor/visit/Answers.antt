@@ -17,11 +17,11 @@ returns-in-Ok g c = rw c.close.ensures (λ clean content at.
     left_with has (IsReplied c.args.self.command) content c.sent_answer-answer.result (λ after. Stands after (state g.T.Store c.apply-reply.new.self.tables.conn)) (
     opened (λ limits commands told after. has → IsReplied c.args.self.command limits commands told after) content c.sent_answer-answer.result c.in-Ok.engine.tables.format c.in-Ok.engine.session
     (state g.T.Store c.args.connection) (state g.T.Store c.in-Ok.engine.tables.conn) (state g.T.Store c.apply-reply.new.self.tables.conn)
-    (c.in-Ok.ensures.ready (c.apply-reply.ensures.clean clean))
+    (c.in-Ok.ensures.ready (c.apply-reply.ensures.keeps.clean clean))
     (λ limits commands ready. replied has c.args.self.command limits commands c.sent_answer-answer.result c.apply-reply.result c.apply-reply.new.self.session (state g.T.Store c.apply-reply.new.self.tables.conn)
     (λ enough. printed_in (longest_answer id) c.args.self.room c.sent_answer-answer.result (sent_answer id c.apply-reply.result) enough tells) (c.apply-reply.ensures.answered clean limits commands ready))
     (λ rests. let e = c.in-Ok.ensures.missing rests.autocommit (rw rests.now.schema none_there) in cc)
-    (c.in-Ok.ensures.found_stored (c.apply-reply.ensures.clean clean)) at
+    (c.in-Ok.ensures.found_stored (c.apply-reply.ensures.keeps.clean clean)) at
     ))
 
 pub returns-in-Err : goal.returns-in-Err
