@@ -2,6 +2,7 @@ use Rattle.std.proofs.Common.{ap, Ok, Err}
 use Rattle.std.proofs.lemmas.Result.{err_from_is_err_and}
 use Rattle.wh_store.specs.Reads.{state_of}
 use Rattle.wh_report.specs.Labels.{text_of}
+use Rattle.wh_report.specs.Summary.{Summed}
 use Rattle.wh_report.proofs.EngineReading.{through, read_not_counted}
 use Rattle.wh_report.proofs.StoredReports.{of_request, summed_stored, cut_stored}
 use Rattle.wh_report.proofs.SummedFacts.{summed_by_labels, cut_by_labels}
@@ -16,7 +17,7 @@ pub returns-in-Ok-clause-reads : goal.returns-in-Ok-clause-reads
 returns-in-Ok-clause-reads g c = through g.S.Store _ _ (Ok tt) c.in_ok-tally_facts.ensures.reads c.in_ok-tally_facts.ensures.serves
 
 pub returns-clause-reads : goal.returns-clause-reads
-returns-clause-reads g c = rw c.uncounted.ensures (read_not_counted _ _ _ _ _ c.args.column c.in-Err.fault (through g.S.Store _ _ (Ok tt) c.in_ok-tally_facts.ensures.reads c.in_ok-tally_facts.ensures.serves))
+returns-clause-reads g c = rw c.uncounted.ensures (read_not_counted Summed _ _ _ _ c.args.column c.in-Err.fault (through g.S.Store _ _ (Ok tt) c.in_ok-tally_facts.ensures.reads c.in_ok-tally_facts.ensures.serves))
 
 pub returns-in-Ok-clause-sums : goal.returns-in-Ok-clause-sums
 returns-in-Ok-clause-sums g c clean t at =
