@@ -7,9 +7,9 @@ use Rattle.std.specs.Ordering.{nat_cmp}
 use Rattle.std.proofs.lemmas.Bool.{and_parts, leb-true, le-leb, cases_Bool}
 use Rattle.std.proofs.lemmas.Cmp.{nat_cmp_total}
 use Rattle.wh_day.specs.Calendar.{calendar_row}
-use Rattle.wh_day.specs.Day.{is_day, day_of_number, year_of, day_of_month}
+use Rattle.wh_day.specs.Day.{is_day, day_of_number, year_of}
 use Rattle.wh_day.specs.declared.calendar.DateRow.{DateRow}
-use Rattle.wh_day.proofs.Days.{Parts, parts, number_is}
+use Rattle.wh_day.proofs.Days.{parts, number_is}
 use Rattle.wh_policy.specs.declared.policy.Policy.{Policy}
 use Rattle.wh_history.proofs.Basics.{some_is}
 use Rattle.wh_rows.specs.Rows as row

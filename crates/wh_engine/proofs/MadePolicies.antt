@@ -1,12 +1,8 @@
 -- A policy that is read is one that a warehouse can be made under.
-use Rattle.std.proofs.Common.{◌≡◌, ◌≢◌, ℕ, true, leb, ◌&&◌, not, List, [], ◌∷◌, length, Some, None, refl}
-use Rattle.std.specs.Prelude.{◌==◌}
-use Rattle.std.specs.List.{AllByRecursion, AllZip, list_all}
+use Rattle.std.proofs.Common.{◌≡◌, true, List, [], ◌∷◌, Some, None}
+use Rattle.std.specs.List.{AllByRecursion, AllZip}
 use Rattle.std.specs.Str.{is_utf8}
-use Rattle.std.proofs.lemmas.Bool.{and_parts}
 use Rattle.std.proofs.lemmas.List.{length-map}
-use Rattle.std.proofs.lemmas.Option.{cond_some}
-use Rattle.wh_day.specs.Value.{is_printed, is_plain, read_value}
 use Rattle.wh_day.specs.declared.holiday.Holiday.{Holiday}
 use Rattle.wh_policy.specs.declared.policy.Years.{Years}
 use Rattle.wh_policy.proofs.FileLaws.{ok_is, policies_are_sound}

@@ -1,20 +1,18 @@
 -- The rows of a making are valid.
-use Rattle.std.proofs.Common.{◌≡◌, inl, inr, ℕ, zero, suc, ◌+◌, ◌-◌, ◌<◌, ◌≤◌, Bool, true, false, leb, ltb, ◌&&◌, cond, List, [], ◌∷◌, length, replicate, Option, Some, None, refl, sym, ◌∙◌, ap, subst, arith, length-append, get_or, Ordering}
-use Rattle.std.specs.Prelude.{IsTrue, codes, filter_map, find, unwrap_or, option_map}
+use Rattle.std.proofs.Common.{◌≡◌, inl, inr, ℕ, zero, suc, ◌+◌, ◌-◌, ◌≤◌, Bool, true, false, leb, ◌&&◌, cond, List, [], ◌∷◌, length, replicate, Option, Some, None, refl, sym, ◌∙◌, ap, subst, arith, length-append, Ordering}
+use Rattle.std.specs.Prelude.{IsTrue, filter_map, find, unwrap_or, option_map}
 use Rattle.std.specs.FinMap.{empty, entries, len-entries, len-empty}
 use Rattle.std.specs.List.{AllByRecursion, list_all, cons_option}
-use Rattle.std.specs.Str.{is_utf8, IsAscii}
-use Rattle.std.proofs.lemmas.Bool.{and_parts, ltb-true, cases_Bool}
+use Rattle.std.specs.Str.{is_utf8}
+use Rattle.std.proofs.lemmas.Bool.{and_parts, cases_Bool}
 use Rattle.std.proofs.lemmas.List.{length-replicate}
 use Rattle.std.proofs.lemmas.List.Folds.{list_all-append}
-use Rattle.std.proofs.lemmas.Str.{is_utf8-from_IsUtf8, IsUtf8-from_ascii}
-use Rattle.wh_day.specs.Calendar.{calendar_row, weekday_of, weekday_names, name_of_weekday}
-use Rattle.wh_day.specs.Day.{is_day, day_text, year_of, first_day, last_day}
+use Rattle.wh_day.specs.Calendar.{calendar_row, weekday_of}
+use Rattle.wh_day.specs.Day.{is_day, year_of, first_day, last_day}
 use Rattle.wh_day.specs.Holidays.{is_on, holiday_text}
 use Rattle.wh_day.specs.Value.{none_text, unknown_text, no_card_text}
 use Rattle.wh_day.specs.declared.calendar.DateRow.{DateRow}
 use Rattle.wh_day.specs.declared.holiday.Holiday.{Holiday}
-use Rattle.wh_day.proofs.Days.{parts}
 use Rattle.wh_policy.specs.Policy.{types_of}
 use Rattle.wh_policy.specs.Types.{is_profile}
 use Rattle.wh_policy.specs.declared.attribute.AttributeType.{AttributeType}
@@ -28,7 +26,7 @@ use Rattle.wh_rows.specs.Rows as row
 use Rattle.wh_rows.specs.Types.{is_special, is_slot, are_slots}
 use Rattle.wh_model.specs.Defined.{day_at}
 use Rattle.wh_plan.specs.FirstRows.{IsGoodPolicy, making_row, first_profiles, calendar_rows, MayBeFirst}
-use Rattle.wh_model.proofs.ValidCalendar.{weekday_utf8, ascii_utf8, AreAscii, none_utf8, one_of, ascii, day_utf8, ascii_text}
+use Rattle.wh_model.proofs.ValidCalendar.{weekday_utf8, none_utf8, day_utf8}
 
 -- ---- any rows
 

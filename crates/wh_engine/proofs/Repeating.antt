@@ -1,13 +1,12 @@
 -- A command that came again was kept before, whatever is stored.
-use Rattle.std.proofs.Common.{◌≡◌, Option, Some, Result, Ok, Err, [], refl, sym, ap, ◌∙◌}
-use Rattle.std.specs.Prelude.{ℕ, IfOk, filter}
+use Rattle.std.proofs.Common.{◌≡◌, Some, Result, Ok, Err, [], refl, ap, ◌∙◌}
+use Rattle.std.specs.Prelude.{IfOk, filter}
 use Rattle.wh_rows.specs.Questions.{has_id}
 use Rattle.wh_rows.specs.Raw.{Stored, IsLastOf}
 use Rattle.wh_rows.specs.Rows as layout
 use Rattle.wh_rows.specs.declared.rows.CommandRow.{CommandRow}
 use Rattle.wh_rows.specs.declared.table.Table.TheVariants as table
 use Rattle.wh_admission.specs.Admission.{already}
-use Rattle.wh_admission.specs.Repeated.{IsKept}
 use Rattle.wh_admission.specs.declared.command.Command.{Command}
 use Rattle.wh_admission.specs.declared.command.Receipt.{Receipt}
 use Rattle.wh_admission.specs.declared.command.Refused.{Refused}

@@ -1,5 +1,5 @@
 -- The rows of the command table, handed to a warehouse in memory one after the other.
-use Rattle.std.proofs.Common.{inl, inr, ◌≡◌, ◌≢◌, ℕ, ◌≤◌, Bool, true, false, List, [], ◌∷◌, ◌++◌, map, filter, length, Option, Some, None, refl, sym, ap, subst, ◌∙◌, append_assoc, append-nil}
+use Rattle.std.proofs.Common.{inl, inr, ◌≡◌, ◌≢◌, ℕ, ◌≤◌, Bool, true, false, List, [], ◌∷◌, ◌++◌, map, filter, length, Some, None, refl, sym, ap, subst, ◌∙◌, append_assoc, append-nil}
 use Rattle.std.specs.List.{list_all}
 use Rattle.std.specs.List.Sorted.{IsPermutation}
 use Rattle.std.specs.Ordering.{nat_cmp}
@@ -24,8 +24,6 @@ use Rattle.wh_rows.proofs.Raw.{no_damage}
 use Rattle.wh_admission.specs.Admission.{AreAdmitted}
 use Rattle.sqlite.specs.Files.{over_files}
 use Rattle.wh_admission.specs.Steps.{IsBegunWith}
-use Rattle.wh_store.specs.declared.tables.Tables.{Tables}
-use Rattle.wh_engine.specs.declared.engine.Engine.{Engine}
 use Rattle.wh_engine.specs.declared.replica.Replica.{Replica}
 use Rattle.wh_engine.specs.Replica.{IsReplica, IsEngineOf, IsOpenFor, IsFollowed, TellsNone, IsReplicated, IsEndOf}
 use Rattle.wh_admission.proofs.CommandRows.{row_of, row_is}

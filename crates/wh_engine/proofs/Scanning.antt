@@ -1,5 +1,5 @@
 -- What a call that reads leaves of an engine, and its faults.
-use Rattle.std.proofs.Common.{◌≡◌, Bool, true, false, ◌||◌, List, Result, Ok, Err, Some, IfErr, IsTrue, refl, sym, ap, subst, inl}
+use Rattle.std.proofs.Common.{◌≡◌, Bool, false, ◌||◌, List, Result, Ok, Err, Some, IfErr, IsTrue, refl, sym, ap, subst, inl}
 use Rattle.std.specs.Prelude.{IsErr, IsErrAnd, Option}
 use Rattle.sqlite_trees.specs.declared.store.Store.{Ghosts}
 use Rattle.sqlite.specs.Order.{Row}

@@ -12,3 +12,4 @@ pub mod Fresh
 pub mod Checked
 pub mod Replica
 pub mod Judging
+pub mod Handed

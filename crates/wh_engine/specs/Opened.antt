@@ -2,7 +2,7 @@
 use Rattle.std.specs.Prelude.{◌≡◌, ◌⊎◌, ℕ, codes, List, [], ◌∷◌, filter, slice_get, Bool, true, false, Option, Some, None, Result, Ok, Err, IsOk, ⊤}
 use Rattle.std.specs.FinMap.{values}
 use Rattle.sqlite.specs.Tree.{Trees}
-use Rattle.sqlite.specs.State.{State}
+use Rattle.sqlite.specs.State.{State, HasCleanDisk}
 use Rattle.sqlite.specs.Order.{Row}
 use Rattle.wh_day.specs.Reading.{◌>>=◌}
 use Rattle.wh_policy.specs.Policy.{policy_at}
@@ -20,6 +20,7 @@ use Rattle.wh_rows.specs.Raw.{Stored, AreAsked, HasAskedDamage}
 use Rattle.wh_rows.specs.Questions.{gives_policy, has_policy}
 use Rattle.wh_rows.specs.declared.rows.CommandRow.{CommandRow}
 use Rattle.wh_rows.specs.declared.table.Table.TheVariants as tables
+use Rattle.wh_admission.specs.Admission.{AreAdmitted}
 use Rattle.wh_store.specs.Meta.{number_in, format_of, limits_in}
 use Rattle.wh_store.specs.Raw.{FormatIs, LimitsAre, IsRefusedOn, IsLimitless}
 use Rattle.wh_sql.specs.declared.fault.ReadFault.TheVariants as reading
@@ -31,6 +32,10 @@ use Rattle.wh_engine.specs.declared.opening.InitFault.TheVariants as init
 use Rattle.wh_store.specs.declared.fault.OpenFault.TheVariants as faults
 use Rattle.wh_engine.specs.declared.session.Session.{Session}
 use Rattle.wh_rows.specs.declared.format.Format.TheVariants.{One}
+
+-- what is so where the tables of commands were at rest
+abbrev pub WhenAdmitted : State → State → (Limits → List Accepted → State → Type 0) → Type 0
+WhenAdmitted old new fact = HasCleanDisk new → (limits : Limits) (commands : List Accepted) → AreAdmitted limits commands → Rests limits commands old → fact limits commands new
 
 -- the last command that gives a policy, where one does
 abbrev pub last_policy_in : Tables → Option CommandRow

@@ -9,7 +9,7 @@ ghost use Rattle.wh_admission.specs.Admission.{changes_in, first_line_there, num
 ghost use Rattle.wh_engine.specs.Decided.{receipt_of_known};
 ghost use Rattle.wh_model.specs.Defined.{AreOf};
 ghost use Rattle.wh_engine.specs.Faults.{Judges};
-ghost use Rattle.wh_plan.specs.Reads.{Finds, Tells};
+ghost use Rattle.wh_plan.specs.Reads.{Finds};
 ghost use Rattle.wh_model.specs.Sound.{IsAccepted, same_line};
 ghost use Rattle.wh_engine.specs.Scanned.{Reads, WhenAtRest};
 

@@ -1,24 +1,21 @@
 //! Making a warehouse, and opening one.
 
-ghost use Rattle.std.specs.Prelude.{◌≡◌, ◌≢◌, true, false, [], ◌∷◌, List, slice_get, None, Some, Ok, Err, IfOk, IfErr, OnOk, IsTrue};
+ghost use Rattle.std.specs.Prelude.{◌≡◌, ◌≢◌, true, false, [], ◌∷◌, slice_get, None, Some, Ok, Err, IfOk, IfErr, OnOk, IsTrue};
 ghost use Rattle.sqlite.specs.Held.{state};
 ghost use Rattle.sqlite.specs.State.{HasCleanDisk};
 ghost use Rattle.wh_policy.specs.Policy.{policy_at};
-ghost use Rattle.wh_history.specs.Accepted.{Accepted};
-ghost use Rattle.wh_history.specs.Tables.{Limits as LimitCounts};
 ghost use Rattle.wh_rows.specs.AtRest.{IsAtRest};
-ghost use Rattle.wh_rows.specs.Tables.{Tables as TenTables};
-ghost use Rattle.wh_store.specs.Reads.{is_any_taken, are_all_there, state_of, SaysAsStored, Spares};
+ghost use Rattle.wh_store.specs.Reads.{is_any_taken, are_all_there, state_of, SaysAtRest, SaysAsStored, Spares};
 ghost use Rattle.wh_store.specs.Opening.{IsServed, SparesStore};
 ghost use Rattle.wh_rows.specs.declared.format.Format.TheVariants.{One};
 ghost use Rattle.wh_rows.specs.Formats.{is_two};
 ghost use Rattle.wh_store.specs.Raw.{FormatIs};
-ghost use Rattle.wh_rows.specs.Raw.{Stored, RestsOn, LeavesStored};
+ghost use Rattle.wh_rows.specs.Raw.{RestsOn, LeavesStored};
 ghost use Rattle.wh_engine.specs.Answered.{Rests, IsReady};
 ghost use Rattle.wh_plan.specs.FirstRows.{IsGoodPolicy};
 ghost use Rattle.wh_model.specs.Sound.{making_of};
-ghost use Rattle.wh_engine.specs.Opened.{of_command, last_policy_in, session_in, opened, IsTold, IsRead, PolicyIs, IsPolicyless, SessionIs, IsSessionless, IsUnopened, IsNotOpened, LeavesMaking, IsNotMade, NothingIsWritten, LeavesMade};
-ghost use Rattle.wh_admission.specs.Admission.{AreAdmitted};
+ghost use Rattle.wh_engine.specs.Opened.{of_command, last_policy_in, session_in, opened, IsTold, IsRead, PolicyIs, IsPolicyless, SessionIs, IsSessionless, IsUnopened, IsNotOpened, LeavesMaking, IsNotMade, NothingIsWritten, LeavesMade, WhenAdmitted};
+ghost use Rattle.wh_engine.specs.Scanned.{WhenAtRest, WhenStored};
 ghost use Rattle.wh_store.specs.declared.fault.OpenFault.TheVariants.{Store};
 ghost use Rattle.wh_rows.specs.declared.cause.Cause.{Cause};
 
@@ -87,10 +84,10 @@ fn policy_of(alloc: Global, commands: &[CommandRow]) -> Result<Policy, OpenFault
 fn policy_in<S: Alter>(tables: &mut Tables<S>, alloc: Global) -> Result<Policy, OpenFault>
     ensures same_format { tables.new.format ≡ tables.old.format }
     ensures reads { Spares (state_of S.Store tables.old) (state_of S.Store tables.new) (IsServed result) }
-    ensures read { HasCleanDisk (state_of S.Store tables.new) → (t : TenTables) → IsAtRest (Some t) (state_of S.Store tables.old) → IsRead result (of_command (last_policy_in t)) t (state_of S.Store tables.new) }
+    ensures read { WhenAtRest S.Store tables.old tables.new (λ t. IsRead result (of_command (last_policy_in t)) t (state_of S.Store tables.new)) }
     // The same of any rows, whoever wrote them: by the last that gives a policy.
-    ensures stored { SaysAsStored (state_of S.Store tables.old) (state_of S.Store tables.new) (λ stored. IfOk result (λ policy. PolicyIs stored (Ok policy))) }
-    ensures policyless { SaysAsStored (state_of S.Store tables.old) (state_of S.Store tables.new) (λ stored. IfErr result (IsPolicyless stored)) }
+    ensures stored { WhenStored S.Store tables.old tables.new (λ stored. IfOk result (λ policy. PolicyIs stored (Ok policy))) }
+    ensures policyless { WhenStored S.Store tables.old tables.new (λ stored. IfErr result (IsPolicyless stored)) }
 {
     let last = tables.ask::<tables::Command, LastPolicy>(alloc, &LastPolicy)?;
     policy_of(alloc, &last)
@@ -100,10 +97,10 @@ fn policy_in<S: Alter>(tables: &mut Tables<S>, alloc: Global) -> Result<Policy, 
 fn session_of<S: Alter>(tables: &mut Tables<S>, alloc: Global) -> Result<Session, OpenFault>
     ensures same_format { tables.new.format ≡ tables.old.format }
     ensures reads { Spares (state_of S.Store tables.old) (state_of S.Store tables.new) (IsServed result) }
-    ensures read { HasCleanDisk (state_of S.Store tables.new) → (t : TenTables) → IsAtRest (Some t) (state_of S.Store tables.old) → IsRead result (session_in t) t (state_of S.Store tables.new) }
+    ensures read { WhenAtRest S.Store tables.old tables.new (λ t. IsRead result (session_in t) t (state_of S.Store tables.new)) }
     // The same of any rows, whoever wrote them: by the limits, and then by the last row that gives a policy.
-    ensures stored { SaysAsStored (state_of S.Store tables.old) (state_of S.Store tables.new) (λ stored. IfOk result (SessionIs stored)) }
-    ensures sessionless { SaysAsStored (state_of S.Store tables.old) (state_of S.Store tables.new) (λ stored. IfErr result (IsSessionless stored)) }
+    ensures stored { WhenStored S.Store tables.old tables.new (λ stored. IfOk result (SessionIs stored)) }
+    ensures sessionless { WhenStored S.Store tables.old tables.new (λ stored. IfErr result (IsSessionless stored)) }
     ensures fresh { IfOk result (λ session. session.must_reopen ≡ false) }
 {
     let limits = tables.limits(alloc)?;
@@ -165,16 +162,14 @@ impl<S: Alter> Engine<S> {
     pub fn open(alloc: Global, conn: Connection<S>) -> Result<Engine<S>, (OpenFault, Connection<S>)>
         ensures clean { IfOk result (λ engine. HasCleanDisk (state_of S.Store engine.tables) → HasCleanDisk (state S.Store conn)) }
         ensures clean_left { IfErr result (λ e. HasCleanDisk (state S.Store e.1) → HasCleanDisk (state S.Store conn)) }
-        ensures ready { IfOk result (λ engine. HasCleanDisk (state_of S.Store engine.tables) → (limits : LimitCounts) (commands : List Accepted) → AreAdmitted limits commands → Rests limits commands (state S.Store conn)
-            → IsReady limits commands engine.session (state_of S.Store engine.tables)) }
-        ensures refused { IfErr result (λ e. HasCleanDisk (state S.Store e.1) → (limits : LimitCounts) (commands : List Accepted) → AreAdmitted limits commands → Rests limits commands (state S.Store conn)
-            → IsNotOpened limits commands e.0 (state S.Store e.1)) }
+        ensures ready { IfOk result (λ engine. WhenAdmitted (state S.Store conn) (state_of S.Store engine.tables) (λ limits commands. IsReady limits commands engine.session)) }
+        ensures refused { IfErr result (λ e. WhenAdmitted (state S.Store conn) (state S.Store e.1) (λ limits commands. IsNotOpened limits commands e.0)) }
         // The same of any ten tables, whoever wrote their rows, as far as all of these are of their types.
-        ensures found { IfOk result (λ engine. HasCleanDisk (state_of S.Store engine.tables) → (t : TenTables) → IsAtRest (Some t) (state S.Store conn) → (opened t ≡ Ok engine.session) × IsAtRest (Some t) (state_of S.Store engine.tables)) }
-        ensures fault { IfErr result (λ e. HasCleanDisk (state S.Store e.1) → (t : TenTables) → IsAtRest (Some t) (state S.Store conn) → IsRead (Err e.0) (opened t) t (state S.Store e.1)) }
+        ensures found { IfOk result (λ engine. SaysAtRest (state S.Store conn) (state_of S.Store engine.tables) (λ t. (opened t ≡ Ok engine.session) × IsAtRest (Some t) (state_of S.Store engine.tables))) }
+        ensures fault { IfErr result (λ e. SaysAtRest (state S.Store conn) (state S.Store e.1) (λ t. IsRead (Err e.0) (opened t) t (state S.Store e.1))) }
         // The same of any rows that are stored under the schema of a making: a damaged row that isn't asked for keeps nothing from opening.
-        ensures found_stored { IfOk result (λ engine. HasCleanDisk (state_of S.Store engine.tables) → (stored : Stored) → RestsOn stored (state S.Store conn) → FormatIs One (is_two stored.format) stored (Ok engine.tables.format) × SessionIs stored engine.session × RestsOn stored (state_of S.Store engine.tables)) }
-        ensures fault_stored { IfErr result (λ e. HasCleanDisk (state S.Store e.1) → (stored : Stored) → RestsOn stored (state S.Store conn) → IsUnopened stored e.0 × LeavesStored stored (state S.Store e.1) × (SparesStore e.0 → RestsOn stored (state S.Store e.1))) }
+        ensures found_stored { IfOk result (λ engine. SaysAsStored (state S.Store conn) (state_of S.Store engine.tables) (λ stored. FormatIs One (is_two stored.format) stored (Ok engine.tables.format) × SessionIs stored engine.session × RestsOn stored (state_of S.Store engine.tables))) }
+        ensures fault_stored { IfErr result (λ e. SaysAsStored (state S.Store conn) (state S.Store e.1) (λ stored. IsUnopened stored e.0 × LeavesStored stored (state S.Store e.1) × (SparesStore e.0 → RestsOn stored (state S.Store e.1)))) }
         // No other format is known.
         ensures first { IfOk result (λ engine. engine.tables.format ≡ One) }
         ensures fresh { IfOk result (λ engine. (engine.session.must_reopen ≡ false) × (engine.writes ≡ 0)) }

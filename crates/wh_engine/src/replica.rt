@@ -9,7 +9,6 @@ ghost use Rattle.wh_rows.specs.Rows as row;
 ghost use Rattle.wh_rows.specs.declared.table.Table.TheVariants.{Command as OfCommand};
 ghost use Rattle.wh_sql.specs.Reads.{IsOfDamage};
 ghost use Rattle.wh_store.specs.Reads.{ReadsOnly, state_of, SaysAsStored};
-ghost use Rattle.wh_admission.specs.Steps.{IsBegunWith};
 ghost use Rattle.wh_engine.specs.Replica.{is_making_row, IsOpenFor, IsReplica, IsFollowed, IsMadeOrNot, IsReplicated, IsEndOf};
 
 use crate::engine::Engine;

@@ -1,16 +1,17 @@
 //! The rows of a warehouse's table, one at a time.
 
-ghost use Rattle.std.specs.Prelude.{◌≡◌, ◌||◌, List, false, Ok, Err, None, IsTrue, IfSome, IfOk, IfErr, OnErr, MatchResult};
+ghost use Rattle.std.specs.Prelude.{◌≡◌, ◌||◌, List, false, Ok, None, IsTrue, IfOk, IfErr, OnErr, MatchResult};
 ghost use Rattle.std.specs.Borrow.{sem, RestsIfErr};
 ghost use Rattle.std.specs.FinMap.{values};
 ghost use Rattle.sqlite.specs.Order.{Row as Columns};
 ghost use Rattle.wh_rows.specs.Parts.{IsArranged};
 ghost use Rattle.wh_rows.specs.Raw.{Stored};
 ghost use Rattle.wh_rows.specs.Tables.{Tables as TenTables};
-ghost use Rattle.wh_store.specs.Reads.{SaysInFormat, SaysAsStoredIn, state_of};
-ghost use Rattle.wh_store.specs.Scan.{rows_left, HandsOut, IsOver, AreLeft, HandsOutOf, AreValid};
-ghost use Rattle.wh_engine.specs.Faults.{NamesTable, IsWorkedOut};
-ghost use Rattle.wh_engine.specs.Scanned.{EngineReads, IsServing, IsWanting, Reads, ReadsThrough, WhenAtRest, WhenReady, WhenStored};
+ghost use Rattle.wh_store.specs.Reads.{state_of};
+ghost use Rattle.wh_store.specs.Scan.{rows_left, IsOver, AreLeft};
+ghost use Rattle.wh_engine.specs.Faults.{IsWorkedOut};
+ghost use Rattle.wh_engine.specs.Handed.{HandsNext};
+ghost use Rattle.wh_engine.specs.Scanned.{EngineReads, IsServing, IsWanting, Reads, ReadsThrough, WhenAtRest, WhenReady};
 
 use crate::engine::Engine;
 use crate::fault::{Fault, stops};
@@ -26,13 +27,8 @@ fn row_after<T: PagedTable, S: Alter>(
     cursor: &mut Cursor<T::Key, T::Row>,
 ) -> Result<Option<T::Row>, Fault>
     ensures reads { Reads S.Store tables.old tables.new result }
-    ensures same_format { tables.new.format ≡ tables.old.format }
-    ensures rows { SaysInFormat S.Store T.KeyedTable.name tables.old tables.new (λ t. IfOk result (λ found. HandsOut (rows_left T.StoredTable.layout (T.StoredTable.rows t) cursor.old) found (rows_left T.StoredTable.layout (T.StoredTable.rows t) cursor.new))) }
-    // Of any rows, whoever wrote them, none is missed and none comes twice.
-    ensures stored { SaysAsStoredIn S.Store T.KeyedTable.name tables.old tables.new (λ stored. IfOk result (λ found. HandsOutOf T.StoredTable.layout T.KeyedTable.bind (stored.rows T.KeyedTable.name) cursor.old found cursor.new)) }
-    // What is handed out is of its type, and a row that isn't is reported as one of this table.
-    ensures valid { SaysAsStoredIn S.Store T.KeyedTable.name tables.old tables.new (λ _. AreValid T.StoredTable.layout cursor.old → IfOk result (λ found. IfSome found (λ row. IsTrue (T.StoredTable.layout.is_valid row)) × AreValid T.StoredTable.layout cursor.new)) }
-    ensures named { WhenStored S.Store tables.old tables.new (λ _. IfErr result (NamesTable T.KeyedTable.name)) }
+    // The row is the next of the table's, and of its type, whoever wrote it.
+    ensures hands { HandsNext S.Store T.KeyedTable.name T.StoredTable.layout T.KeyedTable.bind T.StoredTable.rows tables.old tables.new cursor.old cursor.new result }
     ensures sound { WhenAtRest S.Store tables.old tables.new (λ _. IfErr result IsWanting) }
     ensures ended { OnErr result (IsOver cursor.new) }
     ensures over { IsOver cursor.old → (result ≡ Ok None) × (tables.new ≡ tables.old) × IsOver cursor.new }
@@ -63,17 +59,11 @@ impl<'e, S: Alter, T: PagedTable> Scan<'e, S, T> {
     pub fn next_row(&mut self, alloc: Global) -> Result<Option<T::Row>, Fault>
         ensures same_reference { self.new.engine.ghost_name ≡ self.old.engine.ghost_name }
         ensures reads { ReadsThrough self.old.engine.now.session self.new.engine.now.session (state_of S.Store self.old.engine.now.tables) (state_of S.Store self.new.engine.now.tables) result }
-        // The rows are those of any tables at rest, so of those of the accepted commands.
-        ensures rows { SaysInFormat S.Store T.KeyedTable.name self.old.engine.now.tables self.new.engine.now.tables (λ t. IfOk result (λ found. HandsOut (rows_left T.StoredTable.layout (T.StoredTable.rows t) self.old.cursor) found (rows_left T.StoredTable.layout (T.StoredTable.rows t) self.new.cursor))) }
-        // Of any rows, whoever wrote them, none is missed and none comes twice.
-        ensures stored { SaysAsStoredIn S.Store T.KeyedTable.name self.old.engine.now.tables self.new.engine.now.tables (λ stored. IfOk result (λ found. HandsOutOf T.StoredTable.layout T.KeyedTable.bind (stored.rows T.KeyedTable.name) self.old.cursor found self.new.cursor)) }
-        // What is handed out is of its type, and a row that isn't is reported as one of this table.
-        ensures valid { SaysAsStoredIn S.Store T.KeyedTable.name self.old.engine.now.tables self.new.engine.now.tables (λ _. AreValid T.StoredTable.layout self.old.cursor → IfOk result (λ found. IfSome found (λ row. IsTrue (T.StoredTable.layout.is_valid row)) × AreValid T.StoredTable.layout self.new.cursor)) }
-        ensures named { WhenStored S.Store self.old.engine.now.tables self.new.engine.now.tables (λ _. IfErr result (NamesTable T.KeyedTable.name)) }
+        // The row is the next of the table's, and of its type, whoever wrote it.
+        ensures hands { HandsNext S.Store T.KeyedTable.name T.StoredTable.layout T.KeyedTable.bind T.StoredTable.rows self.old.engine.now.tables self.new.engine.now.tables self.old.cursor self.new.cursor result }
         ensures ended { OnErr result (IsOver self.new.cursor) }
         ensures over { IsOver self.old.cursor → (result ≡ Ok None) × (self.new.engine.now.tables ≡ self.old.engine.now.tables) × IsOver self.new.cursor }
         ensures writes { self.new.engine.now.writes ≡ self.old.engine.now.writes }
-        ensures same_format { self.new.engine.now.tables.format ≡ self.old.engine.now.tables.format }
         ensures work { IsWorkedOut result }
     {
         self.engine.advance::<T>(alloc, &mut self.cursor)
@@ -90,16 +80,11 @@ impl<S: Alter> Engine<S> {
         cursor: &mut Cursor<T::Key, T::Row>,
     ) -> Result<Option<T::Row>, Fault>
         ensures reads { ReadsThrough self.old.session self.new.session (state_of S.Store self.old.tables) (state_of S.Store self.new.tables) result }
-        ensures rows { SaysInFormat S.Store T.KeyedTable.name self.old.tables self.new.tables (λ t. IfOk result (λ found. HandsOut (rows_left T.StoredTable.layout (T.StoredTable.rows t) cursor.old) found (rows_left T.StoredTable.layout (T.StoredTable.rows t) cursor.new))) }
-        // Of any rows, whoever wrote them, none is missed and none comes twice.
-        ensures stored { SaysAsStoredIn S.Store T.KeyedTable.name self.old.tables self.new.tables (λ stored. IfOk result (λ found. HandsOutOf T.StoredTable.layout T.KeyedTable.bind (stored.rows T.KeyedTable.name) cursor.old found cursor.new)) }
-        // What is handed out is of its type, and a row that isn't is reported as one of this table.
-        ensures valid { SaysAsStoredIn S.Store T.KeyedTable.name self.old.tables self.new.tables (λ _. AreValid T.StoredTable.layout cursor.old → IfOk result (λ found. IfSome found (λ row. IsTrue (T.StoredTable.layout.is_valid row)) × AreValid T.StoredTable.layout cursor.new)) }
-        ensures named { WhenStored S.Store self.old.tables self.new.tables (λ _. IfErr result (NamesTable T.KeyedTable.name)) }
+        // The row is the next of the table's, and of its type, whoever wrote it.
+        ensures hands { HandsNext S.Store T.KeyedTable.name T.StoredTable.layout T.KeyedTable.bind T.StoredTable.rows self.old.tables self.new.tables cursor.old cursor.new result }
         ensures ended { OnErr result (IsOver cursor.new) }
         ensures over { IsOver cursor.old → (result ≡ Ok None) × (self.new.tables ≡ self.old.tables) × IsOver cursor.new }
         ensures writes { self.new.writes ≡ self.old.writes }
-        ensures same_format { self.new.tables.format ≡ self.old.tables.format }
         ensures work { IsWorkedOut result }
     {
         let found = row_after::<T, S>(&mut self.tables, alloc, cursor);
@@ -117,16 +102,11 @@ impl<S: Alter> Engine<S> {
     ) -> Result<Option<T::Row>, Fault>
         ensures reads { EngineReads S.Store self.old self.new result }
         ensures serves { WhenReady S.Store self.old self.new (λ limits commands. IsServing limits commands result) }
-        ensures rows { SaysInFormat S.Store T.KeyedTable.name self.old.tables self.new.tables (λ t. IfOk result (λ found. HandsOut (rows_left T.StoredTable.layout (T.StoredTable.rows t) cursor.old) found (rows_left T.StoredTable.layout (T.StoredTable.rows t) cursor.new))) }
-        // Of any rows, whoever wrote them, none is missed and none comes twice.
-        ensures stored { SaysAsStoredIn S.Store T.KeyedTable.name self.old.tables self.new.tables (λ stored. IfOk result (λ found. HandsOutOf T.StoredTable.layout T.KeyedTable.bind (stored.rows T.KeyedTable.name) cursor.old found cursor.new)) }
-        // What is handed out is of its type, and a row that isn't is reported as one of this table.
-        ensures valid { SaysAsStoredIn S.Store T.KeyedTable.name self.old.tables self.new.tables (λ _. AreValid T.StoredTable.layout cursor.old → IfOk result (λ found. IfSome found (λ row. IsTrue (T.StoredTable.layout.is_valid row)) × AreValid T.StoredTable.layout cursor.new)) }
-        ensures named { WhenStored S.Store self.old.tables self.new.tables (λ _. IfErr result (NamesTable T.KeyedTable.name)) }
+        // The row is the next of the table's, and of its type, whoever wrote it.
+        ensures hands { HandsNext S.Store T.KeyedTable.name T.StoredTable.layout T.KeyedTable.bind T.StoredTable.rows self.old.tables self.new.tables cursor.old cursor.new result }
         ensures unread { IsTrue self.old.session.must_reopen → cursor.new ≡ cursor.old }
         ensures ended { self.old.session.must_reopen ≡ false → OnErr result (IsOver cursor.new) }
         ensures over { self.old.session.must_reopen ≡ false → IsOver cursor.old → (result ≡ Ok None) × (self.new.tables ≡ self.old.tables) × IsOver cursor.new }
-        ensures same_format { self.new.tables.format ≡ self.old.tables.format }
     {
         if !self.session.must_reopen {
             return self.advance::<T>(alloc, cursor);

@@ -5,9 +5,9 @@ ghost use Rattle.std.specs.List.{AllByRecursion};
 ghost use Rattle.sqlite.specs.State.{HasCleanDisk};
 ghost use Rattle.wh_history.specs.declared.plan.Edit.TheVariants.{Put};
 ghost use Rattle.wh_rows.specs.AtRest.{AreTrees, IsAtRest};
-ghost use Rattle.wh_rows.specs.Tables.{Tables as TenTables};
 ghost use Rattle.wh_rows.specs.Steps.{after_all};
 ghost use Rattle.wh_store.specs.Reads.{state_of};
+ghost use Rattle.wh_engine.specs.Scanned.{WhenAtRest};
 ghost use Rattle.wh_store.specs.Writes.{WritesOnly, Makes};
 ghost use Rattle.wh_plan.specs.Edits.{with_commands, with_dimensions, with_facts, with_fact_edit, with_all_edits, count_commands, count_dimensions, count_facts, edit_count};
 ghost use Rattle.wh_plan.specs.declared.edits.FactEdit.TheVariants.{Row};
@@ -176,10 +176,8 @@ pub(crate) fn commit_edits<S: Alter>(
     edits: &Edits,
 ) -> Result<u64, Cause>
     ensures clean { HasCleanDisk (state_of S.Store tables.new) → HasCleanDisk (state_of S.Store tables.old) }
-    ensures written { HasCleanDisk (state_of S.Store tables.new) → (t : TenTables) → IsAtRest (Some t) (state_of S.Store tables.old) → MayBeWritten edits.now
-        → OnOk result (IsAtRest (Some (with_all_edits edits.now t)) (state_of S.Store tables.new)) }
-    ensures left { HasCleanDisk (state_of S.Store tables.new) → (t : TenTables) → IsAtRest (Some t) (state_of S.Store tables.old) → MayBeWritten edits.now
-        → (trees : _) → (state_of S.Store tables.new).may_leave trees → AreTrees (Some t) trees ⊎ AreTrees (Some (with_all_edits edits.now t)) trees }
+    ensures written { WhenAtRest S.Store tables.old tables.new (λ t. MayBeWritten edits.now → OnOk result (IsAtRest (Some (with_all_edits edits.now t)) (state_of S.Store tables.new))) }
+    ensures left { WhenAtRest S.Store tables.old tables.new (λ t. MayBeWritten edits.now → (trees : _) → (state_of S.Store tables.new).may_leave trees → AreTrees (Some t) trees ⊎ AreTrees (Some (with_all_edits edits.now t)) trees) }
     ensures counted { IfOk result (λ writes. writes ≡ edit_count edits.now) }
 {
     let mut writing = tables.begin()?;

@@ -26,11 +26,11 @@ profiles-preserved g c =
       writes = read.reads.writes ∙ kept.writes;
       labels = λ clean t at.
           let before = read.reads.spares.clean clean in
-          one_seen _ _ c.in-Some.row _ _ _ (row_handed _ _ _ c.in-Some.row c.in-Some.is (read.rows clean t refl (kept.reads.spares.same before t at tt))) (kept.labels before t at) (λ done made. c.in_ok-add_profile-in-Some.ensures done made);
+          one_seen _ _ c.in-Some.row _ _ _ (row_handed _ _ _ c.in-Some.row c.in-Some.is (read.hands.rows clean t refl (kept.reads.spares.same before t at tt))) (kept.labels before t at) (λ done made. c.in_ok-add_profile-in-Some.ensures done made);
       stored = λ clean stored on.
           let before = read.reads.spares.clean clean in
           let rests = kept.reads.spares.rests before stored on tt in
-          made_more row.profile bind_number (stored.rows table.Profile) _ _ _ _ c.in-Some.row _ _ _ _ _ c.in-Some.is (kept.stored before stored on) (read.valid clean stored refl rests) (read.stored clean stored refl rests) (λ done made. c.in_ok-add_profile-in-Some.ensures done made);
+          made_more row.profile bind_number (stored.rows table.Profile) _ _ _ _ c.in-Some.row _ _ _ _ _ c.in-Some.is (kept.stored before stored on) (read.hands.valid clean stored refl rests) (read.hands.stored clean stored refl rests) (λ done made. c.in_ok-add_profile-in-Some.ensures done made);
     }
 
 pub returns-in-None-clause-reads : goal.returns-in-None-clause-reads
@@ -41,7 +41,7 @@ returns-in-None-clause-labels g c clean t at =
     let kept = c.profiles.invariant in
     let read = c.in_ok-row.ensures in
     let before = read.reads.spares.clean clean in
-    all_seen _ _ _ (none_handed _ _ _ c.in-None.is (read.rows clean t refl (kept.reads.spares.same before t at tt))) (kept.labels before t at)
+    all_seen _ _ _ (none_handed _ _ _ c.in-None.is (read.hands.rows clean t refl (kept.reads.spares.same before t at tt))) (kept.labels before t at)
 
 pub returns-in-None-clause-stored : goal.returns-in-None-clause-stored
 returns-in-None-clause-stored g c clean stored on =
@@ -49,4 +49,4 @@ returns-in-None-clause-stored g c clean stored on =
     let read = c.in_ok-row.ensures in
     let before = read.reads.spares.clean clean in
     let rests = kept.reads.spares.rests before stored on tt in
-    made_all row.profile bind_number (stored.rows table.Profile) _ _ _ _ _ _ _ c.in-None.is (kept.stored before stored on) (read.stored clean stored refl rests)
+    made_all row.profile bind_number (stored.rows table.Profile) _ _ _ _ _ _ _ c.in-None.is (kept.stored before stored on) (read.hands.stored clean stored refl rests)
