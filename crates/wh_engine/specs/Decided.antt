@@ -1,5 +1,5 @@
 -- What is decided about a command, by what is read of the tables.
-use Rattle.std.specs.Prelude.{◌≡◌, ℕ, List, [], ◌∷◌, ◌++◌, length, find, Option, None, unwrap_or, bytes_eq, Result, Ok, ⊤}
+use Rattle.std.specs.Prelude.{◌≡◌, ℕ, List, [], ◌∷◌, ◌++◌, length, filter, find, Option, None, unwrap_or, bytes_eq, Result, Ok, ⊤}
 use Rattle.wh_policy.specs.declared.policy.Policy.{Policy}
 use Rattle.wh_history.specs.Accepted.{Accepted, Content, governed}
 use Rattle.wh_rows.specs.declared.rows.CommandRow.{CommandRow}
@@ -9,7 +9,10 @@ use Rattle.wh_rows.specs.Tables.{Tables}
 use Rattle.wh_model.specs.Defined.{AreOf}
 use Rattle.wh_plan.specs.Edits.{Edits, AreEdits}
 use Rattle.wh_model.specs.Sound.{IsAccepted}
-use Rattle.wh_rows.specs.Raw.{Stored}
+use Rattle.wh_rows.specs.Raw.{AreRows, Stored}
+use Rattle.wh_rows.specs.Rows as layout
+use Rattle.wh_rows.specs.Keys.{stands_at_number}
+use Rattle.wh_rows.specs.declared.table.Table.TheVariants as table
 use Rattle.wh_admission.specs.Repeated.{IsKept}
 use Rattle.wh_admission.specs.declared.command.Command.{Command}
 use Rattle.wh_admission.specs.declared.command.Receipt.{Receipt}
@@ -67,3 +70,7 @@ WritesItsRow (Accept receipt edits newer) = length edits.commands ≡ 1
 abbrev pub RepeatsKept : Stored → Command → Decision → Type 0
 RepeatsKept stored c (Repeat receipt) = IsKept stored c receipt
 RepeatsKept stored c (Accept receipt edits newer) = length edits.commands ≡ 1
+
+-- no row stands under the number among the stored commands
+abbrev pub HasNoCommand : Stored → ℕ → Type 0
+HasNoCommand stored number = AreRows layout.command (filter (stands_at_number number) (stored.rows table.Command)) []

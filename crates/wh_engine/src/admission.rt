@@ -1,13 +1,13 @@
 //! Whether a command is accepted, as far as the tables say.
 
-ghost use Rattle.std.specs.Prelude.{◌≡◌, ◌+◌, ◌*◌, ◌≤◌, nat_le, [], List, IfOk};
+ghost use Rattle.std.specs.Prelude.{◌≡◌, ◌+◌, ◌*◌, ◌<◌, ◌≤◌, nat_le, [], List, length, false, is_some, IfOk};
 ghost use Rattle.std.specs.FinMap.{len};
 ghost use Rattle.std.specs.List.{list_any};
 ghost use Rattle.wh_history.specs.Accepted.{Accepted, Content, Sells, sold, sold_by};
-ghost use Rattle.wh_store.specs.Reads.{SaysInFormat, ReadsOnly, state_of};
+ghost use Rattle.wh_store.specs.Reads.{SaysInFormat, SaysAsStored, ReadsOnly, state_of};
 ghost use Rattle.wh_admission.specs.Admission.{changes_in, first_line_there, number_for};
-ghost use Rattle.wh_engine.specs.Decided.{receipt_of_known};
-ghost use Rattle.wh_model.specs.Defined.{AreOf};
+ghost use Rattle.wh_engine.specs.Decided.{HasNoCommand, receipt_of_known};
+ghost use Rattle.wh_model.specs.Defined.{AreOf, command_at};
 ghost use Rattle.wh_engine.specs.Faults.{Judges};
 ghost use Rattle.wh_plan.specs.Reads.{Finds};
 ghost use Rattle.wh_model.specs.Sound.{IsAccepted, same_line};
@@ -19,7 +19,7 @@ use std::alloc::Global;
 use wh_admission::{Command, Limit, Receipt, Refused};
 use wh_day::Value;
 use wh_policy::SaleRecord;
-use wh_rows::{CommandRow, Limits, LineKey, tables};
+use wh_rows::{Cause, CommandRow, Limits, LineKey, tables};
 use wh_store::{KeyedTable, ReadFault, Tables};
 
 /// The receipt that was kept for a command whose id is known. It came again where kind and bytes are the same too.
@@ -95,6 +95,31 @@ fn first_line_there<S: Alter>(
     Ok(None)
 }
 
+/// Whether a command is stored under a number.
+fn is_taken<S: Alter>(tables: &mut Tables<S>, alloc: Global, number: u64) -> Result<bool, ReadFault>
+    ensures reads { ReadsOnly (state_of S.Store tables.old) (state_of S.Store tables.new) result }
+    ensures taken { Finds (state_of S.Store tables.old) (state_of S.Store tables.new) (λ _ commands. IfOk result (λ taken. taken ≡ is_some (command_at commands number))) }
+    ensures free { SaysAsStored (state_of S.Store tables.old) (state_of S.Store tables.new) (λ stored. IfOk result (λ taken. taken ≡ false → HasNoCommand stored number)) }
+{
+    let row = tables.get::<tables::Command>(alloc, &number)?;
+    Ok(row.is_some())
+}
+
+/// The first number, from one on, under which no command is stored. The next one is free in the tables of accepted commands; where a row
+/// is gone it may not be, and the last command must not be written over.
+fn free_number<S: Alter>(tables: &mut Tables<S>, alloc: Global, next: u64) -> Result<u64, ReadFault>
+    ensures reads { ReadsOnly (state_of S.Store tables.old) (state_of S.Store tables.new) result }
+    ensures next { Finds (state_of S.Store tables.old) (state_of S.Store tables.new) (λ _ commands. length commands < next → IfOk result (λ number. number ≡ next)) }
+    ensures free { SaysAsStored (state_of S.Store tables.old) (state_of S.Store tables.new) (λ stored. IfOk result (HasNoCommand stored)) }
+{
+    'numbers: for number in next..u64::MAX {
+        if !is_taken(tables, alloc, number)? {
+            return Ok(number);
+        }
+    }
+    Err(ReadFault::Store(Cause::Size))
+}
+
 /// The number of the next command, where there is room for it and for so many changes of members.
 pub(crate) fn number_for_records<S: Alter>(
     tables: &mut Tables<S>,
@@ -103,6 +128,8 @@ pub(crate) fn number_for_records<S: Alter>(
     records: u64,
 ) -> Result<u64, Fault>
     ensures reads { Reads S.Store tables.old tables.new result }
+    // Under the number that is given no command is stored, whoever wrote the rows.
+    ensures free { SaysAsStored (state_of S.Store tables.old) (state_of S.Store tables.new) (λ stored. IfOk result (HasNoCommand stored)) }
     ensures number { WhenAtRest S.Store tables.old tables.new (λ t. (commands : List Accepted) → AreOf limits commands t → IsAccepted limits commands
         → (content : Content) → sold_by content ≡ [] → changes_in content ≡ records → Judges (λ number next. number ≡ next) result (number_for limits commands content)) }
 {
@@ -113,7 +140,8 @@ pub(crate) fn number_for_records<S: Alter>(
     if !has_room_for::<tables::Change, S>(tables, alloc, limits.changes(), commands, records)? {
         return Err(Fault::Refused(Refused::Full(Limit::Changes)));
     }
-    Ok(commands + 1)
+    let number = free_number(tables, alloc, commands + 1)?;
+    Ok(number)
 }
 
 /// The number of the next command, where there is room for it and for these sales, and none of their lines is there.
@@ -124,6 +152,8 @@ pub(crate) fn number_for_sales<S: Alter>(
     sales: &[SaleRecord],
 ) -> Result<u64, Fault>
     ensures reads { Reads S.Store tables.old tables.new result }
+    // Under the number that is given no command is stored, whoever wrote the rows.
+    ensures free { SaysAsStored (state_of S.Store tables.old) (state_of S.Store tables.new) (λ stored. IfOk result (HasNoCommand stored)) }
     ensures number { WhenAtRest S.Store tables.old tables.new (λ t. (commands : List Accepted) → AreOf limits commands t → IsAccepted limits commands
         → Judges (λ number next. number ≡ next) result (number_for limits commands (Sells sales.now))) }
 {
@@ -138,5 +168,6 @@ pub(crate) fn number_for_sales<S: Alter>(
     if !has_room_for::<tables::Fact, S>(tables, alloc, limits.facts(), commands, count)? {
         return Err(Fault::Refused(Refused::Full(Limit::Facts)));
     }
-    Ok(commands + 1)
+    let number = free_number(tables, alloc, commands + 1)?;
+    Ok(number)
 }

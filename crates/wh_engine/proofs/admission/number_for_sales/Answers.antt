@@ -42,10 +42,12 @@ returns-then-not-branch-clause-number g c clean t rests commands are accepted =
 
 pub returns-clause-number : goal.returns-clause-number
 returns-clause-number g c clean t rests commands are accepted =
-    let asked = c.in_ok-has_room_for.ensures.reads.clean clean in
+    let looked = c.in_ok-number-2.ensures.reads.clean clean in
+    let asked = c.in_ok-has_room_for.ensures.reads.clean looked in
     let before = c.in_ok-number.ensures.reads.clean asked in
     let still = c.in_ok-commands.ensures.reads.same before t rests tt in
     let passed = c.in_ok-number.ensures.reads.same asked t still tt in
+    let there = c.in_ok-has_room_for.ensures.reads.same looked t passed tt in
     let number = c.in_ok-commands.ensures.count before t refl rests ∙ commands_counted c.args.limits commands t are in
     let room : length commands < c.args.limits.commands = omega (arith, number, c.commands.ensures, c.if-commands.false) in
     let none = is_none _ (λ n. c.in_default.not-Some n) in
@@ -53,7 +55,8 @@ returns-clause-number g c clean t rests commands are accepted =
     let counted = facts_counted commands c.args.limits t are accepted.lines in
     let few : len t.fact ≤ c.in_ok-commands.commands * 5000 = omega (arith, counted, number, accepted.few_sales_a_batch) in
     let within : len t.fact ≤ c.facts.result = omega (arith, counted, c.facts.ensures, accepted.facts_within) in
-    let some : leb (len t.fact + length c.args.sales.now) c.facts.result ≡ true = sym (c.in_ok-has_room_for.ensures.room clean t refl passed few within) ∙ c.if-not-branch.false in
+    let some : leb (len t.fact + length c.args.sales.now) c.facts.result ≡ true = sym (c.in_ok-has_room_for.ensures.room looked t refl passed few within) ∙ c.if-not-branch.false in
     let left : length (sold commands) + length c.args.sales.now ≤ c.args.limits.facts = omega (arith, counted, c.facts.ensures, leb-true (len t.fact + length c.args.sales.now) c.facts.result some) in
     let changes : changes_kept commands + 0 ≤ c.args.limits.changes = omega (arith, accepted.changes_within) in
-    rw (has_room c.args.limits commands (Sells c.args.sales.now) room new changes left) (omega (arith, number))
+    let next : c.in_ok-number-2.number ≡ c.in_ok-commands.commands + 1 = c.in_ok-number-2.ensures.next clean c.args.limits commands t are there (omega (arith, number)) in
+    rw (has_room c.args.limits commands (Sells c.args.sales.now) room new changes left) (omega (arith, number, next))
