@@ -12,6 +12,9 @@ use std::io;
 use std::io::{Read, Write};
 use wh_program::{Host, HostError, Visitor};
 
+/// What a database's file begins with.
+const HEADER: &[u8] = b"SQLite format 3\0";
+
 /// How many bytes a page of a new file has.
 const PAGE: u64 = 4096;
 
@@ -138,11 +141,17 @@ fn visited_once<S: Alter + Drop, V: Visitor, W: Write>(
     output
 }
 
-/// Whether no file has the name.
-fn is_missing(runtime: &HostRuntime, name: &str) -> bool {
-    match fs::metadata(runtime, name) {
-        Ok(_) => false,
-        Err(error) => matches!(error.kind(), io::ErrorKind::NotFound),
+/// What a visitor answers over an empty database in memory.
+fn on_nothing<V: Visitor, W: Write>(
+    alloc: Global,
+    visitor: V,
+    out: &mut W,
+) -> Result<V::Output, HostError>
+    ensures not_printed { OnErr result (W.contents out.new ≡ W.contents out.old) }
+{
+    match Connection::open_in_memory(alloc) {
+        Ok(connection) => Ok(visited_once(alloc, connection, visitor, out)),
+        Err(_) => Err(HostError::Memory),
     }
 }
 
@@ -156,6 +165,34 @@ fn bytes_of(runtime: &HostRuntime, alloc: Global, path: &str, wanted: usize) -> 
     // No clause says that no more were read.
     bytes.truncate(wanted);
     Ok(bytes)
+}
+
+/// Whether the log of a file, which lies where links lead, has any bytes.
+fn has_log(runtime: &HostRuntime, alloc: Global, name: &str) -> io::Result<bool> {
+    let file = fs::canonicalize(runtime, name)?;
+    let log = format!(in alloc; "{}-wal", file.as_str())?;
+    match fs::metadata(runtime, log.as_str()) {
+        Ok(found) => Ok(found.len() > 0),
+        Err(error) if error.kind() == io::ErrorKind::NotFound => Ok(false),
+        Err(error) => Err(error),
+    }
+}
+
+/// Whether a file begins as that of a database does.
+fn has_header(runtime: &HostRuntime, alloc: Global, name: &str) -> io::Result<bool> {
+    let bytes = bytes_of(runtime, alloc, name, HEADER.len())?;
+    Ok(bytes.as_slice() == HEADER)
+}
+
+/// Whether what has the name can be a database: it begins as one, or a stopped run left its beginning in the log. What is no file is
+/// left to the store, which refuses it.
+fn can_be_database(runtime: &HostRuntime, alloc: Global, name: &str) -> io::Result<bool> {
+    match fs::metadata(runtime, name) {
+        Ok(found) if !found.is_file() => Ok(true),
+        Ok(_) => Ok(has_header(runtime, alloc, name)? || has_log(runtime, alloc, name)?),
+        Err(error) if error.kind() == io::ErrorKind::NotFound => Ok(false),
+        Err(error) => Err(error),
+    }
 }
 
 impl Host for SystemHost<'_> {
@@ -183,12 +220,10 @@ impl Host for SystemHost<'_> {
         visitor: V,
         out: &mut W,
     ) -> Result<V::Output, HostError> {
-        if !is_missing(self.runtime, name) {
-            return self.with_connection(alloc, name, visitor, out);
-        }
-        match Connection::open_in_memory(alloc) {
-            Ok(connection) => Ok(visited_once(alloc, connection, visitor, out)),
-            Err(_) => Err(HostError::Memory),
+        match can_be_database(self.runtime, alloc, name) {
+            Ok(true) => self.with_connection(alloc, name, visitor, out),
+            Ok(false) => on_nothing(alloc, visitor, out),
+            Err(error) => Err(of_io(error)),
         }
     }
 }

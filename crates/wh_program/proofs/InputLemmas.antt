@@ -1,11 +1,9 @@
 -- What is read of a file.
-use Rattle.std.proofs.Common.{refl, inl, inr, ◌⊎◌, true, ◌≡◌, ◌∙◌, ◌≤◌, ◌^◌, sym, subst, ap, arith, ℕ, suc, List, length, take, Option, Some, None}
-use Rattle.std.specs.Prelude.{IfOk, nat_lt, option_map}
-use Rattle.std.specs.declared.alloc.Global.{Global}
-use Rattle.std.specs.declared.vec.Vec.{Vec}
-use Rattle.std.proofs.lemmas.Bool.{cases_lt, lt-ltb}
+use Rattle.std.proofs.Common.{refl, inl, inr, ◌⊎◌, true, false, ◌≡◌, ◌∙◌, ◌<◌, ◌≤◌, ap, arith, ℕ, suc, List, [], ◌∷◌, ◌++◌, length, take, Option, Some}
+use Rattle.std.specs.Prelude.{IfOk, nat_lt}
+use Rattle.std.proofs.lemmas.Bool.{cases_lt, lt-ltb, le-ltb}
 use Rattle.std.proofs.lemmas.Result.{IfOk-weaker}
-use Rattle.std.proofs.lemmas.List.{length-take, length-take-le, take_all}
+use Rattle.std.proofs.lemmas.List.{length-take, length-take-le, take_all, take-take}
 use Rattle.wh_policy.specs.Document.{document_at}
 use Rattle.wh_policy.specs.Policy.{attributes_of, policy_at}
 use Rattle.wh_policy.specs.declared.attribute.Dim.{Dim}
@@ -16,17 +14,23 @@ use Rattle.wh_batch.specs.declared.kind.CommandKind.TheVariants.{Batch, Migratio
 use Rattle.wh_batch.specs.declared.kind.Kind.TheVariants.{Dimension, Sales}
 use Rattle.wh_batch.specs.declared.kind.Format.TheVariants.{One}
 use Rattle.wh_program.specs.Answer.{answer_under, AnswersTrial}
-use Rattle.wh_program.specs.Inputs.{Files, up_to, batch_limit, policy_limit}
+use Rattle.wh_program.specs.Inputs.{Files, up_to, batch_limit, policy_limit, manifest_limit, manifest_part}
 use Rattle.wh_program.specs.Warehouse.{Told}
 use Rattle.wh_program.specs.Laws.{PoliciesAreReadSo, TrialsAreReadSo, CommandsAreReadSo}
 
--- as far as any bytes go, it is the whole of it
-pub read_whole : (holds : Files) (path : List ℕ) (most : ℕ) (file : Option (Vec ℕ Global)) → 2 ^ 63 ≤ most → up_to most holds path (option_map (λ bytes. bytes.items) file)
-    → holds path (option_map (λ bytes. bytes.items) file)
-read_whole holds path most None far held = held
-read_whole holds path most (Some bytes) far (whole, held, same) =
-    let short : length whole ≤ suc most = omega (arith, ap length same, length-take (suc most) whole, bytes.ok.0, bytes.ok.1, bytes.small) in
-    subst (λ b. holds path (Some b)) (sym (same ∙ take_all (suc most) whole short)) held
+-- what counts of a manifest that is past the limit, and of one that isn't, by what was read of it
+pub part-past : (bytes whole : List ℕ) → bytes ≡ take (suc manifest_limit) whole → manifest_limit < length bytes → take manifest_limit bytes ++ 255 ∷ [] ≡ manifest_part whole
+unfolding manifest_part
+part-past bytes whole is past =
+    let longer : nat_lt manifest_limit (length whole) ≡ true = lt-ltb manifest_limit (length whole) (omega (arith, ap length is, length-take (suc manifest_limit) whole)) in
+    rw longer (ap (λ part. take manifest_limit part ++ 255 ∷ []) is ∙ ap (λ (part : List ℕ). part ++ 255 ∷ []) (take-take manifest_limit (suc manifest_limit) whole (omega arith)))
+
+pub part-whole : (bytes whole : List ℕ) → bytes ≡ take (suc manifest_limit) whole → length bytes ≤ manifest_limit → bytes ≡ manifest_part whole
+unfolding manifest_part
+part-whole bytes whole is within =
+    let short : length whole ≤ manifest_limit = omega (arith, ap length is, length-take (suc manifest_limit) whole) in
+    let test : nat_lt manifest_limit (length whole) ≡ false = le-ltb manifest_limit (length whole) short in
+    rw test (is ∙ take_all (suc manifest_limit) whole (omega arith))
 
 -- what is read of a file is past the limit as the file is, or it is the file
 pub past_or_whole : (most : ℕ) (bytes : List ℕ) → ((nat_lt most (length (take (suc most) bytes)) ≡ true) × (nat_lt most (length bytes) ≡ true)) ⊎ (take (suc most) bytes ≡ bytes)

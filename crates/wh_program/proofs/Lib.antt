@@ -11,6 +11,7 @@ pub mod ReadingLemmas
 pub mod WarehouseLemmas
 pub mod CheckLemmas
 pub mod DeliveryLemmas
+pub mod ManifestLemmas
 pub mod NamedLemmas
 pub mod MemoryLemmas
 pub mod TableNames

@@ -52,14 +52,14 @@ prints-cut old mid new code text part byte rest told whole went failed said =
     })
 
 -- memory ran out before anything was done
-pub not_run : (holds : Files) (refuses : Refusals) (before : Stores) (prints : Told → Type 0) (e : AllocError) (task : Task) → prints (Err e) → Runs holds refuses before before prints task
-not_run holds refuses before prints e (Trial dim path policy) p = (Err e, tt, p)
-not_run holds refuses before prints e (Init file policy) p = λ content stood. (Err e, inr (record { same = stood; tells = tt }), p)
-not_run holds refuses before prints e (Load file kind id path) p = λ content stood. (Err e, inr (record { same = stood; tells = tt }), p)
-not_run holds refuses before prints e (Migrate file id policy) p = λ content stood. (Err e, inr (record { same = stood; tells = tt }), p)
-not_run holds refuses before prints e (Deliver file manifest) p = λ content stood. (Err e, inr (record { same = stood; tells = tt }), p)
-not_run holds refuses before prints e (Plan file kind id path) p = λ content stood. (Err e, inr (record { same = stood; tells = tt }), p)
-not_run holds refuses before prints e (Report file words) p = λ content stood. (Err e, inr (record { same = stood; tells = tt }), p)
-not_run holds refuses before prints e (Dump file table) p = λ content of_commands stood. (Err e, inr (record { same = stood; tells = tt }), p)
-not_run holds refuses before prints e (Check file) p = λ content stood. (Err e, inr (record { same = stood; tells = tt }), p)
-not_run holds refuses before prints e (Status file) p = λ content stood. (Err e, inr (record { same = stood; tells = tt }), p)
+pub not_run : (holds : Files) (refuses : Refusals) (before : Stores) (same : Type 0) (prints : Told → Type 0) (e : AllocError) (task : Task) → same → prints (Err e) → Runs holds refuses before before same prints task
+not_run holds refuses before same prints e (Trial dim path policy) is p = (Err e, tt, p)
+not_run holds refuses before same prints e (Init file policy) is p = ((λ content stood. (Err e, inr (record { same = stood; tells = tt }), p)), (Err e, inr (is, tt), p))
+not_run holds refuses before same prints e (Load file kind id path) is p = λ content stood. (Err e, inr (record { same = stood; tells = tt }), p)
+not_run holds refuses before same prints e (Migrate file id policy) is p = λ content stood. (Err e, inr (record { same = stood; tells = tt }), p)
+not_run holds refuses before same prints e (Deliver file manifest) is p = λ content stood. (Err e, inr (record { same = stood; tells = tt }), p)
+not_run holds refuses before same prints e (Plan file kind id path) is p = λ content stood. (Err e, inr (record { same = stood; tells = tt }), p)
+not_run holds refuses before same prints e (Report file words) is p = λ content stood. (Err e, inr (record { same = stood; tells = tt }), p)
+not_run holds refuses before same prints e (Dump file table) is p = λ content of_commands stood. (Err e, inr (record { same = stood; tells = tt }), p)
+not_run holds refuses before same prints e (Check file) is p = λ content stood. (Err e, inr (record { same = stood; tells = tt }), p)
+not_run holds refuses before same prints e (Status file) is p = λ content stood. (Err e, inr (record { same = stood; tells = tt }), p)

@@ -36,11 +36,11 @@ use Rattle.wh_store.specs.Raw.{FormatIs}
 use Rattle.wh_store.specs.declared.fault.OpenFault.{OpenFault}
 use Rattle.wh_store.specs.declared.fault.OpenFault.TheVariants as opening
 use Rattle.wh_engine.specs.declared.session.Session.{Session}
-use Rattle.wh_program.specs.Answer.{done, failed, no_file_line}
+use Rattle.wh_program.specs.Answer.{Printed, done, refused, failed, no_file_line, policy_line}
 use Rattle.wh_program.specs.Inputs.{Files, Refusals}
 use Rattle.wh_program.specs.Reply.{sent_answer, plan_answer, opening_answer, status_answer, making_answer, made_line}
 use Rattle.wh_program.specs.Standing.{DatabaseContent, Nothing, Holds, Keeps, Standing, Unknown, Rests, LeftAt, IsAt, Stands}
-use Rattle.wh_program.specs.Warehouse.{Told, printed, Opens, IsOpenedBy, IsUnread, IsReplied, IsForetold, IsCounted, Makes, AnswersWith, IsTried, IsNotConnected}
+use Rattle.wh_program.specs.Warehouse.{Told, printed, Opens, IsOpenedBy, IsUnread, IsReplied, IsForetold, IsCounted, Makes, AnswersWith, AnswersMaking, IsTried, IsNotConnected}
 use Rattle.wh_program.specs.declared.host.HostError.{HostError}
 use Rattle.wh_program.specs.declared.host.HostError.TheVariants.{NoFile}
 
@@ -239,6 +239,26 @@ module _ (refuses : Refusals) (stands : Standing → Type 0) (content : Database
         | Ok output ↦ λ did same why is other. inl (record { after = did.0; then_stands = did.2; did = subst (λ t. does t did.0) (sym is) did.1 })
         | Err e ↦ λ did same why is other. inr (record { same = same; tells = IfOk-weaker told _ _ (λ a says. (why says.0, says.1)) other })
       ] did same why is other
+
+-- ---- a policy that is judged first
+
+-- under a bad one nothing is done
+pub nothing_made : (content : DatabaseContent) (bytes : List ℕ) (fault : PolicyFault) (a : Printed) → policy_at bytes ≡ Err fault → a ≡ refused (policy_line fault) → Makes bytes content (Ok a) (Rests content)
+nothing_made Nothing bytes fault a bad tells = inr (record { why = making.Policy fault; leaves = (bad, refl); tells = tells })
+nothing_made (Holds limits commands) bytes fault a bad tells = record { why = making.Policy fault; refused = bad; same = refl; tells = tells }
+nothing_made (Keeps stored) bytes fault a bad tells = record { why = making.Policy fault; refused = bad; same = refl; tells = tells }
+
+module _ (holds : Files) (refuses : Refusals) (stands : Standing → Type 0) (content : DatabaseContent) (file path bytes : List ℕ) (held : holds path (Some bytes)) where
+  pub bad_answered : (fault : PolicyFault) (told : Told) → policy_at bytes ≡ Err fault → stands (Rests content) → IfOk told (λ a. a ≡ refused (policy_line fault))
+      → AnswersWith holds refuses stands Makes content file path told
+  bad_answered fault (Ok a) bad same tells =
+      inl (record { bytes = bytes; held = held; tried = record { after = Rests content; then_stands = same; did = nothing_made content bytes fault a bad tells } })
+  bad_answered fault (Err e) bad same tells = inr (record { same = same; tells = tt })
+
+  -- under a good one a warehouse is made
+  pub good_answered : (told : Told) → AnswersMaking refuses stands content file bytes told → AnswersWith holds refuses stands Makes content file path told
+  good_answered told (inl tried) = inl (record { bytes = bytes; held = held; tried = tried })
+  good_answered told (inr not) = inr (record { same = not.same; tells = IfOk-weaker told _ _ (λ a says. inr says) not.tells })
 
 -- what a failed visit leaves
 pub same_left : {T E : Type 0} (visit : Result T E) (before after : List ℕ → Standing → Type 0) (name : List ℕ) (standing : Standing)

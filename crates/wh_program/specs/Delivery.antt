@@ -18,7 +18,7 @@ use Rattle.wh_admission.specs.declared.command.Reply.{Reply}
 use Rattle.wh_engine.specs.declared.fault.Fault.{Fault}
 use Rattle.wh_engine.specs.declared.fault.Fault.TheVariants as fault
 use Rattle.wh_program.specs.Answer.{Printed, refused, failed, line, no_file_line, status_code}
-use Rattle.wh_program.specs.Inputs.{Files, Refusals}
+use Rattle.wh_program.specs.Inputs.{Files, Refusals, as_manifest}
 use Rattle.wh_program.specs.Reply.{reply_answer, refused_line, fault_answer}
 use Rattle.wh_program.specs.Standing.{DatabaseContent, Holds, Standing, Rests, LeftAt}
 use Rattle.wh_program.specs.Warehouse.{Told, printed, Opens, IsTried, IsCommandOf, IsNotConnected}
@@ -114,8 +114,8 @@ abbrev pub AnswersRead : Files → Refusals → (Standing → Type 0) → Databa
 AnswersRead holds refuses stands content file (Ok entries) told = AnswersListed holds refuses stands content file entries told
 AnswersRead holds refuses stands content file (Err bad) told = IsNotSent stands content told (λ a. a ≡ refused (manifest_line bad))
 
--- A delivery of the commands that the manifest in a file lists. It is read first, then its inputs in order, and then the warehouse is opened.
+-- A delivery of the commands that the manifest in a file lists, as far as it counts. It is read first, then its inputs in order, and then the warehouse is opened.
 abbrev pub AnswersDelivery : Files → Refusals → (Standing → Type 0) → DatabaseContent → (file manifest : List ℕ) → Told → Type 0
 AnswersDelivery holds refuses stands content file manifest told =
-    ((bytes : List ℕ) × holds manifest (Some bytes) × AnswersRead holds refuses stands content file (manifest_of bytes) told)
+    ((bytes : List ℕ) × as_manifest holds manifest (Some bytes) × AnswersRead holds refuses stands content file (manifest_of bytes) told)
     ⊎ IsNotSent stands content told (λ a. holds manifest None × (a ≡ failed (no_file_line manifest)))

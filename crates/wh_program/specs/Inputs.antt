@@ -1,5 +1,5 @@
 -- The files that a run reads, and how far.
-use Rattle.std.specs.Prelude.{◌≡◌, ℕ, suc, List, take, Option, Some, None}
+use Rattle.std.specs.Prelude.{◌≡◌, ℕ, suc, List, [], ◌∷◌, ◌++◌, length, take, nat_lt, if◌then◌else◌, Option, Some, None}
 use Rattle.wh_batch.specs.declared.kind.CommandKind.{CommandKind}
 use Rattle.wh_batch.specs.declared.kind.CommandKind.TheVariants.{Batch, Migration}
 
@@ -28,3 +28,16 @@ policy_limit = 65_536
 abbrev pub input_limit : CommandKind → ℕ
 input_limit (Batch kind) = batch_limit
 input_limit Migration = policy_limit
+
+-- the most bytes of a manifest, 64 MB
+abbrev pub manifest_limit : ℕ
+manifest_limit = 67_108_864
+
+-- what counts of a manifest: all of it, or the first of its bytes and then one that is in no text, for all that follow, so that the record which is cut there is a bad one
+unfoldable pub manifest_part : List ℕ → List ℕ
+manifest_part bytes = if nat_lt manifest_limit (length bytes) then take manifest_limit bytes ++ 255 ∷ [] else bytes
+
+-- that of the manifest under a path, if a file is there
+abbrev pub as_manifest : Files → Files
+as_manifest holds path None = holds path None
+as_manifest holds path (Some bytes) = (whole : List ℕ) × holds path (Some whole) × (bytes ≡ manifest_part whole)

@@ -1,14 +1,16 @@
--- Nothing is lost where an input is read to its limit and a byte; and which words are those of a command.
-use Rattle.std.specs.Prelude.{◌≡◌, ◌⊎◌, ℕ, suc, List, take, true, None}
+-- Nothing is lost where an input is read to its limit and a byte, and a longer manifest is refused; and which words are those of a command.
+use Rattle.std.specs.Prelude.{◌≡◌, ◌⊎◌, ◌<◌, ℕ, suc, List, length, take, true, None, Err}
 use Rattle.std.specs.List.{list_all}
 use Rattle.wh_policy.specs.Policy.{policy_at}
 use Rattle.wh_policy.specs.declared.attribute.Dim.{Dim}
 use Rattle.wh_policy.specs.declared.policy.Policy.{Policy}
+use Rattle.wh_batch.specs.Manifest.{manifest_of}
 use Rattle.wh_batch.specs.declared.kind.CommandKind.{CommandKind}
+use Rattle.wh_batch.specs.declared.manifest.BadManifest.{BadManifest}
 use Rattle.wh_admission.specs.Admission.{content_of}
 use Rattle.wh_program.specs.Answer.{trial_rows}
 use Rattle.wh_program.specs.CommandLine.{CommandLine, Says, is_operand}
-use Rattle.wh_program.specs.Inputs.{batch_limit, policy_limit, input_limit}
+use Rattle.wh_program.specs.Inputs.{batch_limit, policy_limit, input_limit, manifest_limit, manifest_part}
 use Rattle.wh_program.specs.Task.{asked_by, no_line, task_of}
 
 -- a policy is what is read so
@@ -22,6 +24,10 @@ TrialsAreReadSo = (dim : Dim) (policy : Policy) (bytes : List ℕ) → trial_row
 -- a command says what its input says that is read so
 abbrev pub CommandsAreReadSo : Type 0
 CommandsAreReadSo = (kind : CommandKind) (policy : Policy) (bytes : List ℕ) → content_of kind policy (take (suc (input_limit kind)) bytes) ≡ content_of kind policy bytes
+
+-- a manifest of more bytes than the limit is a bad one
+abbrev pub LongManifestsAreBad : Type 0
+LongManifestsAreBad = (bytes : List ℕ) → manifest_limit < length bytes → (bad : BadManifest) × (manifest_of (manifest_part bytes) ≡ Err bad)
 
 -- ---- words
 

@@ -8,7 +8,7 @@ use Rattle.wh_program.specs.Inputs.{Files, Refusals, up_to, batch_limit, policy_
 use Rattle.wh_program.specs.Readings.{AnswersReport, AnswersDump}
 use Rattle.wh_program.specs.Standing.{DatabaseContent, IsOfCommands, Standing, Rests}
 use Rattle.wh_program.specs.Task.{Task, Trial, Init, Load, Migrate, Deliver, Plan, Report, Dump, Check, Status}
-use Rattle.wh_program.specs.Warehouse.{Told, Makes, Sends, Plans, AnswersWith, AnswersStatus}
+use Rattle.wh_program.specs.Warehouse.{Told, Makes, Sends, Plans, AnswersWith, AnswersStatus, IsJudgedFirst}
 
 -- what a host stores under its names
 abbrev pub Stores : Type 1
@@ -22,15 +22,18 @@ RunsOver before file answers prints = (content : DatabaseContent) → before fil
 abbrev pub RunsOverCommands : Stores → (file : List ℕ) → (DatabaseContent → Told → Type 0) → (Told → Type 0) → Type 0
 RunsOverCommands before file answers prints = (content : DatabaseContent) → IsOfCommands content → before file (Rests content) → (told : Told) × answers content told × prints told
 
--- What is answered and printed, by the files that a host holds, each as far as it is read, by the names that it refuses, and by what it stores before and after.
-abbrev pub Runs : Files → Refusals → (before after : Stores) → (prints : Told → Type 0) → Task → Type 0
-Runs holds refuses before after prints (Trial dim path policy) = (told : Told) × IfOk told (AnswersTrial holds dim path policy) × prints told
-Runs holds refuses before after prints (Init file policy) = RunsOver before file (λ content told. AnswersWith (up_to policy_limit holds) refuses (after file) Makes content file policy told) prints
-Runs holds refuses before after prints (Load file kind id path) = RunsOver before file (λ content told. AnswersWith (up_to batch_limit holds) refuses (after file) (Sends (Batch kind) id) content file path told) prints
-Runs holds refuses before after prints (Migrate file id policy) = RunsOver before file (λ content told. AnswersWith (up_to policy_limit holds) refuses (after file) (Sends Migration id) content file policy told) prints
-Runs holds refuses before after prints (Deliver file manifest) = RunsOver before file (λ content told. AnswersDelivery holds refuses (after file) content file manifest told) prints
-Runs holds refuses before after prints (Plan file kind id path) = RunsOver before file (λ content told. AnswersWith (up_to (input_limit kind) holds) refuses (after file) (Plans kind id) content file path told) prints
-Runs holds refuses before after prints (Report file words) = RunsOver before file (λ content told. AnswersReport refuses (after file) content file words told) prints
-Runs holds refuses before after prints (Dump file table) = RunsOverCommands before file (λ content told. AnswersDump refuses (after file) content file table told) prints
-Runs holds refuses before after prints (Check file) = RunsOver before file (λ content told. AnswersCheck refuses (after file) content file told) prints
-Runs holds refuses before after prints (Status file) = RunsOver before file (λ content told. AnswersStatus refuses (after file) content file told) prints
+-- What is answered and printed, by the files that a host holds, each as far as it is read, by the names that it refuses, by what it stores before and after, and by
+-- whether it is the same as before.
+abbrev pub Runs : Files → Refusals → (before after : Stores) → (same : Type 0) → (prints : Told → Type 0) → Task → Type 0
+Runs holds refuses before after same prints (Trial dim path policy) = (told : Told) × IfOk told (AnswersTrial holds dim path policy) × prints told
+Runs holds refuses before after same prints (Init file policy) =
+    RunsOver before file (λ content told. AnswersWith (up_to policy_limit holds) refuses (after file) Makes content file policy told) prints
+    × ((told : Told) × IsJudgedFirst (up_to policy_limit holds) same policy told × prints told)
+Runs holds refuses before after same prints (Load file kind id path) = RunsOver before file (λ content told. AnswersWith (up_to batch_limit holds) refuses (after file) (Sends (Batch kind) id) content file path told) prints
+Runs holds refuses before after same prints (Migrate file id policy) = RunsOver before file (λ content told. AnswersWith (up_to policy_limit holds) refuses (after file) (Sends Migration id) content file policy told) prints
+Runs holds refuses before after same prints (Deliver file manifest) = RunsOver before file (λ content told. AnswersDelivery holds refuses (after file) content file manifest told) prints
+Runs holds refuses before after same prints (Plan file kind id path) = RunsOver before file (λ content told. AnswersWith (up_to (input_limit kind) holds) refuses (after file) (Plans kind id) content file path told) prints
+Runs holds refuses before after same prints (Report file words) = RunsOver before file (λ content told. AnswersReport refuses (after file) content file words told) prints
+Runs holds refuses before after same prints (Dump file table) = RunsOverCommands before file (λ content told. AnswersDump refuses (after file) content file table told) prints
+Runs holds refuses before after same prints (Check file) = RunsOver before file (λ content told. AnswersCheck refuses (after file) content file told) prints
+Runs holds refuses before after same prints (Status file) = RunsOver before file (λ content told. AnswersStatus refuses (after file) content file told) prints

@@ -1,7 +1,8 @@
 -- What the words over a warehouse answer, and what they leave of what stood.
-use Rattle.std.specs.Prelude.{◌≡◌, ◌⊎◌, ℕ, List, [], ◌∷◌, Option, Some, None, true, false, Result, Ok, Err, IfOk}
+use Rattle.std.specs.Prelude.{◌≡◌, ◌⊎◌, ⊤, ℕ, List, [], ◌∷◌, Option, Some, None, true, false, Result, Ok, Err, IfOk}
 use Rattle.std.specs.declared.alloc.AllocError.{AllocError}
 use Rattle.wh_policy.specs.Policy.{policy_at}
+use Rattle.wh_policy.specs.declared.fault.PolicyFault.{PolicyFault}
 use Rattle.wh_policy.specs.declared.policy.Policy.{Policy}
 use Rattle.wh_history.specs.Accepted.{Accepted}
 use Rattle.wh_history.specs.Tables.{Limits}
@@ -27,7 +28,7 @@ use Rattle.wh_rows.specs.declared.format.Format.TheVariants.{One}
 use Rattle.wh_store.specs.Raw.{FormatIs}
 use Rattle.wh_store.specs.declared.fault.OpenFault.{OpenFault}
 use Rattle.wh_store.specs.declared.fault.OpenFault.TheVariants as opening
-use Rattle.wh_program.specs.Answer.{Printed, done, failed, no_file_line}
+use Rattle.wh_program.specs.Answer.{Printed, done, refused, failed, no_file_line, policy_line}
 use Rattle.wh_program.specs.Inputs.{Files, Refusals, up_to, input_limit}
 use Rattle.wh_program.specs.Reply.{sent_answer, plan_answer, opening_answer, status_answer, making_answer, made_line}
 use Rattle.wh_program.specs.Run.{out_of_memory}
@@ -203,6 +204,21 @@ Sends kind id bytes = Opens (IsReplied (record { id = id; kind = kind; bytes = b
 -- a plan of one
 abbrev pub Plans : CommandKind → (id bytes : List ℕ) → DatabaseContent → Told → Standing → Type 0
 Plans kind id bytes = Opens (IsForetold (record { id = id; kind = kind; bytes = bytes }))
+
+-- a making under the policy of these bytes
+abbrev pub AnswersMaking : Refusals → (Standing → Type 0) → DatabaseContent → (file bytes : List ℕ) → Told → Type 0
+AnswersMaking refuses stands content file bytes told = IsTried stands (Makes bytes content) told ⊎ IsNotConnected refuses stands content file told
+
+-- a bad policy has the line of its first fault as the answer, or memory ran out, and the host is the same as before
+abbrev pub IsJudged : (same : Type 0) → Result Policy PolicyFault → Told → Type 0
+IsJudged same (Ok policy) told = ⊤
+IsJudged same (Err fault) told = same × IfOk told (λ a. a ≡ refused (policy_line fault))
+
+-- The policy in a file is read and judged before anything is done, and so before the warehouse's name is: what is said of a good one stands elsewhere.
+abbrev pub IsJudgedFirst : Files → (same : Type 0) → (path : List ℕ) → Told → Type 0
+IsJudgedFirst holds same path told =
+    ((bytes : List ℕ) × holds path (Some bytes) × IsJudged same (policy_at bytes) told)
+    ⊎ (same × IfOk told (λ a. holds path None × (a ≡ failed (no_file_line path))))
 
 abbrev pub AnswersStatus : Refusals → (Standing → Type 0) → DatabaseContent → (file : List ℕ) → Told → Type 0
 AnswersStatus refuses stands content file told = IsTried stands (Opens IsCounted content) told ⊎ IsNotConnected refuses stands content file told

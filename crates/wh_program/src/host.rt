@@ -3,10 +3,11 @@
 ghost use Rattle.std.specs.Prelude.{◌≡◌, ◌≢◌, ℕ, suc, List, take, Option, Some, None, ⊤, IfOk, IfErr, OnErr, option_map};
 ghost use Rattle.sqlite.specs.Held.{state};
 ghost use Rattle.sqlite.specs.State.{HasCleanDisk};
-ghost use Rattle.wh_program.specs.Inputs.{up_to};
+ghost use Rattle.wh_program.specs.Inputs.{up_to, manifest_limit, manifest_part, as_manifest};
 ghost use Rattle.wh_program.specs.Standing.{DatabaseContent, Standing, Rests, Stands};
 ghost use Rattle.wh_program.specs.declared.host.HostError.TheVariants.{NoFile};
 
+use crate::limits::MANIFEST_LIMIT;
 use sqlite::{Alter, Connection};
 use std::alloc::{AllocError, Global};
 use std::io::Write;
@@ -73,8 +74,8 @@ pub trait Host {
         ensures not_visited { OnErr result ((any : List ℕ) (standing : Standing) → stores self.old any standing → stores self.new any standing) }
         ensures others { (other : List ℕ) (standing : Standing) → other ≢ name.now → stores self.old other standing → stores self.new other standing };
 
-    /// The same for a visitor that makes no warehouse. Where no file has the name, the connection is that of an empty database in
-    /// memory, and no file is made.
+    /// The same for a visitor that makes no warehouse. Where no file has the name, or one that can't be a database, the connection is
+    /// that of an empty database in memory, no file is made, and what is there stays as it is.
     fn with_existing<V: Visitor, W: Write>(
         &mut self,
         alloc: Global,
@@ -116,13 +117,28 @@ pub fn file_of<H: Host>(
     }
 }
 
-/// All bytes of a file, if it is there.
-pub fn whole_file_of<H: Host>(
+/// What counts of a manifest, of which these bytes were read. No text has the byte that stands for what follows.
+fn part_of(mut bytes: Vec<u8>) -> Result<Vec<u8>, AllocError>
+    ensures { IfOk result (λ part. (whole : List ℕ) → bytes.items ≡ take (suc manifest_limit) whole → part.items ≡ manifest_part whole) }
+{
+    if bytes.len() <= MANIFEST_LIMIT {
+        return Ok(bytes);
+    }
+    bytes.truncate(MANIFEST_LIMIT);
+    bytes.push(255)?;
+    Ok(bytes)
+}
+
+/// What counts of a manifest, if it is there.
+pub fn manifest_file_of<H: Host>(
     alloc: Global,
     path: &str,
     host: &H,
 ) -> Result<Option<Vec<u8>>, AllocError>
-    ensures { IfOk result (λ file. H.holds host.now path.now (option_map (λ bytes. bytes.items) file)) }
+    ensures { IfOk result (λ file. as_manifest (H.holds host.now) path.now (option_map (λ bytes. bytes.items) file)) }
 {
-    file_of(alloc, path, usize::MAX, host)
+    let Some(bytes) = file_of(alloc, path, MANIFEST_LIMIT, host)? else {
+        return Ok(None);
+    };
+    Ok(Some(part_of(bytes)?))
 }

@@ -1,6 +1,6 @@
 //! Laws of the inputs and the words of a run. They speak of the definitions alone and do nothing.
 
-ghost use Rattle.wh_program.specs.Laws.{PoliciesAreReadSo, TrialsAreReadSo, CommandsAreReadSo, WordsAreRead, OtherWordsAreNone};
+ghost use Rattle.wh_program.specs.Laws.{PoliciesAreReadSo, TrialsAreReadSo, CommandsAreReadSo, LongManifestsAreBad, WordsAreRead, OtherWordsAreNone};
 
 /// Nothing is lost where an input is read to its limit and a byte: a policy, a trial's batch and a command are what the whole file makes
 /// them.
@@ -8,6 +8,11 @@ pub fn inputs_are_told_by_their_beginnings()
     ensures policies { PoliciesAreReadSo }
     ensures trials { TrialsAreReadSo }
     ensures commands { CommandsAreReadSo }
+{}
+
+/// No manifest of more than 64 MB is delivered: what counts of it has a bad record, whatever it lists.
+pub fn long_manifests_are_bad()
+    ensures { LongManifestsAreBad }
 {}
 
 /// The words of a command ask for what it is to do. Of words none of which begins with a hyphen all others ask for nothing.

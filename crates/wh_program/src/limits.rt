@@ -11,6 +11,9 @@ pub const BATCH_LIMIT: usize = 1_000_000;
 /// The most bytes of a policy, as `wh_policy` takes one.
 pub const POLICY_LIMIT: usize = 65_536;
 
+/// The most bytes of a manifest: 64 MB.
+pub const MANIFEST_LIMIT: usize = 64 * 1024 * 1024;
+
 /// The most bytes of the input of a command.
 pub fn input_limit(kind: CommandKind) -> usize
     ensures { result ≡ input_limit kind }

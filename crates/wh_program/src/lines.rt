@@ -144,12 +144,19 @@ fn push_policy_line(text: &mut Vec<u8>, fault: PolicyFault) -> Result<(), AllocE
     push_named_line(text, "refused: E4 policy, ", policy_fault_name(fault))
 }
 
-pub fn policy_line(alloc: Global, fault: PolicyFault) -> Result<Vec<u8>, AllocError>
+fn policy_line(alloc: Global, fault: PolicyFault) -> Result<Vec<u8>, AllocError>
     ensures { IfOk result (λ line. line.items ≡ policy_line fault) }
 {
     let mut line = Vec::new(alloc);
     push_policy_line(&mut line, fault)?;
     Ok(line)
+}
+
+/// The answer to a policy that has a fault.
+pub fn bad_policy(alloc: Global, fault: PolicyFault) -> Result<Answer, AllocError>
+    ensures { IfOk result (λ answer. answer ≡ refused (policy_line fault)) }
+{
+    Ok(Answer::new(Status::Refused, policy_line(alloc, fault)?))
 }
 
 /// The answer to a manifest that is a bad one.

@@ -29,7 +29,7 @@ use wh_batch::CommandKind;
 
 /// Does what the words of a command ask for, and prints the answer.
 fn run_task<H: Host, W: Write>(alloc: Global, task: Task, host: &mut H, out: &mut W) -> Status
-    ensures { Runs (H.holds host.old) (H.refuses host.old) (H.stores host.old) (H.stores host.new) (λ told. Prints (W.contents out.old) (W.contents out.new) (status_code result) (printed told)) (task_in task.entry) }
+    ensures { Runs (H.holds host.old) (H.refuses host.old) (H.stores host.old) (H.stores host.new) (host.new ≡ host.old) (λ told. Prints (W.contents out.old) (W.contents out.new) (status_code result) (printed told)) (task_in task.entry) }
 {
     match task {
         Task::Trial { dim, path, policy } => {
@@ -66,7 +66,7 @@ fn run_task<H: Host, W: Write>(alloc: Global, task: Task, host: &mut H, out: &mu
 /// Answers a request.
 fn run_request<H: Host, W: Write>(alloc: Global, request: Request, host: &mut H, out: &mut W) -> u8
     ensures runs { (task : TaskAsked) → asked_in request.entry ≡ Some (Ok task)
-        → Runs (H.holds host.old) (H.refuses host.old) (H.stores host.old) (H.stores host.new) (λ told. Prints (W.contents out.old) (W.contents out.new) result (printed told)) task }
+        → Runs (H.holds host.old) (H.refuses host.old) (H.stores host.old) (H.stores host.new) (host.new ≡ host.old) (λ told. Prints (W.contents out.old) (W.contents out.new) result (printed told)) task }
     ensures right_words { (task : TaskAsked) → asked_in request.entry ≡ Some (Ok task) → result ≢ 4 }
     ensures wrong_words { (line : List ℕ) → asked_in request.entry ≡ Some (Err line) → (host.new ≡ host.old) × Prints (W.contents out.old) (W.contents out.new) result (wrong_words line) }
     ensures declined { (faults : Kinds) → IsDeclined faults request.entry → (host.new ≡ host.old) × ((answer : Printed) × Declines faults answer × Prints (W.contents out.old) (W.contents out.new) result answer) }
@@ -82,7 +82,7 @@ fn run_request<H: Host, W: Write>(alloc: Global, request: Request, host: &mut H,
 pub fn run<S: AsStr, H: Host, W: Write>(alloc: Global, words: &[S], host: &mut H, out: &mut W) -> u8
     // What each command prints, with its status, and what it leaves under the name of a warehouse.
     ensures runs { (line : CommandLine) (task : TaskAsked) → Says (map S.text words.now) line → task_of line ≡ Ok task
-        → Runs (H.holds host.old) (H.refuses host.old) (H.stores host.old) (H.stores host.new) (λ told. Prints (W.contents out.old) (W.contents out.new) result (printed told)) task }
+        → Runs (H.holds host.old) (H.refuses host.old) (H.stores host.old) (H.stores host.new) (host.new ≡ host.old) (λ told. Prints (W.contents out.old) (W.contents out.new) result (printed told)) task }
     // Its words are right, and no run of it ends as wrong words do.
     ensures right_words { (line : CommandLine) (task : TaskAsked) → Says (map S.text words.now) line → task_of line ≡ Ok task → result ≢ 4 }
     // Where one of its words is none of those that are listed, the line that says so is printed, and the host is as it was.
@@ -90,7 +90,7 @@ pub fn run<S: AsStr, H: Host, W: Write>(alloc: Global, words: &[S], host: &mut H
         × (Prints (W.contents out.old) (W.contents out.new) result (wrong_words wrong) ⊎ Prints (W.contents out.old) (W.contents out.new) result out_of_memory) }
     // Any words in which clap reads a command are run as that command.
     ensures reads { (task : TaskAsked) → asked_by (map S.text words.now) ≡ Some task
-        → Runs (H.holds host.old) (H.refuses host.old) (H.stores host.old) (H.stores host.new) (λ told. Prints (W.contents out.old) (W.contents out.new) result (printed told)) task × (result ≢ 4) }
+        → Runs (H.holds host.old) (H.refuses host.old) (H.stores host.old) (H.stores host.new) (host.new ≡ host.old) (λ told. Prints (W.contents out.old) (W.contents out.new) result (printed told)) task × (result ≢ 4) }
     // All other words leave the host as it was: the answer is help, where they ask for it, and else what is wrong with them.
     ensures declines { asked_by (map S.text words.now) ≡ None → (host.new ≡ host.old)
         × (((answer : Printed) × Declines (faults_in (map S.text words.now)) answer × Prints (W.contents out.old) (W.contents out.new) result answer)

@@ -6,7 +6,7 @@ ghost use Rattle.wh_program.specs.Room.{longest_delivery};
 ghost use Rattle.wh_program.specs.Standing.{DatabaseContent, Rests};
 ghost use Rattle.wh_program.specs.Warehouse.{Opens};
 
-use crate::host::{Host, Visitor, whole_file_of};
+use crate::host::{Host, Visitor, manifest_file_of};
 use crate::lines::answer::Answer;
 use crate::lines::delivery_text::delivery_answer;
 use crate::lines::{bad_manifest, no_file, opening_answer, room_for_delivery};
@@ -116,7 +116,7 @@ pub fn deliver<H: Host>(
     ensures { (content : DatabaseContent) → H.stores host.old file.now (Rests content)
         → AnswersDelivery (H.holds host.old) (H.refuses host.old) (H.stores host.new file.now) content file.now manifest.now result }
 {
-    let Some(text) = whole_file_of(alloc, manifest, host)? else {
+    let Some(text) = manifest_file_of(alloc, manifest, host)? else {
         return no_file(alloc, manifest);
     };
     match Manifest::read(alloc, &text) {

@@ -8,7 +8,7 @@ ghost use Rattle.wh_program.specs.Request.{text_of};
 use crate::host::{Host, file_of};
 use crate::limits::{BATCH_LIMIT, POLICY_LIMIT};
 use crate::lines::answer::{Answer, Status};
-use crate::lines::{batch_line, no_file, policy_line};
+use crate::lines::{bad_policy, batch_line, no_file};
 use std::alloc::{AllocError, Global};
 use wh_batch::{Format, dimension_records};
 use wh_day::ParseError;
@@ -44,9 +44,7 @@ fn answer_under(alloc: Global, dim: Dim, policy: &[u8], batch: &[u8]) -> Result<
 {
     match Policy::read(alloc, policy) {
         Ok(policy) => table_answer(alloc, dim, &policy, batch),
-        Err(ParseError::Fault(fault)) => {
-            Ok(Answer::new(Status::Refused, policy_line(alloc, fault)?))
-        }
+        Err(ParseError::Fault(fault)) => bad_policy(alloc, fault),
         Err(ParseError::Memory) => Err(AllocError),
     }
 }

@@ -5,14 +5,14 @@ ghost use Rattle.wh_program.specs.Answer.{failed, no_file_line};
 ghost use Rattle.wh_program.specs.Inputs.{up_to, policy_limit, input_limit};
 ghost use Rattle.wh_program.specs.Room.{longest_answer};
 ghost use Rattle.wh_program.specs.Standing.{DatabaseContent, Standing, Rests};
-ghost use Rattle.wh_program.specs.Warehouse.{Opens, IsReplied, IsForetold, IsCounted, IsCommandOf, Makes, Sends, Plans, AnswersWith, AnswersStatus};
+ghost use Rattle.wh_program.specs.Warehouse.{Opens, IsReplied, IsForetold, IsCounted, IsCommandOf, Makes, Sends, Plans, AnswersWith, AnswersMaking, AnswersStatus, IsJudgedFirst};
 ghost use Rattle.wh_program.specs.declared.host.HostError.TheVariants.{NoFile};
 
 use crate::host::{Host, HostError, Visitor, file_of};
 use crate::limits::{POLICY_LIMIT, input_limit};
 use crate::lines::answer::Answer;
 use crate::lines::{
-    made, making_answer, no_file, opening_answer, plan_answer, room_for_line, room_for_receipt,
+    bad_policy, made, making_answer, no_file, opening_answer, plan_answer, room_for_line, room_for_receipt,
     sent_answer, status_answer,
 };
 use sqlite::{Alter, Connection};
@@ -20,8 +20,9 @@ use sqlite_value::value::Bytes;
 use std::alloc::{AllocError, Global};
 use std::io;
 use std::io::Write;
-use wh_day::Value;
+use wh_day::{ParseError, Value};
 use wh_engine::{Command, CommandKind, Engine};
+use wh_policy::Policy;
 use wh_rows::Limits;
 
 /// Makes a warehouse under the policy that these bytes write.
@@ -151,21 +152,38 @@ pub fn answered(
     }
 }
 
-/// Makes the warehouse in a file, under the policy in another, which is read first.
+/// Makes the warehouse in a file, under the policy that these bytes write.
+fn make<H: Host>(
+    alloc: Global,
+    file: &str,
+    policy: Vec<u8>,
+    host: &mut H,
+) -> Result<Answer, AllocError>
+    ensures { (content : DatabaseContent) → H.stores host.old file.now (Rests content) → AnswersMaking (H.refuses host.old) (H.stores host.new file.now) content file.now policy.items result }
+{
+    let visit = host.with_connection(alloc, file, Making { policy }, &mut io::sink());
+    answered(alloc, file, visit)
+}
+
+/// Makes the warehouse in a file, under the policy in another, which is read and judged first: under a bad one nothing is connected.
 pub fn init<H: Host>(
     alloc: Global,
     file: &str,
     policy: &str,
     host: &mut H,
 ) -> Result<Answer, AllocError>
-    ensures { (content : DatabaseContent) → H.stores host.old file.now (Rests content)
+    ensures made { (content : DatabaseContent) → H.stores host.old file.now (Rests content)
         → AnswersWith (up_to policy_limit (H.holds host.old)) (H.refuses host.old) (H.stores host.new file.now) Makes content file.now policy.now result }
+    ensures judged { IsJudgedFirst (up_to policy_limit (H.holds host.old)) (host.new ≡ host.old) policy.now result }
 {
     let Some(text) = file_of(alloc, policy, POLICY_LIMIT, host)? else {
         return no_file(alloc, policy);
     };
-    let visit = host.with_connection(alloc, file, Making { policy: text }, &mut io::sink());
-    answered(alloc, file, visit)
+    match Policy::read(alloc, &text) {
+        Ok(_) => make(alloc, file, text, host),
+        Err(ParseError::Fault(fault)) => bad_policy(alloc, fault),
+        Err(ParseError::Memory) => Err(AllocError),
+    }
 }
 
 /// The command whose batch, or whose policy, is in a file, if the file is there. It is read as far as it has to be.

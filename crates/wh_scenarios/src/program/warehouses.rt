@@ -362,13 +362,28 @@ file c.csv
 > id,day,tier
 > C9,2024-06-08,Gold
 
-# Under a bad policy none is made, and then one can be.
+# A bad policy is refused before anything has the name, and then a warehouse can be made.
+run init w cut.toml
+= refused: E4 policy, P1 not toml
+= status 2
+stands w
+= no
+run init w flat.toml
+= accepted 1 init: 0 records, 0 placeholders
+= status 0
+stands w
+= yes
+
+# It is refused over a warehouse too, which stays, and under the name of a file.
 run init w cut.toml
 = refused: E4 policy, P1 not toml
 = status 2
 run init w flat.toml
-= accepted 1 init: 0 records, 0 placeholders
-= status 0
+= refused: E11 not empty
+= status 2
+run init p1.csv cut.toml
+= refused: E4 policy, P1 not toml
+= status 2
 
 # No migration to a bad policy, nor to one that loses attributes.
 run migrate w m1 cut.toml
@@ -479,6 +494,9 @@ run load w product p1 none.csv
 = status 3
 
 # A file that is not connected.
+run init c.csv none.toml
+= failed: F1 file, none.toml
+= status 3
 run init c.csv flat.toml
 = failed: F1 file, c.csv
 = status 3

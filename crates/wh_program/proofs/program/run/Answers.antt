@@ -1,4 +1,4 @@
-use Rattle.std.proofs.Common.{◌∙◌, refl, inl, inr, Some, ap, map, subst, sym}
+use Rattle.std.proofs.Common.{◌≡◌, ◌∙◌, refl, inl, inr, Some, ap, map, subst, sym}
 use Rattle.wh_program.specs.Request.{IsReadAs}
 use Rattle.wh_program.specs.Run.{Prints}
 use Rattle.wh_program.specs.Task.{faults_in}
@@ -18,8 +18,8 @@ returns-in-Ok-clause-wrong_words g c = λ line wrong says is.
 
 pub returns-in-Err-clause-runs : goal.returns-in-Err-clause-runs
 returns-in-Err-clause-runs g c = λ line task says is.
-    not_run (g.H.Host.holds c.args.host.now) (g.H.Host.refuses c.args.host.now) (g.H.Host.stores c.args.host.now)
-    (λ told. Prints (g.W.Write.contents c.args.out.now) (g.W.Write.contents c.print.new.out) c.code.result (printed told)) c.in-Err.field-0 task (rw (← c.code.ensures) at c.print.ensures)
+    not_run (g.H.Host.holds c.args.host.now) (g.H.Host.refuses c.args.host.now) (g.H.Host.stores c.args.host.now) (c.args.host.now ≡ c.args.host.now)
+    (λ told. Prints (g.W.Write.contents c.args.out.now) (g.W.Write.contents c.print.new.out) c.code.result (printed told)) c.in-Err.field-0 task refl (rw (← c.code.ensures) at c.print.ensures)
 
 pub returns-in-Err-clause-right_words : goal.returns-in-Err-clause-right_words
 returns-in-Err-clause-right_words g c = λ line task says is e. is_no_usage c.print.result (sym c.code.ensures ∙ e)
@@ -40,8 +40,8 @@ returns-in-Ok-clause-declines g c = λ is.
 
 pub returns-in-Err-clause-reads : goal.returns-in-Err-clause-reads
 returns-in-Err-clause-reads g c = λ task is. (
-  not_run (g.H.Host.holds c.args.host.now) (g.H.Host.refuses c.args.host.now) (g.H.Host.stores c.args.host.now)
-      (λ told. Prints (g.W.Write.contents c.args.out.now) (g.W.Write.contents c.print.new.out) c.code.result (printed told)) c.in-Err.field-0 task (rw (← c.code.ensures) at c.print.ensures),
+  not_run (g.H.Host.holds c.args.host.now) (g.H.Host.refuses c.args.host.now) (g.H.Host.stores c.args.host.now) (c.args.host.now ≡ c.args.host.now)
+      (λ told. Prints (g.W.Write.contents c.args.out.now) (g.W.Write.contents c.print.new.out) c.code.result (printed told)) c.in-Err.field-0 task refl (rw (← c.code.ensures) at c.print.ensures),
   (λ e. is_no_usage c.print.result (sym c.code.ensures ∙ e)),
 )
 
