@@ -40,7 +40,7 @@ use Rattle.wh_program.specs.Answer.{Printed, done, refused, failed, no_file_line
 use Rattle.wh_program.specs.Inputs.{Files, Refusals}
 use Rattle.wh_program.specs.Reply.{sent_answer, plan_answer, opening_answer, status_answer, making_answer, made_line}
 use Rattle.wh_program.specs.Standing.{DatabaseContent, Nothing, Holds, Keeps, Standing, Unknown, Rests, LeftAt, IsAt, Stands}
-use Rattle.wh_program.specs.Warehouse.{Told, printed, Opens, IsOpenedBy, IsUnread, IsReplied, IsForetold, IsCounted, Makes, AnswersWith, AnswersMaking, IsTried, IsNotConnected}
+use Rattle.wh_program.specs.Warehouse.{Told, printed, Opens, IsOpenedBy, IsUnread, IsReplied, IsForetold, IsCounted, Makes, AnswersWith, IsTried, IsNotConnected}
 use Rattle.wh_program.specs.declared.host.HostError.{HostError}
 use Rattle.wh_program.specs.declared.host.HostError.TheVariants.{NoFile}
 
@@ -218,19 +218,6 @@ not_begun (Holds l cs) bytes e s at = (Rests (Holds l cs), record { why = making
 module _ (refuses : Refusals) (stands : Standing → Type 0) (content : DatabaseContent) (file : List ℕ) (visit : Result Told HostError) (told : Told)
     (same : OnErr visit (stands (Rests content))) (why : IfErr visit (λ e. e ≡ NoFile → refuses file)) (is : IfOk visit (λ output. told ≡ output))
     (other : IfErr visit (λ e. IfOk told (λ a. (e ≡ NoFile) × (a ≡ failed (no_file_line file))))) where
-  -- with the bytes of an input
-  pub answered_with : (holds : Files) (does : List ℕ → DatabaseContent → Told → Standing → Type 0) (path bytes : List ℕ) → holds path (Some bytes)
-      → IfOk visit (λ output. (after : Standing) × does bytes content output after × stands after)
-      → AnswersWith holds refuses stands does content file path told
-  answered_with holds does path bytes held did = elim visit as
-      (λ v. IfOk v (λ output. (after : Standing) × does bytes content output after × stands after) → OnErr v (stands (Rests content)) → IfErr v (λ e. e ≡ NoFile → refuses file)
-      → IfOk v (λ output. told ≡ output) → IfErr v (λ e. IfOk told (λ a. (e ≡ NoFile) × (a ≡ failed (no_file_line file))))
-      → AnswersWith holds refuses stands does content file path told) [
-        | Ok output ↦ λ did same why is other. inl (record { bytes = bytes; held = held; tried = record { after = did.0; then_stands = did.2; did = subst (λ t. does bytes content t did.0) (sym is) did.1 } })
-        | Err e ↦ λ did same why is other. inr (record { same = same; tells = IfOk-weaker told _ _ (λ a says. inr (why says.0, says.1)) other })
-      ] did same why is other
-
-  -- with none
   pub answered_alone : (does : Told → Standing → Type 0) → IfOk visit (λ output. (after : Standing) × does output after × stands after) → IsTried stands does told ⊎ IsNotConnected refuses stands content file told
   answered_alone does did = elim visit as
       (λ v. IfOk v (λ output. (after : Standing) × does output after × stands after) → OnErr v (stands (Rests content)) → IfErr v (λ e. e ≡ NoFile → refuses file)
@@ -240,9 +227,9 @@ module _ (refuses : Refusals) (stands : Standing → Type 0) (content : Database
         | Err e ↦ λ did same why is other. inr (record { same = same; tells = IfOk-weaker told _ _ (λ a says. (why says.0, says.1)) other })
       ] did same why is other
 
--- ---- a policy that is judged first
+-- ---- with the bytes of an input
 
--- under a bad one nothing is done
+-- under a bad policy nothing is done
 pub nothing_made : (content : DatabaseContent) (bytes : List ℕ) (fault : PolicyFault) (a : Printed) → policy_at bytes ≡ Err fault → a ≡ refused (policy_line fault) → Makes bytes content (Ok a) (Rests content)
 nothing_made Nothing bytes fault a bad tells = inr (record { why = making.Policy fault; leaves = (bad, refl); tells = tells })
 nothing_made (Holds limits commands) bytes fault a bad tells = record { why = making.Policy fault; refused = bad; same = refl; tells = tells }
@@ -255,10 +242,11 @@ module _ (holds : Files) (refuses : Refusals) (stands : Standing → Type 0) (co
       inl (record { bytes = bytes; held = held; tried = record { after = Rests content; then_stands = same; did = nothing_made content bytes fault a bad tells } })
   bad_answered fault (Err e) bad same tells = inr (record { same = same; tells = tt })
 
-  -- under a good one a warehouse is made
-  pub good_answered : (told : Told) → AnswersMaking refuses stands content file bytes told → AnswersWith holds refuses stands Makes content file path told
-  good_answered told (inl tried) = inl (record { bytes = bytes; held = held; tried = tried })
-  good_answered told (inr not) = inr (record { same = not.same; tells = IfOk-weaker told _ _ (λ a says. inr says) not.tells })
+  -- what was worked, or not connected, with the bytes of an input
+  pub answered_with : (does : List ℕ → DatabaseContent → Told → Standing → Type 0) (told : Told) → IsTried stands (does bytes content) told ⊎ IsNotConnected refuses stands content file told
+      → AnswersWith holds refuses stands does content file path told
+  answered_with does told (inl tried) = inl (record { bytes = bytes; held = held; tried = tried })
+  answered_with does told (inr not) = inr (record { same = not.same; tells = IfOk-weaker told _ _ (λ a says. inr says) not.tells })
 
 -- what a failed visit leaves
 pub same_left : {T E : Type 0} (visit : Result T E) (before after : List ℕ → Standing → Type 0) (name : List ℕ) (standing : Standing)

@@ -21,7 +21,7 @@ use Rattle.wh_program.specs.Answer.{Printed, refused, failed, line, no_file_line
 use Rattle.wh_program.specs.Inputs.{Files, Refusals, as_manifest}
 use Rattle.wh_program.specs.Reply.{reply_answer, refused_line, fault_answer}
 use Rattle.wh_program.specs.Standing.{DatabaseContent, Holds, Standing, Rests, LeftAt}
-use Rattle.wh_program.specs.Warehouse.{Told, printed, Opens, IsTried, IsCommandOf, IsNotConnected}
+use Rattle.wh_program.specs.Warehouse.{Told, printed, IsCommandOf, AnswersWork}
 use Rattle.wh_program.specs.declared.lines.answer.Status.{Status}
 use Rattle.wh_program.specs.declared.lines.answer.Status.TheVariants.{Done, Refused, Failed}
 
@@ -101,7 +101,7 @@ pub record IsNotSent (stands : Standing → Type 0) (content : DatabaseContent) 
 
 -- these commands were sent to the warehouse in a file, or the host refuses its name
 abbrev pub AnswersSent : Refusals → (Standing → Type 0) → DatabaseContent → (file : List ℕ) → List Command → Told → Type 0
-AnswersSent refuses stands content file sent told = IsTried stands (Opens (IsDelivered sent) content) told ⊎ IsNotConnected refuses stands content file told
+AnswersSent refuses stands content file sent told = AnswersWork refuses stands (IsDelivered sent) content file told
 
 -- all commands of these entries were, or an input isn't there
 abbrev pub AnswersListed : Files → Refusals → (Standing → Type 0) → DatabaseContent → (file : List ℕ) → List ManifestEntry → Told → Type 0

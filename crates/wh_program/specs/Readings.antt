@@ -23,7 +23,7 @@ use Rattle.wh_program.specs.Reply.{fault_answer, request_line, report_fault_answ
 use Rattle.wh_program.specs.Run.{Prints}
 use Rattle.wh_program.specs.Standing.{DatabaseContent, Holds, Standing, Rests, LeftAt}
 use Rattle.wh_program.specs.Task.{ReportWords}
-use Rattle.wh_program.specs.Warehouse.{Told, printed, Opens, IsTried, IsNotConnected}
+use Rattle.wh_program.specs.Warehouse.{Told, printed, Opens, IsTried, IsNotConnected, AnswersWork}
 
 -- What a call that only reads leaves of a warehouse with these commands.
 abbrev pub LeavesRead : Limits → List Accepted → Result (Unit {0}) Fault → Standing → Type 0
@@ -54,7 +54,7 @@ pub record IsReported (words : ReportWords) (limits : Limits) (commands : List A
   pub tells : IfOk told (λ a. a ≡ read_answer read (asked_answer commands (asked_under (current_policy commands) words)))
 
 abbrev pub AnswersReport : Refusals → (Standing → Type 0) → DatabaseContent → (file : List ℕ) → ReportWords → Told → Type 0
-AnswersReport refuses stands content file words told = IsTried stands (Opens (IsReported words) content) told ⊎ IsNotConnected refuses stands content file told
+AnswersReport refuses stands content file words told = AnswersWork refuses stands (IsReported words) content file told
 
 -- ---- dump
 

@@ -205,6 +205,10 @@ Sends kind id bytes = Opens (IsReplied (record { id = id; kind = kind; bytes = b
 abbrev pub Plans : CommandKind → (id bytes : List ℕ) → DatabaseContent → Told → Standing → Type 0
 Plans kind id bytes = Opens (IsForetold (record { id = id; kind = kind; bytes = bytes }))
 
+-- a word that works on a warehouse that is opened
+abbrev pub AnswersWork : Refusals → (Standing → Type 0) → (Limits → List Accepted → Told → Standing → Type 0) → DatabaseContent → (file : List ℕ) → Told → Type 0
+AnswersWork refuses stands does content file told = IsTried stands (Opens does content) told ⊎ IsNotConnected refuses stands content file told
+
 -- a making under the policy of these bytes
 abbrev pub AnswersMaking : Refusals → (Standing → Type 0) → DatabaseContent → (file bytes : List ℕ) → Told → Type 0
 AnswersMaking refuses stands content file bytes told = IsTried stands (Makes bytes content) told ⊎ IsNotConnected refuses stands content file told
@@ -221,4 +225,4 @@ IsJudgedFirst holds same path told =
     ⊎ (same × IfOk told (λ a. holds path None × (a ≡ failed (no_file_line path))))
 
 abbrev pub AnswersStatus : Refusals → (Standing → Type 0) → DatabaseContent → (file : List ℕ) → Told → Type 0
-AnswersStatus refuses stands content file told = IsTried stands (Opens IsCounted content) told ⊎ IsNotConnected refuses stands content file told
+AnswersStatus refuses stands = AnswersWork refuses stands IsCounted

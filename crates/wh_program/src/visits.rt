@@ -2,6 +2,7 @@
 
 pub(crate) mod delivery;
 pub(crate) mod dump;
+pub(crate) mod opened;
 pub(crate) mod report;
 pub(crate) mod trial;
 pub(crate) mod verdict;

@@ -4,17 +4,15 @@ ghost use Rattle.std.specs.Prelude.{◌≤◌, IfOk, IfErr, vec_capacity};
 ghost use Rattle.wh_program.specs.Delivery.{AreCommandsOf, IsDelivered, LacksInput, AnswersListed, AnswersSent, AnswersDelivery};
 ghost use Rattle.wh_program.specs.Room.{longest_delivery};
 ghost use Rattle.wh_program.specs.Standing.{DatabaseContent, Rests};
-ghost use Rattle.wh_program.specs.Warehouse.{Opens};
 
-use crate::host::{Host, Visitor, manifest_file_of};
+use crate::host::{Host, manifest_file_of};
 use crate::lines::answer::Answer;
 use crate::lines::delivery_text::delivery_answer;
-use crate::lines::{bad_manifest, no_file, opening_answer, room_for_delivery};
-use crate::visits::warehouse::{answered, command_of};
-use sqlite::{Alter, Connection};
+use crate::lines::{bad_manifest, no_file, room_for_delivery};
+use crate::visits::opened::{Work, work_on};
+use crate::visits::warehouse::command_of;
+use sqlite::Alter;
 use std::alloc::{AllocError, Global};
-use std::io;
-use std::io::Write;
 use wh_batch::{FilePath, Manifest, ManifestEntry};
 use wh_day::ParseError;
 use wh_engine::{Command, Engine};
@@ -27,26 +25,13 @@ struct Delivering {
     room: Vec<u8>,
 }
 
-impl Visitor for Delivering {
-    type Output = Result<Answer, AllocError>;
-
+impl Work for Delivering {
     // Of one with room for all lines.
-    ghost promises = { λ delivering content told old new after. longest_delivery delivering.commands.items ≤ vec_capacity delivering.room → Opens (IsDelivered delivering.commands.items) content told after };
+    ghost does = { λ delivering limits commands told after. longest_delivery delivering.commands.items ≤ vec_capacity delivering.room → IsDelivered delivering.commands.items limits commands told after };
 
-    fn visit<T: Alter + Drop, W: Write>(
-        self,
-        alloc: Global,
-        connection: Connection<T>,
-        _out: &mut W,
-    ) -> (Result<Answer, AllocError>, Connection<T>) {
-        match Engine::open(alloc, connection) {
-            Ok(mut engine) => {
-                let replies = engine.deliver(alloc, &self.commands);
-                let answer = delivery_answer(self.room, &self.commands, &replies);
-                (answer, engine.close())
-            }
-            Err((fault, connection)) => (opening_answer(alloc, fault), connection),
-        }
+    fn work<S: Alter>(self, alloc: Global, engine: &mut Engine<S>) -> Result<Answer, AllocError> {
+        let replies = engine.deliver(alloc, &self.commands);
+        delivery_answer(self.room, &self.commands, &replies)
     }
 }
 
@@ -85,8 +70,7 @@ fn deliver_commands<H: Host>(
     ensures { (content : DatabaseContent) → H.stores host.old file.now (Rests content) → AnswersSent (H.refuses host.old) (H.stores host.new file.now) content file.now commands.items result }
 {
     let room = room_for_delivery(alloc, &commands)?;
-    let visit = host.with_existing(alloc, file, Delivering { commands, room }, &mut io::sink());
-    answered(alloc, file, visit)
+    work_on(alloc, file, Delivering { commands, room }, host)
 }
 
 /// Delivers the commands of entries, whose files are read first.

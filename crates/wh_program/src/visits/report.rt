@@ -13,17 +13,14 @@ ghost use Rattle.wh_program.specs.Reply.{request_line, report_fault_answer, repo
 ghost use Rattle.wh_program.specs.Readings.{IsReported, AnswersReport};
 ghost use Rattle.wh_program.specs.Request.{report_words};
 ghost use Rattle.wh_program.specs.Standing.{DatabaseContent, Standing, Rests, Stands};
-ghost use Rattle.wh_program.specs.Warehouse.{Opens};
 
-use crate::host::{Host, Visitor};
+use crate::host::Host;
 use crate::lines::answer::{Answer, Status};
-use crate::lines::{damaged, fault_answer, opening_answer, told};
-use crate::visits::warehouse::answered;
+use crate::lines::{damaged, fault_answer, told};
+use crate::visits::opened::{Work, work_on};
 use crate::words::command::AskedReport;
-use sqlite::{Alter, Connection};
+use sqlite::Alter;
 use std::alloc::{AllocError, Global};
-use std::io;
-use std::io::Write;
 use wh_day::ParseError;
 use wh_engine::Engine;
 use wh_report::{Mode, ReportFault, Request, RequestFault, report};
@@ -111,24 +108,11 @@ struct Reporting<'a> {
     asked: AskedReport<'a>,
 }
 
-impl Visitor for Reporting<'_> {
-    type Output = Result<Answer, AllocError>;
+impl Work for Reporting<'_> {
+    ghost does = { λ reporting. IsReported (report_words reporting.asked) };
 
-    ghost promises = { λ reporting content told old new after. Opens (IsReported (report_words reporting.asked)) content told after };
-
-    fn visit<T: Alter + Drop, W: Write>(
-        self,
-        alloc: Global,
-        connection: Connection<T>,
-        _out: &mut W,
-    ) -> (Result<Answer, AllocError>, Connection<T>) {
-        match Engine::open(alloc, connection) {
-            Ok(mut engine) => {
-                let answer = asked_answer(alloc, &mut engine, &self.asked);
-                (answer, engine.close())
-            }
-            Err((fault, connection)) => (opening_answer(alloc, fault), connection),
-        }
+    fn work<S: Alter>(self, alloc: Global, engine: &mut Engine<S>) -> Result<Answer, AllocError> {
+        asked_answer(alloc, engine, &self.asked)
     }
 }
 
@@ -141,6 +125,5 @@ pub fn report_answer<H: Host>(
 ) -> Result<Answer, AllocError>
     ensures { (content : DatabaseContent) → H.stores host.old file.now (Rests content) → AnswersReport (H.refuses host.old) (H.stores host.new file.now) content file.now (report_words asked.entry) result }
 {
-    let visit = host.with_existing(alloc, file, Reporting { asked }, &mut io::sink());
-    answered(alloc, file, visit)
+    work_on(alloc, file, Reporting { asked }, host)
 }

@@ -12,9 +12,10 @@ use crate::host::{Host, HostError, Visitor, file_of};
 use crate::limits::{POLICY_LIMIT, input_limit};
 use crate::lines::answer::Answer;
 use crate::lines::{
-    bad_policy, made, making_answer, no_file, opening_answer, plan_answer, room_for_line, room_for_receipt,
+    bad_policy, made, making_answer, no_file, plan_answer, room_for_line, room_for_receipt,
     sent_answer, status_answer,
 };
+use crate::visits::opened::{Work, work_on};
 use sqlite::{Alter, Connection};
 use sqlite_value::value::Bytes;
 use std::alloc::{AllocError, Global};
@@ -61,26 +62,13 @@ struct Sending {
     room: Vec<u8>,
 }
 
-impl Visitor for Sending {
-    type Output = Result<Answer, AllocError>;
-
+impl Work for Sending {
     // Of one with room for that line.
-    ghost promises = { λ sending content told old new after. longest_answer sending.command.id ≤ vec_capacity sending.room → Opens (IsReplied sending.command) content told after };
+    ghost does = { λ sending limits commands told after. longest_answer sending.command.id ≤ vec_capacity sending.room → IsReplied sending.command limits commands told after };
 
-    fn visit<T: Alter + Drop, W: Write>(
-        self,
-        alloc: Global,
-        connection: Connection<T>,
-        _out: &mut W,
-    ) -> (Result<Answer, AllocError>, Connection<T>) {
-        match Engine::open(alloc, connection) {
-            Ok(mut engine) => {
-                let reply = engine.apply(alloc, &self.command);
-                let answer = sent_answer(self.room, self.command.id.as_str(), &reply);
-                (answer, engine.close())
-            }
-            Err((fault, connection)) => (opening_answer(alloc, fault), connection),
-        }
+    fn work<S: Alter>(self, alloc: Global, engine: &mut Engine<S>) -> Result<Answer, AllocError> {
+        let reply = engine.apply(alloc, &self.command);
+        sent_answer(self.room, self.command.id.as_str(), &reply)
     }
 }
 
@@ -90,24 +78,12 @@ struct Planning {
     command: Command,
 }
 
-impl Visitor for Planning {
-    type Output = Result<Answer, AllocError>;
+impl Work for Planning {
+    ghost does = { λ planning. IsForetold planning.command };
 
-    ghost promises = { λ planning content told old new after. Opens (IsForetold planning.command) content told after };
-
-    fn visit<T: Alter + Drop, W: Write>(
-        self,
-        alloc: Global,
-        connection: Connection<T>,
-        _out: &mut W,
-    ) -> (Result<Answer, AllocError>, Connection<T>) {
-        match Engine::open(alloc, connection) {
-            Ok(mut engine) => {
-                let edits = engine.plan(alloc, &self.command);
-                (plan_answer(alloc, edits), engine.close())
-            }
-            Err((fault, connection)) => (opening_answer(alloc, fault), connection),
-        }
+    fn work<S: Alter>(self, alloc: Global, engine: &mut Engine<S>) -> Result<Answer, AllocError> {
+        let edits = engine.plan(alloc, &self.command);
+        plan_answer(alloc, edits)
     }
 }
 
@@ -115,24 +91,12 @@ impl Visitor for Planning {
 #[derive(Clone, Copy)]
 struct Counting;
 
-impl Visitor for Counting {
-    type Output = Result<Answer, AllocError>;
+impl Work for Counting {
+    ghost does = { λ _. IsCounted };
 
-    ghost promises = { λ _ content told old new after. Opens IsCounted content told after };
-
-    fn visit<T: Alter + Drop, W: Write>(
-        self,
-        alloc: Global,
-        connection: Connection<T>,
-        _out: &mut W,
-    ) -> (Result<Answer, AllocError>, Connection<T>) {
-        match Engine::open(alloc, connection) {
-            Ok(mut engine) => {
-                let counts = engine.counts(alloc);
-                (status_answer(alloc, counts), engine.close())
-            }
-            Err((fault, connection)) => (opening_answer(alloc, fault), connection),
-        }
+    fn work<S: Alter>(self, alloc: Global, engine: &mut Engine<S>) -> Result<Answer, AllocError> {
+        let counts = engine.counts(alloc);
+        status_answer(alloc, counts)
     }
 }
 
@@ -223,8 +187,7 @@ pub fn send<H: Host>(
         return no_file(alloc, path);
     };
     let room = room_for_receipt(alloc, id)?;
-    let visit = host.with_existing(alloc, file, Sending { command, room }, &mut io::sink());
-    answered(alloc, file, visit)
+    work_on(alloc, file, Sending { command, room }, host)
 }
 
 /// Tells what the command in a file would write into the warehouse in another, and writes nothing.
@@ -242,14 +205,12 @@ pub fn plan<H: Host>(
     let Some(command) = command_of(alloc, kind, id, path, host)? else {
         return no_file(alloc, path);
     };
-    let visit = host.with_existing(alloc, file, Planning { command }, &mut io::sink());
-    answered(alloc, file, visit)
+    work_on(alloc, file, Planning { command }, host)
 }
 
 /// Tells how much the warehouse in a file holds.
 pub fn status<H: Host>(alloc: Global, file: &str, host: &mut H) -> Result<Answer, AllocError>
     ensures { (content : DatabaseContent) → H.stores host.old file.now (Rests content) → AnswersStatus (H.refuses host.old) (H.stores host.new file.now) content file.now result }
 {
-    let visit = host.with_existing(alloc, file, Counting, &mut io::sink());
-    answered(alloc, file, visit)
+    work_on(alloc, file, Counting, host)
 }

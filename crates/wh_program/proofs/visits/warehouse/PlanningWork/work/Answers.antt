@@ -1,0 +1,8 @@
+use Rattle.wh_store.specs.Reads.{state_of}
+use Rattle.wh_program.proofs.WarehouseLemmas.{foretold}
+use Rattle.wh_program.proofs.visits.warehouse.PlanningWork.work.Goals as goal
+
+pub returns-clause-done : goal.returns-clause-done
+returns-clause-done g c = λ clean limits commands ready.
+    foretold c.args.self.command limits commands c.plan_answer.result c.plan-edits.result c.plan-edits.new.self.session (state_of g.S.Store c.plan-edits.new.self.tables)
+    c.plan_answer.ensures (c.plan-edits.ensures.foretold clean limits commands ready)
