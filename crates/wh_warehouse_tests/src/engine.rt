@@ -11,8 +11,8 @@
 //! - `send KIND ID`: the lines that it is handed are the batch, or the policy or its name where KIND is `migrate`, and what the engine answers is the
 //!   answer;
 //! - `deliver`: the lines that it is handed are commands, each a line `KIND ID` and then what `send` is handed, with an empty line between two. The answers
-//!   are a line each, and what stopped it is another;
-//! - `batch p1`: one of the batches of `batches`, by its id; `load p0 p8`: those from one to another, of which it answers those that aren't
+//!   are a line each, and what stopped it is another. For `deliver p1 s1` they are of `batches`, by their ids;
+//! - `batch p1`: one of the commands of `batches`, by its id; `load p0 s2`: those from one to another, of which it answers those that aren't
 //!   accepted;
 //! - `plan KIND ID`: what such a command would write, a line an edit; `writes`: how many keys the last command wrote;
 //! - `counts`; `check`; `policy`: the last year, and how many attributes a product has;
@@ -23,9 +23,13 @@
 //! A database takes `open`; `init POLICY`; `sql TEXT`; and `number TEXT`, which answers a number that a query gives.
 //!
 //! Files take what a warehouse does but `mark`, `same` and `close`, each step over a connection of its own, `init POLICY`, and
-//! - `stops log STEP`, `stops database STEP`: the disk of the log or of the database file stops at each call of the step in turn, which is an
-//!   `init`, a `send`, a `deliver` or a `check`, and then the machine crashes. What is found is clean, and as before, or, where it was answered so, as after, and between the two only for a delivery;
-//!   the step made again leads to what it leads to with no stop; and an engine whose store refused a call answers nothing more.
+//! - `stops log STEP`, `stops database STEP`, `stops either STEP`: the disk of the log or of the database file, or one after the other, stops at each call of the
+//!   step in turn, those of opening and closing the files included, and then the machine crashes. The step is an `init`, an `open` of a warehouse, a `send`, a `batch`,
+//!   a `deliver`, a `check`, or a `night POLICY p1 s1`: a making, where there is no warehouse, and a delivery in one session. What is found is clean, and as it is with no
+//!   stop after what was acknowledged or after that and the next command; the step made again leads to what it leads to with no stop; and an engine whose store refused a call
+//!   answers nothing more;
+//! - `stops_again DISK CALLS DISK STEP`: the first disk stops after none, so many, twice as many calls and so on, the machine crashes, and each time the second
+//!   disk stops at each call of the step made again, as above.
 //!
 //! Two stand alone. For `redeliver POLICY KIND ID` a warehouse is made in files, is sent a command, the machine crashes, and the command is sent again.
 //! For `deliver_again POLICY` it is handed the commands of a delivery, the machine crashes after it, and what wasn't acknowledged is delivered.
@@ -41,7 +45,7 @@ mod plans;
 mod scenarios;
 mod tables;
 
-use crate::engine::asking::{ask, push_fault, push_opening};
+use crate::engine::asking::{Work, ask, push_fault, push_opening};
 use crate::engine::tables::{all_over, look_over};
 use crate::trouble::Trouble;
 use crate::words::number;
@@ -235,7 +239,8 @@ fn on_warehouse(
             looked_into(alloc, engine, step.words, marked, out)
         }
         _ => {
-            ask(alloc, &mut engine, step.words, step.handed.as_str(), out)?;
+            let work = Work::of(step.words, step.handed.as_str());
+            ask(alloc, &mut engine, work, out)?;
             Ok(Place::Warehouse(engine))
         }
     }

@@ -89,27 +89,16 @@ table profile
 pub const NAMED_BY_FACTS: &str = "\
 make bands-of-facts
 load p0 p2
-send sales s1
-> ticket,line,day,store,product,customer,quantity,amount,cost
-> T1,1,2024-02-05,S1,P1,,2,5.00,3.20
-> T0,1,2023-12-31,S1,P1,,1,2.5,1.60
+batch s1
 = accepted 5: 2 records, 1 placeholders
 load p3 p8
-send sales s2
-> ticket,line,day,store,product,customer,quantity,amount,cost
-> T2,1,2024-06-10,S1,P9,C9,1,10.00,7.00
+batch s2
 = accepted 12: 1 records, 2 placeholders
-send product p9
-> id,day,description,brand,category,department,launched,supplier
-> P9,2024-06-05,Tea 50,Leaf,Drinks,Grocery,2024,North
+batch p9
 = accepted 13: 1 records, 0 placeholders
-send customer c1
-> id,day,tier,age_band,spend_band
-> C9,2024-06-08,Gold,30-39,high
+batch c1
 = accepted 14: 1 records, 0 placeholders
-send customer c2
-> id,day,tier,age_band,spend_band
-> C9,2024-07-01,Gold,40-49,high
+batch c2
 = accepted 15: 1 records, 0 placeholders
 table customer
 = 0,0,(no card),19000101,99991231,1,(no card),,,,,,,,,,,,0
@@ -128,29 +117,7 @@ table profile
 /// A sale to a customer with bands has the profile of its day.
 pub const OF_THE_DAY: &str = "\
 make bands-of-rows
-load p0 p2
-send sales s1
-> ticket,line,day,store,product,customer,quantity,amount,cost
-> T1,1,2024-02-05,S1,P1,,2,5.00,3.20
-> T0,1,2023-12-31,S1,P1,,1,2.5,1.60
-= accepted 5: 2 records, 1 placeholders
-load p3 p8
-send sales s2
-> ticket,line,day,store,product,customer,quantity,amount,cost
-> T2,1,2024-06-10,S1,P9,C9,1,10.00,7.00
-= accepted 12: 1 records, 2 placeholders
-send product p9
-> id,day,description,brand,category,department,launched,supplier
-> P9,2024-06-05,Tea 50,Leaf,Drinks,Grocery,2024,North
-= accepted 13: 1 records, 0 placeholders
-send customer c1
-> id,day,tier,age_band,spend_band
-> C9,2024-06-08,Gold,30-39,high
-= accepted 14: 1 records, 0 placeholders
-send customer c2
-> id,day,tier,age_band,spend_band
-> C9,2024-07-01,Gold,40-49,high
-= accepted 15: 1 records, 0 placeholders
+load p0 c2
 send sales s3
 > ticket,line,day,store,product,customer,quantity,amount,cost
 > T3,1,2024-06-30,S1,P9,C9,1,10.00,7.00

@@ -146,7 +146,7 @@ deliver_again small
 = customers 1
 ";
 
-pub const STOPS_LOG: &str = "\
+pub const STOPS: &str = "\
 files
 init small
 = made
@@ -154,7 +154,7 @@ send product p1
 > id,day,brand
 > P1,2024-02-01,Acme
 = accepted 2: 1 records, 0 placeholders
-stops log deliver
+stops either deliver
 > product p2
 > id,day,brand
 > P1,2024-01-20,Bolt
@@ -162,24 +162,5 @@ stops log deliver
 > sales s2
 > ticket,line,day,store,product,customer,quantity,amount,cost
 > T2,1,2024-06-10,S1,P9,,1,10.00,7.00
-= before, or after
-";
-
-pub const STOPS_DATABASE: &str = "\
-files
-init small
-= made
-send product p1
-> id,day,brand
-> P1,2024-02-01,Acme
-= accepted 2: 1 records, 0 placeholders
-stops database deliver
-> product p2
-> id,day,brand
-> P1,2024-01-20,Bolt
->
-> sales s2
-> ticket,line,day,store,product,customer,quantity,amount,cost
-> T2,1,2024-06-10,S1,P9,,1,10.00,7.00
-= before, or after
+= as acknowledged, or with the next
 ";

@@ -50,10 +50,7 @@ batch p2
 pub const OF_SALES: &str = "\
 # No room for a fact.
 make flat 10 10 2
-send sales s1
-> ticket,line,day,store,product,customer,quantity,amount,cost
-> T1,1,2024-02-05,S1,P1,,2,5.00,3.20
-> T0,1,2023-12-31,S1,P1,,1,2.5,1.60
+batch s1
 = accepted 2: 2 records, 2 placeholders
 send sales s
 > ticket,line,day,store,product,customer,quantity,amount,cost
@@ -76,10 +73,7 @@ table store
 
 # Lines are looked for before want of room for facts.
 make flat 10 10 2
-send sales s1
-> ticket,line,day,store,product,customer,quantity,amount,cost
-> T1,1,2024-02-05,S1,P1,,2,5.00,3.20
-> T0,1,2023-12-31,S1,P1,,1,2.5,1.60
+batch s1
 = accepted 2: 2 records, 2 placeholders
 send sales s
 > ticket,line,day,store,product,customer,quantity,amount,cost
@@ -89,10 +83,7 @@ send sales s
 
 # Commands are looked at before lines.
 make flat 2 10 10
-send sales s1
-> ticket,line,day,store,product,customer,quantity,amount,cost
-> T1,1,2024-02-05,S1,P1,,2,5.00,3.20
-> T0,1,2023-12-31,S1,P1,,1,2.5,1.60
+batch s1
 = accepted 2: 2 records, 2 placeholders
 send sales s
 > ticket,line,day,store,product,customer,quantity,amount,cost

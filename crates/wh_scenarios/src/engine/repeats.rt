@@ -104,7 +104,8 @@ same
 
 # What came again is answered as at first, also where the warehouse was opened again.
 make flat
-load p0 p8
+load p0 p2
+load p3 p8
 close
 open
 = opened

@@ -142,19 +142,12 @@ table fact
 pub const IN_ONE_SESSION: &str = "\
 make flat
 load p0 p2
-send sales s1
-> ticket,line,day,store,product,customer,quantity,amount,cost
-> T1,1,2024-02-05,S1,P1,,2,5.00,3.20
-> T0,1,2023-12-31,S1,P1,,1,2.5,1.60
+batch s1
 = accepted 5: 2 records, 1 placeholders
 load p3 p8
-send sales s2
-> ticket,line,day,store,product,customer,quantity,amount,cost
-> T2,1,2024-06-10,S1,P9,C9,1,10.00,7.00
+batch s2
 = accepted 12: 1 records, 2 placeholders
-send product p9
-> id,day,description,brand,category,department,launched,supplier
-> P9,2024-06-05,Tea 50,Leaf,Drinks,Grocery,2024,North
+batch p9
 = accepted 13: 1 records, 0 placeholders
 send customer c1
 > id,day,tier
@@ -174,10 +167,7 @@ pub const OTHERS: &str = "\
 # A store moves the sales of its days alone.
 make flat
 load p0 p2
-send sales s1
-> ticket,line,day,store,product,customer,quantity,amount,cost
-> T1,1,2024-02-05,S1,P1,,2,5.00,3.20
-> T0,1,2023-12-31,S1,P1,,1,2.5,1.60
+batch s1
 = accepted 5: 2 records, 1 placeholders
 send store b1
 > id,day,city
@@ -191,15 +181,10 @@ table fact
 # A sale on a leap day.
 make flat
 load p0 p2
-send sales s1
-> ticket,line,day,store,product,customer,quantity,amount,cost
-> T1,1,2024-02-05,S1,P1,,2,5.00,3.20
-> T0,1,2023-12-31,S1,P1,,1,2.5,1.60
+batch s1
 = accepted 5: 2 records, 1 placeholders
 load p3 p4
-send sales s4
-> ticket,line,day,store,product,customer,quantity,amount,cost
-> T4,1,2024-02-29,S1,P1,,1,2.50,1.60
+batch s4
 = accepted 8: 1 records, 0 placeholders
 table fact
 = T0,1,20231231,1,1,0,1,1,0,0,1,250,160
@@ -226,10 +211,7 @@ table fact
 # Another line of a ticket is another sale.
 make flat
 load p0 p2
-send sales s1
-> ticket,line,day,store,product,customer,quantity,amount,cost
-> T1,1,2024-02-05,S1,P1,,2,5.00,3.20
-> T0,1,2023-12-31,S1,P1,,1,2.5,1.60
+batch s1
 = accepted 5: 2 records, 1 placeholders
 send sales s
 > ticket,line,day,store,product,customer,quantity,amount,cost
@@ -321,15 +303,10 @@ pub const REFUSED: &str = "\
 # A line that is there. The first sale is good, and isn't kept.
 make flat
 load p0 p2
-send sales s1
-> ticket,line,day,store,product,customer,quantity,amount,cost
-> T1,1,2024-02-05,S1,P1,,2,5.00,3.20
-> T0,1,2023-12-31,S1,P1,,1,2.5,1.60
+batch s1
 = accepted 5: 2 records, 1 placeholders
 load p3 p8
-send sales s2
-> ticket,line,day,store,product,customer,quantity,amount,cost
-> T2,1,2024-06-10,S1,P9,C9,1,10.00,7.00
+batch s2
 = accepted 12: 1 records, 2 placeholders
 mark
 send sales s
@@ -343,10 +320,7 @@ same
 # The same batch under another id is another command.
 make flat
 load p0 p2
-send sales s1
-> ticket,line,day,store,product,customer,quantity,amount,cost
-> T1,1,2024-02-05,S1,P1,,2,5.00,3.20
-> T0,1,2023-12-31,S1,P1,,1,2.5,1.60
+batch s1
 = accepted 5: 2 records, 1 placeholders
 mark
 send sales s

@@ -1,20 +1,23 @@
-//! Files that stop at some call, and a crash after it: what is found is as before, or as after, and the same command again leads to what
-//! it leads to with no stop. A load is of a record of an earlier day of a product and of a new product, or of a sale of a product and to a
-//! customer that nothing mentioned; a migration takes a row away, and moves a sale.
+//! Files that stop at some call, those of opening and closing them included, and a crash after it: what is found is what was acknowledged,
+//! or that and the next command, and the same again leads to what it leads to with no stop. A load is of a record of an earlier day of a product
+//! and of a new product, or of a sale of a product and to a customer that nothing mentioned; a migration takes a row away, and moves a sale.
 
-pub const MAKING_LOG: &str = "\
+pub const MAKING: &str = "\
 files
-stops log init small
-= before, or after
+stops either init small
+= as acknowledged, or with the next
 ";
 
-pub const MAKING_DATABASE: &str = "\
+/// Files that are opened and closed, with nothing between.
+pub const OPENING: &str = "\
 files
-stops database init small
-= before, or after
+init small
+= made
+stops either open
+= as acknowledged, or with the next
 ";
 
-pub const PRODUCTS_LOG: &str = "\
+pub const PRODUCTS: &str = "\
 files
 init small
 = made
@@ -22,65 +25,31 @@ send product p1
 > id,day,brand
 > P1,2024-02-01,Acme
 = accepted 2: 1 records, 0 placeholders
-stops log send product p2
+stops either send product p2
 > id,day,brand
 > P1,2024-01-20,Bolt
 > P2,2024-01-10,Cask
-= before, or after
+= as acknowledged, or with the next
 ";
 
-pub const PRODUCTS_DATABASE: &str = "\
+/// After the worked batches before it: a sale of two members that are new, whose placeholders are both there, or none.
+pub const SALES: &str = "\
 files
-init small
+init bands-of-rows
 = made
-send product p1
-> id,day,brand
-> P1,2024-02-01,Acme
-= accepted 2: 1 records, 0 placeholders
-stops database send product p2
-> id,day,brand
-> P1,2024-01-20,Bolt
-> P2,2024-01-10,Cask
-= before, or after
+load p0 p8
+stops either batch s2
+= as acknowledged, or with the next
+batch s2
+= accepted 12: 1 records, 2 placeholders
+table member
+= 1,1,P1,1
+= 1,2,P9,9
+= 2,1,S1,1
+= 3,1,C9,1
 ";
 
-pub const SALES_LOG: &str = "\
-files
-init small
-= made
-send product p1
-> id,day,brand
-> P1,2024-02-01,Acme
-= accepted 2: 1 records, 0 placeholders
-send sales s1
-> ticket,line,day,store,product,customer,quantity,amount,cost
-> T1,1,2024-02-05,S1,P1,,2,5.00,3.20
-= accepted 3: 1 records, 1 placeholders
-stops log send sales s2
-> ticket,line,day,store,product,customer,quantity,amount,cost
-> T2,1,2024-06-10,S1,P9,C9,1,10.00,7.00
-= before, or after
-";
-
-pub const SALES_DATABASE: &str = "\
-files
-init small
-= made
-send product p1
-> id,day,brand
-> P1,2024-02-01,Acme
-= accepted 2: 1 records, 0 placeholders
-send sales s1
-> ticket,line,day,store,product,customer,quantity,amount,cost
-> T1,1,2024-02-05,S1,P1,,2,5.00,3.20
-= accepted 3: 1 records, 1 placeholders
-stops database send sales s2
-> ticket,line,day,store,product,customer,quantity,amount,cost
-> T2,1,2024-06-10,S1,P9,C9,1,10.00,7.00
-= before, or after
-";
-
-pub const MIGRATIONS_LOG: &str = "\
+pub const MIGRATIONS: &str = "\
 files
 init small
 = made
@@ -93,30 +62,12 @@ send sales s1
 > ticket,line,day,store,product,customer,quantity,amount,cost
 > T1,1,2024-03-05,S1,P1,,1,2.50,1.60
 = accepted 3: 1 records, 1 placeholders
-stops log send migrate m1
+stops either send migrate m1
 > small-overwritten
-= before, or after
+= as acknowledged, or with the next
 ";
 
-pub const MIGRATIONS_DATABASE: &str = "\
-files
-init small
-= made
-send product p1
-> id,day,brand
-> P1,2024-02-01,Acme
-> P1,2024-03-01,Bolt
-= accepted 2: 2 records, 0 placeholders
-send sales s1
-> ticket,line,day,store,product,customer,quantity,amount,cost
-> T1,1,2024-03-05,S1,P1,,1,2.50,1.60
-= accepted 3: 1 records, 1 placeholders
-stops database send migrate m1
-> small-overwritten
-= before, or after
-";
-
-pub const CHECK_LOG: &str = "\
+pub const CHECK: &str = "\
 files
 init small
 = made
@@ -130,22 +81,76 @@ send sales s1
 = accepted 3: 1 records, 1 placeholders
 check
 = clean
-stops log check
-= before, or after
+stops either check
+= as acknowledged, or with the next
 ";
 
-pub const CHECK_DATABASE: &str = "\
+/// A night: a making and eight commands, of which the last came already. After each stop all eight are delivered again.
+pub const NIGHT_LOG: &str = "\
+files
+stops log night bands-of-rows p1 p2 s1 p3 s2 c1 m1 p1
+= as acknowledged, or with the next
+";
+
+pub const NIGHT_DATABASE: &str = "\
+files
+stops database night bands-of-rows p1 p2 s1 p3 s2 c1 m1 p1
+= as acknowledged, or with the next
+";
+
+/// What that night leads to.
+pub const NIGHT: &str = "\
+files
+init bands-of-rows
+= made
+deliver p1 p2 s1 p3 s2 c1 m1 p1
+= accepted 2: 1 records, 0 placeholders
+= accepted 3: 1 records, 0 placeholders
+= accepted 4: 2 records, 1 placeholders
+= accepted 5: 1 records, 0 placeholders
+= accepted 6: 1 records, 2 placeholders
+= accepted 7: 1 records, 0 placeholders
+= accepted 8: 0 records, 0 placeholders
+= already 2: 1 records, 0 placeholders
+counts
+= format 1
+= commands 8
+= changes 4
+= facts 3
+= products 2
+= stores 1
+= customers 1
+table product
+= 1,1,P1,19000101,99991231,1,Cola 1l,Bolt,Drinks,Grocery,2019,North,,,Drinks,,,(none),0
+= 5,2,P9,19000101,99991231,1,(unknown),(unknown),(unknown),(unknown),(unknown),(unknown),,,(unknown),,,(none),0
+table fact
+= T0,1,20231231,1,1,0,1,1,0,0,1,250,160
+= T1,1,20240205,1,1,0,1,1,0,0,2,500,320
+= T2,1,20240610,1,5,1,1,2,1,2,1,1000,700
+check
+= clean
+";
+
+/// Files that stop, and stop once more in what is done again after the crash: a making, and a delivery.
+pub const MAKING_AGAIN: &str = "\
+files
+stops_again log 40 either init small
+= as acknowledged, or with the next
+stops_again database 40 either init small
+= as acknowledged, or with the next
+";
+
+pub const DELIVERY_AGAIN: &str = "\
 files
 init small
 = made
-send product p1
+stops_again log 20 either deliver
+> product p2
 > id,day,brand
-> P1,2024-02-01,Acme
-= accepted 2: 1 records, 0 placeholders
-send sales s1
+> P1,2024-01-20,Bolt
+>
+> sales s2
 > ticket,line,day,store,product,customer,quantity,amount,cost
-> T1,1,2024-03-05,S1,P1,,1,2.50,1.60
-= accepted 3: 1 records, 1 placeholders
-stops database check
-= before, or after
+> T2,1,2024-06-10,S1,P9,,1,10.00,7.00
+= as acknowledged, or with the next
 ";

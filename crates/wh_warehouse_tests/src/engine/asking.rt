@@ -1,6 +1,6 @@
 //! What is asked of an engine, and its answers as lines.
 
-use crate::engine::batches::{batch, load};
+use crate::engine::batches::{load, worked};
 use crate::engine::deliveries::deliver;
 use crate::engine::plans::plan;
 use crate::trouble::Trouble;
@@ -19,6 +19,21 @@ use wh_policy::{Dim, Policy};
 use wh_scenarios::engine::policies::policy;
 use wh_scenarios::{parted, push_line};
 
+/// A step: its verb, the words after it, and the lines that it is handed.
+#[derive(Clone, Copy)]
+pub struct Work<'a> {
+    pub verb: &'a str,
+    pub rest: &'a str,
+    pub handed: &'a str,
+}
+
+impl<'a> Work<'a> {
+    pub fn of(words: &'a str, handed: &'a str) -> Work<'a> {
+        let (verb, rest) = parted(words, ' ');
+        Work { verb, rest, handed }
+    }
+}
+
 fn kind_of(word: &str) -> Result<CommandKind, Trouble> {
     match word {
         "migrate" => Ok(CommandKind::Migration),
@@ -30,8 +45,7 @@ fn kind_of(word: &str) -> Result<CommandKind, Trouble> {
     }
 }
 
-/// A command of these bytes.
-pub fn make_command(
+fn make_command(
     alloc: Global,
     kind: CommandKind,
     id: &str,
@@ -44,14 +58,28 @@ pub fn make_command(
     })
 }
 
-/// A command: `KIND ID`, with the bytes of a batch, or with a policy or the name of one.
-pub fn command_of(alloc: Global, words: &str, handed: &str) -> Result<Command, Trouble> {
-    let (kind, id) = parted(words, ' ');
+/// A command with the bytes of a batch, or with a policy or the name of one.
+pub fn command(alloc: Global, kind: &str, id: &str, handed: &str) -> Result<Command, Trouble> {
     let kind = kind_of(kind)?;
     let named = policy(parted(handed, '\n').0);
     let is_named = matches!(kind, CommandKind::Migration) && !named.is_empty();
     let bytes = if is_named { named } else { handed };
     Ok(make_command(alloc, kind, id, bytes)?)
+}
+
+/// The same: `KIND ID`.
+pub fn command_of(alloc: Global, words: &str, handed: &str) -> Result<Command, Trouble> {
+    let (kind, id) = parted(words, ' ');
+    command(alloc, kind, id, handed)
+}
+
+/// The command of a `send` or a `batch`.
+pub fn command_of_work(alloc: Global, work: Work<'_>) -> Result<Command, Trouble> {
+    if work.verb == "batch" {
+        worked(alloc, work.rest)
+    } else {
+        command_of(alloc, work.rest, work.handed)
+    }
 }
 
 /// Sends a command, and writes the answer.
@@ -69,17 +97,14 @@ pub fn push_applied<S: Alter>(
 pub fn ask<S: Alter>(
     alloc: Global,
     engine: &mut Engine<S>,
-    words: &str,
-    handed: &str,
+    work: Work<'_>,
     out: &mut String,
 ) -> Result<(), Trouble> {
-    let (verb, rest) = parted(words, ' ');
-    match verb {
-        "send" => send(alloc, engine, rest, handed, out),
-        "deliver" => deliver(alloc, engine, handed, out),
-        "batch" => batch(alloc, engine, rest, out),
-        "load" => load(alloc, engine, rest, out),
-        "plan" => plan(alloc, engine, rest, handed, out),
+    match work.verb {
+        "send" | "batch" => send(alloc, engine, work, out),
+        "deliver" => deliver(alloc, engine, work, out),
+        "load" => load(alloc, engine, work.rest, out),
+        "plan" => plan(alloc, engine, work.rest, work.handed, out),
         "writes" => Ok(push_count(out, "written", engine.writes())?),
         "counts" => counts(alloc, engine, out),
         "check" => check(alloc, engine, out),
@@ -88,15 +113,14 @@ pub fn ask<S: Alter>(
     }
 }
 
-/// A batch, or a policy, of these bytes: `KIND ID`.
+/// Sends the command of a `send` or a `batch`.
 fn send<S: Alter>(
     alloc: Global,
     engine: &mut Engine<S>,
-    words: &str,
-    bytes: &str,
+    work: Work<'_>,
     out: &mut String,
 ) -> Result<(), Trouble> {
-    let command = command_of(alloc, words, bytes)?;
+    let command = command_of_work(alloc, work)?;
     push_applied(alloc, engine, &command, out)
 }
 

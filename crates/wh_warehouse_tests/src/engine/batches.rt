@@ -1,86 +1,69 @@
-//! Batches of one product that many scenarios begin with, under the policy `flat`.
+//! The worked commands that many scenarios send: those of products and sales under the policies `flat` and `bands-of-rows`, the others
+//! under the second alone.
 
-use crate::engine::asking::{make_command, push_applied};
+use crate::engine::asking::{command, push_applied};
 use crate::trouble::Trouble;
 use sqlite::Alter;
-use std::alloc::{AllocError, Global};
-use wh_batch::Kind;
-use wh_engine::{CommandKind, Engine};
-use wh_policy::Dim;
+use std::alloc::Global;
+use wh_engine::{Command, Engine};
 use wh_scenarios::{parted, push_line};
 
-const HEADER: &str = "id,day,description,brand,category,department,launched,supplier";
+/// In their order, a line each: its id, its kind, and its records, or the name of its policy; `|` stands for the end of a line.
+const WORKED: &str = "\
+p0 product
+p1 product P1,2024-01-10,Cola 1l,Acme,Drinks,Grocery,2019,North
+p2 product P1,2024-02-01,Cola 1l,Bolt,Drinks,Grocery,2019,North
+s1 sales T1,1,2024-02-05,S1,P1,,2,5.00,3.20|T0,1,2023-12-31,S1,P1,,1,2.5,1.60
+p3 product P1,2024-01-20,Cola 1l,Bolt,Drinks,Grocery,2019,North
+p4 product P1,2024-02-01,Cola 1l,Cask,Drinks,Grocery,2019,North
+p5 product P1,2024-03-01,Cola 1 l,Cask,Drinks,Grocery,2019,North
+p6 product P1,2024-04-01,Cola 1 l,Cask,Soft drinks,Grocery,2019,North
+p7 product P1,2024-06-01,Cola 1 l,Cask,Soft drinks,Grocery,2021,South
+p8 product P1,2024-05-01,Cola 1 l,Cask,Soft drinks,Grocery,2019,East
+s2 sales T2,1,2024-06-10,S1,P9,C9,1,10.00,7.00
+p9 product P9,2024-06-05,Tea 50,Leaf,Drinks,Grocery,2024,North
+c1 customer C9,2024-06-08,Gold,30-39,high
+c2 customer C9,2024-07-01,Gold,40-49,high
+m1 migrate brand-overwritten
+m2 migrate bands-of-rows
+s4 sales T4,1,2024-02-29,S1,P1,,1,2.50,1.60
+c3 customer C9,2024-07-01,Gold,40-49,high
+c4 customer C8,2024-07-01,V,,
+";
 
-/// The batches in their order: their ids, and their records.
-const BATCHES: [(&str, &str); 9] = [
-    ("p0", ""),
-    ("p1", "P1,2024-01-10,Cola 1l,Acme,Drinks,Grocery,2019,North"),
-    ("p2", "P1,2024-02-01,Cola 1l,Bolt,Drinks,Grocery,2019,North"),
-    ("p3", "P1,2024-01-20,Cola 1l,Bolt,Drinks,Grocery,2019,North"),
-    ("p4", "P1,2024-02-01,Cola 1l,Cask,Drinks,Grocery,2019,North"),
-    (
-        "p5",
-        "P1,2024-03-01,Cola 1 l,Cask,Drinks,Grocery,2019,North",
-    ),
-    (
-        "p6",
-        "P1,2024-04-01,Cola 1 l,Cask,Soft drinks,Grocery,2019,North",
-    ),
-    (
-        "p7",
-        "P1,2024-06-01,Cola 1 l,Cask,Soft drinks,Grocery,2021,South",
-    ),
-    (
-        "p8",
-        "P1,2024-05-01,Cola 1 l,Cask,Soft drinks,Grocery,2019,East",
-    ),
-];
-
-/// A batch with these records, after the header.
-fn text_of(alloc: Global, records: &str) -> Result<String, AllocError> {
-    let mut text = String::new(alloc);
-    push_line(&mut text, HEADER)?;
-    push_line(&mut text, records)?;
-    Ok(text)
-}
-
-/// Sends a batch of products with these records.
-fn sent<S: Alter>(
-    alloc: Global,
-    engine: &mut Engine<S>,
-    id: &str,
-    records: &str,
-    out: &mut String,
-) -> Result<(), Trouble> {
-    let text = text_of(alloc, records)?;
-    let kind = CommandKind::Batch(Kind::Dimension(Dim::Product));
-    let command = make_command(alloc, kind, id, text.as_str())?;
-    push_applied(alloc, engine, &command, out)
-}
-
-fn records_of(id: &str) -> Option<&'static str> {
-    for (other, records) in BATCHES {
-        if other == id {
-            return Some(records);
-        }
+/// The line before the records of a batch.
+fn header_of(kind: &str) -> &'static str {
+    match kind {
+        "product" => "id,day,description,brand,category,department,launched,supplier\n",
+        "customer" => "id,day,tier,age_band,spend_band\n",
+        "sales" => "ticket,line,day,store,product,customer,quantity,amount,cost\n",
+        _ => "",
     }
-    None
 }
 
-/// The batch of this id.
-pub fn batch<S: Alter>(
-    alloc: Global,
-    engine: &mut Engine<S>,
-    id: &str,
-    out: &mut String,
-) -> Result<(), Trouble> {
-    match records_of(id) {
-        Some(records) => sent(alloc, engine, id, records, out),
+/// The command of a line of these.
+fn told(alloc: Global, line: &str) -> Result<Command, Trouble> {
+    let (id, rest) = parted(line, ' ');
+    let (kind, records) = parted(rest, ' ');
+    let records = records.replace(alloc, "|", "\n")?;
+    let mut text = String::from_str(alloc, header_of(kind))?;
+    push_line(&mut text, records.as_str())?;
+    command(alloc, kind, id, text.as_str())
+}
+
+fn is_of(line: &str, id: &str) -> bool {
+    parted(line, ' ').0 == id
+}
+
+/// The worked command of this id.
+pub fn worked(alloc: Global, id: &str) -> Result<Command, Trouble> {
+    match WORKED.lines().find(|line| is_of(line, id)) {
+        Some(line) => told(alloc, line),
         None => Err(Trouble),
     }
 }
 
-/// `FIRST LAST`: the batches from one to another. What isn't accepted is answered.
+/// `FIRST LAST`: the worked commands from one to another. What isn't accepted is answered.
 pub fn load<S: Alter>(
     alloc: Global,
     engine: &mut Engine<S>,
@@ -88,10 +71,13 @@ pub fn load<S: Alter>(
     out: &mut String,
 ) -> Result<(), Trouble> {
     let (first, last) = parted(words, ' ');
-    for (id, records) in BATCHES {
-        if first <= id && id <= last {
-            load_once(alloc, engine, id, records, out)?;
+    let mut is_among = false;
+    for line in WORKED.lines() {
+        is_among = is_among || is_of(line, first);
+        if is_among {
+            load_once(alloc, engine, line, out)?;
         }
+        is_among = is_among && !is_of(line, last);
     }
     Ok(())
 }
@@ -99,12 +85,12 @@ pub fn load<S: Alter>(
 fn load_once<S: Alter>(
     alloc: Global,
     engine: &mut Engine<S>,
-    id: &str,
-    records: &str,
+    line: &str,
     out: &mut String,
 ) -> Result<(), Trouble> {
+    let command = told(alloc, line)?;
     let mut answer = String::new(alloc);
-    sent(alloc, engine, id, records, &mut answer)?;
+    push_applied(alloc, engine, &command, &mut answer)?;
     if !answer.starts_with("accepted ") {
         out.push_str(answer.as_str())?;
     }

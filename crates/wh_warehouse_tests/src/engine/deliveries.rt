@@ -1,6 +1,7 @@
 //! Several commands at once, and their answers as lines.
 
-use crate::engine::asking::{command_of, push_answer};
+use crate::engine::asking::{Work, command_of, push_answer};
+use crate::engine::batches::worked;
 use crate::trouble::Trouble;
 use sqlite::Alter;
 use std::alloc::{AllocError, Global};
@@ -16,8 +17,26 @@ fn command_in(alloc: Global, part: &str) -> Result<Command, Trouble> {
     command_of(alloc, words, handed.as_str())
 }
 
+/// Those of the worked commands that have these ids, with a space between two.
+fn named_commands(alloc: Global, ids: &str) -> Result<Vec<Command>, Trouble> {
+    let mut commands = Vec::new(alloc);
+    for id in ids.split(' ') {
+        commands.push(worked(alloc, id)?)?;
+    }
+    Ok(commands)
+}
+
+/// The commands that are named, or those that are handed where none is named.
+pub fn commands_of(alloc: Global, ids: &str, handed: &str) -> Result<Vec<Command>, Trouble> {
+    if ids.is_empty() {
+        handed_commands(alloc, handed)
+    } else {
+        named_commands(alloc, ids)
+    }
+}
+
 /// Commands, with an empty line between two.
-pub fn commands_of(alloc: Global, handed: &str) -> Result<Vec<Command>, Trouble> {
+fn handed_commands(alloc: Global, handed: &str) -> Result<Vec<Command>, Trouble> {
     let mut commands = Vec::new(alloc);
     for part in handed.split("\n\n") {
         if !part.trim().is_empty() {
@@ -31,10 +50,10 @@ pub fn commands_of(alloc: Global, handed: &str) -> Result<Vec<Command>, Trouble>
 pub fn deliver<S: Alter>(
     alloc: Global,
     engine: &mut Engine<S>,
-    handed: &str,
+    work: Work<'_>,
     out: &mut String,
 ) -> Result<(), Trouble> {
-    let commands = commands_of(alloc, handed)?;
+    let commands = commands_of(alloc, work.rest, work.handed)?;
     let replies = engine.deliver(alloc, &commands);
     Ok(push_replies(out, &replies)?)
 }

@@ -3,12 +3,14 @@
 //! `perform` and all that it calls are generic in the store, so that no proof but those of `on_files` and `redelivered` carries the state of
 //! a file store.
 
-use crate::engine::asking::{ask, command_of, counts, push_answer, push_fault};
+use crate::engine::asking::{
+    Work, ask, command_of, command_of_work, counts, push_answer, push_fault,
+};
 use crate::engine::deliveries::{commands_of, push_replies};
 use crate::engine::initiated;
 use crate::engine::tables::{Answer, all_over, look_over};
 use crate::trouble::Trouble;
-use crate::words::push_number;
+use crate::words::{number, push_number};
 use sqlite::{Alter, Connection, FileStore, Files, Options};
 use sqlite_disk::{Crash, Disk, Fuse, Memory};
 use std::alloc::Global;
@@ -18,18 +20,12 @@ use wh_engine::{
 use wh_rows::Limits;
 use wh_scenarios::{parted, push_line};
 
-/// An `init` or a `send`: its words, and what it is handed.
+/// What a crash left of a work: all ten tables as they were before the work and as they are after each part of it with no stop, empty
+/// where there is no warehouse, and how many parts were acknowledged.
 #[derive(Clone, Copy)]
-struct Work<'a> {
-    words: &'a str,
-    handed: &'a str,
-}
-
-/// All ten tables before a work and after it, empty where there is no warehouse.
-#[derive(Drop)]
-struct Run {
-    before: String,
-    after: String,
+struct Left<'a> {
+    stages: &'a [String],
+    acknowledged: usize,
 }
 
 /// What is done with a connection.
@@ -43,10 +39,10 @@ enum Task<'a> {
     Look(&'a str),
     /// All ten tables are told, which must be clean, and nothing where there is no warehouse.
     Find,
-    /// A work is tried: `done`, `refused`, `stopped` by the store, or `served` in spite of that.
+    /// A work is tried: `done`, `refused`, `stopped` by the store, or `served` in spite of that, and how many parts were acknowledged.
     Attempt(Work<'a>),
-    /// The tables are found as `before` the work, or `after` it, and the work is done again.
-    Recover(Work<'a>, &'a Run),
+    /// It is looked whether the tables are those after the acknowledged parts of a work or with the next one, and the work is done again.
+    Recover(Work<'a>, Left<'a>),
 }
 
 fn perform<S: Alter + Drop>(
@@ -60,13 +56,13 @@ fn perform<S: Alter + Drop>(
         Task::Look(words) => look_over(alloc, conn, words),
         Task::Find => find_clean(alloc, conn),
         Task::Attempt(work) => attempt_over(alloc, conn, work),
-        Task::Recover(work, run) => recover_over(alloc, conn, work, run),
+        Task::Recover(work, left) => recover_over(alloc, conn, work, left),
     }
 }
 
 fn asked<S: Alter>(alloc: Global, engine: &mut Engine<S>, work: Work<'_>) -> Answer {
     let mut out = String::new(alloc);
-    ask(alloc, engine, work.words, work.handed, &mut out)?;
+    ask(alloc, engine, work, &mut out)?;
     Ok(out)
 }
 
@@ -130,12 +126,10 @@ fn attempt_over<S: Alter + Drop>(
     conn: Connection<S>,
     work: Work<'_>,
 ) -> (Connection<S>, Answer) {
-    let (verb, rest) = parted(work.words, ' ');
-    match verb {
-        "init" => try_making(alloc, conn, rest),
-        "send" => try_sending(alloc, conn, rest, work.handed),
-        "deliver" => try_delivering(alloc, conn, work.handed),
-        "check" => try_checking(alloc, conn),
+    match work.verb {
+        "init" => try_making(alloc, conn, work.rest),
+        "night" => try_night(alloc, conn, work.rest),
+        "open" | "send" | "batch" | "deliver" | "check" => try_asking(alloc, conn, work),
         _ => (conn, Err(Trouble)),
     }
 }
@@ -147,56 +141,70 @@ fn try_making<S: Alter + Drop>(
     name: &str,
 ) -> (Connection<S>, Answer) {
     match initiated(alloc, conn, name, Limits::greatest()) {
-        Ok(engine) => (engine.close(), word(alloc, "done")),
-        Err((InitFault::NotEmpty, conn)) => (conn, word(alloc, "done")),
-        Err((_, conn)) => (conn, word(alloc, "stopped")),
+        Ok(engine) => (engine.close(), word(alloc, "done 1")),
+        Err((InitFault::NotEmpty, conn)) => (conn, word(alloc, "done 1")),
+        Err((_, conn)) => (conn, word(alloc, "stopped 0")),
     }
 }
 
-fn try_sending<S: Alter + Drop>(
+/// `POLICY IDS`: makes a warehouse, where there is none, and delivers it worked commands.
+fn try_night<S: Alter + Drop>(
     alloc: Global,
     conn: Connection<S>,
     words: &str,
-    handed: &str,
+) -> (Connection<S>, Answer) {
+    let (name, ids) = parted(words, ' ');
+    match initiated(alloc, conn, name, Limits::greatest()) {
+        Ok(engine) => deliver_night(alloc, engine, ids),
+        Err((InitFault::NotEmpty, conn)) => match Engine::open(alloc, conn) {
+            Ok(engine) => deliver_night(alloc, engine, ids),
+            Err((_, conn)) => (conn, Err(Trouble)),
+        },
+        Err((_, conn)) => (conn, word(alloc, "stopped 0")),
+    }
+}
+
+fn deliver_night<S: Alter + Drop>(
+    alloc: Global,
+    mut engine: Engine<S>,
+    ids: &str,
+) -> (Connection<S>, Answer) {
+    let answer = delivered(alloc, &mut engine, ids, "", 1);
+    (engine.close(), answer)
+}
+
+fn try_asking<S: Alter + Drop>(
+    alloc: Global,
+    conn: Connection<S>,
+    work: Work<'_>,
 ) -> (Connection<S>, Answer) {
     match Engine::open(alloc, conn) {
         Ok(mut engine) => {
-            let answer = tried(alloc, &mut engine, words, handed);
+            let answer = tried(alloc, &mut engine, work);
             (engine.close(), answer)
         }
         Err((_, conn)) => (conn, Err(Trouble)),
     }
 }
 
-fn tried<S: Alter>(alloc: Global, engine: &mut Engine<S>, words: &str, handed: &str) -> Answer {
-    let command = command_of(alloc, words, handed)?;
+fn tried<S: Alter>(alloc: Global, engine: &mut Engine<S>, work: Work<'_>) -> Answer {
+    match work.verb {
+        "open" => word(alloc, "done 1"),
+        "check" => checked(alloc, engine),
+        "deliver" => delivered(alloc, engine, work.rest, work.handed, 0),
+        _ => sent(alloc, engine, work),
+    }
+}
+
+fn sent<S: Alter>(alloc: Global, engine: &mut Engine<S>, work: Work<'_>) -> Answer {
+    let command = command_of_work(alloc, work)?;
     let answer = engine.apply(alloc, &command);
     word(alloc, word_of(alloc, engine, &command, answer))
 }
 
-fn try_delivering<S: Alter + Drop>(
-    alloc: Global,
-    conn: Connection<S>,
-    handed: &str,
-) -> (Connection<S>, Answer) {
-    match Engine::open(alloc, conn) {
-        Ok(mut engine) => {
-            let answer = delivered(alloc, &mut engine, handed);
-            (engine.close(), answer)
-        }
-        Err((_, conn)) => (conn, Err(Trouble)),
-    }
-}
-
-fn try_checking<S: Alter + Drop>(alloc: Global, conn: Connection<S>) -> (Connection<S>, Answer) {
-    match Engine::open(alloc, conn) {
-        Ok(mut engine) => {
-            let verdict = engine.check(alloc);
-            let word_of = word_of_verdict(alloc, &mut engine, verdict);
-            (engine.close(), word(alloc, word_of))
-        }
-        Err((_, conn)) => (conn, Err(Trouble)),
-    }
+fn checked<S: Alter>(alloc: Global, engine: &mut Engine<S>) -> Answer {
+    let verdict = engine.check(alloc);
+    word(alloc, word_of_verdict(alloc, engine, verdict))
 }
 
 /// What a check came to. Where the store refused a call, the engine must answer `Reopen` from then on.
@@ -206,7 +214,7 @@ fn word_of_verdict<S: Alter>(
     verdict: Result<Verdict, Fault>,
 ) -> &'static str {
     match verdict {
-        Ok(Verdict::Clean) => "done",
+        Ok(Verdict::Clean) => "done 1",
         Err(Fault::Store(_)) => {
             if counts_nothing(alloc, engine) && must_reopen(&engine.check(alloc)) {
                 "stopped"
@@ -218,10 +226,22 @@ fn word_of_verdict<S: Alter>(
     }
 }
 
-fn delivered<S: Alter>(alloc: Global, engine: &mut Engine<S>, handed: &str) -> Answer {
-    let commands = commands_of(alloc, handed)?;
+/// Delivers commands, after so many parts that were acknowledged.
+fn delivered<S: Alter>(
+    alloc: Global,
+    engine: &mut Engine<S>,
+    ids: &str,
+    handed: &str,
+    before: usize,
+) -> Answer {
+    let commands = commands_of(alloc, ids, handed)?;
     let replies = engine.deliver(alloc, &commands);
-    word(alloc, word_of_stop(alloc, engine, &commands, replies.stop))
+    let count = before.saturating_add(replies.answers.len());
+    let mut out = String::new(alloc);
+    out.push_str(word_of_stop(alloc, engine, &commands, replies.stop))?;
+    out.push_str(" ")?;
+    push_number(&mut out, count as u64)?;
+    Ok(out)
 }
 
 /// What a delivery came to. Where the store refused a call, the engine must answer `Reopen` from then on.
@@ -269,7 +289,7 @@ fn word_of<S: Alter>(
     answer: Result<Reply, Fault>,
 ) -> &'static str {
     match answer {
-        Ok(_) => "done",
+        Ok(_) => "done 1",
         Err(Fault::Store(_)) => {
             if counts_nothing(alloc, engine) && takes_nothing(alloc, engine, command) {
                 "stopped"
@@ -286,12 +306,23 @@ fn recover_over<S: Alter + Drop>(
     alloc: Global,
     conn: Connection<S>,
     work: Work<'_>,
-    run: &Run,
+    left: Left<'_>,
 ) -> (Connection<S>, Answer) {
     let (conn, found) = find_clean(alloc, conn);
     let (conn, answer) = attempt_over(alloc, conn, work);
     let (conn, again) = find_over(alloc, conn);
-    (conn, word(alloc, judged(run, &found, &answer, &again)))
+    (conn, word(alloc, judged(left, &found, &answer, &again)))
+}
+
+/// How an attempt ended, and how many parts were acknowledged. One whose warehouse could not be opened was stopped.
+fn ending(answer: &Answer) -> (&str, usize) {
+    match answer {
+        Ok(answer) => {
+            let (word, count) = parted(answer.as_str(), ' ');
+            (word, count.parse::<usize>().unwrap_or(0))
+        }
+        Err(_) => ("stopped", 0),
+    }
 }
 
 fn is_text(answer: &Answer, text: &str) -> bool {
@@ -301,13 +332,20 @@ fn is_text(answer: &Answer, text: &str) -> bool {
     }
 }
 
-fn judged(run: &Run, found: &Answer, answer: &Answer, again: &Answer) -> &'static str {
-    if !is_text(answer, "done") || !is_text(again, run.after.as_str()) {
+fn is_stage(stage: Option<&String>, answer: &Answer) -> bool {
+    match stage {
+        Some(stage) => is_text(answer, stage.as_str()),
+        None => false,
+    }
+}
+
+fn judged(left: Left<'_>, found: &Answer, answer: &Answer, again: &Answer) -> &'static str {
+    let stages = left.stages;
+    let next = left.acknowledged.saturating_add(1);
+    if ending(answer).0 != "done" || !is_stage(stages.last(), again) {
         "lost"
-    } else if is_text(found, run.after.as_str()) {
-        "after"
-    } else if is_text(found, run.before.as_str()) {
-        "before"
+    } else if is_stage(stages.get(left.acknowledged), found) || is_stage(stages.get(next), found) {
+        "right"
     } else {
         "neither"
     }
@@ -360,33 +398,86 @@ pub fn step(
     handed: &str,
     out: &mut String,
 ) -> Result<Files<Memory>, Trouble> {
-    let (verb, rest) = parted(words, ' ');
-    let task = match verb {
+    let work = Work::of(words, handed);
+    let task = match work.verb {
         "stops" => {
-            stops(alloc, &files, rest, handed, out)?;
+            push_found(out, stops(alloc, &files, work)?)?;
             return Ok(files);
         }
-        "init" => Task::Init(rest),
+        "stops_again" => {
+            push_found(out, stops_again(alloc, &files, work)?)?;
+            return Ok(files);
+        }
+        "init" => Task::Init(work.rest),
         "table" | "command" => Task::Look(words),
-        _ => Task::Ask(Work { words, handed }),
+        _ => Task::Ask(work),
     };
     let (files, answer) = on_files(alloc, files, task);
     out.push_str(answer?.as_str())?;
     Ok(files)
 }
 
-/// What a work leads to over these files with no stop.
-fn whole_run(alloc: Global, files: &Files<Memory>, work: Work<'_>) -> Result<Run, Trouble> {
-    let (left, before) = on_files(alloc, copy_files(alloc, files)?, Task::Find);
-    let (left, answer) = on_files(alloc, left, Task::Attempt(work));
-    let (_, after) = on_files(alloc, left, Task::Find);
-    if !is_text(&answer, "done") {
+/// The parts of a work, of which each is kept whole or not at all.
+fn parts_of<'a>(alloc: Global, work: Work<'a>) -> Result<Vec<Work<'a>>, Trouble> {
+    let mut parts = Vec::new(alloc);
+    match work.verb {
+        "night" => {
+            let (name, ids) = parted(work.rest, ' ');
+            parts.push(part("init", name, ""))?;
+            push_named(&mut parts, ids)?;
+        }
+        "deliver" if work.rest.is_empty() => push_handed(&mut parts, work.handed)?,
+        "deliver" => push_named(&mut parts, work.rest)?,
+        _ => parts.push(work)?,
+    }
+    Ok(parts)
+}
+
+fn part<'a>(verb: &'a str, rest: &'a str, handed: &'a str) -> Work<'a> {
+    Work { verb, rest, handed }
+}
+
+fn push_named<'a>(parts: &mut Vec<Work<'a>>, ids: &'a str) -> Result<(), Trouble> {
+    for id in ids.split(' ') {
+        parts.push(part("deliver", id, ""))?;
+    }
+    Ok(())
+}
+
+fn push_handed<'a>(parts: &mut Vec<Work<'a>>, handed: &'a str) -> Result<(), Trouble> {
+    for command in handed.split("\n\n") {
+        if !command.trim().is_empty() {
+            parts.push(part("deliver", "", command))?;
+        }
+    }
+    Ok(())
+}
+
+/// What a work leads to over these files with no stop: all ten tables before it, and after each of its parts.
+fn stages_of(alloc: Global, files: &Files<Memory>, work: Work<'_>) -> Result<Vec<String>, Trouble> {
+    let (mut left, before) = on_files(alloc, copy_files(alloc, files)?, Task::Find);
+    let mut stages = Vec::new(alloc);
+    stages.push(before?)?;
+    let parts = parts_of(alloc, work)?;
+    for part in &parts {
+        left = add_stage(alloc, left, *part, &mut stages)?;
+    }
+    Ok(stages)
+}
+
+fn add_stage(
+    alloc: Global,
+    files: Files<Memory>,
+    part: Work<'_>,
+    stages: &mut Vec<String>,
+) -> Result<Files<Memory>, Trouble> {
+    let (files, answer) = on_files(alloc, files, Task::Attempt(part));
+    if ending(&answer).0 != "done" {
         return Err(Trouble);
     }
-    Ok(Run {
-        before: before?,
-        after: after?,
-    })
+    let (files, after) = on_files(alloc, files, Task::Find);
+    stages.push(after?)?;
+    Ok(files)
 }
 
 /// Whether the disk of this name is the log's, and not the database file's.
@@ -398,19 +489,12 @@ fn is_log(disk: &str) -> Result<bool, Trouble> {
     }
 }
 
-/// `DISK STEP`: the disk stops at each call of the step in turn, and the machine crashes.
-fn stops(
-    alloc: Global,
-    files: &Files<Memory>,
-    rest: &str,
-    handed: &str,
-    out: &mut String,
-) -> Result<(), Trouble> {
-    let (disk, words) = parted(rest, ' ');
-    let work = Work { words, handed };
-    let run = whole_run(alloc, files, work)?;
-    match all_stops(alloc, files, is_log(disk)?, work, &run)? {
-        None => Ok(push_line(out, "before, or after")?),
+/// What was found of stops: after how many calls it isn't right.
+type Stops = Option<u64>;
+
+fn push_found(out: &mut String, found: Stops) -> Result<(), Trouble> {
+    match found {
+        None => Ok(push_line(out, "as acknowledged, or with the next")?),
         Some(calls) => {
             out.push_str("neither, stopped after so many calls: ")?;
             push_number(out, calls)?;
@@ -419,20 +503,81 @@ fn stops(
     }
 }
 
+/// `DISK STEP`: the disk stops at each call of the step in turn, and the machine crashes. `either` is the log's disk, and then the other.
+fn stops(alloc: Global, files: &Files<Memory>, work: Work<'_>) -> Result<Stops, Trouble> {
+    let (disk, words) = parted(work.rest, ' ');
+    stops_of(alloc, files, disk, Work::of(words, work.handed))
+}
+
+fn stops_of(
+    alloc: Global,
+    files: &Files<Memory>,
+    disk: &str,
+    work: Work<'_>,
+) -> Result<Stops, Trouble> {
+    let stages = stages_of(alloc, files, work)?;
+    if disk != "either" {
+        return all_stops(alloc, files, is_log(disk)?, work, &stages);
+    }
+    match all_stops(alloc, files, true, work, &stages)? {
+        None => all_stops(alloc, files, false, work, &stages),
+        found => Ok(found),
+    }
+}
+
+/// `DISK CALLS DISK STEP`: the first disk stops after none, so many, twice as many calls of the step and so on, the machine crashes, and each
+/// time the second disk stops at each call of the step made again.
+fn stops_again(alloc: Global, files: &Files<Memory>, work: Work<'_>) -> Result<Stops, Trouble> {
+    let (first, rest) = parted(work.rest, ' ');
+    let (apart, rest) = parted(rest, ' ');
+    let (second, words) = parted(rest, ' ');
+    let (is_log, apart) = (is_log(first)?, number(apart)?);
+    let work = Work::of(words, work.handed);
+    let mut calls = 0;
+    for _ in 0..CALLS_MAX {
+        let (left, is_stopped) = left_by(alloc, files, is_log, calls, work)?;
+        let found = stops_of(alloc, &left, second, work)?;
+        if found.is_some() || !is_stopped {
+            return Ok(found);
+        }
+        calls = calls.saturating_add(apart);
+    }
+    Ok(Some(CALLS_MAX))
+}
+
+/// What a crash leaves of a work on files of which one stops after so many calls, on disks that don't stop, and whether it stopped.
+fn left_by(
+    alloc: Global,
+    files: &Files<Memory>,
+    is_log: bool,
+    calls: u64,
+    work: Work<'_>,
+) -> Result<(Files<Memory>, bool), Trouble> {
+    let fused = fused(copy_files(alloc, files)?, is_log, calls);
+    let (mut files, _) = on_files(alloc, fused, Task::Attempt(work));
+    let is_stopped = has_stopped(&mut files);
+    let files = crashed(files);
+    let left = Files {
+        log: copy(alloc, files.log.inner())?,
+        db: copy(alloc, files.db.inner())?,
+    };
+    Ok((left, is_stopped))
+}
+
 /// More calls than any step makes.
 const CALLS_MAX: u64 = 10_000;
 
-/// Stops after more and more calls, up to a run that isn't stopped. It tells after how many calls what is found isn't right.
+/// Stops after more and more calls, up to a run that isn't stopped.
 fn all_stops(
     alloc: Global,
     files: &Files<Memory>,
     is_log: bool,
     work: Work<'_>,
-    run: &Run,
-) -> Result<Option<u64>, Trouble> {
+    stages: &[String],
+) -> Result<Stops, Trouble> {
     for calls in 0..CALLS_MAX {
         let fused = fused(copy_files(alloc, files)?, is_log, calls);
-        match stopped(alloc, fused, work, run) {
+        match stopped(alloc, fused, work, stages) {
             Found::Wrong => return Ok(Some(calls)),
             Found::Whole => return Ok(None),
             Found::Right => {}
@@ -448,7 +593,7 @@ enum Found {
     Wrong,
     /// It is, and the disk had stopped.
     Right,
-    /// It is what the work made, and the disk had not stopped.
+    /// It is what the work leads to, and the disk had not stopped.
     Whole,
 }
 
@@ -465,27 +610,24 @@ fn fused(files: Files<Memory>, is_log: bool, calls: u64) -> Files<Fuse<Memory>> 
 }
 
 /// Tries the work on disks of which one may stop, and looks at what a crash leaves.
-fn stopped<D: Crash + Drop>(alloc: Global, files: Files<D>, work: Work<'_>, run: &Run) -> Found {
+fn stopped<D: Crash + Drop>(
+    alloc: Global,
+    files: Files<D>,
+    work: Work<'_>,
+    stages: &[String],
+) -> Found {
     let (mut files, answer) = on_files(alloc, files, Task::Attempt(work));
     let is_stopped = has_stopped(&mut files);
-    let (_, found) = on_files(alloc, crashed(files), Task::Recover(work, run));
-    if is_text(&answer, "served") {
-        return Found::Wrong;
-    }
-    let is_done = is_text(&answer, "done");
-    found_of(&found, is_done, is_stopped, work.words == "deliver")
-}
-
-/// After a delivery that stopped some of the commands may be there, and others not.
-fn found_of(found: &Answer, is_done: bool, is_stopped: bool, is_delivery: bool) -> Found {
-    let is_after = is_text(found, "after");
-    let is_earlier = is_text(found, "before") || is_delivery && is_text(found, "neither");
-    if is_stopped && (is_after || is_earlier && !is_done) {
-        Found::Right
-    } else if is_after && is_done {
-        Found::Whole
-    } else {
-        Found::Wrong
+    let (word, acknowledged) = ending(&answer);
+    let left = Left {
+        stages,
+        acknowledged,
+    };
+    let (_, found) = on_files(alloc, crashed(files), Task::Recover(work, left));
+    match (word, is_stopped, is_text(&found, "right")) {
+        ("done" | "stopped", true, true) => Found::Right,
+        ("done", false, true) => Found::Whole,
+        _ => Found::Wrong,
     }
 }
 
@@ -574,7 +716,7 @@ pub fn delivered_again(
     handed: &str,
     out: &mut String,
 ) -> Result<(), Trouble> {
-    let commands = commands_of(alloc, handed)?;
+    let commands = commands_of(alloc, "", handed)?;
     delivered_over_a_crash(alloc, blank(alloc), name, &commands, out)
 }
 

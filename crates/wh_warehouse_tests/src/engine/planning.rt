@@ -18,7 +18,7 @@ use sqlite_value::value::Bytes;
 use std::alloc::{AllocError, Global};
 use wh_day::{Day, NaturalKey, Value, Values};
 use wh_engine::{write_edits, write_making};
-use wh_history::{Change, Changes, Dimension, Edit, Member, Profiles};
+use wh_history::{Change, Changes, DimensionShape, Edit, Member, Profiles};
 use wh_plan::new_rows::{new_changes, new_members, rows_of_members};
 use wh_plan::reading::{command_of, last_member, stored_changes, stored_member, stored_rows};
 use wh_plan::{Edits, FactEdit, plan_batch};
@@ -246,7 +246,7 @@ fn push_changes(alloc: Global, words: &str, handed: &str, out: &mut String) -> R
 fn push_rendered(alloc: Global, handed: &str, out: &mut String) -> Result<(), Trouble> {
     let types = Policy::trial(alloc)?.types(alloc, Dim::Product)?;
     let profiles = Profiles::new(alloc);
-    let dimension = Dimension {
+    let dimension = DimensionShape {
         dim: Dim::Product,
         types: &types,
         profiles: &profiles,

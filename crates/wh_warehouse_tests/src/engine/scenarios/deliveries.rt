@@ -16,11 +16,6 @@ fn again(rt: HostRuntime) -> Result<(), Fail> {
 }
 
 #[test]
-fn stops_log(rt: HostRuntime) -> Result<(), Fail> {
-    check_engine(&rt, rt.alloc(), deliveries::STOPS_LOG)
-}
-
-#[test]
-fn stops_database(rt: HostRuntime) -> Result<(), Fail> {
-    check_engine(&rt, rt.alloc(), deliveries::STOPS_DATABASE)
+fn stops(rt: HostRuntime) -> Result<(), Fail> {
+    check_engine(&rt, rt.alloc(), deliveries::STOPS)
 }

@@ -8,3 +8,8 @@ use wh_scenarios::engine::plans;
 fn plans(rt: HostRuntime) -> Result<(), Fail> {
     check_engine(&rt, rt.alloc(), plans::PLANS)
 }
+
+#[test]
+fn touched(rt: HostRuntime) -> Result<(), Fail> {
+    check_engine(&rt, rt.alloc(), plans::TOUCHED)
+}

@@ -1,57 +1,52 @@
-//! Files that stop at some call, and a crash after it: what is found is as before, or as after, and the same command again leads to what
-//! it leads to with no stop. A load is of a record of an earlier day of a product and of a new product, or of a sale of a product and to a
-//! customer that nothing mentioned; a migration takes a row away, and moves a sale.
+//! Files that stop at some call, those of opening and closing them included, and a crash after it: what is found is what was acknowledged,
+//! or that and the next command, and the same again leads to what it leads to with no stop. A load is of a record of an earlier day of a product
+//! and of a new product, or of a sale of a product and to a customer that nothing mentioned; a migration takes a row away, and moves a sale.
 
 use crate::engine::scenarios::check_engine;
 use std::test::Fail;
 use wh_scenarios::engine::stops;
 
 #[test]
-fn making_log(rt: HostRuntime) -> Result<(), Fail> {
-    check_engine(&rt, rt.alloc(), stops::MAKING_LOG)
+fn making(rt: HostRuntime) -> Result<(), Fail> {
+    check_engine(&rt, rt.alloc(), stops::MAKING)
 }
 
 #[test]
-fn making_database(rt: HostRuntime) -> Result<(), Fail> {
-    check_engine(&rt, rt.alloc(), stops::MAKING_DATABASE)
+fn opening(rt: HostRuntime) -> Result<(), Fail> {
+    check_engine(&rt, rt.alloc(), stops::OPENING)
 }
 
 #[test]
-fn products_log(rt: HostRuntime) -> Result<(), Fail> {
-    check_engine(&rt, rt.alloc(), stops::PRODUCTS_LOG)
+fn products(rt: HostRuntime) -> Result<(), Fail> {
+    check_engine(&rt, rt.alloc(), stops::PRODUCTS)
 }
 
 #[test]
-fn products_database(rt: HostRuntime) -> Result<(), Fail> {
-    check_engine(&rt, rt.alloc(), stops::PRODUCTS_DATABASE)
+fn sales(rt: HostRuntime) -> Result<(), Fail> {
+    check_engine(&rt, rt.alloc(), stops::SALES)
 }
 
 #[test]
-fn sales_log(rt: HostRuntime) -> Result<(), Fail> {
-    check_engine(&rt, rt.alloc(), stops::SALES_LOG)
+fn migrations(rt: HostRuntime) -> Result<(), Fail> {
+    check_engine(&rt, rt.alloc(), stops::MIGRATIONS)
 }
 
 #[test]
-fn sales_database(rt: HostRuntime) -> Result<(), Fail> {
-    check_engine(&rt, rt.alloc(), stops::SALES_DATABASE)
+fn check(rt: HostRuntime) -> Result<(), Fail> {
+    check_engine(&rt, rt.alloc(), stops::CHECK)
 }
 
 #[test]
-fn migrations_log(rt: HostRuntime) -> Result<(), Fail> {
-    check_engine(&rt, rt.alloc(), stops::MIGRATIONS_LOG)
+fn night(rt: HostRuntime) -> Result<(), Fail> {
+    check_engine(&rt, rt.alloc(), stops::NIGHT)
 }
 
 #[test]
-fn migrations_database(rt: HostRuntime) -> Result<(), Fail> {
-    check_engine(&rt, rt.alloc(), stops::MIGRATIONS_DATABASE)
+fn night_log(rt: HostRuntime) -> Result<(), Fail> {
+    check_engine(&rt, rt.alloc(), stops::NIGHT_LOG)
 }
 
 #[test]
-fn check_log(rt: HostRuntime) -> Result<(), Fail> {
-    check_engine(&rt, rt.alloc(), stops::CHECK_LOG)
-}
-
-#[test]
-fn check_database(rt: HostRuntime) -> Result<(), Fail> {
-    check_engine(&rt, rt.alloc(), stops::CHECK_DATABASE)
+fn night_database(rt: HostRuntime) -> Result<(), Fail> {
+    check_engine(&rt, rt.alloc(), stops::NIGHT_DATABASE)
 }
