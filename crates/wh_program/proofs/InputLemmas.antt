@@ -1,5 +1,5 @@
 -- What is read of a file.
-use Rattle.std.proofs.Common.{refl, inl, inr, ◌⊎◌, true, false, ◌≡◌, ◌∙◌, ◌<◌, ◌≤◌, ap, arith, ℕ, suc, List, [], ◌∷◌, ◌++◌, length, take, Option, Some}
+use Rattle.std.proofs.Common.{refl, inl, inr, ◌⊎◌, true, false, ◌≡◌, ◌∙◌, ◌<◌, ◌≤◌, ap, arith, ℕ, suc, List, [], ◌∷◌, ◌++◌, length, take, Some}
 use Rattle.std.specs.Prelude.{IfOk, nat_lt}
 use Rattle.std.proofs.lemmas.Bool.{cases_lt, lt-ltb, le-ltb}
 use Rattle.std.proofs.lemmas.Result.{IfOk-weaker}

@@ -1,5 +1,5 @@
 -- A manifest that ends in a byte that is in no text is a bad one.
-use Rattle.std.proofs.Common.{◌≡◌, ◌⊎◌, inl, inr, refl, sym, subst, ap, ◌∙◌, arith, Bool, true, false, ℕ, zero, suc, ◌+◌, ◌<◌, ◌≤◌, List, [], ◌∷◌, ◌++◌, length, take, encode_utf8, encode_utf8_all, Option, Some, None, Result, Ok, Err}
+use Rattle.std.proofs.Common.{◌≡◌, ◌⊎◌, inl, inr, refl, sym, subst, ap, arith, Bool, true, false, ℕ, zero, suc, ◌+◌, ◌<◌, ◌≤◌, List, [], ◌∷◌, ◌++◌, length, take, encode_utf8, encode_utf8_all, Some, None, Err}
 use Rattle.std.specs.Prelude.{◌&&◌, ◌||◌, ◌==◌, ⊤, if◌then◌else◌, nat_lt}
 use Rattle.std.specs.Str.{is_utf8, IsUtf8, IsCharBoundary}
 use Rattle.std.proofs.lemmas.Str.{IsUtf8-from_is_utf8, IsUtf8-drop, byte_from_char, length-encode}
@@ -14,9 +14,8 @@ use Rattle.csv.specs.declared.parser.State.{State}
 use Rattle.csv.specs.declared.parser.State.TheVariants as st
 use Rattle.csv.specs.Machine.{step, in_field, start_field, start_record, ends_with, is_end, fields_after, field_after, next_record}
 use Rattle.csv.specs.Reading.{default_config, records, records_from, strip_bom, is_bom}
-use Rattle.wh_batch.specs.Manifest.{entry_of, entries_from, or_bad, manifest_of}
+use Rattle.wh_batch.specs.Manifest.{entry_of, entries_from, manifest_of}
 use Rattle.wh_batch.specs.declared.manifest.BadManifest.{BadManifest}
-use Rattle.wh_batch.specs.declared.manifest.ManifestEntry.{ManifestEntry}
 use Rattle.wh_program.specs.Inputs.{manifest_limit, manifest_part}
 use Rattle.wh_program.specs.Laws.{LongManifestsAreBad}
 

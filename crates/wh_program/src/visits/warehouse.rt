@@ -5,7 +5,7 @@ ghost use Rattle.wh_program.specs.Answer.{failed, no_file_line};
 ghost use Rattle.wh_program.specs.Inputs.{up_to, policy_limit, input_limit};
 ghost use Rattle.wh_program.specs.Room.{longest_answer};
 ghost use Rattle.wh_program.specs.Standing.{DatabaseContent, Standing, Rests};
-ghost use Rattle.wh_program.specs.Warehouse.{Opens, IsReplied, IsForetold, IsCounted, IsCommandOf, Makes, Sends, Plans, AnswersWith, AnswersMaking, AnswersStatus, IsJudgedFirst};
+ghost use Rattle.wh_program.specs.Warehouse.{IsReplied, IsForetold, IsCounted, IsCommandOf, Makes, Sends, Plans, AnswersWith, AnswersMaking, AnswersStatus, IsJudgedFirst};
 ghost use Rattle.wh_program.specs.declared.host.HostError.TheVariants.{NoFile};
 
 use crate::host::{Host, HostError, Visitor, file_of};
