@@ -85,22 +85,12 @@ stops either check
 = as acknowledged, or with the next
 ";
 
-/// A night: a making and eight commands, of which the last came already. After each stop all eight are delivered again.
-pub const NIGHT_LOG: &str = "\
-files
-stops log night bands-of-rows p1 p2 s1 p3 s2 c1 m1 p1
-= as acknowledged, or with the next
-";
-
-pub const NIGHT_DATABASE: &str = "\
-files
-stops database night bands-of-rows p1 p2 s1 p3 s2 c1 m1 p1
-= as acknowledged, or with the next
-";
-
-/// What that night leads to.
+/// A night in one session: a making and eight commands, of which the last came already. After each stop all eight are delivered again. Then what
+/// it leads to.
 pub const NIGHT: &str = "\
 files
+stops either night bands-of-rows p1 p2 s1 p3 s2 c1 m1 p1
+= as acknowledged, or with the next
 init bands-of-rows
 = made
 deliver p1 p2 s1 p3 s2 c1 m1 p1
@@ -144,7 +134,7 @@ pub const DELIVERY_AGAIN: &str = "\
 files
 init small
 = made
-stops_again log 20 either deliver
+stops_again log 30 either deliver
 > product p2
 > id,day,brand
 > P1,2024-01-20,Bolt

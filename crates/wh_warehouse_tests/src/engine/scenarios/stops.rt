@@ -42,11 +42,11 @@ fn night(rt: HostRuntime) -> Result<(), Fail> {
 }
 
 #[test]
-fn night_log(rt: HostRuntime) -> Result<(), Fail> {
-    check_engine(&rt, rt.alloc(), stops::NIGHT_LOG)
+fn making_again(rt: HostRuntime) -> Result<(), Fail> {
+    check_engine(&rt, rt.alloc(), stops::MAKING_AGAIN)
 }
 
 #[test]
-fn night_database(rt: HostRuntime) -> Result<(), Fail> {
-    check_engine(&rt, rt.alloc(), stops::NIGHT_DATABASE)
+fn delivery_again(rt: HostRuntime) -> Result<(), Fail> {
+    check_engine(&rt, rt.alloc(), stops::DELIVERY_AGAIN)
 }
