@@ -124,9 +124,9 @@ check
 /// Files that stop, and stop once more in what is done again after the crash: a making, and a delivery.
 pub const MAKING_AGAIN: &str = "\
 files
-stops_again log 40 either init small
+stops_again log 50 either init small
 = as acknowledged, or with the next
-stops_again database 40 either init small
+stops_again database 30 either init small
 = as acknowledged, or with the next
 ";
 
