@@ -93,7 +93,7 @@ plan sales s3
 
 /// A batch reads the rows, the records and the facts of its own members, and of the kept batches the bytes of none: in a file that is damaged
 /// elsewhere it has its plan, and is accepted. A body that computes all tables anew from the kept commands and writes the difference meets
-/// each contract, since these speak of the tables of accepted commands; this refuses it. `refused-by-tests` of `wh_engine` has such a body.
+/// each contract, since these speak of the tables of accepted commands; this is for it. `refused-by-tests` of `wh_engine` has such a body.
 pub const TOUCHED: &str = "\
 make bands-of-rows
 load p0 c4
