@@ -57,10 +57,11 @@ def kept_by_delivery(name):
 
 
 def fail_each(words, whole, part):
-    """Makes each write of a run fail, in each way, and says how many runs that were."""
+    """Makes each write of a run fail, in each way."""
     is_delivery = words.startswith("deliver ")
     before = None if is_delivery else rows_of(f"{folder}/w")
     note = f"{folder}/note"
+    runs = 0
     for error in (errno.EPIPE, errno.ENOSPC, 0):
         for since in ({}, {"FAILED_SINCE": "1"}):
             number = 1
@@ -82,10 +83,12 @@ def fail_each(words, whole, part):
                 faults = [] if is_right else [f"{name}: {answer}"]
                 count.case(faults + (kept_by_delivery(name) if is_delivery else []))
                 number += 1
+                runs += 1
             if number == 1 or answer.text != whole:
                 count.case(f"{words}: no write failed, and it says {answer}")
     if before:
         count.case([] if same(rows_of(f"{folder}/w"), before) else f"{words}: the rows are others now")
+    print(f"{words}: {runs} runs in which a write {f'of at most {part} bytes ' if part else ''}fails", flush=True)
 
 
 def unread(words, whole, is_kept):
