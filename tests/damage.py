@@ -327,7 +327,7 @@ def faults_of_load(chance, rows, table):
     lines = planned.line().split("\n")
     if planned.status == 0 and loaded.status == 0:
         after = rows_of(changed)
-        number = len(rows["command"]) + 1
+        number = first_free(rows["command"])
         receipt = re.fullmatch(rf"accepted {number} {id}: (\d+) records, (\d+) placeholders", loaded.line())
         if not receipt:
             faults.append(f"load {name}: {loaded}")
@@ -353,9 +353,15 @@ def faults_of_load(chance, rows, table):
     return faults
 
 
+def first_free(commands):
+    """The number of the next command: the first, past as many as there are, under which none stands, so that none is written over."""
+    taken = {row[0] for row in commands}
+    return next(number for number in range(len(commands) + 1, len(commands) + len(taken) + 2) if number not in taken)
+
+
 def kept(commands, row):
-    """The commands with one more, in order. Where their numbers have a gap, the next one may stand already, and is written over."""
-    return sorted([*(it for it in commands if it[0] != row[0]), row], key=lambda it: it[0])
+    """The commands with one more, in order."""
+    return sorted([*commands, row], key=lambda it: it[0])
 
 
 def planned_without(name, rows, table, planned, words):
