@@ -9,6 +9,7 @@ import shutil
 import sqlite3
 import subprocess
 import sys
+import tempfile
 
 POLICY = """\
 first_year = 2023
@@ -208,6 +209,11 @@ report product.category is 2025-01-01 2025-12-31
 ]
 
 
+def own_folder():
+    """A folder of the script's own, in memory where the system has a place for that: each run syncs its files, and a disk takes long for it."""
+    return tempfile.TemporaryDirectory(dir="/dev/shm" if os.access("/dev/shm", os.W_OK) else None)
+
+
 def write_files(folder):
     for name, content in FILES.items():
         with open(f"{folder}/{name}", "wb") as file:
@@ -266,6 +272,9 @@ def make_worked(program, folder, until=16):
 class Text(bytes):
     """A text as it is stored, whatever its bytes."""
 
+    def __repr__(self):
+        return f"Text({super().__repr__()})"
+
 
 def connected(path):
     base = sqlite3.connect(path, isolation_level=None)
@@ -284,15 +293,7 @@ def rows_of(path):
 
 def same(one, other):
     """Whether two rows, or tables, or all tables are the same, 1 and 1.0 and a text and its bytes being two."""
-    return typed(one) == typed(other)
-
-
-def typed(value):
-    if isinstance(value, dict):
-        return {key: typed(it) for key, it in value.items()}
-    if isinstance(value, (list, tuple)):
-        return [typed(it) for it in value]
-    return type(value).__name__, value
+    return one is other or repr(one) == repr(other)
 
 
 def copy(path, to):
