@@ -1,16 +1,11 @@
 -- The fields of a record that aren't numbers.
-use Rattle.std.specs.Prelude.{ℕ, nat_le, if◌then◌else◌, List, [], ◌∷◌, Option, Some, None, Result, Ok, Err}
+use Rattle.std.specs.Prelude.{ℕ, nat_le, if◌then◌else◌, List, [], ◌∷◌, Option, Some, None, Result, Ok, Err, ok_or}
 use Rattle.wh_day.specs.Day.{read_day}
 use Rattle.wh_day.specs.NaturalKey.{is_key}
 use Rattle.wh_day.specs.Value.{read_value}
 use Rattle.wh_day.specs.Reading.{◌>>=◌}
 use Rattle.wh_batch.specs.declared.fault.FaultKind.{FaultKind}
 use Rattle.wh_batch.specs.declared.fault.FaultKind.TheVariants.{BadKey, BadDay, BadValue}
-
--- what was read, or this fault
-abbrev pub or_fault : {A : Type 0} → FaultKind → Option A → Result A FaultKind
-or_fault kind (Some x) = Ok x
-or_fault kind None = Err kind
 
 -- the key that a field is
 unfoldable pub key_at : ℕ → List ℕ → Result (List ℕ) FaultKind
@@ -25,7 +20,7 @@ customer_at (first ∷ rest) = do
 
 -- the day that a field writes
 unfoldable pub day_at : List ℕ → Result ℕ FaultKind
-day_at field = or_fault BadDay (read_day field)
+day_at field = ok_or (read_day field) BadDay
 
 -- the last day on which a row of a dimension can begin
 abbrev pub last_effective_day : ℕ
@@ -39,7 +34,7 @@ effective_day_at field = do
 
 -- the value that a field writes
 unfoldable pub value_at : List ℕ → Result (List ℕ) FaultKind
-value_at field = or_fault BadValue (read_value field)
+value_at field = ok_or (read_value field) BadValue
 
 -- the values that fields write, one each
 unfoldable pub values_at : List (List ℕ) → Result (List (List ℕ)) FaultKind

@@ -1,5 +1,5 @@
 -- A manifest: the commands of a delivery, each with the file that it is in.
-use Rattle.std.specs.Prelude.{ℕ, ◌+◌, ◌&&◌, if◌then◌else◌, List, [], ◌∷◌, Option, Some, None, option_map, Result, Ok, Err}
+use Rattle.std.specs.Prelude.{ℕ, ◌+◌, ◌&&◌, if◌then◌else◌, List, [], ◌∷◌, Option, None, option_map, Result, Ok, ok_or}
 use Rattle.std.specs.Str.{is_utf8}
 use Rattle.csv.specs.Reading.{records, default_config, strip_bom}
 use Rattle.wh_day.specs.Reading.{◌>>=◌}
@@ -14,16 +14,11 @@ entry_of (word ∷ id ∷ path ∷ []) =
     if is_utf8 word && is_utf8 id && is_utf8 path then option_map (λ kind. record { kind = kind; id = id; path = path }) (command_kind_of word) else None
 entry_of _ = None
 
--- the entry, or that the record with this number is none
-abbrev pub or_bad : ℕ → Option ManifestEntry → Result ManifestEntry BadManifest
-or_bad number (Some entry) = Ok entry
-or_bad number None = Err (record { number = number })
-
 -- the entries of the records, numbered from number
 unfoldable pub entries_from : ℕ → Table → Result (List ManifestEntry) BadManifest
 entries_from number [] = Ok []
 entries_from number (fields ∷ rows) = do
-  entry ← or_bad number (entry_of fields)
+  entry ← ok_or (entry_of fields) (record { number = number })
   others ← entries_from (number + 1) rows
   Ok (entry ∷ others)
 

@@ -1,11 +1,10 @@
 -- The fields of a record that are numbers.
-use Rattle.std.specs.Prelude.{ℕ, ◌+◌, ◌*◌, ℤ, pos, neg_ℤ, ◌&&◌, ◌==◌, Bool, nat_le, if◌then◌else◌, List, [], ◌∷◌, length, take, drop, Option, Some, None, option_map, option_and_then, position, Result}
+use Rattle.std.specs.Prelude.{ℕ, ◌+◌, ◌*◌, ℤ, pos, neg_ℤ, ◌&&◌, ◌==◌, Bool, nat_le, if◌then◌else◌, List, [], ◌∷◌, length, take, drop, Option, Some, None, option_map, option_and_then, position, Result, ok_or}
 use Rattle.std.specs.Char.{is_ascii_digit}
 use Rattle.std.specs.List.{list_all}
 use Rattle.std.specs.Str.Parse.{digits_value}
 use Rattle.wh_batch.specs.declared.fault.FaultKind.{FaultKind}
 use Rattle.wh_batch.specs.declared.fault.FaultKind.TheVariants.{BadNumber}
-use Rattle.wh_batch.specs.Fields.{or_fault}
 
 -- the number that one up to `most` digits write
 unfoldable pub read_digits : ℕ → List ℕ → Option ℕ
@@ -47,12 +46,12 @@ read_amount text = signed read_hundredths text
 
 -- the line that a field writes
 abbrev pub line_at : List ℕ → Result ℕ FaultKind
-line_at field = or_fault BadNumber (read_line field)
+line_at field = ok_or (read_line field) BadNumber
 
 -- the quantity that a field writes
 abbrev pub quantity_at : List ℕ → Result ℤ FaultKind
-quantity_at field = or_fault BadNumber (read_quantity field)
+quantity_at field = ok_or (read_quantity field) BadNumber
 
 -- the amount that a field writes
 abbrev pub amount_at : List ℕ → Result ℤ FaultKind
-amount_at field = or_fault BadNumber (read_amount field)
+amount_at field = ok_or (read_amount field) BadNumber

@@ -1,11 +1,11 @@
 //! Reading the fields of a record.
 
-ghost use Rattle.std.specs.Prelude.{◌≡◌, ◌≤◌, map, IfOk};
+ghost use Rattle.std.specs.Prelude.{◌≡◌, ◌≤◌, map, IfOk, ok_or};
 ghost use Rattle.std.specs.Str.{bytes_eq};
 ghost use Rattle.std.specs.Cmp.Lexicographic.{pointwise};
 ghost use Rattle.csv.specs.Records.{fields_of};
 ghost use Rattle.wh_day.specs.Reading.{Gives};
-ghost use Rattle.wh_batch.specs.Fields.{or_fault, key_at, customer_at, day_at, effective_day_at, value_at, values_at};
+ghost use Rattle.wh_batch.specs.Fields.{key_at, customer_at, day_at, effective_day_at, value_at, values_at};
 
 use crate::fault::FaultKind;
 use csv::ByteRecord;
@@ -37,7 +37,7 @@ pub(crate) fn or_fault<T: Drop>(
     read: Option<T>,
     kind: FaultKind,
 ) -> Result<T, ParseError<FaultKind>>
-    ensures { Gives (λ x. x) result (or_fault kind read) }
+    ensures { Gives (λ x. x) result (ok_or read kind) }
 {
     match read {
         Some(x) => Ok(x),

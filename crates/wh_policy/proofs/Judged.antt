@@ -1,8 +1,8 @@
 -- A reading that is judged: what it gives is good, or its fault is right.
 use Rattle.std.proofs.Common.{◌≡◌, ◌⊎◌, inl, inr, Bool, true, false, Result, Ok, Err, Option, Some, None, refl}
-use Rattle.wh_day.specs.Reading.{◌>>=◌}
+use Rattle.std.specs.Prelude.{ok_or}
+use Rattle.wh_day.specs.Reading.{◌>>=◌, unless_fault}
 use Rattle.wh_policy.specs.declared.fault.PolicyFault.{PolicyFault}
-use Rattle.wh_policy.specs.Document.{or_fault, unless_fault}
 
 abbrev pub Judges : {A : Type 0} → (A → Type 0) → (PolicyFault → Type 0) → Result A PolicyFault → Type 0
 Judges good bad (Ok x) = good x
@@ -25,7 +25,7 @@ judged-unless true fault read fails next = next refl
 judged-unless false fault read fails next = record { verdict = fails refl }
 
 pub judged-or : {A : Type 0} {good : A → Type 0} {bad : PolicyFault → Type 0} (fault : PolicyFault) (found : Option A)
-    → (found ≡ None → bad fault) → ((x : A) → found ≡ Some x → good x) → Judged good bad (or_fault fault found)
+    → (found ≡ None → bad fault) → ((x : A) → found ≡ Some x → good x) → Judged good bad (ok_or found fault)
 judged-or fault None fails next = record { verdict = fails refl }
 judged-or fault (Some x) fails next = record { verdict = next x refl }
 

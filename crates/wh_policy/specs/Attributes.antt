@@ -1,17 +1,17 @@
 -- The attributes of a dimension, as a policy file writes them.
-use Rattle.std.specs.Prelude.{ℕ, Bool, true, false, ◌&&◌, ◌||◌, not, ◌==◌, nat_le, nat_lt, codes, List, [], ◌∷◌, length, Option, Some, None, Result, Ok, Err, option_and_then}
+use Rattle.std.specs.Prelude.{ℕ, Bool, true, false, ◌&&◌, ◌||◌, not, ◌==◌, nat_le, nat_lt, codes, List, [], ◌∷◌, length, Option, Some, None, Result, Ok, Err, ok_or, option_and_then}
 use Rattle.std.specs.List.{list_any, list_all}
 use Rattle.std.specs.Char.{is_ascii_lowercase, is_ascii_digit}
 use Rattle.std.specs.Str.{bytes_eq}
 use Rattle.toml.specs.Data.{Data, Members, as_str, as_integer}
-use Rattle.wh_day.specs.Reading.{◌>>=◌}
+use Rattle.wh_day.specs.Reading.{◌>>=◌, unless_fault}
 use Rattle.wh_policy.specs.declared.fault.PolicyFault.{PolicyFault}
 use Rattle.wh_policy.specs.declared.fault.PolicyFault.TheVariants.{Missing, UnknownKey, BadName, BadType, TooMany, NamedTwice, ProfileOutside}
 use Rattle.wh_policy.specs.declared.attribute.Attribute.{Attribute}
 use Rattle.wh_policy.specs.declared.attribute.AttributeType.{AttributeType}
 use Rattle.wh_policy.specs.declared.attribute.Dim.{Dim}
 use Rattle.wh_policy.specs.declared.attribute.Dim.TheVariants.{Product, Store, Customer}
-use Rattle.wh_policy.specs.Document.{or_fault, unless_fault, has_only, required, tables_at, each_after}
+use Rattle.wh_policy.specs.Document.{has_only, required, tables_at, each_after}
 use Rattle.wh_policy.specs.Types.{is_profile, is_mini, is_outrigger, type_of_number}
 
 -- a lower-case letter, a digit or '_'
@@ -38,7 +38,7 @@ name_at content = found_name (as_str content)
 
 -- the type whose number a value writes
 unfoldable pub kind_at : Data → Result AttributeType PolicyFault
-kind_at content = or_fault BadType (option_and_then type_of_number (as_integer content))
+kind_at content = ok_or (option_and_then type_of_number (as_integer content)) BadType
 
 -- which dimensions take attributes of the profile, of types 4 and 5: only customer
 abbrev pub takes_profile : Dim → Bool

@@ -1,5 +1,5 @@
 -- The tables of a policy file.
-use Rattle.std.specs.Prelude.{ℕ, Bool, ◌&&◌, not, true, nat_lt, if◌then◌else◌, List, [], ◌∷◌, ◌++◌, length, Option, Some, None, Result, Ok, Err}
+use Rattle.std.specs.Prelude.{ℕ, Bool, ◌&&◌, not, true, nat_lt, if◌then◌else◌, List, [], ◌∷◌, ◌++◌, length, Result, Ok, Err, ok_or}
 use Rattle.std.specs.List.{list_any}
 use Rattle.std.specs.Str.{bytes_eq, is_utf8}
 use Rattle.toml.specs.Data.{Data, Items, no_items, item, Members, no_members, member, get_member, as_array, as_table}
@@ -8,21 +8,12 @@ use Rattle.wh_day.specs.Reading.{◌>>=◌}
 use Rattle.wh_policy.specs.declared.fault.PolicyFault.{PolicyFault}
 use Rattle.wh_policy.specs.declared.fault.PolicyFault.TheVariants.{NotToml, Missing}
 
--- what there is, or else this fault
-abbrev pub or_fault : {A : Type 0} → PolicyFault → Option A → Result A PolicyFault
-or_fault fault (Some x) = Ok x
-or_fault fault None = Err fault
-
--- this fault, where the test fails
-abbrev pub unless_fault : {A : Type 0} → Bool → PolicyFault → Result A PolicyFault → Result A PolicyFault
-unless_fault holds fault read = if holds then read else Err fault
-
 -- the table that the bytes write, up to 65,536 of them
 unfoldable pub document_at : List ℕ → Result Members PolicyFault
 document_at bytes =
     if nat_lt 65536 (length bytes) then Err NotToml
     else if not (is_utf8 bytes) then Err NotToml
-    else or_fault NotToml (parse_document bytes)
+    else ok_or (parse_document bytes) NotToml
 
 -- each key is one of the known ones
 abbrev pub has_only : List (List ℕ) → Members → Bool
@@ -31,20 +22,20 @@ has_only known (member key content members) = list_any (bytes_eq key) known && h
 
 -- the value at a key that has to be there
 unfoldable pub required : List ℕ → Members → Result Data PolicyFault
-required key members = or_fault Missing (get_member key members)
+required key members = ok_or (get_member key members) Missing
 
 -- the tables of an array's items, each item one
 unfoldable pub tables_in : PolicyFault → Items → Result (List Members) PolicyFault
 tables_in fault no_items = Ok []
 tables_in fault (item content items) = do
-  first ← or_fault fault (as_table content)
+  first ← ok_or (as_table content) fault
   others ← tables_in fault items
   Ok (first ∷ others)
 
 -- the tables of an array
 unfoldable pub tables_at : PolicyFault → Data → Result (List Members) PolicyFault
 tables_at fault content = do
-  items ← or_fault fault (as_array content)
+  items ← ok_or (as_array content) fault
   tables_in fault items
 
 -- what each of these tables gives, read after those before it

@@ -1,8 +1,8 @@
 -- The holidays of a calendar, as a policy file writes them.
-use Rattle.std.specs.Prelude.{ℕ, not, codes, List, [], ◌∷◌, Option, Some, None, Result, Ok, Err, option_and_then}
+use Rattle.std.specs.Prelude.{ℕ, not, codes, List, [], ◌∷◌, Option, Some, None, Result, Ok, Err, ok_or, option_and_then}
 use Rattle.std.specs.List.{list_any}
 use Rattle.toml.specs.Data.{Data, Members, as_str}
-use Rattle.wh_day.specs.Reading.{◌>>=◌}
+use Rattle.wh_day.specs.Reading.{◌>>=◌, unless_fault}
 use Rattle.wh_day.specs.Day.{read_day}
 use Rattle.wh_day.specs.Holidays.{is_on}
 use Rattle.wh_day.specs.Value.{read_value}
@@ -10,7 +10,7 @@ use Rattle.wh_day.specs.declared.holiday.Holiday.{Holiday}
 use Rattle.wh_policy.specs.declared.fault.PolicyFault.{PolicyFault}
 use Rattle.wh_policy.specs.declared.fault.PolicyFault.TheVariants.{UnknownKey, BadHoliday}
 use Rattle.wh_policy.specs.declared.policy.Years.{Years}
-use Rattle.wh_policy.specs.Document.{or_fault, unless_fault, has_only, required, tables_at, each_after}
+use Rattle.wh_policy.specs.Document.{has_only, required, tables_at, each_after}
 use Rattle.wh_policy.specs.Years.{is_within}
 
 -- a day that lies in the years
@@ -29,7 +29,7 @@ read_named (first ∷ rest) = read_value (first ∷ rest)
 
 -- the name of a holiday that a value writes
 unfoldable pub title_at : Data → Result (List ℕ) PolicyFault
-title_at content = or_fault BadHoliday (option_and_then read_named (as_str content))
+title_at content = ok_or (option_and_then read_named (as_str content)) BadHoliday
 
 -- the keys of a holiday's table
 abbrev pub holiday_keys : List (List ℕ)

@@ -1,9 +1,9 @@
 -- The policy of a warehouse.
 use Rattle.std.specs.Prelude.{ℕ, not, List, [], ◌∷◌, codes, Result, Ok}
 use Rattle.toml.specs.Data.{Members, get_member}
-use Rattle.wh_day.specs.Reading.{◌>>=◌}
+use Rattle.wh_day.specs.Reading.{◌>>=◌, unless_fault}
 use Rattle.wh_policy.specs.Attributes.{is_mixed, attributes_at}
-use Rattle.wh_policy.specs.Document.{unless_fault, document_at, has_only, required}
+use Rattle.wh_policy.specs.Document.{document_at, has_only, required}
 use Rattle.wh_policy.specs.Holidays.{holidays_at}
 use Rattle.wh_policy.specs.Types.{kinds_of}
 use Rattle.wh_policy.specs.Years.{years_at}

@@ -11,7 +11,7 @@ use Rattle.std.proofs.lemmas.List.Folds.{concat-append}
 use Rattle.std.proofs.lemmas.Result.{IfOk-weaker}
 use Rattle.sqlite.specs.State.{State}
 use Rattle.wh_day.specs.Day.{read_day}
-use Rattle.wh_day.specs.Reading.{◌>>=◌}
+use Rattle.wh_day.specs.Reading.{◌>>=◌, unless_fault}
 use Rattle.wh_policy.specs.declared.policy.Policy.{Policy}
 use Rattle.wh_history.specs.Accepted.{Accepted}
 use Rattle.wh_history.specs.Tables.{Limits}
@@ -26,7 +26,7 @@ use Rattle.wh_engine.specs.declared.session.Session.{Session}
 use Rattle.wh_report.specs.Asked.{Asked}
 use Rattle.wh_report.specs.Output.{AreOut, IsOutInLines, IsOfDump, of_warehouse}
 use Rattle.wh_report.specs.Reported.{Reports}
-use Rattle.wh_report.specs.Request.{asked, unless_fault, subject_reads, has_reading, no_reading}
+use Rattle.wh_report.specs.Request.{asked, subject_reads, has_reading, no_reading}
 use Rattle.wh_report.specs.Subject.{subject_in}
 use Rattle.wh_report.specs.declared.mode.Mode.{Mode}
 use Rattle.wh_report.specs.declared.output.ReportFault.{ReportFault}

@@ -1,6 +1,6 @@
 -- Which reports can be asked for.
-use Rattle.std.specs.Prelude.{ℕ, Bool, false, ◌&&◌, not, nat_le, nat_lt, is_some, if◌then◌else◌, List, Option, Some, None, Result, Ok, Err, ok_or}
-use Rattle.wh_day.specs.Reading.{◌>>=◌}
+use Rattle.std.specs.Prelude.{ℕ, Bool, false, ◌&&◌, not, nat_le, nat_lt, is_some, List, Option, Some, None, Result, Ok, ok_or}
+use Rattle.wh_day.specs.Reading.{◌>>=◌, unless_fault}
 use Rattle.wh_day.specs.Day.{read_day}
 use Rattle.wh_policy.specs.declared.policy.Policy.{Policy}
 use Rattle.wh_report.specs.Asked.{Asked}
@@ -15,10 +15,6 @@ abbrev pub no_reading : Subject → Mode → RequestFault
 no_reading (Attribute a) mode = NoReading a.kind mode
 no_reading Month mode = NoDateReading mode
 no_reading Holiday mode = NoDateReading mode
-
--- the fault, unless something holds
-abbrev pub unless_fault : {A : Type 0} → Bool → RequestFault → Result A RequestFault → Result A RequestFault
-unless_fault holds fault read = if holds then read else Err fault
 
 -- the request that the words make, or the first fault: no attribute, no reading, no range
 unfoldable pub asked : Policy → List ℕ → Mode → List ℕ → List ℕ → Result Asked RequestFault

@@ -1,5 +1,5 @@
 -- What a stored value is read as, by the type of its column.
-use Rattle.std.specs.Prelude.{ℕ, ◌+◌, ℤ, pos, Bool, true, false, ◌==◌, if◌then◌else◌, List, [], ◌∷◌, Option, Some, None, Result, Ok, Err}
+use Rattle.std.specs.Prelude.{ℕ, ◌+◌, ℤ, pos, Bool, true, false, ◌==◌, if◌then◌else◌, List, [], ◌∷◌, Option, Result, Ok, Err, ok_or}
 use Rattle.std.specs.Str.{is_utf8}
 use Rattle.sqlite_value.specs.declared.value.Value.{Value}
 use Rattle.sqlite_value.specs.declared.value.Value.TheVariants.{Int, Text, Blob}
@@ -21,8 +21,7 @@ abbrev pub of_type : {A : Type 0} → Bool → A → Result A Damaged
 of_type is x = if is then Ok x else damaged
 
 abbrev pub or_damaged : {A : Type 0} → Option A → Result A Damaged
-or_damaged (Some x) = Ok x
-or_damaged None = damaged
+or_damaged read = ok_or read (record {})
 
 -- ---- numbers
 
