@@ -14,6 +14,12 @@ use csv::ByteRecord;
 use std::alloc::Global;
 use wh_day::ParseError;
 
+/// The most bytes of a batch.
+pub const BATCH_LIMIT: usize = 1_000_000;
+
+/// The most records of a batch.
+pub const MOST_RECORDS: u32 = 5_000;
+
 /// The records of a batch, in order. `Memory` comes where a growth was refused, or where the CSV reader gave up.
 #[tactic(auto, unfolding(crate::specs::Batch::batch_of, crate::specs::Batch::below_header))]
 pub(crate) fn batch_of<L: RecordLayout>(
@@ -23,7 +29,7 @@ pub(crate) fn batch_of<L: RecordLayout>(
 ) -> Result<Vec<L::Record>, ParseError<BatchFault>>
     ensures { Gives (λ records. records.items) result (batch_of (L.layout layout.now) bytes.now) }
 {
-    if bytes.len() > 1_000_000 {
+    if bytes.len() > BATCH_LIMIT {
         return Err(fault(0, FaultKind::TooLarge));
     }
     let mut rows = Rows::new(alloc, bytes);
@@ -36,7 +42,7 @@ pub(crate) fn batch_of<L: RecordLayout>(
         return Err(fault(0, FaultKind::WrongHeader));
     }
     // A record seldom has fewer than 32 bytes.
-    let room = (bytes.len() / 32).min(5000);
+    let room = (bytes.len() / 32).min(MOST_RECORDS as usize);
     records_below(alloc, layout, room, &mut rows)
 }
 
@@ -51,7 +57,7 @@ fn records_below<L: RecordLayout>(
     let mut row = ByteRecord::new(alloc);
     let mut keys = Keys::with_capacity(alloc, room)?;
     let mut records = Vec::with_capacity(alloc, room)?;
-    for number in 1..5001 {
+    for number in 1..MOST_RECORDS + 1 {
         if !rows.next(&mut row)? {
             return Ok(records);
         }
@@ -62,7 +68,7 @@ fn records_below<L: RecordLayout>(
         }
     }
     if rows.next(&mut row)? {
-        return Err(fault(5001, FaultKind::TooLarge));
+        return Err(fault(MOST_RECORDS + 1, FaultKind::TooLarge));
     }
     Ok(records)
 }

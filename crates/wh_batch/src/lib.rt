@@ -18,6 +18,7 @@ mod rows;
 mod sale;
 mod sales;
 
+pub use batch::{BATCH_LIMIT, MOST_RECORDS};
 pub use dimension::dimension_records;
 pub use fault::{BatchFault, FaultKind};
 pub use kind::{CommandKind, Format, Kind};

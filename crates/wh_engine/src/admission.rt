@@ -17,6 +17,7 @@ use crate::fault::Fault;
 use sqlite::Alter;
 use std::alloc::Global;
 use wh_admission::{Command, Limit, Receipt, Refused};
+use wh_batch::MOST_RECORDS;
 use wh_day::Value;
 use wh_policy::SaleRecord;
 use wh_rows::{Cause, CommandRow, Limits, LineKey, tables};
@@ -38,9 +39,6 @@ pub(crate) fn receipt_of_known(row: &CommandRow, command: &Command) -> Result<Re
     Err(Refused::Reused)
 }
 
-/// The most records that a batch holds.
-const MOST_RECORDS: u64 = 5_000;
-
 /// Whether there is room for so many more rows of a table that a limit counts. They are counted only where full batches
 /// could have left too little.
 fn has_room_for<T: KeyedTable, S: Alter>(
@@ -53,7 +51,7 @@ fn has_room_for<T: KeyedTable, S: Alter>(
     ensures reads { ReadsOnly (state_of S.Store tables.old) (state_of S.Store tables.new) result }
     ensures room { SaysInFormat S.Store T.name tables.old tables.new (λ t. IfOk result (λ room. len (T.rows t) ≤ commands * 5000 → len (T.rows t) ≤ limit → room ≡ nat_le (len (T.rows t) + records) limit)) }
 {
-    let most = commands.saturating_mul(MOST_RECORDS);
+    let most = commands.saturating_mul(u64::from(MOST_RECORDS));
     if records <= limit.saturating_sub(most) {
         return Ok(true);
     }

@@ -38,10 +38,9 @@ fn making_row(alloc: Global, bytes: &[u8]) -> Result<CommandRow, AllocError>
 fn calendar(alloc: Global, policy: &Policy) -> Result<Vec<DateRow>, AllocError>
     ensures { IfOk result (λ rows. rows.items ≡ calendar_rows policy.now) }
 {
-    let first = policy.years.first as u32 * 10_000 + 101;
-    let end = policy.years.last as u32 * 10_000 + 1_232;
+    let keys = policy.years.keys();
     let mut rows = Vec::new(alloc);
-    for number in first..end {
+    for number in keys.start..keys.end {
         if let Some(day) = Day::from_key(number as i64) {
             rows.push(date_row(alloc, day, &policy.holidays)?)?;
         }

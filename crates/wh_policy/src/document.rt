@@ -14,12 +14,15 @@ use std::alloc::Global;
 use toml::{Table, Value};
 use wh_day::ParseError;
 
+/// The most bytes of a policy.
+pub const POLICY_LIMIT: usize = 65_536;
+
 /// The table that the bytes write.
 #[tactic(auto, unfolding(crate::specs::Document::document_at))]
 pub(crate) fn document(alloc: Global, bytes: &[u8]) -> Result<Table, ParseError<PolicyFault>>
     ensures { Gives table_view result (document_at bytes.now) }
 {
-    if bytes.len() > 65_536 {
+    if bytes.len() > POLICY_LIMIT {
         return Err(ParseError::Fault(PolicyFault::NotToml));
     }
     let Ok(text) = std::str::from_utf8(bytes) else {

@@ -14,6 +14,7 @@ mod record;
 mod years;
 
 pub use attribute::{Attribute, AttributeType, Attributes, Dim};
+pub use document::POLICY_LIMIT;
 pub use fault::PolicyFault;
 pub use policy::{Policy, Years};
 pub use record::{DimensionRecord, SaleRecord};

@@ -5,7 +5,7 @@ ghost use Rattle.toml.specs.View.{table_view};
 ghost use Rattle.wh_day.specs.Reading.{Gives};
 ghost use Rattle.wh_policy.specs.Names.{slot_from, fits};
 ghost use Rattle.wh_policy.specs.Policy.{attributes_of, types_of, trial_policy, described, policy_in, policy_at};
-ghost use Rattle.wh_policy.specs.Years.{is_within};
+ghost use Rattle.wh_policy.specs.Years.{is_within, first_key, end_key};
 
 use crate::attribute::{Attribute, AttributeType, Attributes, Dim};
 use crate::dimension;
@@ -15,6 +15,7 @@ use crate::holidays::holidays_of;
 use crate::names::{are_kept, slot_of};
 use crate::years::years_of;
 use std::alloc::{AllocError, Global};
+use std::ops::Range;
 use toml::Table;
 use wh_day::{Day, Holidays, ParseError, Value};
 
@@ -42,6 +43,14 @@ impl Years {
         let year = day.key() / 10_000;
         self.first as u32 <= year && year <= self.last as u32
     }
+
+    /// The numbers from the key of their first day to that of the last, in which those lie that are no day's too.
+    pub fn keys(self) -> Range<u32>
+        ensures first { result.start ≡ first_key self }
+        ensures end { result.end ≡ end_key self }
+    {
+        self.first as u32 * 10_000 + 101..self.last as u32 * 10_000 + 1_232
+    }
 }
 
 /// Which attributes the dimensions have, by slot and with their types, and the calendar's years and holidays.
@@ -67,7 +76,7 @@ fn add(
 }
 
 impl Policy {
-    /// The policy that the bytes of a file write: a TOML text of at most 65,536 bytes, as docs/formats.md says.
+    /// The policy that the bytes of a file write: a TOML text of at most [`POLICY_LIMIT`](crate::POLICY_LIMIT) bytes, as docs/formats.md says.
     ///
     /// The fault is the first one in the order that stands there; [`ParseError::Memory`] where memory ran out.
     #[tactic(auto, unfolding(crate::specs::Policy::policy_at))]

@@ -3,13 +3,8 @@
 ghost use Rattle.std.specs.Prelude.{◌≡◌};
 ghost use Rattle.wh_program.specs.Inputs.{input_limit};
 
-use wh_batch::CommandKind;
-
-/// The most bytes of a batch, as `wh_batch` takes one. The byte after them tells that there are more.
-pub const BATCH_LIMIT: usize = 1_000_000;
-
-/// The most bytes of a policy, as `wh_policy` takes one.
-pub const POLICY_LIMIT: usize = 65_536;
+use wh_batch::{BATCH_LIMIT, CommandKind};
+use wh_policy::POLICY_LIMIT;
 
 /// The most bytes of a manifest: 64 MB.
 pub const MANIFEST_LIMIT: usize = 64 * 1024 * 1024;

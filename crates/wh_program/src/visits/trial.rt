@@ -6,14 +6,13 @@ ghost use Rattle.wh_program.specs.Answer.{table_answer, trial_rows, answer_under
 ghost use Rattle.wh_program.specs.Request.{text_of};
 
 use crate::host::{Host, file_of};
-use crate::limits::{BATCH_LIMIT, POLICY_LIMIT};
 use crate::lines::answer::{Answer, Status};
 use crate::lines::{bad_policy, batch_line, no_file};
 use std::alloc::{AllocError, Global};
-use wh_batch::{Format, dimension_records};
+use wh_batch::{BATCH_LIMIT, Format, dimension_records};
 use wh_day::ParseError;
 use wh_history::trial_table;
-use wh_policy::{Dim, Policy};
+use wh_policy::{Dim, POLICY_LIMIT, Policy};
 use wh_report::dimension_text;
 
 /// The table of a dimension after a making under the policy and this one batch, or the batch's first fault.

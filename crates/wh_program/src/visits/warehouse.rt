@@ -9,7 +9,7 @@ ghost use Rattle.wh_program.specs.Warehouse.{IsReplied, IsForetold, IsCounted, I
 ghost use Rattle.wh_program.specs.declared.host.HostError.TheVariants.{NoFile};
 
 use crate::host::{Host, HostError, Visitor, file_of};
-use crate::limits::{POLICY_LIMIT, input_limit};
+use crate::limits::input_limit;
 use crate::lines::answer::Answer;
 use crate::lines::{
     bad_policy, made, making_answer, no_file, plan_answer, room_for_line, room_for_receipt,
@@ -23,7 +23,7 @@ use std::io;
 use std::io::Write;
 use wh_day::{ParseError, Value};
 use wh_engine::{Command, CommandKind, Engine};
-use wh_policy::Policy;
+use wh_policy::{POLICY_LIMIT, Policy};
 use wh_rows::Limits;
 
 /// Makes a warehouse under the policy that these bytes write.
