@@ -43,6 +43,27 @@ pub struct DateRow {
     pub holiday: Value,
 }
 
+impl DateRow {
+    /// The same row, in memory of its own.
+    pub fn copy(&self) -> Result<DateRow, AllocError>
+        ensures { IfOk result (λ copied. copied ≡ self.now) }
+    {
+        Ok(DateRow {
+            date_key: self.date_key,
+            iso: self.iso.copy()?,
+            year: self.year,
+            quarter: self.quarter,
+            month: self.month,
+            day: self.day,
+            day_of_year: self.day_of_year,
+            weekday: self.weekday,
+            weekday_name: self.weekday_name.copy()?,
+            weekend: self.weekend,
+            holiday: self.holiday.copy()?,
+        })
+    }
+}
+
 /// The row of a day in a calendar with these holidays.
 #[tactic(auto, unfolding(crate::specs::Calendar::calendar_row))]
 pub fn date_row(alloc: Global, day: Day, holidays: &Holidays) -> Result<DateRow, AllocError>

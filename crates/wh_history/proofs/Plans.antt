@@ -66,7 +66,7 @@ same_row_itself r =
     rw (eq-eqb r.surrogate r.surrogate refl, eq-eqb r.durable r.durable refl, eq-eqb r.from_day r.from_day refl, eq-eqb r.to_day r.to_day refl, flag_itself r.is_current, eq-eqb r.profile_now r.profile_now refl, e7, e8, e9) refl
 
 -- the edit of a key is the one that it needs
-needed : (key : ℕ) (old new : Option DimRow) → Needs key old new (edit_between key old new)
+needed : (key : ℕ) (old new : Option DimRow) → Needs key old new (edit_between same_row key old new)
 needed key None None = refl
 needed key (Some q) None = refl
 needed key None (Some r) = refl
@@ -97,7 +97,7 @@ remove_made true r k key h = cc
 remove_made false r k key h = cc
 
 -- an edit that a key needs is of that key
-edit_key : (key : ℕ) (old new : Option DimRow) → ((r : DimRow) → new ≡ Some r → r.surrogate ≡ key) → (e : Edit DimRow ℕ) → edit_between key old new ≡ Some e → edited (λ r. r.surrogate) e ≡ key
+edit_key : (key : ℕ) (old new : Option DimRow) → ((r : DimRow) → new ≡ Some r → r.surrogate ≡ key) → (e : Edit DimRow ℕ) → edit_between same_row key old new ≡ Some e → edited (λ r. r.surrogate) e ≡ key
 edit_key key None None under e h = cc
 edit_key key (Some q) None under (Put r) h = cc
 edit_key key (Some q) None under (Remove k) h = cc

@@ -21,7 +21,7 @@ pub use dimension::{DimensionShape, Rendered};
 pub use facts::{Fact, FactKeys, MemberKeys, key_in};
 pub use member::{Change, Changes, Member};
 pub use moving_days::moves_since;
-pub use plan::{Edit, plan_rows};
+pub use plan::{Edit, PlannedRow, edit_between, plan_rows};
 pub use profiles::{Numbered, Profiles, profile_texts};
 pub use rows::{DimRow, GREATEST_NUMBER, row_at};
 pub use slots::{fill_columns, six_texts};

@@ -18,6 +18,19 @@ pub struct Change {
     pub values: Values,
 }
 
+impl Change {
+    /// The same change, in memory of its own.
+    pub fn copy(&self, alloc: Global) -> Result<Change, AllocError>
+        ensures { IfOk result (λ copied. copied ≡ self.now) }
+    {
+        Ok(Change {
+            day: self.day,
+            anchor: self.anchor,
+            values: self.values.copy(alloc)?,
+        })
+    }
+}
+
 /// Changes in the order in which they were accepted. A contract sees the list.
 #[derive(Debug, Drop)]
 pub struct Changes {
@@ -49,6 +62,17 @@ impl Changes {
         self.list.as_slice()
     }
 
+    /// The same changes, in memory of their own.
+    pub fn copy(&self, alloc: Global) -> Result<Changes, AllocError>
+        ensures { IfOk result (λ copied. copied ≡ self.now) }
+    {
+        let mut copied = Changes::new(alloc);
+        for change in self.as_slice() {
+            copied.push(change.copy(alloc)?)?;
+        }
+        Ok(copied)
+    }
+
     /// Adds a change that was accepted after the others. After an `Err` the changes are those before.
     pub fn push(&mut self, change: Change) -> Result<(), AllocError>
         ensures ok { OnOk result (self.new ≡ self.old ++ change ∷ []) }
@@ -73,6 +97,18 @@ pub struct Member {
 }
 
 impl Member {
+    /// The same member, in memory of its own.
+    pub fn copy(&self, alloc: Global) -> Result<Member, AllocError>
+        ensures { IfOk result (λ copied. copied ≡ self.now) }
+    {
+        Ok(Member {
+            durable: self.durable,
+            natural: self.natural.copy()?,
+            opening: self.opening,
+            changes: self.changes.copy(alloc)?,
+        })
+    }
+
     /// A member of which nothing is stored: all its numbers are 0, and no change is there.
     pub fn absent(alloc: Global, natural: &Value) -> Result<Member, AllocError>
         ensures { IfOk result (λ member. member ≡ nothing_stored natural.now) }

@@ -9,6 +9,7 @@ ghost use Rattle.wh_history.specs.Plan.{IsRowPlan, row_of, with_keys, edit_betwe
 use crate::rows::DimRow;
 use std::alloc::{AllocError, Global};
 use std::collections::{BTreeMap, BTreeSet};
+use wh_day::DateRow;
 
 /// A change of one key of a table.
 #[derive(Debug, Drop)]
@@ -17,6 +18,50 @@ pub enum Edit<Row, Key> {
     Put(Row),
     /// The key's row is no longer there.
     Remove(Key),
+}
+
+/// A row of a table, as plans compare and copy it.
+pub trait PlannedRow: Drop {
+    ghost use Rattle.std.specs.Prelude.{Bool};
+
+    ghost same: { Self → Self → Bool };
+
+    /// Whether two rows of one key are the same.
+    fn is_same_row(&self, other: &Self) -> bool
+        ensures { result ≡ same self.now other.now };
+
+    /// The same row, in memory of its own.
+    fn copy_row(&self, alloc: Global) -> Result<Self, AllocError>
+        ensures { IfOk result (λ r. r ≡ self.now) };
+}
+
+impl PlannedRow for DimRow {
+    ghost use Rattle.wh_history.specs.Plan.{same_row};
+
+    ghost same = { same_row };
+
+    fn is_same_row(&self, other: &DimRow) -> bool {
+        self.is_same(other)
+    }
+
+    fn copy_row(&self, alloc: Global) -> Result<DimRow, AllocError> {
+        self.copy(alloc)
+    }
+}
+
+impl PlannedRow for DateRow {
+    ghost use Rattle.wh_history.specs.Plan.{same_holiday};
+
+    ghost same = { same_holiday };
+
+    /// Two rows of one day differ where their holidays do.
+    fn is_same_row(&self, other: &DateRow) -> bool {
+        self.holiday.is_same(&other.holiday)
+    }
+
+    fn copy_row(&self, _alloc: Global) -> Result<DateRow, AllocError> {
+        self.copy()
+    }
 }
 
 /// Rows by their keys. Of two rows with one key the first counts.
@@ -44,24 +89,24 @@ fn add_keys(keys: &mut BTreeSet<u64>, rows: &[DimRow]) -> Result<(), AllocError>
     Ok(())
 }
 
-/// The edit of one key.
-fn edit_of(
+/// The edit of a key, by its rows before and after.
+pub fn edit_between<Row: PlannedRow, Key: Drop>(
     alloc: Global,
-    key: u64,
-    old: Option<&DimRow>,
-    new: Option<&DimRow>,
-) -> Result<Option<Edit<DimRow, u64>>, AllocError>
-    ensures { IfOk result (λ edit. edit ≡ edit_between key (option_copied old.entry) (option_copied new.entry)) }
+    key: Key,
+    old: Option<&Row>,
+    new: Option<&Row>,
+) -> Result<Option<Edit<Row, Key>>, AllocError>
+    ensures { IfOk result (λ edit. edit ≡ edit_between Row.same key (option_copied old.entry) (option_copied new.entry)) }
 {
     match (old, new) {
         (None, None) => Ok(None),
         (Some(_), None) => Ok(Some(Edit::Remove(key))),
-        (None, Some(new)) => Ok(Some(Edit::Put(new.copy(alloc)?))),
+        (None, Some(new)) => Ok(Some(Edit::Put(new.copy_row(alloc)?))),
         (Some(old), Some(new)) => {
-            if old.is_same(new) {
+            if old.is_same_row(new) {
                 Ok(None)
             } else {
-                Ok(Some(Edit::Put(new.copy(alloc)?)))
+                Ok(Some(Edit::Put(new.copy_row(alloc)?)))
             }
         }
     }
@@ -78,7 +123,12 @@ fn edits_of(
 {
     let mut edits = Vec::new(alloc);
     for key in keys.iter() {
-        if let Some(edit) = edit_of(alloc, *key, old.get(key).copied(), new.get(key).copied())? {
+        if let Some(edit) = edit_between(
+            alloc,
+            *key,
+            old.get(key).copied(),
+            new.get(key).copied(),
+        )? {
             edits.push(edit)?;
         }
     }

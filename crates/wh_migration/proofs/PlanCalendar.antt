@@ -12,13 +12,13 @@ use Rattle.wh_policy.specs.Laws.{IsFit}
 use Rattle.wh_policy.specs.Names.{fits}
 use Rattle.wh_policy.specs.declared.policy.Policy.{Policy}
 use Rattle.wh_policy.proofs.NameLaws.{fits_exactly}
-use Rattle.wh_history.specs.Plan.{Needs}
+use Rattle.wh_history.specs.Plan.{Needs, same_holiday, edit_between}
 use Rattle.wh_history.specs.declared.plan.Edit.TheVariants.{Put}
 use Rattle.wh_history.proofs.Basics.{some_is}
 use Rattle.wh_rows.specs.Rows as row
 use Rattle.wh_model.specs.Defined.{day_at}
 use Rattle.wh_plan.specs.Edits.{IsTablePlan}
-use Rattle.wh_migration.specs.Migration.{edit_of_day, edit_on, edits_of_days}
+use Rattle.wh_migration.specs.Migration.{edit_on, edits_of_days}
 use Rattle.wh_migration.proofs.NumberedPlans.{numbered_plan}
 
 -- a day of the policy's years
@@ -79,7 +79,7 @@ module _ (older newer : Policy) (fit : fits older newer ≡ true) where
       let to : year_of day ≤ newer.years.last = let last = is_fit.to in let on = w.to in omega arith in
       rw (w.is, le-leb _ _ from, le-leb _ _ to) refl
 
-  both : (day : ℕ) → Needs day (Some (calendar_row older.holidays day)) (Some (calendar_row newer.holidays day)) (edit_of_day (Some (calendar_row older.holidays day)) (Some (calendar_row newer.holidays day)))
+  both : (day : ℕ) → Needs day (Some (calendar_row older.holidays day)) (Some (calendar_row newer.holidays day)) (edit_between same_holiday day (Some (calendar_row older.holidays day)) (Some (calendar_row newer.holidays day)))
   both day =
       let old = calendar_row older.holidays day in
       let new = calendar_row newer.holidays day in
@@ -91,18 +91,17 @@ module _ (older newer : Policy) (fit : fits older newer ≡ true) where
   abbrev on : Policy → ℕ → Bool → Option DateRow
   on policy day has = cond has (Some (calendar_row policy.holidays day)) None
 
-  by_days : (day : ℕ) (before after : Bool) → (before ≡ true → after ≡ true) → Needs day (on older day before) (on newer day after) (edit_of_day (on older day before) (on newer day after))
+  by_days : (day : ℕ) (before after : Bool) → (before ≡ true → after ≡ true) → Needs day (on older day before) (on newer day after) (edit_between same_holiday day (on older day before) (on newer day after))
   by_days day true true kept = both day
   by_days day true false kept = let never = kept refl in absurd cc
   by_days day false true kept = refl
   by_days day false false kept = refl
 
   none_of : (day : ℕ) → has_day newer day ≡ false → edit_on older newer day ≡ None
-  none_of day has_not = by_old (day_at older day) (ap (on newer day) has_not)
-    where
-      by_old : (o : Option DateRow) → day_at newer day ≡ None → edit_of_day o (day_at newer day) ≡ None
-      by_old None none = rw none refl
-      by_old (Some old) none = rw none refl
+  none_of day has_not = elim (cases_Bool (has_day older day)) [
+    | inl had ↦ let has = stays day had in absurd (cc)
+    | inr had_not ↦ ap (λ old. edit_between same_holiday day old (day_at newer day)) (ap (on older day) had_not) ∙ ap (edit_between same_holiday day None) (ap (on newer day) has_not)
+  ]
 
   outside : (day : ℕ) → (IsNumbered newer day → ⊥) → edit_on older newer day ≡ None
   outside day apart = elim (cases_Bool (has_day newer day)) [

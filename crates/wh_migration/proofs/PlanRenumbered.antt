@@ -10,7 +10,7 @@ use Rattle.wh_policy.specs.declared.record.DimensionRecord.{DimensionRecord}
 use Rattle.wh_history.specs.Accepted.{Accepted, Content, Governs, Describes, Sells, described, described_by, types_in, profiles_of}
 use Rattle.wh_history.specs.Known.{numbered_from}
 use Rattle.wh_history.specs.Laws.{governs}
-use Rattle.wh_history.specs.Plan.{Needs}
+use Rattle.wh_history.specs.Plan.{Needs, edit_between}
 use Rattle.wh_history.specs.Profiles.{combinations_of}
 use Rattle.wh_history.specs.Slots.{six, are_same}
 use Rattle.wh_history.specs.Tables.{Limits}
@@ -23,7 +23,8 @@ use Rattle.wh_rows.specs.Tables.{Tables}
 use Rattle.wh_rows.specs.declared.rows.ProfileRow.{ProfileRow}
 use Rattle.wh_model.specs.Defined.{AreOf, profile_at}
 use Rattle.wh_plan.specs.Edits.{IsTablePlan}
-use Rattle.wh_migration.specs.Migration.{profiles_shown, edit_of_profile, profile_edit_at, edits_of_profiles}
+use Rattle.wh_rows.specs.SameRows.{same_values}
+use Rattle.wh_migration.specs.Migration.{profiles_shown, profile_edit_at, edits_of_profiles}
 use Rattle.wh_plan.specs.Profiles.{row_of_profile}
 use Rattle.wh_model.specs.Sound.{AreTypes}
 use Rattle.wh_model.proofs.FoundPlaces.{at_place_there}
@@ -92,7 +93,7 @@ module _ (list : List Accepted) where
 one_row : (old new : ProfileRow) → old.number ≡ new.number → are_same old.values new.values ≡ true → old ≡ new
 one_row old new number same = let values = (texts_decide old.values new.values).0 same in ap (λ k. record { number = k; values = old.values }) number ∙ ap (λ texts. record { number = new.number; values = texts }) values
 
-needed : (n : ℕ) (before after : Option ProfileRow) → ((r : ProfileRow) → before ≡ Some r → r.number ≡ n) → ((r : ProfileRow) → after ≡ Some r → r.number ≡ n) → Needs n before after (edit_of_profile n before after)
+needed : (n : ℕ) (before after : Option ProfileRow) → ((r : ProfileRow) → before ≡ Some r → r.number ≡ n) → ((r : ProfileRow) → after ≡ Some r → r.number ≡ n) → Needs n before after (edit_between same_values n before after)
 needed n None None was is = refl
 needed n (Some old) None was is = refl
 needed n None (Some new) was is = refl
@@ -103,14 +104,14 @@ needed n (Some old) (Some new) was is =
     ] refl
 
 module _ (before after : List Accepted) (stored rows : List ProfileRow) (stand : (n : ℕ) → slice_get stored n ≡ profile_at before n) (follow : (n : ℕ) → slice_get rows n ≡ profile_at after n) where
-  edit_is : (n : ℕ) → profile_edit_at stored rows n ≡ edit_of_profile n (profile_at before n) (profile_at after n)
-  edit_is n = ap (λ o. edit_of_profile n o (slice_get rows n)) (stand n) ∙ ap (edit_of_profile n (profile_at before n)) (follow n)
+  edit_is : (n : ℕ) → profile_edit_at stored rows n ≡ edit_between same_values n (profile_at before n) (profile_at after n)
+  edit_is n = ap (λ o. edit_between same_values n o (slice_get rows n)) (stand n) ∙ ap (edit_between same_values n (profile_at before n)) (follow n)
 
   no_edit : (n : ℕ) → 0 + max (length stored) (length rows) ≤ n → profile_edit_at stored rows n ≡ None
   no_edit n past =
       let old = get_past n stored (omega arith) in
       let new = get_past n rows (omega arith) in
-      ap (λ o. edit_of_profile n o (slice_get rows n)) old ∙ ap (edit_of_profile n None) new
+      ap (λ o. edit_between same_values n o (slice_get rows n)) old ∙ ap (edit_between same_values n None) new
 
   profiles_plan : IsTablePlan row.profile (profile_at before) (profile_at after) (edits_of_profiles stored rows)
   profiles_plan =

@@ -1,5 +1,5 @@
 -- What a migration changes of the calendar and of the profiles.
-use Rattle.std.specs.Prelude.{◌≡◌, ℕ, ◌+◌, ◌*◌, max, if◌then◌else◌, List, [], ◌∷◌, ◌++◌, length, map, Option, Some, None, filter_map, slice_get, bytes_eq}
+use Rattle.std.specs.Prelude.{◌≡◌, ℕ, ◌+◌, ◌*◌, max, List, [], ◌∷◌, ◌++◌, length, map, Option, filter_map, slice_get}
 use Rattle.std.specs.List.{range_with_len}
 use Rattle.wh_day.specs.declared.calendar.DateRow.{DateRow}
 use Rattle.wh_policy.specs.Types.{is_profile}
@@ -9,10 +9,11 @@ use Rattle.wh_policy.specs.declared.attribute.Dim.TheVariants.{Product, Store, C
 use Rattle.wh_policy.specs.declared.policy.Policy.{Policy}
 use Rattle.wh_history.specs.Accepted.{Accepted, profiles_of}
 use Rattle.wh_history.specs.Known.{all_numbered}
-use Rattle.wh_history.specs.Slots.{picks, are_same}
+use Rattle.wh_history.specs.Plan.{same_holiday, edit_between}
+use Rattle.wh_history.specs.Slots.{picks}
 use Rattle.wh_history.specs.declared.plan.Edit.{Edit}
-use Rattle.wh_history.specs.declared.plan.Edit.TheVariants.{Put, Remove}
 use Rattle.wh_rows.specs.Rows as row
+use Rattle.wh_rows.specs.SameRows.{same_values}
 use Rattle.wh_rows.specs.declared.rows.ChangeRow.{ChangeRow}
 use Rattle.wh_rows.specs.declared.rows.ProfileRow.{ProfileRow}
 use Rattle.wh_model.specs.Defined.{day_at, profile_at}
@@ -25,16 +26,9 @@ use Rattle.wh_migration.specs.declared.profile_plan.RenumberedProfiles.{Renumber
 
 -- ---- calendar
 
--- the edit of a day, by its rows before and after: two rows of one day differ where their holidays do
-abbrev pub edit_of_day : Option DateRow → Option DateRow → Option (Edit DateRow ℕ)
-edit_of_day None None = None
-edit_of_day (Some old) None = None
-edit_of_day None (Some new) = Some (Put new)
-edit_of_day (Some old) (Some new) = if bytes_eq old.holiday new.holiday then None else Some (Put new)
-
--- where one policy takes the place of another
+-- the edit of a day, where one policy takes the place of another
 abbrev pub edit_on : Policy → Policy → ℕ → Option (Edit DateRow ℕ)
-edit_on older newer day = edit_of_day (day_at older day) (day_at newer day)
+edit_on older newer day = edit_between same_holiday day (day_at older day) (day_at newer day)
 
 -- the edits of the days of the newer policy's years
 abbrev pub edits_of_days : Policy → Policy → List (Edit DateRow ℕ)
@@ -55,16 +49,9 @@ stored_by kinds r = said_in kinds r.dim r.values
 abbrev pub profiles_shown : List AttributeType → List (List (List ℕ)) → List ProfileRow
 profiles_shown kinds combinations = first_profiles kinds ++ map row_of_profile (all_numbered combinations)
 
--- the edit of a number, by its rows before and after
-abbrev pub edit_of_profile : ℕ → Option ProfileRow → Option ProfileRow → Option (Edit ProfileRow ℕ)
-edit_of_profile number None None = None
-edit_of_profile number (Some old) None = Some (Remove number)
-edit_of_profile number None (Some new) = Some (Put new)
-edit_of_profile number (Some old) (Some new) = if are_same old.values new.values then None else Some (Put new)
-
 -- the edits between rows whose numbers are their places
 abbrev pub profile_edit_at : List ProfileRow → List ProfileRow → ℕ → Option (Edit ProfileRow ℕ)
-profile_edit_at stored rows number = edit_of_profile number (slice_get stored number) (slice_get rows number)
+profile_edit_at stored rows number = edit_between same_values number (slice_get stored number) (slice_get rows number)
 
 abbrev pub edits_of_profiles : List ProfileRow → List ProfileRow → List (Edit ProfileRow ℕ)
 edits_of_profiles stored rows = filter_map (profile_edit_at stored rows) (range_with_len 0 (max (length stored) (length rows)))

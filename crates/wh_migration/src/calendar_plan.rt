@@ -5,11 +5,11 @@ ghost use Rattle.wh_policy.specs.Names.{fits};
 ghost use Rattle.wh_rows.specs.Rows as row;
 ghost use Rattle.wh_model.specs.Defined.{day_at};
 ghost use Rattle.wh_plan.specs.Edits.{IsTablePlan};
-ghost use Rattle.wh_migration.specs.Migration.{edit_of_day, edit_on};
+ghost use Rattle.wh_migration.specs.Migration.{edit_on};
 
 use std::alloc::{AllocError, Global};
 use wh_day::{DateRow, Day, date_row};
-use wh_history::Edit;
+use wh_history::{Edit, edit_between};
 use wh_policy::Policy;
 
 /// The row of a day in the calendar of a policy, if it lies in its years.
@@ -23,23 +23,6 @@ fn row_on(alloc: Global, policy: &Policy, day: Day) -> Result<Option<DateRow>, A
     }
 }
 
-/// The edit of a day, by its rows before and after. Two rows of one day differ where their holidays do.
-fn edit_of_day(old: Option<DateRow>, new: Option<DateRow>) -> Option<Edit<DateRow, Day>>
-    ensures { result ≡ edit_of_day old new }
-{
-    match (old, new) {
-        (_, None) => None,
-        (None, Some(new)) => Some(Edit::Put(new)),
-        (Some(old), Some(new)) => {
-            if old.holiday.is_same(&new.holiday) {
-                None
-            } else {
-                Some(Edit::Put(new))
-            }
-        }
-    }
-}
-
 /// The edit of the day of a number, where one policy takes the place of another.
 fn edit_on(
     alloc: Global,
@@ -50,7 +33,11 @@ fn edit_on(
     ensures { IfOk result (λ edit. edit ≡ edit_on older.now newer.now number) }
 {
     match Day::from_key(number as i64) {
-        Some(day) => Ok(edit_of_day(row_on(alloc, older, day)?, row_on(alloc, newer, day)?)),
+        Some(day) => {
+            let old = row_on(alloc, older, day)?;
+            let new = row_on(alloc, newer, day)?;
+            edit_between(alloc, day, old.as_ref(), new.as_ref())
+        }
         None => Ok(None),
     }
 }
@@ -63,10 +50,9 @@ pub(crate) fn calendar_edits(
 ) -> Result<Vec<Edit<DateRow, Day>>, AllocError>
     ensures { fits older.now newer.now ≡ true → IfOk result (λ edits. IsTablePlan row.calendar (day_at older.now) (day_at newer.now) edits.items) }
 {
-    let first = newer.years.first as u32 * 10_000 + 101;
-    let end = newer.years.last as u32 * 10_000 + 1_232;
+    let keys = newer.years.keys();
     let mut edits = Vec::new(alloc);
-    for number in first..end {
+    for number in keys.start..keys.end {
         if let Some(edit) = edit_on(alloc, older, newer, number)? {
             edits.push(edit)?;
         }

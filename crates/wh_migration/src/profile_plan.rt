@@ -3,14 +3,13 @@
 
 ghost use Rattle.std.specs.Prelude.{◌≡◌, ◌++◌, ◌∷◌, [], true, IfOk, OnOk, flat_map};
 ghost use Rattle.std.specs.FinMap.{values};
-ghost use Rattle.std.specs.Option.{option_copied};
 ghost use Rattle.wh_policy.specs.declared.attribute.Dim.TheVariants.{Customer};
 ghost use Rattle.wh_history.specs.Accepted.{Accepted, described};
 ghost use Rattle.wh_history.specs.Known.{all_numbered};
 ghost use Rattle.wh_history.specs.Laws.{governs};
 ghost use Rattle.wh_history.specs.Profiles.{combinations_of};
 ghost use Rattle.wh_store.specs.Reads.{ReadsOnly, state_of};
-ghost use Rattle.wh_migration.specs.Migration.{stored_by, profiles_shown, edit_of_profile, edits_of_profiles, IsRenumbered};
+ghost use Rattle.wh_migration.specs.Migration.{stored_by, profiles_shown, edits_of_profiles, IsRenumbered};
 ghost use Rattle.wh_plan.specs.Profiles.{with_combinations};
 ghost use Rattle.wh_plan.specs.Reading.{HaveNoEmptyValue};
 ghost use Rattle.wh_plan.specs.Reads.{Finds, Tells};
@@ -19,7 +18,7 @@ ghost use Rattle.wh_model.specs.Sound.{AreTypes, IsAccepted};
 use sqlite::Alter;
 use std::alloc::{AllocError, Global};
 use wh_day::Values;
-use wh_history::{Edit, Profiles, profile_texts};
+use wh_history::{Edit, Profiles, edit_between, profile_texts};
 use wh_plan::first_profiles::first_profiles;
 use wh_plan::profiles::{FIRST, add_combination, add_fresh};
 use wh_plan::reading::given_texts;
@@ -103,39 +102,6 @@ fn numbered_rows(
     Ok(rows)
 }
 
-/// The same row, in memory of its own.
-fn copied(alloc: Global, row: &ProfileRow) -> Result<ProfileRow, AllocError>
-    ensures { IfOk result (λ copied. copied ≡ row.now) }
-{
-    Ok(ProfileRow {
-        number: row.number,
-        values: row.values.copy(alloc)?,
-    })
-}
-
-/// The edit of a number, by its rows before and after.
-fn edit_of_profile(
-    alloc: Global,
-    number: u64,
-    old: Option<&ProfileRow>,
-    new: Option<&ProfileRow>,
-) -> Result<Option<Edit<ProfileRow, u64>>, AllocError>
-    ensures { IfOk result (λ edit. edit ≡ edit_of_profile number (option_copied old.entry) (option_copied new.entry)) }
-{
-    match (old, new) {
-        (None, None) => Ok(None),
-        (Some(_), None) => Ok(Some(Edit::Remove(number))),
-        (None, Some(new)) => Ok(Some(Edit::Put(copied(alloc, new)?))),
-        (Some(old), Some(new)) => {
-            if old.values.is_same(&new.values) {
-                Ok(None)
-            } else {
-                Ok(Some(Edit::Put(copied(alloc, new)?)))
-            }
-        }
-    }
-}
-
 /// The edits that lead from some rows to others, where each row's number is its place.
 fn profile_edits(
     alloc: Global,
@@ -147,7 +113,7 @@ fn profile_edits(
     let end = stored.len().max(rows.len());
     let mut edits = Vec::new(alloc);
     for place in 0..end {
-        if let Some(edit) = edit_of_profile(
+        if let Some(edit) = edit_between(
             alloc,
             place as u64,
             stored.get(place),

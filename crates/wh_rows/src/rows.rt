@@ -1,9 +1,12 @@
 //! The rows of the tables. Those of the dimensions are `wh_history`'s [`DimRow`], those of the facts its [`Fact`], and those of the
 //! calendar `wh_day`'s [`DateRow`].
 
+ghost use Rattle.std.specs.Prelude.{◌≡◌, IfOk};
+
 use sqlite_value::value::Bytes;
+use std::alloc::{AllocError, Global};
 use wh_day::{DateRow, Day, Value, Values};
-use wh_history::{DimRow, Fact};
+use wh_history::{DimRow, Fact, PlannedRow};
 use wh_policy::Dim;
 
 /// A row of meta: a limit or the format, under its name.
@@ -65,6 +68,41 @@ pub struct ProfileRow {
     pub number: u64,
     /// The texts of the six slots, empty where the attribute is of another type.
     pub values: Values,
+}
+
+impl ProfileRow {
+    ghost use Rattle.wh_rows.specs.SameRows.{same_values};
+
+    /// Whether two rows of one number are the same.
+    pub fn is_same(&self, other: &ProfileRow) -> bool
+        ensures { result ≡ same_values self.now other.now }
+    {
+        self.values.is_same(&other.values)
+    }
+
+    /// The same row, in memory of its own.
+    pub fn copy(&self, alloc: Global) -> Result<ProfileRow, AllocError>
+        ensures { IfOk result (λ copied. copied ≡ self.now) }
+    {
+        Ok(ProfileRow {
+            number: self.number,
+            values: self.values.copy(alloc)?,
+        })
+    }
+}
+
+impl PlannedRow for ProfileRow {
+    ghost use Rattle.wh_rows.specs.SameRows.{same_values};
+
+    ghost same = { same_values };
+
+    fn is_same_row(&self, other: &ProfileRow) -> bool {
+        self.is_same(other)
+    }
+
+    fn copy_row(&self, alloc: Global) -> Result<ProfileRow, AllocError> {
+        self.copy(alloc)
+    }
 }
 
 /// A row of fact2: a fact, and the discount that was given on the line.

@@ -17,39 +17,8 @@ use crate::numbers::NumbersDrawn;
 use std::alloc::{AllocError, Global};
 use std::collections::BTreeMap;
 use wh_day::{ParseError, Value};
-use wh_history::{Change, Changes, Member, MemberSource, Touched, touch_all};
+use wh_history::{Member, MemberSource, Touched, touch_all};
 use wh_policy::DimensionRecord;
-
-fn copied_change(alloc: Global, change: &Change) -> Result<Change, AllocError>
-    ensures { IfOk result (λ copied. copied ≡ change.now) }
-{
-    Ok(Change {
-        day: change.day,
-        anchor: change.anchor,
-        values: change.values.copy(alloc)?,
-    })
-}
-
-fn copied_changes(alloc: Global, changes: &[Change]) -> Result<Changes, AllocError>
-    ensures { IfOk result (λ copied. copied ≡ changes.now) }
-{
-    let mut copied = Changes::new(alloc);
-    for change in changes {
-        copied.push(copied_change(alloc, change)?)?;
-    }
-    Ok(copied)
-}
-
-fn copied_member(alloc: Global, member: &Member) -> Result<Member, AllocError>
-    ensures { IfOk result (λ copied. copied ≡ member.now) }
-{
-    Ok(Member {
-        durable: member.durable,
-        natural: member.natural.copy()?,
-        opening: member.opening,
-        changes: copied_changes(alloc, member.changes.as_slice())?,
-    })
-}
 
 /// Members that were read from the tables, to be found by their natural keys.
 #[derive(Drop)]
@@ -70,7 +39,7 @@ impl MemberSource for StoredMembers<'_> {
 
     fn member(&self, alloc: Global, natural: &Value) -> Result<Member, ParseError<AllocError>> {
         match self.by_natural.get(natural.as_str()).copied() {
-            Some(member) => Ok(copied_member(alloc, member)?),
+            Some(member) => Ok(member.copy(alloc)?),
             None => Ok(Member::absent(alloc, natural)?),
         }
     }

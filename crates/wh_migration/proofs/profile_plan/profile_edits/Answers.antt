@@ -3,7 +3,9 @@ use Rattle.std.specs.List.{slice_get, HoldsAt}
 use Rattle.std.specs.Option.{option_copied, IfSome, MatchOption}
 use Rattle.std.proofs.lemmas.Option.{slice_get_past, slice_get_read}
 use Rattle.wh_rows.specs.declared.rows.ProfileRow.{ProfileRow}
-use Rattle.wh_migration.specs.Migration.{edit_of_profile, profile_edit_at}
+use Rattle.wh_history.specs.Plan.{edit_between}
+use Rattle.wh_rows.specs.SameRows.{same_values}
+use Rattle.wh_migration.specs.Migration.{profile_edit_at}
 use Rattle.wh_migration.proofs.NumberedPlans.{one_made, none_made}
 use Rattle.wh_migration.proofs.profile_plan.profile_edits.Goals as goal
 use Rattle.wh_migration.proofs.profile_plan.profile_edits.Goals.{in-Some+in_ok-push, in_default}
@@ -22,8 +24,8 @@ loop-place-preserved c =
     let new = c.get-in-loop-place.ensures.lookup in
     let made : c.in_ok-edit.field-0 ≡ make place =
     c.in_ok-edit.ensures
-    ∙ ap (λ o. edit_of_profile place o (option_copied c.get-in-loop-place.result)) (got c.get.result stored place old.1 old.3)
-    ∙ ap (edit_of_profile place (slice_get stored place)) (got c.get-in-loop-place.result rows place new.1 new.3) in
+    ∙ ap (λ o. edit_between same_values place o (option_copied c.get-in-loop-place.result)) (got c.get.result stored place old.1 old.3)
+    ∙ ap (edit_between same_values place (slice_get stored place)) (got c.get-in-loop-place.result rows place new.1 new.3) in
     elim c.match-branch-2.branch [
       | in-Some+in_ok-push w ↦ rw (w.edits-is, w.in_ok-push.ensures.items) (one_made make place _ c.loop-place.edits.items w.in-Some.edit _ c.loop-place-test.true (sym made ∙ w.in-Some.is) c.loop-place.invariant)
       | in_default w ↦ rw w.edits-is (none_made make place _ c.loop-place.edits.items _ c.loop-place-test.true (sym made ∙ w.in_default.is) c.loop-place.invariant)
