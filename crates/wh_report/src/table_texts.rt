@@ -14,8 +14,8 @@ use std::alloc::{AllocError, Global};
 use wh_day::{DateRow, Value, Values};
 use wh_history::{DimRow, Fact};
 use wh_rows::{
-    ChangeRow, CommandRow, Fact2, MemberRow, MetaRow, ProfileRow, StoredTable, VoidRow, dim_number,
-    tables,
+    ChangeRow, CommandRow, Fact2, MemberRow, MetaRow, ProfileRow, StoredTable, Table, VoidRow,
+    dim_number, tables,
 };
 
 /// A table that can be dumped.
@@ -107,7 +107,7 @@ fn push_slots(fields: &mut StringRecord, texts: &Values) -> Result<(), AllocErro
 
 impl DumpedTable for tables::Meta {
     fn columns(alloc: Global) -> Result<StringRecord, AllocError> {
-        StringRecord::from_fields(alloc, &["name", "value"])
+        StringRecord::from_fields(alloc, Table::Meta.columns())
     }
 
     fn fields(_alloc: Global, row: &MetaRow, fields: &mut StringRecord) -> Result<(), AllocError> {
@@ -119,10 +119,7 @@ impl DumpedTable for tables::Meta {
 
 impl DumpedTable for tables::Command {
     fn columns(alloc: Global) -> Result<StringRecord, AllocError> {
-        StringRecord::from_fields(
-            alloc,
-            &["number", "id", "kind", "bytes", "records", "placeholders"],
-        )
+        StringRecord::from_fields(alloc, Table::Command.columns())
     }
 
     fn fields(
@@ -142,7 +139,7 @@ impl DumpedTable for tables::Command {
 
 impl DumpedTable for tables::Member {
     fn columns(alloc: Global) -> Result<StringRecord, AllocError> {
-        StringRecord::from_fields(alloc, &["dim", "durable", "natural", "opening"])
+        StringRecord::from_fields(alloc, Table::Member.columns())
     }
 
     fn fields(
@@ -160,13 +157,7 @@ impl DumpedTable for tables::Member {
 
 impl DumpedTable for tables::Change {
     fn columns(alloc: Global) -> Result<StringRecord, AllocError> {
-        StringRecord::from_fields(
-            alloc,
-            &[
-                "command", "record", "dim", "durable", "day", "anchor", "v1", "v2", "v3", "v4",
-                "v5", "v6",
-            ],
-        )
+        StringRecord::from_fields(alloc, Table::Change.columns())
     }
 
     fn fields(
@@ -187,7 +178,7 @@ impl DumpedTable for tables::Change {
 
 impl DumpedTable for tables::Product {
     fn columns(alloc: Global) -> Result<StringRecord, AllocError> {
-        dimension_columns(alloc)
+        StringRecord::from_fields(alloc, Table::Product.columns())
     }
 
     fn fields(_alloc: Global, row: &DimRow, fields: &mut StringRecord) -> Result<(), AllocError> {
@@ -197,7 +188,7 @@ impl DumpedTable for tables::Product {
 
 impl DumpedTable for tables::Store {
     fn columns(alloc: Global) -> Result<StringRecord, AllocError> {
-        dimension_columns(alloc)
+        StringRecord::from_fields(alloc, Table::Store.columns())
     }
 
     fn fields(_alloc: Global, row: &DimRow, fields: &mut StringRecord) -> Result<(), AllocError> {
@@ -207,7 +198,7 @@ impl DumpedTable for tables::Store {
 
 impl DumpedTable for tables::Customer {
     fn columns(alloc: Global) -> Result<StringRecord, AllocError> {
-        dimension_columns(alloc)
+        StringRecord::from_fields(alloc, Table::Customer.columns())
     }
 
     fn fields(_alloc: Global, row: &DimRow, fields: &mut StringRecord) -> Result<(), AllocError> {
@@ -217,7 +208,7 @@ impl DumpedTable for tables::Customer {
 
 impl DumpedTable for tables::Profile {
     fn columns(alloc: Global) -> Result<StringRecord, AllocError> {
-        StringRecord::from_fields(alloc, &["number", "v1", "v2", "v3", "v4", "v5", "v6"])
+        StringRecord::from_fields(alloc, Table::Profile.columns())
     }
 
     fn fields(
@@ -233,22 +224,7 @@ impl DumpedTable for tables::Profile {
 
 impl DumpedTable for tables::Calendar {
     fn columns(alloc: Global) -> Result<StringRecord, AllocError> {
-        StringRecord::from_fields(
-            alloc,
-            &[
-                "date_key",
-                "iso",
-                "year",
-                "quarter",
-                "month",
-                "day",
-                "day_of_year",
-                "weekday",
-                "weekday_name",
-                "weekend",
-                "holiday",
-            ],
-        )
+        StringRecord::from_fields(alloc, Table::Calendar.columns())
     }
 
     fn fields(_alloc: Global, row: &DateRow, fields: &mut StringRecord) -> Result<(), AllocError> {
@@ -269,24 +245,7 @@ impl DumpedTable for tables::Calendar {
 
 impl DumpedTable for tables::Fact {
     fn columns(alloc: Global) -> Result<StringRecord, AllocError> {
-        StringRecord::from_fields(
-            alloc,
-            &[
-                "ticket",
-                "line",
-                "day",
-                "store_key",
-                "product_key",
-                "customer_key",
-                "store_durable",
-                "product_durable",
-                "customer_durable",
-                "profile",
-                "quantity",
-                "amount",
-                "cost",
-            ],
-        )
+        StringRecord::from_fields(alloc, Table::Fact.columns())
     }
 
     fn fields(_alloc: Global, row: &Fact, fields: &mut StringRecord) -> Result<(), AllocError> {
@@ -309,25 +268,7 @@ impl DumpedTable for tables::Fact {
 
 impl DumpedTable for tables::Fact2 {
     fn columns(alloc: Global) -> Result<StringRecord, AllocError> {
-        StringRecord::from_fields(
-            alloc,
-            &[
-                "ticket",
-                "line",
-                "day",
-                "store_key",
-                "product_key",
-                "customer_key",
-                "store_durable",
-                "product_durable",
-                "customer_durable",
-                "profile",
-                "quantity",
-                "amount",
-                "cost",
-                "discount",
-            ],
-        )
+        StringRecord::from_fields(alloc, Table::Fact2.columns())
     }
 
     fn fields(alloc: Global, row: &Fact2, fields: &mut StringRecord) -> Result<(), AllocError> {
@@ -338,7 +279,7 @@ impl DumpedTable for tables::Fact2 {
 
 impl DumpedTable for tables::Void {
     fn columns(alloc: Global) -> Result<StringRecord, AllocError> {
-        StringRecord::from_fields(alloc, &["ticket", "line", "command"])
+        StringRecord::from_fields(alloc, Table::Void.columns())
     }
 
     fn fields(_alloc: Global, row: &VoidRow, fields: &mut StringRecord) -> Result<(), AllocError> {
@@ -354,36 +295,6 @@ fn push_bytes(alloc: Global, fields: &mut StringRecord, bytes: &[u8]) -> Result<
 {
     let text = hex::encode(alloc, bytes)?;
     fields.push_field(text.as_str())
-}
-
-/// The columns of each dimension that has members.
-fn dimension_columns(alloc: Global) -> Result<StringRecord, AllocError>
-    ensures { IfOk result (λ names. fields_of names ≡ column_names product) }
-{
-    StringRecord::from_fields(
-        alloc,
-        &[
-            "surrogate",
-            "durable",
-            "natural",
-            "from_day",
-            "to_day",
-            "is_current",
-            "a1",
-            "a2",
-            "a3",
-            "a4",
-            "a5",
-            "a6",
-            "b1",
-            "b2",
-            "b3",
-            "b4",
-            "b5",
-            "b6",
-            "profile_now",
-        ],
-    )
 }
 
 fn dimension_fields(row: &DimRow, fields: &mut StringRecord) -> Result<(), AllocError>

@@ -12,7 +12,7 @@ use Rattle.std.proofs.lemmas.List.{length-map, map-append}
 use Rattle.std.proofs.lemmas.List.Sorted.{IsPermutation-refl, IsPermutation-sym, IsPermutation-trans, IsPermutation-map, IsPermutation-append, IsPermutation-middle, length_permutation}
 use Rattle.sqlite_value.specs.Order.{Row}
 use Rattle.sqlite_trees.specs.Tree.{Trees, rowid, put_row}
-use Rattle.sqlite_trees.proofs.ListLemmas.{filter_all, all-slice_get, all-permutation, IsPermutation-filter}
+use Rattle.sqlite_trees.proofs.ListLemmas.{filter_all, all-slice_get, IsPermutation-filter}
 use Rattle.sqlite_trees.proofs.TreeLemmas.{IsShaped-put_row}
 use Rattle.sqlite_schema.specs.Rules.{agree, differ, clashes, guards}
 use Rattle.sqlite_schema.specs.Rules as rules

@@ -14,6 +14,7 @@ pub mod Cast
 pub mod Formats
 pub mod Means
 pub mod Keys
+pub mod ShownColumns
 pub mod Counts
 pub mod Others
 pub mod Reopening

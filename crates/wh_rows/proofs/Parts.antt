@@ -4,7 +4,6 @@ use Rattle.std.specs.Ordering.{is_eq, is_gt, is_ge, ordering_then}
 use Rattle.sqlite_value.specs.declared.value.Value.{Value}
 use Rattle.sqlite_value.specs.declared.value.Value.TheVariants.{Null, Int, Real, Text, Blob}
 use Rattle.sqlite_value.specs.declared.keys.Key.{Key}
-use Rattle.sqlite_value.specs.Keys.{ascending}
 use Rattle.sqlite_value.specs.Order.{value_cmp}
 use Rattle.sqlite_value.proofs.OrderLemmas.{then-Equal, value_cmp-Text}
 use Rattle.sqlite_sql.specs.declared.ops.BinaryOp.TheVariants.{Compare, Or}
@@ -37,6 +36,7 @@ use Rattle.wh_rows.specs.Questions.{at_least, greater}
 use Rattle.wh_rows.specs.Parts.{forward, part_text, bind_part, PartTexts, stands_behind, is_behind, ReadsParts, IsKeyed}
 use Rattle.wh_rows.specs.Parts as texts
 use Rattle.wh_rows.proofs.ColumnLemmas.{both}
+use Rattle.wh_rows.proofs.ShownColumns.{meta_shown, command_shown, member_shown, change_shown, dimension_shown, profile_shown, calendar_shown, fact_shown, fact2_shown, void_shown, by_rowid, by_text, by_two}
 use Rattle.wh_rows.proofs.Keys.{and-true, or_true, sorted-Nat, then_after, then_tied}
 
 -- ---- SQL's comparisons are those of its order of values, but for NULL
@@ -168,9 +168,6 @@ module _ {under : Schema} {K V : Type 0} (layout : Layout K V) (bind : K → Row
 
 -- ---- keys of one number, which is the rowid
 
-abbrev by_rowid : List (Term × Key)
-by_rowid = (col 1 0, ascending Binary) ∷ []
-
 abbrev rowid_past : List Term
 rowid_past = op2 (Compare Gt Binary) (col 1 0) (col 0 0) ∷ []
 
@@ -178,9 +175,6 @@ abbrev IsPastNumber : {V : Type 0} → Schema → ℕ → Layout ℕ V → ℕ �
 IsPastNumber under most layout k text = ShowsPart under most layout (bind_number k) (λ r. is_gt (stored_cmp layout.table false r (bind_number k))) text
 
 -- command
-
-abbrev command_shown : List Term
-command_shown = col 1 0 ∷ col 1 2 ∷ col 1 3 ∷ col 1 4 ∷ col 1 5 ∷ col 1 6 ∷ []
 
 command_first : (format : Format) → ShowsPart (schema_in format) texts.command.most row.command [] (λ r. true) texts.command.first
 unfolding understood everything
@@ -225,9 +219,6 @@ pub command : (format : Format) → ReadsParts (schema_in format) row.command bi
 command format = parts row.command bind_number stands_at_number command_keyed texts.command (command_first format) (command_after format)
 
 -- product
-
-abbrev dimension_shown : List Term
-dimension_shown = col 1 0 ∷ col 1 2 ∷ col 1 3 ∷ col 1 4 ∷ col 1 5 ∷ col 1 6 ∷ col 1 7 ∷ col 1 8 ∷ col 1 9 ∷ col 1 10 ∷ col 1 11 ∷ col 1 12 ∷ col 1 13 ∷ col 1 14 ∷ col 1 15 ∷ col 1 16 ∷ col 1 17 ∷ col 1 18 ∷ col 1 19 ∷ []
 
 product_first : (format : Format) → ShowsPart (schema_in format) texts.product.most row.product [] (λ r. true) texts.product.first
 unfolding understood everything
@@ -361,9 +352,6 @@ customer format = parts row.customer bind_number stands_at_number customer_keyed
 
 -- profile
 
-abbrev profile_shown : List Term
-profile_shown = col 1 0 ∷ col 1 2 ∷ col 1 3 ∷ col 1 4 ∷ col 1 5 ∷ col 1 6 ∷ col 1 7 ∷ []
-
 profile_first : (format : Format) → ShowsPart (schema_in format) texts.profile.most row.profile [] (λ r. true) texts.profile.first
 unfolding understood everything
 profile_first format = record {
@@ -407,9 +395,6 @@ pub profile : (format : Format) → ReadsParts (schema_in format) row.profile bi
 profile format = parts row.profile bind_number stands_at_number profile_keyed texts.profile (profile_first format) (profile_after format)
 
 -- calendar
-
-abbrev calendar_shown : List Term
-calendar_shown = col 1 0 ∷ col 1 2 ∷ col 1 3 ∷ col 1 4 ∷ col 1 5 ∷ col 1 6 ∷ col 1 7 ∷ col 1 8 ∷ col 1 9 ∷ col 1 10 ∷ col 1 11 ∷ []
 
 calendar_first : (format : Format) → ShowsPart (schema_in format) texts.calendar.most row.calendar [] (λ r. true) texts.calendar.first
 unfolding understood everything
@@ -455,12 +440,6 @@ calendar format = parts row.calendar bind_number stands_at_number calendar_keyed
 
 -- ---- a key of one text
 
-abbrev by_text : List (Term × Key)
-by_text = (col 1 1, ascending Binary) ∷ []
-
-abbrev meta_shown : List Term
-meta_shown = col 1 1 ∷ col 1 2 ∷ []
-
 meta_first : (format : Format) → ShowsPart (schema_in format) texts.meta.most row.meta [] (λ r. true) texts.meta.first
 unfolding understood everything
 meta_first format = record {
@@ -505,16 +484,10 @@ meta format = parts row.meta bind_text stands_at_text meta_keyed texts.meta (met
 
 -- ---- keys of two columns
 
-abbrev by_two : List (Term × Key)
-by_two = (col 1 1, ascending Binary) ∷ (col 1 2, ascending Binary) ∷ []
-
 abbrev two_past : Term → Term → List Term
 two_past first second = op2 (Compare Ge Binary) (col 1 1) first ∷ op2 Or (op2 (Compare Gt Binary) (col 1 1) first) (op2 (Compare Gt Binary) (col 1 2) second) ∷ []
 
 -- member
-
-abbrev member_shown : List Term
-member_shown = col 1 1 ∷ col 1 2 ∷ col 1 3 ∷ col 1 4 ∷ []
 
 member_first : (format : Format) → ShowsPart (schema_in format) texts.member.most row.member [] (λ r. true) texts.member.first
 unfolding understood everything
@@ -560,9 +533,6 @@ member format = parts row.member bind_member stands_at_member member_keyed texts
 
 -- change
 
-abbrev change_shown : List Term
-change_shown = col 1 1 ∷ col 1 2 ∷ col 1 3 ∷ col 1 4 ∷ col 1 5 ∷ col 1 6 ∷ col 1 7 ∷ col 1 8 ∷ col 1 9 ∷ col 1 10 ∷ col 1 11 ∷ col 1 12 ∷ []
-
 change_first : (format : Format) → ShowsPart (schema_in format) texts.change.most row.change [] (λ r. true) texts.change.first
 unfolding understood everything
 change_first format = record {
@@ -606,9 +576,6 @@ pub change : (format : Format) → ReadsParts (schema_in format) row.change bind
 change format = parts row.change bind_change stands_at_change change_keyed texts.change (change_first format) (change_after format)
 
 -- fact
-
-abbrev fact_shown : List Term
-fact_shown = col 1 1 ∷ col 1 2 ∷ col 1 3 ∷ col 1 4 ∷ col 1 5 ∷ col 1 6 ∷ col 1 7 ∷ col 1 8 ∷ col 1 9 ∷ col 1 10 ∷ col 1 11 ∷ col 1 12 ∷ col 1 13 ∷ []
 
 fact_first : (format : Format) → ShowsPart (schema_in format) texts.fact.most row.fact [] (λ r. true) texts.fact.first
 unfolding understood everything
@@ -654,9 +621,6 @@ fact format = parts row.fact bind_line stands_at_line fact_keyed texts.fact (fac
 
 -- fact2
 
-abbrev fact2_shown : List Term
-fact2_shown = col 1 1 ∷ col 1 2 ∷ col 1 3 ∷ col 1 4 ∷ col 1 5 ∷ col 1 6 ∷ col 1 7 ∷ col 1 8 ∷ col 1 9 ∷ col 1 10 ∷ col 1 11 ∷ col 1 12 ∷ col 1 13 ∷ col 1 14 ∷ []
-
 fact2_first : ShowsPart (schema_in Two) texts.fact2.most row.fact2 [] (λ r. true) texts.fact2.first
 unfolding understood everything
 fact2_first = record {
@@ -700,9 +664,6 @@ pub fact2 : ReadsParts (schema_in Two) row.fact2 bind_line texts.fact2
 fact2 = parts row.fact2 bind_line stands_at_line fact2_keyed texts.fact2 fact2_first fact2_after
 
 -- void
-
-abbrev void_shown : List Term
-void_shown = col 1 1 ∷ col 1 2 ∷ col 1 3 ∷ []
 
 void_first : ShowsPart (schema_in Two) texts.void.most row.void [] (λ r. true) texts.void.first
 unfolding understood everything

@@ -3,6 +3,8 @@ pub mod Limits
 pub mod Types
 pub mod Formats
 pub mod Schema
+pub mod ColumnNames
+pub mod SameRows
 pub mod Holds
 pub mod Keys
 pub mod Texts

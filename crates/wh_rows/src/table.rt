@@ -1,7 +1,82 @@
 //! The tables of the warehouse.
 
-ghost use Rattle.std.specs.Prelude.{◌≡◌, Some, IfSome};
+ghost use Rattle.std.specs.Prelude.{◌≡◌, Some, IfSome, map};
+ghost use Rattle.wh_rows.specs.ColumnNames.{column_names};
 ghost use Rattle.wh_rows.specs.Names.{table_name, table_named};
+
+const CHANGE: [&str; 12] = [
+    "command", "record", "dim", "durable", "day", "anchor", "v1", "v2", "v3", "v4", "v5", "v6",
+];
+
+/// The columns of each dimension that has members.
+const DIMENSION: [&str; 19] = [
+    "surrogate",
+    "durable",
+    "natural",
+    "from_day",
+    "to_day",
+    "is_current",
+    "a1",
+    "a2",
+    "a3",
+    "a4",
+    "a5",
+    "a6",
+    "b1",
+    "b2",
+    "b3",
+    "b4",
+    "b5",
+    "b6",
+    "profile_now",
+];
+
+const CALENDAR: [&str; 11] = [
+    "date_key",
+    "iso",
+    "year",
+    "quarter",
+    "month",
+    "day",
+    "day_of_year",
+    "weekday",
+    "weekday_name",
+    "weekend",
+    "holiday",
+];
+
+const FACT: [&str; 13] = [
+    "ticket",
+    "line",
+    "day",
+    "store_key",
+    "product_key",
+    "customer_key",
+    "store_durable",
+    "product_durable",
+    "customer_durable",
+    "profile",
+    "quantity",
+    "amount",
+    "cost",
+];
+
+const FACT2: [&str; 14] = [
+    "ticket",
+    "line",
+    "day",
+    "store_key",
+    "product_key",
+    "customer_key",
+    "store_durable",
+    "product_durable",
+    "customer_durable",
+    "profile",
+    "quantity",
+    "amount",
+    "cost",
+    "discount",
+];
 
 /// A table, in the order in which plans and checks go through them.
 #[derive(Clone, Copy, Debug, PartialEq, Eq)]
@@ -23,6 +98,22 @@ pub enum Table {
 impl Table {
     ghost use Rattle.wh_rows.specs.declared.table.Table.{Table};
 
+    /// All tables, in their order. The last two are in the second format alone.
+    pub const ALL: [Table; 12] = [
+        Table::Meta,
+        Table::Command,
+        Table::Member,
+        Table::Change,
+        Table::Product,
+        Table::Store,
+        Table::Customer,
+        Table::Profile,
+        Table::Calendar,
+        Table::Fact,
+        Table::Fact2,
+        Table::Void,
+    ];
+
     /// Its name, in statements and in print.
     #[tactic(auto, unfolding(crate::specs::Names::table_name))]
     pub fn name(self) -> &'static str
@@ -41,6 +132,24 @@ impl Table {
             Table::Fact => "fact",
             Table::Fact2 => "fact2",
             Table::Void => "void",
+        }
+    }
+
+    /// The names of its columns, in their order.
+    pub fn columns(self) -> &'static [&'static str]
+        ensures { map (λ name. name.now) result.now ≡ column_names self }
+    {
+        match self {
+            Table::Meta => &["name", "value"],
+            Table::Command => &["number", "id", "kind", "bytes", "records", "placeholders"],
+            Table::Member => &["dim", "durable", "natural", "opening"],
+            Table::Change => &CHANGE,
+            Table::Product | Table::Store | Table::Customer => &DIMENSION,
+            Table::Profile => &["number", "v1", "v2", "v3", "v4", "v5", "v6"],
+            Table::Calendar => &CALENDAR,
+            Table::Fact => &FACT,
+            Table::Fact2 => &FACT2,
+            Table::Void => &["ticket", "line", "command"],
         }
     }
 

@@ -9,6 +9,8 @@ ghost use Rattle.wh_rows.specs.declared.format.Format.TheVariants.{One, Two};
 ghost use Rattle.sqlite.specs.Change.{is_used, next_tree};
 ghost use Rattle.sqlite.specs.State.{HasCleanDisk};
 ghost use Rattle.wh_rows.specs.declared.cause.Cause.TheVariants.{Disk};
+ghost use Rattle.wh_rows.specs.ColumnNames.{column_names};
+ghost use Rattle.wh_rows.specs.Names.{table_name};
 ghost use Rattle.wh_rows.specs.Making.{Extends, LeadsOver, making_texts, upgrading_texts};
 ghost use Rattle.wh_rows.specs.Tables.{Tables, no_tables};
 ghost use Rattle.wh_rows.specs.AtRest.{IsWriting, Leaves, IsCauseOf};
@@ -16,8 +18,8 @@ ghost use Rattle.wh_sql.specs.Refused.{IsOneRefused, bare};
 ghost use Rattle.wh_sql.specs.Present.{IsMaking, is_any_taken, is_second_taken, has_columns, has_table, are_all_there, is_second_there};
 
 use sqlite::{Alter, Connection};
-use sqlite_schema::schema::{Schema, Table};
-use wh_rows::Cause;
+use sqlite_schema::schema::{self, Schema};
+use wh_rows::{Cause, Table};
 
 /// The texts that make the warehouse: its tables, then its indexes.
 const TEXTS: [&str; 19] = [
@@ -51,133 +53,8 @@ const SECOND: [&str; 5] = [
     "CREATE INDEX fact2_by_customer ON fact2 (customer_durable, day)",
 ];
 
-/// The names of a table and of its columns.
-struct Names {
-    table: &'static str,
-    columns: &'static [&'static str],
-}
-
-/// The columns of the table of a dimension.
-const DIMENSION: [&str; 19] = [
-    "surrogate",
-    "durable",
-    "natural",
-    "from_day",
-    "to_day",
-    "is_current",
-    "a1",
-    "a2",
-    "a3",
-    "a4",
-    "a5",
-    "a6",
-    "b1",
-    "b2",
-    "b3",
-    "b4",
-    "b5",
-    "b6",
-    "profile_now",
-];
-
-/// The tables that the second format adds.
-const ADDED: [Names; 2] = [
-    Names {
-        table: "fact2",
-        columns: &[
-            "ticket",
-            "line",
-            "day",
-            "store_key",
-            "product_key",
-            "customer_key",
-            "store_durable",
-            "product_durable",
-            "customer_durable",
-            "profile",
-            "quantity",
-            "amount",
-            "cost",
-            "discount",
-        ],
-    },
-    Names {
-        table: "void",
-        columns: &["ticket", "line", "command"],
-    },
-];
-
-const TABLES: [Names; 10] = [
-    Names {
-        table: "meta",
-        columns: &["name", "value"],
-    },
-    Names {
-        table: "command",
-        columns: &["number", "id", "kind", "bytes", "records", "placeholders"],
-    },
-    Names {
-        table: "member",
-        columns: &["dim", "durable", "natural", "opening"],
-    },
-    Names {
-        table: "change",
-        columns: &[
-            "command", "record", "dim", "durable", "day", "anchor", "v1", "v2", "v3", "v4", "v5",
-            "v6",
-        ],
-    },
-    Names {
-        table: "product",
-        columns: &DIMENSION,
-    },
-    Names {
-        table: "store",
-        columns: &DIMENSION,
-    },
-    Names {
-        table: "customer",
-        columns: &DIMENSION,
-    },
-    Names {
-        table: "profile",
-        columns: &["number", "v1", "v2", "v3", "v4", "v5", "v6"],
-    },
-    Names {
-        table: "calendar",
-        columns: &[
-            "date_key",
-            "iso",
-            "year",
-            "quarter",
-            "month",
-            "day",
-            "day_of_year",
-            "weekday",
-            "weekday_name",
-            "weekend",
-            "holiday",
-        ],
-    },
-    Names {
-        table: "fact",
-        columns: &[
-            "ticket",
-            "line",
-            "day",
-            "store_key",
-            "product_key",
-            "customer_key",
-            "store_durable",
-            "product_durable",
-            "customer_durable",
-            "profile",
-            "quantity",
-            "amount",
-            "cost",
-        ],
-    },
-];
+/// How many of the tables the first format has; the second adds the others.
+const FIRST: usize = 10;
 
 /// Runs a text that makes one table or index, inside a transaction.
 fn create_one<S: Alter>(conn: &mut Connection<S>, text: &str) -> Result<(), Cause>
@@ -245,27 +122,28 @@ fn is_taken(schema: &Schema, name: &str) -> bool
         || schema.view_named(name).is_some()
 }
 
-fn is_one_taken(schema: &Schema, tables: &[Names]) -> bool
-    ensures { result ≡ list_any (λ names. is_used schema.now names.table.now) tables.now }
+fn is_one_taken(schema: &Schema, tables: &[Table]) -> bool
+    ensures { result ≡ list_any (λ table. is_used schema.now (table_name table)) tables.now }
 {
-    tables.iter().any(|names| is_taken(schema, names.table))
+    tables.iter().any(|table| is_taken(schema, table.name()))
 }
 
 /// Whether a table, an index or a view has the name of one of the twelve tables.
 pub fn has_taken_name<S: Alter>(conn: &Connection<S>) -> bool
     ensures { result ≡ is_any_taken (state S.Store conn.now).now.schema }
 {
-    is_one_taken(conn.schema(), &TABLES) || is_one_taken(conn.schema(), &ADDED)
+    is_one_taken(conn.schema(), &Table::ALL[..FIRST])
+        || is_one_taken(conn.schema(), &Table::ALL[FIRST..])
 }
 
 /// Whether one has the name of one of the two that the second format adds.
 pub fn has_second_name<S: Alter>(conn: &Connection<S>) -> bool
     ensures { result ≡ is_second_taken (state S.Store conn.now).now.schema }
 {
-    is_one_taken(conn.schema(), &ADDED)
+    is_one_taken(conn.schema(), &Table::ALL[FIRST..])
 }
 
-fn has_columns(table: &Table, columns: &[&str]) -> bool
+fn has_columns(table: &schema::Table, columns: &[&str]) -> bool
     ensures { result ≡ has_columns columns.now (λ name. name.now) table.now }
 {
     columns
@@ -273,30 +151,35 @@ fn has_columns(table: &Table, columns: &[&str]) -> bool
         .all(|name| table.column_named(name.as_bytes()).is_some())
 }
 
-fn has_table(schema: &Schema, names: &Names) -> bool
-    ensures { result ≡ has_table names.now.table.now names.now.columns.now (λ name. name.now) schema.now }
+fn has_named(schema: &Schema, name: &str, columns: &[&str]) -> bool
+    ensures { result ≡ has_table name.now columns.now (λ name. name.now) schema.now }
 {
     let tables = schema.tables.as_slice();
-    tables.iter().any(|table| table.is_named(names.table.as_bytes())
-        && has_columns(table, names.columns))
+    tables.iter().any(|table| table.is_named(name.as_bytes()) && has_columns(table, columns))
 }
 
-fn has_each(schema: &Schema, tables: &[Names]) -> bool
-    ensures { result ≡ list_all (λ names. has_table names.table.now names.columns.now (λ name. name.now) schema.now) tables.now }
+fn has_table(schema: &Schema, table: Table) -> bool
+    ensures { result ≡ has_table (table_name table) (column_names table) (λ name. name) schema.now }
 {
-    tables.iter().all(|names| has_table(schema, names))
+    has_named(schema, table.name(), table.columns())
+}
+
+fn has_each(schema: &Schema, tables: &[Table]) -> bool
+    ensures { result ≡ list_all (λ table. has_table (table_name table) (column_names table) (λ name. name) schema.now) tables.now }
+{
+    tables.iter().all(|table| has_table(schema, *table))
 }
 
 /// Whether each of the ten tables is there, with its columns.
 pub fn has_tables<S: Alter>(conn: &Connection<S>) -> bool
     ensures { result ≡ are_all_there (state S.Store conn.now).now.schema }
 {
-    has_each(conn.schema(), &TABLES)
+    has_each(conn.schema(), &Table::ALL[..FIRST])
 }
 
 /// Whether each of the two tables that the second format adds is there, with its columns.
 pub fn has_second<S: Alter>(conn: &Connection<S>) -> bool
     ensures { result ≡ is_second_there (state S.Store conn.now).now.schema }
 {
-    has_each(conn.schema(), &ADDED)
+    has_each(conn.schema(), &Table::ALL[FIRST..])
 }

@@ -72,21 +72,6 @@ pub fn push_limits(out: &mut String, limits: Limits) -> Result<(), Trouble> {
     Ok(())
 }
 
-const ALL: [Table; 12] = [
-    Table::Meta,
-    Table::Command,
-    Table::Member,
-    Table::Change,
-    Table::Product,
-    Table::Store,
-    Table::Customer,
-    Table::Profile,
-    Table::Calendar,
-    Table::Fact,
-    Table::Fact2,
-    Table::Void,
-];
-
 /// The limits, and each row of each table.
 pub fn show<S: Alter>(
     alloc: Global,
@@ -99,7 +84,7 @@ pub fn show<S: Alter>(
         rest: "",
         body: "",
     };
-    for table in ALL {
+    for table in Table::ALL {
         on_table(alloc, tables, table, step, out)?;
     }
     Ok(())

@@ -2,8 +2,7 @@
 use Rattle.std.proofs.Common.{◌≡◌, ℕ, List, [], ◌∷◌, codes, map, drop, pos, true, ◌&&◌, refl, ◌∙◌, sym, ap, Some}
 use Rattle.std.specs.Ordering.{eq_by_cmp}
 use Rattle.sqlite_value.specs.declared.value.Value.TheVariants.{Null, Int}
-use Rattle.sqlite_value.specs.declared.keys.Key.{Key}
-use Rattle.sqlite_value.specs.Keys.{first_key, ascending}
+use Rattle.sqlite_value.specs.Keys.{first_key}
 use Rattle.sqlite_value.proofs.OrderLemmas.{then-Equal}
 use Rattle.sqlite_sql.specs.declared.ops.BinaryOp.TheVariants.{Compare}
 use Rattle.sqlite_sql.specs.declared.ops.CompareOp.TheVariants.{Eq}
@@ -30,6 +29,7 @@ use Rattle.wh_rows.specs.Keys.{bind_number, stands_at_number}
 use Rattle.wh_rows.specs.Meaning.{command_of, same_rowid, PutsOne, RemovesOne, ReadsSome, CountsAll}
 use Rattle.wh_rows.specs.Raw.{ReadsStored}
 use Rattle.wh_rows.proofs.Cast.{cast_row_own}
+use Rattle.wh_rows.proofs.ShownColumns.{calendar_shown, by_rowid}
 use Rattle.wh_rows.proofs.Keys.{and-true, trimmed, equal-Nat, sorted-Nat}
 
 -- ---- put
@@ -97,18 +97,12 @@ remove format = record {
 
 -- ---- read, in order of key
 
-abbrev shown : List Term
-shown = col 1 0 ∷ col 1 2 ∷ col 1 3 ∷ col 1 4 ∷ col 1 5 ∷ col 1 6 ∷ col 1 7 ∷ col 1 8 ∷ col 1 9 ∷ col 1 10 ∷ col 1 11 ∷ []
-
-abbrev by_key : List (Term × Key)
-by_key = (col 1 0, ascending Binary) ∷ []
-
 pub all : (format : Format) → ReadsSome (schema_in format) row.calendar [] (λ r. true) texts.calendar.all
 unfolding understood everything
 all format = record {
   tests = [];
-  project = shown;
-  order = by_key;
+  project = calendar_shown;
+  order = by_rowid;
   names = map (λ c. c.name) row.calendar.table.columns;
   command = refl;
   plain = (refl, refl);
@@ -125,8 +119,8 @@ pub get : (format : Format) (k : ℕ) → ReadsSome (schema_in format) row.calen
 unfolding understood everything
 get format k = record {
   tests = op2 (Compare Eq Binary) (col 1 0) (col 0 0) ∷ [];
-  project = shown;
-  order = by_key;
+  project = calendar_shown;
+  order = by_rowid;
   names = map (λ c. c.name) row.calendar.table.columns;
   command = refl;
   plain = (refl, refl);

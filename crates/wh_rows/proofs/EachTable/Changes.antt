@@ -2,8 +2,7 @@
 use Rattle.std.proofs.Common.{◌≡◌, ℕ, List, [], ◌∷◌, codes, map, pos, true, ◌&&◌, refl, sym, ap₂, ◌∙◌, drop, ap, Some}
 use Rattle.std.specs.Ordering.{eq_by_cmp, nat_cmp, ordering_then}
 use Rattle.sqlite_value.specs.declared.value.Value.TheVariants.{Null, Int}
-use Rattle.sqlite_value.specs.declared.keys.Key.{Key}
-use Rattle.sqlite_value.specs.Keys.{first_key, ascending}
+use Rattle.sqlite_value.specs.Keys.{first_key}
 use Rattle.sqlite_value.proofs.OrderLemmas.{then-Equal}
 use Rattle.sqlite_sql.specs.declared.ops.BinaryOp.TheVariants.{Compare}
 use Rattle.sqlite_sql.specs.declared.ops.CompareOp.TheVariants.{Eq}
@@ -37,6 +36,7 @@ use Rattle.wh_rows.specs.Raw.{ReadsStored, ReadsGreatestStored}
 use Rattle.wh_rows.specs.Questions.{is_of_member, is_record_of, anchor_column}
 use Rattle.wh_rows.specs.Firsts.{ReadsGreatest}
 use Rattle.wh_rows.proofs.Cast.{cast_row_own}
+use Rattle.wh_rows.proofs.ShownColumns.{change_shown, by_two}
 use Rattle.wh_rows.proofs.Keys.{and-true, equal-Nat, sorted-Nat, then_eq, trimmed_and}
 
 -- ---- put
@@ -101,18 +101,12 @@ remove format = record {
 
 -- ---- read, in order of key
 
-abbrev shown : List Term
-shown = col 1 1 ∷ col 1 2 ∷ col 1 3 ∷ col 1 4 ∷ col 1 5 ∷ col 1 6 ∷ col 1 7 ∷ col 1 8 ∷ col 1 9 ∷ col 1 10 ∷ col 1 11 ∷ col 1 12 ∷ []
-
-abbrev by_key : List (Term × Key)
-by_key = (col 1 1, ascending Binary) ∷ (col 1 2, ascending Binary) ∷ []
-
 pub all : (format : Format) → ReadsSome (schema_in format) row.change [] (λ r. true) texts.change.all
 unfolding understood everything
 all format = record {
   tests = [];
-  project = shown;
-  order = by_key;
+  project = change_shown;
+  order = by_two;
   names = map (λ c. c.name) row.change.table.columns;
   command = refl;
   plain = (refl, refl);
@@ -129,8 +123,8 @@ pub get : (format : Format) (k : ChangeKey) → ReadsSome (schema_in format) row
 unfolding understood everything unary
 get format k = record {
   tests = op2 (Compare Eq Binary) (col 1 1) (op1 ToNumeric (col 0 0)) ∷ op2 (Compare Eq Binary) (col 1 2) (op1 ToNumeric (col 0 1)) ∷ [];
-  project = shown;
-  order = by_key;
+  project = change_shown;
+  order = by_two;
   names = map (λ c. c.name) row.change.table.columns;
   command = refl;
   plain = (refl, refl);
@@ -148,8 +142,8 @@ pub of_member : (format : Format) (dim : Dim) (durable : ℕ) → ReadsSome (sch
 unfolding understood everything unary
 of_member format dim durable = record {
   tests = op2 (Compare Eq Binary) (col 1 3) (op1 ToNumeric (col 0 0)) ∷ op2 (Compare Eq Binary) (col 1 4) (op1 ToNumeric (col 0 1)) ∷ [];
-  project = shown;
-  order = by_key;
+  project = change_shown;
+  order = by_two;
   names = map (λ c. c.name) row.change.table.columns;
   command = refl;
   plain = (refl, refl);
@@ -167,7 +161,7 @@ pub greatest_anchor : (format : Format) (dim : Dim) → ReadsGreatest (schema_in
 unfolding understood everything unary
 greatest_anchor format dim = record {
   tests = op2 (Compare Eq Binary) (col 1 3) (op1 ToNumeric (col 0 0)) ∷ [];
-  project = shown;
+  project = change_shown;
   order = (col 1 6, record { collation = Binary; descending = true }) ∷ [];
   names = map (λ c. c.name) row.change.table.columns;
   command = refl;

@@ -3,8 +3,7 @@ use Rattle.std.proofs.Common.{◌≡◌, ℕ, List, [], ◌∷◌, codes, map, d
 use Rattle.std.specs.Ordering.{is_eq, eq_by_cmp, nat_cmp}
 use Rattle.std.specs.Cmp.Lexicographic.{slice_cmp}
 use Rattle.sqlite_value.specs.declared.value.Value.TheVariants.{Null, Int, Text}
-use Rattle.sqlite_value.specs.declared.keys.Key.{Key}
-use Rattle.sqlite_value.specs.Keys.{first_key, ascending}
+use Rattle.sqlite_value.specs.Keys.{first_key}
 use Rattle.sqlite_value.proofs.OrderLemmas.{then-Equal}
 use Rattle.sqlite_sql.specs.declared.ops.BinaryOp.TheVariants.{Compare, Or}
 use Rattle.sqlite_sql.specs.declared.ops.CompareOp.TheVariants.{Eq}
@@ -33,6 +32,7 @@ use Rattle.wh_rows.specs.Raw.{ReadsStored, ReadsFrontStored}
 use Rattle.wh_rows.specs.Questions.{has_id, has_policy, gives_policy}
 use Rattle.wh_rows.specs.Firsts.{last_one, ReadsFirst}
 use Rattle.wh_rows.proofs.Cast.{cast_row_own}
+use Rattle.wh_rows.proofs.ShownColumns.{command_shown, by_rowid}
 use Rattle.wh_rows.proofs.Keys.{and-true, equal-Nat, equal-Text, is_text, or_true, sorted-Nat, trimmed}
 use Rattle.wh_rows.specs.Schema.{index}
 
@@ -113,18 +113,12 @@ remove format = record {
 
 -- ---- read, in order of key
 
-abbrev shown : List Term
-shown = col 1 0 ∷ col 1 2 ∷ col 1 3 ∷ col 1 4 ∷ col 1 5 ∷ col 1 6 ∷ []
-
-abbrev by_key : List (Term × Key)
-by_key = (col 1 0, ascending Binary) ∷ []
-
 pub all : (format : Format) → ReadsSome (schema_in format) row.command [] (λ r. true) texts.command.all
 unfolding understood everything
 all format = record {
   tests = [];
-  project = shown;
-  order = by_key;
+  project = command_shown;
+  order = by_rowid;
   names = map (λ c. c.name) row.command.table.columns;
   command = refl;
   plain = (refl, refl);
@@ -141,8 +135,8 @@ pub get : (format : Format) (k : ℕ) → ReadsSome (schema_in format) row.comma
 unfolding understood everything
 get format k = record {
   tests = op2 (Compare Eq Binary) (col 1 0) (col 0 0) ∷ [];
-  project = shown;
-  order = by_key;
+  project = command_shown;
+  order = by_rowid;
   names = map (λ c. c.name) row.command.table.columns;
   command = refl;
   plain = (refl, refl);
@@ -160,8 +154,8 @@ pub of_id : (format : Format) (id : List ℕ) → ReadsSome (schema_in format) r
 unfolding understood everything
 of_id format id = record {
   tests = op2 (Compare Eq Binary) (col 1 2) (col 0 0) ∷ [];
-  project = shown;
-  order = by_key;
+  project = command_shown;
+  order = by_rowid;
   names = map (λ c. c.name) row.command.table.columns;
   command = refl;
   plain = (refl, refl);
@@ -179,7 +173,7 @@ pub last_policy : (format : Format) → ReadsFirst (schema_in format) row.comman
 unfolding understood everything
 last_policy format = record {
   tests = op2 Or (op2 (Compare Eq Binary) (col 1 3) (lit (Text (codes "init")))) (op2 (Compare Eq Binary) (col 1 3) (lit (Text (codes "migrate")))) ∷ [];
-  project = shown;
+  project = command_shown;
   order = (col 1 0, record { collation = Binary; descending = true }) ∷ [];
   names = map (λ c. c.name) row.command.table.columns;
   command = refl;

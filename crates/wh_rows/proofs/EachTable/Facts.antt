@@ -5,8 +5,7 @@ use Rattle.std.proofs.lemmas.Bool.{and_parts}
 use Rattle.std.specs.Ordering.{is_ge, is_le, eq_by_cmp, nat_cmp, ordering_then}
 use Rattle.std.specs.Cmp.Lexicographic.{slice_cmp}
 use Rattle.sqlite_value.specs.declared.value.Value.TheVariants.{Null, Int, Text}
-use Rattle.sqlite_value.specs.declared.keys.Key.{Key}
-use Rattle.sqlite_value.specs.Keys.{first_key, ascending}
+use Rattle.sqlite_value.specs.Keys.{first_key}
 use Rattle.sqlite_value.proofs.OrderLemmas.{then-Equal, value_cmp-Text}
 use Rattle.sqlite_sql.specs.declared.ops.BinaryOp.TheVariants.{Compare}
 use Rattle.sqlite_sql.specs.declared.ops.CompareOp.TheVariants.{Eq, Ge, Le}
@@ -42,6 +41,7 @@ use Rattle.wh_rows.specs.Raw.{ReadsStored}
 use Rattle.wh_rows.specs.Rekey.{Rekey, rekey_text, bind_rekey, are_keys, with_keys}
 use Rattle.wh_rows.proofs.Cast.{cast_row_own}
 use Rattle.wh_rows.proofs.ColumnLemmas.{both}
+use Rattle.wh_rows.proofs.ShownColumns.{fact_shown, by_two}
 use Rattle.wh_rows.proofs.Keys.{and-true, equal-Nat, equal-Text, sorted-Nat, at_least-Nat, at_most-Nat, then_eq, trimmed_and}
 use Rattle.wh_history.specs.declared.facts.Fact.{Fact}
 use Rattle.wh_day.specs.Day.{is_day}
@@ -155,18 +155,12 @@ remove format = record {
 
 -- ---- read, in order of key
 
-abbrev shown : List Term
-shown = col 1 1 ∷ col 1 2 ∷ col 1 3 ∷ col 1 4 ∷ col 1 5 ∷ col 1 6 ∷ col 1 7 ∷ col 1 8 ∷ col 1 9 ∷ col 1 10 ∷ col 1 11 ∷ col 1 12 ∷ col 1 13 ∷ []
-
-abbrev by_key : List (Term × Key)
-by_key = (col 1 1, ascending Binary) ∷ (col 1 2, ascending Binary) ∷ []
-
 pub all : (format : Format) → ReadsSome (schema_in format) row.fact [] (λ r. true) texts.fact.all
 unfolding understood everything
 all format = record {
   tests = [];
-  project = shown;
-  order = by_key;
+  project = fact_shown;
+  order = by_two;
   names = map (λ c. c.name) row.fact.table.columns;
   command = refl;
   plain = (refl, refl);
@@ -183,8 +177,8 @@ pub get : (format : Format) (k : LineKey) → ReadsSome (schema_in format) row.f
 unfolding understood everything unary
 get format k = record {
   tests = op2 (Compare Eq Binary) (col 1 1) (col 0 0) ∷ op2 (Compare Eq Binary) (col 1 2) (op1 ToNumeric (col 0 1)) ∷ [];
-  project = shown;
-  order = by_key;
+  project = fact_shown;
+  order = by_two;
   names = map (λ c. c.name) row.fact.table.columns;
   command = refl;
   plain = (refl, refl);
@@ -202,8 +196,8 @@ pub of_store_between : (format : Format) (durable from to : ℕ) → ReadsSome (
 unfolding understood everything unary
 of_store_between format durable from to = record {
   tests = op2 (Compare Eq Binary) (col 1 7) (op1 ToNumeric (col 0 0)) ∷ op2 (Compare Ge Binary) (col 1 3) (op1 ToNumeric (col 0 1)) ∷ op2 (Compare Le Binary) (col 1 3) (op1 ToNumeric (col 0 2)) ∷ [];
-  project = shown;
-  order = by_key;
+  project = fact_shown;
+  order = by_two;
   names = map (λ c. c.name) row.fact.table.columns;
   command = refl;
   plain = (refl, refl);
@@ -221,8 +215,8 @@ pub of_product_between : (format : Format) (durable from to : ℕ) → ReadsSome
 unfolding understood everything unary
 of_product_between format durable from to = record {
   tests = op2 (Compare Eq Binary) (col 1 8) (op1 ToNumeric (col 0 0)) ∷ op2 (Compare Ge Binary) (col 1 3) (op1 ToNumeric (col 0 1)) ∷ op2 (Compare Le Binary) (col 1 3) (op1 ToNumeric (col 0 2)) ∷ [];
-  project = shown;
-  order = by_key;
+  project = fact_shown;
+  order = by_two;
   names = map (λ c. c.name) row.fact.table.columns;
   command = refl;
   plain = (refl, refl);
@@ -240,8 +234,8 @@ pub of_customer_between : (format : Format) (durable from to : ℕ) → ReadsSom
 unfolding understood everything unary
 of_customer_between format durable from to = record {
   tests = op2 (Compare Eq Binary) (col 1 9) (op1 ToNumeric (col 0 0)) ∷ op2 (Compare Ge Binary) (col 1 3) (op1 ToNumeric (col 0 1)) ∷ op2 (Compare Le Binary) (col 1 3) (op1 ToNumeric (col 0 2)) ∷ [];
-  project = shown;
-  order = by_key;
+  project = fact_shown;
+  order = by_two;
   names = map (λ c. c.name) row.fact.table.columns;
   command = refl;
   plain = (refl, refl);

@@ -1,12 +1,11 @@
 -- The statements on fact2.
-use Rattle.std.proofs.Common.{ℕ, List, [], ◌∷◌, codes, map, pos, true, ◌&&◌, refl, sym, ap₂, ◌∙◌, drop, ap}
+use Rattle.std.proofs.Common.{ℕ, [], ◌∷◌, codes, map, pos, true, ◌&&◌, refl, sym, ap₂, ◌∙◌, drop, ap}
 use Rattle.std.specs.Prelude.{IsTrue}
 use Rattle.std.proofs.lemmas.Bool.{and_parts}
 use Rattle.std.specs.Ordering.{is_ge, is_le, eq_by_cmp, nat_cmp, ordering_then}
 use Rattle.std.specs.Cmp.Lexicographic.{slice_cmp}
 use Rattle.sqlite_value.specs.declared.value.Value.TheVariants.{Null, Int, Text}
-use Rattle.sqlite_value.specs.declared.keys.Key.{Key}
-use Rattle.sqlite_value.specs.Keys.{first_key, ascending}
+use Rattle.sqlite_value.specs.Keys.{first_key}
 use Rattle.sqlite_value.proofs.OrderLemmas.{then-Equal, value_cmp-Text}
 use Rattle.sqlite_sql.specs.declared.ops.BinaryOp.TheVariants.{Compare}
 use Rattle.sqlite_sql.specs.declared.ops.CompareOp.TheVariants.{Eq, Ge, Le}
@@ -17,7 +16,7 @@ use Rattle.sqlite_rules.specs.Edit.{next_rowid}
 use Rattle.sqlite_tied.specs.Compute.{everything}
 use Rattle.sqlite.specs.Collation.TheVariants.{Binary}
 use Rattle.sqlite.specs.Order.{column}
-use Rattle.sqlite.specs.Term.{Term, lit, col, op1, op2}
+use Rattle.sqlite.specs.Term.{lit, col, op1, op2}
 use Rattle.sqlite.specs.Listing.{listing_schema, understood}
 use Rattle.wh_rows.specs.declared.format.Format.{Format}
 use Rattle.wh_rows.specs.declared.format.Format.TheVariants.{One, Two}
@@ -36,6 +35,7 @@ use Rattle.wh_rows.specs.Raw.{ReadsStored}
 use Rattle.wh_rows.specs.Rekey.{Rekey, rekey2_text, bind_rekey, are_keys, with_keys2}
 use Rattle.wh_rows.proofs.Cast.{cast_row_own}
 use Rattle.wh_rows.proofs.ColumnLemmas.{both}
+use Rattle.wh_rows.proofs.ShownColumns.{fact2_shown, by_two}
 use Rattle.wh_rows.proofs.Keys.{and-true, equal-Nat, equal-Text, sorted-Nat, at_least-Nat, at_most-Nat, then_eq, trimmed_and}
 use Rattle.wh_rows.specs.declared.rows.Fact2.{Fact2}
 use Rattle.wh_rows.proofs.EachTable.Facts.{valid_rekeyed}
@@ -112,18 +112,12 @@ remove = record {
 
 -- ---- read, in order of key
 
-abbrev shown : List Term
-shown = col 1 1 ∷ col 1 2 ∷ col 1 3 ∷ col 1 4 ∷ col 1 5 ∷ col 1 6 ∷ col 1 7 ∷ col 1 8 ∷ col 1 9 ∷ col 1 10 ∷ col 1 11 ∷ col 1 12 ∷ col 1 13 ∷ col 1 14 ∷ []
-
-abbrev by_key : List (Term × Key)
-by_key = (col 1 1, ascending Binary) ∷ (col 1 2, ascending Binary) ∷ []
-
 pub all : ReadsSome (schema_in Two) row.fact2 [] (λ r. true) texts.fact2.all
 unfolding understood everything
 all = record {
   tests = [];
-  project = shown;
-  order = by_key;
+  project = fact2_shown;
+  order = by_two;
   names = map (λ c. c.name) row.fact2.table.columns;
   command = refl;
   plain = (refl, refl);
@@ -140,8 +134,8 @@ pub get : (k : LineKey) → ReadsSome (schema_in Two) row.fact2 (bind_line k) (�
 unfolding understood everything unary
 get k = record {
   tests = op2 (Compare Eq Binary) (col 1 1) (col 0 0) ∷ op2 (Compare Eq Binary) (col 1 2) (op1 ToNumeric (col 0 1)) ∷ [];
-  project = shown;
-  order = by_key;
+  project = fact2_shown;
+  order = by_two;
   names = map (λ c. c.name) row.fact2.table.columns;
   command = refl;
   plain = (refl, refl);
@@ -159,8 +153,8 @@ pub of_store_between : (durable from to : ℕ) → ReadsSome (schema_in Two) row
 unfolding understood everything unary
 of_store_between durable from to = record {
   tests = op2 (Compare Eq Binary) (col 1 7) (op1 ToNumeric (col 0 0)) ∷ op2 (Compare Ge Binary) (col 1 3) (op1 ToNumeric (col 0 1)) ∷ op2 (Compare Le Binary) (col 1 3) (op1 ToNumeric (col 0 2)) ∷ [];
-  project = shown;
-  order = by_key;
+  project = fact2_shown;
+  order = by_two;
   names = map (λ c. c.name) row.fact2.table.columns;
   command = refl;
   plain = (refl, refl);
@@ -178,8 +172,8 @@ pub of_product_between : (durable from to : ℕ) → ReadsSome (schema_in Two) r
 unfolding understood everything unary
 of_product_between durable from to = record {
   tests = op2 (Compare Eq Binary) (col 1 8) (op1 ToNumeric (col 0 0)) ∷ op2 (Compare Ge Binary) (col 1 3) (op1 ToNumeric (col 0 1)) ∷ op2 (Compare Le Binary) (col 1 3) (op1 ToNumeric (col 0 2)) ∷ [];
-  project = shown;
-  order = by_key;
+  project = fact2_shown;
+  order = by_two;
   names = map (λ c. c.name) row.fact2.table.columns;
   command = refl;
   plain = (refl, refl);
@@ -197,8 +191,8 @@ pub of_customer_between : (durable from to : ℕ) → ReadsSome (schema_in Two) 
 unfolding understood everything unary
 of_customer_between durable from to = record {
   tests = op2 (Compare Eq Binary) (col 1 9) (op1 ToNumeric (col 0 0)) ∷ op2 (Compare Ge Binary) (col 1 3) (op1 ToNumeric (col 0 1)) ∷ op2 (Compare Le Binary) (col 1 3) (op1 ToNumeric (col 0 2)) ∷ [];
-  project = shown;
-  order = by_key;
+  project = fact2_shown;
+  order = by_two;
   names = map (λ c. c.name) row.fact2.table.columns;
   command = refl;
   plain = (refl, refl);

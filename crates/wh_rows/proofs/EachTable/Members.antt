@@ -3,8 +3,7 @@ use Rattle.std.proofs.Common.{◌≡◌, ℕ, List, [], ◌∷◌, codes, map, p
 use Rattle.std.specs.Ordering.{is_eq, eq_by_cmp, nat_cmp, ordering_then}
 use Rattle.std.specs.Cmp.Lexicographic.{slice_cmp}
 use Rattle.sqlite_value.specs.declared.value.Value.TheVariants.{Null, Int, Text}
-use Rattle.sqlite_value.specs.declared.keys.Key.{Key}
-use Rattle.sqlite_value.specs.Keys.{first_key, ascending}
+use Rattle.sqlite_value.specs.Keys.{first_key}
 use Rattle.sqlite_value.proofs.OrderLemmas.{then-Equal}
 use Rattle.sqlite_sql.specs.declared.ops.BinaryOp.TheVariants.{Compare}
 use Rattle.sqlite_sql.specs.declared.ops.CompareOp.TheVariants.{Eq}
@@ -38,6 +37,7 @@ use Rattle.wh_rows.specs.Raw.{ReadsStored, ReadsFrontStored}
 use Rattle.wh_rows.specs.Questions.{has_natural, is_of_dim}
 use Rattle.wh_rows.specs.Firsts.{last_one, ReadsFirst}
 use Rattle.wh_rows.proofs.Cast.{cast_row_own}
+use Rattle.wh_rows.proofs.ShownColumns.{member_shown, by_two}
 use Rattle.wh_rows.proofs.Keys.{and-true, equal-Nat, equal-Text, sorted-Nat, then_eq, trimmed_and}
 use Rattle.wh_rows.specs.Schema.{index}
 
@@ -115,18 +115,12 @@ remove format = record {
 
 -- ---- read, in order of key
 
-abbrev shown : List Term
-shown = col 1 1 ∷ col 1 2 ∷ col 1 3 ∷ col 1 4 ∷ []
-
-abbrev by_key : List (Term × Key)
-by_key = (col 1 1, ascending Binary) ∷ (col 1 2, ascending Binary) ∷ []
-
 pub all : (format : Format) → ReadsSome (schema_in format) row.member [] (λ r. true) texts.member.all
 unfolding understood everything
 all format = record {
   tests = [];
-  project = shown;
-  order = by_key;
+  project = member_shown;
+  order = by_two;
   names = map (λ c. c.name) row.member.table.columns;
   command = refl;
   plain = (refl, refl);
@@ -143,8 +137,8 @@ pub get : (format : Format) (k : MemberKey) → ReadsSome (schema_in format) row
 unfolding understood everything unary
 get format k = record {
   tests = op2 (Compare Eq Binary) (col 1 1) (op1 ToNumeric (col 0 0)) ∷ op2 (Compare Eq Binary) (col 1 2) (op1 ToNumeric (col 0 1)) ∷ [];
-  project = shown;
-  order = by_key;
+  project = member_shown;
+  order = by_two;
   names = map (λ c. c.name) row.member.table.columns;
   command = refl;
   plain = (refl, refl);
@@ -162,8 +156,8 @@ pub of_natural : (format : Format) (dim : Dim) (natural : List ℕ) → ReadsSom
 unfolding understood everything unary
 of_natural format dim natural = record {
   tests = op2 (Compare Eq Binary) (col 1 1) (op1 ToNumeric (col 0 0)) ∷ op2 (Compare Eq Binary) (col 1 3) (col 0 1) ∷ [];
-  project = shown;
-  order = by_key;
+  project = member_shown;
+  order = by_two;
   names = map (λ c. c.name) row.member.table.columns;
   command = refl;
   plain = (refl, refl);
@@ -181,7 +175,7 @@ pub greatest : (format : Format) (dim : Dim) → ReadsFirst (schema_in format) r
 unfolding understood everything unary
 greatest format dim = record {
   tests = op2 (Compare Eq Binary) (col 1 1) (op1 ToNumeric (col 0 0)) ∷ [];
-  project = shown;
+  project = member_shown;
   order = (col 1 1, record { collation = Binary; descending = true }) ∷ (col 1 2, record { collation = Binary; descending = true }) ∷ [];
   names = map (λ c. c.name) row.member.table.columns;
   command = refl;

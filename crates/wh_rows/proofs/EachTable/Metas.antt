@@ -2,8 +2,7 @@
 use Rattle.std.proofs.Common.{◌≡◌, ℕ, List, [], ◌∷◌, codes, map, true, ◌&&◌, refl, ◌∙◌, drop, ap, Some}
 use Rattle.std.specs.Ordering.{eq_by_cmp}
 use Rattle.sqlite_value.specs.declared.value.Value.TheVariants.{Null, Int, Text}
-use Rattle.sqlite_value.specs.declared.keys.Key.{Key}
-use Rattle.sqlite_value.specs.Keys.{first_key, ascending}
+use Rattle.sqlite_value.specs.Keys.{first_key}
 use Rattle.sqlite_value.proofs.OrderLemmas.{then-Equal, value_cmp-Text}
 use Rattle.sqlite_sql.specs.declared.ops.BinaryOp.TheVariants.{Compare}
 use Rattle.sqlite_sql.specs.declared.ops.CompareOp.TheVariants.{Eq}
@@ -30,6 +29,7 @@ use Rattle.wh_rows.specs.Keys.{bind_text, stands_at_text}
 use Rattle.wh_rows.specs.Meaning.{command_of, same_rowid, PutsOne, RemovesOne, ReadsSome, CountsAll}
 use Rattle.wh_rows.specs.Raw.{ReadsStored}
 use Rattle.wh_rows.proofs.Cast.{cast_row_own}
+use Rattle.wh_rows.proofs.ShownColumns.{meta_shown, by_text}
 use Rattle.wh_rows.proofs.Keys.{and-true, equal-Text, trimmed}
 
 -- ---- put
@@ -94,18 +94,12 @@ remove format = record {
 
 -- ---- read, in order of key
 
-abbrev shown : List Term
-shown = col 1 1 ∷ col 1 2 ∷ []
-
-abbrev by_key : List (Term × Key)
-by_key = (col 1 1, ascending Binary) ∷ []
-
 pub all : (format : Format) → ReadsSome (schema_in format) row.meta [] (λ r. true) texts.meta.all
 unfolding understood everything
 all format = record {
   tests = [];
-  project = shown;
-  order = by_key;
+  project = meta_shown;
+  order = by_text;
   names = map (λ c. c.name) row.meta.table.columns;
   command = refl;
   plain = (refl, refl);
@@ -122,8 +116,8 @@ pub get : (format : Format) (k : List ℕ) → ReadsSome (schema_in format) row.
 unfolding understood everything
 get format k = record {
   tests = op2 (Compare Eq Binary) (col 1 1) (col 0 0) ∷ [];
-  project = shown;
-  order = by_key;
+  project = meta_shown;
+  order = by_text;
   names = map (λ c. c.name) row.meta.table.columns;
   command = refl;
   plain = (refl, refl);

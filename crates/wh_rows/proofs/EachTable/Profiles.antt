@@ -3,8 +3,7 @@ use Rattle.std.proofs.Common.{◌≡◌, ℕ, List, [], ◌∷◌, codes, map, d
 use Rattle.std.specs.Ordering.{eq_by_cmp, nat_cmp}
 use Rattle.std.specs.Cmp.Lexicographic.{slice_cmp}
 use Rattle.sqlite_value.specs.declared.value.Value.TheVariants.{Null, Int, Text}
-use Rattle.sqlite_value.specs.declared.keys.Key.{Key}
-use Rattle.sqlite_value.specs.Keys.{first_key, ascending}
+use Rattle.sqlite_value.specs.Keys.{first_key}
 use Rattle.sqlite_value.proofs.OrderLemmas.{then-Equal}
 use Rattle.sqlite_sql.specs.declared.ops.BinaryOp.TheVariants.{Compare}
 use Rattle.sqlite_sql.specs.declared.ops.CompareOp.TheVariants.{Eq}
@@ -34,6 +33,7 @@ use Rattle.wh_rows.specs.Raw.{ReadsStored, ReadsFrontStored}
 use Rattle.wh_rows.specs.Questions.{has_values}
 use Rattle.wh_rows.specs.Firsts.{last_one, ReadsFirst}
 use Rattle.wh_rows.proofs.Cast.{cast_row_own}
+use Rattle.wh_rows.proofs.ShownColumns.{profile_shown, by_rowid}
 use Rattle.wh_rows.proofs.Keys.{and-true, trimmed, equal-Nat, equal-Text, sorted-Nat}
 
 -- ---- put
@@ -101,18 +101,12 @@ remove format = record {
 
 -- ---- read, in order of key
 
-abbrev shown : List Term
-shown = col 1 0 ∷ col 1 2 ∷ col 1 3 ∷ col 1 4 ∷ col 1 5 ∷ col 1 6 ∷ col 1 7 ∷ []
-
-abbrev by_key : List (Term × Key)
-by_key = (col 1 0, ascending Binary) ∷ []
-
 pub all : (format : Format) → ReadsSome (schema_in format) row.profile [] (λ r. true) texts.profile.all
 unfolding understood everything
 all format = record {
   tests = [];
-  project = shown;
-  order = by_key;
+  project = profile_shown;
+  order = by_rowid;
   names = map (λ c. c.name) row.profile.table.columns;
   command = refl;
   plain = (refl, refl);
@@ -129,8 +123,8 @@ pub get : (format : Format) (k : ℕ) → ReadsSome (schema_in format) row.profi
 unfolding understood everything
 get format k = record {
   tests = op2 (Compare Eq Binary) (col 1 0) (col 0 0) ∷ [];
-  project = shown;
-  order = by_key;
+  project = profile_shown;
+  order = by_rowid;
   names = map (λ c. c.name) row.profile.table.columns;
   command = refl;
   plain = (refl, refl);
@@ -148,7 +142,7 @@ pub greatest : (format : Format) → ReadsFirst (schema_in format) row.profile (
 unfolding understood everything
 greatest format = record {
   tests = [];
-  project = shown;
+  project = profile_shown;
   order = (col 1 0, record { collation = Binary; descending = true }) ∷ [];
   names = map (λ c. c.name) row.profile.table.columns;
   command = refl;
@@ -167,8 +161,8 @@ pub of_values : (format : Format) (values : List (List ℕ)) → ReadsSome (sche
 unfolding understood everything
 of_values format values = record {
   tests = op2 (Compare Eq Binary) (col 1 2) (col 0 0) ∷ op2 (Compare Eq Binary) (col 1 3) (col 0 1) ∷ op2 (Compare Eq Binary) (col 1 4) (col 0 2) ∷ op2 (Compare Eq Binary) (col 1 5) (col 0 3) ∷ op2 (Compare Eq Binary) (col 1 6) (col 0 4) ∷ op2 (Compare Eq Binary) (col 1 7) (col 0 5) ∷ [];
-  project = shown;
-  order = by_key;
+  project = profile_shown;
+  order = by_rowid;
   names = map (λ c. c.name) row.profile.table.columns;
   command = refl;
   plain = (refl, refl);

@@ -1,10 +1,9 @@
 -- The statements on void.
-use Rattle.std.proofs.Common.{List, [], ◌∷◌, codes, map, pos, true, ◌&&◌, refl, sym, ap₂, ◌∙◌, drop, ap}
+use Rattle.std.proofs.Common.{[], ◌∷◌, codes, map, pos, true, ◌&&◌, refl, sym, ap₂, ◌∙◌, drop, ap}
 use Rattle.std.specs.Ordering.{eq_by_cmp, nat_cmp, ordering_then}
 use Rattle.std.specs.Cmp.Lexicographic.{slice_cmp}
 use Rattle.sqlite_value.specs.declared.value.Value.TheVariants.{Null, Int, Text}
-use Rattle.sqlite_value.specs.declared.keys.Key.{Key}
-use Rattle.sqlite_value.specs.Keys.{first_key, ascending}
+use Rattle.sqlite_value.specs.Keys.{first_key}
 use Rattle.sqlite_value.proofs.OrderLemmas.{then-Equal, value_cmp-Text}
 use Rattle.sqlite_sql.specs.declared.ops.BinaryOp.TheVariants.{Compare}
 use Rattle.sqlite_sql.specs.declared.ops.CompareOp.TheVariants.{Eq}
@@ -15,7 +14,7 @@ use Rattle.sqlite_rules.specs.Edit.{next_rowid}
 use Rattle.sqlite_tied.specs.Compute.{everything}
 use Rattle.sqlite.specs.Collation.TheVariants.{Binary}
 use Rattle.sqlite.specs.Order.{column}
-use Rattle.sqlite.specs.Term.{Term, lit, col, op1, op2}
+use Rattle.sqlite.specs.Term.{lit, col, op1, op2}
 use Rattle.sqlite.specs.Listing.{listing_schema, understood}
 use Rattle.wh_rows.specs.declared.format.Format.{Format}
 use Rattle.wh_rows.specs.declared.format.Format.TheVariants.{One, Two}
@@ -28,6 +27,7 @@ use Rattle.wh_rows.specs.Keys.{bind_line, stands_at_line}
 use Rattle.wh_rows.specs.Meaning.{Means, PutsOne, RemovesOne, ReadsSome, CountsAll}
 use Rattle.wh_rows.specs.Raw.{ReadsStored}
 use Rattle.wh_rows.proofs.Cast.{cast_row_own}
+use Rattle.wh_rows.proofs.ShownColumns.{void_shown, by_two}
 use Rattle.wh_rows.proofs.Keys.{and-true, equal-Nat, equal-Text, sorted-Nat, then_eq, trimmed_and}
 
 -- ---- put
@@ -75,18 +75,12 @@ remove = record {
 
 -- ---- read, in order of key
 
-abbrev shown : List Term
-shown = col 1 1 ∷ col 1 2 ∷ col 1 3 ∷ []
-
-abbrev by_key : List (Term × Key)
-by_key = (col 1 1, ascending Binary) ∷ (col 1 2, ascending Binary) ∷ []
-
 pub all : ReadsSome (schema_in Two) row.void [] (λ r. true) texts.void.all
 unfolding understood everything
 all = record {
   tests = [];
-  project = shown;
-  order = by_key;
+  project = void_shown;
+  order = by_two;
   names = map (λ c. c.name) row.void.table.columns;
   command = refl;
   plain = (refl, refl);
@@ -103,8 +97,8 @@ pub get : (k : LineKey) → ReadsSome (schema_in Two) row.void (bind_line k) (λ
 unfolding understood everything unary
 get k = record {
   tests = op2 (Compare Eq Binary) (col 1 1) (col 0 0) ∷ op2 (Compare Eq Binary) (col 1 2) (op1 ToNumeric (col 0 1)) ∷ [];
-  project = shown;
-  order = by_key;
+  project = void_shown;
+  order = by_two;
   names = map (λ c. c.name) row.void.table.columns;
   command = refl;
   plain = (refl, refl);

@@ -211,28 +211,15 @@ fn push_more<S: Alter>(
     }
 }
 
-const ALL: [Table; 10] = [
-    Table::Meta,
-    Table::Command,
-    Table::Member,
-    Table::Change,
-    Table::Product,
-    Table::Store,
-    Table::Customer,
-    Table::Profile,
-    Table::Calendar,
-    Table::Fact,
-];
-
 /// All ten tables, each after its name.
 pub fn push_tables<S: Alter>(
     alloc: Global,
     tables: &mut Tables<S>,
     out: &mut String,
 ) -> Result<(), Trouble> {
-    for table in ALL {
+    for table in &Table::ALL[..10] {
         push_line(out, table.name())?;
-        push_table(alloc, tables, table, out)?;
+        push_table(alloc, tables, *table, out)?;
     }
     Ok(())
 }
