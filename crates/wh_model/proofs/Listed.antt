@@ -1,5 +1,5 @@
 -- The rows of a finite map that pass a test, in the order of their keys.
-use Rattle.std.proofs.Common.{◌≡◌, T, Bool, true, false, cond, ◌&&◌, ◌||◌, List, [], ◌∷◌, ◌++◌, map, filter, length, take, reverse, Option, None, Some, refl, sym, ◌∙◌, ap, subst, arith, inl, inr, Ordering, Less, Equal, ℕ, zero, suc, ◌+◌, ◌<◌, ◌≤◌}
+use Rattle.std.proofs.Common.{◌≡◌, T, Bool, true, false, cond, ◌||◌, List, [], ◌∷◌, ◌++◌, map, filter, length, take, reverse, Option, None, Some, refl, sym, ◌∙◌, ap, subst, arith, inl, inr, Ordering, Less, Equal, ℕ, zero, suc, ◌+◌, ◌<◌, ◌≤◌}
 use Rattle.std.specs.Prelude.{filter_map}
 use Rattle.std.specs.List.{AllByRecursion, list_any, range_with_len, cons_option}
 use Rattle.std.specs.Ordering.{is_lt, is_eq, eq_by_cmp, nat_cmp}

@@ -18,7 +18,6 @@ use Rattle.wh_history.specs.declared.rows.DimRow.{DimRow}
 use Rattle.wh_history.proofs.Effective.{found_row, days_in}
 use Rattle.wh_history.proofs.Shown.{get_column, span_found, shows_the_day}
 use Rattle.wh_history.proofs.Spans.{Follows, InOrder}
-use Rattle.wh_model.proofs.ValidRows.{last_is_day}
 
 pub no_zero : (place : ℕ) → 0 + place ≡ place
 no_zero place = omega arith

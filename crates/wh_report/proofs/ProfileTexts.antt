@@ -1,5 +1,5 @@
 -- What the profiles show: the values of a customer on the day of a sale, and the latest ones.
-use Rattle.std.proofs.Common.{◌≡◌, ℕ, zero, suc, ◌+◌, ◌<◌, Bool, true, false, cond, List, [], ◌∷◌, map, Option, Some, None, refl, sym, ◌∙◌, ap, subst, arith}
+use Rattle.std.proofs.Common.{◌≡◌, ℕ, zero, suc, ◌<◌, Bool, true, false, cond, List, [], ◌∷◌, map, Option, Some, None, refl, sym, ◌∙◌, ap, subst, arith}
 use Rattle.std.specs.Prelude.{slice_get, option_map, unwrap_or, bytes_eq, filter}
 use Rattle.std.specs.Option.{option_and_then}
 use Rattle.std.specs.List.{list_any, AllByRecursion}

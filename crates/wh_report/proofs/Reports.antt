@@ -9,7 +9,7 @@ use Rattle.std.proofs.lemmas.Int.{ints}
 use Rattle.std.proofs.lemmas.Cmp.{nat_list_cmp_total}
 use Rattle.std.proofs.lemmas.List.Elements.{filter-append}
 use Rattle.wh_report.specs.Sums.{Measured, Figures}
-use Rattle.wh_report.specs.Summary.{Sold, Summed, by_bytes, sum_of, totals, sold_as, labels_with, labels, summed}
+use Rattle.wh_report.specs.Summary.{Sold, by_bytes, sum_of, totals, sold_as, labels_with, labels, summed}
 use Rattle.wh_report.specs.Text.{line_text, lines_text, summed_text, heading, report_text}
 use Rattle.wh_report.specs.Laws.{EndsWith, total_line, unlabelled}
 use Rattle.wh_report.proofs.Lines.{summed_of, same_label, turned, lines_by, of_label}
