@@ -14,7 +14,7 @@ use Rattle.wh_policy.specs.declared.policy.Policy.{Policy}
 use Rattle.wh_policy.specs.declared.record.DimensionRecord.{DimensionRecord}
 use Rattle.wh_batch.specs.declared.fault.FaultKind.{FaultKind}
 use Rattle.wh_batch.specs.declared.fault.FaultKind.TheVariants.{BadKey, BadDay, BadValue}
-use Rattle.wh_batch.specs.declared.kind.Format.TheVariants.{One}
+use Rattle.wh_policy.specs.declared.format.Format.TheVariants.{One}
 use Rattle.wh_batch.specs.Fields.{or_fault, key_at, day_at, last_effective_day, effective_day_at, value_at, values_at}
 use Rattle.wh_batch.specs.Layouts.{dimension_record, dimension_layout, dimension_records}
 use Rattle.wh_batch.proofs.GoodLemmas.{bind_ok, cond_ok, reads_batches}

@@ -17,7 +17,7 @@ use Rattle.wh_batch.specs.Layouts.{sale_record, sale_key, sales_layout, sale_rec
 use Rattle.wh_batch.specs.Numbers.{read_line, read_quantity, read_amount, line_at, quantity_at, amount_at}
 use Rattle.wh_batch.specs.declared.fault.FaultKind.{FaultKind}
 use Rattle.wh_batch.specs.declared.fault.FaultKind.TheVariants.{BadDay, BadNumber}
-use Rattle.wh_batch.specs.declared.kind.Format.TheVariants.{One}
+use Rattle.wh_policy.specs.declared.format.Format.TheVariants.{One}
 use Rattle.wh_batch.proofs.GoodLemmas.{bind_ok, reads_batches}
 use Rattle.wh_batch.proofs.GrammarLemmas.{reads_lines, reads_quantities, reads_amounts}
 use Rattle.wh_batch.proofs.NumberLemmas.{digits-bound}

@@ -53,6 +53,10 @@ line_at field = or_fault BadNumber (read_line field)
 abbrev pub quantity_at : List ℕ → Result ℤ FaultKind
 quantity_at field = or_fault BadNumber (read_quantity field)
 
+-- the discount that a field writes, without a sign
+abbrev pub discount_at : List ℕ → Result ℕ FaultKind
+discount_at field = or_fault BadNumber (read_hundredths field)
+
 -- the amount that a field writes
 abbrev pub amount_at : List ℕ → Result ℤ FaultKind
 amount_at field = or_fault BadNumber (read_amount field)

@@ -12,7 +12,7 @@ use Rattle.wh_batch.specs.Batch.{Layout, batch_of}
 use Rattle.wh_batch.specs.Layouts.{dimension_layout, dimension_records, sales_layout, sale_records}
 use Rattle.wh_batch.specs.declared.kind.CommandKind.TheVariants.{Batch, Migration}
 use Rattle.wh_batch.specs.declared.kind.Kind.TheVariants.{Dimension, Sales}
-use Rattle.wh_batch.specs.declared.kind.Format.TheVariants.{One}
+use Rattle.wh_policy.specs.declared.format.Format.TheVariants.{One}
 use Rattle.wh_program.specs.Answer.{answer_under, AnswersTrial}
 use Rattle.wh_program.specs.Inputs.{Files, up_to, batch_limit, policy_limit, manifest_limit, manifest_part}
 use Rattle.wh_program.specs.Warehouse.{Told}

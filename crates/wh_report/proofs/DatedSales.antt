@@ -19,7 +19,7 @@ use Rattle.wh_policy.specs.declared.record.DimensionRecord.{DimensionRecord}
 use Rattle.wh_policy.specs.declared.record.SaleRecord.{SaleRecord}
 use Rattle.wh_batch.specs.Layouts.{sales_layout, sale_records}
 use Rattle.wh_batch.specs.declared.fault.BatchFault.{BatchFault}
-use Rattle.wh_batch.specs.declared.kind.Format.TheVariants.{One}
+use Rattle.wh_policy.specs.declared.format.Format.TheVariants.{One}
 use Rattle.wh_batch.specs.declared.kind.Kind.TheVariants.{Dimension, Sales}
 use Rattle.wh_batch.proofs.GoodLemmas.{reads_batches}
 use Rattle.wh_history.specs.Accepted.{Accepted, Content, Governs, Describes, Sells, governed, policy_after, sold, sold_by}

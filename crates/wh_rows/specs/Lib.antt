@@ -1,13 +1,13 @@
 pub mod Names
 pub mod Limits
 pub mod Types
-pub mod Formats
 pub mod Schema
 pub mod Holds
 pub mod Keys
 pub mod Texts
 pub mod Rows
 pub mod Tables
+pub mod Facts
 pub mod Statements
 pub mod OneTable
 pub mod Meaning
