@@ -41,7 +41,7 @@ of_batch (Ok read) = Ok read
 of_batch (Err fault) = Err (BadBatch fault)
 
 abbrev pub records_told : Dim → Policy → List ℕ → Result (List DimensionRecord) Refused
-records_told dim policy bytes = of_batch (dimension_records dim policy One bytes)
+records_told dim policy bytes = of_batch (dimension_records dim policy bytes)
 
 abbrev pub sales_told : Policy → List ℕ → Result (List SaleRecord) Refused
 sales_told policy bytes = of_batch (sale_records policy One bytes)

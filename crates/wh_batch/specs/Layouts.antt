@@ -74,10 +74,14 @@ undiscounted (ticket ∷ line ∷ day ∷ store ∷ product ∷ customer ∷ qua
   Ok (record { ticket = ticket; line = line; day = day; store = store; product = product; customer = customer; quantity = quantity; amount = amount; cost = cost; discount = 0 })
 undiscounted _ = Err WrongLength
 
+-- the tenth field, where there is one
+abbrev pub tenth : List (List ℕ) → List ℕ
+tenth fields = unwrap_or (field_at fields 9) []
+
 -- the discount among the fields: none in the first format, and the tenth in the second
 unfoldable pub discount_in : Format → List (List ℕ) → Result ℕ FaultKind
 discount_in One fields = Ok 0
-discount_in Two fields = discount_at (unwrap_or (field_at fields 9) [])
+discount_in Two fields = discount_at (tenth fields)
 
 -- the nine fields, and in the second format a discount behind them
 unfoldable pub sale_record : Format → List (List ℕ) → Result SaleRecord FaultKind

@@ -64,13 +64,13 @@ batch_so layout bytes = elim (past_or_whole batch_limit bytes) [
   | inr whole ↦ rw whole refl
 ]
 
-dimension_so : (dim : Dim) (policy : Policy) (bytes : List ℕ) → dimension_records dim policy One (take (suc batch_limit) bytes) ≡ dimension_records dim policy One bytes
+dimension_so : (dim : Dim) (policy : Policy) (bytes : List ℕ) → dimension_records dim policy (take (suc batch_limit) bytes) ≡ dimension_records dim policy bytes
 unfolding dimension_records
 dimension_so dim policy bytes = batch_so (dimension_layout (attributes_of policy dim)) bytes
 
 sales_so : (policy : Policy) (bytes : List ℕ) → sale_records policy One (take (suc batch_limit) bytes) ≡ sale_records policy One bytes
 unfolding sale_records
-sales_so policy bytes = batch_so (sales_layout policy.years) bytes
+sales_so policy bytes = batch_so (sales_layout One policy.years) bytes
 
 pub trials_so : TrialsAreReadSo
 trials_so dim policy bytes = rw (dimension_so dim policy bytes) refl

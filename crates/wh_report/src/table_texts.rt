@@ -14,7 +14,7 @@ use std::alloc::{AllocError, Global};
 use wh_day::{DateRow, Value, Values};
 use wh_history::{DimRow, Fact};
 use wh_rows::{
-    ChangeRow, CommandRow, Fact2, MemberRow, MetaRow, ProfileRow, StoredTable, VoidRow, dim_number,
+    ChangeRow, CommandRow, MemberRow, MetaRow, ProfileRow, StoredTable, VoidRow, dim_number,
     tables,
 };
 
@@ -330,8 +330,8 @@ impl DumpedTable for tables::Fact2 {
         )
     }
 
-    fn fields(alloc: Global, row: &Fact2, fields: &mut StringRecord) -> Result<(), AllocError> {
-        tables::Fact::fields(alloc, &row.fact, fields)?;
+    fn fields(alloc: Global, row: &Fact, fields: &mut StringRecord) -> Result<(), AllocError> {
+        tables::Fact::fields(alloc, row, fields)?;
         push_number(fields, row.discount)
     }
 }

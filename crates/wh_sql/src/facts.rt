@@ -66,7 +66,7 @@ impl Facts for tables::Fact2 {
     ghost use Rattle.wh_rows.proofs.EachTable.Facts2.{of_sales_between_in, of_sales_between_stored_in};
     ghost use Rattle.wh_rows.specs.Texts.{sales_between2};
 
-    ghost fact = { λ row. row.fact };
+    ghost fact = { λ row. row };
 
     ghost sales_means = { sales_between2 };
 

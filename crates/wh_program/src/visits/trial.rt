@@ -10,7 +10,7 @@ use crate::limits::{BATCH_LIMIT, POLICY_LIMIT};
 use crate::lines::answer::{Answer, Status};
 use crate::lines::{bad_policy, batch_line, no_file};
 use std::alloc::{AllocError, Global};
-use wh_batch::{Format, dimension_records};
+use wh_batch::dimension_records;
 use wh_day::ParseError;
 use wh_history::trial_table;
 use wh_policy::{Dim, Policy};
@@ -25,7 +25,7 @@ fn table_answer(
 ) -> Result<Answer, AllocError>
     ensures { IfOk result (λ answer. answer ≡ table_answer (trial_rows dim policy.now batch.now)) }
 {
-    match dimension_records(alloc, dim, policy, Format::One, batch) {
+    match dimension_records(alloc, dim, policy, batch) {
         Ok(records) => {
             let rows = trial_table(alloc, policy, dim, records.as_slice())?;
             let table = dimension_text(alloc, &rows)?;
