@@ -14,7 +14,6 @@ use Rattle.wh_policy.specs.declared.policy.Policy.{Policy}
 use Rattle.wh_policy.specs.declared.record.DimensionRecord.{DimensionRecord}
 use Rattle.wh_batch.specs.declared.fault.FaultKind.{FaultKind}
 use Rattle.wh_batch.specs.declared.fault.FaultKind.TheVariants.{BadKey, BadDay, BadValue}
-use Rattle.wh_batch.specs.declared.kind.Format.TheVariants.{One}
 use Rattle.wh_batch.specs.Fields.{or_fault, key_at, day_at, last_effective_day, effective_day_at, value_at, values_at}
 use Rattle.wh_batch.specs.Layouts.{dimension_record, dimension_layout, dimension_records}
 use Rattle.wh_batch.proofs.GoodLemmas.{bind_ok, cond_ok, reads_batches}
@@ -99,14 +98,14 @@ all_read {R} read P so (fields ∷ rows) (entry ∷ entries) each =
     (so fields entry here, all_read read P so rows entries rest)
 
 pub good_records : (dim : Dim) (policy : Policy) (bytes : List ℕ) (records : List DimensionRecord) → length (attributes_of policy dim) ≤ 6
-    → dimension_records dim policy One bytes ≡ Ok records → AllByRecursion IsGoodRecord records
+    → dimension_records dim policy bytes ≡ Ok records → AllByRecursion IsGoodRecord records
 unfolding dimension_records
 good_records dim policy bytes records six h =
     let batch = (reads_batches (dimension_layout (attributes_of policy dim)) bytes records).0 h in
     all_read (dimension_record (length (attributes_of policy dim))) IsGoodRecord (λ fields r. good_record _ fields r six) batch.rows records batch.each
 
 -- and a batch has few
-pub few_records : (dim : Dim) (policy : Policy) (bytes : List ℕ) (records : List DimensionRecord) → dimension_records dim policy One bytes ≡ Ok records → length records ≤ 5000
+pub few_records : (dim : Dim) (policy : Policy) (bytes : List ℕ) (records : List DimensionRecord) → dimension_records dim policy bytes ≡ Ok records → length records ≤ 5000
 unfolding dimension_records
 few_records dim policy bytes records h =
     let layout = dimension_layout (attributes_of policy dim) in

@@ -1,5 +1,5 @@
 -- Each sale of a batch that is read is good, and no two of them have one line.
-use Rattle.std.proofs.Common.{◌≡◌, ℕ, zero, suc, ◌^◌, ◌≤◌, ◌<◌, ℤ, pos, neg_ℤ, true, false, List, [], ◌∷◌, length, map, Option, Some, Result, Ok, refl, sym, ap, ◌∙◌, subst, arith}
+use Rattle.std.proofs.Common.{◌≡◌, ℕ, zero, suc, ◌^◌, ◌≤◌, ◌<◌, ℤ, pos, neg_ℤ, Bool, true, false, cond, List, [], ◌∷◌, length, map, take, Option, Some, Result, Ok, Err, refl, sym, ap, ◌∙◌, subst, arith}
 use Rattle.std.specs.Prelude.{unsigned_abs}
 use Rattle.std.specs.List.{AllByRecursion, IsDistinct}
 use Rattle.std.proofs.lemmas.Bool.{le-leb}
@@ -13,17 +13,18 @@ use Rattle.wh_policy.specs.declared.record.SaleRecord.{SaleRecord}
 use Rattle.wh_batch.specs.Batch.{is_same_key}
 use Rattle.wh_batch.specs.Fields.{key_at, customer_at, day_at}
 use Rattle.wh_batch.specs.Grammar.{WritesDigits, WritesLine, WritesHundredths, WritesSigned}
-use Rattle.wh_batch.specs.Layouts.{sale_record, sale_key, sales_layout, sale_records}
-use Rattle.wh_batch.specs.Numbers.{read_line, read_quantity, read_amount, line_at, quantity_at, amount_at}
+use Rattle.wh_batch.specs.Layouts.{undiscounted, discount_in, tenth, sale_record, sale_key, sales_layout, sale_records}
+use Rattle.wh_batch.specs.Numbers.{read_hundredths, read_line, read_quantity, read_amount, line_at, quantity_at, amount_at}
 use Rattle.wh_batch.specs.declared.fault.FaultKind.{FaultKind}
-use Rattle.wh_batch.specs.declared.fault.FaultKind.TheVariants.{BadDay, BadNumber}
-use Rattle.wh_batch.specs.declared.kind.Format.TheVariants.{One}
+use Rattle.wh_batch.specs.declared.fault.FaultKind.TheVariants.{BadDay, BadNumber, WrongLength}
+use Rattle.wh_policy.specs.declared.format.Format.{Format}
+use Rattle.wh_policy.specs.declared.format.Format.TheVariants.{One, Two}
 use Rattle.wh_batch.proofs.GoodLemmas.{bind_ok, reads_batches}
-use Rattle.wh_batch.proofs.GrammarLemmas.{reads_lines, reads_quantities, reads_amounts}
+use Rattle.wh_batch.proofs.GrammarLemmas.{reads_hundredths, reads_lines, reads_quantities, reads_amounts}
 use Rattle.wh_batch.proofs.NumberLemmas.{digits-bound}
 use Rattle.wh_history.specs.Accepted.{member_of_sale}
 use Rattle.wh_history.proofs.Basics.{some_is}
-use Rattle.wh_rows.specs.Types.{is_key, is_line, is_measure}
+use Rattle.wh_rows.specs.Types.{is_discount, is_key, is_line, is_measure}
 use Rattle.wh_model.specs.Sound.{IsGoodSale, same_line}
 use Rattle.wh_admission.proofs.GoodRecords.{read_ok, good_key, all_read}
 use Rattle.wh_model.proofs.SameLines.{same_either}
@@ -91,9 +92,9 @@ sale_read s = Ok s
 read_is : (x y : SaleRecord) → sale_read x ≡ sale_read y → x ≡ y
 read_is x y h = cc
 
-good_sale : (fields : List (List ℕ)) (s : SaleRecord) → sale_record fields ≡ Ok s → IsGoodSale s
-unfolding sale_record
-good_sale (ticket ∷ line ∷ day ∷ store ∷ product ∷ customer ∷ quantity ∷ amount ∷ cost ∷ []) s h =
+good_undiscounted : (fields : List (List ℕ)) (s : SaleRecord) → undiscounted fields ≡ Ok s → IsGoodSale s
+unfolding undiscounted
+good_undiscounted (ticket ∷ line ∷ day ∷ store ∷ product ∷ customer ∷ quantity ∷ amount ∷ cost ∷ []) s h =
     let (ticket_key, ticket_is, h1) = bind_ok (key_at 20 ticket) _ s h in
     let (number, line_is, h2) = bind_ok (line_at line) _ s h1 in
     let (sold_on, day_is, h3) = bind_ok (day_at day) _ s h2 in
@@ -103,7 +104,7 @@ good_sale (ticket ∷ line ∷ day ∷ store ∷ product ∷ customer ∷ quanti
     let (pieces, quantity_is, h7) = bind_ok (quantity_at quantity) _ s h6 in
     let (paid, amount_is, h8) = bind_ok (amount_at amount) _ s h7 in
     let (spent, cost_is, h9) = bind_ok (amount_at cost) _ s h8 in
-    let made : SaleRecord = record { ticket = ticket_key; line = number; day = sold_on; store = store_key; product = product_key; customer = customer_is; quantity = pieces; amount = paid; cost = spent } in
+    let made : SaleRecord = record { ticket = ticket_key; line = number; day = sold_on; store = store_key; product = product_key; customer = customer_is; quantity = pieces; amount = paid; cost = spent; discount = 0 } in
     let e : made ≡ s = read_is made s h9 in
     rw (← e) (record {
       ticket = good_key 20 ticket ticket_key ticket_is;
@@ -113,21 +114,73 @@ good_sale (ticket ∷ line ∷ day ∷ store ∷ product ∷ customer ∷ quanti
       quantity = good_quantity quantity pieces quantity_is;
       amount = good_amount amount paid amount_is;
       cost = good_amount cost spent cost_is;
+      discount = refl;
     })
-good_sale _ s h = absurd cc
+good_undiscounted _ s h = absurd cc
+
+not_wrong : (wrong : Bool) (read : Result SaleRecord FaultKind) (s : SaleRecord) → cond wrong (Err WrongLength) read ≡ Ok s → read ≡ Ok s
+not_wrong true read s h = absurd cc
+not_wrong false read s h = h
+
+-- a sale is what its nine fields say, with the discount of its format
+discounted : (format : Format) (fields : List (List ℕ)) (s : SaleRecord) → sale_record format fields ≡ Ok s
+    → (sale : SaleRecord) × (discount : ℕ) × (undiscounted (take 9 fields) ≡ Ok sale) × (discount_in format fields ≡ Ok discount) × (record sale { discount = discount } ≡ s)
+unfolding sale_record
+discounted format fields s h =
+    let (sale, sale_is, rest) = bind_ok (undiscounted (take 9 fields)) _ s (not_wrong _ _ s h) in
+    let (discount, discount_is, last) = bind_ok (discount_in format fields) _ s rest in
+    (sale, discount, sale_is, discount_is, read_is (record sale { discount = discount }) s last)
+
+good_discount : (format : Format) (fields : List (List ℕ)) (discount : ℕ) → discount_in format fields ≡ Ok discount → is_discount discount ≡ true
+unfolding discount_in
+good_discount One fields discount h = let none : 0 ≡ discount = cc in rw (← none) refl
+good_discount Two fields discount h =
+    let field = tenth fields in
+    le-leb discount 999999999 (few_hundredths field discount ((reads_hundredths field discount).0 (read_ok BadNumber (read_hundredths field) discount h)))
+
+-- in the first format there is none
+no_discount : (fields : List (List ℕ)) (discount : ℕ) → discount_in One fields ≡ Ok discount → discount ≡ 0
+unfolding discount_in
+no_discount fields discount h = let none : 0 ≡ discount = cc in sym none
+
+good_sale : (format : Format) (fields : List (List ℕ)) (s : SaleRecord) → sale_record format fields ≡ Ok s → IsGoodSale s
+good_sale format fields s h =
+    let (sale, discount, sale_is, discount_is, e) = discounted format fields s h in
+    let good = good_undiscounted (take 9 fields) sale sale_is in
+    rw (← e) (record {
+      ticket = good.ticket;
+      line = good.line;
+      day = good.day;
+      members = good.members;
+      quantity = good.quantity;
+      amount = good.amount;
+      cost = good.cost;
+      discount = good_discount format fields discount discount_is;
+    })
+
+undiscounted_sale : (fields : List (List ℕ)) (s : SaleRecord) → sale_record One fields ≡ Ok s → s.discount ≡ 0
+undiscounted_sale fields s h =
+    let (sale, discount, sale_is, discount_is, e) = discounted One fields s h in
+    rw (← e) (no_discount fields discount discount_is)
 
 -- ---- a batch of sales
 
-pub good_sales : (policy : Policy) (bytes : List ℕ) (sales : List SaleRecord) → sale_records policy One bytes ≡ Ok sales → AllByRecursion IsGoodSale sales
+pub good_sales : (policy : Policy) (format : Format) (bytes : List ℕ) (sales : List SaleRecord) → sale_records policy format bytes ≡ Ok sales → AllByRecursion IsGoodSale sales
 unfolding sale_records
-good_sales policy bytes sales h =
-    let batch = (reads_batches (sales_layout policy.years) bytes sales).0 h in
-    all_read sale_record IsGoodSale good_sale batch.rows sales batch.each
+good_sales policy format bytes sales h =
+    let batch = (reads_batches (sales_layout format policy.years) bytes sales).0 h in
+    all_read (sale_record format) IsGoodSale (good_sale format) batch.rows sales batch.each
 
-pub few_sales : (policy : Policy) (bytes : List ℕ) (sales : List SaleRecord) → sale_records policy One bytes ≡ Ok sales → length sales ≤ 5000
+pub none_discounted : (policy : Policy) (bytes : List ℕ) (sales : List SaleRecord) → sale_records policy One bytes ≡ Ok sales → AllByRecursion (λ s. s.discount ≡ 0) sales
 unfolding sale_records
-few_sales policy bytes sales h =
-    let layout = sales_layout policy.years in
+none_discounted policy bytes sales h =
+    let batch = (reads_batches (sales_layout One policy.years) bytes sales).0 h in
+    all_read (sale_record One) (λ s. s.discount ≡ 0) undiscounted_sale batch.rows sales batch.each
+
+pub few_sales : (policy : Policy) (format : Format) (bytes : List ℕ) (sales : List SaleRecord) → sale_records policy format bytes ≡ Ok sales → length sales ≤ 5000
+unfolding sale_records
+few_sales policy format bytes sales h =
+    let layout = sales_layout format policy.years in
     let batch = (reads_batches layout bytes sales).0 h in
     let as_many : length batch.rows ≡ length sales = sym (length-map batch.rows layout.read) ∙ ap length batch.each ∙ length-map sales (λ (s : SaleRecord). Ok s) in
     omega (arith, as_many, batch.few)
@@ -141,6 +194,6 @@ unfolding IsDistinct
 each_once [] once = tt
 each_once (s ∷ sales) once = (none_like s sales once.0, each_once sales once.1)
 
-pub sales_once : (policy : Policy) (bytes : List ℕ) (sales : List SaleRecord) → sale_records policy One bytes ≡ Ok sales → IsDistinct same_line sales
+pub sales_once : (policy : Policy) (format : Format) (bytes : List ℕ) (sales : List SaleRecord) → sale_records policy format bytes ≡ Ok sales → IsDistinct same_line sales
 unfolding sale_records
-sales_once policy bytes sales h = let batch = (reads_batches (sales_layout policy.years) bytes sales).0 h in each_once sales batch.distinct
+sales_once policy format bytes sales h = let batch = (reads_batches (sales_layout format policy.years) bytes sales).0 h in each_once sales batch.distinct

@@ -14,7 +14,7 @@ use Rattle.wh_rows.specs.Holds.{Layout}
 use Rattle.wh_rows.specs.Questions.{has_id}
 use Rattle.wh_rows.specs.Raw.{Stored, IsLastOf, AreRows}
 use Rattle.wh_rows.specs.Rows as layout
-use Rattle.wh_rows.specs.declared.format.Format.TheVariants.{One}
+use Rattle.wh_policy.specs.declared.format.Format.TheVariants.{One}
 use Rattle.wh_rows.specs.declared.rows.CommandRow.{CommandRow}
 use Rattle.wh_rows.specs.declared.table.Table.TheVariants as table
 use Rattle.wh_model.proofs.FoundPlaces.{same_text_is}

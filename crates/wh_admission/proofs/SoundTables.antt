@@ -6,7 +6,7 @@ use Rattle.wh_policy.specs.declared.attribute.Dim.TheVariants.{Product as Produc
 use Rattle.wh_history.specs.Accepted.{Accepted}
 use Rattle.wh_history.specs.Tables.{Limits, dimension_row}
 use Rattle.wh_model.specs.Defined.{AreOf, meta_at, command_at, member_at, change_at, profile_at, calendar_at, fact_at}
-use Rattle.wh_rows.specs.declared.format.Format.TheVariants.{One}
+use Rattle.wh_policy.specs.declared.format.Format.TheVariants.{One}
 use Rattle.wh_rows.specs.Holds.{Layout}
 use Rattle.wh_rows.specs.Raw.{Stored}
 use Rattle.wh_rows.specs.Rows as row

@@ -15,7 +15,7 @@ use Rattle.wh_policy.specs.declared.record.SaleRecord.{SaleRecord}
 use Rattle.wh_batch.specs.Layouts.{dimension_records, sale_records}
 use Rattle.wh_batch.specs.declared.fault.BatchFault.{BatchFault}
 use Rattle.wh_batch.specs.declared.kind.Kind.TheVariants.{Dimension, Sales}
-use Rattle.wh_batch.specs.declared.kind.Format.TheVariants.{One}
+use Rattle.wh_policy.specs.declared.format.Format.TheVariants.{One}
 use Rattle.wh_batch.proofs.GoodLemmas.{bind_ok, cond_ok}
 use Rattle.wh_history.specs.Accepted.{Accepted, Content, Governs, Describes, Sells, policy_after, described, described_by, sold, sold_by, same_dim}
 use Rattle.wh_history.specs.Tables.{Limits}
@@ -38,7 +38,7 @@ use Rattle.wh_admission.specs.declared.command.Limit.TheVariants.{Commands, Chan
 use Rattle.wh_admission.proofs.Migrated.{HasSix, policy_taken, policy_with, still_governed, still_six}
 use Rattle.wh_admission.proofs.Repeats.{first_or, new_id}
 use Rattle.wh_admission.proofs.GoodRecords.{good_records, few_records}
-use Rattle.wh_admission.proofs.GoodSales.{good_sales, few_sales, sales_once}
+use Rattle.wh_admission.proofs.GoodSales.{good_sales, none_discounted, few_sales, sales_once}
 
 -- ---- ids
 
@@ -99,6 +99,7 @@ pub record IsGoodContent (content : Content) : Type 0 where
   pub records : (dim : Dim) → AllByRecursion IsGoodRecord (described_by dim content)
   pub sales : AllByRecursion IsGoodSale (sold_by content)
   pub lines : IsDistinct same_line (sold_by content)
+  pub undiscounted : AllByRecursion (λ s. s.discount ≡ 0) (sold_by content)
 
 all_if : (P : DimensionRecord → Type 0) (b : Bool) (records : List DimensionRecord) → AllByRecursion P records → AllByRecursion P (cond b records [])
 all_if P true records all = all
@@ -165,6 +166,7 @@ module _ (limits : Limits) (commands : List Accepted) (c : Accepted) (accepted :
         records = λ other. rw (described-last other commands c) (all_append IsGoodRecord (described other commands) (described_by other c.content) (accepted.records other) (good.records other));
         sales = rw sold_more (all_append IsGoodSale (sold commands) (sold_by c.content) accepted.sales good.sales);
         lines = rw sold_more (lines_joined (sold commands) (sold_by c.content) accepted.lines good.lines lines);
+        undiscounted = rw sold_more (all_append (λ (s : SaleRecord). s.discount ≡ 0) (sold commands) (sold_by c.content) accepted.undiscounted good.undiscounted);
       }
 
 -- ---- the answer's cases
@@ -234,7 +236,7 @@ well : (kind : CommandKind) (policy : Policy) (bytes : List ℕ) (content : Cont
 unfolding IsDistinct
 well (Batch (Dimension dim)) policy bytes content six told =
     let (records, given, last) = bind_ok (records_told dim policy bytes) (λ records. Ok (Describes dim records)) content told in
-    let read = batch_ok (dimension_records dim policy One bytes) records given in
+    let read = batch_ok (dimension_records dim policy bytes) records given in
     let e : Describes dim records ≡ content = cc in
     let good = good_records dim policy bytes records (six dim) read in
     rw (← e) (record {
@@ -244,6 +246,7 @@ well (Batch (Dimension dim)) policy bytes content six told =
         records = λ other. all_if IsGoodRecord (same_dim other dim) records good;
         sales = tt;
         lines = tt;
+        undiscounted = tt;
       };
       gives = no_policy dim;
     })
@@ -254,10 +257,11 @@ well (Batch Sales) policy bytes content six told =
     rw (← e) (record {
       good = record {
         few = omega arith;
-        few_sales = few_sales policy bytes sales read;
+        few_sales = few_sales policy One bytes sales read;
         records = λ other. tt;
-        sales = good_sales policy bytes sales read;
-        lines = sales_once policy bytes sales read;
+        sales = good_sales policy One bytes sales read;
+        lines = sales_once policy One bytes sales read;
+        undiscounted = none_discounted policy bytes sales read;
       };
       gives = refl;
     })
@@ -266,7 +270,7 @@ well Migration policy bytes content six told =
     let e : Governs newer ≡ content = cc in
     let taken = policy_taken policy bytes newer read in
     rw (← e) (record {
-      good = record { few = omega arith; few_sales = omega arith; records = λ other. tt; sales = tt; lines = tt };
+      good = record { few = omega arith; few_sales = omega arith; records = λ other. tt; sales = tt; lines = tt; undiscounted = tt };
       gives = (refl, taken.written);
     })
 

@@ -12,7 +12,7 @@ use Rattle.wh_policy.specs.declared.record.SaleRecord.{SaleRecord}
 use Rattle.wh_batch.specs.Kind.{command_word}
 use Rattle.wh_batch.specs.Layouts.{dimension_records, sale_records}
 use Rattle.wh_batch.specs.declared.kind.Kind.TheVariants.{Dimension, Sales}
-use Rattle.wh_batch.specs.declared.kind.Format.TheVariants.{One}
+use Rattle.wh_policy.specs.declared.format.Format.TheVariants.{One}
 use Rattle.wh_batch.specs.declared.fault.BatchFault.{BatchFault}
 use Rattle.wh_history.specs.Keys.{place}
 use Rattle.wh_history.specs.Accepted.{Accepted, Content, Governs, Describes, Sells, policy_after, sold, sold_by, records_by, placeholders_by}
@@ -41,7 +41,7 @@ of_batch (Ok read) = Ok read
 of_batch (Err fault) = Err (BadBatch fault)
 
 abbrev pub records_told : Dim → Policy → List ℕ → Result (List DimensionRecord) Refused
-records_told dim policy bytes = of_batch (dimension_records dim policy One bytes)
+records_told dim policy bytes = of_batch (dimension_records dim policy bytes)
 
 abbrev pub sales_told : Policy → List ℕ → Result (List SaleRecord) Refused
 sales_told policy bytes = of_batch (sale_records policy One bytes)

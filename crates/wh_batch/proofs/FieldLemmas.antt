@@ -6,9 +6,7 @@ use Rattle.wh_day.specs.declared.error.ParseError.{ParseError}
 use Rattle.wh_day.specs.Reading.{Fails}
 use Rattle.wh_day.proofs.Loops.{with_front, with_front-cons, with_front-nil, with_front-fails}
 use Rattle.wh_batch.specs.declared.fault.FaultKind.{FaultKind}
-use Rattle.wh_batch.specs.declared.fault.FaultKind.TheVariants.{WrongLength}
 use Rattle.wh_batch.specs.Fields.{value_at, values_at}
-use Rattle.wh_batch.specs.Layouts.{sale_record}
 
 pub values-next : (front : List (List ℕ)) (field : List ℕ) (rest : List (List ℕ)) (value : List ℕ) → value_at field ≡ Ok value
     → with_front front (values_at (field ∷ rest)) ≡ with_front (front ++ value ∷ []) (values_at rest)
@@ -47,18 +45,3 @@ pub nine_fields : (fields : List (Bor (List ℕ))) → length fields ≡ 9 → m
     ∷ (get_or fields 5 missing).now ∷ (get_or fields 6 missing).now ∷ (get_or fields 7 missing).now ∷ (get_or fields 8 missing).now ∷ []
 nine_fields (a ∷ b ∷ c ∷ d ∷ e ∷ f ∷ g ∷ h ∷ i ∷ []) nine = refl
 nine_fields _ nine = absurd (omega arith)
-
--- only nine fields are a sale
-pub other_than_nine : (fields : List (List ℕ)) → ¬ (length fields ≡ 9) → sale_record fields ≡ Err WrongLength
-unfolding sale_record
-other_than_nine [] other = refl
-other_than_nine (a ∷ []) other = refl
-other_than_nine (a ∷ b ∷ []) other = refl
-other_than_nine (a ∷ b ∷ c ∷ []) other = refl
-other_than_nine (a ∷ b ∷ c ∷ d ∷ []) other = refl
-other_than_nine (a ∷ b ∷ c ∷ d ∷ e ∷ []) other = refl
-other_than_nine (a ∷ b ∷ c ∷ d ∷ e ∷ f ∷ []) other = refl
-other_than_nine (a ∷ b ∷ c ∷ d ∷ e ∷ f ∷ g ∷ []) other = refl
-other_than_nine (a ∷ b ∷ c ∷ d ∷ e ∷ f ∷ g ∷ h ∷ []) other = refl
-other_than_nine (a ∷ b ∷ c ∷ d ∷ e ∷ f ∷ g ∷ h ∷ i ∷ []) other = absurd (other refl)
-other_than_nine (a ∷ b ∷ c ∷ d ∷ e ∷ f ∷ g ∷ h ∷ i ∷ j ∷ more) other = refl

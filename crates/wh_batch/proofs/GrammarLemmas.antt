@@ -201,7 +201,7 @@ amount_to _ _ (WritesHundredths.whole text n w) = rw (position-none text (no_poi
 amount_to _ _ (WritesHundredths.tenths text part n m w v) = with_point text part n (10 * m) w (tenths_to part m v)
 amount_to _ _ (WritesHundredths.hundredths text part n m w v) = with_point text part n m w (hundredths_to part m v)
 
-reads_hundredths : Reads read_hundredths WritesHundredths
+pub reads_hundredths : Reads read_hundredths WritesHundredths
 reads_hundredths text n = (amount_from text n, amount_to text n)
 
 begin_more : (text part : List ℕ) → BeginsWithDigit text → BeginsWithDigit (text ++ part)

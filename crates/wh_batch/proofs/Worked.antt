@@ -10,7 +10,7 @@ use Rattle.wh_policy.specs.declared.record.SaleRecord.{SaleRecord}
 use Rattle.wh_batch.specs.declared.fault.FaultKind.TheVariants.{WrongHeader, WrongLength, BadKey, BadDay, BadValue, BadNumber, TwiceInBatch, OutsideCalendar}
 use Rattle.wh_batch.specs.declared.kind.CommandKind.{CommandKind}
 use Rattle.wh_batch.specs.declared.kind.CommandKind.TheVariants.{Batch, Migration}
-use Rattle.wh_batch.specs.declared.kind.Format.TheVariants.{One}
+use Rattle.wh_policy.specs.declared.format.Format.TheVariants.{One, Two}
 use Rattle.wh_batch.specs.declared.kind.Kind.TheVariants.{Dimension, Sales}
 use Rattle.wh_batch.specs.declared.manifest.ManifestEntry.{ManifestEntry}
 use Rattle.wh_batch.specs.Batch.{at, records_after}
@@ -95,42 +95,42 @@ cut = refl
 abbrev sale : List ℕ → List ℕ → List ℕ → List ℕ → List (List ℕ)
 sale ticket line day store = ticket ∷ line ∷ day ∷ store ∷ codes "P1" ∷ [] ∷ codes "1" ∷ codes "1" ∷ codes "1" ∷ []
 
-line_before_day : sale_record (sale (codes "T1") (codes "0") (codes "2024-13-01") (codes "S1")) ≡ Err BadNumber
+line_before_day : sale_record One (sale (codes "T1") (codes "0") (codes "2024-13-01") (codes "S1")) ≡ Err BadNumber
 unfolding batch_on_literals
 line_before_day = refl
 
-day_before_store : sale_record (sale (codes "T1") (codes "1") (codes "2024-13-01") (codes "S 1")) ≡ Err BadDay
+day_before_store : sale_record One (sale (codes "T1") (codes "1") (codes "2024-13-01") (codes "S 1")) ≡ Err BadDay
 unfolding batch_on_literals
 day_before_store = refl
 
-long_line : sale_record (sale (codes "T1") (codes "10000") (codes "2024-01-05") (codes "S1")) ≡ Err BadNumber
+long_line : sale_record One (sale (codes "T1") (codes "10000") (codes "2024-01-05") (codes "S1")) ≡ Err BadNumber
 unfolding batch_on_literals
 long_line = refl
 
-returned : sale_record (codes "T1" ∷ codes "0001" ∷ codes "2024-01-05" ∷ codes "S1" ∷ codes "P1" ∷ [] ∷ codes "-0099" ∷ codes "1" ∷ codes "1" ∷ [])
-    ≡ Ok (record { ticket = codes "T1"; line = 1; day = 20240105; store = codes "S1"; product = codes "P1"; customer = None; quantity = negsuc 98; amount = pos 100; cost = pos 100 })
+returned : sale_record One (codes "T1" ∷ codes "0001" ∷ codes "2024-01-05" ∷ codes "S1" ∷ codes "P1" ∷ [] ∷ codes "-0099" ∷ codes "1" ∷ codes "1" ∷ [])
+    ≡ Ok (record { ticket = codes "T1"; line = 1; day = 20240105; store = codes "S1"; product = codes "P1"; customer = None; quantity = negsuc 98; amount = pos 100; cost = pos 100; discount = 0 })
 unfolding batch_on_literals
 returned = refl
 
 -- a line that is there comes before a day outside the calendar
-twice : records_after (sales_layout trial_policy.years) [] 1 (sale (codes "T5") (codes "1") (codes "2024-01-05") (codes "S1") ∷ sale (codes "T5") (codes "0001") (codes "2027-01-01") (codes "S1") ∷ []) ≡ Err (at 2 TwiceInBatch)
+twice : records_after (sales_layout One trial_policy.years) [] 1 (sale (codes "T5") (codes "1") (codes "2024-01-05") (codes "S1") ∷ sale (codes "T5") (codes "0001") (codes "2027-01-01") (codes "S1") ∷ []) ≡ Err (at 2 TwiceInBatch)
 unfolding batch_on_literals
 twice = refl
 
-outside : records_after (sales_layout trial_policy.years) [] 1 (sale (codes "T5") (codes "1") (codes "2027-01-01") (codes "S1") ∷ []) ≡ Err (at 1 OutsideCalendar)
+outside : records_after (sales_layout One trial_policy.years) [] 1 (sale (codes "T5") (codes "1") (codes "2027-01-01") (codes "S1") ∷ []) ≡ Err (at 1 OutsideCalendar)
 unfolding batch_on_literals
 outside = refl
 
 -- whole batches, as bytes
-no_bytes : dimension_records Product trial_policy One [] ≡ Err (at 0 WrongHeader)
+no_bytes : dimension_records Product trial_policy [] ≡ Err (at 0 WrongHeader)
 unfolding batch_on_literals
 no_bytes = refl
 
-header_alone : dimension_records Product trial_policy One (codes "id,day,description,brand") ≡ Ok []
+header_alone : dimension_records Product trial_policy (codes "id,day,description,brand") ≡ Ok []
 unfolding batch_on_literals
 header_alone = refl
 
-cut_file : dimension_records Product trial_policy One (codes "id,day,description,brand" ++ 10 ∷ codes "P1,2024-08-01,Cola") ≡ Err (at 1 WrongLength)
+cut_file : dimension_records Product trial_policy (codes "id,day,description,brand" ++ 10 ∷ codes "P1,2024-08-01,Cola") ≡ Err (at 1 WrongLength)
 unfolding batch_on_literals
 cut_file = refl
 
@@ -141,8 +141,8 @@ two_sales end =
     ++ codes "T0,1,2023-12-31,S1,P1,C9,1,2.5,\"1.60\"" ++ end
 
 abbrev two_records : List SaleRecord
-two_records = record { ticket = codes "T1"; line = 1; day = 20240205; store = codes "S1"; product = codes "P1"; customer = None; quantity = pos 2; amount = pos 500; cost = pos 320 }
-    ∷ record { ticket = codes "T0"; line = 1; day = 20231231; store = codes "S1"; product = codes "P1"; customer = Some (codes "C9"); quantity = pos 1; amount = pos 250; cost = pos 160 } ∷ []
+two_records = record { ticket = codes "T1"; line = 1; day = 20240205; store = codes "S1"; product = codes "P1"; customer = None; quantity = pos 2; amount = pos 500; cost = pos 320; discount = 0 }
+    ∷ record { ticket = codes "T0"; line = 1; day = 20231231; store = codes "S1"; product = codes "P1"; customer = Some (codes "C9"); quantity = pos 1; amount = pos 250; cost = pos 160; discount = 0 } ∷ []
 
 line_feeds : sale_records trial_policy One (two_sales (10 ∷ [])) ≡ Ok two_records
 unfolding batch_on_literals
@@ -159,6 +159,25 @@ both_and_a_mark = refl
 repeated_line : sale_records trial_policy One (two_sales (10 ∷ []) ++ codes "T1,01,2024-02-06,S1,P1,,2,5,3") ≡ Err (at 3 TwiceInBatch)
 unfolding batch_on_literals
 repeated_line = refl
+
+-- the second format, with a discount
+discounted : sale_record Two (codes "T5" ∷ codes "1" ∷ codes "2024-07-05" ∷ codes "S1" ∷ codes "P1" ∷ codes "C9" ∷ codes "2" ∷ codes "5.00" ∷ codes "3.20" ∷ codes "0.5" ∷ [])
+    ≡ Ok (record { ticket = codes "T5"; line = 1; day = 20240705; store = codes "S1"; product = codes "P1"; customer = Some (codes "C9"); quantity = pos 2; amount = pos 500; cost = pos 320; discount = 50 })
+unfolding batch_on_literals
+discounted = refl
+
+no_sign : sale_record Two (codes "T5" ∷ codes "1" ∷ codes "2024-07-05" ∷ codes "S1" ∷ codes "P1" ∷ codes "C9" ∷ codes "2" ∷ codes "5.00" ∷ codes "3.20" ∷ codes "-0.5" ∷ []) ≡ Err BadNumber
+unfolding batch_on_literals
+no_sign = refl
+
+-- a batch has the header of its format
+header_without_discount : sale_records trial_policy Two (two_sales (10 ∷ [])) ≡ Err (at 0 WrongHeader)
+unfolding batch_on_literals
+header_without_discount = refl
+
+header_with_discount : sale_records trial_policy One (codes "ticket,line,day,store,product,customer,quantity,amount,cost,discount") ≡ Err (at 0 WrongHeader)
+unfolding batch_on_literals
+header_with_discount = refl
 
 -- the words of commands
 words : (command_kind_of (codes "sales") ≡ Some (Batch Sales)) × (command_kind_of (codes "migrate") ≡ Some Migration) × (command_kind_of (codes "init") ≡ None) × (command_word (Batch (Dimension Product)) ≡ codes "product")

@@ -1,5 +1,6 @@
--- The kinds of records, as they are laid out in format 1.
-use Rattle.std.specs.Prelude.{ℕ, ◌==◌, not, true, if◌then◌else◌, codes, List, [], ◌∷◌, length, map, Result, Ok, Err}
+-- The kinds of records, as they are laid out in each format.
+use Rattle.std.specs.Prelude.{ℕ, ◌==◌, not, true, if◌then◌else◌, codes, List, [], ◌∷◌, ◌++◌, length, map, take, unwrap_or, Result, Ok, Err}
+use Rattle.csv.specs.Records.{field_at}
 use Rattle.wh_day.specs.Reading.{◌>>=◌}
 use Rattle.wh_policy.specs.Policy.{attributes_of}
 use Rattle.wh_policy.specs.Years.{is_within}
@@ -14,12 +15,12 @@ use Rattle.wh_batch.specs.declared.fault.FaultKind.TheVariants.{WrongLength}
 use Rattle.wh_batch.specs.declared.fault.BatchFault.{BatchFault}
 use Rattle.wh_batch.specs.declared.kind.Kind.{Kind}
 use Rattle.wh_batch.specs.declared.kind.Kind.TheVariants as kinds
-use Rattle.wh_batch.specs.declared.kind.Format.{Format}
-use Rattle.wh_batch.specs.declared.kind.Format.TheVariants.{One}
+use Rattle.wh_policy.specs.declared.format.Format.{Format}
+use Rattle.wh_policy.specs.declared.format.Format.TheVariants.{One, Two}
 use Rattle.wh_batch.specs.declared.records.Records.{Records}
 use Rattle.wh_batch.specs.declared.records.Records.TheVariants as of_kind
 use Rattle.wh_batch.specs.Fields.{key_at, customer_at, day_at, effective_day_at, values_at}
-use Rattle.wh_batch.specs.Numbers.{line_at, quantity_at, amount_at}
+use Rattle.wh_batch.specs.Numbers.{line_at, quantity_at, amount_at, discount_at}
 use Rattle.wh_batch.specs.Batch.{Key, Layout, batch_of}
 
 -- an id, a day, and a value for each attribute
@@ -49,13 +50,18 @@ dimension_layout attributes = record {
   is_within = λ r. true;
 }
 
--- the records of a batch for a dimension, or its first fault
-unfoldable pub dimension_records : Dim → Policy → Format → List ℕ → Result (List DimensionRecord) BatchFault
-dimension_records dim policy One bytes = batch_of (dimension_layout (attributes_of policy dim)) bytes
+-- the records of a batch for a dimension, or its first fault; they are written alike in each format
+unfoldable pub dimension_records : Dim → Policy → List ℕ → Result (List DimensionRecord) BatchFault
+dimension_records dim policy bytes = batch_of (dimension_layout (attributes_of policy dim)) bytes
+
+-- how many fields a sale has
+abbrev pub fields_of_a_sale : Format → ℕ
+fields_of_a_sale One = 9
+fields_of_a_sale Two = 10
 
 -- a ticket and a line, a day, a store, a product and perhaps a customer, a quantity, an amount and a cost
-unfoldable pub sale_record : List (List ℕ) → Result SaleRecord FaultKind
-sale_record (ticket ∷ line ∷ day ∷ store ∷ product ∷ customer ∷ quantity ∷ amount ∷ cost ∷ []) = do
+unfoldable pub undiscounted : List (List ℕ) → Result SaleRecord FaultKind
+undiscounted (ticket ∷ line ∷ day ∷ store ∷ product ∷ customer ∷ quantity ∷ amount ∷ cost ∷ []) = do
   ticket ← key_at 20 ticket
   line ← line_at line
   day ← day_at day
@@ -65,31 +71,50 @@ sale_record (ticket ∷ line ∷ day ∷ store ∷ product ∷ customer ∷ quan
   quantity ← quantity_at quantity
   amount ← amount_at amount
   cost ← amount_at cost
-  Ok (record { ticket = ticket; line = line; day = day; store = store; product = product; customer = customer; quantity = quantity; amount = amount; cost = cost })
-sale_record _ = Err WrongLength
+  Ok (record { ticket = ticket; line = line; day = day; store = store; product = product; customer = customer; quantity = quantity; amount = amount; cost = cost; discount = 0 })
+undiscounted _ = Err WrongLength
+
+-- the tenth field, where there is one
+abbrev pub tenth : List (List ℕ) → List ℕ
+tenth fields = unwrap_or (field_at fields 9) []
+
+-- the discount among the fields: none in the first format, and the tenth in the second
+unfoldable pub discount_in : Format → List (List ℕ) → Result ℕ FaultKind
+discount_in One fields = Ok 0
+discount_in Two fields = discount_at (tenth fields)
+
+-- the nine fields, and in the second format a discount behind them
+unfoldable pub sale_record : Format → List (List ℕ) → Result SaleRecord FaultKind
+sale_record format fields = if not (length fields == fields_of_a_sale format) then Err WrongLength else do
+  sale ← undiscounted (take 9 fields)
+  discount ← discount_in format fields
+  Ok (record sale { discount = discount })
 
 -- the ticket and the line
 abbrev pub sale_key : SaleRecord → Key
 sale_key r = record { text = r.ticket; number = r.line }
 
 -- the names of the fields of a sale
-abbrev pub sales_header : List (List ℕ)
-sales_header = codes "ticket" ∷ codes "line" ∷ codes "day" ∷ codes "store" ∷ codes "product" ∷ codes "customer" ∷ codes "quantity" ∷ codes "amount" ∷ codes "cost" ∷ []
+abbrev pub undiscounted_header : List (List ℕ)
+undiscounted_header = codes "ticket" ∷ codes "line" ∷ codes "day" ∷ codes "store" ∷ codes "product" ∷ codes "customer" ∷ codes "quantity" ∷ codes "amount" ∷ codes "cost" ∷ []
+abbrev pub sales_header : Format → List (List ℕ)
+sales_header One = undiscounted_header
+sales_header Two = undiscounted_header ++ codes "discount" ∷ []
 
 -- sales in these years
-abbrev pub sales_layout : Years → Layout SaleRecord
-sales_layout years = record {
-  header = sales_header;
-  read = sale_record;
+abbrev pub sales_layout : Format → Years → Layout SaleRecord
+sales_layout format years = record {
+  header = sales_header format;
+  read = sale_record format;
   key = sale_key;
   is_within = λ r. is_within years r.day;
 }
 
 -- the records of a batch of sales, or its first fault
 unfoldable pub sale_records : Policy → Format → List ℕ → Result (List SaleRecord) BatchFault
-sale_records policy One bytes = batch_of (sales_layout policy.years) bytes
+sale_records policy format bytes = batch_of (sales_layout format policy.years) bytes
 
 -- the records of a batch of this kind, or its first fault
 unfoldable pub records_of : Kind → Policy → Format → List ℕ → Result Records BatchFault
-records_of (kinds.Dimension dim) policy format bytes = dimension_records dim policy format bytes >>= λ rs. Ok (of_kind.Dimension rs)
+records_of (kinds.Dimension dim) policy format bytes = dimension_records dim policy bytes >>= λ rs. Ok (of_kind.Dimension rs)
 records_of kinds.Sales policy format bytes = sale_records policy format bytes >>= λ rs. Ok (of_kind.Sales rs)

@@ -52,6 +52,10 @@ line_at field = ok_or (read_line field) BadNumber
 abbrev pub quantity_at : List ℕ → Result ℤ FaultKind
 quantity_at field = ok_or (read_quantity field) BadNumber
 
+-- the discount that a field writes, without a sign
+abbrev pub discount_at : List ℕ → Result ℕ FaultKind
+discount_at field = or_fault BadNumber (read_hundredths field)
+
 -- the amount that a field writes
 abbrev pub amount_at : List ℕ → Result ℤ FaultKind
 amount_at field = ok_or (read_amount field) BadNumber

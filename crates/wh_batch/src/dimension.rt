@@ -10,7 +10,6 @@ use crate::batch::batch_of;
 use crate::fault::{BatchFault, FaultKind};
 use crate::fields::{effective_day_of, fields_of, key_of, values_of};
 use crate::keys::RecordKey;
-use crate::kind::Format;
 use crate::layout::RecordLayout;
 use crate::records::DimensionRecords;
 use csv::ByteRecord;
@@ -25,19 +24,14 @@ pub fn dimension_records(
     alloc: Global,
     dim: Dim,
     policy: &Policy,
-    format: Format,
     bytes: &[u8],
 ) -> Result<DimensionRecords, ParseError<BatchFault>>
-    ensures { Gives (λ records. records) result (dimension_records dim policy.now format bytes.now) }
+    ensures { Gives (λ records. records) result (dimension_records dim policy.now bytes.now) }
 {
-    match format {
-        Format::One => {
-            let layout = DimensionLayout {
-                attributes: policy.attributes(dim),
-            };
-            Ok(DimensionRecords::of(batch_of(alloc, &layout, bytes)?))
-        }
-    }
+    let layout = DimensionLayout {
+        attributes: policy.attributes(dim),
+    };
+    Ok(DimensionRecords::of(batch_of(alloc, &layout, bytes)?))
 }
 
 /// A record has an id, a day, and a value for each attribute.

@@ -70,9 +70,3 @@ impl CommandKind {
         }
     }
 }
-
-/// How batches are written. A warehouse keeps its format.
-#[derive(Clone, Copy, Debug, PartialEq, Eq)]
-pub enum Format {
-    One,
-}

@@ -21,7 +21,7 @@ mod sales;
 pub use batch::{BATCH_LIMIT, MOST_RECORDS};
 pub use dimension::dimension_records;
 pub use fault::{BatchFault, FaultKind};
-pub use kind::{CommandKind, Format, Kind};
+pub use kind::{CommandKind, Kind};
 pub use manifest::{BadManifest, Manifest, ManifestEntry};
 pub use path::FilePath;
 pub use reader::read;

@@ -5,7 +5,7 @@ ghost use Rattle.std.specs.Char.{is_ascii_digit};
 ghost use Rattle.std.specs.List.{list_all};
 ghost use Rattle.std.specs.Str.Parse.{digits_value};
 ghost use Rattle.wh_day.specs.Reading.{Gives};
-ghost use Rattle.wh_batch.specs.Numbers.{is_point, read_digits, read_fraction, read_hundredths, read_line, read_quantity, read_amount, line_at, quantity_at, amount_at};
+ghost use Rattle.wh_batch.specs.Numbers.{is_point, read_digits, read_fraction, read_hundredths, read_line, read_quantity, read_amount, line_at, quantity_at, amount_at, discount_at};
 
 use crate::fault::FaultKind;
 use crate::fields::or_fault;
@@ -49,7 +49,7 @@ fn point_of(text: &[u8]) -> Option<usize>
     text.iter().position(|byte| *byte == b'.')
 }
 
-// The hundredths that an amount without a sign writes.
+// The hundredths that an amount without a sign writes, as a discount is.
 #[tactic(auto, unfolding(crate::specs::Numbers::read_hundredths))]
 fn read_hundredths(text: &[u8]) -> Option<u32>
     ensures value { result ≡ read_hundredths text.now }
@@ -108,6 +108,14 @@ pub(crate) fn quantity_of(field: &[u8]) -> Result<i64, ParseError<FaultKind>>
     ensures { Gives (λ quantity. quantity) result (quantity_at field.now) }
 {
     or_fault(read_quantity(field), FaultKind::BadNumber)
+}
+
+/// A discount, in hundredths: an amount without a sign.
+pub(crate) fn discount_of(field: &[u8]) -> Result<u64, ParseError<FaultKind>>
+    ensures { Gives (λ discount. discount) result (discount_at field.now) }
+{
+    let hundredths = or_fault(read_hundredths(field), FaultKind::BadNumber)?;
+    Ok(hundredths as u64)
 }
 
 /// An amount of money, in hundredths.

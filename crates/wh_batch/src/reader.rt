@@ -6,12 +6,12 @@ ghost use Rattle.wh_batch.specs.Layouts.{records_of};
 
 use crate::dimension::dimension_records;
 use crate::fault::BatchFault;
-use crate::kind::{Format, Kind};
+use crate::kind::Kind;
 use crate::records::Records;
 use crate::sale::sale_records;
 use std::alloc::Global;
 use wh_day::ParseError;
-use wh_policy::Policy;
+use wh_policy::{Format, Policy};
 
 /// The records of a batch of this kind, in order. `Memory` comes where a growth was refused, or where the CSV reader
 /// gave up.
@@ -27,7 +27,7 @@ pub fn read(
 {
     match kind {
         Kind::Dimension(dim) => Ok(Records::Dimension(dimension_records(
-            alloc, dim, policy, format, bytes,
+            alloc, dim, policy, bytes,
         )?)),
         Kind::Sales => Ok(Records::Sales(sale_records(alloc, policy, format, bytes)?)),
     }

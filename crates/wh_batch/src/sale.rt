@@ -1,22 +1,21 @@
 //! Batches of sales.
 
-ghost use Rattle.std.specs.Prelude.{◌≡◌, map, length};
+ghost use Rattle.std.specs.Prelude.{◌≡◌, ◌≤◌, map, length, take};
 ghost use Rattle.csv.specs.Records.{fields_of};
 ghost use Rattle.wh_day.specs.Reading.{Gives};
-ghost use Rattle.wh_batch.specs.Layouts.{sale_record, sale_records};
+ghost use Rattle.wh_batch.specs.Layouts.{fields_of_a_sale, undiscounted, discount_in, sale_record, sale_records};
 
 use crate::batch::batch_of;
 use crate::fault::{BatchFault, FaultKind};
 use crate::fields::{are_same, customer_of, day_of, key_of};
 use crate::keys::RecordKey;
-use crate::kind::Format;
 use crate::layout::RecordLayout;
-use crate::numbers::{amount_of, line_of, quantity_of};
+use crate::numbers::{amount_of, discount_of, line_of, quantity_of};
 use crate::sales::SaleRecords;
 use csv::ByteRecord;
 use std::alloc::Global;
 use wh_day::ParseError;
-use wh_policy::{Policy, SaleRecord, Years};
+use wh_policy::{Format, Policy, SaleRecord, Years};
 
 /// The records of a batch of sales, in order. `Memory` comes where a growth was refused, or where the CSV reader gave up.
 #[tactic(auto, unfolding(crate::specs::Layouts::sale_records))]
@@ -28,19 +27,18 @@ pub fn sale_records(
 ) -> Result<SaleRecords, ParseError<BatchFault>>
     ensures { Gives (λ records. records) result (sale_records policy.now format bytes.now) }
 {
-    match format {
-        Format::One => {
-            let layout = SalesLayout {
-                years: policy.years,
-            };
-            Ok(SaleRecords::of(batch_of(alloc, &layout, bytes)?))
-        }
-    }
+    let layout = SalesLayout {
+        format,
+        years: policy.years,
+    };
+    Ok(SaleRecords::of(batch_of(alloc, &layout, bytes)?))
 }
 
-/// A record has a ticket and a line, a day, a store, a product and perhaps a customer, a quantity, an amount and a cost.
+/// A record has a ticket and a line, a day, a store, a product and perhaps a customer, a quantity, an amount and a cost; in the second
+/// format a discount too.
 #[derive(Drop)]
 struct SalesLayout {
+    format: Format,
     years: Years,
 }
 
@@ -49,10 +47,10 @@ impl RecordLayout for SalesLayout {
 
     type Record = SaleRecord;
 
-    ghost layout = { λ s. sales_layout s.years };
+    ghost layout = { λ s. sales_layout s.format s.years };
 
     fn is_header(&self, fields: &[&[u8]]) -> bool {
-        let names: [&[u8]; 9] = [
+        let names: [&[u8]; 10] = [
             b"ticket",
             b"line",
             b"day",
@@ -62,12 +60,16 @@ impl RecordLayout for SalesLayout {
             b"quantity",
             b"amount",
             b"cost",
+            b"discount",
         ];
-        are_same(fields, &names)
+        match self.format {
+            Format::One => are_same(fields, &names[..9]),
+            Format::Two => are_same(fields, &names),
+        }
     }
 
     fn read(&self, _alloc: Global, row: &ByteRecord) -> Result<SaleRecord, ParseError<FaultKind>> {
-        read_sale(row)
+        read_sale(self.format, row)
     }
 
     fn key(&self, record: &SaleRecord) -> RecordKey {
@@ -79,20 +81,43 @@ impl RecordLayout for SalesLayout {
     }
 }
 
-#[tactic(auto, using(crate::proofs::FieldLemmas::other_than_nine))]
-fn read_sale(row: &ByteRecord) -> Result<SaleRecord, ParseError<FaultKind>>
-    ensures { Gives (λ r. r) result (sale_record (fields_of row.now)) }
+// How many fields a sale has.
+fn fields_of_a_sale(format: Format) -> usize
+    ensures { result ≡ fields_of_a_sale format }
 {
-    if row.len() != 9 {
-        return Err(ParseError::Fault(FaultKind::WrongLength));
+    match format {
+        Format::One => 9,
+        Format::Two => 10,
     }
-    sale_record(&nine_fields(row))
 }
 
-// The fields of a row that has nine.
+#[tactic(auto, unfolding(crate::specs::Layouts::sale_record))]
+fn read_sale(format: Format, row: &ByteRecord) -> Result<SaleRecord, ParseError<FaultKind>>
+    ensures { Gives (λ r. r) result (sale_record format (fields_of row.now)) }
+{
+    if row.len() != fields_of_a_sale(format) {
+        return Err(ParseError::Fault(FaultKind::WrongLength));
+    }
+    let sale = undiscounted(&nine_fields(row))?;
+    let discount = discount_in(format, row)?;
+    Ok(SaleRecord { discount, ..sale })
+}
+
+// The discount of a row that has as many fields as the format says.
+#[tactic(auto, unfolding(crate::specs::Layouts::discount_in))]
+fn discount_in(format: Format, row: &ByteRecord) -> Result<u64, ParseError<FaultKind>>
+    ensures { Gives (λ discount. discount) result (discount_in format (fields_of row.now)) }
+{
+    match format {
+        Format::One => Ok(0),
+        Format::Two => discount_of(row.get(9).unwrap_or(&[])),
+    }
+}
+
+// The first nine fields of a row.
 fn nine_fields(row: &ByteRecord) -> [&[u8]; 9]
-    requires { length (fields_of row.now) ≡ 9 }
-    ensures { map (λ f. f.now) result ≡ fields_of row.now }
+    requires { 9 ≤ length (fields_of row.now) }
+    ensures { map (λ f. f.now) result ≡ take 9 (fields_of row.now) }
 {
     let mut fields: [&[u8]; 9] = [&[]; 9];
     for i in 0..9 {
@@ -103,9 +128,10 @@ fn nine_fields(row: &ByteRecord) -> [&[u8]; 9]
     fields
 }
 
-#[tactic(auto, using(crate::proofs::FieldLemmas::nine_fields), unfolding(crate::specs::Layouts::sale_record))]
-fn sale_record(fields: &[&[u8]; 9]) -> Result<SaleRecord, ParseError<FaultKind>>
-    ensures { Gives (λ r. r) result (sale_record (map (λ f. f.now) fields.now)) }
+// The sale that nine fields write, without a discount.
+#[tactic(auto, using(crate::proofs::FieldLemmas::nine_fields), unfolding(crate::specs::Layouts::undiscounted))]
+fn undiscounted(fields: &[&[u8]; 9]) -> Result<SaleRecord, ParseError<FaultKind>>
+    ensures { Gives (λ r. r) result (undiscounted (map (λ f. f.now) fields.now)) }
 {
     let [
         ticket,
@@ -128,5 +154,6 @@ fn sale_record(fields: &[&[u8]; 9]) -> Result<SaleRecord, ParseError<FaultKind>>
         quantity: quantity_of(quantity)?,
         amount: amount_of(amount)?,
         cost: amount_of(cost)?,
+        discount: 0,
     })
 }

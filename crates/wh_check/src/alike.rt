@@ -4,7 +4,7 @@ ghost use Rattle.std.specs.Prelude.{◌≡◌, true, IsTrue, IfOk};
 ghost use Rattle.std.specs.List.{list_all};
 ghost use Rattle.sqlite_value.specs.Value.{owned};
 ghost use Rattle.sqlite.specs.Values.{bound};
-ghost use Rattle.wh_rows.specs.declared.format.Format.{Format};
+ghost use Rattle.wh_policy.specs.declared.format.Format.{Format};
 ghost use Rattle.wh_rows.specs.Names.{is_there};
 ghost use Rattle.wh_check.specs.Alike.{is_plain, same_value, same_values, AreAlike};
 

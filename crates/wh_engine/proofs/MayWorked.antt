@@ -82,4 +82,5 @@ accepted written = record {
   records = good_records;
   sales = tt;
   lines = tt;
+  undiscounted = tt;
 }

@@ -5,8 +5,8 @@ use Rattle.wh_policy.specs.Policy.{policy_at}
 use Rattle.wh_policy.specs.declared.policy.Policy.{Policy}
 use Rattle.wh_policy.specs.declared.fault.PolicyFault.{PolicyFault}
 use Rattle.wh_history.specs.Tables.{Limits}
-use Rattle.wh_rows.specs.declared.format.Format.{Format}
-use Rattle.wh_rows.specs.Formats.{is_two}
+use Rattle.wh_policy.specs.declared.format.Format.{Format}
+use Rattle.wh_policy.specs.Formats.{is_two}
 use Rattle.wh_rows.specs.Rows as row
 use Rattle.wh_rows.specs.Firsts.{last_one}
 use Rattle.wh_rows.specs.Raw.{Stored, AreAsked}
@@ -20,7 +20,7 @@ use Rattle.wh_store.specs.Raw.{FormatIs, LimitsAre, IsRefusedOn, IsLimitless}
 use Rattle.wh_store.specs.declared.fault.OpenFault.{OpenFault}
 use Rattle.wh_store.specs.declared.fault.OpenFault.TheVariants as faults
 use Rattle.wh_engine.specs.Opened.{of_policy, of_command, policies_stored, IsTold, PolicyIs, IsPolicyless, IsSessionless, IsUnopened}
-use Rattle.wh_rows.specs.declared.format.Format.TheVariants.{One}
+use Rattle.wh_policy.specs.declared.format.Format.TheVariants.{One}
 
 -- ---- what is left
 

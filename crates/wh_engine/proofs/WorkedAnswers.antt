@@ -105,7 +105,7 @@ room_for_two = refl
 
 -- a sale of a product and a store that nothing described, and the same line again
 abbrev sale : SaleRecord
-sale = record { ticket = codes "T1"; line = 1; day = 20240205; store = codes "S1"; product = codes "P1"; customer = None; quantity = pos 2; amount = pos 500; cost = pos 320 }
+sale = record { ticket = codes "T1"; line = 1; day = 20240205; store = codes "S1"; product = codes "P1"; customer = None; quantity = pos 2; amount = pos 500; cost = pos 320; discount = 0 }
 
 abbrev sale_bytes : List ℕ
 sale_bytes = codes "ticket,line,day,store,product,customer,quantity,amount,cost" ++ 10 ∷ codes "T1,1,2024-02-05,S1,P1,,2,5.00,3.20"

@@ -3,7 +3,7 @@
 ghost use Rattle.std.specs.Prelude.{◌≡◌, ◌≤◌, List, false, Some, IfOk, IfErr};
 ghost use Rattle.wh_history.specs.Accepted.{Accepted};
 ghost use Rattle.wh_history.specs.Tables.{Limits as LimitCounts};
-ghost use Rattle.wh_rows.specs.declared.format.Format.TheVariants.{One};
+ghost use Rattle.wh_policy.specs.declared.format.Format.TheVariants.{One};
 ghost use Rattle.wh_rows.specs.Tables.{Tables as TenTables};
 ghost use Rattle.wh_store.specs.Faithful.{RestsFaithfully};
 ghost use Rattle.wh_store.specs.Reads.{IsServed, NamesDamage, ReadsOnly, Spares, state_of, SaysAsStored};

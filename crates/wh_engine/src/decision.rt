@@ -21,13 +21,13 @@ use sqlite_value::value::Bytes;
 use std::alloc::{AllocError, Global};
 use wh_admission::{Command, Receipt, Refused};
 use wh_batch::{
-    CommandKind, DimensionRecords, Format, Kind, SaleRecords, dimension_records, sale_records,
+    CommandKind, DimensionRecords, Kind, SaleRecords, dimension_records, sale_records,
 };
 use wh_day::{ParseError, Value, is_key};
 use wh_migration::plan_migration;
 use wh_plan::reading::command_of;
 use wh_plan::{Edits, plan_batch, plan_sales};
-use wh_policy::{Dim, Policy, SaleRecord};
+use wh_policy::{Dim, Format, Policy, SaleRecord};
 use wh_rows::CommandRow;
 use wh_store::Tables;
 
@@ -51,7 +51,7 @@ fn records_of(
     ensures blames { (stored : Stored) → BlamesDamage stored result }
     ensures work { IsWorkedOut result }
 {
-    match dimension_records(alloc, dim, policy, Format::One, bytes) {
+    match dimension_records(alloc, dim, policy, bytes) {
         Ok(records) => Ok(records),
         Err(ParseError::Fault(fault)) => Err(Fault::Refused(Refused::Batch(fault))),
         Err(ParseError::Memory) => Err(Fault::Memory),

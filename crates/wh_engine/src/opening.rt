@@ -7,8 +7,8 @@ ghost use Rattle.wh_policy.specs.Policy.{policy_at};
 ghost use Rattle.wh_rows.specs.AtRest.{IsAtRest};
 ghost use Rattle.wh_store.specs.Reads.{is_any_taken, are_all_there, state_of, SaysAtRest, SaysAsStored, Spares};
 ghost use Rattle.wh_store.specs.Opening.{IsServed, SparesStore};
-ghost use Rattle.wh_rows.specs.declared.format.Format.TheVariants.{One};
-ghost use Rattle.wh_rows.specs.Formats.{is_two};
+ghost use Rattle.wh_policy.specs.declared.format.Format.TheVariants.{One};
+ghost use Rattle.wh_policy.specs.Formats.{is_two};
 ghost use Rattle.wh_store.specs.Raw.{FormatIs};
 ghost use Rattle.wh_rows.specs.Raw.{RestsOn, LeavesStored};
 ghost use Rattle.wh_engine.specs.Answered.{Rests, IsReady};
@@ -26,8 +26,8 @@ use sqlite::{Alter, Connection};
 use std::alloc::Global;
 use thiserror::Error;
 use wh_day::ParseError;
-use wh_policy::{Policy, PolicyFault};
-use wh_rows::{Cause, CommandRow, Format, Limits, Table, tables};
+use wh_policy::{Format, Policy, PolicyFault};
+use wh_rows::{Cause, CommandRow, Limits, Table, tables};
 use wh_store::{LastPolicy, MakeFault, OpenFault, Tables};
 
 /// Why no warehouse was made.

@@ -36,7 +36,7 @@ accepted id kind content = record { id = id; kind = kind; bytes = []; content = 
 
 abbrev sale : List ℕ → ℕ → List ℕ → Option (List ℕ) → ℕ → ℕ → ℕ → SaleRecord
 sale ticket day product customer quantity amount cost =
-    record { ticket = ticket; line = 1; day = day; store = codes "S1"; product = product; customer = customer; quantity = pos quantity; amount = pos amount; cost = pos cost }
+    record { ticket = ticket; line = 1; day = day; store = codes "S1"; product = product; customer = customer; quantity = pos quantity; amount = pos amount; cost = pos cost; discount = 0 }
 
 -- a fact: the ticket, the day, the keys and the durable keys of store, product and customer, the profile and the measures
 abbrev fact : List ℕ → ℕ → ℕ × ℕ × ℕ → ℕ × ℕ × ℕ → ℕ → ℕ → ℕ → ℕ → Fact
@@ -51,6 +51,7 @@ fact ticket day keys durables profile quantity amount cost = record {
   quantity = pos quantity;
   amount = pos amount;
   cost = pos cost;
+  discount = 0;
 }
 
 -- a row of a dimension, in the order of the table's columns

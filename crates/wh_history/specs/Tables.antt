@@ -151,6 +151,7 @@ fact_of commands s = record {
   quantity = s.quantity;
   amount = s.amount;
   cost = s.cost;
+  discount = s.discount;
 }
 
 abbrev pub fact_row : List Accepted → List ℕ → ℕ → Option Fact

@@ -40,6 +40,8 @@ pub struct Fact {
     pub amount: i64,
     /// In hundredths.
     pub cost: i64,
+    /// In hundredths; 0 in the first format.
+    pub discount: u64,
 }
 
 /// What a member gives a fact of a day.
@@ -159,6 +161,7 @@ impl DimensionShape<'_> {
             quantity: fact.quantity,
             amount: fact.amount,
             cost: fact.cost,
+            discount: fact.discount,
         }))
     }
 

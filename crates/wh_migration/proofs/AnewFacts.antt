@@ -193,6 +193,7 @@ fact_between durables others s customer = record {
   quantity = s.quantity;
   amount = s.amount;
   cost = s.cost;
+  discount = s.discount;
 }
 
 module _ (commands : List Accepted) (c : Accepted) (is : governs c.content ≡ true) where

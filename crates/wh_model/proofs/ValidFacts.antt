@@ -30,11 +30,11 @@ small_or_none : {X : Type 0} (number : X → ℕ) (o : Option X) → ((x : X) �
 small_or_none number None each = is_small 0 (omega arith)
 small_or_none number (Some x) each = each x refl
 
-valid_fact : (f : Fact) (s : SaleRecord) → IsGoodSale s → f.ticket ≡ s.ticket → f.line ≡ s.line → f.day ≡ s.day → f.quantity ≡ s.quantity → f.amount ≡ s.amount → f.cost ≡ s.cost
+valid_fact : (f : Fact) (s : SaleRecord) → IsGoodSale s → f.ticket ≡ s.ticket → f.line ≡ s.line → f.day ≡ s.day → f.quantity ≡ s.quantity → f.amount ≡ s.amount → f.cost ≡ s.cost → f.discount ≡ 0
     → is_number f.keys.store_key ≡ true → is_number f.keys.product_key ≡ true → is_number f.keys.customer_key ≡ true → is_number f.store_durable ≡ true → is_number f.product_durable ≡ true → is_number f.customer_durable ≡ true → is_number f.keys.profile ≡ true
     → is_fact f ≡ true
-valid_fact f s good ticket line day quantity amount cost store product customer store_durable product_durable customer_durable profile =
-    rw (ticket, line, day, quantity, amount, cost, good.ticket, good.line, good.day, store, product, customer, store_durable, product_durable, customer_durable, profile, good.quantity, good.amount, good.cost) refl
+valid_fact f s good ticket line day quantity amount cost discount store product customer store_durable product_durable customer_durable profile =
+    rw (ticket, line, day, quantity, amount, cost, discount, good.ticket, good.line, good.day, store, product, customer, store_durable, product_durable, customer_durable, profile, good.quantity, good.amount, good.cost) refl
 
 module _ (limits : Limits) (commands : List Accepted) (ok : IsAccepted limits commands) where
   pub days : RecordsHaveDays commands
@@ -60,9 +60,9 @@ module _ (limits : Limits) (commands : List Accepted) (ok : IsAccepted limits co
       let small = current_small (types_in Customer commands) (profiles_of commands) (at day (dated (member_of Customer commands natural).changes)) in
       is_small (profile_at commands day natural) (omega arith)
 
-  sale_valid : (s : SaleRecord) → IsGoodSale s → Named commands s → is_fact (fact_of commands s) ≡ true
-  sale_valid s good named =
-      valid_fact (fact_of commands s) s good refl refl refl refl refl refl
+  sale_valid : (s : SaleRecord) → IsGoodSale s → s.discount ≡ 0 → Named commands s → is_fact (fact_of commands s) ≡ true
+  sale_valid s good discount named =
+      valid_fact (fact_of commands s) s good refl refl refl refl refl refl discount
       (row_number Store s.store s.day (named Store s.store refl) good.day)
       (row_number Product s.product s.day (named Product s.product refl) good.day)
       (small_or_none (key_at commands Customer s.day) s.customer (λ natural is. row_number Customer natural s.day (named Customer natural is) good.day))
@@ -76,5 +76,6 @@ module _ (limits : Limits) (commands : List Accepted) (ok : IsAccepted limits co
       let made = made_of (fact_of commands) (find (λ (s : SaleRecord). bytes_eq s.ticket key.ticket && (s.line == key.line)) (sold commands)) f is in
       let s : SaleRecord = made.0 in
       let good = found_is IsGoodSale (λ (t : SaleRecord). bytes_eq t.ticket key.ticket && (t.line == key.line)) (sold commands) s ok.sales made.1 in
+      let discount = found_is (λ (t : SaleRecord). t.discount ≡ 0) (λ (t : SaleRecord). bytes_eq t.ticket key.ticket && (t.line == key.line)) (sold commands) s ok.undiscounted made.1 in
       let named = found_is (Named commands) (λ (t : SaleRecord). bytes_eq t.ticket key.ticket && (t.line == key.line)) (sold commands) s (all_named commands) made.1 in
-      ap is_fact made.2 ∙ sale_valid s good named
+      ap is_fact made.2 ∙ sale_valid s good discount named

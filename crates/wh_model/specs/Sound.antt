@@ -14,7 +14,7 @@ use Rattle.wh_history.specs.Accepted.{Accepted, Content, Governs, Describes, Sel
 use Rattle.wh_history.specs.Tables.{Limits}
 use Rattle.wh_rows.specs.Limits.{are_limits}
 use Rattle.wh_rows.specs.Questions.{gives_policy}
-use Rattle.wh_rows.specs.Types.{is_key, is_kind, is_line, is_measure, is_slot}
+use Rattle.wh_rows.specs.Types.{is_key, is_kind, is_discount, is_line, is_measure, is_slot}
 
 -- these are the types of a dimension's slots under the policy in force, which is sound
 pub record AreTypes (commands : List Accepted) (dim : Dim) (kinds : List AttributeType) : Type 0 where
@@ -43,6 +43,7 @@ pub record IsGoodSale (s : SaleRecord) : Type 0 where
   pub quantity : is_measure 9999 s.quantity ≡ true
   pub amount : is_measure 999999999 s.amount ≡ true
   pub cost : is_measure 999999999 s.cost ≡ true
+  pub discount : is_discount s.discount ≡ true
 
 -- two sales have one line of one ticket
 abbrev pub same_line : SaleRecord → SaleRecord → Bool
@@ -71,7 +72,7 @@ GivesPolicy kind bytes (Describes dim records) = gives_policy kind ≡ false
 GivesPolicy kind bytes (Sells sales) = gives_policy kind ≡ false
 
 -- The list is one that a warehouse with these limits can have accepted: it begins with a making, and makings and migrations give the policies of their bytes, with up to six attributes a dimension; ids and kinds are well
--- formed, no two commands share an id; its records and sales are good, no two sales have one line, and no batch has more than 5,000; the limits aren't passed.
+-- formed, no two commands share an id; its records and sales are good, no two sales have one line, none has a discount, and no batch has more than 5,000; the limits aren't passed.
 pub record IsAccepted (limits : Limits) (commands : List Accepted) : Type 0 where
   pub limited : are_limits limits ≡ true
   pub commands_within : length commands ≤ limits.commands
@@ -89,3 +90,4 @@ pub record IsAccepted (limits : Limits) (commands : List Accepted) : Type 0 wher
   pub records : (dim : Dim) → AllByRecursion IsGoodRecord (described dim commands)
   pub sales : AllByRecursion IsGoodSale (sold commands)
   pub lines : IsDistinct same_line (sold commands)
+  pub undiscounted : AllByRecursion (λ s. s.discount ≡ 0) (sold commands)

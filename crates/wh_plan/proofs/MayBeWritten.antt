@@ -1,5 +1,5 @@
 -- The edits of a command may be written.
-use Rattle.std.proofs.Common.{◌≡◌, inl, inr, ℕ, suc, ◌≤◌, true, List, [], ◌∷◌, ◌++◌, length, Option, Some, None, refl, sym, ap, subst, ◌∙◌, arith, length-append}
+use Rattle.std.proofs.Common.{◌==◌, ◌≡◌, inl, inr, ℕ, suc, ◌≤◌, true, List, [], ◌∷◌, ◌++◌, length, Option, Some, None, refl, sym, ap, subst, ◌∙◌, arith, length-append}
 use Rattle.std.specs.Prelude.{take, option_map}
 use Rattle.std.specs.List.{AllByRecursion}
 use Rattle.std.specs.Option.{option_and_then}
@@ -23,7 +23,7 @@ use Rattle.wh_rows.proofs.Orders.{member_cmp_total, change_cmp_total, line_cmp_t
 use Rattle.std.proofs.lemmas.Cmp.{nat_cmp_total}
 use Rattle.wh_rows.specs.Rekey.{are_keys}
 use Rattle.wh_rows.specs.declared.key.LineKey.{LineKey}
-use Rattle.wh_rows.specs.Rows.{is_command, is_change, is_dimension, is_fact}
+use Rattle.wh_rows.specs.Rows.{is_command, is_change, is_dimension, has_good_columns, is_fact}
 use Rattle.wh_rows.specs.Rows as row
 use Rattle.wh_rows.specs.Tables.{Tables}
 use Rattle.wh_model.specs.Defined.{command_at, member_at, change_at, profile_at, calendar_at, fact_at, AreOf}
@@ -53,7 +53,7 @@ take_all (x ∷ xs) = ap (λ ys. x ∷ ys) (take_all xs)
 -- the keys of a fact that can be stored can be
 are_keys_of : (f : Fact) → is_fact f ≡ true → are_keys f.keys ≡ true
 are_keys_of f valid =
-    let cost = both_true _ (is_measure 999999999 f.cost) valid in
+    let cost = both_true _ (is_measure 999999999 f.cost) (both_true (has_good_columns f) (f.discount == 0) valid).0 in
     let amount = both_true _ (is_measure 999999999 f.amount) cost.0 in
     let quantity = both_true _ (is_measure 9999 f.quantity) amount.0 in
     let profile = both_true _ (is_number f.keys.profile) quantity.0 in

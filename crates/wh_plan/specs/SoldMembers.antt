@@ -69,6 +69,7 @@ fact_with s product store customer = record {
   quantity = s.quantity;
   amount = s.amount;
   cost = s.cost;
+  discount = s.discount;
 }
 
 -- a natural key after others, unless it is there

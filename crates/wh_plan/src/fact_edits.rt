@@ -47,6 +47,7 @@ fn rekey_of(fact: Fact) -> FactEdit
         quantity: _,
         amount: _,
         cost: _,
+        discount: _,
     } = fact;
     FactEdit::Rekey(LineKey { ticket, line }, keys)
 }

@@ -1,5 +1,6 @@
 pub mod Attributes
 pub mod Document
+pub mod Formats
 pub mod Holidays
 pub mod Laws
 pub mod Names

@@ -1,11 +1,12 @@
-//! The policy of a warehouse: which attributes its dimensions have and how each follows its changes; and the records
-//! that a source sends.
+//! The policy of a warehouse: which attributes its dimensions have and how each follows its changes; the
+//! records that a source sends; and the formats of a warehouse.
 #![tactic(auto)]
 
 mod attribute;
 mod dimension;
 mod document;
 mod fault;
+mod format;
 mod holidays;
 pub mod laws;
 mod names;
@@ -16,5 +17,6 @@ mod years;
 pub use attribute::{Attribute, AttributeType, Attributes, Dim};
 pub use document::POLICY_LIMIT;
 pub use fault::PolicyFault;
+pub use format::Format;
 pub use policy::{Policy, Years};
 pub use record::{DimensionRecord, SaleRecord};

@@ -28,4 +28,6 @@ pub struct SaleRecord {
     pub amount: i64,
     /// In hundredths.
     pub cost: i64,
+    /// In hundredths; 0 in the first format.
+    pub discount: u64,
 }

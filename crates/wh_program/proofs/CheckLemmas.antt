@@ -7,9 +7,9 @@ use Rattle.wh_history.specs.Tables.{Limits}
 use Rattle.wh_rows.specs.AtRest.{IsAtRest}
 use Rattle.wh_rows.specs.Raw.{Stored, RestsOn, LeavesStored}
 use Rattle.wh_store.specs.Opening.{SparesStore}
-use Rattle.wh_rows.specs.Formats.{is_two}
-use Rattle.wh_rows.specs.declared.format.Format.{Format}
-use Rattle.wh_rows.specs.declared.format.Format.TheVariants.{One}
+use Rattle.wh_policy.specs.Formats.{is_two}
+use Rattle.wh_policy.specs.declared.format.Format.{Format}
+use Rattle.wh_policy.specs.declared.format.Format.TheVariants.{One}
 use Rattle.wh_store.specs.Raw.{FormatIs}
 use Rattle.wh_store.specs.declared.fault.OpenFault.{OpenFault}
 use Rattle.wh_store.specs.declared.fault.OpenFault.TheVariants as opening

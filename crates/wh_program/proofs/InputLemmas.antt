@@ -12,7 +12,7 @@ use Rattle.wh_batch.specs.Batch.{Layout, batch_of}
 use Rattle.wh_batch.specs.Layouts.{dimension_layout, dimension_records, sales_layout, sale_records}
 use Rattle.wh_batch.specs.declared.kind.CommandKind.TheVariants.{Batch, Migration}
 use Rattle.wh_batch.specs.declared.kind.Kind.TheVariants.{Dimension, Sales}
-use Rattle.wh_batch.specs.declared.kind.Format.TheVariants.{One}
+use Rattle.wh_policy.specs.declared.format.Format.TheVariants.{One}
 use Rattle.wh_program.specs.Answer.{answer_under, AnswersTrial}
 use Rattle.wh_program.specs.Inputs.{Files, up_to, batch_limit, policy_limit, manifest_limit, manifest_part}
 use Rattle.wh_program.specs.Warehouse.{Told}
@@ -64,13 +64,13 @@ batch_so layout bytes = elim (past_or_whole batch_limit bytes) [
   | inr whole ↦ rw whole refl
 ]
 
-dimension_so : (dim : Dim) (policy : Policy) (bytes : List ℕ) → dimension_records dim policy One (take (suc batch_limit) bytes) ≡ dimension_records dim policy One bytes
+dimension_so : (dim : Dim) (policy : Policy) (bytes : List ℕ) → dimension_records dim policy (take (suc batch_limit) bytes) ≡ dimension_records dim policy bytes
 unfolding dimension_records
 dimension_so dim policy bytes = batch_so (dimension_layout (attributes_of policy dim)) bytes
 
 sales_so : (policy : Policy) (bytes : List ℕ) → sale_records policy One (take (suc batch_limit) bytes) ≡ sale_records policy One bytes
 unfolding sale_records
-sales_so policy bytes = batch_so (sales_layout policy.years) bytes
+sales_so policy bytes = batch_so (sales_layout One policy.years) bytes
 
 pub trials_so : TrialsAreReadSo
 trials_so dim policy bytes = rw (dimension_so dim policy bytes) refl

@@ -8,7 +8,6 @@ use Rattle.wh_policy.specs.Policy.{trial_policy, policy_at}
 use Rattle.wh_policy.specs.declared.fault.PolicyFault.{PolicyFault}
 use Rattle.wh_policy.specs.declared.fault.PolicyFault.TheVariants.{NotToml, Missing, UnknownKey, BadName, BadType, TooMany, NamedTwice, ProfileOutside, ProfileMixed, BadYears, BadHoliday}
 use Rattle.wh_batch.specs.Layouts.{dimension_records}
-use Rattle.wh_batch.specs.declared.kind.Format.TheVariants.{One}
 use Rattle.wh_batch.specs.declared.fault.BatchFault.{BatchFault}
 use Rattle.wh_batch.specs.declared.fault.FaultKind.{FaultKind}
 use Rattle.wh_batch.specs.declared.fault.FaultKind.TheVariants.{TooLarge, WrongHeader, WrongLength, BadKey, BadDay, BadValue, BadNumber, TwiceInBatch, OutsideCalendar}
@@ -107,7 +106,7 @@ no_text_line = line (codes "error: an argument is no text")
 
 -- the rows of a dimension's table in the warehouse that was made under the policy and given this one batch
 abbrev pub trial_rows : Dim → Policy → List ℕ → Result (List DimRow) BatchFault
-trial_rows dim policy batch = dimension_records dim policy One batch >>= λ records. Ok (dimension_table (trial_commands policy dim records) dim)
+trial_rows dim policy batch = dimension_records dim policy batch >>= λ records. Ok (dimension_table (trial_commands policy dim records) dim)
 
 -- the table, or the fault of the batch
 abbrev pub table_answer : Result (List DimRow) BatchFault → Printed

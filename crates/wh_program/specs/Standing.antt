@@ -10,7 +10,7 @@ use Rattle.wh_history.specs.Tables.{Limits}
 use Rattle.wh_rows.specs.AtRest.{AreTrees, IsAtRest}
 use Rattle.wh_rows.specs.Raw.{Stored, IsStored, RestsOn}
 use Rattle.wh_rows.specs.Schema.{schema_in}
-use Rattle.wh_rows.specs.declared.format.Format.TheVariants.{One}
+use Rattle.wh_policy.specs.declared.format.Format.TheVariants.{One}
 use Rattle.wh_admission.specs.Admission.{AreAdmitted}
 use Rattle.wh_engine.specs.Answered as engine
 

@@ -22,11 +22,11 @@ use std::alloc::{AllocError, Global};
 use std::fmt::Write;
 use std::test::Fail;
 use wh_batch::{
-    BatchFault, DimensionRecords, Format, Kind, Manifest, ManifestEntry, Records, SaleRecords,
+    BatchFault, DimensionRecords, Kind, Manifest, ManifestEntry, Records, SaleRecords,
     dimension_records, read, sale_records,
 };
 use wh_day::{Day, NaturalKey, ParseError, Values};
-use wh_policy::{DimensionRecord, Policy, SaleRecord};
+use wh_policy::{DimensionRecord, Format, Policy, SaleRecord};
 use wh_scenarios::{Driver, NotMade, Step, bytes_of, parted};
 
 #[derive(Drop)]
@@ -78,8 +78,16 @@ fn batch_step(alloc: Global, words: &str, answer: &mut String) -> Result<(), All
 /// The kind that a word names.
 fn kind(word: &str) -> Kind {
     match word {
-        "sales" => Kind::Sales,
+        "sales" | "discounted" => Kind::Sales,
         _ => Kind::Dimension(dim(word)),
+    }
+}
+
+/// The format that a batch is written in: `discounted` are sales in the second.
+fn format_of(word: &str) -> Format {
+    match word {
+        "discounted" => Format::Two,
+        _ => Format::One,
     }
 }
 
@@ -88,6 +96,9 @@ fn header(word: &str) -> &'static str {
         "product" => "id,day,description,brand\n",
         "store" => "id,day,city\n",
         "customer" => "id,day,tier\n",
+        "discounted" => {
+            "ticket,line,day,store,product,customer,quantity,amount,cost,discount\n"
+        }
         _ => "ticket,line,day,store,product,customer,quantity,amount,cost\n",
     }
 }
@@ -118,12 +129,12 @@ fn push_batch(
     let policy = Policy::trial(alloc)?;
     match kind(word) {
         Kind::Dimension(dim) => {
-            match dimension_records(alloc, dim, &policy, Format::One, text) {
+            match dimension_records(alloc, dim, &policy, text) {
                 Ok(records) => push_members(answer, &records),
                 Err(e) => push_fault(answer, e),
             }
         }
-        Kind::Sales => match sale_records(alloc, &policy, Format::One, text) {
+        Kind::Sales => match sale_records(alloc, &policy, format_of(word), text) {
             Ok(records) => push_sales(answer, &records),
             Err(e) => push_fault(answer, e),
         },
@@ -137,7 +148,7 @@ fn push_either(
     text: &[u8],
 ) -> Result<(), AllocError> {
     let policy = Policy::trial(alloc)?;
-    match read(alloc, kind(word), &policy, Format::One, text) {
+    match read(alloc, kind(word), &policy, format_of(word), text) {
         Ok(Records::Dimension(records)) => {
             push_count(answer, "of a dimension", records.as_slice().len())
         }
@@ -192,6 +203,9 @@ fn push_sale(answer: &mut String, sale: &SaleRecord) -> Result<(), AllocError> {
     push_next(answer, sale.quantity as i128)?;
     push_next(answer, sale.amount as i128)?;
     push_next(answer, sale.cost as i128)?;
+    if sale.discount > 0 {
+        push_next(answer, sale.discount as i128)?;
+    }
     answer.push_str("\n")
 }
 
@@ -279,6 +293,7 @@ fn push_made_sale(alloc: Global, answer: &mut String) -> Result<(), AllocError> 
             quantity: -1,
             amount: -250,
             cost: -160,
+            discount: 0,
         })?;
     }
     push_sales(answer, &records)

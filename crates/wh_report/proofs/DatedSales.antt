@@ -19,7 +19,7 @@ use Rattle.wh_policy.specs.declared.record.DimensionRecord.{DimensionRecord}
 use Rattle.wh_policy.specs.declared.record.SaleRecord.{SaleRecord}
 use Rattle.wh_batch.specs.Layouts.{sales_layout, sale_records}
 use Rattle.wh_batch.specs.declared.fault.BatchFault.{BatchFault}
-use Rattle.wh_batch.specs.declared.kind.Format.TheVariants.{One}
+use Rattle.wh_policy.specs.declared.format.Format.TheVariants.{One}
 use Rattle.wh_batch.specs.declared.kind.Kind.TheVariants.{Dimension, Sales}
 use Rattle.wh_batch.proofs.GoodLemmas.{reads_batches}
 use Rattle.wh_history.specs.Accepted.{Accepted, Content, Governs, Describes, Sells, governed, policy_after, sold, sold_by}
@@ -81,7 +81,7 @@ each_passes years (s ∷ sales) all = let parts = both _ _ all in (parts.0, each
 
 read_within : (policy : Policy) (bytes : List ℕ) (sales : List SaleRecord) → sale_records policy One bytes ≡ Ok sales → AreWithin policy.years sales
 unfolding sale_records
-read_within policy bytes sales read = each_passes policy.years sales (((reads_batches (sales_layout policy.years) bytes sales).0 read).within)
+read_within policy bytes sales read = each_passes policy.years sales (((reads_batches (sales_layout One policy.years) bytes sales).0 read).within)
 
 module _ (commands : List Accepted) (c : Command) (within : IsWithinAll commands) where
   abbrev with_it : Content → List Accepted

@@ -1,5 +1,5 @@
 -- What is counted of facts, in whatever order they come.
-use Rattle.std.proofs.Common.{◌≡◌, inl, inr, ℕ, ℤ, pos, negsuc, ◌≤◌, ◌&&◌, ◌⊎◌, Bool, true, cond, List, [], ◌∷◌, ◌++◌, map, length, Option, Some, None, Ok, Err, Result, refl, sym, ◌∙◌, ap, subst, subst₂, arith, length-append, zero, suc}
+use Rattle.std.proofs.Common.{◌==◌, ◌≡◌, inl, inr, ℕ, ℤ, pos, negsuc, ◌≤◌, ◌&&◌, ◌⊎◌, Bool, true, cond, List, [], ◌∷◌, ◌++◌, map, length, Option, Some, None, Ok, Err, Result, refl, sym, ◌∙◌, ap, subst, subst₂, arith, length-append, zero, suc}
 use Rattle.std.specs.Prelude.{filter_map, flat_map, Contains, IsSome, IsTrue, is_some, false}
 use Rattle.std.specs.FinMap.{values, entries}
 use Rattle.std.specs.List.{AllByRecursion, cons_option}
@@ -17,7 +17,7 @@ use Rattle.wh_day.specs.Day.{is_day}
 use Rattle.wh_history.specs.declared.facts.Fact.{Fact}
 use Rattle.wh_rows.specs.AtRest.{IsAtRest}
 use Rattle.wh_rows.specs.KeyedSales.{keyed}
-use Rattle.wh_rows.specs.Rows.{is_fact}
+use Rattle.wh_rows.specs.Rows.{has_good_columns, is_fact}
 use Rattle.wh_rows.specs.Tables.{Tables}
 use Rattle.wh_rows.specs.Types.{is_key, is_line, is_measure, is_number}
 use Rattle.wh_rows.specs.declared.keyed_sale.FactColumn.{FactColumn}
@@ -101,7 +101,7 @@ last_three a b c d e f g h i j x y z all =
 valid_measures : (column : LabelColumn) (f : Fact) → is_fact f ≡ true → IsMeasured (measures_of (keyed (key_by column) f))
 valid_measures column f valid =
     let last = last_three (is_key 20 f.ticket) (is_line f.line) (is_day f.day) (is_number f.keys.store_key) (is_number f.keys.product_key) (is_number f.keys.customer_key) (is_number f.store_durable) (is_number f.product_durable) (is_number f.customer_durable) (is_number f.keys.profile)
-    (is_measure 9_999 f.quantity) (is_measure 999_999_999 f.amount) (is_measure 999_999_999 f.cost) valid in
+    (is_measure 9_999 f.quantity) (is_measure 999_999_999 f.amount) (is_measure 999_999_999 f.cost) (and_parts (has_good_columns f) (f.discount == 0) valid).0 in
     record { quantity = up_to 9_999 f.quantity last.0; amount = up_to 999_999_999 f.amount last.1; cost = up_to 999_999_999 f.cost last.2 }
 
 all_values : {K : Type 0} (P : Fact → Type 0) (es : List (K × Fact)) → AllByRecursion (λ e. P e.1) es → AllByRecursion P (map (λ e. e.1) es)

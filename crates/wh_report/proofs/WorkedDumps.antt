@@ -62,7 +62,7 @@ a_leap_day : row_line row.calendar (calendar_row [] 20240229) ≡ codes "2024022
 unfolding day_on_literals escaped fields_text is_blank digits
 a_leap_day = refl
 
-a_fact : row_line row.fact (record { ticket = codes "T1"; line = 1; day = 20240205; keys = record { store_key = 1; product_key = 3; customer_key = 0; profile = 0 }; store_durable = 1; product_durable = 1; customer_durable = 0; quantity = negsuc 1; amount = negsuc 499; cost = pos 320 })
+a_fact : row_line row.fact (record { ticket = codes "T1"; line = 1; day = 20240205; keys = record { store_key = 1; product_key = 3; customer_key = 0; profile = 0 }; store_durable = 1; product_durable = 1; customer_durable = 0; quantity = negsuc 1; amount = negsuc 499; cost = pos 320; discount = 0 })
     ≡ codes "T1,1,20240205,1,3,0,1,1,0,0,-2,-500,320\n"
 unfolding escaped fields_text is_blank digits
 a_fact = refl

@@ -35,7 +35,7 @@ abbrev customer : ℕ → List ℕ → DimensionRecord
 customer day age_band = record { natural = codes "C9"; day = day; values = codes "Gold" ∷ age_band ∷ codes "high" ∷ [] }
 
 abbrev sale : List ℕ → ℕ → List ℕ → Option (List ℕ) → ℤ → ℤ → ℤ → SaleRecord
-sale ticket day what card quantity amount cost = record { ticket = ticket; line = 1; day = day; store = codes "S1"; product = what; customer = card; quantity = quantity; amount = amount; cost = cost }
+sale ticket day what card quantity amount cost = record { ticket = ticket; line = 1; day = day; store = codes "S1"; product = what; customer = card; quantity = quantity; amount = amount; cost = cost; discount = 0 }
 
 abbrev one : Dim → List ℕ → DimensionRecord → Accepted
 one dim id r = accepted id (Describes dim (r ∷ []))

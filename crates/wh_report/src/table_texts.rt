@@ -14,8 +14,8 @@ use std::alloc::{AllocError, Global};
 use wh_day::{DateRow, Value, Values};
 use wh_history::{DimRow, Fact};
 use wh_rows::{
-    ChangeRow, CommandRow, Fact2, MemberRow, MetaRow, ProfileRow, StoredTable, Table, VoidRow,
-    dim_number, tables,
+    ChangeRow, CommandRow, MemberRow, MetaRow, ProfileRow, StoredTable, Table, VoidRow, dim_number,
+    tables,
 };
 
 /// A table that can be dumped.
@@ -271,8 +271,8 @@ impl DumpedTable for tables::Fact2 {
         StringRecord::from_fields(alloc, Table::Fact2.columns())
     }
 
-    fn fields(alloc: Global, row: &Fact2, fields: &mut StringRecord) -> Result<(), AllocError> {
-        tables::Fact::fields(alloc, &row.fact, fields)?;
+    fn fields(alloc: Global, row: &Fact, fields: &mut StringRecord) -> Result<(), AllocError> {
+        tables::Fact::fields(alloc, row, fields)?;
         push_number(fields, row.discount)
     }
 }

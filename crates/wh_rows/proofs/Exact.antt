@@ -13,7 +13,6 @@ use Rattle.wh_day.specs.declared.calendar.DateRow.{DateRow}
 use Rattle.wh_policy.specs.declared.attribute.Dim.{Dim}
 use Rattle.wh_history.specs.declared.rows.DimRow.{DimRow}
 use Rattle.wh_history.specs.declared.facts.Fact.{Fact}
-use Rattle.wh_rows.specs.declared.rows.Fact2.{Fact2}
 use Rattle.wh_rows.specs.declared.rows.VoidRow.{VoidRow}
 use Rattle.wh_rows.specs.declared.columns.Damaged.{Damaged}
 use Rattle.wh_rows.specs.declared.rows.MetaRow.{MetaRow}
@@ -22,7 +21,7 @@ use Rattle.wh_rows.specs.declared.rows.MemberRow.{MemberRow}
 use Rattle.wh_rows.specs.declared.rows.ChangeRow.{ChangeRow}
 use Rattle.wh_rows.specs.declared.rows.ProfileRow.{ProfileRow}
 use Rattle.wh_rows.specs.Types.{is_number, is_discount, is_line, is_measure, is_key, is_kind, are_slots}
-use Rattle.wh_rows.specs.Rows.{encode_meta, encode_command, encode_member, encode_change, encode_dimension, encode_profile, encode_date, encode_fact, encode_fact2, encode_void, is_meta, is_command, is_member, is_change, is_natural, is_dimension, is_profile, is_date, is_fact, is_fact2, is_void}
+use Rattle.wh_rows.specs.Rows.{encode_meta, encode_command, encode_member, encode_change, encode_dimension, encode_profile, encode_date, encode_fact, encode_fact2, encode_void, is_meta, is_command, is_member, is_change, is_natural, is_dimension, is_profile, is_date, has_good_columns, is_fact, is_fact2, is_void}
 use Rattle.wh_rows.specs.Columns.{integer_of, number_of, discount_of, line_of, measure_of, day_of, flag_of, dim_of, blob_of, text_of, tested_of, slots_of}
 use Rattle.wh_rows.specs.Stored.{meta_columns, command_columns, member_columns, change_columns, dimension_columns, profile_columns, date_columns, fact_columns, fact2_columns, void_columns, meta_of, command_of, member_of, change_of, dimension_of, profile_of, date_of, fact_of, fact2_of, void_of}
 use Rattle.wh_rows.proofs.Edits.{same_value}
@@ -319,9 +318,9 @@ fact_columns_sound row r h =
     let e11 = measure_so 999999999 (column row 11) c11.0 c11.1 in
     let c12 = bind_ok (measure_of 999999999 (column row 12)) _ r c11.2 in
     let e12 = measure_so 999999999 (column row 12) c12.0 c12.1 in
-    let found : Fact = record { ticket = c0.0; line = c1.0; day = c2.0; keys = record { store_key = c3.0; product_key = c4.0; customer_key = c5.0; profile = c9.0 }; store_durable = c6.0; product_durable = c7.0; customer_durable = c8.0; quantity = c10.0; amount = c11.0; cost = c12.0 } in
+    let found : Fact = record { ticket = c0.0; line = c1.0; day = c2.0; keys = record { store_key = c3.0; product_key = c4.0; customer_key = c5.0; profile = c9.0 }; store_durable = c6.0; product_durable = c7.0; customer_durable = c8.0; quantity = c10.0; amount = c11.0; cost = c12.0; discount = 0 } in
     let columns = ap₂ ◌∷◌ e0.0 (ap₂ ◌∷◌ e1.0 (ap₂ ◌∷◌ e2.0 (ap₂ ◌∷◌ e3.0 (ap₂ ◌∷◌ e4.0 (ap₂ ◌∷◌ e5.0 (ap₂ ◌∷◌ e6.0 (ap₂ ◌∷◌ e7.0 (ap₂ ◌∷◌ e8.0 (ap₂ ◌∷◌ e9.0 (ap₂ ◌∷◌ e10.0 (ap₂ ◌∷◌ e11.0 (ap₂ ◌∷◌ e12.0 (refl))))))))))))) in
-    subst (λ r. (is_fact r ≡ true) × (column row 0 ∷ column row 1 ∷ column row 2 ∷ column row 3 ∷ column row 4 ∷ column row 5 ∷ column row 6 ∷ column row 7 ∷ column row 8 ∷ column row 9 ∷ column row 10 ∷ column row 11 ∷ column row 12 ∷ [] ≡ encode_fact r)) (same_value c12.2) (both (both (both (both (both (both (both (both (both (both (both (both e0.1 e1.1) (e2.1)) (e3.1)) (e4.1)) (e5.1)) (e6.1)) (e7.1)) (e8.1)) (e9.1)) (e10.1)) (e11.1)) (e12.1), columns)
+    subst (λ r. (is_fact r ≡ true) × (column row 0 ∷ column row 1 ∷ column row 2 ∷ column row 3 ∷ column row 4 ∷ column row 5 ∷ column row 6 ∷ column row 7 ∷ column row 8 ∷ column row 9 ∷ column row 10 ∷ column row 11 ∷ column row 12 ∷ [] ≡ encode_fact r)) (same_value c12.2) (both (both (both (both (both (both (both (both (both (both (both (both (both e0.1 e1.1) (e2.1)) (e3.1)) (e4.1)) (e5.1)) (e6.1)) (e7.1)) (e8.1)) (e9.1)) (e10.1)) (e11.1)) (e12.1)) refl, columns)
 
 pub fact_sound : (row : Row) (r : Fact) → fact_of row ≡ Ok r → (is_fact r ≡ true) × (row ≡ encode_fact r)
 unfolding fact_of
@@ -330,8 +329,8 @@ fact_sound row r h =
     let found = fact_columns_sound row r all.1 in
     (found.0, whole Null row 13 (eqb-true (length row) 13 all.0) ∙ found.1)
 
--- a fact's columns are read as the fact, whatever stands behind them
-fact_columns_complete : (r : Fact) (more : Row) → is_fact r ≡ true → fact_columns (encode_fact r ++ more) ≡ Ok r
+-- a fact's columns are read as the fact without its discount, whatever stands behind them
+fact_columns_complete : (r : Fact) (more : Row) → has_good_columns r ≡ true → fact_columns (encode_fact r ++ more) ≡ Ok (record r { discount = 0 })
 fact_columns_complete r more valid =
     let a12 = and_parts (is_key 20 r.ticket && is_line r.line && is_day r.day && is_number r.keys.store_key && is_number r.keys.product_key && is_number r.keys.customer_key && is_number r.store_durable && is_number r.product_durable && is_number r.customer_durable && is_number r.keys.profile && is_measure 9999 r.quantity && is_measure 999999999 r.amount) (is_measure 999999999 r.cost) valid in
     let a11 = and_parts (is_key 20 r.ticket && is_line r.line && is_day r.day && is_number r.keys.store_key && is_number r.keys.product_key && is_number r.keys.customer_key && is_number r.store_durable && is_number r.product_durable && is_number r.customer_durable && is_number r.keys.profile && is_measure 9999 r.quantity) (is_measure 999999999 r.amount) a12.0 in
@@ -345,27 +344,30 @@ fact_columns_complete r more valid =
     let a3 = and_parts (is_key 20 r.ticket && is_line r.line && is_day r.day) (is_number r.keys.store_key) a4.0 in
     let a2 = and_parts (is_key 20 r.ticket && is_line r.line) (is_day r.day) a3.0 in
     let a1 = and_parts (is_key 20 r.ticket) (is_line r.line) a2.0 in
-    bind_is _ r.ticket _ r (tested_is (is_key 20) r.ticket (key_text 20 r.ticket a1.0) a1.0)
-    (bind_is _ r.line _ r (line_is r.line a1.1)
-    (bind_is _ r.day _ r (day_is r.day a2.1)
-    (bind_is _ r.keys.store_key _ r (number_is r.keys.store_key a3.1)
-    (bind_is _ r.keys.product_key _ r (number_is r.keys.product_key a4.1)
-    (bind_is _ r.keys.customer_key _ r (number_is r.keys.customer_key a5.1)
-    (bind_is _ r.store_durable _ r (number_is r.store_durable a6.1)
-    (bind_is _ r.product_durable _ r (number_is r.product_durable a7.1)
-    (bind_is _ r.customer_durable _ r (number_is r.customer_durable a8.1)
-    (bind_is _ r.keys.profile _ r (number_is r.keys.profile a9.1)
-    (bind_is _ r.quantity _ r (measure_is 9999 r.quantity a10.1)
-    (bind_is _ r.amount _ r (measure_is 999999999 r.amount a11.1)
-    (bind_is _ r.cost _ r (measure_is 999999999 r.cost a12.1) refl))))))))))))
+    let made : Fact = record r { discount = 0 } in
+    bind_is _ r.ticket _ made (tested_is (is_key 20) r.ticket (key_text 20 r.ticket a1.0) a1.0)
+    (bind_is _ r.line _ made (line_is r.line a1.1)
+    (bind_is _ r.day _ made (day_is r.day a2.1)
+    (bind_is _ r.keys.store_key _ made (number_is r.keys.store_key a3.1)
+    (bind_is _ r.keys.product_key _ made (number_is r.keys.product_key a4.1)
+    (bind_is _ r.keys.customer_key _ made (number_is r.keys.customer_key a5.1)
+    (bind_is _ r.store_durable _ made (number_is r.store_durable a6.1)
+    (bind_is _ r.product_durable _ made (number_is r.product_durable a7.1)
+    (bind_is _ r.customer_durable _ made (number_is r.customer_durable a8.1)
+    (bind_is _ r.keys.profile _ made (number_is r.keys.profile a9.1)
+    (bind_is _ r.quantity _ made (measure_is 9999 r.quantity a10.1)
+    (bind_is _ r.amount _ made (measure_is 999999999 r.amount a11.1)
+    (bind_is _ r.cost _ made (measure_is 999999999 r.cost a12.1) refl))))))))))))
 
 pub fact_complete : (r : Fact) → is_fact r ≡ true → fact_of (encode_fact r) ≡ Ok r
 unfolding fact_of
-fact_complete r valid = fact_columns_complete r [] valid
+fact_complete r valid =
+    let parts = and_parts (has_good_columns r) (r.discount == 0) valid in
+    fact_columns_complete r [] parts.0 ∙ ap (λ d. Ok (record r { discount = d })) (sym (eqb-true r.discount 0 parts.1))
 
 -- ---- fact2
 
-pub fact2_sound : (row : Row) (r : Fact2) → fact2_of row ≡ Ok r → (is_fact2 r ≡ true) × (row ≡ encode_fact2 r)
+pub fact2_sound : (row : Row) (r : Fact) → fact2_of row ≡ Ok r → (is_fact2 r ≡ true) × (row ≡ encode_fact2 r)
 unfolding fact2_of
 fact2_sound row r h =
     let all = when_ok (length row == 14) (fact2_columns row) r h in
@@ -373,15 +375,15 @@ fact2_sound row r h =
     let e0 = fact_columns_sound row c0.0 c0.1 in
     let c1 = bind_ok (discount_of (column row 13)) _ r c0.2 in
     let e1 = discount_so (column row 13) c1.0 c1.1 in
-    let found : Fact2 = record { fact = c0.0; discount = c1.0 } in
+    let found : Fact = record c0.0 { discount = c1.0 } in
     let columns : row ≡ encode_fact2 found = whole Null row 14 (eqb-true (length row) 14 all.0) ∙ ap₂ (λ (l : Row) d. l ++ d ∷ []) e0.1 e1.0 in
-    subst (λ r. (is_fact2 r ≡ true) × (row ≡ encode_fact2 r)) (same_value c1.2) (both e0.0 e1.1, columns)
+    subst (λ r. (is_fact2 r ≡ true) × (row ≡ encode_fact2 r)) (same_value c1.2) (both (and_parts (has_good_columns c0.0) (c0.0.discount == 0) e0.0).0 e1.1, columns)
 
-pub fact2_complete : (r : Fact2) → is_fact2 r ≡ true → fact2_of (encode_fact2 r) ≡ Ok r
+pub fact2_complete : (r : Fact) → is_fact2 r ≡ true → fact2_of (encode_fact2 r) ≡ Ok r
 unfolding fact2_of
 fact2_complete r valid =
-    let parts = and_parts (is_fact r.fact) (is_discount r.discount) valid in
-    bind_is _ r.fact _ r (fact_columns_complete r.fact (Int (pos r.discount) ∷ []) parts.0)
+    let parts = and_parts (has_good_columns r) (is_discount r.discount) valid in
+    bind_is _ (record r { discount = 0 }) _ r (fact_columns_complete r (Int (pos r.discount) ∷ []) parts.0)
     (bind_is _ r.discount _ r (discount_is r.discount parts.1) refl)
 
 -- ---- void

@@ -29,15 +29,14 @@ use Rattle.wh_rows.specs.declared.keyed_sale.FactColumn.{FactColumn}
 use Rattle.wh_rows.specs.declared.keyed_sale.FactColumn.TheVariants.{Surrogate, Durable, Profile, Day}
 use Rattle.wh_rows.specs.declared.keyed_sale.KeyedSale.{KeyedSale}
 use Rattle.wh_rows.specs.declared.table.Table.TheVariants as tables
-use Rattle.wh_rows.specs.declared.format.Format.{Format}
-use Rattle.wh_rows.specs.declared.format.Format.TheVariants.{One, Two}
-use Rattle.wh_rows.specs.Formats.{is_two}
+use Rattle.wh_policy.specs.declared.format.Format.{Format}
+use Rattle.wh_policy.specs.declared.format.Format.TheVariants.{One, Two}
+use Rattle.wh_policy.specs.Formats.{is_two}
 use Rattle.wh_rows.specs.Meaning.{Means}
 use Rattle.wh_rows.specs.Schema.{schema_in}
 use Rattle.wh_rows.specs.Types.{is_key, is_line, is_number, is_measure, is_discount}
 use Rattle.wh_rows.specs.Rows as row
-use Rattle.wh_rows.specs.Rows.{is_fact, encode_fact, encode_fact2}
-use Rattle.wh_rows.specs.declared.rows.Fact2.{Fact2}
+use Rattle.wh_rows.specs.Rows.{has_good_columns, encode_fact, encode_fact2}
 use Rattle.wh_rows.proofs.Formats.{valid_in}
 use Rattle.wh_rows.proofs.Means.{never_shows}
 use Rattle.wh_rows.specs.Columns.{day_of, measure_of}
@@ -79,7 +78,7 @@ keyed_sound row s h =
     ∙ ap₂ ◌∷◌ (day_so _ _ day.1).0 (ap₂ ◌∷◌ (key_so _ _ key.1) (ap₂ ◌∷◌ (measure_so 9999 _ _ quantity.1).0 (ap₂ ◌∷◌ (measure_so 999999999 _ _ amount.1).0 (ap₂ ◌∷◌ (measure_so 999999999 _ _ cost.1).0 refl)))) in
     subst (λ s. row ≡ columns_of s) (same_value cost.2) columns
 
-keyed_complete : (which : FactColumn) (f : Fact) → is_fact f ≡ true → keyed_of (columns_of (keyed which f)) ≡ Ok (keyed which f)
+keyed_complete : (which : FactColumn) (f : Fact) → has_good_columns f ≡ true → keyed_of (columns_of (keyed which f)) ≡ Ok (keyed which f)
 unfolding keyed_of key_in
 keyed_complete which f valid =
     let cost = and_parts _ (is_measure 999999999 f.cost) valid in
@@ -103,7 +102,7 @@ pub keyed_ok : (row : Row) (result : Result KeyedSale (ParseError Damaged)) → 
 keyed_ok row (Ok s) gives = keyed_sound row s gives
 keyed_ok row (Err e) gives = tt
 
-pub keyed_err : (row : Row) (result : Result KeyedSale (ParseError Damaged)) → Gives (λ s. s) result (keyed_of row) → IfErr result (λ e. e ≢ Memory → (which : FactColumn) (f : Fact) → IsTrue (is_fact f) → row ≢ columns_of (keyed which f))
+pub keyed_err : (row : Row) (result : Result KeyedSale (ParseError Damaged)) → Gives (λ s. s) result (keyed_of row) → IfErr result (λ e. e ≢ Memory → (which : FactColumn) (f : Fact) → IsTrue (has_good_columns f) → row ≢ columns_of (keyed which f))
 keyed_err row (Ok s) gives = tt
 keyed_err row (Err Memory) gives = λ fault. absurd (fault refl)
 keyed_err row (Err (Fault d)) gives = λ fault which f valid is. let one = sym gives ∙ ap keyed_of is ∙ keyed_complete which f valid in absurd (cc)
@@ -182,10 +181,10 @@ module _ (which : FactColumn) (old new : State) (answer : List Row) (shown : Sho
   shows_stored_sales stored is = IsPermutation-trans _ _ _ (IsPermutation-map (shown_of which) _ _ (IsPermutation-sym _ _ (is.rows tables.Fact))) (shows_each stored.format is.schema)
 
   -- a row of the answer that shows no fact is that of a damaged one
-  pub shows_damage : (shows : Row) → Has answer shows → ((f : Fact) → IsTrue (is_fact f) → shows ≢ columns_of (keyed which f)) → (stored : Stored) → IsStored stored old.now → HasDamage row.fact (stored.rows tables.Fact)
+  pub shows_damage : (shows : Row) → Has answer shows → ((f : Fact) → IsTrue (has_good_columns f) → shows ≢ columns_of (keyed which f)) → (stored : Stored) → IsStored stored old.now → HasDamage row.fact (stored.rows tables.Fact)
   shows_damage shows here none stored is =
       let found = has_mapped (shown_of which) (stored.rows tables.Fact) shows (has_again _ answer shows (shows_stored_sales stored is) here) in
-      (found.0, found.1, λ f valid same. none f valid (found.2 ∙ ap (shown_of which) same ∙ shown_fact which f))
+      (found.0, found.1, λ f valid same. none f (and_parts (has_good_columns f) (f.discount == 0) valid).0 (found.2 ∙ ap (shown_of which) same ∙ shown_fact which f))
 
   -- of tables, the facts' sales
   pub shows_typed_sales : (t : Tables) → Stores old.now t → (ordered : List Fact) × IsPermutation ordered (values t.fact) × (answer ≡ map columns_of (map (keyed which) ordered))
@@ -201,7 +200,7 @@ no_fact_damaged db t is = no_damage row.fact ((stored_of t).rows tables.Fact) (v
 
 -- ---- the same of the second format
 
-pub shown_fact2 : (which : FactColumn) (r : Fact2) → shown_of which (encode_fact2 r) ≡ columns_of (keyed which r.fact)
+pub shown_fact2 : (which : FactColumn) (r : Fact) → shown_of which (encode_fact2 r) ≡ columns_of (keyed which r)
 shown_fact2 (Surrogate Product) r = refl
 shown_fact2 (Surrogate Store) r = refl
 shown_fact2 (Surrogate Customer) r = refl
@@ -230,18 +229,16 @@ module _ (which : FactColumn) (old new : State) (answer : List Row) (shown : Sho
   shows_stored_sales2 stored is = IsPermutation-trans _ _ _ (IsPermutation-map (shown_of which) _ _ (IsPermutation-sym _ _ (is.rows tables.Fact2))) (shows_each2 stored.format is.schema)
 
   -- a row of the answer that shows no fact is that of a damaged one
-  pub shows_damage2 : (shows : Row) → Has answer shows → ((f : Fact) → IsTrue (is_fact f) → shows ≢ columns_of (keyed which f)) → (stored : Stored) → IsStored stored old.now → HasDamage row.fact2 (stored.rows tables.Fact2)
+  pub shows_damage2 : (shows : Row) → Has answer shows → ((f : Fact) → IsTrue (has_good_columns f) → shows ≢ columns_of (keyed which f)) → (stored : Stored) → IsStored stored old.now → HasDamage row.fact2 (stored.rows tables.Fact2)
   shows_damage2 shows here none stored is =
       let found = has_mapped (shown_of which) (stored.rows tables.Fact2) shows (has_again _ answer shows (shows_stored_sales2 stored is) here) in
-      (found.0, found.1, λ r valid same. none r.fact (and_parts (is_fact r.fact) (is_discount r.discount) valid).0 (found.2 ∙ ap (shown_of which) same ∙ shown_fact2 which r))
+      (found.0, found.1, λ r valid same. none r (and_parts (has_good_columns r) (is_discount r.discount) valid).0 (found.2 ∙ ap (shown_of which) same ∙ shown_fact2 which r))
 
   -- of tables, the facts' sales
-  pub shows_typed_sales2 : (t : Tables) → Stores old.now t → (ordered : List Fact) × IsPermutation ordered (map (λ r. r.fact) (values t.fact2)) × (answer ≡ map columns_of (map (keyed which) ordered))
+  pub shows_typed_sales2 : (t : Tables) → Stores old.now t → (ordered : List Fact) × IsPermutation ordered (values t.fact2) × (answer ≡ map columns_of (map (keyed which) ordered))
   shows_typed_sales2 t is =
-      let rows = values t.fact2 in
-      let facts : List Fact = map (λ r. r.fact) rows in
-      let each : map (shown_of which) (map encode_fact2 rows) ≡ map (λ f. columns_of (keyed which f)) facts =
-      map-map (shown_of which) encode_fact2 rows ∙ ap (λ f. map f rows) (λ i r. shown_fact2 which r i) ∙ sym (map-map (λ f. columns_of (keyed which f)) (λ (r : Fact2). r.fact) rows) in
+      let facts = values t.fact2 in
+      let each : map (shown_of which) (map encode_fact2 facts) ≡ map (λ f. columns_of (keyed which f)) facts = map-map (shown_of which) encode_fact2 facts ∙ ap (λ f. map f facts) (λ i f. shown_fact2 which f i) in
       let back = pull_back (λ f. columns_of (keyed which f)) _ answer (shows_stored_sales2 (stored_of t) (stores_stored old.now t is)) facts each in
       (back.0, IsPermutation-sym _ _ back.1, back.2 ∙ sym (map-map columns_of (keyed which) back.0))
 

@@ -10,7 +10,7 @@ use Rattle.sqlite.specs.State.{State, Executes, IsUnchanged, Survives, Shown, Co
 use Rattle.sqlite_rules.specs.Lists.{Has}
 use Rattle.sqlite_rules.proofs.ListLemmas.{test_has}
 use Rattle.sqlite.specs.Schema.{Schema}
-use Rattle.wh_rows.specs.declared.format.Format.{Format}
+use Rattle.wh_policy.specs.declared.format.Format.{Format}
 use Rattle.wh_rows.specs.Schema.{schema_in}
 use Rattle.wh_rows.specs.Holds.{Layout}
 use Rattle.wh_rows.specs.Place.{IsPlaced}
@@ -31,8 +31,8 @@ use Rattle.wh_rows.proofs.Queries.{query_keeps, query_commits_nothing}
 use Rattle.sqlite.specs.declared.error.Error.{Error}
 use Rattle.wh_rows.proofs.Puts.{holds_put, was_free, is_moved}
 use Rattle.wh_rows.specs.Rows as row
-use Rattle.wh_rows.specs.Formats.{is_two}
-use Rattle.wh_rows.specs.Rekey.{Rekey, rekey_text, bind_rekey, are_keys, with_keys, rekeyed, rekey2_text, with_keys2, rekeyed2}
+use Rattle.wh_policy.specs.Formats.{is_two}
+use Rattle.wh_rows.specs.Rekey.{Rekey, rekey_text, bind_rekey, are_keys, with_keys, rekeyed, rekey2_text}
 use Rattle.wh_rows.proofs.EachTable.Facts.{rekey, valid_rekeyed}
 use Rattle.wh_rows.proofs.EachTable.Facts2.{valid_rekeyed2}
 use Rattle.wh_rows.proofs.Places as places
@@ -211,8 +211,8 @@ fact_rekeyed old new t stored r keys count ran =
     row_moved row.fact (λ t. t.fact) (λ m t. record t { fact = m }) places.fact rekey_text old new t stored refl bind_rekey (λ r. r.0) with_keys (rekey t.format) r
     (λ f there. valid_rekeyed r f keys (valid_at row.fact (λ t. t.fact) (λ m t. record t { fact = m }) places.fact old t stored r.0 f there)) count ran
 
-pub fact2_rekeyed : (old new : State) (t : Tables) → Stores old.now t → is_two t.format ≡ true → MovesOne (schema_in t.format) row.fact2 bind_rekey (λ r. r.0) with_keys2 rekey2_text → (r : Rekey) → IsTrue (are_keys r.1) → (count : ℕ)
-    → Executes rekey2_text (bind_rekey r) old new (Ok count) → Stores new.now (record t { fact2 = rekeyed2 r t.fact2 })
+pub fact2_rekeyed : (old new : State) (t : Tables) → Stores old.now t → is_two t.format ≡ true → MovesOne (schema_in t.format) row.fact2 bind_rekey (λ r. r.0) with_keys rekey2_text → (r : Rekey) → IsTrue (are_keys r.1) → (count : ℕ)
+    → Executes rekey2_text (bind_rekey r) old new (Ok count) → Stores new.now (record t { fact2 = rekeyed r t.fact2 })
 fact2_rekeyed old new t stored there moves r keys count ran =
-    row_moved row.fact2 (λ t. t.fact2) (λ m t. record t { fact2 = m }) places.fact2 rekey2_text old new t stored there bind_rekey (λ r. r.0) with_keys2 moves r
+    row_moved row.fact2 (λ t. t.fact2) (λ m t. record t { fact2 = m }) places.fact2 rekey2_text old new t stored there bind_rekey (λ r. r.0) with_keys moves r
     (λ f is. valid_rekeyed2 r f keys (valid_at row.fact2 (λ t. t.fact2) (λ m t. record t { fact2 = m }) places.fact2 old t stored r.0 f is)) count ran

@@ -8,9 +8,9 @@ use Rattle.std.proofs.lemmas.Bool.{cases_eq, eqb-false}
 use Rattle.sqlite.specs.Tree.{Trees}
 use Rattle.sqlite.specs.Table.{Table}
 use Rattle.sqlite.specs.Effect.{Database}
-use Rattle.wh_rows.specs.declared.format.Format.{Format}
-use Rattle.wh_rows.specs.declared.format.Format.TheVariants.{One, Two}
-use Rattle.wh_rows.specs.Formats.{is_two}
+use Rattle.wh_policy.specs.declared.format.Format.{Format}
+use Rattle.wh_policy.specs.declared.format.Format.TheVariants.{One, Two}
+use Rattle.wh_policy.specs.Formats.{is_two}
 use Rattle.wh_rows.specs.Schema.{schema_in}
 use Rattle.wh_rows.specs.Holds.{Layout, Holds, values_of, IsRising}
 use Rattle.wh_rows.specs.OneTable.{LeavesOthers}
@@ -23,7 +23,6 @@ use Rattle.wh_rows.specs.declared.rows.CommandRow.{CommandRow}
 use Rattle.wh_rows.specs.declared.rows.MemberRow.{MemberRow}
 use Rattle.wh_rows.specs.declared.rows.ChangeRow.{ChangeRow}
 use Rattle.wh_rows.specs.declared.rows.ProfileRow.{ProfileRow}
-use Rattle.wh_rows.specs.declared.rows.Fact2.{Fact2}
 use Rattle.wh_rows.specs.declared.rows.VoidRow.{VoidRow}
 use Rattle.wh_rows.specs.Rows as row
 
@@ -267,7 +266,7 @@ fact_changed old new tables rows there left held stored = record {
   void = kept_in tables.format row.fact.table old new left row.void 11 tables.void refl refl stored.void;
 }
 
-pub fact2_changed : (old new : Database) (tables : Tables) (rows : FinMap row.fact2.order Fact2) → IsTrue (is_two tables.format) → LeavesOthers (schema_in tables.format) row.fact2.table old new → Holds row.fact2 new.trees rows → Stores old tables
+pub fact2_changed : (old new : Database) (tables : Tables) (rows : FinMap row.fact2.order Fact) → IsTrue (is_two tables.format) → LeavesOthers (schema_in tables.format) row.fact2.table old new → Holds row.fact2 new.trees rows → Stores old tables
     → Stores new (record tables { fact2 = rows })
 fact2_changed old new tables rows there left held stored = record {
   schema = left.schema;

@@ -20,9 +20,9 @@ use Rattle.sqlite.specs.Command.TheVariants.{Select}
 use Rattle.sqlite.specs.Given.{IsPlain}
 use Rattle.sqlite.specs.Listing.{listing_schema, understood, reads_listing}
 use Rattle.sqlite.specs.Schema.{Schema}
-use Rattle.wh_rows.specs.declared.format.Format.{Format}
-use Rattle.wh_rows.specs.declared.format.Format.TheVariants.{One, Two}
-use Rattle.wh_rows.specs.Formats.{is_two}
+use Rattle.wh_policy.specs.declared.format.Format.{Format}
+use Rattle.wh_policy.specs.declared.format.Format.TheVariants.{One, Two}
+use Rattle.wh_policy.specs.Formats.{is_two}
 use Rattle.wh_rows.specs.Schema.{schema_in}
 use Rattle.wh_rows.specs.Rows as row
 use Rattle.wh_rows.specs.Rows.{MemberKey, ChangeKey, LineKey}
@@ -655,7 +655,7 @@ fact2_after k = record {
 
 pub fact2_keyed : IsKeyed row.fact2 bind_line stands_at_line
 fact2_keyed = record {
-  ordered = λ v k. ap₂ ordering_then (value_cmp-Text v.fact.ticket k.ticket) (then-Equal _ ∙ sorted-Nat v.fact.line k.line);
+  ordered = λ v k. ap₂ ordering_then (value_cmp-Text v.ticket k.ticket) (then-Equal _ ∙ sorted-Nat v.line k.line);
   led = λ r w. refl;
   tied = λ r k same. two_tied (column r 0) (column r 1) (Text k.ticket) (Int (pos k.line)) (tie-Text (column r 0) k.ticket) (tie-Int (column r 1) (pos k.line)) same;
 }

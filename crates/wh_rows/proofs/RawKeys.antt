@@ -19,7 +19,7 @@ use Rattle.sqlite_sql.specs.Ops.{binary, is_true, from_truth}
 use Rattle.sqlite_schema.specs.declared.schema.Constraint.TheVariants.{Unique}
 use Rattle.sqlite_schema.specs.Rules.{equal, differ, agree, clashes, passes, Keeps}
 use Rattle.sqlite.specs.Effect.{Database, IsDatabase}
-use Rattle.wh_rows.specs.declared.format.Format.{Format}
+use Rattle.wh_policy.specs.declared.format.Format.{Format}
 use Rattle.wh_rows.specs.Schema.{schema_in}
 use Rattle.wh_rows.specs.Schema as schema
 use Rattle.wh_rows.proofs.Others.{at_place}

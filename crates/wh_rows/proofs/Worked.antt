@@ -10,7 +10,7 @@ use Rattle.wh_rows.specs.declared.table.Table.TheVariants.{Fact as FactTable}
 use Rattle.wh_rows.specs.Limits.{limits_of, greatest_limits}
 use Rattle.wh_rows.specs.Types.{is_key, is_kind}
 use Rattle.wh_rows.specs.Columns.{damaged, integer_of, number_of, line_of, measure_of, day_of, flag_of, dim_of, blob_of, text_of, slot_of}
-use Rattle.wh_rows.specs.Stored.{meta_of, command_of, member_of, change_of, dimension_of, profile_of, date_of, fact_of}
+use Rattle.wh_rows.specs.Stored.{meta_of, command_of, member_of, change_of, dimension_of, profile_of, date_of, fact_of, fact2_of}
 use Rattle.wh_rows.specs.KeyedSales.{shown_of, keyed_of}
 use Rattle.wh_rows.specs.declared.keyed_sale.FactColumn.TheVariants.{Surrogate, Durable, Profile, Day}
 use Rattle.wh_rows.specs.Questions.{anchor_column}
@@ -315,9 +315,14 @@ unfolding rows_on_literals
 weekend_of_two = refl
 
 fact_row : fact_of (Text (codes "T2") ∷ Int (pos 1) ∷ Int (pos 20240610) ∷ Int (pos 1) ∷ Int (pos 9) ∷ Int (pos 1) ∷ Int (pos 1) ∷ Int (pos 2) ∷ Int (pos 1) ∷ Int (pos 1) ∷ Int (pos 1) ∷ Int (pos 1000) ∷ Int (pos 700) ∷ [])
-    ≡ Ok (record { ticket = codes "T2"; line = 1; day = 20240610; keys = record { store_key = 1; product_key = 9; customer_key = 1; profile = 1 }; store_durable = 1; product_durable = 2; customer_durable = 1; quantity = pos 1; amount = pos 1000; cost = pos 700 })
+    ≡ Ok (record { ticket = codes "T2"; line = 1; day = 20240610; keys = record { store_key = 1; product_key = 9; customer_key = 1; profile = 1 }; store_durable = 1; product_durable = 2; customer_durable = 1; quantity = pos 1; amount = pos 1000; cost = pos 700; discount = 0 })
 unfolding rows_on_literals
 fact_row = refl
+
+fact_with_discount : fact2_of (Text (codes "T5") ∷ Int (pos 1) ∷ Int (pos 20240705) ∷ Int (pos 1) ∷ Int (pos 6) ∷ Int (pos 1) ∷ Int (pos 1) ∷ Int (pos 1) ∷ Int (pos 1) ∷ Int (pos 3) ∷ Int (pos 2) ∷ Int (pos 500) ∷ Int (pos 320) ∷ Int (pos 50) ∷ [])
+    ≡ Ok (record { ticket = codes "T5"; line = 1; day = 20240705; keys = record { store_key = 1; product_key = 6; customer_key = 1; profile = 3 }; store_durable = 1; product_durable = 1; customer_durable = 1; quantity = pos 2; amount = pos 500; cost = pos 320; discount = 50 })
+unfolding rows_on_literals
+fact_with_discount = refl
 
 ticket_with_space : fact_of (Text (codes "T 2") ∷ Int (pos 1) ∷ Int (pos 20240610) ∷ Int (pos 1) ∷ Int (pos 9) ∷ Int (pos 1) ∷ Int (pos 1) ∷ Int (pos 2) ∷ Int (pos 1) ∷ Int (pos 1) ∷ Int (pos 1) ∷ Int (pos 1000) ∷ Int (pos 700) ∷ []) ≡ damaged
 unfolding rows_on_literals

@@ -1,7 +1,6 @@
 pub mod Names
 pub mod Limits
 pub mod Types
-pub mod Formats
 pub mod Schema
 pub mod ColumnNames
 pub mod SameRows
@@ -10,6 +9,7 @@ pub mod Keys
 pub mod Texts
 pub mod Rows
 pub mod Tables
+pub mod Facts
 pub mod Statements
 pub mod OneTable
 pub mod Meaning

@@ -1,8 +1,8 @@
 -- The names of the tables.
 use Rattle.std.specs.Prelude.{ℕ, codes, List, [], ◌∷◌, Option, find, bytes_eq, Bool, true}
 use Rattle.wh_rows.specs.declared.table.Table.{Table}
-use Rattle.wh_rows.specs.declared.format.Format.{Format}
-use Rattle.wh_rows.specs.Formats.{is_two}
+use Rattle.wh_policy.specs.declared.format.Format.{Format}
+use Rattle.wh_policy.specs.Formats.{is_two}
 use Rattle.wh_rows.specs.declared.table.Table.TheVariants.{Meta, Command, Member, Change, Product, Store, Customer, Profile, Calendar, Fact, Fact2, Void}
 
 -- a table's name

@@ -4,7 +4,7 @@ use Rattle.std.specs.List.{AllByRecursion}
 use Rattle.std.specs.Cmp.{IsTotalOrder}
 use Rattle.std.specs.FinMap.{FinMap, empty, entries, IsAntisymmetric}
 use Rattle.sqlite.specs.Effect.{Database}
-use Rattle.wh_rows.specs.declared.format.Format.{Format}
+use Rattle.wh_policy.specs.declared.format.Format.{Format}
 use Rattle.wh_rows.specs.Schema.{schema_in}
 use Rattle.wh_rows.specs.Holds.{Layout, Holds, IsRising}
 use Rattle.wh_rows.specs.OneTable.{LeavesOthers}

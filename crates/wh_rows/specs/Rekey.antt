@@ -5,7 +5,6 @@ use Rattle.sqlite_value.specs.declared.value.Value.TheVariants.{Int, Text}
 use Rattle.sqlite.specs.Order.{Row}
 use Rattle.wh_history.specs.declared.facts.Fact.{Fact}
 use Rattle.wh_history.specs.declared.facts.FactKeys.{FactKeys}
-use Rattle.wh_rows.specs.declared.rows.Fact2.{Fact2}
 use Rattle.wh_rows.specs.Types.{is_number}
 use Rattle.wh_rows.specs.Rows.{LineKey, line_cmp}
 use Rattle.wh_rows.specs.Meaning.{moved_at}
@@ -37,9 +36,3 @@ rekeyed r facts = moved_at facts r.0 (with_keys r) (get facts r.0)
 
 abbrev pub rekey2_text : List ℕ
 rekey2_text = codes "UPDATE fact2 SET store_key = ?3, product_key = ?4, customer_key = ?5, profile = ?6 WHERE ticket = ?1 AND line = ?2"
-
-abbrev pub with_keys2 : Rekey → Fact2 → Fact2
-with_keys2 r f = record f { fact = with_keys r f.fact }
-
-abbrev pub rekeyed2 : Rekey → FinMap line_cmp Fact2 → FinMap line_cmp Fact2
-rekeyed2 r facts = moved_at facts r.0 (with_keys2 r) (get facts r.0)

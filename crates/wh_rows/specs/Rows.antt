@@ -20,7 +20,6 @@ use Rattle.wh_rows.specs.declared.rows.CommandRow.{CommandRow}
 use Rattle.wh_rows.specs.declared.rows.MemberRow.{MemberRow}
 use Rattle.wh_rows.specs.declared.rows.ChangeRow.{ChangeRow}
 use Rattle.wh_rows.specs.declared.rows.ProfileRow.{ProfileRow}
-use Rattle.wh_rows.specs.declared.rows.Fact2.{Fact2}
 use Rattle.wh_rows.specs.declared.rows.VoidRow.{VoidRow}
 pub use Rattle.wh_rows.specs.declared.key.MemberKey.{MemberKey}
 pub use Rattle.wh_rows.specs.declared.key.ChangeKey.{ChangeKey}
@@ -165,25 +164,30 @@ encode_fact r =
     Text r.ticket ∷ Int (pos r.line) ∷ Int (pos r.day) ∷ Int (pos r.keys.store_key) ∷ Int (pos r.keys.product_key) ∷ Int (pos r.keys.customer_key) ∷ Int (pos r.store_durable)
     ∷ Int (pos r.product_durable) ∷ Int (pos r.customer_durable) ∷ Int (pos r.keys.profile) ∷ Int r.quantity ∷ Int r.amount ∷ Int r.cost ∷ []
 
-abbrev pub is_fact : Fact → Bool
-is_fact r =
+-- its columns that each format has are of their types
+abbrev pub has_good_columns : Fact → Bool
+has_good_columns r =
     is_key 20 r.ticket && is_line r.line && is_day r.day && is_number r.keys.store_key && is_number r.keys.product_key && is_number r.keys.customer_key
     && is_number r.store_durable && is_number r.product_durable && is_number r.customer_durable && is_number r.keys.profile
     && is_measure 9999 r.quantity && is_measure 999999999 r.amount && is_measure 999999999 r.cost
+
+-- a fact of the first format has no discount
+abbrev pub is_fact : Fact → Bool
+is_fact r = has_good_columns r && (r.discount == 0)
 
 abbrev pub fact : Layout LineKey Fact
 fact = record { table = schema.fact; order = line_cmp; key = λ r. record { ticket = r.ticket; line = r.line }; encode = encode_fact; is_valid = is_fact }
 
 -- ---- fact2
 
-abbrev pub encode_fact2 : Fact2 → Row
-encode_fact2 r = encode_fact r.fact ++ Int (pos r.discount) ∷ []
+abbrev pub encode_fact2 : Fact → Row
+encode_fact2 r = encode_fact r ++ Int (pos r.discount) ∷ []
 
-abbrev pub is_fact2 : Fact2 → Bool
-is_fact2 r = is_fact r.fact && is_discount r.discount
+abbrev pub is_fact2 : Fact → Bool
+is_fact2 r = has_good_columns r && is_discount r.discount
 
-abbrev pub fact2 : Layout LineKey Fact2
-fact2 = record { table = schema.fact2; order = line_cmp; key = λ r. record { ticket = r.fact.ticket; line = r.fact.line }; encode = encode_fact2; is_valid = is_fact2 }
+abbrev pub fact2 : Layout LineKey Fact
+fact2 = record { table = schema.fact2; order = line_cmp; key = λ r. record { ticket = r.ticket; line = r.line }; encode = encode_fact2; is_valid = is_fact2 }
 
 -- ---- void
 

@@ -6,7 +6,6 @@ use Rattle.wh_day.specs.declared.calendar.DateRow.{DateRow}
 use Rattle.wh_policy.specs.declared.attribute.Dim.{Dim}
 use Rattle.wh_history.specs.declared.rows.DimRow.{DimRow}
 use Rattle.wh_history.specs.declared.facts.Fact.{Fact}
-use Rattle.wh_rows.specs.declared.rows.Fact2.{Fact2}
 use Rattle.wh_rows.specs.declared.rows.VoidRow.{VoidRow}
 use Rattle.wh_rows.specs.declared.columns.Damaged.{Damaged}
 use Rattle.wh_rows.specs.declared.rows.MetaRow.{MetaRow}
@@ -123,18 +122,18 @@ fact_columns row = do
   quantity ← measure_of 9999 (column row 10)
   amount ← measure_of 999999999 (column row 11)
   cost ← measure_of 999999999 (column row 12)
-  Ok (record { ticket = ticket; line = line; day = day; keys = record { store_key = store_key; product_key = product_key; customer_key = customer_key; profile = profile }; store_durable = store_durable; product_durable = product_durable; customer_durable = customer_durable; quantity = quantity; amount = amount; cost = cost })
+  Ok (record { ticket = ticket; line = line; day = day; keys = record { store_key = store_key; product_key = product_key; customer_key = customer_key; profile = profile }; store_durable = store_durable; product_durable = product_durable; customer_durable = customer_durable; quantity = quantity; amount = amount; cost = cost; discount = 0 })
 
 unfoldable pub fact_of : Row → Result Fact Damaged
 fact_of row = if length row == 13 then fact_columns row else damaged
 
-abbrev pub fact2_columns : Row → Result Fact2 Damaged
+abbrev pub fact2_columns : Row → Result Fact Damaged
 fact2_columns row = do
   fact ← fact_columns row
   discount ← discount_of (column row 13)
-  Ok (record { fact = fact; discount = discount })
+  Ok (record fact { discount = discount })
 
-unfoldable pub fact2_of : Row → Result Fact2 Damaged
+unfoldable pub fact2_of : Row → Result Fact Damaged
 fact2_of row = if length row == 14 then fact2_columns row else damaged
 
 abbrev pub void_columns : Row → Result VoidRow Damaged

@@ -12,10 +12,9 @@ use Rattle.wh_rows.specs.declared.rows.CommandRow.{CommandRow}
 use Rattle.wh_rows.specs.declared.rows.MemberRow.{MemberRow}
 use Rattle.wh_rows.specs.declared.rows.ChangeRow.{ChangeRow}
 use Rattle.wh_rows.specs.declared.rows.ProfileRow.{ProfileRow}
-use Rattle.wh_rows.specs.declared.rows.Fact2.{Fact2}
 use Rattle.wh_rows.specs.declared.rows.VoidRow.{VoidRow}
-use Rattle.wh_rows.specs.declared.format.Format.{Format}
-use Rattle.wh_rows.specs.declared.format.Format.TheVariants.{One, Two}
+use Rattle.wh_policy.specs.declared.format.Format.{Format}
+use Rattle.wh_policy.specs.declared.format.Format.TheVariants.{One, Two}
 use Rattle.wh_rows.specs.Schema.{schema_in}
 use Rattle.wh_rows.specs.Holds.{Layout, Holds, IsRising}
 use Rattle.wh_rows.specs.Rows as row
@@ -33,7 +32,7 @@ pub record Tables : Type 0 where
   pub profile : FinMap row.profile.order ProfileRow
   pub calendar : FinMap row.calendar.order DateRow
   pub fact : FinMap row.fact.order Fact
-  pub fact2 : FinMap row.fact2.order Fact2
+  pub fact2 : FinMap row.fact2.order Fact
   pub void : FinMap row.void.order VoidRow
 
 -- the tables of the first format with no row

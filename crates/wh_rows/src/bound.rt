@@ -8,11 +8,11 @@ ghost use Rattle.sqlite.specs.Values.{bound};
 ghost use Rattle.wh_rows.specs.declared.cause.Cause.TheVariants.{Memory, Size};
 ghost use Rattle.wh_rows.specs.Types.{is_number, dim_number, is_discount};
 ghost use Rattle.wh_rows.specs.Inserting.{bind_facts, bind_facts2};
-ghost use Rattle.wh_rows.specs.Rows.{flag, slot_column, slot_columns, encode_meta, encode_command, encode_member, encode_change, encode_dimension, encode_profile, encode_date, encode_fact, encode_fact2, encode_void, is_command, is_member, is_change, is_dimension, is_profile, is_fact, is_fact2, is_void};
+ghost use Rattle.wh_rows.specs.Rows.{flag, slot_column, slot_columns, encode_meta, encode_command, encode_member, encode_change, encode_dimension, encode_profile, encode_date, encode_fact, encode_fact2, encode_void, is_command, is_member, is_change, is_dimension, is_profile, has_good_columns, is_fact, is_fact2, is_void};
 
 use crate::cause::Cause;
 use crate::key::dim_number;
-use crate::rows::{ChangeRow, CommandRow, Fact2, MemberRow, MetaRow, ProfileRow, VoidRow};
+use crate::rows::{ChangeRow, CommandRow, MemberRow, MetaRow, ProfileRow, VoidRow};
 use sqlite::types::ValueRef;
 use std::alloc::Global;
 use wh_day::{DateRow, Day, Value, Values};
@@ -242,9 +242,10 @@ pub fn date<'a>(alloc: Global, row: &'a DateRow) -> Result<Vec<ValueRef<'a>>, Ca
     Ok(values)
 }
 
-pub fn fact<'a>(alloc: Global, row: &'a Fact) -> Result<Vec<ValueRef<'a>>, Cause>
+/// The columns of a fact that each format has.
+fn common_columns<'a>(alloc: Global, row: &'a Fact) -> Result<Vec<ValueRef<'a>>, Cause>
     ensures ok { IfOk result (λ values. bound values.items ≡ encode_fact row.now) }
-    ensures err { IfErr result (λ cause. cause ≢ Memory → (cause ≡ Size) × (is_fact row.now ≡ false)) }
+    ensures err { IfErr result (λ cause. cause ≢ Memory → (cause ≡ Size) × (has_good_columns row.now ≡ false)) }
 {
     let store_key = number(row.keys.store_key)?;
     let product_key = number(row.keys.product_key)?;
@@ -274,12 +275,19 @@ pub fn fact<'a>(alloc: Global, row: &'a Fact) -> Result<Vec<ValueRef<'a>>, Cause
     Ok(values)
 }
 
-pub fn fact2<'a>(alloc: Global, row: &'a Fact2) -> Result<Vec<ValueRef<'a>>, Cause>
+pub fn fact<'a>(alloc: Global, row: &'a Fact) -> Result<Vec<ValueRef<'a>>, Cause>
+    ensures ok { IfOk result (λ values. bound values.items ≡ encode_fact row.now) }
+    ensures err { IfErr result (λ cause. cause ≢ Memory → (cause ≡ Size) × (is_fact row.now ≡ false)) }
+{
+    common_columns(alloc, row)
+}
+
+pub fn fact2<'a>(alloc: Global, row: &'a Fact) -> Result<Vec<ValueRef<'a>>, Cause>
     ensures ok { IfOk result (λ values. bound values.items ≡ encode_fact2 row.now) }
     ensures err { IfErr result (λ cause. cause ≢ Memory → (cause ≡ Size) × (is_fact2 row.now ≡ false)) }
 {
     let discount = discount(row.discount)?;
-    let mut values = fact(alloc, &row.fact)?;
+    let mut values = common_columns(alloc, row)?;
     values.push(discount)?;
     Ok(values)
 }
@@ -320,7 +328,7 @@ pub fn facts<'a>(alloc: Global, rows: &[&'a Fact]) -> Result<Vec<ValueRef<'a>>, 
 }
 
 /// The same of the second format.
-pub fn facts2<'a>(alloc: Global, rows: &[&'a Fact2]) -> Result<Vec<ValueRef<'a>>, Cause>
+pub fn facts2<'a>(alloc: Global, rows: &[&'a Fact]) -> Result<Vec<ValueRef<'a>>, Cause>
     ensures ok { IfOk result (λ values. bound values.items ≡ bind_facts2 (map (λ r. r.now) rows.now)) }
     ensures err { IfErr result (λ cause. cause ≢ Memory → (cause ≡ Size) × (list_all is_fact2 (map (λ r. r.now) rows.now) ≡ false)) }
 {

@@ -6,7 +6,7 @@ ghost use Rattle.wh_day.specs.Reading.{Gives};
 ghost use Rattle.wh_day.specs.declared.error.ParseError.TheVariants.{Memory};
 ghost use Rattle.wh_history.specs.declared.facts.Fact.{Fact};
 ghost use Rattle.wh_rows.specs.KeyedSales.{columns_of, keyed, key_in, keyed_of};
-ghost use Rattle.wh_rows.specs.Rows.{is_fact};
+ghost use Rattle.wh_rows.specs.Rows.{has_good_columns};
 
 use crate::columns::{self, Damaged};
 use sqlite::Row;
@@ -77,7 +77,7 @@ impl KeyedSale {
     pub fn read(row: &Row) -> Result<KeyedSale, ParseError<Damaged>>
         ensures ok { IfOk result (λ sale. row.now ≡ columns_of sale) }
         // Refused are the columns that no fact shows by any of its keys.
-        ensures err { IfErr result (λ e. e ≢ Memory → (which : _) (fact : Fact) → IsTrue (is_fact fact) → row.now ≢ columns_of (keyed which fact)) }
+        ensures err { IfErr result (λ e. e ≢ Memory → (which : _) (fact : Fact) → IsTrue (has_good_columns fact) → row.now ≢ columns_of (keyed which fact)) }
     {
         read_columns(row)
     }

@@ -4,7 +4,6 @@
 pub mod bound;
 mod cause;
 mod columns;
-mod format;
 mod key;
 mod keyed_sale;
 mod limits;
@@ -15,10 +14,9 @@ pub mod tables;
 
 pub use cause::Cause;
 pub use columns::Damaged;
-pub use format::Format;
 pub use key::{ChangeKey, LineKey, MemberKey, dim_number};
 pub use keyed_sale::{FactColumn, KeyedSale};
 pub use limits::Limits;
-pub use rows::{ChangeRow, CommandRow, Fact2, MemberRow, MetaRow, ProfileRow, TableRow, VoidRow};
+pub use rows::{ChangeRow, CommandRow, MemberRow, MetaRow, ProfileRow, TableRow, VoidRow};
 pub use table::Table;
 pub use tables::StoredTable;

@@ -105,14 +105,6 @@ impl PlannedRow for ProfileRow {
     }
 }
 
-/// A row of fact2: a fact, and the discount that was given on the line.
-#[derive(Debug, Drop)]
-pub struct Fact2 {
-    pub fact: Fact,
-    /// In hundredths.
-    pub discount: u64,
-}
-
 /// A row of void: a line that was withdrawn.
 #[derive(Debug, Drop)]
 pub struct VoidRow {
@@ -136,6 +128,6 @@ pub enum TableRow {
     Profile(ProfileRow),
     Calendar(DateRow),
     Fact(Fact),
-    Fact2(Fact2),
+    Fact2(Fact),
     Void(VoidRow),
 }

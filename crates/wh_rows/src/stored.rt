@@ -5,7 +5,7 @@ ghost use Rattle.wh_day.specs.Reading.{Gives};
 ghost use Rattle.wh_rows.specs.Stored.{meta_of, command_of, member_of, change_of, dimension_of, profile_of, date_of, fact_columns, fact_of, fact2_of, void_of};
 
 use crate::columns::{self, Damaged};
-use crate::rows::{ChangeRow, CommandRow, Fact2, MemberRow, MetaRow, ProfileRow, VoidRow};
+use crate::rows::{ChangeRow, CommandRow, MemberRow, MetaRow, ProfileRow, VoidRow};
 use sqlite::Row;
 use std::alloc::Global;
 use wh_day::{DateRow, ParseError};
@@ -189,7 +189,7 @@ pub(crate) fn read_fact(alloc: Global, row: &Row) -> Result<Fact, ParseError<Dam
 
 /// A row of fact2.
 #[tactic(auto, unfolding(crate::specs::Stored::fact2_of))]
-pub(crate) fn read_fact2(alloc: Global, row: &Row) -> Result<Fact2, ParseError<Damaged>>
+pub(crate) fn read_fact2(alloc: Global, row: &Row) -> Result<Fact, ParseError<Damaged>>
     ensures { Gives (λ r. r) result (fact2_of row.now) }
 {
     if row.column_count() != 14 {
@@ -197,7 +197,7 @@ pub(crate) fn read_fact2(alloc: Global, row: &Row) -> Result<Fact2, ParseError<D
     }
     let fact = fact_columns(alloc, row)?;
     let discount = columns::discount(row, 13)?;
-    Ok(Fact2 { fact, discount })
+    Ok(Fact { discount, ..fact })
 }
 
 /// A row of void.
@@ -218,7 +218,7 @@ pub(crate) fn read_void(alloc: Global, row: &Row) -> Result<VoidRow, ParseError<
     })
 }
 
-/// The first columns of a row, as a fact.
+/// The first columns of a row, as a fact without a discount.
 fn fact_columns(alloc: Global, row: &Row) -> Result<Fact, ParseError<Damaged>>
     ensures { Gives (λ r. r) result (fact_columns row.now) }
 {
@@ -251,5 +251,6 @@ fn fact_columns(alloc: Global, row: &Row) -> Result<Fact, ParseError<Damaged>>
         quantity,
         amount,
         cost,
+        discount: 0,
     })
 }

@@ -254,7 +254,7 @@ pub struct Fact2;
 impl StoredTable for Fact2 {
     ghost use Rattle.wh_rows.specs.Rows.{fact2};
 
-    type Row = rows::Fact2;
+    type Row = wh_history::Fact;
 
     type Key = LineKey;
 
@@ -264,7 +264,7 @@ impl StoredTable for Fact2 {
 
     ghost with_rows = { λ rows t. record t { fact2 = rows } };
 
-    fn read(alloc: Global, row: &Row) -> Result<rows::Fact2, ParseError<Damaged>> {
+    fn read(alloc: Global, row: &Row) -> Result<wh_history::Fact, ParseError<Damaged>> {
         stored::read_fact2(alloc, row)
     }
 }

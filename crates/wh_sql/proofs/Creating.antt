@@ -15,7 +15,7 @@ use Rattle.sqlite_rules.specs.Lists.{Has}
 use Rattle.sqlite.specs.Table.{Table}
 use Rattle.sqlite.specs.Change.{next_tree, KeepsRows}
 use Rattle.std.specs.List.{AllByRecursion}
-use Rattle.wh_rows.specs.declared.format.Format.TheVariants.{One, Two}
+use Rattle.wh_policy.specs.declared.format.Format.TheVariants.{One, Two}
 use Rattle.wh_rows.specs.Schema.{no_schema, warehouse, schema_in}
 use Rattle.wh_rows.specs.Tables.{Tables, no_tables}
 use Rattle.wh_rows.specs.Making.{Extends, LeadsOver, before_tree}

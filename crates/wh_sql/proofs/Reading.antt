@@ -14,8 +14,8 @@ use Rattle.sqlite.specs.Order.{Row}
 use Rattle.sqlite.specs.Listing.{understood}
 use Rattle.sqlite.specs.State.{State, HasCleanDisk, IsUnchanged, Survives, Shown, ShowsRows, CommitsShowing}
 use Rattle.sqlite.proofs.Callers.{IsPlain}
-use Rattle.wh_rows.specs.declared.format.Format.{Format}
-use Rattle.wh_rows.specs.declared.format.Format.TheVariants.{Two}
+use Rattle.wh_policy.specs.declared.format.Format.{Format}
+use Rattle.wh_policy.specs.declared.format.Format.TheVariants.{Two}
 use Rattle.wh_rows.specs.Names.{is_there}
 use Rattle.wh_rows.specs.Schema.{schema_in}
 use Rattle.wh_rows.specs.Holds.{Layout}

@@ -1,6 +1,7 @@
 -- Facts are counted one after the other, as the store hands out their rows.
 use Rattle.std.proofs.Common.{◌≡◌, ◌≢◌, ◌⊎◌, ℕ, List, [], ◌∷◌, ◌++◌, map, Result, Ok, Err, IfErr, inl, inr, refl, sym, ap, subst, ◌∙◌}
 use Rattle.std.specs.Prelude.{IsTrue}
+use Rattle.std.specs.FinMap.{values}
 use Rattle.std.proofs.lemmas.List.{map-append}
 use Rattle.std.proofs.lemmas.List.Sorted.{IsPermutation-sym}
 use Rattle.sqlite_trees.specs.declared.store.Store.{Ghosts}
@@ -18,9 +19,9 @@ use Rattle.sqlite.specs.Listing.{understood, IsSourceOf, reads_listing}
 use Rattle.sqlite.specs.State.{State, HasCleanDisk, IsStatement, IsUnchanged, Survives, Shown, CommitsShowing}
 use Rattle.sqlite.specs.Clock.{timed}
 use Rattle.sqlite.proofs.Callers.{EndsIn, begins_shown, given_begin}
-use Rattle.wh_rows.specs.declared.format.Format.{Format}
-use Rattle.wh_rows.specs.declared.format.Format.TheVariants.{One, Two}
-use Rattle.wh_rows.specs.Formats.{is_two}
+use Rattle.wh_policy.specs.declared.format.Format.{Format}
+use Rattle.wh_policy.specs.declared.format.Format.TheVariants.{One, Two}
+use Rattle.wh_policy.specs.Formats.{is_two}
 use Rattle.wh_rows.specs.Schema.{schema_in}
 use Rattle.wh_rows.specs.Tables.{Tables, Stores}
 use Rattle.wh_rows.specs.Raw.{Stored, IsStored, HasDamage, HasDamageIn, stored_of}
@@ -33,7 +34,8 @@ use Rattle.wh_rows.proofs.Means.{means_or}
 use Rattle.wh_rows.proofs.RawTables.{stores_stored}
 use Rattle.wh_rows.specs.Meaning.{IsUnknown, command_of}
 use Rattle.wh_sql.specs.Reads.{ReadsOnly, NamesDamage, IsServed, IsUndamaged, IsOfDamage}
-use Rattle.wh_sql.specs.Facts.{facts_table, fact_layout, facts_in, facts_by}
+use Rattle.wh_rows.specs.Facts.{facts_table, fact_layout, facts_in}
+use Rattle.wh_sql.specs.Facts.{facts_by}
 use Rattle.wh_sql.specs.Tally.{CountsOne, ShowsNoFact, HasCounted, HasCountedStored}
 use Rattle.wh_sql.specs.declared.fault.ReadFault.{ReadFault}
 use Rattle.wh_sql.specs.declared.fault.ReadFault.TheVariants.{Memory, Damaged, Store}
@@ -90,11 +92,11 @@ module _ (which : FactColumn) (old new : State) (answer : List Row) where
   stored_shown One shown = shows_stored_sales which old new answer shown
   stored_shown Two shown = shows_stored_sales2 which old new answer shown
 
-  typed_shown : (of : Format) → Shown (facts_by of which) [] old new answer → (t : Tables) → Stores old.now t → (ordered : List Fact) × IsPermutation ordered (facts_in of t) × (answer ≡ map columns_of (map (keyed which) ordered))
+  typed_shown : (of : Format) → Shown (facts_by of which) [] old new answer → (t : Tables) → Stores old.now t → (ordered : List Fact) × IsPermutation ordered (values (facts_in of t)) × (answer ≡ map columns_of (map (keyed which) ordered))
   typed_shown One shown = shows_typed_sales which old new answer shown
   typed_shown Two shown = shows_typed_sales2 which old new answer shown
 
-  damage_shown : (of : Format) → Shown (facts_by of which) [] old new answer → (shows : Row) → Among answer shows → ((f : Fact) → IsTrue (row.is_fact f) → shows ≢ columns_of (keyed which f)) → (stored : Stored) → IsStored stored old.now
+  damage_shown : (of : Format) → Shown (facts_by of which) [] old new answer → (shows : Row) → Among answer shows → ((f : Fact) → IsTrue (row.has_good_columns f) → shows ≢ columns_of (keyed which f)) → (stored : Stored) → IsStored stored old.now
       → HasDamage (fact_layout of) (stored.rows (facts_table of))
   damage_shown One shown = shows_damage which old new answer shown
   damage_shown Two shown = shows_damage2 which old new answer shown
@@ -157,7 +159,7 @@ module _ {S : Type 0} (g : Ghosts S) (of : Format) (which : FactColumn) (start :
     tally_of_stored clean stored is =
         (it.sales, IsPermutation-sym _ _ (stored_shown which (state g start) (state g now) (map columns_of it.sales) of (shown clean) stored is), it.counts)
 
-    pub tally_of_tables : HasCleanDisk (state g now) → (t : Tables) → Stores (state g start).now t → HasCounted Counts which first last (facts_in of t)
+    pub tally_of_tables : HasCleanDisk (state g now) → (t : Tables) → Stores (state g start).now t → HasCounted Counts which first last (values (facts_in of t))
     tally_of_tables clean t is =
         let found = typed_shown which (state g start) (state g now) (map columns_of it.sales) of (shown clean) t is in
         (found.0, found.1, subst (λ sales. Counts first sales last) (all_once_shown it.sales (map (keyed which) found.0) found.2) it.counts)

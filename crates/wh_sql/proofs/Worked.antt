@@ -1,10 +1,10 @@
 -- Which tables some schemas have, by computation.
 use Rattle.std.proofs.Common.{◌≡◌, codes, [], ◌∷◌, None, true, false, refl}
 use Rattle.sqlite_schema.specs.Names.{same_name}
-use Rattle.wh_rows.specs.Formats.{is_two}
+use Rattle.wh_policy.specs.Formats.{is_two}
 use Rattle.wh_rows.specs.Schema as schema
-use Rattle.wh_rows.specs.declared.format.Format.{Format}
-use Rattle.wh_rows.specs.declared.format.Format.TheVariants.{One, Two}
+use Rattle.wh_policy.specs.declared.format.Format.{Format}
+use Rattle.wh_policy.specs.declared.format.Format.TheVariants.{One, Two}
 use Rattle.wh_rows.specs.Schema.{no_schema, warehouse, schema_in}
 use Rattle.wh_sql.specs.Present.{is_any_taken, is_second_taken, are_all_there, is_second_there}
 

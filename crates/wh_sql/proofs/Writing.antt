@@ -11,8 +11,8 @@ use Rattle.sqlite.specs.Listing.{understood}
 use Rattle.sqlite.proofs.Callers.{IsPlain, command_of}
 use Rattle.wh_rows.specs.declared.cause.Cause.{Cause}
 use Rattle.wh_rows.specs.declared.cause.Cause.TheVariants.{Memory, Size}
-use Rattle.wh_rows.specs.declared.format.Format.{Format}
-use Rattle.wh_rows.specs.declared.format.Format.TheVariants.{One, Two}
+use Rattle.wh_policy.specs.declared.format.Format.{Format}
+use Rattle.wh_policy.specs.declared.format.Format.TheVariants.{One, Two}
 use Rattle.wh_rows.specs.Schema.{schema_in}
 use Rattle.wh_rows.specs.Holds.{Layout}
 use Rattle.wh_rows.specs.Place.{IsPlaced}
@@ -21,9 +21,8 @@ use Rattle.wh_rows.specs.Meaning.{IsUnknown, Means, PutsOne, RemovesOne}
 use Rattle.wh_rows.proofs.Means.{means_or, never_runs, commits_nothing}
 use Rattle.wh_rows.specs.Tables.{Tables, Stores}
 use Rattle.wh_rows.specs.AtRest.{Has, Leaves, IsWriting, IsCauseOf}
-use Rattle.wh_rows.specs.Formats.{is_two}
-use Rattle.wh_rows.specs.declared.rows.Fact2.{Fact2}
-use Rattle.wh_rows.specs.Rekey.{Rekey, rekey_text, bind_rekey, are_keys, rekeyed, rekey2_text, rekeyed2}
+use Rattle.wh_policy.specs.Formats.{is_two}
+use Rattle.wh_rows.specs.Rekey.{Rekey, rekey_text, bind_rekey, are_keys, rekeyed, rekey2_text}
 use Rattle.wh_history.specs.declared.facts.Fact.{Fact}
 use Rattle.wh_rows.specs.Rows as row
 use Rattle.wh_rows.specs.Inserting.{facts_at_once, insert_text, bind_facts, insert2_text, bind_facts2, BreaksRule}
@@ -113,7 +112,7 @@ module _ (params : Row) (old new : State) (before : Option Tables) (t : Tables) 
       means_or _ (is_two t.format) (rekey2_in t.format) (λ there moves. leaves rekey2_text params old new before t at clean survives _ moves.command moves.plain tt)
       (unknown_leaves rekey2_text params old new before t at clean survives)
 
-  pub rekeys2_on : (count : ℕ) → Executes rekey2_text params old new (Ok count) → (r : Rekey) → params ≡ bind_rekey r → IsTrue (are_keys r.1) → IsWriting before (Some (record t { fact2 = rekeyed2 r t.fact2 })) new
+  pub rekeys2_on : (count : ℕ) → Executes rekey2_text params old new (Ok count) → (r : Rekey) → params ≡ bind_rekey r → IsTrue (are_keys r.1) → IsWriting before (Some (record t { fact2 = rekeyed r t.fact2 })) new
   rekeys2_on count ran r is keys = means_or _ (is_two t.format) (rekey2_in t.format)
       (λ there moves. makes rekey2_text params old new before t at clean survives _ moves.command moves.plain tt count ran _ (fact2_rekeyed old new t at.now.tables there moves r keys count (rw is at ran)))
       (λ none. absurd (never_runs rekey2_text params old (schema_in t.format) at.now.schema none new count ran))
@@ -124,7 +123,7 @@ module _ (params : Row) (old new : State) (before : Option Tables) (t : Tables) 
       means_or _ (is_two t.format) (inserts_in t.format) (λ there inserts. leaves insert2_text params old new before t at clean survives _ inserts.command inserts.plain tt)
       (unknown_leaves insert2_text params old new before t at clean survives)
 
-  pub inserts2_on : (count : ℕ) → Executes insert2_text params old new (Ok count) → (facts : List Fact2) → params ≡ bind_facts2 facts → length facts ≡ facts_at_once → AllByRecursion (λ f. IsTrue (row.fact2.is_valid f)) facts
+  pub inserts2_on : (count : ℕ) → Executes insert2_text params old new (Ok count) → (facts : List Fact) → params ≡ bind_facts2 facts → length facts ≡ facts_at_once → AllByRecursion (λ f. IsTrue (row.fact2.is_valid f)) facts
       → IsWriting before (Some (record t { fact2 = with_rows row.fact2 facts t.fact2 })) new
   inserts2_on count ran facts is sixteen valid = means_or _ (is_two t.format) (inserts_in t.format)
       (λ there inserts. makes insert2_text params old new before t at clean survives _ inserts.command inserts.plain tt count ran _ (facts2_inserted old new t (second_is t.format there) at.now.tables facts sixteen valid count (rw is at ran)))

@@ -8,7 +8,7 @@ use Rattle.sqlite.specs.Tree.{Trees}
 use Rattle.sqlite.specs.Change.{is_used, KeepsRows}
 use Rattle.sqlite.specs.Effect.{IsDatabase}
 use Rattle.sqlite.specs.State.{State}
-use Rattle.wh_rows.specs.declared.format.Format.TheVariants.{Two}
+use Rattle.wh_policy.specs.declared.format.Format.TheVariants.{Two}
 use Rattle.wh_rows.specs.Schema.{warehouse, tables_added}
 use Rattle.wh_rows.specs.Making.{before_tree}
 use Rattle.wh_rows.specs.Tables.{Tables}

@@ -3,7 +3,7 @@ use Rattle.std.specs.Prelude.{◌≢◌, List, [], ◌∷◌, ◌++◌, map, IsT
 use Rattle.std.specs.List.Sorted.{IsPermutation}
 use Rattle.sqlite.specs.Order.{Row}
 use Rattle.wh_history.specs.declared.facts.Fact.{Fact}
-use Rattle.wh_rows.specs.Rows.{is_fact}
+use Rattle.wh_rows.specs.Rows.{has_good_columns}
 use Rattle.wh_rows.specs.KeyedSales.{keyed, columns_of, shown_of}
 use Rattle.wh_rows.specs.declared.keyed_sale.FactColumn.{FactColumn}
 use Rattle.wh_rows.specs.declared.keyed_sale.KeyedSale.{KeyedSale}
@@ -22,4 +22,4 @@ CountsOne {C} Counts old new sale = (first : C) (sales : List KeyedSale) → Cou
 
 -- no fact is shown so, by any of its keys
 abbrev pub ShowsNoFact : Row → Type 0
-ShowsNoFact row = (which : FactColumn) (fact : Fact) → IsTrue (is_fact fact) → row ≢ columns_of (keyed which fact)
+ShowsNoFact row = (which : FactColumn) (fact : Fact) → IsTrue (has_good_columns fact) → row ≢ columns_of (keyed which fact)

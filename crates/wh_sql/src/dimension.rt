@@ -1,6 +1,6 @@
 //! What product, store and customer have in common.
 
-ghost use Rattle.wh_rows.specs.declared.format.Format.{Format};
+ghost use Rattle.wh_policy.specs.declared.format.Format.{Format};
 ghost use Rattle.wh_rows.specs.Schema.{schema_in};
 ghost use Rattle.sqlite.specs.Listing.{understood};
 ghost use Rattle.wh_rows.specs.Names.{is_there};

@@ -6,7 +6,7 @@ ghost use Rattle.sqlite.specs.Listing.{understood};
 ghost use Rattle.sqlite_value.specs.declared.value.Value.TheVariants.{Int};
 ghost use Rattle.wh_history.specs.declared.facts.Fact.{Fact};
 ghost use Rattle.wh_policy.specs.declared.attribute.Dim.{Dim};
-ghost use Rattle.wh_rows.specs.declared.format.Format.{Format};
+ghost use Rattle.wh_policy.specs.declared.format.Format.{Format};
 ghost use Rattle.wh_rows.specs.Meaning.{Means, ReadsSome};
 ghost use Rattle.wh_rows.specs.Names.{is_there};
 ghost use Rattle.wh_rows.specs.Questions.{is_sale_between, is_sold_between};
@@ -66,7 +66,7 @@ impl Facts for tables::Fact2 {
     ghost use Rattle.wh_rows.proofs.EachTable.Facts2.{of_sales_between_in, of_sales_between_stored_in};
     ghost use Rattle.wh_rows.specs.Texts.{sales_between2};
 
-    ghost fact = { λ row. row.fact };
+    ghost fact = { λ row. row };
 
     ghost sales_means = { sales_between2 };
 

@@ -19,7 +19,7 @@ use sqlite::types::ValueRef;
 use sqlite::{Alter, Connection, ErrorCode};
 use std::alloc::Global;
 use wh_history::Fact;
-use wh_rows::{Cause, Fact2, bound};
+use wh_rows::{Cause, bound};
 
 /// How many facts one statement puts in.
 pub const FACTS_AT_ONCE: usize = 16;
@@ -104,7 +104,7 @@ pub fn insert_facts<S: Alter>(
 pub fn insert_facts2<S: Alter>(
     alloc: Global,
     conn: &mut Connection<S>,
-    facts: &[&Fact2],
+    facts: &[&Fact],
 ) -> Result<bool, Cause>
     ensures clean { HasCleanDisk (state S.Store conn.new) → HasCleanDisk (state S.Store conn.old) }
     ensures counts { (state S.Store conn.old).faults ≤ (state S.Store conn.new).faults }

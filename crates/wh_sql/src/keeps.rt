@@ -12,7 +12,7 @@ ghost use Rattle.wh_rows.specs.Place.{IsPlaced};
 ghost use Rattle.wh_rows.specs.Texts.{Texts};
 ghost use Rattle.wh_rows.specs.Raw.{Stored, HasDamage, HasDamageIn, ReadsStored, table_of};
 ghost use Rattle.sqlite.specs.Listing.{understood};
-ghost use Rattle.wh_rows.specs.declared.format.Format.{Format};
+ghost use Rattle.wh_policy.specs.declared.format.Format.{Format};
 ghost use Rattle.wh_rows.specs.Names.{is_there};
 ghost use Rattle.wh_rows.specs.Schema.{schema_in};
 ghost use Rattle.wh_rows.specs.Meaning.{Means, PutsOne, RemovesOne, ReadsSome, CountsAll};
@@ -20,8 +20,8 @@ ghost use Rattle.wh_rows.specs.Meaning.{Means, PutsOne, RemovesOne, ReadsSome, C
 use sqlite::types::ValueRef;
 use std::alloc::Global;
 use wh_history::DimRow;
-use wh_policy::Dim;
-use wh_rows::{Cause, Format, StoredTable, Table, bound};
+use wh_policy::{Dim, Format};
+use wh_rows::{Cause, StoredTable, Table, bound};
 
 /// The texts of a table's statements: to put a row, to remove the row of a key, to show all rows in the order of their keys, to
 /// show the row of a key, and to count the rows.

@@ -5,7 +5,7 @@ use std::alloc::AllocError;
 use wh_day::{DateRow, Day, Value};
 use wh_history::{DimRow, Fact};
 use wh_rows::{
-    ChangeKey, ChangeRow, CommandRow, Fact2, LineKey, MemberKey, MemberRow, MetaRow, ProfileRow,
+    ChangeKey, ChangeRow, CommandRow, LineKey, MemberKey, MemberRow, MetaRow, ProfileRow,
     VoidRow, tables,
 };
 
@@ -300,11 +300,11 @@ impl PagedTable for tables::Fact2 {
         }
     }
 
-    fn key_of(row: &Fact2) -> Result<LineKey, AllocError> {
-        let ticket = row.fact.ticket.copy()?;
+    fn key_of(row: &Fact) -> Result<LineKey, AllocError> {
+        let ticket = row.ticket.copy()?;
         Ok(LineKey {
             ticket,
-            line: row.fact.line,
+            line: row.line,
         })
     }
 }

@@ -8,7 +8,7 @@ ghost use Rattle.sqlite.specs.Values.{bound};
 ghost use Rattle.sqlite.specs.State.{HasCleanDisk};
 ghost use Rattle.wh_rows.specs.declared.cause.Cause.TheVariants.{Memory, Size};
 ghost use Rattle.sqlite.specs.Listing.{understood};
-ghost use Rattle.wh_rows.specs.declared.format.Format.{Format};
+ghost use Rattle.wh_policy.specs.declared.format.Format.{Format};
 ghost use Rattle.wh_rows.specs.Names.{is_there};
 ghost use Rattle.wh_rows.specs.Schema.{schema_in};
 ghost use Rattle.wh_rows.specs.Meaning.{Means};

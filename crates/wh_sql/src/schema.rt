@@ -5,7 +5,7 @@ ghost use Rattle.std.specs.List.{list_all, list_any};
 ghost use Rattle.sqlite.specs.Held.{state};
 ghost use Rattle.sqlite.specs.Schema.{Schema};
 ghost use Rattle.sqlite.specs.Tree.{Trees};
-ghost use Rattle.wh_rows.specs.declared.format.Format.TheVariants.{One, Two};
+ghost use Rattle.wh_policy.specs.declared.format.Format.TheVariants.{One, Two};
 ghost use Rattle.sqlite.specs.Change.{is_used, next_tree};
 ghost use Rattle.sqlite.specs.State.{HasCleanDisk};
 ghost use Rattle.wh_rows.specs.declared.cause.Cause.TheVariants.{Disk};

@@ -6,9 +6,9 @@ use sqlite::types::ValueRef;
 use std::alloc::Global;
 use wh_day::{DateRow, Day, Value};
 use wh_history::{DimRow, Fact};
-use wh_policy::Dim;
+use wh_policy::{Dim, Format};
 use wh_rows::{
-    Cause, ChangeKey, ChangeRow, CommandRow, Fact2, Format, LineKey, MemberKey, MemberRow, MetaRow,
+    Cause, ChangeKey, ChangeRow, CommandRow, LineKey, MemberKey, MemberRow, MetaRow,
     ProfileRow, Table, VoidRow, bound, tables,
 };
 
@@ -676,7 +676,7 @@ impl KeyedTable for tables::Fact2 {
         }
     }
 
-    fn row<'a>(alloc: Global, row: &'a Fact2) -> Result<Vec<ValueRef<'a>>, Cause> {
+    fn row<'a>(alloc: Global, row: &'a Fact) -> Result<Vec<ValueRef<'a>>, Cause> {
         bound::fact2(alloc, row)
     }
 

@@ -1,6 +1,7 @@
 //! Counting all facts, in whatever order they are stored.
 
 ghost use Rattle.std.specs.Prelude.{◌≡◌, ◌⊎◌, ◌++◌, ◌∷◌, [], List, IfOk, IfErr};
+ghost use Rattle.std.specs.FinMap.{values};
 ghost use Rattle.sqlite.specs.Held.{state};
 ghost use Rattle.sqlite.specs.State.{HasCleanDisk};
 ghost use Rattle.wh_rows.specs.KeyedSales.{keyed_sales, keyed_sales2, columns_of};
@@ -8,15 +9,16 @@ ghost use Rattle.wh_rows.specs.declared.cause.Cause.{Cause};
 ghost use Rattle.wh_rows.specs.declared.keyed_sale.KeyedSale.{KeyedSale};
 ghost use Rattle.wh_sql.specs.Reads.{ReadsOnly, SaysOfTables, SaysOfStored, IsUndamaged, IsOfDamage};
 ghost use Rattle.wh_sql.specs.Refused.{IsCauseOfQuery};
-ghost use Rattle.wh_sql.specs.Facts.{facts_table, fact_layout, facts_in, facts_by};
+ghost use Rattle.wh_rows.specs.Facts.{facts_table, fact_layout, facts_in};
+ghost use Rattle.wh_sql.specs.Facts.{facts_by};
 ghost use Rattle.wh_sql.specs.Tally.{CountsOne, ShowsNoFact, HasCounted, HasCountedStored};
 ghost use Rattle.wh_sql.specs.declared.fault.ReadFault.TheVariants.{Memory, Damaged, Store};
 
 use crate::fault::ReadFault;
 use sqlite::{Alter, Connection, Row};
 use wh_day::ParseError;
-use wh_policy::Dim;
-use wh_rows::{Cause, FactColumn, Format, KeyedSale, Table};
+use wh_policy::{Dim, Format};
+use wh_rows::{Cause, FactColumn, KeyedSale, Table};
 
 /// Counts sales one after the other, in whatever order they come. One that has failed keeps that to itself.
 pub trait FactAggregate {
@@ -126,7 +128,7 @@ pub fn tally_facts<C: FactAggregate, S: Alter>(
 ) -> Result<(), ReadFault>
     requires { C.counts tally.old [] tally.old }
     ensures reads { ReadsOnly (state S.Store conn.old) (state S.Store conn.new) result }
-    ensures counted { SaysOfTables (state S.Store conn.old) (state S.Store conn.new) (λ t. IfOk result (λ _. HasCounted C.counts which tally.old tally.new (facts_in format t))) }
+    ensures counted { SaysOfTables (state S.Store conn.old) (state S.Store conn.new) (λ t. IfOk result (λ _. HasCounted C.counts which tally.old tally.new (values (facts_in format t)))) }
     ensures sound { SaysOfTables (state S.Store conn.old) (state S.Store conn.new) (λ _. IsUndamaged result) }
     // The same of any rows, whoever wrote them, by the columns that are read of them: each was counted, or one is damaged.
     ensures stored { SaysOfStored (state S.Store conn.old) (state S.Store conn.new) (λ stored. IfOk result (λ _. HasCountedStored C.counts which tally.old tally.new (stored.rows (facts_table format)))) }

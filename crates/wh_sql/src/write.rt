@@ -15,7 +15,8 @@ use crate::keys::line_and_keys;
 use sqlite::{Alter, Connection};
 use std::alloc::Global;
 use wh_history::FactKeys;
-use wh_rows::{Cause, Format, LineKey};
+use wh_policy::Format;
+use wh_rows::{Cause, LineKey};
 
 /// Puts the row at its key, in place of the one that was there. Outside a transaction it is refused.
 pub fn put<T: KeyedTable, S: Alter>(

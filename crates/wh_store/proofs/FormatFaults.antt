@@ -1,11 +1,11 @@
 -- Which faults a format has.
 use Rattle.std.proofs.Common.{◌≡◌, ◌≤◌, Bool, true, false, ℤ, pos, negsuc, Option, None, Some, Ok, Err, IfOk, IfErr, refl, subst, sym, arith}
 use Rattle.std.specs.Prelude.{⊤, if◌then◌else◌, int_lt}
-use Rattle.wh_rows.specs.declared.format.Format.{Format}
-use Rattle.wh_rows.specs.declared.format.Format.TheVariants.{One, Two}
+use Rattle.wh_policy.specs.declared.format.Format.{Format}
+use Rattle.wh_policy.specs.declared.format.Format.TheVariants.{One, Two}
 use Rattle.wh_store.specs.declared.fault.OpenFault.{OpenFault}
 use Rattle.wh_store.specs.declared.fault.OpenFault.TheVariants.{NotAWarehouse, OldFormat, NewFormat, Memory, Damaged, Store}
-use Rattle.wh_rows.specs.Formats.{format_number}
+use Rattle.wh_policy.specs.Formats.{format_number}
 use Rattle.wh_store.specs.Meta.{format_of}
 
 abbrev pub IsOfFormat : OpenFault → Type 0

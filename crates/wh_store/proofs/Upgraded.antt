@@ -1,6 +1,6 @@
 -- What an upgrade makes of the facts.
-use Rattle.std.proofs.Common.{◌≡◌, List, [], ◌∷◌, map, filter, Bool, true, false, cond, Option, None, Some, refl, sym, ap, ◌∙◌}
-use Rattle.std.specs.Prelude.{IsTrue, option_map}
+use Rattle.std.proofs.Common.{◌≡◌, List, [], ◌∷◌, map, filter, Bool, true, false, cond, Option, None, Some, refl, sym, ap, subst, ◌==◌, ◌∙◌}
+use Rattle.std.specs.Prelude.{IsTrue}
 use Rattle.std.specs.List.{AllByRecursion}
 use Rattle.std.specs.Ordering.{eq_by_cmp}
 use Rattle.std.specs.Option.{option_to_list}
@@ -10,8 +10,10 @@ use Rattle.sqlite.specs.Effect.{Database}
 use Rattle.wh_history.specs.declared.facts.Fact.{Fact}
 use Rattle.wh_history.specs.declared.plan.Edit.{Edit}
 use Rattle.wh_history.specs.declared.plan.Edit.TheVariants.{Put, Remove}
-use Rattle.wh_rows.specs.declared.format.Format.TheVariants.{One}
-use Rattle.wh_rows.specs.Formats.{is_two}
+use Rattle.wh_policy.specs.declared.format.Format.TheVariants.{One}
+use Rattle.wh_policy.specs.Formats.{is_two}
+use Rattle.std.proofs.lemmas.Bool.{and_parts, eqb-true}
+use Rattle.wh_rows.specs.Types.{is_discount}
 use Rattle.wh_rows.specs.Holds.{Layout}
 use Rattle.wh_rows.specs.Rows as row
 use Rattle.wh_rows.specs.declared.key.LineKey.{LineKey}
@@ -21,7 +23,7 @@ use Rattle.wh_rows.proofs.ColumnLemmas.{both}
 use Rattle.wh_rows.proofs.Maps.{filter-get}
 use Rattle.wh_rows.proofs.Places as places
 use Rattle.wh_store.specs.Edits.{with_edit, IsValid, Puts}
-use Rattle.wh_store.specs.Upgrade.{undiscounted, removes_of, puts_of}
+use Rattle.wh_store.specs.Upgrade.{removes_of, puts_of}
 
 -- ---- an edit for each row of a list
 
@@ -61,15 +63,16 @@ none_stays db t stored =
     nothing None = refl
     nothing (Some f) = refl
 
--- that of the second has each with no discount
-pub each_is_put : (db : Database) (t : Tables) → Stores db t → t.format ≡ One → (q : LineKey) → get (after_all (with_edit row.fact2) (puts_of t) t.fact2) q ≡ option_map undiscounted (get t.fact q)
-each_is_put db t stored first q =
+-- that of the second has them all
+pub all_are_put : (db : Database) (t : Tables) → Stores db t → t.format ≡ One → after_all (with_edit row.fact2) (puts_of t) t.fact2 ≡ t.fact
+all_are_put db t stored first =
+    same_map places.fact.total places.fact.same _ t.fact (λ q.
     ap (λ m. get (after_all (with_edit row.fact2) (puts_of t) m) q) (places.fact2.absent db t stored (ap is_two first))
-    ∙ after_rows row.fact2 row.fact.key (λ f. Some (undiscounted f)) (λ f. Put (undiscounted f)) (λ f m q. get-insert places.fact2.total m (row.fact.key f) (undiscounted f) q) places.fact.total t.fact (places.fact.keyed db t stored) empty q
-    ∙ ap (latest row.fact2 row.fact.key (λ f. Some (undiscounted f)) (λ f. Put (undiscounted f)) (λ f m q. get-insert places.fact2.total m (row.fact.key f) (undiscounted f) q) (option_to_list (get t.fact q))) (get-empty row.fact2.order q)
-    ∙ found (get t.fact q)
+    ∙ after_rows row.fact2 row.fact.key Some Put (λ f m q. get-insert places.fact2.total m (row.fact.key f) f q) places.fact.total t.fact (places.fact.keyed db t stored) empty q
+    ∙ ap (latest row.fact2 row.fact.key Some Put (λ f m q. get-insert places.fact2.total m (row.fact.key f) f q) (option_to_list (get t.fact q))) (get-empty row.fact2.order q)
+    ∙ found (get t.fact q))
   where
-    found : (f : Option Fact) → latest row.fact2 row.fact.key (λ f. Some (undiscounted f)) (λ f. Put (undiscounted f)) (λ f m q. get-insert places.fact2.total m (row.fact.key f) (undiscounted f) q) (option_to_list f) None ≡ option_map undiscounted f
+    found : (f : Option Fact) → latest row.fact2 row.fact.key Some Put (λ f m q. get-insert places.fact2.total m (row.fact.key f) f q) (option_to_list f) None ≡ f
     found None = refl
     found (Some f) = refl
 
@@ -85,6 +88,11 @@ removes_may t = go (values t.fact)
 pub puts_may : (db : Database) (t : Tables) → Stores db t → AllByRecursion (Puts (IsValid row.fact2)) (puts_of t)
 puts_may db t stored = go (entries t.fact) (places.fact.valid db t stored)
   where
-    go : (es : List (LineKey × Fact)) → AllByRecursion (λ e. IsTrue (row.fact.is_valid e.1)) es → AllByRecursion (Puts {K = LineKey} (IsValid row.fact2)) (map (λ f. Put (undiscounted f)) (map (λ e. e.1) es))
+    valid_in_both : (f : Fact) → IsTrue (row.fact.is_valid f) → IsTrue (row.fact2.is_valid f)
+    valid_in_both f valid =
+        let parts = and_parts (row.has_good_columns f) (f.discount == 0) valid in
+        both parts.0 (subst (λ d. is_discount d ≡ true) (sym (eqb-true f.discount 0 parts.1)) refl)
+
+    go : (es : List (LineKey × Fact)) → AllByRecursion (λ e. IsTrue (row.fact.is_valid e.1)) es → AllByRecursion (Puts {K = LineKey} (IsValid row.fact2)) (map Put (map (λ e. e.1) es))
     go [] valid = tt
-    go (e ∷ es) valid = (both valid.0 refl, go es valid.1)
+    go (e ∷ es) valid = (valid_in_both e.1 valid.0, go es valid.1)

@@ -2,7 +2,7 @@
 use Rattle.std.specs.Prelude.{◌≡◌, Bool, [], ◌∷◌, Result, Ok, Err, IfErr, ⊤, codes}
 use Rattle.sqlite_value.specs.declared.value.Value.TheVariants.{Text}
 use Rattle.sqlite.specs.State.{State}
-use Rattle.wh_rows.specs.declared.format.Format.{Format}
+use Rattle.wh_policy.specs.declared.format.Format.{Format}
 use Rattle.wh_rows.specs.Tables.{Tables}
 use Rattle.wh_rows.specs.Texts as texts
 use Rattle.wh_sql.specs.Refused.{IsCauseOfQuery}

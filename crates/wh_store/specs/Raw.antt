@@ -2,7 +2,7 @@
 use Rattle.std.specs.Prelude.{◌≡◌, ◌⊎◌, ℕ, ℤ, Bool, codes, List, [], ◌∷◌, filter, Option, None, Result, Err, ⊤}
 use Rattle.sqlite.specs.Order.{Row}
 use Rattle.sqlite_rules.specs.Lists.{Has}
-use Rattle.wh_rows.specs.declared.format.Format.{Format}
+use Rattle.wh_policy.specs.declared.format.Format.{Format}
 use Rattle.wh_rows.specs.Rows.{meta}
 use Rattle.wh_rows.specs.Raw.{Stored, HasDamage, IsLastOf}
 use Rattle.wh_history.specs.Tables.{Limits}

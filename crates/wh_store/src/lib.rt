@@ -15,7 +15,8 @@ pub use reopen::{into_files, open_fresh, open_path, restart};
 pub use scan::{Cursor, Scan, next_row};
 pub use scratch::{Scratch, open_scratch};
 pub use tables::Tables;
-pub use wh_rows::{Cause, Format, Limits, Table};
+pub use wh_policy::Format;
+pub use wh_rows::{Cause, Limits, Table};
 pub use wh_sql::{
     CommandOf, Dimension, FACTS_AT_ONCE, FactAggregate, Facts, Greatest, GreatestOf, KeyedTable,
     LastPolicy, MemberOf, PagedTable, ProfileOf, Question, ReadFault, RecordsOf, RowsOf,

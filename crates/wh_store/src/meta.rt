@@ -8,7 +8,7 @@ ghost use Rattle.wh_rows.specs.declared.table.Table.{Table};
 ghost use Rattle.wh_rows.specs.declared.table.Table.TheVariants.{Meta as OfMeta};
 ghost use Rattle.wh_rows.specs.declared.cause.Cause.TheVariants.{Memory};
 ghost use Rattle.wh_rows.specs.Types.{is_number};
-ghost use Rattle.wh_rows.specs.Formats.{format_number};
+ghost use Rattle.wh_policy.specs.Formats.{format_number};
 ghost use Rattle.wh_rows.specs.Rows.{meta};
 ghost use Rattle.wh_rows.specs.Texts as texts;
 ghost use Rattle.wh_store.specs.Raw.{rows_named, IsNumberIn, FormatIs, IsRefusedOn};
@@ -22,7 +22,8 @@ use sqlite::{Alter, Connection};
 use std::alloc::Global;
 use wh_day::Value;
 use wh_rows::tables::Meta;
-use wh_rows::{Cause, Format, Limits, MetaRow, Table};
+use wh_policy::Format;
+use wh_rows::{Cause, Limits, MetaRow, Table};
 use wh_sql::{ReadFault, get};
 
 /// The number under a name, if there is one.

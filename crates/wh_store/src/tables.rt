@@ -10,7 +10,7 @@ ghost use Rattle.wh_rows.specs.declared.table.Table.{Table};
 ghost use Rattle.wh_rows.specs.declared.table.Table.TheVariants.{Change as OfChange, Fact as OfFact, Fact2 as OfFact2};
 ghost use Rattle.wh_rows.specs.declared.cause.Cause.{Cause};
 ghost use Rattle.wh_rows.specs.declared.cause.Cause.TheVariants.{Memory};
-ghost use Rattle.wh_rows.specs.Formats.{format_number};
+ghost use Rattle.wh_policy.specs.Formats.{format_number};
 ghost use Rattle.wh_rows.specs.Names.{is_there};
 ghost use Rattle.wh_rows.specs.KeyedSales.{keyed_sales, keyed_sales2};
 ghost use Rattle.wh_rows.specs.Rows.{change, fact, fact2};
@@ -39,8 +39,8 @@ use crate::transaction::begin;
 use crate::writing::Writing;
 use sqlite::{Alter, Connection};
 use std::alloc::Global;
-use wh_policy::Dim;
-use wh_rows::{Cause, FactColumn, Format, Limits, Table, tables};
+use wh_policy::{Dim, Format};
+use wh_rows::{Cause, FactColumn, Limits, Table, tables};
 use wh_sql::{
     FactAggregate, KeyedTable, Question, ReadFault, all, ask, count, get, greatest_anchor,
     has_second, has_second_name, has_tables, has_taken_name, tally_facts,
@@ -249,7 +249,7 @@ impl<S: Alter> Tables<S> {
         requires { C.counts tally.old [] tally.old }
         ensures reads { ReadsOnly (state_of S.Store self.old) (state_of S.Store self.new) result }
         ensures same_format { self.new.format ≡ self.old.format }
-        ensures counted { SaysInFormat S.Store OfFact2 self.old self.new (λ t. IfOk result (λ _. HasCounted C.counts which tally.old tally.new (map (λ r. r.fact) (values t.fact2)))) }
+        ensures counted { SaysInFormat S.Store OfFact2 self.old self.new (λ t. IfOk result (λ _. HasCounted C.counts which tally.old tally.new (values t.fact2))) }
         // The same of any rows, whoever wrote them, by the columns that are read of them: each was counted, or one is damaged.
         ensures stored { SaysAsStoredIn S.Store OfFact2 self.old self.new (λ stored. IfOk result (λ _. HasCountedStored C.counts which tally.old tally.new (stored.rows OfFact2))) }
         ensures damaged { SaysAsStored (state_of S.Store self.old) (state_of S.Store self.new) (λ stored. IfErr result (IsOfDamage fact2 OfFact2 (stored.rows OfFact2))) }

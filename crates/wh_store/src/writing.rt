@@ -13,9 +13,9 @@ ghost use Rattle.wh_rows.specs.Texts as texts;
 ghost use Rattle.wh_rows.specs.AtRest.{AreTrees, IsAtRest, IsWriting, Leaves, IsCauseOf};
 ghost use Rattle.wh_rows.specs.Tables.{Tables as TypedTables};
 ghost use Rattle.wh_rows.specs.Inserting.{facts_at_once, insert_text, bind_facts, insert2_text, bind_facts2, BreaksRule};
-ghost use Rattle.wh_rows.specs.Rekey.{rekey_text, bind_rekey, are_keys, rekeyed, rekey2_text, rekeyed2};
+ghost use Rattle.wh_rows.specs.Rekey.{rekey_text, bind_rekey, are_keys, rekeyed, rekey2_text};
 ghost use Rattle.wh_rows.specs.Steps.{with_row, with_rows, after_all};
-ghost use Rattle.wh_rows.specs.declared.format.Format.TheVariants.{One, Two};
+ghost use Rattle.wh_policy.specs.declared.format.Format.TheVariants.{One, Two};
 ghost use Rattle.wh_rows.specs.Making.{upgrading_texts};
 ghost use Rattle.wh_sql.specs.Facts.{rekeying, with_rekeyed};
 ghost use Rattle.wh_sql.specs.Refused.{IsOneRefused, bare};
@@ -33,7 +33,8 @@ use std::alloc::Global;
 use std::mem::replace;
 use wh_history::{Edit, Fact, FactKeys};
 use wh_rows::tables::{self, Meta};
-use wh_rows::{Cause, Fact2, Format, Limits, LineKey};
+use wh_policy::Format;
+use wh_rows::{Cause, Limits, LineKey};
 use wh_sql::{KeyedTable, add_second, create, insert_facts, insert_facts2, put, rekey, remove};
 
 /// Edits of the tables. They are kept by `commit` alone: where it is dropped before that, it leaves nothing.
@@ -171,7 +172,7 @@ impl<'t, S: Alter> Writing<'t, S> {
         ensures same_reference { self.new.tables.ghost_name ≡ self.old.tables.ghost_name }
         ensures same_format { (self.new.tables.now.format ≡ self.old.tables.now.format) × (self.new.makes ≡ self.old.makes) }
         ensures writes { WritesOnly (state_of S.Store self.old.tables.now) (state_of S.Store self.new.tables.now) ⊤ }
-        ensures rekeyed { Makes (state_of S.Store self.old.tables.now) (state_of S.Store self.new.tables.now) result (IsTrue (are_keys keys.now)) (λ made. record made { fact2 = rekeyed2 (line.now, keys.now) made.fact2 }) }
+        ensures rekeyed { Makes (state_of S.Store self.old.tables.now) (state_of S.Store self.new.tables.now) result (IsTrue (are_keys keys.now)) (λ made. record made { fact2 = rekeyed (line.now, keys.now) made.fact2 }) }
         ensures cause { HasCleanDisk (state_of S.Store self.new.tables.now) → IsTrue (state_of S.Store self.old.tables.now).in_transaction → self.old.writes < u64.MAX → IsTrue (are_keys keys.now)
             → IfErr result (λ cause. cause ≢ Memory → IsCauseOf rekey2_text (bind_rekey (line.now, keys.now)) (state_of S.Store self.old.tables.now) (state_of S.Store self.new.tables.now) cause) }
         ensures counted { OnOk result (self.new.writes ≡ self.old.writes + 1) }
@@ -204,7 +205,7 @@ impl<'t, S: Alter> Writing<'t, S> {
     }
 
     /// The same in the second format. In the first it is refused.
-    pub fn insert_facts2(&mut self, alloc: Global, facts: &[&Fact2]) -> Result<bool, Cause>
+    pub fn insert_facts2(&mut self, alloc: Global, facts: &[&Fact]) -> Result<bool, Cause>
         ensures same_reference { self.new.tables.ghost_name ≡ self.old.tables.ghost_name }
         ensures same_format { (self.new.tables.now.format ≡ self.old.tables.now.format) × (self.new.makes ≡ self.old.makes) }
         ensures writes { WritesOnly (state_of S.Store self.old.tables.now) (state_of S.Store self.new.tables.now) ⊤ }
@@ -333,7 +334,7 @@ impl<'t, S: Alter> Writing<'t, S> {
         &mut self,
         alloc: Global,
         removes: &[Edit<Fact, LineKey>],
-        puts: &[Edit<Fact2, LineKey>],
+        puts: &[Edit<Fact, LineKey>],
     ) -> Result<(), Cause>
         ensures same_reference { self.new.tables.ghost_name ≡ self.old.tables.ghost_name }
         ensures becomes { (self.new.tables.now.format ≡ self.old.tables.now.format) × OnOk result (self.new.makes ≡ Two) }
@@ -419,7 +420,7 @@ pub fn upgrade<S: Alter>(
     tables: &mut Tables<S>,
     alloc: Global,
     removes: &[Edit<Fact, LineKey>],
-    puts: &[Edit<Fact2, LineKey>],
+    puts: &[Edit<Fact, LineKey>],
 ) -> Result<u64, Cause>
     ensures clean { HasCleanDisk (state_of S.Store tables.new) → HasCleanDisk (state_of S.Store tables.old) }
     ensures upgraded { HasCleanDisk (state_of S.Store tables.new) → (t : TypedTables) → t.format ≡ One → IsAtRest (Some t) (state_of S.Store tables.old) → AllByRecursion (Puts (IsValid row.fact)) removes.now → AllByRecursion (Puts (IsValid row.fact2)) puts.now

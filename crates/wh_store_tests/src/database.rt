@@ -8,7 +8,8 @@ use crate::words::{Step, push_answer, push_number};
 use crate::writing::put_past;
 use sqlite::{Alter, Connection};
 use std::alloc::Global;
-use wh_rows::{Cause, Format};
+use wh_policy::Format;
+use wh_rows::Cause;
 use wh_sql::{create, has_tables, has_taken_name};
 
 /// A step on a database.

@@ -3,8 +3,8 @@
 use sqlite::{Alter, Connection};
 use std::alloc::Global;
 use wh_history::FactKeys;
-use wh_policy::Dim;
-use wh_rows::{Cause, Format, LineKey};
+use wh_policy::{Dim, Format};
+use wh_rows::{Cause, LineKey};
 use wh_sql::{KeyedTable, Question, ReadFault};
 use wh_store::{Tables, Writing};
 

@@ -11,7 +11,8 @@ use wh_history::FactKeys;
 use wh_rows::tables::{
     Calendar, Change, Command, Customer, Fact, Fact2, Member, Meta, Product, Profile, Store, Void,
 };
-use wh_rows::{Cause, Format, LineKey, Table};
+use wh_policy::Format;
+use wh_rows::{Cause, LineKey, Table};
 use wh_scenarios::parted;
 
 /// The columns of these values.

@@ -6,7 +6,7 @@ use crate::words::{dim, number, push_answer, push_count, push_number};
 use sqlite::Alter;
 use std::alloc::{AllocError, Global};
 use wh_history::{Edit, Fact};
-use wh_rows::{Fact2, FactColumn, KeyedSale, LineKey, tables};
+use wh_rows::{FactColumn, KeyedSale, LineKey, tables};
 use wh_scenarios::parted;
 use wh_store::{FactAggregate, Tables, Writing, upgrade};
 
@@ -14,7 +14,7 @@ use wh_store::{FactAggregate, Tables, Writing, upgrade};
 #[derive(Drop)]
 struct Carried {
     removes: Vec<Edit<Fact, LineKey>>,
-    puts: Vec<Edit<Fact2, LineKey>>,
+    puts: Vec<Edit<Fact, LineKey>>,
 }
 
 fn carry(alloc: Global, facts: Vec<Fact>) -> Result<Carried, AllocError> {
@@ -24,7 +24,7 @@ fn carry(alloc: Global, facts: Vec<Fact>) -> Result<Carried, AllocError> {
         let ticket = fact.ticket.copy()?;
         let line = fact.line;
         removes.push(Edit::Remove(LineKey { ticket, line }))?;
-        puts.push(Edit::Put(Fact2 { fact, discount: 0 }))?;
+        puts.push(Edit::Put(fact))?;
     }
     Ok(Carried { removes, puts })
 }
@@ -38,7 +38,7 @@ pub fn upgrade_all<S: Alter>(alloc: Global, tables: &mut Tables<S>) -> Result<()
 }
 
 /// So many facts that differ in their lines alone, from line 1 on.
-fn facts_of(alloc: Global, count: u64, ticket: &str, values: &str) -> Result<Vec<Fact2>, Trouble> {
+fn facts_of(alloc: Global, count: u64, ticket: &str, values: &str) -> Result<Vec<Fact>, Trouble> {
     let mut facts = Vec::new(alloc);
     for before in 0..count {
         let line = before.saturating_add(1);
@@ -48,7 +48,7 @@ fn facts_of(alloc: Global, count: u64, ticket: &str, values: &str) -> Result<Vec
     Ok(facts)
 }
 
-fn borrowed(alloc: Global, facts: &[Fact2]) -> Result<Vec<&Fact2>, AllocError> {
+fn borrowed(alloc: Global, facts: &[Fact]) -> Result<Vec<&Fact>, AllocError> {
     let mut found = Vec::new(alloc);
     for fact in facts {
         found.push(fact)?;

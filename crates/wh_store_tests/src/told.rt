@@ -9,7 +9,7 @@ use std::alloc::Global;
 use wh_day::{DateRow, Day, Value};
 use wh_history::{DimRow, Fact};
 use wh_rows::{
-    ChangeKey, ChangeRow, CommandRow, Fact2, LineKey, MemberKey, MemberRow, MetaRow, ProfileRow,
+    ChangeKey, ChangeRow, CommandRow, LineKey, MemberKey, MemberRow, MetaRow, ProfileRow,
     VoidRow, tables,
 };
 use wh_scenarios::parted;
@@ -158,8 +158,8 @@ impl Told for tables::Fact2 {
         line_key(alloc, words)
     }
 
-    fn push(out: &mut String, row: &Fact2) -> Result<(), Trouble> {
-        push_fact(out, &row.fact)?;
+    fn push(out: &mut String, row: &Fact) -> Result<(), Trouble> {
+        push_fact(out, row)?;
         push_count(out, row.discount)
     }
 }

@@ -192,6 +192,7 @@ fact_by commands s customer = record {
   quantity = s.quantity;
   amount = s.amount;
   cost = s.cost;
+  discount = s.discount;
 }
 
 pub fact_keyed : (commands : List Accepted) (s : SaleRecord) → fact_with s (keys_sold Product commands s) (keys_sold Store commands s) (keys_sold Customer commands s) ≡ fact_of commands s

@@ -115,6 +115,7 @@ fn fact_with(
         quantity: sale.quantity,
         amount: sale.amount,
         cost: sale.cost,
+        discount: sale.discount,
     })
 }
 

@@ -9,7 +9,7 @@ use crate::host::{Host, file_of};
 use crate::lines::answer::{Answer, Status};
 use crate::lines::{bad_policy, batch_line, no_file};
 use std::alloc::{AllocError, Global};
-use wh_batch::{BATCH_LIMIT, Format, dimension_records};
+use wh_batch::{BATCH_LIMIT, dimension_records};
 use wh_day::ParseError;
 use wh_history::trial_table;
 use wh_policy::{Dim, POLICY_LIMIT, Policy};
@@ -24,7 +24,7 @@ fn table_answer(
 ) -> Result<Answer, AllocError>
     ensures { IfOk result (λ answer. answer ≡ table_answer (trial_rows dim policy.now batch.now)) }
 {
-    match dimension_records(alloc, dim, policy, Format::One, batch) {
+    match dimension_records(alloc, dim, policy, batch) {
         Ok(records) => {
             let rows = trial_table(alloc, policy, dim, records.as_slice())?;
             let table = dimension_text(alloc, &rows)?;

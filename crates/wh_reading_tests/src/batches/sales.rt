@@ -91,6 +91,52 @@ batch sales ticket,line,day,store,product,customer,quantity,amount\n
 batch sales ticket,line,day,store,product,customer,quantity,amount,cost
 = no record
 
+# In the second format a discount stands behind the cost: up to seven digits and perhaps a point with one or two, and no sign.
+rows discounted T5,1,2024-07-05,S1,P1,C9,2,5.00,3.20,0.5
+= T5 1 20240705 S1 P1 C9 2 500 320 50
+rows discounted T5,1,2024-07-05,S1,P1,C9,2,5.00,3.20,0
+= T5 1 20240705 S1 P1 C9 2 500 320
+rows discounted T5,1,2024-07-05,S1,P1,C9,2,5.00,3.20,9999999.99
+= T5 1 20240705 S1 P1 C9 2 500 320 999999999
+rows discounted T5,1,2024-07-05,S1,P1,C9,-2,-5.00,-3.20,0000001.05
+= T5 1 20240705 S1 P1 C9 -2 -500 -320 105
+rows discounted T5,1,2024-07-05,S1,P1,C9,2,5.00,3.20,-0.5
+= 1 BadNumber
+rows discounted T5,1,2024-07-05,S1,P1,C9,2,5.00,3.20,+0.5
+= 1 BadNumber
+rows discounted T5,1,2024-07-05,S1,P1,C9,2,5.00,3.20,
+= 1 BadNumber
+rows discounted T5,1,2024-07-05,S1,P1,C9,2,5.00,3.20,.5
+= 1 BadNumber
+rows discounted T5,1,2024-07-05,S1,P1,C9,2,5.00,3.20,0.
+= 1 BadNumber
+rows discounted T5,1,2024-07-05,S1,P1,C9,2,5.00,3.20,0.125
+= 1 BadNumber
+rows discounted T5,1,2024-07-05,S1,P1,C9,2,5.00,3.20,10000000
+= 1 BadNumber
+rows discounted T5,1,2024-07-05,S1,P1,C9,2,5.00,3.20
+= 1 WrongLength
+rows discounted T5,1,2024-07-05,S1,P1,C9,2,5.00,3.20,0.5,
+= 1 WrongLength
+# The discount is the last field, so that a fault of any other comes first, and a line that is there after it.
+rows discounted T5,1,2024-07-05,S1,P1,C 9,2,5.00,3.20,-1
+= 1 BadKey
+rows discounted T5,1,2024-07-05,S1,P1,,2,5.00,3.20,0\nT5,1,2024-07-05,S1,P1,,2,5.00,3.20,-1
+= 2 BadNumber
+rows discounted T5,1,2024-07-05,S1,P1,,2,5.00,3.20,0\nT5,1,2024-07-05,S1,P1,,2,5.00,3.20,1
+= 2 TwiceInBatch
+# The header is that of the format.
+batch discounted ticket,line,day,store,product,customer,quantity,amount,cost\nT1,1,2024-02-05,S1,P1,,2,5.00,3.20
+= 0 WrongHeader
+batch discounted ticket,line,day,store,product,customer,quantity,amount,discount,cost\n
+= 0 WrongHeader
+batch discounted ticket,line,day,store,product,customer,quantity,amount,cost,discount
+= no record
+batch sales ticket,line,day,store,product,customer,quantity,amount,cost,discount
+= 0 WrongHeader
+either discounted T5,1,2024-07-05,S1,P1,C9,2,5.00,3.20,0.5
+= of sales 1
+
 either sales T1,1,2024-01-05,S1,P1,,1,1,1
 = of sales 1
 many sales 4999 T4999,1,2024-01-05,S1,P1,,1,1,1

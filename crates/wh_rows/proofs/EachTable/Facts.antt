@@ -1,5 +1,5 @@
 -- The statements on fact.
-use Rattle.std.proofs.Common.{Bool, ◌≡◌, ℕ, List, [], ◌∷◌, codes, map, pos, true, ◌&&◌, refl, sym, ap₂, ◌∙◌, drop, ap, Some}
+use Rattle.std.proofs.Common.{Bool, ◌≡◌, ℕ, List, [], ◌∷◌, codes, map, pos, true, ◌&&◌, ◌==◌, refl, sym, ap₂, ◌∙◌, drop, ap, Some}
 use Rattle.std.specs.Prelude.{IsTrue}
 use Rattle.std.proofs.lemmas.Bool.{and_parts}
 use Rattle.std.specs.Ordering.{is_ge, is_le, eq_by_cmp, nat_cmp, ordering_then}
@@ -24,11 +24,11 @@ use Rattle.sqlite.specs.Command.TheVariants.{InsertOr}
 use Rattle.sqlite.specs.Source.TheVariants.{Values}
 use Rattle.sqlite_schema.specs.declared.command.Conflict.TheVariants.{Abort}
 use Rattle.wh_rows.specs.Statements.{reading}
-use Rattle.wh_rows.specs.declared.format.Format.{Format}
-use Rattle.wh_rows.specs.declared.format.Format.TheVariants.{One, Two}
+use Rattle.wh_policy.specs.declared.format.Format.{Format}
+use Rattle.wh_policy.specs.declared.format.Format.TheVariants.{One, Two}
 use Rattle.wh_rows.specs.Schema.{schema_in}
 use Rattle.wh_rows.proofs.Formats.{same_conflicts, nothing_works}
-use Rattle.wh_rows.specs.Rows.{LineKey, is_fact}
+use Rattle.wh_rows.specs.Rows.{LineKey, has_good_columns, is_fact}
 use Rattle.wh_rows.specs.Types.{is_key, is_line, is_number, is_measure}
 use Rattle.wh_rows.specs.Rows as row
 use Rattle.wh_rows.specs.Texts as texts
@@ -131,12 +131,17 @@ exchanged front s p c sd pd cd q x y z s2 p2 c2 q2 all keys =
     both (both (both (both (both (both (both (both (both (both of_s.0 two.0) two.1) third.1) of_sd.1) of_pd.1) of_cd.1) last.1) of_x.1) of_y.1) of_z.1
 
 -- a valid fact with other keys that can be stored is valid
-pub valid_rekeyed : (r : Rekey) (f : Fact) → IsTrue (are_keys r.1) → IsTrue (is_fact f) → IsTrue (is_fact (with_keys r f))
-valid_rekeyed r f keys valid =
+pub good_rekeyed : (r : Rekey) (f : Fact) → IsTrue (are_keys r.1) → IsTrue (has_good_columns f) → IsTrue (has_good_columns (with_keys r f))
+good_rekeyed r f keys valid =
     exchanged (is_key 20 f.ticket && is_line f.line && is_day f.day) (is_number f.keys.store_key) (is_number f.keys.product_key) (is_number f.keys.customer_key)
     (is_number f.store_durable) (is_number f.product_durable) (is_number f.customer_durable) (is_number f.keys.profile)
     (is_measure 9999 f.quantity) (is_measure 999999999 f.amount) (is_measure 999999999 f.cost)
     (is_number r.1.store_key) (is_number r.1.product_key) (is_number r.1.customer_key) (is_number r.1.profile) valid keys
+
+pub valid_rekeyed : (r : Rekey) (f : Fact) → IsTrue (are_keys r.1) → IsTrue (is_fact f) → IsTrue (is_fact (with_keys r f))
+valid_rekeyed r f keys valid =
+    let parts = and_parts (has_good_columns f) (f.discount == 0) valid in
+    both (good_rekeyed r f keys parts.0) parts.1
 
 -- ---- remove
 

@@ -18,11 +18,11 @@ use Rattle.sqlite.specs.Collation.TheVariants.{Binary}
 use Rattle.sqlite.specs.Order.{column}
 use Rattle.sqlite.specs.Term.{lit, col, op1, op2}
 use Rattle.sqlite.specs.Listing.{listing_schema, understood}
-use Rattle.wh_rows.specs.declared.format.Format.{Format}
-use Rattle.wh_rows.specs.declared.format.Format.TheVariants.{One, Two}
-use Rattle.wh_rows.specs.Formats.{is_two}
+use Rattle.wh_policy.specs.declared.format.Format.{Format}
+use Rattle.wh_policy.specs.declared.format.Format.TheVariants.{One, Two}
+use Rattle.wh_policy.specs.Formats.{is_two}
 use Rattle.wh_rows.specs.Schema.{schema_in}
-use Rattle.wh_rows.specs.Rows.{LineKey, is_fact, is_fact2}
+use Rattle.wh_rows.specs.Rows.{LineKey, has_good_columns, is_fact2}
 use Rattle.wh_rows.specs.Types.{is_discount}
 use Rattle.wh_rows.specs.Rows as row
 use Rattle.wh_rows.specs.Texts as texts
@@ -32,13 +32,13 @@ use Rattle.wh_policy.specs.declared.attribute.Dim.{Dim}
 use Rattle.wh_policy.specs.declared.attribute.Dim.TheVariants.{Product, Store, Customer}
 use Rattle.wh_rows.specs.Meaning.{Means, PutsOne, MovesOne, RemovesOne, ReadsSome, CountsAll}
 use Rattle.wh_rows.specs.Raw.{ReadsStored}
-use Rattle.wh_rows.specs.Rekey.{Rekey, rekey2_text, bind_rekey, are_keys, with_keys2}
+use Rattle.wh_rows.specs.Rekey.{Rekey, rekey2_text, bind_rekey, are_keys, with_keys}
 use Rattle.wh_rows.proofs.Cast.{cast_row_own}
 use Rattle.wh_rows.proofs.ColumnLemmas.{both}
 use Rattle.wh_rows.proofs.ShownColumns.{fact2_shown, by_two}
 use Rattle.wh_rows.proofs.Keys.{and-true, equal-Nat, equal-Text, sorted-Nat, at_least-Nat, at_most-Nat, then_eq, trimmed_and}
-use Rattle.wh_rows.specs.declared.rows.Fact2.{Fact2}
-use Rattle.wh_rows.proofs.EachTable.Facts.{valid_rekeyed}
+use Rattle.wh_history.specs.declared.facts.Fact.{Fact}
+use Rattle.wh_rows.proofs.EachTable.Facts.{good_rekeyed}
 
 -- ---- put
 
@@ -59,18 +59,18 @@ put = record {
   own = λ v. cast_row_own row.fact2.table Null (row.fact2.encode v) refl refl;
   kept = λ v rows. cast_row_own row.fact2.table (Int (next_rowid rows)) (row.fact2.encode v) refl refl;
   shows = λ v rows. refl;
-  test = λ v r. equal Binary (column r 0) (Text v.fact.ticket) && equal Binary (column r 1) (Int (pos v.fact.line));
+  test = λ v r. equal Binary (column r 0) (Text v.ticket) && equal Binary (column r 1) (Int (pos v.line));
   hits = λ v rows r. trimmed_and _ _;
-  agree = λ v w. ap₂ ◌&&◌ (equal-Text w.fact.ticket v.fact.ticket) (equal-Nat w.fact.line v.fact.line) ∙ sym (then_eq (slice_cmp nat_cmp v.fact.ticket w.fact.ticket) (nat_cmp v.fact.line w.fact.line));
+  agree = λ v w. ap₂ ◌&&◌ (equal-Text w.ticket v.ticket) (equal-Nat w.line v.line) ∙ sym (then_eq (slice_cmp nat_cmp v.ticket w.ticket) (nat_cmp v.line w.line));
   finds = λ v rows id r. refl;
   over = λ v vs. column vs 0 ∷ column vs 1 ∷ drop 2 (row.fact2.encode v);
   writes = λ v rows id r. refl;
-  remade = λ v w same r n number is. (cast_row_own row.fact2.table (Int n) (Text w.fact.ticket ∷ Int (pos w.fact.line) ∷ drop 2 (row.fact2.encode v)) refl refl, ap (λ (k : LineKey). Text k.ticket ∷ Int (pos k.line) ∷ drop 2 (row.fact2.encode v)) same);
+  remade = λ v w same r n number is. (cast_row_own row.fact2.table (Int n) (Text w.ticket ∷ Int (pos w.line) ∷ drop 2 (row.fact2.encode v)) refl refl, ap (λ (k : LineKey). Text k.ticket ∷ Int (pos k.line) ∷ drop 2 (row.fact2.encode v)) same);
 }
 
 -- ---- other keys
 
-pub rekey2 : MovesOne (schema_in Two) row.fact2 bind_rekey (λ r. r.0) with_keys2 rekey2_text
+pub rekey2 : MovesOne (schema_in Two) row.fact2 bind_rekey (λ r. r.0) with_keys rekey2_text
 unfolding understood everything unary
 rekey2 = record {
   at = 10;
@@ -81,19 +81,19 @@ rekey2 = record {
   plain = (refl, refl);
   test = λ p r. equal Binary (column r 0) (Text p.0.ticket) && (equal Binary (column r 1) (Int (pos p.0.line)) && true);
   hits = λ p r. refl;
-  agree = λ p w. ap₂ ◌&&◌ (equal-Text w.fact.ticket p.0.ticket) (and-true _ ∙ equal-Nat w.fact.line p.0.line) ∙ sym (then_eq (slice_cmp nat_cmp p.0.ticket w.fact.ticket) (nat_cmp p.0.line w.fact.line));
+  agree = λ p w. ap₂ ◌&&◌ (equal-Text w.ticket p.0.ticket) (and-true _ ∙ equal-Nat w.line p.0.line) ∙ sym (then_eq (slice_cmp nat_cmp p.0.ticket w.ticket) (nat_cmp p.0.line w.line));
   over = λ p vs. column vs 0 ∷ column vs 1 ∷ column vs 2 ∷ Int (pos p.1.store_key) ∷ Int (pos p.1.product_key) ∷ Int (pos p.1.customer_key) ∷ column vs 6 ∷ column vs 7 ∷ column vs 8 ∷ Int (pos p.1.profile)
       ∷ column vs 10 ∷ column vs 11 ∷ column vs 12 ∷ column vs 13 ∷ [];
   writes = λ p r. refl;
-  remade = λ p w r n number is. (cast_row_own row.fact2.table (Int n) (row.fact2.encode (with_keys2 p w)) refl refl, refl);
+  remade = λ p w r n number is. (cast_row_own row.fact2.table (Int n) (row.fact2.encode (with_keys p w)) refl refl, refl);
   same_key = λ p w. refl;
 }
 
 -- a valid fact with other keys that can be stored is valid
-pub valid_rekeyed2 : (r : Rekey) (f : Fact2) → IsTrue (are_keys r.1) → IsTrue (is_fact2 f) → IsTrue (is_fact2 (with_keys2 r f))
+pub valid_rekeyed2 : (r : Rekey) (f : Fact) → IsTrue (are_keys r.1) → IsTrue (is_fact2 f) → IsTrue (is_fact2 (with_keys r f))
 valid_rekeyed2 r f keys valid =
-    let parts = and_parts (is_fact f.fact) (is_discount f.discount) valid in
-    both (valid_rekeyed r f.fact keys parts.0) parts.1
+    let parts = and_parts (has_good_columns f) (is_discount f.discount) valid in
+    both (good_rekeyed r f keys parts.0) parts.1
 
 -- ---- remove
 
@@ -107,7 +107,7 @@ remove = record {
   plain = (refl, refl);
   test = λ k r. equal Binary (column r 0) (Text k.ticket) && (equal Binary (column r 1) (Int (pos k.line)) && true);
   hits = λ k r. refl;
-  agree = λ k w. ap₂ ◌&&◌ (equal-Text w.fact.ticket k.ticket) (and-true _ ∙ equal-Nat w.fact.line k.line) ∙ sym (then_eq (slice_cmp nat_cmp k.ticket w.fact.ticket) (nat_cmp k.line w.fact.line));
+  agree = λ k w. ap₂ ◌&&◌ (equal-Text w.ticket k.ticket) (and-true _ ∙ equal-Nat w.line k.line) ∙ sym (then_eq (slice_cmp nat_cmp k.ticket w.ticket) (nat_cmp k.line w.line));
 }
 
 -- ---- read, in order of key
@@ -127,7 +127,7 @@ all = record {
   agree = λ v. refl;
   sorted_by = λ r. column r 0 ∷ column r 1 ∷ [];
   shows = λ r. refl;
-  in_order = λ v w. ap₂ ordering_then (value_cmp-Text v.fact.ticket w.fact.ticket) (then-Equal _ ∙ sorted-Nat v.fact.line w.fact.line);
+  in_order = λ v w. ap₂ ordering_then (value_cmp-Text v.ticket w.ticket) (then-Equal _ ∙ sorted-Nat v.line w.line);
 }
 
 pub get : (k : LineKey) → ReadsSome (schema_in Two) row.fact2 (bind_line k) (λ r. eq_by_cmp row.fact2.order k (row.fact2.key r)) texts.fact2.get
@@ -142,14 +142,14 @@ get k = record {
   unlisted = refl;
   test = λ r. equal Binary (column r 0) (Text k.ticket) && (equal Binary (column r 1) (Int (pos k.line)) && true);
   hits = λ r. refl;
-  agree = λ w. ap₂ ◌&&◌ (equal-Text w.fact.ticket k.ticket) (and-true _ ∙ equal-Nat w.fact.line k.line) ∙ sym (then_eq (slice_cmp nat_cmp k.ticket w.fact.ticket) (nat_cmp k.line w.fact.line));
+  agree = λ w. ap₂ ◌&&◌ (equal-Text w.ticket k.ticket) (and-true _ ∙ equal-Nat w.line k.line) ∙ sym (then_eq (slice_cmp nat_cmp k.ticket w.ticket) (nat_cmp k.line w.line));
   sorted_by = λ r. column r 0 ∷ column r 1 ∷ [];
   shows = λ r. refl;
-  in_order = λ v w. ap₂ ordering_then (value_cmp-Text v.fact.ticket w.fact.ticket) (then-Equal _ ∙ sorted-Nat v.fact.line w.fact.line);
+  in_order = λ v w. ap₂ ordering_then (value_cmp-Text v.ticket w.ticket) (then-Equal _ ∙ sorted-Nat v.line w.line);
 }
 
 -- the facts of a store from one day to another
-pub of_store_between : (durable from to : ℕ) → ReadsSome (schema_in Two) row.fact2 (Int (pos durable) ∷ Int (pos from) ∷ Int (pos to) ∷ []) (λ r. eq_by_cmp nat_cmp durable r.fact.store_durable && (is_ge (nat_cmp r.fact.day from) && is_le (nat_cmp r.fact.day to))) (texts.sales_between2 Store)
+pub of_store_between : (durable from to : ℕ) → ReadsSome (schema_in Two) row.fact2 (Int (pos durable) ∷ Int (pos from) ∷ Int (pos to) ∷ []) (λ r. eq_by_cmp nat_cmp durable r.store_durable && (is_ge (nat_cmp r.day from) && is_le (nat_cmp r.day to))) (texts.sales_between2 Store)
 unfolding understood everything unary
 of_store_between durable from to = record {
   tests = op2 (Compare Eq Binary) (col 1 7) (op1 ToNumeric (col 0 0)) ∷ op2 (Compare Ge Binary) (col 1 3) (op1 ToNumeric (col 0 1)) ∷ op2 (Compare Le Binary) (col 1 3) (op1 ToNumeric (col 0 2)) ∷ [];
@@ -161,14 +161,14 @@ of_store_between durable from to = record {
   unlisted = refl;
   test = λ r. equal Binary (column r 6) (Int (pos durable)) && (at_least (column r 2) (Int (pos from)) && (at_most (column r 2) (Int (pos to)) && true));
   hits = λ r. refl;
-  agree = λ w. ap₂ ◌&&◌ (equal-Nat w.fact.store_durable durable) (ap₂ ◌&&◌ (at_least-Nat w.fact.day from) (and-true _ ∙ at_most-Nat w.fact.day to));
+  agree = λ w. ap₂ ◌&&◌ (equal-Nat w.store_durable durable) (ap₂ ◌&&◌ (at_least-Nat w.day from) (and-true _ ∙ at_most-Nat w.day to));
   sorted_by = λ r. column r 0 ∷ column r 1 ∷ [];
   shows = λ r. refl;
-  in_order = λ v w. ap₂ ordering_then (value_cmp-Text v.fact.ticket w.fact.ticket) (then-Equal _ ∙ sorted-Nat v.fact.line w.fact.line);
+  in_order = λ v w. ap₂ ordering_then (value_cmp-Text v.ticket w.ticket) (then-Equal _ ∙ sorted-Nat v.line w.line);
 }
 
 -- the facts of a product from one day to another
-pub of_product_between : (durable from to : ℕ) → ReadsSome (schema_in Two) row.fact2 (Int (pos durable) ∷ Int (pos from) ∷ Int (pos to) ∷ []) (λ r. eq_by_cmp nat_cmp durable r.fact.product_durable && (is_ge (nat_cmp r.fact.day from) && is_le (nat_cmp r.fact.day to))) (texts.sales_between2 Product)
+pub of_product_between : (durable from to : ℕ) → ReadsSome (schema_in Two) row.fact2 (Int (pos durable) ∷ Int (pos from) ∷ Int (pos to) ∷ []) (λ r. eq_by_cmp nat_cmp durable r.product_durable && (is_ge (nat_cmp r.day from) && is_le (nat_cmp r.day to))) (texts.sales_between2 Product)
 unfolding understood everything unary
 of_product_between durable from to = record {
   tests = op2 (Compare Eq Binary) (col 1 8) (op1 ToNumeric (col 0 0)) ∷ op2 (Compare Ge Binary) (col 1 3) (op1 ToNumeric (col 0 1)) ∷ op2 (Compare Le Binary) (col 1 3) (op1 ToNumeric (col 0 2)) ∷ [];
@@ -180,14 +180,14 @@ of_product_between durable from to = record {
   unlisted = refl;
   test = λ r. equal Binary (column r 7) (Int (pos durable)) && (at_least (column r 2) (Int (pos from)) && (at_most (column r 2) (Int (pos to)) && true));
   hits = λ r. refl;
-  agree = λ w. ap₂ ◌&&◌ (equal-Nat w.fact.product_durable durable) (ap₂ ◌&&◌ (at_least-Nat w.fact.day from) (and-true _ ∙ at_most-Nat w.fact.day to));
+  agree = λ w. ap₂ ◌&&◌ (equal-Nat w.product_durable durable) (ap₂ ◌&&◌ (at_least-Nat w.day from) (and-true _ ∙ at_most-Nat w.day to));
   sorted_by = λ r. column r 0 ∷ column r 1 ∷ [];
   shows = λ r. refl;
-  in_order = λ v w. ap₂ ordering_then (value_cmp-Text v.fact.ticket w.fact.ticket) (then-Equal _ ∙ sorted-Nat v.fact.line w.fact.line);
+  in_order = λ v w. ap₂ ordering_then (value_cmp-Text v.ticket w.ticket) (then-Equal _ ∙ sorted-Nat v.line w.line);
 }
 
 -- the facts of a customer from one day to another
-pub of_customer_between : (durable from to : ℕ) → ReadsSome (schema_in Two) row.fact2 (Int (pos durable) ∷ Int (pos from) ∷ Int (pos to) ∷ []) (λ r. eq_by_cmp nat_cmp durable r.fact.customer_durable && (is_ge (nat_cmp r.fact.day from) && is_le (nat_cmp r.fact.day to))) (texts.sales_between2 Customer)
+pub of_customer_between : (durable from to : ℕ) → ReadsSome (schema_in Two) row.fact2 (Int (pos durable) ∷ Int (pos from) ∷ Int (pos to) ∷ []) (λ r. eq_by_cmp nat_cmp durable r.customer_durable && (is_ge (nat_cmp r.day from) && is_le (nat_cmp r.day to))) (texts.sales_between2 Customer)
 unfolding understood everything unary
 of_customer_between durable from to = record {
   tests = op2 (Compare Eq Binary) (col 1 9) (op1 ToNumeric (col 0 0)) ∷ op2 (Compare Ge Binary) (col 1 3) (op1 ToNumeric (col 0 1)) ∷ op2 (Compare Le Binary) (col 1 3) (op1 ToNumeric (col 0 2)) ∷ [];
@@ -199,14 +199,14 @@ of_customer_between durable from to = record {
   unlisted = refl;
   test = λ r. equal Binary (column r 8) (Int (pos durable)) && (at_least (column r 2) (Int (pos from)) && (at_most (column r 2) (Int (pos to)) && true));
   hits = λ r. refl;
-  agree = λ w. ap₂ ◌&&◌ (equal-Nat w.fact.customer_durable durable) (ap₂ ◌&&◌ (at_least-Nat w.fact.day from) (and-true _ ∙ at_most-Nat w.fact.day to));
+  agree = λ w. ap₂ ◌&&◌ (equal-Nat w.customer_durable durable) (ap₂ ◌&&◌ (at_least-Nat w.day from) (and-true _ ∙ at_most-Nat w.day to));
   sorted_by = λ r. column r 0 ∷ column r 1 ∷ [];
   shows = λ r. refl;
-  in_order = λ v w. ap₂ ordering_then (value_cmp-Text v.fact.ticket w.fact.ticket) (then-Equal _ ∙ sorted-Nat v.fact.line w.fact.line);
+  in_order = λ v w. ap₂ ordering_then (value_cmp-Text v.ticket w.ticket) (then-Equal _ ∙ sorted-Nat v.line w.line);
 }
 
 -- the facts of a member of this dimension from one day to another
-pub of_sales_between : (dim : Dim) (durable from to : ℕ) → ReadsSome (schema_in Two) row.fact2 (Int (pos durable) ∷ Int (pos from) ∷ Int (pos to) ∷ []) (λ r. eq_by_cmp nat_cmp durable (durable_of dim r.fact) && (is_ge (nat_cmp r.fact.day from) && is_le (nat_cmp r.fact.day to))) (texts.sales_between2 dim)
+pub of_sales_between : (dim : Dim) (durable from to : ℕ) → ReadsSome (schema_in Two) row.fact2 (Int (pos durable) ∷ Int (pos from) ∷ Int (pos to) ∷ []) (λ r. eq_by_cmp nat_cmp durable (durable_of dim r) && (is_ge (nat_cmp r.day from) && is_le (nat_cmp r.day to))) (texts.sales_between2 dim)
 of_sales_between Product durable from to = of_product_between durable from to
 of_sales_between Store durable from to = of_store_between durable from to
 of_sales_between Customer durable from to = of_customer_between durable from to
@@ -221,7 +221,7 @@ pub get_stored : (k : LineKey) → ReadsStored (schema_in Two) row.fact2 (bind_l
 unfolding get
 get_stored k = record { reads = get k; tested = λ r. refl }
 
-pub of_sales_between_stored : (dim : Dim) (durable from to : ℕ) → ReadsStored (schema_in Two) row.fact2 (Int (pos durable) ∷ Int (pos from) ∷ Int (pos to) ∷ []) (is_sale_between dim durable from to) (λ r. eq_by_cmp nat_cmp durable (durable_of dim r.fact) && (is_ge (nat_cmp r.fact.day from) && is_le (nat_cmp r.fact.day to))) (texts.sales_between2 dim)
+pub of_sales_between_stored : (dim : Dim) (durable from to : ℕ) → ReadsStored (schema_in Two) row.fact2 (Int (pos durable) ∷ Int (pos from) ∷ Int (pos to) ∷ []) (is_sale_between dim durable from to) (λ r. eq_by_cmp nat_cmp durable (durable_of dim r) && (is_ge (nat_cmp r.day from) && is_le (nat_cmp r.day to))) (texts.sales_between2 dim)
 unfolding of_sales_between of_product_between of_store_between of_customer_between
 of_sales_between_stored Product durable from to = record { reads = of_product_between durable from to; tested = λ r. refl }
 of_sales_between_stored Store durable from to = record { reads = of_store_between durable from to; tested = λ r. refl }
@@ -270,21 +270,21 @@ unfolding understood everything listing_schema
 count_in One = tt
 count_in Two = count
 
-pub of_sales_between_in : (format : Format) (dim : Dim) (durable from to : ℕ) → Means (is_two format) (ReadsSome (schema_in format) row.fact2 (Int (pos durable) ∷ Int (pos from) ∷ Int (pos to) ∷ []) (λ r. eq_by_cmp nat_cmp durable (durable_of dim r.fact) && (is_ge (nat_cmp r.fact.day from) && is_le (nat_cmp r.fact.day to))) (texts.sales_between2 dim)) (understood (schema_in format) (texts.sales_between2 dim))
+pub of_sales_between_in : (format : Format) (dim : Dim) (durable from to : ℕ) → Means (is_two format) (ReadsSome (schema_in format) row.fact2 (Int (pos durable) ∷ Int (pos from) ∷ Int (pos to) ∷ []) (λ r. eq_by_cmp nat_cmp durable (durable_of dim r) && (is_ge (nat_cmp r.day from) && is_le (nat_cmp r.day to))) (texts.sales_between2 dim)) (understood (schema_in format) (texts.sales_between2 dim))
 unfolding understood everything listing_schema
 of_sales_between_in One Product durable from to = tt
 of_sales_between_in One Store durable from to = tt
 of_sales_between_in One Customer durable from to = tt
 of_sales_between_in Two dim durable from to = of_sales_between dim durable from to
 
-pub of_sales_between_stored_in : (format : Format) (dim : Dim) (durable from to : ℕ) → Means (is_two format) (ReadsStored (schema_in format) row.fact2 (Int (pos durable) ∷ Int (pos from) ∷ Int (pos to) ∷ []) (is_sale_between dim durable from to) (λ r. eq_by_cmp nat_cmp durable (durable_of dim r.fact) && (is_ge (nat_cmp r.fact.day from) && is_le (nat_cmp r.fact.day to))) (texts.sales_between2 dim)) (understood (schema_in format) (texts.sales_between2 dim))
+pub of_sales_between_stored_in : (format : Format) (dim : Dim) (durable from to : ℕ) → Means (is_two format) (ReadsStored (schema_in format) row.fact2 (Int (pos durable) ∷ Int (pos from) ∷ Int (pos to) ∷ []) (is_sale_between dim durable from to) (λ r. eq_by_cmp nat_cmp durable (durable_of dim r) && (is_ge (nat_cmp r.day from) && is_le (nat_cmp r.day to))) (texts.sales_between2 dim)) (understood (schema_in format) (texts.sales_between2 dim))
 unfolding understood everything listing_schema
 of_sales_between_stored_in One Product durable from to = tt
 of_sales_between_stored_in One Store durable from to = tt
 of_sales_between_stored_in One Customer durable from to = tt
 of_sales_between_stored_in Two dim durable from to = of_sales_between_stored dim durable from to
 
-pub rekey2_in : (format : Format) → Means (is_two format) (MovesOne (schema_in format) row.fact2 bind_rekey (λ r. r.0) with_keys2 rekey2_text) (understood (schema_in format) rekey2_text)
+pub rekey2_in : (format : Format) → Means (is_two format) (MovesOne (schema_in format) row.fact2 bind_rekey (λ r. r.0) with_keys rekey2_text) (understood (schema_in format) rekey2_text)
 unfolding understood everything listing_schema
 rekey2_in One = tt
 rekey2_in Two = rekey2

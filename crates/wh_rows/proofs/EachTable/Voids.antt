@@ -16,9 +16,9 @@ use Rattle.sqlite.specs.Collation.TheVariants.{Binary}
 use Rattle.sqlite.specs.Order.{column}
 use Rattle.sqlite.specs.Term.{lit, col, op1, op2}
 use Rattle.sqlite.specs.Listing.{listing_schema, understood}
-use Rattle.wh_rows.specs.declared.format.Format.{Format}
-use Rattle.wh_rows.specs.declared.format.Format.TheVariants.{One, Two}
-use Rattle.wh_rows.specs.Formats.{is_two}
+use Rattle.wh_policy.specs.declared.format.Format.{Format}
+use Rattle.wh_policy.specs.declared.format.Format.TheVariants.{One, Two}
+use Rattle.wh_policy.specs.Formats.{is_two}
 use Rattle.wh_rows.specs.Schema.{schema_in}
 use Rattle.wh_rows.specs.Rows.{LineKey}
 use Rattle.wh_rows.specs.Rows as row

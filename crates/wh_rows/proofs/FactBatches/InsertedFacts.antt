@@ -19,7 +19,7 @@ use Rattle.sqlite.specs.declared.error.Error.{Error}
 use Rattle.sqlite_trees.specs.declared.error.StoreError.{StoreError}
 use Rattle.sqlite_trees.specs.declared.error.StoreError.TheVariants.{OutOfMemory, Io, Corrupt, Full, Broken, Unstorable}
 use Rattle.wh_rows.specs.Schema.{index}
-use Rattle.wh_rows.specs.declared.format.Format.{Format}
+use Rattle.wh_policy.specs.declared.format.Format.{Format}
 use Rattle.wh_rows.specs.Schema.{schema_in}
 use Rattle.wh_rows.proofs.Formats.{nothing_works}
 use Rattle.wh_rows.specs.Rows as row

@@ -15,9 +15,9 @@ use Rattle.sqlite.specs.Effect.{value_rows}
 use Rattle.sqlite.specs.Listing.{listing_schema, understood}
 use Rattle.sqlite.specs.State.{State, Executes}
 use Rattle.wh_rows.specs.Schema.{index}
-use Rattle.wh_rows.specs.declared.format.Format.{Format}
-use Rattle.wh_rows.specs.declared.format.Format.TheVariants.{One, Two}
-use Rattle.wh_rows.specs.Formats.{is_two}
+use Rattle.wh_policy.specs.declared.format.Format.{Format}
+use Rattle.wh_policy.specs.declared.format.Format.TheVariants.{One, Two}
+use Rattle.wh_policy.specs.Formats.{is_two}
 use Rattle.wh_rows.specs.Schema.{schema_in}
 use Rattle.wh_rows.specs.Rows as row
 use Rattle.wh_rows.specs.OneTable.{LeavesOthers}
@@ -30,7 +30,7 @@ use Rattle.wh_rows.proofs.Inserts
 use Rattle.wh_rows.proofs.Inserts.{OfEach, written_out, same_key, holds_inserted}
 use Rattle.wh_rows.proofs.Places as places
 use Rattle.wh_rows.specs.Steps.{with_rows}
-use Rattle.wh_rows.specs.declared.rows.Fact2.{Fact2}
+use Rattle.wh_history.specs.declared.facts.Fact.{Fact}
 
 -- a row of parameters from a place on, with a rowid to be chosen
 abbrev row_from : ℕ → List Term
@@ -66,11 +66,11 @@ own_lines = record {
   guards = refl;
   meets = λ r x. equal Binary (column r 0) (column x 0) && (equal Binary (column r 1) (column x 1) && true);
   agrees = λ r x. refl;
-  same = λ v w. ap₂ ◌&&◌ (equal-Text w.fact.ticket v.fact.ticket) (and-true _ ∙ equal-Nat w.fact.line v.fact.line) ∙ sym (then_eq (slice_cmp nat_cmp v.fact.ticket w.fact.ticket) (nat_cmp v.fact.line w.fact.line));
+  same = λ v w. ap₂ ◌&&◌ (equal-Text w.ticket v.ticket) (and-true _ ∙ equal-Nat w.line v.line) ∙ sym (then_eq (slice_cmp nat_cmp v.ticket w.ticket) (nat_cmp v.line w.line));
 }
 
 -- the facts are put in
-pub facts2_inserted : (old new : State) (t : Tables) → t.format ≡ Two → Stores old.now t → (facts : List Fact2) → length facts ≡ facts_at_once → AllByRecursion (λ f. IsTrue (row.fact2.is_valid f)) facts → (count : ℕ)
+pub facts2_inserted : (old new : State) (t : Tables) → t.format ≡ Two → Stores old.now t → (facts : List Fact) → length facts ≡ facts_at_once → AllByRecursion (λ f. IsTrue (row.fact2.is_valid f)) facts → (count : ℕ)
     → Executes insert2_text (bind_facts2 facts) old new (Ok count) → Stores new.now (record t { fact2 = with_rows row.fact2 facts t.fact2 })
 facts2_inserted old new t second stored facts sixteen valid count ran =
     let there : is_two t.format ≡ true = ap is_two second in

@@ -9,4 +9,4 @@ returns-clause-dimensions c = λ dim policy. reads_batches (dimension_layout (at
 
 pub returns-clause-sales : goal.returns-clause-sales
 unfolding sale_records
-returns-clause-sales c = λ policy. reads_batches (sales_layout policy.years)
+returns-clause-sales c = λ policy format. reads_batches (sales_layout format policy.years)

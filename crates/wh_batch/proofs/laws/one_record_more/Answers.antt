@@ -6,4 +6,4 @@ pub returns-clause-dimensions : goal.returns-clause-dimensions
 returns-clause-dimensions c = λ attributes. one_record_more (dimension_layout attributes)
 
 pub returns-clause-sales : goal.returns-clause-sales
-returns-clause-sales c = λ years. one_record_more (sales_layout years)
+returns-clause-sales c = λ format years. one_record_more (sales_layout format years)

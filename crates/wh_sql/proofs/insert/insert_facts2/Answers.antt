@@ -1,15 +1,15 @@
 use Rattle.std.proofs.Common.{List, map, length, Some, inl, inr, refl, sym, subst, ◌∙◌, Bor}
 use Rattle.std.proofs.lemmas.List.{length-map}
 use Rattle.sqlite.specs.Held.{state}
-use Rattle.wh_rows.specs.declared.rows.Fact2.{Fact2}
+use Rattle.wh_history.specs.declared.facts.Fact.{Fact}
 use Rattle.wh_rows.specs.Inserting.{insert2_text, bind_facts2}
 use Rattle.wh_rows.specs.Rows.{is_fact2}
 use Rattle.wh_rows.specs.AtRest.{IsWriting}
 use Rattle.wh_sql.proofs.Writing.{insert2_leaves, inserts2_on, refuses2_on, facts_told, not_put, bound_or_refused}
 use Rattle.wh_sql.proofs.insert.insert_facts2.Goals as goal
 
-abbrev facts_of : List (Bor Fact2) → List Fact2
-facts_of facts = map (λ (f : Bor Fact2). f.now) facts
+abbrev facts_of : List (Bor Fact) → List Fact
+facts_of facts = map (λ (f : Bor Fact). f.now) facts
 
 pub returns-clause-put : goal.returns-clause-put
 returns-clause-put g c clean before made at valid =
@@ -20,7 +20,7 @@ returns-clause-put g c clean before made at valid =
     let old = state g.S.Store c.args.conn.now in
     let new = state g.S.Store c.insert_sixteen.new.conn in
     facts_told _ _ insert2_text (bind_facts2 facts) (length c.args.facts.now) old new c.insert_sixteen.result (told.put clean (bind_facts2 facts) bound) told.sixteen (told.refused clean (bind_facts2 facts) bound)
-    (λ sixteen run. inserts2_on (bind_facts2 facts) old new before made at clean survives run.0 run.1 facts refl (length-map c.args.facts.now (λ (f : Bor Fact2). f.now) ∙ sixteen) valid)
+    (λ sixteen run. inserts2_on (bind_facts2 facts) old new before made at clean survives run.0 run.1 facts refl (length-map c.args.facts.now (λ (f : Bor Fact). f.now) ∙ sixteen) valid)
     (λ left. elim left [ inl few ↦ subst (λ conn. IsWriting before (Some made) (state g.S.Store conn)) (sym few.1) at | inr broken ↦ refuses2_on (bind_facts2 facts) old new before made at clean survives broken ])
 
 pub returns-clause-refused : goal.returns-clause-refused

@@ -1,12 +1,12 @@
 use Rattle.std.proofs.Common.{◌≡◌, ◌≤◌, Bool, ℤ, Option, Result, Ok, Err, IfOk, IfErr, sym, subst, ap, codes, ◌∙◌}
 use Rattle.sqlite.specs.State.{State}
-use Rattle.wh_rows.specs.declared.format.Format.{Format}
+use Rattle.wh_policy.specs.declared.format.Format.{Format}
 use Rattle.wh_rows.specs.Tables.{Tables}
 use Rattle.wh_store.specs.declared.fault.OpenFault.{OpenFault}
 use Rattle.wh_store.specs.declared.fault.OpenFault.TheVariants.{NotAWarehouse, OldFormat, NewFormat, Memory, Damaged, Store}
 use Rattle.wh_store.specs.Meta.{format_of, number_in}
 use Rattle.wh_store.specs.Opening.{IsTaken, IsRefusedWith}
-use Rattle.wh_rows.specs.Formats.{format_number}
+use Rattle.wh_policy.specs.Formats.{format_number}
 use Rattle.wh_store.proofs.FormatFaults.{of_format, is_known}
 use Rattle.wh_store.proofs.meta.find_format.Goals as goal
 

@@ -8,9 +8,9 @@ use Rattle.wh_engine.proofs.OpenedTables.{format_known, not_opened, opened_ready
 use Rattle.wh_engine.proofs.OpenedStored.{format_refused, session_refused}
 use Rattle.wh_admission.proofs.Admitted.{admitted_sound}
 use Rattle.wh_engine.proofs.engine.Engine.open.Goals as goal
-use Rattle.wh_rows.specs.declared.format.Format.{Format}
-use Rattle.wh_rows.specs.declared.format.Format.TheVariants.{One, Two}
-use Rattle.wh_rows.specs.Formats.{format_number}
+use Rattle.wh_policy.specs.declared.format.Format.{Format}
+use Rattle.wh_policy.specs.declared.format.Format.TheVariants.{One, Two}
+use Rattle.wh_policy.specs.Formats.{format_number}
 
 first_known : (format : Format) → format_number format ≤ 1 → format ≡ One
 first_known One known = refl

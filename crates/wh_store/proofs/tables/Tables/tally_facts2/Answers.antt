@@ -1,6 +1,5 @@
-use Rattle.std.proofs.Common.{[], map, sym, subst, ◌∙◌}
+use Rattle.std.proofs.Common.{[], sym, subst, ◌∙◌}
 use Rattle.std.proofs.lemmas.List.Sorted.{IsPermutation-refl}
-use Rattle.wh_rows.specs.declared.rows.Fact2.{Fact2}
 use Rattle.wh_rows.specs.declared.table.Table.TheVariants as tables
 use Rattle.wh_rows.specs.Rows as row
 use Rattle.wh_rows.proofs.Places as places
@@ -23,7 +22,7 @@ returns-clause-damaged g c clean stored on = c.tally_facts.ensures.damaged clean
 pub returns-then-not-is_in-clause-counted : goal.returns-then-not-is_in-clause-counted
 returns-then-not-is_in-clause-counted g c clean t same at =
     let absent = same ∙ sym c.is_in.ensures ∙ c.if-not-is_in.true in
-    subst (λ rows. HasCounted g.C.FactAggregate.counts c.args.which c.args.tally.now c.args.tally.now (map (λ (r : Fact2). r.fact) rows))
+    subst (λ rows. HasCounted g.C.FactAggregate.counts c.args.which c.args.tally.now c.args.tally.now rows)
     (sym (none_typed row.fact2 (λ t. t.fact2) (λ m t. record t { fact2 = m }) tables.Fact2 places.fact2 (state_of g.S.Store c.args.self.now) t at absent)) ([], IsPermutation-refl [], c.requires)
 
 pub returns-then-not-is_in-clause-stored : goal.returns-then-not-is_in-clause-stored

@@ -1,7 +1,7 @@
 -- The formats of a warehouse.
 use Rattle.std.specs.Prelude.{ℕ, Bool, true, false}
-use Rattle.wh_rows.specs.declared.format.Format.{Format}
-use Rattle.wh_rows.specs.declared.format.Format.TheVariants.{One, Two}
+use Rattle.wh_policy.specs.declared.format.Format.{Format}
+use Rattle.wh_policy.specs.declared.format.Format.TheVariants.{One, Two}
 
 -- a format's number, which meta keeps
 abbrev pub format_number : Format → ℕ

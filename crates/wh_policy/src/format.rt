@@ -1,9 +1,9 @@
 //! The formats of a warehouse.
 
 ghost use Rattle.std.specs.Prelude.{◌≡◌};
-ghost use Rattle.wh_rows.specs.Formats.{format_number};
+ghost use Rattle.wh_policy.specs.Formats.{format_number};
 
-/// A format of a warehouse: of ten tables, or of twelve, whose facts have a discount and whose lines may be withdrawn.
+/// A format of a warehouse: of ten tables, or of twelve, whose sales have a discount and whose lines may be withdrawn.
 #[derive(Clone, Copy, Debug, PartialEq, Eq)]
 pub enum Format {
     One,
@@ -11,7 +11,7 @@ pub enum Format {
 }
 
 impl Format {
-    ghost use Rattle.wh_rows.specs.declared.format.Format.{Format};
+    ghost use Rattle.wh_policy.specs.declared.format.Format.{Format};
 
     /// Its number, which meta keeps.
     pub fn number(self) -> u64

@@ -1,11 +1,11 @@
 use Rattle.std.proofs.Common.{◌≡◌, to_z, of_z, w64, arith, refl}
 use Rattle.std.proofs.lemmas.Int.{ints}
-use Rattle.wh_batch.specs.Layouts.{sale_record}
+use Rattle.wh_batch.specs.Layouts.{undiscounted}
 use Rattle.wh_batch.proofs.FieldLemmas.{nine_fields}
-use Rattle.wh_batch.proofs.sale.sale_record.Goals as goal
+use Rattle.wh_batch.proofs.sale.undiscounted.Goals as goal
 
 pub returns : goal.returns
-unfolding sale_record
+unfolding undiscounted
 returns c =
     let quantity : to_z w64 (of_z w64 c.in_ok-quantity_of.field-0) ≡ c.in_ok-quantity_of.field-0 = omega (arith, ints) in
     let amount : to_z w64 (of_z w64 c.in_ok-amount_of.field-0) ≡ c.in_ok-amount_of.field-0 = omega (arith, ints) in
