@@ -9,7 +9,7 @@ use Rattle.wh_batch.specs.Kind.{command_word, command_kind_of, kind_of_word}
 use Rattle.wh_batch.specs.declared.kind.Kind.TheVariants.{Dimension, Sales}
 use Rattle.wh_batch.specs.declared.kind.CommandKind.TheVariants.{Batch, Migration}
 use Rattle.wh_batch.specs.declared.kind.CommandKind.{CommandKind}
-use Rattle.wh_history.specs.Accepted.{Accepted, Content, Governs, Describes, Sells, records_by, members_after, placeholders_by}
+use Rattle.wh_history.specs.Accepted.{Accepted, Content, Governs, Describes, Sells, Upgrades, records_by, members_after, placeholders_by}
 use Rattle.wh_history.specs.Tables as history
 use Rattle.wh_history.proofs.Basics.{some_is}
 use Rattle.wh_model.specs.Defined.{command_at}
@@ -50,6 +50,7 @@ module _ (commands : List Accepted) (a : Accepted) (more : List Accepted) where
   same_count : (content : Content) → placeholders_by whole (suc (length commands)) content ≡ placeholders_by (commands ++ a ∷ []) (suc (length commands)) content
   same_count (Governs policy) = refl
   same_count (Describes dim records) = refl
+  same_count Upgrades = refl
   same_count (Sells sales) =
       let upto : take (suc (length commands)) whole ≡ take (suc (length commands)) (commands ++ a ∷ []) = take_one commands a more ∙ sym (take_one commands a []) in
       let before : take (suc (length commands) - 1) whole ≡ take (suc (length commands) - 1) (commands ++ a ∷ []) = ap (λ n. take n whole) one_before ∙ take_front commands (a ∷ more) ∙ sym (take_front commands (a ∷ [])) ∙ ap (λ n. take n (commands ++ a ∷ [])) (sym one_before) in

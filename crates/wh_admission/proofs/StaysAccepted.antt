@@ -15,9 +15,10 @@ use Rattle.wh_policy.specs.declared.record.SaleRecord.{SaleRecord}
 use Rattle.wh_batch.specs.Layouts.{dimension_records, sale_records}
 use Rattle.wh_batch.specs.declared.fault.BatchFault.{BatchFault}
 use Rattle.wh_batch.specs.declared.kind.Kind.TheVariants.{Dimension, Sales}
+use Rattle.wh_policy.specs.declared.format.Format.{Format}
 use Rattle.wh_policy.specs.declared.format.Format.TheVariants.{One}
 use Rattle.wh_batch.proofs.GoodLemmas.{bind_ok, cond_ok}
-use Rattle.wh_history.specs.Accepted.{Accepted, Content, Governs, Describes, Sells, policy_after, described, described_by, sold, sold_by, same_dim}
+use Rattle.wh_history.specs.Accepted.{Accepted, Content, Governs, Describes, Sells, Upgrades, policy_after, format_after, formatted, described, described_by, sold, sold_by, same_dim}
 use Rattle.wh_history.specs.Tables.{Limits}
 use Rattle.wh_history.proofs.Joins.{all_append}
 use Rattle.wh_history.proofs.Untouched.{described-last}
@@ -92,6 +93,11 @@ all_new before number (s ∷ sales) none =
 
 -- ---- one command more
 
+-- the format after one more
+format_with : (before : Format) (commands : List Accepted) (c : Accepted) → format_after before (commands ++ c ∷ []) ≡ formatted (format_after before commands) c.content
+format_with before [] c = refl
+format_with before (d ∷ ds) c = format_with (formatted before d.content) ds c
+
 -- a content that a command can hold: few good records, or few good sales of which no two have one line
 pub record IsGoodContent (content : Content) : Type 0 where
   pub few : changes_in content ≤ 5000
@@ -100,6 +106,7 @@ pub record IsGoodContent (content : Content) : Type 0 where
   pub sales : AllByRecursion IsGoodSale (sold_by content)
   pub lines : IsDistinct same_line (sold_by content)
   pub undiscounted : AllByRecursion (λ s. s.discount ≡ 0) (sold_by content)
+  pub stays : formatted One content ≡ One
 
 all_if : (P : DimensionRecord → Type 0) (b : Bool) (records : List DimensionRecord) → AllByRecursion P records → AllByRecursion P (cond b records [])
 all_if P true records all = all
@@ -112,6 +119,7 @@ counted (Describes Product records) = omega arith
 counted (Describes Store records) = omega arith
 counted (Describes Customer records) = omega arith
 counted (Sells sales) = omega arith
+counted Upgrades = omega arith
 
 module _ (limits : Limits) (commands : List Accepted) (c : Accepted) (accepted : IsAccepted limits commands) (good : IsGoodContent c.content) (gives : GivesPolicy c.kind c.bytes c.content) where
   abbrev after : List Accepted
@@ -166,7 +174,8 @@ module _ (limits : Limits) (commands : List Accepted) (c : Accepted) (accepted :
         records = λ other. rw (described-last other commands c) (all_append IsGoodRecord (described other commands) (described_by other c.content) (accepted.records other) (good.records other));
         sales = rw sold_more (all_append IsGoodSale (sold commands) (sold_by c.content) accepted.sales good.sales);
         lines = rw sold_more (lines_joined (sold commands) (sold_by c.content) accepted.lines good.lines lines);
-        undiscounted = rw sold_more (all_append (λ (s : SaleRecord). s.discount ≡ 0) (sold commands) (sold_by c.content) accepted.undiscounted good.undiscounted);
+        first = format_with One commands c ∙ ap (λ format. formatted format c.content) accepted.first ∙ good.stays;
+        undiscounted = λ _. rw sold_more (all_append (λ (s : SaleRecord). s.discount ≡ 0) (sold commands) (sold_by c.content) (accepted.undiscounted accepted.first) good.undiscounted);
       }
 
 -- ---- the answer's cases
@@ -247,6 +256,7 @@ well (Batch (Dimension dim)) policy bytes content six told =
         sales = tt;
         lines = tt;
         undiscounted = tt;
+        stays = refl;
       };
       gives = no_policy dim;
     })
@@ -262,6 +272,7 @@ well (Batch Sales) policy bytes content six told =
         sales = good_sales policy One bytes sales read;
         lines = sales_once policy One bytes sales read;
         undiscounted = none_discounted policy bytes sales read;
+        stays = refl;
       };
       gives = refl;
     })
@@ -270,7 +281,7 @@ well Migration policy bytes content six told =
     let e : Governs newer ≡ content = cc in
     let taken = policy_taken policy bytes newer read in
     rw (← e) (record {
-      good = record { few = omega arith; few_sales = omega arith; records = λ other. tt; sales = tt; lines = tt; undiscounted = tt };
+      good = record { few = omega arith; few_sales = omega arith; records = λ other. tt; sales = tt; lines = tt; undiscounted = tt; stays = refl };
       gives = (refl, taken.written);
     })
 

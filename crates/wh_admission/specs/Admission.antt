@@ -15,7 +15,7 @@ use Rattle.wh_batch.specs.declared.kind.Kind.TheVariants.{Dimension, Sales}
 use Rattle.wh_policy.specs.declared.format.Format.TheVariants.{One}
 use Rattle.wh_batch.specs.declared.fault.BatchFault.{BatchFault}
 use Rattle.wh_history.specs.Keys.{place}
-use Rattle.wh_history.specs.Accepted.{Accepted, Content, Governs, Describes, Sells, policy_after, sold, sold_by, records_by, placeholders_by}
+use Rattle.wh_history.specs.Accepted.{Accepted, Content, Governs, Describes, Sells, Upgrades, policy_after, sold, sold_by, records_by, placeholders_by}
 use Rattle.wh_history.specs.Tables.{Limits}
 use Rattle.wh_rows.specs.Types.{is_key}
 use Rattle.wh_rows.specs.Limits.{are_limits}
@@ -85,6 +85,7 @@ abbrev pub changes_in : Content → ℕ
 changes_in (Governs policy) = 0
 changes_in (Describes dim records) = length records
 changes_in (Sells sales) = 0
+changes_in Upgrades = 0
 
 -- the number of the next command where this content has no line that is there
 abbrev pub number_past_lines : Limits → List Accepted → Content → Option ℕ → Result ℕ Refused

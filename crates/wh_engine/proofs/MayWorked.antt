@@ -82,5 +82,6 @@ accepted written = record {
   records = good_records;
   sales = tt;
   lines = tt;
-  undiscounted = tt;
+  first = refl;
+  undiscounted = λ _. tt;
 }

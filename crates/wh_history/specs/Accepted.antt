@@ -2,6 +2,8 @@
 use Rattle.std.specs.Prelude.{ℕ, ◌+◌, ◌-◌, Bool, true, false, if◌then◌else◌, ◌&&◌, List, [], ◌∷◌, ◌++◌, map, flat_map, filter, length, take, Option, Some, None, option_map, option_to_list, unwrap_or, bytes_eq, nat_eq}
 use Rattle.wh_day.specs.Value.{none_text}
 use Rattle.wh_policy.specs.Policy.{types_of}
+use Rattle.wh_policy.specs.declared.format.Format.{Format}
+use Rattle.wh_policy.specs.declared.format.Format.TheVariants.{One, Two}
 use Rattle.wh_policy.specs.declared.policy.Policy.{Policy}
 use Rattle.wh_policy.specs.declared.attribute.Dim.{Dim}
 use Rattle.wh_policy.specs.declared.attribute.Dim.TheVariants.{Product, Store, Customer}
@@ -14,11 +16,12 @@ use Rattle.wh_history.specs.Profiles.{combinations_of}
 use Rattle.wh_history.specs.declared.member.Change.{Change}
 use Rattle.wh_history.specs.declared.member.Member.{Member}
 
--- what a command holds: a making or a migration gives a policy
+-- what a command holds: a making or a migration gives a policy, and an upgrade the second format
 pub data Content : Type 0 where
   Governs : (policy : Policy) → Content
   Describes : (dim : Dim) (records : List DimensionRecord) → Content
   Sells : (sales : List SaleRecord) → Content
+  Upgrades : Content
 
 -- an accepted command; its number is its place in the list, from 1
 pub record Accepted : Type 0 where
@@ -43,11 +46,26 @@ abbrev pub governed : Option Policy → Content → Option Policy
 governed before (Governs policy) = Some policy
 governed before (Describes dim records) = before
 governed before (Sells sales) = before
+governed before Upgrades = before
 
 -- the policy that commands leave in force
 abbrev pub policy_after : Option Policy → List Accepted → Option Policy
 policy_after before [] = before
 policy_after before (c ∷ cs) = policy_after (governed before c.content) cs
+
+-- the format after a command, and after commands: a making makes the first, and an upgrade the second
+abbrev pub formatted : Format → Content → Format
+formatted before (Governs policy) = before
+formatted before (Describes dim records) = before
+formatted before (Sells sales) = before
+formatted before Upgrades = Two
+
+abbrev pub format_after : Format → List Accepted → Format
+format_after before [] = before
+format_after before (c ∷ cs) = format_after (formatted before c.content) cs
+
+abbrev pub format_of : List Accepted → Format
+format_of commands = format_after One commands
 
 -- the types of a dimension's slots under the policy in force
 abbrev pub types_in : Dim → List Accepted → List AttributeType
@@ -58,6 +76,7 @@ abbrev pub described_by : Dim → Content → List DimensionRecord
 described_by dim (Governs policy) = []
 described_by dim (Describes other records) = if same_dim dim other then records else []
 described_by dim (Sells sales) = []
+described_by dim Upgrades = []
 
 -- all records of a dimension, in order of acceptance
 abbrev pub described : Dim → List Accepted → List DimensionRecord
@@ -68,6 +87,7 @@ abbrev pub sold_by : Content → List SaleRecord
 sold_by (Governs policy) = []
 sold_by (Describes dim records) = []
 sold_by (Sells sales) = sales
+sold_by Upgrades = []
 
 -- all sales, in order of acceptance
 abbrev pub sold : List Accepted → List SaleRecord
@@ -156,9 +176,11 @@ abbrev pub placeholders_by : List Accepted → ℕ → Content → ℕ
 placeholders_by commands number (Governs policy) = 0
 placeholders_by commands number (Describes dim records) = 0
 placeholders_by commands number (Sells sales) = members_after (take number commands) - members_after (take (number - 1) commands)
+placeholders_by commands number Upgrades = 0
 
 -- how many records a command holds
 abbrev pub records_by : Content → ℕ
 records_by (Governs policy) = 0
 records_by (Describes dim records) = length records
 records_by (Sells sales) = length sales
+records_by Upgrades = 0

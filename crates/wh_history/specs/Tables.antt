@@ -12,7 +12,7 @@ use Rattle.wh_day.specs.Day.{first_day, last_day}
 use Rattle.wh_history.specs.Rows.{rows}
 use Rattle.wh_history.specs.Profiles.{current_profile}
 use Rattle.wh_history.specs.Facts.{key_in}
-use Rattle.wh_history.specs.Accepted.{Accepted, Content, Governs, Describes, Sells, opening_of, day_of, types_in, sold, anchors, members, durable_key, surrogate_key, member_of, profiles_of, records_by, placeholders_by}
+use Rattle.wh_history.specs.Accepted.{Accepted, Content, Governs, Describes, Sells, Upgrades, opening_of, day_of, types_in, sold, anchors, members, durable_key, surrogate_key, member_of, profiles_of, records_by, placeholders_by}
 use Rattle.wh_policy.specs.declared.policy.Policy.{Policy}
 use Rattle.wh_policy.specs.declared.record.DimensionRecord.{DimensionRecord}
 use Rattle.wh_policy.specs.declared.record.SaleRecord.{SaleRecord}
@@ -63,6 +63,7 @@ abbrev pub change_row_in : List Accepted → ℕ → Content → Option ChangeRo
 change_row_in commands place (Governs policy) = None
 change_row_in commands place (Describes dim records) = option_map (change_row_of commands dim) (at_place place records)
 change_row_in commands place (Sells sales) = None
+change_row_in commands place Upgrades = None
 
 abbrev pub change_row : List Accepted → ℕ → ℕ → Option ChangeRow
 change_row commands number place = option_and_then (λ c. change_row_in commands place c.content) (at_place number commands)

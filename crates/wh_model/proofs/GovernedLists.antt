@@ -6,7 +6,7 @@ use Rattle.wh_policy.specs.declared.attribute.Dim.{Dim}
 use Rattle.wh_policy.specs.declared.policy.Policy.{Policy}
 use Rattle.wh_policy.specs.declared.record.DimensionRecord.{DimensionRecord}
 use Rattle.wh_history.specs.Keys.{distinct, place}
-use Rattle.wh_history.specs.Accepted.{Accepted, Anchor, Content, Governs, Describes, Sells, same_anchor, anchors_by, described_by, described, sold_by, sold, mentions, anchors, members, opening_of, day_of, durable_key, surrogate_key, change_of, changes_of, member_of, policy_after}
+use Rattle.wh_history.specs.Accepted.{Accepted, Anchor, Content, Governs, Describes, Sells, Upgrades, same_anchor, anchors_by, described_by, described, sold_by, sold, mentions, anchors, members, opening_of, day_of, durable_key, surrogate_key, change_of, changes_of, member_of, policy_after}
 use Rattle.wh_history.specs.Laws.{governs}
 use Rattle.wh_history.proofs.Untouched.{mentions-last, described-last}
 
@@ -15,16 +15,19 @@ no_mention : (dim : Dim) (content : Content) → governs content ≡ true → an
 no_mention dim (Governs policy) is = refl
 no_mention dim (Describes other records) is = absurd cc
 no_mention dim (Sells sales) is = absurd cc
+no_mention dim Upgrades is = absurd cc
 
 no_record : (dim : Dim) (content : Content) → governs content ≡ true → described_by dim content ≡ []
 no_record dim (Governs policy) is = refl
 no_record dim (Describes other records) is = absurd cc
 no_record dim (Sells sales) is = absurd cc
+no_record dim Upgrades is = absurd cc
 
 no_sale : (content : Content) → governs content ≡ true → sold_by content ≡ []
 no_sale (Governs policy) is = refl
 no_sale (Describes other records) is = absurd cc
 no_sale (Sells sales) is = absurd cc
+no_sale Upgrades is = absurd cc
 
 module _ (commands : List Accepted) (c : Accepted) (is : governs c.content ≡ true) where
   abbrev after : List Accepted

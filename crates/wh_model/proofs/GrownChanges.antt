@@ -8,7 +8,7 @@ use Rattle.std.proofs.lemmas.Slice.Eq.{bytes_eq-Decides}
 use Rattle.wh_policy.specs.declared.attribute.Dim.{Dim}
 use Rattle.wh_policy.specs.declared.record.DimensionRecord.{DimensionRecord}
 use Rattle.wh_history.specs.Keys.{at_place}
-use Rattle.wh_history.specs.Accepted.{Accepted, Content, Governs, Describes, Sells, Anchor, same_anchor, same_day, day_of, described_by, mentions, durable_key, surrogate_key, records_by}
+use Rattle.wh_history.specs.Accepted.{Accepted, Content, Governs, Describes, Sells, Upgrades, Anchor, same_anchor, same_day, day_of, described_by, mentions, durable_key, surrogate_key, records_by}
 use Rattle.wh_history.specs.Tables.{change_row, change_row_of, change_row_in}
 use Rattle.wh_history.specs.Tables as history
 use Rattle.wh_history.proofs.Batches.{same_dimension}
@@ -68,6 +68,7 @@ module _ (commands : List Accepted) (c : Accepted) where
       let all : AllByRecursion (Told (mentions dim commands)) rs = subst (AllByRecursion (Told (mentions dim commands))) (same_dimension dim rs) (told dim) in
       map_same (change_row_of after dim) (change_row_of commands dim) (at_place place rs) (λ r there. row_stays dim r (all_at (Told (mentions dim commands)) place rs r all there))
   content_stays (Sells sales) told place = refl
+  content_stays Upgrades told place = refl
 
   abbrev row_in : List Accepted → ℕ → Accepted → Option history.ChangeRow
   row_in list place d = change_row_in list place d.content
@@ -138,3 +139,4 @@ module _ (commands : List Accepted) (c : Accepted) where
   changes_grow (Governs policy) is key = inl (record { same = brings_none (Governs policy) is (λ _. refl) key })
   changes_grow (Describes dim rs) is key = change_grows dim rs is key
   changes_grow (Sells sales) is key = inl (record { same = brings_none (Sells sales) is (λ _. refl) key })
+  changes_grow Upgrades is key = inl (record { same = brings_none Upgrades is (λ _. refl) key })

@@ -38,5 +38,6 @@ accepted_lists_begin limits policy bytes limited written =
       records = λ dim. tt;
       sales = tt;
       lines = tt;
-      undiscounted = tt;
+      first = refl;
+      undiscounted = λ _. tt;
     }

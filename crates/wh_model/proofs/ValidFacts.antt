@@ -1,11 +1,13 @@
 -- The facts that accepted commands define are valid.
-use Rattle.std.proofs.Common.{◌≡◌, ℕ, zero, suc, ◌==◌, ◌&&◌, true, List, Option, Some, None, refl, ap, ◌∙◌, arith}
+use Rattle.std.proofs.Common.{◌≡◌, ℕ, zero, suc, ◌==◌, ◌&&◌, true, List, Option, Some, None, refl, ap, sym, subst, ◌∙◌, arith}
 use Rattle.std.specs.Prelude.{bytes_eq, find, option_map, unwrap_or}
 use Rattle.wh_day.specs.Day.{is_day}
 use Rattle.wh_policy.specs.declared.attribute.Dim.{Dim}
 use Rattle.wh_policy.specs.declared.attribute.Dim.TheVariants.{Product, Store, Customer}
+use Rattle.wh_policy.specs.declared.format.Format.{Format}
+use Rattle.wh_policy.specs.declared.format.Format.TheVariants.{One, Two}
 use Rattle.wh_policy.specs.declared.record.SaleRecord.{SaleRecord}
-use Rattle.wh_history.specs.Accepted.{Accepted, Anchor, anchors, member_of, durable_key, sold, types_in, profiles_of}
+use Rattle.wh_history.specs.Accepted.{Accepted, Anchor, format_of, anchors, member_of, durable_key, sold, types_in, profiles_of}
 use Rattle.wh_history.specs.Dated.{at, dated}
 use Rattle.wh_history.specs.Keys.{at_place}
 use Rattle.wh_history.specs.Laws.{RecordsHaveDays, IsMember}
@@ -14,9 +16,11 @@ use Rattle.wh_history.specs.declared.facts.Fact.{Fact}
 use Rattle.wh_history.specs.declared.rows.DimRow.{DimRow}
 use Rattle.wh_history.proofs.Effective.{found_row}
 use Rattle.wh_history.proofs.Joins.{all_weaker}
-use Rattle.wh_rows.specs.Rows.{is_fact}
-use Rattle.wh_rows.specs.Types.{is_number}
+use Rattle.wh_rows.specs.Facts.{fact_layout}
+use Rattle.wh_rows.specs.Rows.{has_good_columns}
+use Rattle.wh_rows.specs.Types.{is_number, is_discount}
 use Rattle.wh_rows.specs.declared.key.LineKey.{LineKey}
+use Rattle.wh_rows.proofs.ColumnLemmas.{both}
 use Rattle.wh_model.specs.Defined.{fact_at}
 use Rattle.wh_model.specs.Sound.{IsGoodRecord, IsGoodSale, IsAccepted}
 use Rattle.wh_model.proofs.Following.{Named, all_named}
@@ -30,11 +34,16 @@ small_or_none : {X : Type 0} (number : X → ℕ) (o : Option X) → ((x : X) �
 small_or_none number None each = is_small 0 (omega arith)
 small_or_none number (Some x) each = each x refl
 
-valid_fact : (f : Fact) (s : SaleRecord) → IsGoodSale s → f.ticket ≡ s.ticket → f.line ≡ s.line → f.day ≡ s.day → f.quantity ≡ s.quantity → f.amount ≡ s.amount → f.cost ≡ s.cost → f.discount ≡ 0
+good_columns : (f : Fact) (s : SaleRecord) → IsGoodSale s → f.ticket ≡ s.ticket → f.line ≡ s.line → f.day ≡ s.day → f.quantity ≡ s.quantity → f.amount ≡ s.amount → f.cost ≡ s.cost
     → is_number f.keys.store_key ≡ true → is_number f.keys.product_key ≡ true → is_number f.keys.customer_key ≡ true → is_number f.store_durable ≡ true → is_number f.product_durable ≡ true → is_number f.customer_durable ≡ true → is_number f.keys.profile ≡ true
-    → is_fact f ≡ true
-valid_fact f s good ticket line day quantity amount cost discount store product customer store_durable product_durable customer_durable profile =
-    rw (ticket, line, day, quantity, amount, cost, discount, good.ticket, good.line, good.day, store, product, customer, store_durable, product_durable, customer_durable, profile, good.quantity, good.amount, good.cost) refl
+    → has_good_columns f ≡ true
+good_columns f s good ticket line day quantity amount cost store product customer store_durable product_durable customer_durable profile =
+    rw (ticket, line, day, quantity, amount, cost, good.ticket, good.line, good.day, store, product, customer, store_durable, product_durable, customer_durable, profile, good.quantity, good.amount, good.cost) refl
+
+-- it has no discount in the first format, and one that can be kept in the second
+valid_in : (format : Format) (f : Fact) → has_good_columns f ≡ true → is_discount f.discount ≡ true → (format ≡ One → f.discount ≡ 0) → (fact_layout format).is_valid f ≡ true
+valid_in One f good few none = both good (subst (λ d. (d == 0) ≡ true) (sym (none refl)) refl)
+valid_in Two f good few none = both good few
 
 module _ (limits : Limits) (commands : List Accepted) (ok : IsAccepted limits commands) where
   pub days : RecordsHaveDays commands
@@ -60,9 +69,9 @@ module _ (limits : Limits) (commands : List Accepted) (ok : IsAccepted limits co
       let small = current_small (types_in Customer commands) (profiles_of commands) (at day (dated (member_of Customer commands natural).changes)) in
       is_small (profile_at commands day natural) (omega arith)
 
-  sale_valid : (s : SaleRecord) → IsGoodSale s → s.discount ≡ 0 → Named commands s → is_fact (fact_of commands s) ≡ true
-  sale_valid s good discount named =
-      valid_fact (fact_of commands s) s good refl refl refl refl refl refl discount
+  good_fact : (s : SaleRecord) → IsGoodSale s → Named commands s → has_good_columns (fact_of commands s) ≡ true
+  good_fact s good named =
+      good_columns (fact_of commands s) s good refl refl refl refl refl refl
       (row_number Store s.store s.day (named Store s.store refl) good.day)
       (row_number Product s.product s.day (named Product s.product refl) good.day)
       (small_or_none (key_at commands Customer s.day) s.customer (λ natural is. row_number Customer natural s.day (named Customer natural is) good.day))
@@ -71,11 +80,13 @@ module _ (limits : Limits) (commands : List Accepted) (ok : IsAccepted limits co
       (small_or_none (durable_key Customer commands) s.customer (λ natural is. durable_number limits commands ok Customer natural))
       (small_or_none (profile_at commands s.day) s.customer (λ natural is. profile_number s.day natural))
 
-  pub fact_valid : (key : LineKey) (f : Fact) → fact_at commands key ≡ Some f → is_fact f ≡ true
+  -- a fact is valid in the table of the list's format
+  pub fact_valid : (key : LineKey) (f : Fact) → fact_at commands key ≡ Some f → (fact_layout (format_of commands)).is_valid f ≡ true
   fact_valid key f is =
-      let made = made_of (fact_of commands) (find (λ (s : SaleRecord). bytes_eq s.ticket key.ticket && (s.line == key.line)) (sold commands)) f is in
+      let on_line = λ (s : SaleRecord). bytes_eq s.ticket key.ticket && (s.line == key.line) in
+      let made = made_of (fact_of commands) (find on_line (sold commands)) f is in
       let s : SaleRecord = made.0 in
-      let good = found_is IsGoodSale (λ (t : SaleRecord). bytes_eq t.ticket key.ticket && (t.line == key.line)) (sold commands) s ok.sales made.1 in
-      let discount = found_is (λ (t : SaleRecord). t.discount ≡ 0) (λ (t : SaleRecord). bytes_eq t.ticket key.ticket && (t.line == key.line)) (sold commands) s ok.undiscounted made.1 in
-      let named = found_is (Named commands) (λ (t : SaleRecord). bytes_eq t.ticket key.ticket && (t.line == key.line)) (sold commands) s (all_named commands) made.1 in
-      ap is_fact made.2 ∙ sale_valid s good discount named
+      let good = found_is IsGoodSale on_line (sold commands) s ok.sales made.1 in
+      let named = found_is (Named commands) on_line (sold commands) s (all_named commands) made.1 in
+      let none = λ (first : format_of commands ≡ One). found_is (λ (t : SaleRecord). t.discount ≡ 0) on_line (sold commands) s (ok.undiscounted first) made.1 in
+      ap (fact_layout (format_of commands)).is_valid made.2 ∙ valid_in (format_of commands) (fact_of commands s) (good_fact s good named) good.discount none

@@ -4,13 +4,14 @@ use Rattle.std.specs.List.{AllByRecursion, IsDistinct}
 use Rattle.wh_day.specs.Day.{is_day}
 use Rattle.wh_policy.specs.declared.attribute.Dim.{Dim}
 use Rattle.wh_policy.specs.declared.attribute.Dim.TheVariants.{Product, Store, Customer}
+use Rattle.wh_policy.specs.declared.format.Format.TheVariants.{One}
 use Rattle.wh_policy.specs.declared.policy.Policy.{Policy}
 use Rattle.wh_policy.specs.declared.record.DimensionRecord.{DimensionRecord}
 use Rattle.wh_policy.specs.declared.record.SaleRecord.{SaleRecord}
 use Rattle.wh_policy.specs.Policy.{policy_at, types_of}
 use Rattle.wh_policy.specs.Written.{IsSound}
 use Rattle.wh_policy.specs.declared.attribute.AttributeType.{AttributeType}
-use Rattle.wh_history.specs.Accepted.{Accepted, Content, Governs, Describes, Sells, policy_after, types_in, described, member_of_sale, sold}
+use Rattle.wh_history.specs.Accepted.{Accepted, Content, Governs, Describes, Sells, Upgrades, policy_after, format_of, types_in, described, member_of_sale, sold}
 use Rattle.wh_history.specs.Tables.{Limits}
 use Rattle.wh_rows.specs.Limits.{are_limits}
 use Rattle.wh_rows.specs.Questions.{gives_policy}
@@ -70,9 +71,10 @@ abbrev pub GivesPolicy : (kind bytes : List ℕ) → Content → Type 0
 GivesPolicy kind bytes (Governs policy) = (gives_policy kind ≡ true) × (policy_at bytes ≡ Ok policy)
 GivesPolicy kind bytes (Describes dim records) = gives_policy kind ≡ false
 GivesPolicy kind bytes (Sells sales) = gives_policy kind ≡ false
+GivesPolicy kind bytes Upgrades = gives_policy kind ≡ false
 
 -- The list is one that a warehouse with these limits can have accepted: it begins with a making, and makings and migrations give the policies of their bytes, with up to six attributes a dimension; ids and kinds are well
--- formed, no two commands share an id; its records and sales are good, no two sales have one line, none has a discount, and no batch has more than 5,000; the limits aren't passed.
+-- formed, no two commands share an id; its records and sales are good, no two sales have one line, none has a discount in the first format, and no batch has more than 5,000; no command upgrades it yet; the limits aren't passed.
 pub record IsAccepted (limits : Limits) (commands : List Accepted) : Type 0 where
   pub limited : are_limits limits ≡ true
   pub commands_within : length commands ≤ limits.commands
@@ -90,4 +92,5 @@ pub record IsAccepted (limits : Limits) (commands : List Accepted) : Type 0 wher
   pub records : (dim : Dim) → AllByRecursion IsGoodRecord (described dim commands)
   pub sales : AllByRecursion IsGoodSale (sold commands)
   pub lines : IsDistinct same_line (sold commands)
-  pub undiscounted : AllByRecursion (λ s. s.discount ≡ 0) (sold commands)
+  pub first : format_of commands ≡ One
+  pub undiscounted : format_of commands ≡ One → AllByRecursion (λ s. s.discount ≡ 0) (sold commands)

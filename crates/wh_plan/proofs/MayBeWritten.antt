@@ -7,7 +7,7 @@ use Rattle.wh_policy.specs.declared.attribute.Dim.{Dim}
 use Rattle.wh_policy.specs.declared.attribute.Dim.TheVariants.{Product, Store, Customer}
 use Rattle.wh_policy.specs.declared.record.DimensionRecord.{DimensionRecord}
 use Rattle.wh_policy.specs.declared.record.SaleRecord.{SaleRecord}
-use Rattle.wh_history.specs.Accepted.{Accepted, Content, Governs, Describes, Sells, described, described_by, sold, members_after, records_by, placeholders_by}
+use Rattle.wh_history.specs.Accepted.{Accepted, Content, Governs, Describes, Sells, Upgrades, described, described_by, sold, members_after, records_by, placeholders_by}
 use Rattle.wh_history.specs.Tables.{Limits, change_row, change_row_in, change_row_of, dimension_row}
 use Rattle.wh_history.specs.Tables as history
 use Rattle.wh_history.specs.declared.facts.Fact.{Fact}
@@ -44,6 +44,7 @@ use Rattle.wh_model.proofs.SmallNumbers.{is_small, commands_few, described_few, 
 use Rattle.wh_model.proofs.ValidTables.{made_of, dimension_valid, member_valid, change_made, profile_valid}
 use Rattle.wh_model.proofs.ValidCalendar.{calendar_valid}
 use Rattle.wh_model.proofs.ValidFacts.{fact_valid}
+use Rattle.wh_rows.specs.Facts.{fact_layout}
 use Rattle.wh_plan.proofs.SaleBatches.Selling.{sold_more}
 
 take_all : {X : Type 0} (xs : List X) → take (length xs) xs ≡ xs
@@ -100,10 +101,12 @@ module _ (limits : Limits) (commands : List Accepted) (c : Accepted) (t : Tables
   few_by (Governs policy) is = omega arith
   few_by (Describes dim records) is = few_records dim records is
   few_by (Sells sales) is = few_sales sales is
+  few_by Upgrades is = omega arith
 
   few_placeholders : (content : Content) → placeholders_by after (length after) content ≤ 9999999
   few_placeholders (Governs policy) = omega arith
   few_placeholders (Describes dim records) = omega arith
+  few_placeholders Upgrades = omega arith
   few_placeholders (Sells sales) =
       let whole : members_after (take (length after) after) ≡ members_after after = ap members_after (take_all after) in
       let products = members_few limits after ok Product in
@@ -159,6 +162,7 @@ module _ (limits : Limits) (commands : List Accepted) (c : Accepted) (t : Tables
       let made = made_of (λ (w : history.ChangeRow). record { command = length after; place = n; dim = w.dim; durable = w.durable; day = w.day; anchor = w.anchor; values = w.texts }) (change_row after (length after) n) v here in
       ap is_change made.2 ∙ change_made limits after ok dim records (good_records dim records is) (few_records dim records is) (length after) n made.0 (omega arith) (sym (new_row commands c dim records is n) ∙ made.1)
   valid_change (Sells sales) is n v here = no_change n v (ap (change_row_in after n) is) here
+  valid_change Upgrades is n v here = no_change n v (ap (change_row_in after n) is) here
 
   valid_change_put : (v : ChangeRow) → (change_at commands (row.change.key v) ≡ Some v → ⊥) → change_at after (row.change.key v) ≡ Some v → is_change v ≡ true
   valid_change_put v new is = elim (changes_grow commands c c.content refl (row.change.key v)) [
@@ -172,7 +176,7 @@ module _ (limits : Limits) (commands : List Accepted) (c : Accepted) (t : Tables
   valid_fact_edit e needs = by_rows e (fact_at commands (edited_line e)) (fact_at after (edited_line e)) refl needs
     where
       valid : (line : LineKey) (new : Fact) → fact_at after line ≡ Some new → is_fact new ≡ true
-      valid line new is = fact_valid limits after ok line new is
+      valid line new is = subst (λ format. (fact_layout format).is_valid new ≡ true) ok.first (fact_valid limits after ok line new is)
 
       keys : (line : LineKey) (new : Fact) → fact_at after line ≡ Some new → are_keys new.keys ≡ true
       keys line new is = are_keys_of new (valid line new is)
