@@ -36,7 +36,8 @@ fn edit_on(
         Some(day) => {
             let old = row_on(alloc, older, day)?;
             let new = row_on(alloc, newer, day)?;
-            edit_between(alloc, day, old.as_ref(), new.as_ref())
+            let edit = edit_between(alloc, day, old.as_ref(), new.as_ref())?;
+            Ok(edit)
         }
         None => Ok(None),
     }

@@ -113,12 +113,7 @@ fn profile_edits(
     let end = stored.len().max(rows.len());
     let mut edits = Vec::new(alloc);
     for place in 0..end {
-        if let Some(edit) = edit_between(
-            alloc,
-            place as u64,
-            stored.get(place),
-            rows.get(place),
-        )? {
+        if let Some(edit) = edit_between(alloc, place as u64, stored.get(place), rows.get(place))? {
             edits.push(edit)?;
         }
     }

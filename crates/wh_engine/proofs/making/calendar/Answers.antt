@@ -13,17 +13,15 @@ loop-number-preserved c =
     let read : c.from_key.result ≡ day_of_number number = c.from_key.ensures ∙ ap day_of_key signed in
     elim c.match-from_key.branch [
       | in-Some+in_ok-date_row+in_ok-push w ↦ record {
-        from = refl;
-        to = refl;
-        behind = omega arith;
+        to = at.to;
+        behind = omega (arith, at.behind);
         whole =
             rw (w.rows-is, w.in_ok-push.ensures.items)
-            (one_day c.args.policy.now number _ w.in-Some.day c.loop-number.rows.items w.in_ok-date_row.field-0 at.behind refl c.loop-number-test.true (sym read ∙ w.in-Some.is) w.in_ok-date_row.ensures at.whole);
+            (one_day c.args.policy.now number _ w.in-Some.day c.loop-number.rows.items w.in_ok-date_row.field-0 at.behind at.to c.loop-number-test.true (sym read ∙ w.in-Some.is) w.in_ok-date_row.ensures at.whole);
       }
       | in_default w ↦ record {
-        from = refl;
-        to = refl;
-        behind = omega arith;
+        to = at.to;
+        behind = omega (arith, at.behind);
         whole = rw w.rows-is (no_day c.args.policy.now number _ c.loop-number.rows.items c.loop-number-test.true (sym read ∙ w.in_default.is) at.whole);
       }
     ]

@@ -7,8 +7,7 @@ use Rattle.wh_engine.proofs.making.calendar.Given as goal
 -- the rows so far and those of the numbers that are left are all
 abbrev pub invariant-loop-number : goal.invariant-loop-number
 invariant-loop-number l = record {
-  from : l.keys.start ≡ first_key l.policy.years;
-  to : l.keys.end ≡ end_key l.policy.years;
-  behind : l.keys.start ≤ l.number;
-  whole : l.rows.items ++ rows_from l.policy l.number l.keys.end ≡ calendar_rows l.policy;
+  to : l.number-end ≡ end_key l.policy.years;
+  behind : first_key l.policy.years ≤ l.number;
+  whole : l.rows.items ++ rows_from l.policy l.number l.number-end ≡ calendar_rows l.policy;
 }

@@ -15,11 +15,10 @@ loop-number-preserved c =
     let at = c.loop-number.invariant in
     elim c.match-branch-2.branch [
       | in-Some+in_ok-push w ↦ record {
-        from = refl;
-        to = refl;
+        to = at.to;
         whole = rw (w.edits-is, w.in_ok-push.ensures.items) (one_made make number _ c.loop-number.edits.items w.in-Some.edit _ c.loop-number-test.true (sym c.in_ok-edit.ensures ∙ w.in-Some.is) at.whole);
       }
-      | in_default w ↦ record { from = refl; to = refl; whole = rw w.edits-is (none_made make number _ c.loop-number.edits.items _ c.loop-number-test.true (sym c.in_ok-edit.ensures ∙ w.in_default.is) at.whole) }
+      | in_default w ↦ record { to = at.to; whole = rw w.edits-is (none_made make number _ c.loop-number.edits.items _ c.loop-number-test.true (sym c.in_ok-edit.ensures ∙ w.in_default.is) at.whole) }
     ]
 
 pub returns : goal.returns
