@@ -1,4 +1,4 @@
-use Rattle.std.proofs.Common.{◌≡◌, ◌∙◌, refl, sym, ap, arith, pos, to_z, w64}
+use Rattle.std.proofs.Common.{◌≡◌, ◌∙◌, sym, ap, arith, pos, to_z, w64}
 use Rattle.std.proofs.lemmas.Int.{to_z_pos}
 use Rattle.wh_day.specs.Day.{day_of_key, day_of_number}
 use Rattle.wh_engine.proofs.MadeCalendar.{one_day, no_day}

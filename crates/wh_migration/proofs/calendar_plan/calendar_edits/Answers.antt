@@ -1,4 +1,4 @@
-use Rattle.std.proofs.Common.{◌∙◌, refl, sym, subst}
+use Rattle.std.proofs.Common.{◌∙◌, sym, subst}
 use Rattle.wh_rows.specs.Rows as row
 use Rattle.wh_model.specs.Defined.{day_at}
 use Rattle.wh_plan.specs.Edits.{IsTablePlan}
