@@ -1,5 +1,6 @@
 -- Each record of a batch that is read is good.
 use Rattle.std.proofs.Common.{◌≡◌, ℕ, suc, ◌≤◌, ◌==◌, Bool, true, false, cond, not, leb, ◌&&◌, List, [], ◌∷◌, length, map, Option, Some, None, Result, Ok, Err, refl, sym, ap, ◌∙◌, subst, arith}
+use Rattle.std.specs.Prelude.{ok_or}
 use Rattle.std.specs.List.{AllByRecursion}
 use Rattle.std.proofs.lemmas.Bool.{or_right, eqb-true, not-false}
 use Rattle.std.proofs.lemmas.List.{length-map}
@@ -14,7 +15,7 @@ use Rattle.wh_policy.specs.declared.policy.Policy.{Policy}
 use Rattle.wh_policy.specs.declared.record.DimensionRecord.{DimensionRecord}
 use Rattle.wh_batch.specs.declared.fault.FaultKind.{FaultKind}
 use Rattle.wh_batch.specs.declared.fault.FaultKind.TheVariants.{BadKey, BadDay, BadValue}
-use Rattle.wh_batch.specs.Fields.{or_fault, key_at, day_at, last_effective_day, effective_day_at, value_at, values_at}
+use Rattle.wh_batch.specs.Fields.{key_at, day_at, last_effective_day, effective_day_at, value_at, values_at}
 use Rattle.wh_batch.specs.Layouts.{dimension_record, dimension_layout, dimension_records}
 use Rattle.wh_batch.proofs.GoodLemmas.{bind_ok, cond_ok, reads_batches}
 use Rattle.wh_rows.specs.Types.{is_key, is_special, is_given, is_slot}
@@ -24,7 +25,7 @@ use Rattle.wh_model.specs.Sound.{IsGivenValue, IsGoodRecord}
 pub same_key : (most : ℕ) (text : List ℕ) → day.is_key most text ≡ is_key most text
 same_key most text = refl
 
-pub read_ok : {A : Type 0} (kind : FaultKind) (o : Option A) (x : A) → or_fault kind o ≡ Ok x → o ≡ Some x
+pub read_ok : {A : Type 0} (kind : FaultKind) (o : Option A) (x : A) → ok_or o kind ≡ Ok x → o ≡ Some x
 read_ok kind (Some y) x h = let e : y ≡ x = cc in ap Some e
 read_ok kind None x h = absurd cc
 

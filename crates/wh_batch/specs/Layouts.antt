@@ -97,6 +97,7 @@ sale_key r = record { text = r.ticket; number = r.line }
 -- the names of the fields of a sale
 abbrev pub undiscounted_header : List (List ℕ)
 undiscounted_header = codes "ticket" ∷ codes "line" ∷ codes "day" ∷ codes "store" ∷ codes "product" ∷ codes "customer" ∷ codes "quantity" ∷ codes "amount" ∷ codes "cost" ∷ []
+
 abbrev pub sales_header : Format → List (List ℕ)
 sales_header One = undiscounted_header
 sales_header Two = undiscounted_header ++ codes "discount" ∷ []

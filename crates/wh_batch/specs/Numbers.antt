@@ -54,7 +54,7 @@ quantity_at field = ok_or (read_quantity field) BadNumber
 
 -- the discount that a field writes, without a sign
 abbrev pub discount_at : List ℕ → Result ℕ FaultKind
-discount_at field = or_fault BadNumber (read_hundredths field)
+discount_at field = ok_or (read_hundredths field) BadNumber
 
 -- the amount that a field writes
 abbrev pub amount_at : List ℕ → Result ℤ FaultKind
