@@ -143,6 +143,12 @@ no_discount : (fields : List (List ℕ)) (discount : ℕ) → discount_in One fi
 unfolding discount_in
 no_discount fields discount h = let none : 0 ≡ discount = cc in sym none
 
+-- a discount names no member
+same_members : (dim : Dim) (sale : SaleRecord) (discount : ℕ) → member_of_sale dim (record sale { discount = discount }) ≡ member_of_sale dim sale
+same_members Product sale discount = refl
+same_members Store sale discount = refl
+same_members Customer sale discount = refl
+
 good_sale : (format : Format) (fields : List (List ℕ)) (s : SaleRecord) → sale_record format fields ≡ Ok s → IsGoodSale s
 good_sale format fields s h =
     let (sale, discount, sale_is, discount_is, e) = discounted format fields s h in
@@ -151,7 +157,7 @@ good_sale format fields s h =
       ticket = good.ticket;
       line = good.line;
       day = good.day;
-      members = good.members;
+      members = λ dim natural is. good.members dim natural (sym (same_members dim sale discount) ∙ is);
       quantity = good.quantity;
       amount = good.amount;
       cost = good.cost;

@@ -5,8 +5,8 @@ use std::alloc::AllocError;
 use wh_day::{DateRow, Day, Value};
 use wh_history::{DimRow, Fact};
 use wh_rows::{
-    ChangeKey, ChangeRow, CommandRow, LineKey, MemberKey, MemberRow, MetaRow, ProfileRow,
-    VoidRow, tables,
+    ChangeKey, ChangeRow, CommandRow, LineKey, MemberKey, MemberRow, MetaRow, ProfileRow, VoidRow,
+    tables,
 };
 
 impl PagedTable for tables::Meta {

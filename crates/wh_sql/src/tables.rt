@@ -8,8 +8,8 @@ use wh_day::{DateRow, Day, Value};
 use wh_history::{DimRow, Fact};
 use wh_policy::{Dim, Format};
 use wh_rows::{
-    Cause, ChangeKey, ChangeRow, CommandRow, LineKey, MemberKey, MemberRow, MetaRow,
-    ProfileRow, Table, VoidRow, bound, tables,
+    Cause, ChangeKey, ChangeRow, CommandRow, LineKey, MemberKey, MemberRow, MetaRow, ProfileRow,
+    Table, VoidRow, bound, tables,
 };
 
 impl KeyedTable for tables::Meta {

@@ -21,8 +21,8 @@ use crate::fault::OpenFault;
 use sqlite::{Alter, Connection};
 use std::alloc::Global;
 use wh_day::Value;
-use wh_rows::tables::Meta;
 use wh_policy::Format;
+use wh_rows::tables::Meta;
 use wh_rows::{Cause, Limits, MetaRow, Table};
 use wh_sql::{ReadFault, get};
 

@@ -32,8 +32,8 @@ use sqlite::Alter;
 use std::alloc::Global;
 use std::mem::replace;
 use wh_history::{Edit, Fact, FactKeys};
-use wh_rows::tables::{self, Meta};
 use wh_policy::Format;
+use wh_rows::tables::{self, Meta};
 use wh_rows::{Cause, Limits, LineKey};
 use wh_sql::{KeyedTable, add_second, create, insert_facts, insert_facts2, put, rekey, remove};
 
