@@ -16,7 +16,7 @@ use wh_history::{DimRow, DimensionShape, Member, anchor_of_day, six_texts};
 use wh_policy::{Dim, DimensionRecord};
 use wh_rows::{ChangeKey, ChangeRow, MemberRow};
 
-fn member_row(dim: Dim, member: &Member) -> Result<MemberRow, AllocError>
+fn row_of_member(dim: Dim, member: &Member) -> Result<MemberRow, AllocError>
     ensures { IfOk result (λ row. row ≡ row_of_member dim member.now) }
 {
     Ok(MemberRow {
@@ -43,13 +43,13 @@ pub fn new_members(
     let mut rows = Vec::new(alloc);
     for member in touched {
         if members_before < member.durable {
-            rows.push(member_row(dim, member)?)?;
+            rows.push(row_of_member(dim, member)?)?;
         }
     }
     Ok(rows)
 }
 
-fn change_row(
+fn row_of_record(
     alloc: Global,
     dim: Dim,
     key: ChangeKey,
@@ -89,7 +89,7 @@ pub fn new_changes(
         if let Some(member) = found.get(told.natural.as_str()).copied() {
             let place = place as u64 + 1;
             let key = ChangeKey { command, place };
-            rows.push(change_row(alloc, dim, key, told, member)?)?;
+            rows.push(row_of_record(alloc, dim, key, told, member)?)?;
         }
     }
     Ok(rows)

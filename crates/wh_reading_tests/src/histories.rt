@@ -315,6 +315,7 @@ fn fact(alloc: Global, ticket: &str, day: Day, product_key: u64) -> Result<Fact,
         quantity: 2,
         amount: 500,
         cost: 320,
+        discount: 0,
     })
 }
 

@@ -1,6 +1,8 @@
 -- The facts of either format: each keeps them in a table of its own.
+use Rattle.std.specs.Prelude.{if◌then◌else◌}
 use Rattle.std.specs.FinMap.{FinMap}
 use Rattle.wh_history.specs.declared.facts.Fact.{Fact}
+use Rattle.wh_policy.specs.Formats.{is_two}
 use Rattle.wh_policy.specs.declared.format.Format.{Format}
 use Rattle.wh_policy.specs.declared.format.Format.TheVariants.{One, Two}
 use Rattle.wh_rows.specs.declared.key.LineKey.{LineKey}
@@ -25,8 +27,7 @@ facts_in One t = t.fact
 facts_in Two t = t.fact2
 
 abbrev pub with_facts_in : Format → FinMap row.line_cmp Fact → Tables → Tables
-with_facts_in One facts t = record t { fact = facts }
-with_facts_in Two facts t = record t { fact2 = facts }
+with_facts_in format facts t = record t { fact = if is_two format then t.fact else facts; fact2 = if is_two format then facts else t.fact2 }
 
 -- those of the format that the tables are of
 abbrev pub facts_of : Tables → FinMap row.line_cmp Fact

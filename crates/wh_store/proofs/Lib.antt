@@ -9,4 +9,5 @@ pub mod InMemory
 pub mod Faithful
 pub mod Absent
 pub mod Upgraded
+pub mod FormatFacts
 mod FormatFaults

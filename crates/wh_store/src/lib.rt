@@ -1,6 +1,7 @@
 //! The tables of a warehouse over a connection, written in whole transactions.
 #![tactic(auto)]
 
+mod facts;
 mod fault;
 mod meta;
 mod reopen;

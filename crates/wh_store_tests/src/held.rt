@@ -140,9 +140,6 @@ impl<S: Alter> Writes for Writing<'_, S> {
         line: &LineKey,
         keys: &FactKeys,
     ) -> Result<(), Cause> {
-        match format {
-            Format::One => self.rekey(alloc, line, keys),
-            Format::Two => self.rekey2(alloc, line, keys),
-        }
+        Writing::rekey_fact(self, alloc, format, line, keys)
     }
 }

@@ -13,6 +13,8 @@ mod database;
 #[cfg(test)]
 mod driver;
 #[cfg(test)]
+mod facts;
+#[cfg(test)]
 mod files;
 #[cfg(test)]
 mod held;

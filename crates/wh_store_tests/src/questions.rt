@@ -200,14 +200,18 @@ fn sales<T: Told + Facts, H: Reads>(
     words: &str,
     out: &mut String,
 ) -> Result<(), Trouble> {
+    told::<T, SalesBetween, H>(alloc, held, &sales_between(words)?, out)
+}
+
+/// The question for the sales that `DIMENSION DURABLE FROM TO` says.
+pub fn sales_between(words: &str) -> Result<SalesBetween, Trouble> {
     let (name, rest) = parted(words, ' ');
     let (durable, days) = parted(rest, ' ');
     let (from, to) = parted(days, ' ');
-    let question = SalesBetween {
+    Ok(SalesBetween {
         dim: dim(name)?,
         durable: number(durable)?,
         from: day(from)?,
         to: day(to)?,
-    };
-    told::<T, SalesBetween, H>(alloc, held, &question, out)
+    })
 }

@@ -8,7 +8,7 @@ use std::alloc::{AllocError, Global};
 use wh_history::{Edit, Fact};
 use wh_rows::{FactColumn, KeyedSale, LineKey, tables};
 use wh_scenarios::parted;
-use wh_store::{FactAggregate, Tables, Writing, upgrade};
+use wh_store::{FactAggregate, Format, Tables, Writing, upgrade};
 
 /// The edits that take facts out of the first format and put them, with no discount, into the second.
 #[derive(Drop)]
@@ -66,7 +66,7 @@ pub fn insert<S: Alter>(
     let (count, words) = parted(words, ' ');
     let (ticket, values) = parted(words, ' ');
     let facts = facts_of(alloc, number(count)?, ticket, values)?;
-    let inserted = writing.insert_facts2(alloc, &borrowed(alloc, &facts)?)?;
+    let inserted = writing.insert_new_facts(alloc, Format::Two, &borrowed(alloc, &facts)?)?;
     Ok(push_answer(out, if inserted { "inserted" } else { "as before" })?)
 }
 

@@ -1,5 +1,6 @@
 //! Steps on the tables of a warehouse.
 
+use crate::facts::read;
 use crate::questions::answer;
 use crate::rows::on_table;
 use crate::scans::scan_table;
@@ -27,6 +28,7 @@ pub fn on_tables<S: Alter>(
         "second" => add_second(tables),
         "upgrade" => upgrade_all(alloc, tables),
         "tally2" => tally(tables, step.rest, out),
+        "facts" => read(alloc, tables, step.rest, out),
         _ => answer(alloc, tables, step, out),
     }
 }

@@ -177,7 +177,7 @@ impl Told for tables::Void {
 }
 
 /// A line as `T1 2`.
-fn line_key(alloc: Global, words: &str) -> Result<LineKey, Trouble> {
+pub fn line_key(alloc: Global, words: &str) -> Result<LineKey, Trouble> {
     let (ticket, line) = parted(words, ' ');
     Ok(LineKey {
         ticket: Value::new(alloc, ticket)?,

@@ -1,6 +1,7 @@
 //! Edits of a warehouse in one transaction, an edit a line.
 
 use crate::calendar::put_days;
+use crate::facts::edit as edit_fact;
 use crate::held::Writes;
 use crate::opening::limits_of;
 use crate::rows::{edit_table, member_values, rekey, row_of};
@@ -90,6 +91,7 @@ fn make_edit<S: Alter>(
         "rekey" => rekey(alloc, writing, Format::One, rest),
         "rekey2" => rekey(alloc, writing, Format::Two, rest),
         "insert2" => insert(alloc, writing, rest, out),
+        "fact" => edit_fact(alloc, writing, rest),
         "commit" | "drop" => Ok(()),
         _ => edit_table(alloc, writing, step),
     }

@@ -11,6 +11,13 @@ write
 = 3 written
 format
 = first, free
+facts 1 count
+= 2
+facts 1 line T1 2
+= fact 'T1', 2, 20240611, 1, 1, 0, 1, 1, 0, 0, -1, -150, -100
+facts 1 line T1 3
+facts 1 between product 1 20240611 20240612
+= fact 'T1', 2, 20240611, 1, 1, 0, 1, 1, 0, 0, -1, -150, -100
 upgrade
 format
 = second, taken
@@ -70,6 +77,30 @@ sales2 store 1 20240610 20240611
 = fact2 'T1', 1, 20240610, 1, 1, 0, 1, 1, 0, 0, 2, 300, 200, 0
 sales store 1 20240610 20240612
 
+# The same by the calls that are told the format, and edits by them.
+facts 2 count
+= 17
+facts 1 count
+= 0
+facts 2 line T2 16
+= fact2 'T2', 16, 20240612, 2, 3, 4, 1, 1, 0, 5, 1, 150, 100, 25
+facts 1 line T2 16
+facts 2 between store 1 20240610 20240611
+= fact2 'T1', 1, 20240610, 1, 1, 0, 1, 1, 0, 0, 2, 300, 200, 0
+facts 1 between store 1 20240610 20240611
+write
+> fact 2 put 'T9', 1, 20240613, 1, 1, 0, 1, 1, 0, 0, 1, 150, 100, 7
+> commit
+= 1 written
+facts 2 line T9 1
+= fact2 'T9', 1, 20240613, 1, 1, 0, 1, 1, 0, 0, 1, 150, 100, 7
+write
+> fact 2 remove T9 1
+> commit
+= 1 written
+facts 2 count
+= 17
+
 # No second upgrade. The next run opens the second format.
 upgrade
 = refused disk
@@ -120,6 +151,20 @@ write
 > tries insert2 16 T1 20240612, 1, 1, 0, 1, 1, 0, 0, 1, 150, 100, 25
 > commit
 = refused disk
+= refused disk
+= 0 written
+= refused disk
+facts 2 count
+= refused disk
+write
+> fact 1 put 'T1', 1, 20240610, 1, 1, 0, 1, 1, 0, 0, 2, 300, 200
+> commit
+= 1 written
+facts 1 line T1 1
+= fact 'T1', 1, 20240610, 1, 1, 0, 1, 1, 0, 0, 2, 300, 200
+write
+> tries fact 2 remove T1 1
+> commit
 = refused disk
 = 0 written
 = refused disk

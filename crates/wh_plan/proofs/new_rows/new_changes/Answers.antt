@@ -6,7 +6,7 @@ use Rattle.wh_policy.specs.declared.record.DimensionRecord.{DimensionRecord}
 use Rattle.wh_plan.specs.NewRows.{by_place, named, new_change, row_of_record}
 use Rattle.wh_plan.proofs.PlanningChanges.{row_added, none_added, new_changes_planned}
 use Rattle.wh_plan.proofs.new_rows.new_changes.Goals as goal
-use Rattle.wh_plan.proofs.new_rows.new_changes.Goals.{in-Some+in_ok-change_row+in_ok-push, in_default}
+use Rattle.wh_plan.proofs.new_rows.new_changes.Goals.{in-Some+in_ok-row_of_record+in_ok-push, in_default}
 
 pub loop-place-preserved : goal.loop-place-preserved
 loop-place-preserved c =
@@ -19,14 +19,14 @@ loop-place-preserved c =
     let named_is : option_copied c.copied.result ≡ named touched told.natural =
     ap option_copied c.copied.ensures ∙ ap option_copied c.get.ensures.value ∙ c.in_ok-found.ensures c.as_str.result.now ∙ ap (named touched) c.as_str.ensures in
     elim c.match-copied.branch [
-      | in-Some+in_ok-change_row+in_ok-push w ↦
-          let row = w.in_ok-change_row.field-0 in
+      | in-Some+in_ok-row_of_record+in_ok-push w ↦
+          let row = w.in_ok-row_of_record.field-0 in
           let next : place + 1 ≡ suc place = omega arith in
           let there : named touched told.natural ≡ Some w.in-Some.member.now = sym named_is ∙ ap option_copied w.in-Some.is in
           let given : give (suc place) told ≡ Some row =
           ap (option_map (row_of_record c.args.dim c.args.command (suc place) told)) there
           ∙ ap (λ n. Some (row_of_record c.args.dim c.args.command n told w.in-Some.member.now)) (sym next)
-          ∙ ap Some (sym w.in_ok-change_row.ensures) in
+          ∙ ap Some (sym w.in_ok-row_of_record.ensures) in
           row_added give rows all place c.args.records.now told c.loop-place-test.true c.index-records-place.is c.loop-place.invariant c.match-copied.rows.items row (ap (λ v. v.items) w.rows-is ∙ w.in_ok-push.ensures.items) given
       | in_default w ↦
           let none : named touched told.natural ≡ None = sym named_is ∙ ap option_copied w.in_default.is in

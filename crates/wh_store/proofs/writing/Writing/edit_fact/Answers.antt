@@ -1,0 +1,17 @@
+use Rattle.std.proofs.Common.{Some, subst, sym}
+use Rattle.std.specs.Prelude.{OnOk}
+use Rattle.wh_rows.specs.AtRest.{IsWriting}
+use Rattle.wh_rows.specs.Facts.{fact_layout, facts_in, with_facts_in}
+use Rattle.wh_rows.specs.Rows as row
+use Rattle.wh_store.specs.Edits.{with_edit, IsValid, Puts}
+use Rattle.wh_store.specs.Reads.{state_of}
+use Rattle.wh_store.proofs.FormatFacts.{same_edit}
+use Rattle.wh_store.proofs.writing.Writing.edit_fact.Goals as goal
+
+pub returns-in-Two-clause-edited : goal.returns-in-Two-clause-edited
+returns-in-Two-clause-edited g c clean before made at may =
+    let edit = c.args.edit.now in
+    let new = state_of g.S.Store c.edit-in-Two.new.self.tables.now in
+    let made_so = c.edit-in-Two.ensures.edited clean before made at (subst (λ format. Puts (IsValid (fact_layout format)) edit) c.in-Two.is may) in
+    subst (λ format. OnOk c.edit-in-Two.result (IsWriting before (Some (with_facts_in format (with_edit row.fact edit (facts_in format made)) made)) new)) (sym c.in-Two.is)
+    (subst (λ facts. OnOk c.edit-in-Two.result (IsWriting before (Some (record made { fact2 = facts })) new)) (same_edit edit made.fact2) made_so)
