@@ -1,5 +1,5 @@
 -- How much the tables of accepted commands hold.
-use Rattle.std.proofs.Common.{◌≡◌, inl, ℕ, false, List, length, Some, Result, Ok, Err, refl, ap, ◌∙◌}
+use Rattle.std.proofs.Common.{◌≡◌, ℕ, List, length, Some, Result, Ok, Err, refl, sym, ap, ◌∙◌}
 use Rattle.std.specs.FinMap.{len}
 use Rattle.sqlite.specs.State.{State}
 use Rattle.wh_policy.specs.declared.attribute.Dim.TheVariants.{Product, Store, Customer}
@@ -10,13 +10,14 @@ use Rattle.wh_rows.specs.Tables.{Tables}
 use Rattle.wh_engine.specs.Answered.{IsReady, IsCounted, counts_of}
 use Rattle.wh_model.specs.Defined.{AreOf}
 use Rattle.wh_engine.specs.Faults.{IsServed, Judges, stops}
+use Rattle.wh_engine.specs.Outcome.{Outcome}
 use Rattle.wh_model.specs.Sound.{IsAccepted}
 use Rattle.wh_engine.specs.declared.counts.Counts.{Counts}
 use Rattle.wh_engine.specs.declared.fault.Fault.{Fault}
-use Rattle.wh_engine.specs.declared.fault.Fault.TheVariants as faults
 use Rattle.wh_engine.specs.declared.session.Session.{Session}
 use Rattle.wh_plan.proofs.FoundCommands.{commands_counted}
 use Rattle.wh_engine.proofs.FoundFacts.{facts_counted}
+use Rattle.wh_engine.proofs.Outcomes.{anywhere, fault_due, read_and_noted}
 use Rattle.wh_model.proofs.ListedChanges.{changes_counted}
 
 pub counts_are : (limits : Limits) (commands : List Accepted) (t : Tables) → AreOf limits commands t → IsAccepted limits commands → (held changes facts products stores customers : ℕ)
@@ -28,17 +29,10 @@ counts_are limits commands t are accepted held changes facts products stores cus
 -- ---- a count that was answered, or refused
 
 module _ (limits : Limits) (commands : List Accepted) (session : Session) (old new : State) (ready : IsReady limits commands session old) where
-  abbrev tables : Tables
-  tables = ready.rests.tables
+  is_due : (result : Result Counts Fault) → Judges (λ counts told. counts ≡ told) result (Ok (counts_of commands)) → Outcome (λ told. told ≡ Ok (counts_of commands)) commands commands result anywhere
+  is_due (Ok counts) judged = (ap Ok judged, tt)
+  is_due (Err fault) judged = fault_due (λ told. told ≡ Ok (counts_of commands)) commands commands (λ (counts told : Counts). counts ≡ told) (Ok (counts_of commands)) fault judged (λ why is. sym is)
 
-  ready_on : IsAtRest (Some tables) new → IsReady limits commands (record { limits = session.limits; policy = session.policy; must_reopen = false }) new
-  ready_on rests = record { admitted = ready.admitted; rests = record { tables = tables; are = ready.rests.are; rests = rests }; session_is = ap (λ (q : Session). record { limits = q.limits; policy = q.policy; must_reopen = false }) ready.session_is }
-
-  pub counted : (result : Result Counts Fault) → Judges (λ counts told. counts ≡ told) result (Ok (counts_of commands)) → (IsServed result → IsAtRest (Some tables) new) → Leaves (Some tables) new
+  pub counted : (result : Result Counts Fault) → Judges (λ counts told. counts ≡ told) result (Ok (counts_of commands)) → (IsServed result → IsAtRest (Some ready.rests.tables) new) → Leaves (Some ready.rests.tables) new
       → IsCounted limits commands result (record { limits = session.limits; policy = session.policy; must_reopen = stops result }) new
-  counted (Ok counts) judged rests left = (judged, ready_on (rests tt))
-  counted (Err faults.Memory) judged rests left = ready_on (rests tt)
-  counted (Err (faults.Store cause)) judged rests left = record { flagged = refl; left = record { each = λ trees may. inl (record { tables = tables; are = ready.rests.are; trees_are = left.each trees may }) } }
-  counted (Err (faults.Refused why)) judged rests left = absurd cc
-  counted (Err (faults.Damaged table)) judged rests left = judged
-  counted (Err faults.Reopen) judged rests left = judged
+  counted result judged rests left = read_and_noted limits commands session old new ready (λ told. told ≡ Ok (counts_of commands)) left result (is_due result judged) rests

@@ -30,3 +30,4 @@ pub mod SoundTables
 pub mod DeliveredNights
 pub mod Repeating
 pub mod Keeping
+pub mod Outcomes

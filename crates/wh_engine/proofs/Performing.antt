@@ -10,23 +10,24 @@ use Rattle.wh_history.specs.Tables.{Limits}
 use Rattle.wh_rows.specs.AtRest.{AreTrees, IsAtRest, Leaves}
 use Rattle.wh_rows.specs.Tables.{Tables}
 use Rattle.wh_admission.specs.Admission.{accepted_as, answer, accepted_after, current_policy, AreAdmitted}
-use Rattle.wh_engine.specs.Answered.{AreTreesOf, LeavesOneOf, IsReady, IsAnswered, IsPerformed, IsWritten, IsForeseen, IsForetold}
+use Rattle.wh_engine.specs.Answered.{AreTreesOf, LeavesOneOf, IsReady, IsPerformed, IsPlanOf, IsWritten, IsForeseen}
 use Rattle.wh_engine.specs.Decided.{IsHeld, IsEffectOf, Decides}
 use Rattle.wh_model.specs.Defined.{AreOf}
-use Rattle.wh_engine.specs.Faults.{IsServed, Judges, stops}
+use Rattle.wh_engine.specs.Faults.{IsServed, Judges}
 use Rattle.wh_plan.specs.Edits.{Edits, AreEdits, no_edits, edit_count, with_all_edits}
 use Rattle.wh_model.specs.Sound.{IsAccepted}
 use Rattle.wh_plan.specs.Writable.{MayBeWritten}
 use Rattle.wh_admission.specs.declared.command.Command.{Command}
 use Rattle.wh_admission.specs.declared.command.Receipt.{Receipt}
+use Rattle.wh_admission.specs.declared.command.Refused.{Refused as Refusal}
 use Rattle.wh_admission.specs.declared.command.Reply.{Reply}
 use Rattle.wh_admission.specs.declared.command.Reply.TheVariants.{Accepted as Accepts, Already}
 use Rattle.wh_engine.specs.declared.decision.Decision.{Decision}
 use Rattle.wh_engine.specs.declared.decision.Decision.TheVariants.{Repeat, Accept}
 use Rattle.wh_engine.specs.declared.fault.Fault.{Fault}
-use Rattle.wh_engine.specs.declared.fault.Fault.TheVariants as faults
 use Rattle.wh_engine.specs.declared.session.Session.{Session}
 use Rattle.wh_engine.proofs.Decisions.{judged_ok, after_repeat, after_accepted}
+use Rattle.wh_engine.proofs.Outcomes.{fault_due, still_ready, unanswered}
 use Rattle.wh_plan.proofs.MayBeWritten.{a_command_may_be_written}
 use Rattle.wh_admission.proofs.Migrated.{policy_with, newer_in_force}
 use Rattle.wh_admission.proofs.StaysAccepted.{stays_accepted}
@@ -49,11 +50,12 @@ module _ (limits : Limits) (commands : List Accepted) (c : Command) (session : S
   pub held : IsHeld session commands tables
   held = held_as limits commands session tables ready.session_is sound ready.rests.are
 
-  still_ready : (new : State) → IsAtRest (Some tables) new → IsReady limits commands session new
-  still_ready new rests = record { admitted = ready.admitted; rests = record { tables = tables; are = ready.rests.are; rests = rests }; session_is = ready.session_is }
-
   kept_ready : (new : State) (list : List Accepted) → list ≡ commands → IsAtRest (Some tables) new → IsReady limits list session new
-  kept_ready new list same rests = rw same (still_ready new rests)
+  kept_ready new list same rests = rw same (still_ready limits commands session old new ready rests)
+
+  -- a refusal that was judged is the command's
+  refusal_is : (why : Refusal) → answer session.limits commands c ≡ Err why → answer limits commands c ≡ Err why
+  refusal_is why is = ap (λ l. answer l commands c) (sym limits_are) ∙ is
 
   -- it came again
   pub repeat_performed : (receipt : Receipt) (new : State) → Judges (Decides commands c) (Ok (Repeat receipt)) (answer session.limits commands c) → IsAtRest (Some tables) new
@@ -66,26 +68,23 @@ module _ (limits : Limits) (commands : List Accepted) (c : Command) (session : S
   -- it was refused, or couldn't be decided
   pub fault_performed : (fault : Fault) (new : State) → Judges (Decides commands c) (Err fault) (answer session.limits commands c) → (IsServed {A = Decision} (Err fault) → IsAtRest (Some tables) new) → Leaves (Some tables) new
       → IsPerformed limits commands c (Err fault) session new
-  fault_performed (faults.Refused why) new judged rests left = (ap (λ l. answer l commands c) (sym limits_are) ∙ judged, still_ready new (rests tt))
-  fault_performed faults.Memory new judged rests left = still_ready new (rests tt)
-  fault_performed (faults.Store cause) new judged rests left = record { each = λ trees may. inl (record { tables = tables; are = ready.rests.are; trees_are = left.each trees may }) }
-  fault_performed (faults.Damaged table) new judged rests left = judged
-  fault_performed faults.Reopen new judged rests left = judged
+  fault_performed fault new judged rests left =
+      let due = fault_due (λ told. answer limits commands c ≡ told) commands (accepted_after limits commands c) (Decides commands c) _ fault judged refusal_is in
+      unanswered limits commands session old new ready (λ told. answer limits commands c ≡ told) left Decision (accepted_after limits commands c) fault due rests
 
   -- what a plan says of it
   pub repeat_foreseen : (receipt : Receipt) (new : State) → Judges (Decides commands c) (Ok (Repeat receipt)) (answer session.limits commands c) → IsAtRest (Some tables) new → IsForeseen limits commands c (Ok no_edits) session new
   repeat_foreseen receipt new judged rests =
       let (reply, is, same) = judged_ok (Decides commands c) (Repeat receipt) (answer session.limits commands c) judged in
       let said : answer limits commands c ≡ Ok (Already receipt) = ap (λ l. answer l commands c) (sym limits_are) ∙ is ∙ ap Ok same in
-      ((Already receipt, said), subst (λ list. AreEdits commands list no_edits) (sym (after_repeat limits commands c receipt said)) (no_edits_stay commands), still_ready new rests)
+      let same = subst (λ list. AreEdits commands list no_edits) (sym (after_repeat limits commands c receipt said)) (no_edits_stay commands) in
+      (((Already receipt, said), same), still_ready limits commands session old new ready rests)
 
   pub fault_foreseen : (fault : Fault) (new : State) → Judges (Decides commands c) (Err fault) (answer session.limits commands c) → (IsServed {A = Decision} (Err fault) → IsAtRest (Some tables) new) → Leaves (Some tables) new
       → IsForeseen limits commands c (Err fault) session new
-  fault_foreseen (faults.Refused why) new judged rests left = (ap (λ l. answer l commands c) (sym limits_are) ∙ judged, still_ready new (rests tt))
-  fault_foreseen faults.Memory new judged rests left = still_ready new (rests tt)
-  fault_foreseen (faults.Store cause) new judged rests left = record { each = λ trees may. inl (record { tables = tables; are = ready.rests.are; trees_are = left.each trees may }) }
-  fault_foreseen (faults.Damaged table) new judged rests left = judged
-  fault_foreseen faults.Reopen new judged rests left = judged
+  fault_foreseen fault new judged rests left =
+      let due = fault_due (IsPlanOf limits commands c) commands commands (Decides commands c) _ fault judged refusal_is in
+      unanswered limits commands session old new ready (IsPlanOf limits commands c) left Decision commands fault due rests
 
   -- ---- it is accepted
 
@@ -115,7 +114,7 @@ module _ (limits : Limits) (commands : List Accepted) (c : Command) (session : S
     written = edits_are_written limits commands (commands ++ added ∷ []) tables edits ready.rests.are work.edits_are
 
     pub accept_foreseen : (new : State) → IsAtRest (Some tables) new → IsForeseen limits commands c (Ok edits) session new
-    accept_foreseen new rests = ((Accepts receipt, said), subst (λ list. AreEdits commands list edits) (sym list_is) work.edits_are, still_ready new rests)
+    accept_foreseen new rests = (((Accepts receipt, said), subst (λ list. AreEdits commands list edits) (sym list_is) work.edits_are), still_ready limits commands session old new ready rests)
 
     -- the policy that it gives, or else the one before, is in force
     now_in_force : unwrap_or newer (current_policy commands) ≡ current_policy (commands ++ added ∷ [])
@@ -152,25 +151,3 @@ module _ (limits : Limits) (commands : List Accepted) (c : Command) (session : S
         | inr after ↦ inr (subst (λ list. AreTreesOf limits list trees) (sym list_is) (record { tables = with_all_edits edits tables; are = written; trees_are = after }))
       ];
     }
-
--- ---- a refusal of the store is noted
-
-module _ (limits : Limits) (commands : List Accepted) (c : Command) (session : Session) (s : State) where
-  ready_on : (list : List Accepted) → IsReady limits list session s → IsReady limits list (record { limits = session.limits; policy = session.policy; must_reopen = false }) s
-  ready_on list ready = record { admitted = ready.admitted; rests = ready.rests; session_is = ap (λ (q : Session). record { limits = q.limits; policy = q.policy; must_reopen = false }) ready.session_is }
-
-  pub answered : (result : Result Reply Fault) → IsPerformed limits commands c result session s → IsAnswered limits commands c result (record { limits = session.limits; policy = session.policy; must_reopen = stops result }) s
-  answered (Ok reply) done = (done.0, ready_on (accepted_after limits commands c) done.1)
-  answered (Err (faults.Refused why)) done = (done.0, ready_on commands done.1)
-  answered (Err faults.Memory) done = ready_on commands done
-  answered (Err (faults.Store cause)) done = record { flagged = refl; left = done }
-  answered (Err (faults.Damaged table)) done = done
-  answered (Err faults.Reopen) done = done
-
-  pub foretold : (result : Result Edits Fault) → IsForeseen limits commands c result session s → IsForetold limits commands c result (record { limits = session.limits; policy = session.policy; must_reopen = stops result }) s
-  foretold (Ok edits) seen = (seen.0, seen.1, ready_on commands seen.2)
-  foretold (Err (faults.Refused why)) seen = (seen.0, ready_on commands seen.1)
-  foretold (Err faults.Memory) seen = ready_on commands seen
-  foretold (Err (faults.Store cause)) seen = record { flagged = refl; left = seen }
-  foretold (Err (faults.Damaged table)) seen = seen
-  foretold (Err faults.Reopen) seen = seen

@@ -1,6 +1,6 @@
 -- What a call that reads leaves of an engine, and its faults.
-use Rattle.std.proofs.Common.{◌≡◌, Bool, false, ◌||◌, List, Result, Ok, Err, Some, IfErr, IsTrue, refl, sym, ap, subst, inl}
-use Rattle.std.specs.Prelude.{IsErr, IsErrAnd, Option}
+use Rattle.std.proofs.Common.{◌≡◌, Bool, false, ◌||◌, List, Result, Ok, Err, Some, IfErr, IsTrue, refl, sym, ap, subst}
+use Rattle.std.specs.Prelude.{IsErr, IsErrAnd, IsOk, Option}
 use Rattle.sqlite_trees.specs.declared.store.Store.{Ghosts}
 use Rattle.sqlite.specs.Order.{Row}
 use Rattle.sqlite.specs.State.{State}
@@ -18,12 +18,13 @@ use Rattle.wh_sql.specs.declared.fault.ReadFault.{ReadFault}
 use Rattle.wh_sql.specs.declared.fault.ReadFault.TheVariants as reading
 use Rattle.wh_engine.specs.Answered.{IsReady}
 use Rattle.wh_engine.specs.Faults.{of_reading, stops, IsServed, IsWorkedOut, BlamesDamage, NamesTable}
+use Rattle.wh_engine.specs.Outcome.{Outcome}
 use Rattle.wh_engine.specs.Scanned.{noting, EngineReads, IsServing, IsWanting, Reads, ReadsThrough, WhenAtRest, WhenReady}
 use Rattle.wh_engine.specs.declared.engine.Engine.{Engine}
 use Rattle.wh_engine.specs.declared.fault.Fault.{Fault}
 use Rattle.wh_engine.specs.declared.fault.Fault.TheVariants as faults
 use Rattle.wh_engine.specs.declared.session.Session.{Session}
-use Rattle.wh_history.proofs.Basics.{or_true}
+use Rattle.wh_engine.proofs.Outcomes.{anywhere, read_and_noted}
 use Rattle.wh_history.proofs.Records.{or_false}
 
 -- ---- faults of a reading
@@ -69,16 +70,21 @@ module _ (limits : Limits) (commands : List Accepted) (session : Session) (old n
   abbrev tables : Tables
   tables = ready.rests.tables
 
-  ready_on : IsAtRest (Some tables) new → IsReady limits commands (record { limits = session.limits; policy = session.policy; must_reopen = session.must_reopen || false }) new
-  ready_on rests = record { admitted = ready.admitted; rests = record { tables = tables; are = ready.rests.are; rests = rests }; session_is = ap (λ (q : Session). record { limits = q.limits; policy = q.policy; must_reopen = q.must_reopen || false }) ready.session_is }
+  is_due : {A : Type 0} (result : Result A Fault) → IfErr result IsWanting → Outcome IsOk commands commands result anywhere
+  is_due (Ok found) wants = (refl, tt)
+  is_due (Err faults.Memory) wants = tt
+  is_due (Err (faults.Store cause)) wants = tt
+  is_due (Err (faults.Refused why)) wants = absurd wants
+  is_due (Err (faults.Damaged table)) wants = wants
+  is_due (Err faults.Reopen) wants = wants
+
+  -- nothing had been noted before
+  noting_is : {A : Type 0} (result : Result A Fault) → ◌≡◌ {A = Session} (record { limits = session.limits; policy = session.policy; must_reopen = stops result }) (noting session result)
+  noting_is result = ap (λ (m : Bool). record { limits = session.limits; policy = session.policy; must_reopen = m || stops result }) (sym (ap (λ (q : Session). q.must_reopen) ready.session_is))
 
   pub serving : {A : Type 0} (result : Result A Fault) → IfErr result IsWanting → (IsServed result → IsAtRest (Some tables) new) → Leaves (Some tables) new → IsServing limits commands result (noting session result) new
-  serving (Ok found) wants rests left = ready_on (rests tt)
-  serving (Err faults.Memory) wants rests left = ready_on (rests tt)
-  serving (Err (faults.Store cause)) wants rests left = record { flagged = or_true session.must_reopen; left = record { each = λ trees may. inl (record { tables = tables; are = ready.rests.are; trees_are = left.each trees may }) } }
-  serving (Err (faults.Refused why)) wants rests left = absurd wants
-  serving (Err (faults.Damaged table)) wants rests left = absurd wants
-  serving (Err faults.Reopen) wants rests left = absurd wants
+  serving result wants rests left =
+      subst (λ (after : Session). IsServing limits commands result after new) (noting_is result) (read_and_noted limits commands session old new ready IsOk left result (is_due result wants) rests)
 
 -- ---- an engine
 

@@ -1,5 +1,5 @@
 -- The tables of commands are sound, and a check of them says so.
-use Rattle.std.proofs.Common.{◌≡◌, inl, false, List, map, Option, Some, Result, Ok, Err, refl, ap, ◌∙◌}
+use Rattle.std.proofs.Common.{◌≡◌, List, map, Option, Some, Result, Ok, Err, refl, ap, ◌∙◌}
 use Rattle.std.specs.FinMap.{FinMap, entries, values, get, get-empty}
 use Rattle.std.proofs.lemmas.List.Sorted.{IsPermutation-refl}
 use Rattle.sqlite.specs.State.{State}
@@ -26,9 +26,11 @@ use Rattle.wh_check.proofs.ListedMaps.{all_valid}
 use Rattle.wh_engine.specs.Answered.{IsReady}
 use Rattle.wh_engine.specs.Checked.{IsChecked, IsCheckedOf}
 use Rattle.wh_engine.specs.Faults.{IsServed, stops}
+use Rattle.wh_engine.specs.Outcome.{Outcome}
 use Rattle.wh_engine.specs.declared.fault.Fault.{Fault}
 use Rattle.wh_engine.specs.declared.fault.Fault.TheVariants as faults
 use Rattle.wh_engine.specs.declared.session.Session.{Session}
+use Rattle.wh_engine.proofs.Outcomes.{anywhere, read_and_noted}
 
 -- the rows of a map are what a function gives that gives the same
 rows_at : {K V : Type 0} (layout : Layout K V) (m : FinMap layout.order V) (row_at : K → Option V) → IsTyped layout m → ((key : K) → get m key ≡ row_at key) → AreRowsAt layout row_at (map layout.encode (values m))
@@ -61,9 +63,6 @@ module _ (limits : Limits) (commands : List Accepted) (session : Session) (old n
   is_sound : IsSoundStored (stored_of tables)
   is_sound = sound_stored limits commands tables ready.rests.are (stores_typed old.now tables ready.rests.rests.now.tables) ready.admitted
 
-  ready_on : IsAtRest (Some tables) new → IsReady limits commands (record { limits = session.limits; policy = session.policy; must_reopen = false }) new
-  ready_on rests = record { admitted = ready.admitted; rests = record { tables = tables; are = ready.rests.are; rests = rests }; session_is = ap (λ (q : Session). record { limits = q.limits; policy = q.policy; must_reopen = false }) ready.session_is }
-
   -- a verdict is that all is clean, and no table is named as damaged
   clean_is : (verdict : Verdict) → IsJudged (stored_of tables) (Ok verdict) → verdict ≡ Clean
   clean_is Clean judged = refl
@@ -78,11 +77,14 @@ module _ (limits : Limits) (commands : List Accepted) (session : Session) (old n
       other : ◌≡◌ {A = Result Verdict ReadFault} (Err (reading.Damaged table)) (Ok Clean) → ⊥
       other h = cc
 
+  is_due : (result : Result Verdict Fault) → IsChecked (stored_of tables) result → Outcome (λ told. told ≡ Ok Clean) commands commands result anywhere
+  is_due (Ok verdict) judged = (ap Ok (clean_is verdict judged), tt)
+  is_due (Err faults.Memory) judged = tt
+  is_due (Err (faults.Store cause)) judged = tt
+  is_due (Err (faults.Refused why)) judged = absurd judged
+  is_due (Err (faults.Damaged table)) judged = not_damaged table judged
+  is_due (Err faults.Reopen) judged = judged
+
   pub checked : (result : Result Verdict Fault) → IsChecked (stored_of tables) result → (IsServed result → IsAtRest (Some tables) new) → Leaves (Some tables) new
       → IsCheckedOf limits commands result (record { limits = session.limits; policy = session.policy; must_reopen = stops result }) new
-  checked (Ok verdict) judged rests left = (clean_is verdict judged, ready_on (rests tt))
-  checked (Err faults.Memory) judged rests left = ready_on (rests tt)
-  checked (Err (faults.Store cause)) judged rests left = record { flagged = refl; left = record { each = λ trees may. inl (record { tables = tables; are = ready.rests.are; trees_are = left.each trees may }) } }
-  checked (Err (faults.Refused why)) judged rests left = judged
-  checked (Err (faults.Damaged table)) judged rests left = not_damaged table judged
-  checked (Err faults.Reopen) judged rests left = judged
+  checked result judged rests left = read_and_noted limits commands session old new ready (λ told. told ≡ Ok Clean) left result (is_due result judged) rests

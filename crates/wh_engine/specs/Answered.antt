@@ -15,15 +15,17 @@ use Rattle.wh_model.specs.Defined.{AreOf}
 use Rattle.wh_plan.specs.Edits.{Edits, AreEdits, edit_count}
 use Rattle.wh_model.specs.Sound.{changes_kept}
 use Rattle.wh_engine.specs.Faults.{stops}
+use Rattle.wh_engine.specs.Outcome.{Left, At, Between, Outcome}
 use Rattle.wh_admission.specs.Repeated.{IsKept}
 use Rattle.wh_admission.specs.declared.command.Command.{Command}
 use Rattle.wh_admission.specs.declared.command.Receipt.{Receipt}
+use Rattle.wh_admission.specs.declared.command.Refused.{Refused as Refusal}
 use Rattle.wh_admission.specs.declared.command.Reply.{Reply}
 use Rattle.wh_admission.specs.declared.command.Reply.TheVariants as replies
 use Rattle.wh_engine.specs.declared.counts.Counts.{Counts}
 use Rattle.wh_engine.specs.declared.session.Session.{Session}
 use Rattle.wh_engine.specs.declared.fault.Fault.{Fault}
-use Rattle.wh_engine.specs.declared.fault.Fault.TheVariants.{Refused, Memory, Store}
+use Rattle.wh_engine.specs.declared.fault.Fault.TheVariants.{Store}
 
 -- The connection is at rest with the tables of these commands: it holds them, outside a transaction, and a crash leaves them and nothing else.
 pub record Rests (limits : Limits) (commands : List Accepted) (s : State) : Type 0 where
@@ -52,33 +54,34 @@ pub record IsStopped (limits : Limits) (before after : List Accepted) (session :
   pub flagged : IsTrue session.must_reopen
   pub left : LeavesOneOf limits before after s
 
--- What the work on a command says: the answer is that of the definition, and the tables are those of the list after it; or memory ran out and
--- nothing changed; or the store refused a call, and a crash leaves the tables before the command, or those with it.
-abbrev pub IsPerformed : Limits → List Accepted → Command → Result Reply Fault → Session → State → Type 0
-IsPerformed limits commands c (Ok reply) session s = (answer limits commands c ≡ Ok reply) × IsReady limits (accepted_after limits commands c) session s
-IsPerformed limits commands c (Err (Refused why)) session s = (answer limits commands c ≡ Err why) × IsReady limits commands session s
-IsPerformed limits commands c (Err Memory) session s = IsReady limits commands session s
-IsPerformed limits commands c (Err (Store cause)) session s = LeavesOneOf limits commands (accepted_after limits commands c) s
-IsPerformed limits commands c (Err fault) session s = ⊥
+-- The engine is left so: ready for the commands, or stopped between the two lists.
+abbrev pub IsLeft : Limits → Session → State → Left → Type 0
+IsLeft limits session s (At commands) = IsReady limits commands session s
+IsLeft limits session s (Between before after) = IsStopped limits before after session s
 
--- What a command's answer says: the same, and where the store refused a call the engine has to be opened again.
+-- the same before it is noted that the store refused a call
+abbrev pub IsLeftUnnoted : Limits → Session → State → Left → Type 0
+IsLeftUnnoted limits session s (At commands) = IsReady limits commands session s
+IsLeftUnnoted limits session s (Between before after) = LeavesOneOf limits before after s
+
+-- What a command's answer says, and what the work on it says: the definition's answer is due, and it leads to the list with the command.
 abbrev pub IsAnswered : Limits → List Accepted → Command → Result Reply Fault → Session → State → Type 0
-IsAnswered limits commands c (Err (Store cause)) session s = IsStopped limits commands (accepted_after limits commands c) session s
-IsAnswered limits commands c result session s = IsPerformed limits commands c result session s
+IsAnswered limits commands c result session s = Outcome (λ told. answer limits commands c ≡ told) commands (accepted_after limits commands c) result (IsLeft limits session s)
 
--- What the work on a plan says: the edits are exactly those that the tables need to be those of the list after the command, and nothing changed; or the
--- command is refused as the definition refuses it; or memory ran out and nothing changed; or the store refused a call.
-abbrev pub IsForeseen : Limits → List Accepted → Command → Result Edits Fault → Session → State → Type 0
-IsForeseen limits commands c (Ok edits) session s = ((reply : Reply) × (answer limits commands c ≡ Ok reply)) × AreEdits commands (accepted_after limits commands c) edits × IsReady limits commands session s
-IsForeseen limits commands c (Err (Refused why)) session s = (answer limits commands c ≡ Err why) × IsReady limits commands session s
-IsForeseen limits commands c (Err Memory) session s = IsReady limits commands session s
-IsForeseen limits commands c (Err (Store cause)) session s = LeavesOneOf limits commands commands s
-IsForeseen limits commands c (Err fault) session s = ⊥
+abbrev pub IsPerformed : Limits → List Accepted → Command → Result Reply Fault → Session → State → Type 0
+IsPerformed limits commands c result session s = Outcome (λ told. answer limits commands c ≡ told) commands (accepted_after limits commands c) result (IsLeftUnnoted limits session s)
 
--- What a plan says: the same, and where the store refused a call the engine has to be opened again.
+-- The plan that is due: exactly the edits that the tables need to be those of the list after the command, where that is answered; else its refusal.
+abbrev pub IsPlanOf : Limits → List Accepted → Command → Result Edits Refusal → Type 0
+IsPlanOf limits commands c (Ok edits) = ((reply : Reply) × (answer limits commands c ≡ Ok reply)) × AreEdits commands (accepted_after limits commands c) edits
+IsPlanOf limits commands c (Err why) = answer limits commands c ≡ Err why
+
+-- What a plan says, and what the work on it says: nothing changes.
 abbrev pub IsForetold : Limits → List Accepted → Command → Result Edits Fault → Session → State → Type 0
-IsForetold limits commands c (Err (Store cause)) session s = IsStopped limits commands commands session s
-IsForetold limits commands c result session s = IsForeseen limits commands c result session s
+IsForetold limits commands c result session s = Outcome (IsPlanOf limits commands c) commands commands result (IsLeft limits session s)
+
+abbrev pub IsForeseen : Limits → List Accepted → Command → Result Edits Fault → Session → State → Type 0
+IsForeseen limits commands c result session s = Outcome (IsPlanOf limits commands c) commands commands result (IsLeftUnnoted limits session s)
 
 -- an answer that leaves any tables as they were: nothing was accepted, and the store refused no call
 abbrev pub KeepsNothing : Result Reply Fault → Type 0
@@ -138,9 +141,6 @@ abbrev pub CountsStored : Stored → Counts → Type 0
 CountsStored stored counts =
     (counts.format ≡ 1) × (counts.commands ≡ length (stored.rows table.Command)) × (counts.changes ≡ length (stored.rows table.Change)) × (counts.facts ≡ length (stored.rows table.Fact))
 
--- What a count says: it is that of the commands, and nothing changed; or memory ran out and nothing changed; or the store refused a call.
+-- What a count says: it is that of the commands, and nothing changes.
 abbrev pub IsCounted : Limits → List Accepted → Result Counts Fault → Session → State → Type 0
-IsCounted limits commands (Ok counts) session s = (counts ≡ counts_of commands) × IsReady limits commands session s
-IsCounted limits commands (Err Memory) session s = IsReady limits commands session s
-IsCounted limits commands (Err (Store cause)) session s = IsStopped limits commands commands session s
-IsCounted limits commands (Err fault) session s = ⊥
+IsCounted limits commands result session s = Outcome (λ told. told ≡ Ok (counts_of commands)) commands commands result (IsLeft limits session s)

@@ -8,7 +8,8 @@ use Rattle.wh_sql.specs.declared.fault.ReadFault.TheVariants as reading
 use Rattle.wh_check.specs.Judged.{IsJudged}
 use Rattle.wh_check.specs.declared.verdict.Verdict.{Verdict}
 use Rattle.wh_check.specs.declared.verdict.Verdict.TheVariants.{Clean}
-use Rattle.wh_engine.specs.Answered.{IsReady, IsStopped}
+use Rattle.wh_engine.specs.Answered.{IsLeft}
+use Rattle.wh_engine.specs.Outcome.{Outcome}
 use Rattle.wh_engine.specs.declared.session.Session.{Session}
 use Rattle.wh_engine.specs.declared.fault.Fault.{Fault}
 use Rattle.wh_engine.specs.declared.fault.Fault.TheVariants.{Refused, Damaged, Memory, Store, Reopen}
@@ -22,9 +23,6 @@ IsChecked stored (Err Memory) = ⊤
 IsChecked stored (Err (Store cause)) = ⊤
 IsChecked stored (Err Reopen) = ⊥
 
--- What a check says of a warehouse that has accepted these commands: it is clean, and nothing changed; or memory ran out and nothing changed; or the store refused a call.
+-- What a check says of a warehouse that has accepted these commands: it is clean, and nothing changes.
 abbrev pub IsCheckedOf : Limits → List Accepted → Result Verdict Fault → Session → State → Type 0
-IsCheckedOf limits commands (Ok verdict) session s = (verdict ≡ Clean) × IsReady limits commands session s
-IsCheckedOf limits commands (Err Memory) session s = IsReady limits commands session s
-IsCheckedOf limits commands (Err (Store cause)) session s = IsStopped limits commands commands session s
-IsCheckedOf limits commands (Err fault) session s = ⊥
+IsCheckedOf limits commands result session s = Outcome (λ told. told ≡ Ok Clean) commands commands result (IsLeft limits session s)

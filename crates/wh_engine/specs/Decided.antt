@@ -1,16 +1,17 @@
 -- What is decided about a command, by what is read of the tables.
-use Rattle.std.specs.Prelude.{◌≡◌, ℕ, List, [], ◌∷◌, ◌++◌, length, filter, find, Option, None, unwrap_or, bytes_eq, Result, Ok, ⊤}
+use Rattle.std.specs.Prelude.{◌≡◌, ℕ, List, [], ◌∷◌, ◌++◌, length, filter, find, Option, None, unwrap_or, bytes_eq, true, Result, Ok, ⊤}
 use Rattle.wh_policy.specs.declared.policy.Policy.{Policy}
 use Rattle.wh_history.specs.Accepted.{Accepted, Content, governed}
 use Rattle.wh_rows.specs.declared.rows.CommandRow.{CommandRow}
 use Rattle.wh_batch.specs.Kind.{command_word}
-use Rattle.wh_admission.specs.Admission.{content_of, accepted_as, current_policy, policy_brought, receipt_again, already}
+use Rattle.wh_admission.specs.Admission.{answer, content_of, accepted_as, current_policy, policy_brought, receipt_again, already}
 use Rattle.wh_rows.specs.Tables.{Tables}
 use Rattle.wh_model.specs.Defined.{AreOf}
 use Rattle.wh_plan.specs.Edits.{Edits, AreEdits}
 use Rattle.wh_model.specs.Sound.{IsAccepted}
 use Rattle.wh_rows.specs.Raw.{AreRows, Stored}
 use Rattle.wh_rows.specs.Rows as layout
+use Rattle.wh_rows.specs.Types.{is_key}
 use Rattle.wh_rows.specs.Keys.{stands_at_number}
 use Rattle.wh_rows.specs.declared.table.Table.TheVariants as table
 use Rattle.wh_admission.specs.Repeated.{IsKept}
@@ -19,6 +20,8 @@ use Rattle.wh_admission.specs.declared.command.Receipt.{Receipt}
 use Rattle.wh_admission.specs.declared.command.Reply.{Reply}
 use Rattle.wh_admission.specs.declared.command.Reply.TheVariants.{Accepted as Accepts, Already}
 use Rattle.wh_admission.specs.declared.command.Refused.{Refused}
+use Rattle.wh_engine.specs.Faults.{Judges}
+use Rattle.wh_engine.specs.declared.fault.Fault.{Fault}
 use Rattle.wh_engine.specs.declared.session.Session.{Session}
 use Rattle.wh_engine.specs.declared.decision.Decision.{Decision}
 use Rattle.wh_engine.specs.declared.decision.Decision.TheVariants.{Repeat, Accept}
@@ -55,6 +58,13 @@ pub record IsEffectOf (commands : List Accepted) (c : Command) (edits : Edits) (
 abbrev pub Decides : List Accepted → Command → Decision → Reply → Type 0
 Decides commands c (Repeat receipt) reply = reply ≡ Already receipt
 Decides commands c (Accept receipt edits newer) reply = (reply ≡ Accepts receipt) × IsEffectOf commands c edits newer
+
+-- what is decided is what the definition answers, always, or where the command's id is good and new
+abbrev pub IsDecided : Session → Command → Result Decision Fault → List Accepted → Type 0
+IsDecided session c result commands = Judges (Decides commands c) result (answer session.limits commands c)
+
+abbrev pub IsDecidedNew : Session → Command → Result Decision Fault → List Accepted → Type 0
+IsDecidedNew session c result commands = is_key 40 c.id ≡ true → IsNew commands c → IsDecided session c result commands
 
 -- the policy of the decision, if it has one, takes the place of the one in force, as the command says
 abbrev pub Brings : Policy → Command → Decision → Type 0

@@ -1,5 +1,5 @@
 -- What a reading of a table's next row says of the row, and of the cursor.
-use Rattle.std.specs.Prelude.{◌≡◌, Option, Result, IfOk, IfErr, IfSome, IsTrue}
+use Rattle.std.specs.Prelude.{◌≡◌, Option, None, Result, Ok, IfOk, IfErr, OnErr, IfSome, IsTrue}
 use Rattle.std.specs.FinMap.{FinMap}
 use Rattle.sqlite_trees.specs.declared.store.Store.{Ghosts}
 use Rattle.sqlite.specs.Order.{Row}
@@ -7,7 +7,7 @@ use Rattle.wh_rows.specs.Holds.{Layout}
 use Rattle.wh_rows.specs.Tables.{Tables as TypedTables}
 use Rattle.wh_rows.specs.declared.table.Table.{Table}
 use Rattle.wh_store.specs.Reads.{SaysInFormat, SaysAsStoredIn}
-use Rattle.wh_store.specs.Scan.{rows_left, HandsOut, HandsOutOf, AreValid}
+use Rattle.wh_store.specs.Scan.{rows_left, HandsOut, HandsOutOf, IsOver, AreValid}
 use Rattle.wh_store.specs.declared.scan.Cursor.{Cursor}
 use Rattle.wh_store.specs.declared.tables.Tables.{Tables}
 use Rattle.wh_engine.specs.Faults.{NamesTable}
@@ -22,3 +22,8 @@ pub record HandsNext {S K V : Type 0} (g : Ghosts S) (name : Table) (layout : La
   pub valid : SaysAsStoredIn g name old new (λ _. AreValid layout before → IfOk result (λ found. IfSome found (λ row. IsTrue (layout.is_valid row)) × AreValid layout after))
   pub named : WhenStored g old new (λ _. IfErr result (NamesTable name))
   pub same_format : new.format ≡ old.format
+
+-- After a fault no row comes; and where none comes any more, none does, and nothing is read.
+pub record Ends {S K V : Type 0} (old new : Tables S) (before after : Cursor K V) (result : Result (Option V) Fault) : Type 0 where
+  pub ended : OnErr result (IsOver after)
+  pub over : IsOver before → (result ≡ Ok None) × (new ≡ old) × IsOver after

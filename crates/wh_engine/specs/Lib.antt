@@ -13,3 +13,6 @@ pub mod Checked
 pub mod Replica
 pub mod Judging
 pub mod Handed
+pub mod Outcome
+pub mod Writing
+pub mod Tallied

@@ -1,6 +1,8 @@
 -- Making a warehouse, and opening one.
-use Rattle.std.specs.Prelude.{◌≡◌, ◌⊎◌, ℕ, codes, List, [], ◌∷◌, filter, slice_get, Bool, true, false, Option, Some, None, Result, Ok, Err, IsOk, ⊤}
+use Rattle.std.specs.Prelude.{◌≡◌, ◌⊎◌, ℕ, codes, List, [], ◌∷◌, filter, slice_get, Bool, true, false, Option, Some, None, Result, Ok, Err, IfOk, IfErr, IsOk, ⊤}
 use Rattle.std.specs.FinMap.{values}
+use Rattle.sqlite_trees.specs.declared.store.Store.{Ghosts}
+use Rattle.sqlite.specs.Held.{Held, state}
 use Rattle.sqlite.specs.Tree.{Trees}
 use Rattle.sqlite.specs.State.{State, HasCleanDisk}
 use Rattle.sqlite.specs.Order.{Row}
@@ -22,11 +24,13 @@ use Rattle.wh_rows.specs.declared.rows.CommandRow.{CommandRow}
 use Rattle.wh_rows.specs.declared.table.Table.TheVariants as tables
 use Rattle.wh_admission.specs.Admission.{AreAdmitted}
 use Rattle.wh_store.specs.Meta.{number_in, format_of, limits_in}
+use Rattle.wh_store.specs.Reads.{state_of}
 use Rattle.wh_store.specs.Raw.{FormatIs, LimitsAre, IsRefusedOn, IsLimitless}
 use Rattle.wh_sql.specs.declared.fault.ReadFault.TheVariants as reading
 use Rattle.wh_store.specs.declared.fault.OpenFault.{OpenFault}
 use Rattle.wh_engine.specs.Answered.{Rests, AreTreesOf, LeavesOneOf}
 use Rattle.wh_model.specs.Sound.{making_of}
+use Rattle.wh_engine.specs.declared.engine.Engine.{Engine}
 use Rattle.wh_engine.specs.declared.opening.InitFault.{InitFault}
 use Rattle.wh_engine.specs.declared.opening.InitFault.TheVariants as init
 use Rattle.wh_store.specs.declared.fault.OpenFault.TheVariants as faults
@@ -36,6 +40,17 @@ use Rattle.wh_policy.specs.declared.format.Format.TheVariants.{One}
 -- what is so where the tables of commands were at rest
 abbrev pub WhenAdmitted : State → State → (Limits → List Accepted → State → Type 0) → Type 0
 WhenAdmitted old new fact = HasCleanDisk new → (limits : Limits) (commands : List Accepted) → AreAdmitted limits commands → Rests limits commands old → fact limits commands new
+
+-- where the database held nothing
+abbrev pub WhenNothing : State → State → Type 0 → Type 0
+WhenNothing old new fact = HasCleanDisk new → IsAtRest None old → fact
+
+-- what an opened engine says of the states before and after, and what a connection says that is handed back with a fault
+abbrev pub IfOpened : {S F : Type 0} → Ghosts S → Held S → Result (Engine S) (F × Held S) → (State → State → Engine S → Type 0) → Type 0
+IfOpened g conn result fact = IfOk result (λ engine. fact (state g conn) (state_of g engine.tables) engine)
+
+abbrev pub IfHandedBack : {S F : Type 0} → Ghosts S → Held S → Result (Engine S) (F × Held S) → (State → State → F → Type 0) → Type 0
+IfHandedBack g conn result fact = IfErr result (λ e. fact (state g conn) (state g e.1) e.0)
 
 -- the last command that gives a policy, where one does
 abbrev pub last_policy_in : Tables → Option CommandRow

@@ -1,6 +1,7 @@
 -- What is left of a warehouse that can't be opened again after a crash.
 use Rattle.std.specs.Prelude.{◌⊎◌, suc, List, length, take, Result}
 use Rattle.sqlite_disk.specs.declared.Disk.{Ghosts}
+use Rattle.sqlite_trees.specs.declared.store.Store.{Ghosts as StoreGhosts}
 use Rattle.sqlite_wal.specs.Recovery.{Image}
 use Rattle.sqlite.specs.Tree.{Trees}
 use Rattle.sqlite.specs.State.{HasCleanDisk}
@@ -10,15 +11,29 @@ use Rattle.wh_history.specs.Tables.{Limits}
 use Rattle.wh_rows.specs.Raw.{Stored, RestsOn, LeavesStored}
 use Rattle.wh_store.specs.InFiles.{AreStoredIn, AreUnopened}
 use Rattle.wh_store.specs.Opening.{SparesStore}
-use Rattle.wh_admission.specs.Admission.{accepted_after_all}
-use Rattle.wh_engine.specs.Answered.{AreTreesOf}
+use Rattle.wh_store.specs.Reads.{state_of}
+use Rattle.wh_admission.specs.Admission.{AreAdmitted, accepted_after_all}
+use Rattle.wh_engine.specs.Answered.{AreTreesOf, IsReady}
 use Rattle.wh_engine.specs.Delivered.{AreAnswers}
 use Rattle.wh_engine.specs.Opened.{IsNotOpened, IsUnopened}
 use Rattle.wh_admission.specs.declared.command.Command.{Command}
 use Rattle.wh_admission.specs.declared.command.Refused.{Refused as Refusal}
 use Rattle.wh_admission.specs.declared.command.Reply.{Reply}
+use Rattle.wh_engine.specs.declared.engine.Engine.{Engine}
 use Rattle.wh_engine.specs.declared.reopen.NotReopened.{NotReopened}
 use Rattle.wh_engine.specs.declared.reopen.NotReopened.TheVariants as left
+
+-- what is so where the engine is ready for commands, and of any two lists
+abbrev pub WhereReady : {S : Type 0} → StoreGhosts S → Engine S → (Limits → List Accepted → Type 0) → Type 0
+WhereReady g engine fact = (limits : Limits) (commands : List Accepted) → IsReady limits commands engine.session (state_of g engine.tables) → fact limits commands
+
+abbrev pub OfAnyTwo : (Limits → List Accepted → List Accepted → Type 0) → Type 0
+OfAnyTwo fact = (limits : Limits) (before after : List Accepted) → AreAdmitted limits before → AreAdmitted limits after → fact limits before after
+
+-- it is ready for the first commands or for the second
+abbrev pub IsReadyForEither : {S : Type 0} → StoreGhosts S → Limits → List Accepted → List Accepted → Engine S → Type 0
+IsReadyForEither g limits before after engine =
+    HasCleanDisk (state_of g engine.tables) → ∥ IsReady limits before engine.session (state_of g engine.tables) ⊎ IsReady limits after engine.session (state_of g engine.tables) ∥₁
 
 -- a log and its database file recover to the tables of the first commands, or to those of the second
 abbrev pub HoldsEither : Limits → List Accepted → List Accepted → Image → Type 0

@@ -1,5 +1,5 @@
 -- What a call leaves of an engine, and how its clauses speak of that.
-use Rattle.std.specs.Prelude.{◌≡◌, ◌||◌, List, Some, Result, Ok, Err, IsTrue, ⊤}
+use Rattle.std.specs.Prelude.{◌≡◌, ◌||◌, List, Some, Result, Err, IsOk, IsTrue, ⊤}
 use Rattle.sqlite_trees.specs.declared.store.Store.{Ghosts}
 use Rattle.sqlite.specs.State.{State, HasCleanDisk}
 use Rattle.wh_history.specs.Accepted.{Accepted}
@@ -7,10 +7,15 @@ use Rattle.wh_history.specs.Tables.{Limits}
 use Rattle.wh_rows.specs.AtRest.{IsAtRest}
 use Rattle.wh_rows.specs.Raw.{Stored, RestsOn}
 use Rattle.wh_rows.specs.Tables.{Tables as TypedTables}
-use Rattle.wh_store.specs.Reads.{Spares, SaysAtRest, SaysAsStored, state_of}
+use Rattle.wh_sql.specs.declared.fault.ReadFault.{ReadFault}
+use Rattle.wh_store.specs.Reads.{ReadsOnly, Spares, SaysAtRest, SaysAsStored, state_of}
 use Rattle.wh_store.specs.declared.tables.Tables.{Tables}
-use Rattle.wh_engine.specs.Answered.{IsReady, IsStopped}
+use Rattle.wh_model.specs.Defined.{AreOf}
+use Rattle.wh_model.specs.Sound.{IsAccepted}
+use Rattle.wh_plan.specs.Reads.{Finds}
+use Rattle.wh_engine.specs.Answered.{IsReady, IsLeft}
 use Rattle.wh_engine.specs.Faults.{IsServed, IsWorkedOut, BlamesDamage, stops}
+use Rattle.wh_engine.specs.Outcome.{Outcome}
 use Rattle.wh_engine.specs.declared.engine.Engine.{Engine}
 use Rattle.wh_engine.specs.declared.fault.Fault.{Fault}
 use Rattle.wh_engine.specs.declared.fault.Fault.TheVariants.{Memory, Store, Reopen}
@@ -26,10 +31,25 @@ WhenAtRest g old new fact = SaysAtRest (state_of g old) (state_of g new) fact
 abbrev pub WhenStored : {S : Type 0} → Ghosts S → Tables S → Tables S → (Stored → Type 0) → Type 0
 WhenStored g old new fact = SaysAsStored (state_of g old) (state_of g new) fact
 
+-- where a session was ready for commands with its tables, of both afterwards
+abbrev pub WhenReadyOn : {S : Type 0} → Ghosts S → Tables S → Tables S → Session → Session → (Limits → List Accepted → Session → State → Type 0) → Type 0
+WhenReadyOn g old new before after fact =
+    HasCleanDisk (state_of g new) → (limits : Limits) (commands : List Accepted) → IsReady limits commands before (state_of g old) → fact limits commands after (state_of g new)
+
 -- where the engine was ready for commands, of what it has to know and of its tables
 abbrev pub WhenReady : {S : Type 0} → Ghosts S → Engine S → Engine S → (Limits → List Accepted → Session → State → Type 0) → Type 0
-WhenReady g old new fact =
-    HasCleanDisk (state_of g new.tables) → (limits : Limits) (commands : List Accepted) → IsReady limits commands old.session (state_of g old.tables) → fact limits commands new.session (state_of g new.tables)
+WhenReady g old new fact = WhenReadyOn g old.tables new.tables old.session new.session fact
+
+-- where the tables were those of commands, or of commands that a warehouse can have accepted under these limits
+abbrev pub WhenOfCommands : {S : Type 0} → Ghosts S → Tables S → Tables S → (Limits → List Accepted → Type 0) → Type 0
+WhenOfCommands g old new fact = Finds (state_of g old) (state_of g new) fact
+
+abbrev pub WhenAccepted : {S : Type 0} → Ghosts S → Tables S → Tables S → Limits → (List Accepted → Type 0) → Type 0
+WhenAccepted g old new limits fact = WhenAtRest g old new (λ t. (commands : List Accepted) → AreOf limits commands t → IsAccepted limits commands → fact commands)
+
+-- where what was written until now was told, it was so before
+abbrev pub WasClean : {S : Type 0} → Ghosts S → Tables S → Tables S → Type 0
+WasClean g old new = HasCleanDisk (state_of g new) → HasCleanDisk (state_of g old)
 
 -- ---- what is left
 
@@ -38,6 +58,13 @@ pub record Keeps {S : Type 0} (g : Ghosts S) (old new : Tables S) (calm : Type 0
   pub clean : HasCleanDisk (state_of g new) → HasCleanDisk (state_of g old)
   pub same : WhenAtRest g old new (λ t. calm → IsAtRest (Some t) (state_of g new))
   pub rests : WhenStored g old new (λ stored. calm → RestsOn stored (state_of g new))
+
+-- a reading of the tables leaves them as they were where this holds, and a crash leaves them; it is as a statement's reading says
+abbrev pub SparesIn : {S : Type 0} → Ghosts S → Tables S → Tables S → Type 0 → Type 0
+SparesIn g old new calm = Spares (state_of g old) (state_of g new) calm
+
+abbrev pub ReadsOnlyIn : {S A : Type 0} → Ghosts S → Tables S → Tables S → Result A ReadFault → Type 0
+ReadsOnlyIn g old new result = ReadsOnly (state_of g old) (state_of g new) result
 
 -- What a reading leaves of the tables: they are as they were unless the store refused a call, and a crash leaves them. A table that is named as damaged is. It isn't
 -- answered that the warehouse has to be opened again.
@@ -72,12 +99,9 @@ IsWanting Memory = ⊤
 IsWanting (Store cause) = ⊤
 IsWanting fault = ⊥
 
--- Nothing changed, or memory ran out and nothing changed; or the store refused a call, and a crash leaves the tables of the commands.
+-- It is answered, whatever is read, and nothing changes.
 abbrev pub IsServing : {A : Type 0} → Limits → List Accepted → Result A Fault → Session → State → Type 0
-IsServing limits commands (Ok found) session s = IsReady limits commands session s
-IsServing limits commands (Err Memory) session s = IsReady limits commands session s
-IsServing limits commands (Err (Store cause)) session s = IsStopped limits commands commands session s
-IsServing limits commands (Err fault) session s = ⊥
+IsServing limits commands result session s = Outcome IsOk commands commands result (IsLeft limits session s)
 
 -- The same of several readings, one after the other. What was at rest is as it was, unless the store refused a call. An engine that was ready for commands is so still; or memory ran out, and it is; or the
 -- store refused a call, and it has to be opened again. A table that is named as damaged is. That it has to be opened again is answered only by one that had to be before.
@@ -87,3 +111,7 @@ pub record ReadsThrough {A : Type 0} (before after : Session) (old new : State) 
   pub blames : SaysAsStored old new (λ stored. BlamesDamage stored result)
   pub noted : after ≡ noting before result
   pub only : result ≡ Err Reopen → IsTrue before.must_reopen
+
+-- through an engine
+abbrev pub EngineReadsThrough : {S A : Type 0} → Ghosts S → Engine S → Engine S → Result A Fault → Type 0
+EngineReadsThrough g old new result = ReadsThrough old.session new.session (state_of g old.tables) (state_of g new.tables) result

@@ -1,17 +1,16 @@
 //! Whether a command is accepted, as far as the tables say.
 
-ghost use Rattle.std.specs.Prelude.{◌≡◌, ◌+◌, ◌*◌, ◌<◌, ◌≤◌, nat_le, [], List, length, false, is_some, IfOk};
+ghost use Rattle.std.specs.Prelude.{◌≡◌, ◌+◌, ◌*◌, ◌<◌, ◌≤◌, nat_le, [], length, false, is_some, IfOk};
 ghost use Rattle.std.specs.FinMap.{len};
 ghost use Rattle.std.specs.List.{list_any};
-ghost use Rattle.wh_history.specs.Accepted.{Accepted, Content, Sells, sold, sold_by};
-ghost use Rattle.wh_store.specs.Reads.{SaysInFormat, SaysAsStored, ReadsOnly, state_of};
+ghost use Rattle.wh_history.specs.Accepted.{Content, Sells, sold, sold_by};
+ghost use Rattle.wh_store.specs.Reads.{SaysInFormat};
 ghost use Rattle.wh_admission.specs.Admission.{changes_in, first_line_there, number_for};
 ghost use Rattle.wh_engine.specs.Decided.{HasNoCommand, receipt_of_known};
-ghost use Rattle.wh_model.specs.Defined.{AreOf, command_at};
+ghost use Rattle.wh_model.specs.Defined.{command_at};
 ghost use Rattle.wh_engine.specs.Faults.{Judges};
-ghost use Rattle.wh_plan.specs.Reads.{Finds};
-ghost use Rattle.wh_model.specs.Sound.{IsAccepted, same_line};
-ghost use Rattle.wh_engine.specs.Scanned.{Reads, WhenAtRest};
+ghost use Rattle.wh_model.specs.Sound.{same_line};
+ghost use Rattle.wh_engine.specs.Scanned.{Reads, ReadsOnlyIn, WhenAccepted, WhenOfCommands, WhenStored};
 
 use crate::fault::Fault;
 use sqlite::Alter;
@@ -48,7 +47,7 @@ fn has_room_for<T: KeyedTable, S: Alter>(
     commands: u64,
     records: u64,
 ) -> Result<bool, ReadFault>
-    ensures reads { ReadsOnly (state_of S.Store tables.old) (state_of S.Store tables.new) result }
+    ensures reads { ReadsOnlyIn S.Store tables.old tables.new result }
     ensures room { SaysInFormat S.Store T.name tables.old tables.new (λ t. IfOk result (λ room. len (T.rows t) ≤ commands * 5000 → len (T.rows t) ≤ limit → room ≡ nat_le (len (T.rows t) + records) limit)) }
 {
     let most = commands.saturating_mul(u64::from(MOST_RECORDS));
@@ -65,8 +64,8 @@ fn is_line_there<S: Alter>(
     alloc: Global,
     sale: &SaleRecord,
 ) -> Result<bool, ReadFault>
-    ensures reads { ReadsOnly (state_of S.Store tables.old) (state_of S.Store tables.new) result }
-    ensures there { Finds (state_of S.Store tables.old) (state_of S.Store tables.new) (λ _ commands. IfOk result (λ there. there ≡ list_any (λ s. same_line s sale.now) (sold commands))) }
+    ensures reads { ReadsOnlyIn S.Store tables.old tables.new result }
+    ensures there { WhenOfCommands S.Store tables.old tables.new (λ _ commands. IfOk result (λ there. there ≡ list_any (λ s. same_line s sale.now) (sold commands))) }
 {
     let key = LineKey {
         ticket: Value::new(alloc, sale.ticket.as_str())?,
@@ -82,8 +81,8 @@ fn first_line_there<S: Alter>(
     alloc: Global,
     sales: &[SaleRecord],
 ) -> Result<Option<u64>, ReadFault>
-    ensures reads { ReadsOnly (state_of S.Store tables.old) (state_of S.Store tables.new) result }
-    ensures there { Finds (state_of S.Store tables.old) (state_of S.Store tables.new) (λ _ commands. IfOk result (λ there. there ≡ first_line_there (sold commands) 1 sales.now)) }
+    ensures reads { ReadsOnlyIn S.Store tables.old tables.new result }
+    ensures there { WhenOfCommands S.Store tables.old tables.new (λ _ commands. IfOk result (λ there. there ≡ first_line_there (sold commands) 1 sales.now)) }
 {
     for (place, sale) in sales.iter().enumerate() {
         if is_line_there(tables, alloc, sale)? {
@@ -95,9 +94,9 @@ fn first_line_there<S: Alter>(
 
 /// Whether a command is stored under a number.
 fn is_taken<S: Alter>(tables: &mut Tables<S>, alloc: Global, number: u64) -> Result<bool, ReadFault>
-    ensures reads { ReadsOnly (state_of S.Store tables.old) (state_of S.Store tables.new) result }
-    ensures taken { Finds (state_of S.Store tables.old) (state_of S.Store tables.new) (λ _ commands. IfOk result (λ taken. taken ≡ is_some (command_at commands number))) }
-    ensures free { SaysAsStored (state_of S.Store tables.old) (state_of S.Store tables.new) (λ stored. IfOk result (λ taken. taken ≡ false → HasNoCommand stored number)) }
+    ensures reads { ReadsOnlyIn S.Store tables.old tables.new result }
+    ensures taken { WhenOfCommands S.Store tables.old tables.new (λ _ commands. IfOk result (λ taken. taken ≡ is_some (command_at commands number))) }
+    ensures free { WhenStored S.Store tables.old tables.new (λ stored. IfOk result (λ taken. taken ≡ false → HasNoCommand stored number)) }
 {
     let row = tables.get::<tables::Command>(alloc, &number)?;
     Ok(row.is_some())
@@ -106,9 +105,9 @@ fn is_taken<S: Alter>(tables: &mut Tables<S>, alloc: Global, number: u64) -> Res
 /// The first number, from one on, under which no command is stored. The next one is free in the tables of accepted commands; where a row
 /// is gone it may not be, and the last command must not be written over.
 fn free_number<S: Alter>(tables: &mut Tables<S>, alloc: Global, next: u64) -> Result<u64, ReadFault>
-    ensures reads { ReadsOnly (state_of S.Store tables.old) (state_of S.Store tables.new) result }
-    ensures next { Finds (state_of S.Store tables.old) (state_of S.Store tables.new) (λ _ commands. length commands < next → IfOk result (λ number. number ≡ next)) }
-    ensures free { SaysAsStored (state_of S.Store tables.old) (state_of S.Store tables.new) (λ stored. IfOk result (HasNoCommand stored)) }
+    ensures reads { ReadsOnlyIn S.Store tables.old tables.new result }
+    ensures next { WhenOfCommands S.Store tables.old tables.new (λ _ commands. length commands < next → IfOk result (λ number. number ≡ next)) }
+    ensures free { WhenStored S.Store tables.old tables.new (λ stored. IfOk result (HasNoCommand stored)) }
 {
     'numbers: for number in next..u64::MAX {
         if !is_taken(tables, alloc, number)? {
@@ -127,9 +126,8 @@ pub(crate) fn number_for_records<S: Alter>(
 ) -> Result<u64, Fault>
     ensures reads { Reads S.Store tables.old tables.new result }
     // Under the number that is given no command is stored, whoever wrote the rows.
-    ensures free { SaysAsStored (state_of S.Store tables.old) (state_of S.Store tables.new) (λ stored. IfOk result (HasNoCommand stored)) }
-    ensures number { WhenAtRest S.Store tables.old tables.new (λ t. (commands : List Accepted) → AreOf limits commands t → IsAccepted limits commands
-        → (content : Content) → sold_by content ≡ [] → changes_in content ≡ records → Judges (λ number next. number ≡ next) result (number_for limits commands content)) }
+    ensures free { WhenStored S.Store tables.old tables.new (λ stored. IfOk result (HasNoCommand stored)) }
+    ensures number { WhenAccepted S.Store tables.old tables.new limits (λ commands. (content : Content) → sold_by content ≡ [] → changes_in content ≡ records → Judges (λ number next. number ≡ next) result (number_for limits commands content)) }
 {
     let commands = tables.count::<tables::Command>(alloc)?;
     if limits.commands() <= commands {
@@ -151,9 +149,8 @@ pub(crate) fn number_for_sales<S: Alter>(
 ) -> Result<u64, Fault>
     ensures reads { Reads S.Store tables.old tables.new result }
     // Under the number that is given no command is stored, whoever wrote the rows.
-    ensures free { SaysAsStored (state_of S.Store tables.old) (state_of S.Store tables.new) (λ stored. IfOk result (HasNoCommand stored)) }
-    ensures number { WhenAtRest S.Store tables.old tables.new (λ t. (commands : List Accepted) → AreOf limits commands t → IsAccepted limits commands
-        → Judges (λ number next. number ≡ next) result (number_for limits commands (Sells sales.now))) }
+    ensures free { WhenStored S.Store tables.old tables.new (λ stored. IfOk result (HasNoCommand stored)) }
+    ensures number { WhenAccepted S.Store tables.old tables.new limits (λ commands. Judges (λ number next. number ≡ next) result (number_for limits commands (Sells sales.now))) }
 {
     let commands = tables.count::<tables::Command>(alloc)?;
     if limits.commands() <= commands {

@@ -6,13 +6,13 @@ ghost use Rattle.wh_history.specs.Tables.{Limits as LimitCounts};
 ghost use Rattle.wh_policy.specs.declared.format.Format.TheVariants.{One};
 ghost use Rattle.wh_rows.specs.Tables.{Tables as TenTables};
 ghost use Rattle.wh_store.specs.Faithful.{RestsFaithfully};
-ghost use Rattle.wh_store.specs.Reads.{IsServed, NamesDamage, ReadsOnly, Spares, state_of, SaysAsStored};
+ghost use Rattle.wh_store.specs.Reads.{IsServed, NamesDamage};
 ghost use Rattle.wh_admission.specs.Checked.{SaysCommands, table_place};
 ghost use Rattle.wh_check.specs.Judged.{IsJudged};
 ghost use Rattle.wh_engine.specs.Checked.{IsChecked, IsCheckedOf};
 ghost use Rattle.wh_engine.specs.Replica.{HoldsAll};
 ghost use Rattle.wh_engine.specs.Judging.{IsDefinedIn, IsOfDamageIn};
-ghost use Rattle.wh_engine.specs.Scanned.{EngineReads, Reads, WhenReady, WhenStored};
+ghost use Rattle.wh_engine.specs.Scanned.{EngineReads, Reads, ReadsOnlyIn, SparesIn, WhenReady, WhenStored};
 
 use crate::engine::Engine;
 use crate::fault::{Fault, stops};
@@ -30,10 +30,10 @@ fn is_defined_in<S: Alter, M: Alter>(
     replica: &mut Tables<M>,
     table: Table,
 ) -> Result<bool, ReadFault>
-    ensures reads { ReadsOnly (state_of S.Store tables.old) (state_of S.Store tables.new) result }
+    ensures reads { ReadsOnlyIn S.Store tables.old tables.new result }
     ensures rests { (t : TenTables) → RestsFaithfully M.Store (Some t) replica.old.conn → IfOk result (λ _. RestsFaithfully M.Store (Some t) replica.new.conn) }
-    ensures defined { SaysAsStored (state_of S.Store tables.old) (state_of S.Store tables.new) (λ stored. stored.format ≡ One → (limits : LimitCounts) (commands : List Accepted) → HoldsAll M.Store limits commands replica.old → IfOk result (IsDefinedIn limits commands stored table)) }
-    ensures damaged { SaysAsStored (state_of S.Store tables.old) (state_of S.Store tables.new) (λ stored. IfErr result (IsOfDamageIn stored table)) }
+    ensures defined { WhenStored S.Store tables.old tables.new (λ stored. stored.format ≡ One → (limits : LimitCounts) (commands : List Accepted) → HoldsAll M.Store limits commands replica.old → IfOk result (IsDefinedIn limits commands stored table)) }
+    ensures damaged { WhenStored S.Store tables.old tables.new (λ stored. IfErr result (IsOfDamageIn stored table)) }
 {
     match table {
         Table::Meta => holds_the_same::<tables::Meta, S, M>(tables, alloc, replica),
@@ -78,8 +78,8 @@ fn judge_tables<S: Alter, M: Alter>(
     alloc: Global,
     replica: &mut Tables<M>,
 ) -> Result<Verdict, ReadFault>
-    ensures reads { ReadsOnly (state_of S.Store tables.old) (state_of S.Store tables.new) result }
-    ensures judged { SaysAsStored (state_of S.Store tables.old) (state_of S.Store tables.new) (λ stored. stored.format ≡ One → (limits : LimitCounts) (commands : List Accepted) → HoldsAll M.Store limits commands replica.old → SaysCommands stored limits commands → IsJudged stored result) }
+    ensures reads { ReadsOnlyIn S.Store tables.old tables.new result }
+    ensures judged { WhenStored S.Store tables.old tables.new (λ stored. stored.format ≡ One → (limits : LimitCounts) (commands : List Accepted) → HoldsAll M.Store limits commands replica.old → SaysCommands stored limits commands → IsJudged stored result) }
 {
     'tables: for place in 2..12u8 {
         let table = table_at(place);
@@ -92,9 +92,9 @@ fn judge_tables<S: Alter, M: Alter>(
 
 /// What is found of the tables.
 fn judge<S: Alter>(tables: &mut Tables<S>, alloc: Global) -> Result<Verdict, ReadFault>
-    ensures reads { Spares (state_of S.Store tables.old) (state_of S.Store tables.new) (IsServed result) }
-    ensures judged { SaysAsStored (state_of S.Store tables.old) (state_of S.Store tables.new) (λ stored. stored.format ≡ One → IsJudged stored result) }
-    ensures named { SaysAsStored (state_of S.Store tables.old) (state_of S.Store tables.new) (λ stored. IfErr result (NamesDamage stored)) }
+    ensures reads { SparesIn S.Store tables.old tables.new (IsServed result) }
+    ensures judged { WhenStored S.Store tables.old tables.new (λ stored. stored.format ≡ One → IsJudged stored result) }
+    ensures named { WhenStored S.Store tables.old tables.new (λ stored. IfErr result (NamesDamage stored)) }
 {
     let Some(limits) = limits_said(tables, alloc)? else {
         return Ok(Verdict::Wrong(Table::Meta));

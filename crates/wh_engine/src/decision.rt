@@ -6,8 +6,8 @@ ghost use Rattle.wh_policy.specs.declared.policy.Policy.{Policy};
 ghost use Rattle.wh_history.specs.Accepted.{Accepted, Sells};
 ghost use Rattle.wh_rows.specs.Raw.{Stored};
 ghost use Rattle.wh_rows.specs.Types.{is_key};
-ghost use Rattle.wh_admission.specs.Admission.{answer, content_of, current_policy, policy_told, records_told, sales_told};
-ghost use Rattle.wh_engine.specs.Decided.{row_of_command, IsNew, reply_to_known, Brings, Decides, RepeatsKept, WritesItsRow};
+ghost use Rattle.wh_admission.specs.Admission.{content_of, current_policy, policy_told, records_told, sales_told};
+ghost use Rattle.wh_engine.specs.Decided.{row_of_command, IsNew, IsDecided, IsDecidedNew, reply_to_known, Brings, Decides, RepeatsKept, WritesItsRow};
 ghost use Rattle.wh_batch.specs.declared.kind.CommandKind.TheVariants.{Batch, Migration};
 ghost use Rattle.wh_engine.specs.Faults.{BlamesDamage, IsWorkedOut, Judges};
 ghost use Rattle.wh_engine.specs.Scanned.{Reads, WhenStored};
@@ -116,8 +116,7 @@ fn decide_records<S: Alter>(
     command: &Command,
 ) -> Result<Decision, Fault>
     ensures reads { Reads S.Store tables.old tables.new result }
-    ensures decided { Works S.Store tables.old tables.new session.now (λ commands. command.now.kind ≡ Batch (Dimension dim) → is_key 40 command.now.id ≡ true
-        → IsNew commands command.now → Judges (Decides commands command.now) result (answer session.now.limits commands command.now)) }
+    ensures decided { Works S.Store tables.old tables.new session.now (λ commands. command.now.kind ≡ Batch (Dimension dim) → IsDecidedNew session.now command.now result commands) }
     ensures brings { command.now.kind ≡ Batch (Dimension dim) → IfOk result (Brings session.now.policy command.now) }
     ensures own { IfOk result WritesItsRow }
 {
@@ -148,7 +147,7 @@ fn decide_sold<S: Alter>(
     ensures reads { Reads S.Store tables.old tables.new result }
     ensures decided { Works S.Store tables.old tables.new session.now (λ commands. is_key 40 command.now.id ≡ true → IsNew commands command.now
         → content_of command.now.kind (current_policy commands) command.now.bytes ≡ Ok (Sells sales.now)
-        → Judges (Decides commands command.now) result (answer session.now.limits commands command.now)) }
+        → IsDecided session.now command.now result commands) }
     ensures brings { command.now.kind ≡ Batch Sales → IfOk result (Brings session.now.policy command.now) }
     ensures own { IfOk result WritesItsRow }
 {
@@ -174,8 +173,7 @@ fn decide_sales<S: Alter>(
     command: &Command,
 ) -> Result<Decision, Fault>
     ensures reads { Reads S.Store tables.old tables.new result }
-    ensures decided { Works S.Store tables.old tables.new session.now (λ commands. command.now.kind ≡ Batch Sales → is_key 40 command.now.id ≡ true → IsNew commands command.now
-        → Judges (Decides commands command.now) result (answer session.now.limits commands command.now)) }
+    ensures decided { Works S.Store tables.old tables.new session.now (λ commands. command.now.kind ≡ Batch Sales → IsDecidedNew session.now command.now result commands) }
     ensures brings { command.now.kind ≡ Batch Sales → IfOk result (Brings session.now.policy command.now) }
     ensures own { IfOk result WritesItsRow }
 {
@@ -191,8 +189,7 @@ fn decide_migration<S: Alter>(
     command: &Command,
 ) -> Result<Decision, Fault>
     ensures reads { Reads S.Store tables.old tables.new result }
-    ensures decided { Works S.Store tables.old tables.new session.now (λ commands. command.now.kind ≡ Migration → is_key 40 command.now.id ≡ true → IsNew commands command.now
-        → Judges (Decides commands command.now) result (answer session.now.limits commands command.now)) }
+    ensures decided { Works S.Store tables.old tables.new session.now (λ commands. command.now.kind ≡ Migration → IsDecidedNew session.now command.now result commands) }
     ensures brings { command.now.kind ≡ Migration → IfOk result (Brings session.now.policy command.now) }
     ensures own { IfOk result WritesItsRow }
 {
@@ -219,8 +216,7 @@ fn decide_new<S: Alter>(
     command: &Command,
 ) -> Result<Decision, Fault>
     ensures reads { Reads S.Store tables.old tables.new result }
-    ensures decided { Works S.Store tables.old tables.new session.now (λ commands. is_key 40 command.now.id ≡ true → IsNew commands command.now
-        → Judges (Decides commands command.now) result (answer session.now.limits commands command.now)) }
+    ensures decided { Works S.Store tables.old tables.new session.now (IsDecidedNew session.now command.now result) }
     ensures brings { IfOk result (Brings session.now.policy command.now) }
     ensures own { IfOk result WritesItsRow }
 {
@@ -254,7 +250,7 @@ pub(crate) fn decide<S: Alter>(
     command: &Command,
 ) -> Result<Decision, Fault>
     ensures reads { Reads S.Store tables.old tables.new result }
-    ensures decided { Works S.Store tables.old tables.new session.now (λ commands. Judges (Decides commands command.now) result (answer session.now.limits commands command.now)) }
+    ensures decided { Works S.Store tables.old tables.new session.now (IsDecided session.now command.now result) }
     ensures brings { IfOk result (Brings session.now.policy command.now) }
     ensures again { WhenStored S.Store tables.old tables.new (λ stored. IfOk result (RepeatsKept stored command.now)) }
 {

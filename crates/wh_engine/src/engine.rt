@@ -1,13 +1,9 @@
 //! A warehouse that is open for commands.
 
-ghost use Rattle.std.specs.Prelude.{◌≡◌, List, false, Err};
-ghost use Rattle.sqlite.specs.State.{HasCleanDisk};
-ghost use Rattle.wh_history.specs.Accepted.{Accepted};
-ghost use Rattle.wh_history.specs.Tables.{Limits as LimitCounts};
-ghost use Rattle.wh_store.specs.Reads.{state_of};
-ghost use Rattle.wh_engine.specs.Answered.{IsAgain, IsReady, IsAnswered, IsPerformed, IsWritten, IsGoverned, IsNotAccepted, IsNoted, KeepsNothing};
+ghost use Rattle.std.specs.Prelude.{◌≡◌, false, Err};
+ghost use Rattle.wh_engine.specs.Answered.{IsAgain, IsAnswered, IsPerformed, IsWritten, IsGoverned, IsNotAccepted, IsNoted, KeepsNothing};
 ghost use Rattle.wh_engine.specs.Faults.{BlamesDamage, IsWorkedOut};
-ghost use Rattle.wh_engine.specs.Scanned.{Keeps, Shuts, WhenReady, WhenStored};
+ghost use Rattle.wh_engine.specs.Scanned.{Keeps, Shuts, WhenReady, WhenReadyOn, WhenStored};
 
 use crate::decision::{Decision, decide};
 use crate::fault::{Fault, stops};
@@ -37,13 +33,11 @@ fn perform<S: Alter>(
     writes: &mut u64,
 ) -> Result<Reply, Fault>
     ensures keeps { Keeps S.Store tables.old tables.new (KeepsNothing result) }
-    ensures performed { HasCleanDisk (state_of S.Store tables.new) → (limits : LimitCounts) (commands : List Accepted) → IsReady limits commands session.old (state_of S.Store tables.old)
-        → IsPerformed limits commands command.now result session.new (state_of S.Store tables.new) }
+    ensures performed { WhenReadyOn S.Store tables.old tables.new session.old session.new (λ limits commands. IsPerformed limits commands command.now result) }
     ensures blames { WhenStored S.Store tables.old tables.new (λ stored. BlamesDamage stored result) }
     ensures again { WhenStored S.Store tables.old tables.new (λ stored. IsAgain stored command.now result) }
     ensures work { IsWorkedOut result }
-    ensures written { HasCleanDisk (state_of S.Store tables.new) → (limits : LimitCounts) (commands : List Accepted) → IsReady limits commands session.old (state_of S.Store tables.old)
-        → IsWritten limits commands command.now result writes.new }
+    ensures written { WhenReadyOn S.Store tables.old tables.new session.old session.new (λ limits commands _ _. IsWritten limits commands command.now result writes.new) }
     ensures silent { IsNotAccepted result → writes.new ≡ 0 }
     ensures limits { session.new.limits ≡ session.old.limits }
     ensures policy { IsGoverned session.old.policy session.new.policy command.now result }

@@ -5,7 +5,8 @@ ghost use Rattle.sqlite.specs.State.{HasCleanDisk};
 ghost use Rattle.wh_rows.specs.AtRest.{IsWriting, Leaves};
 ghost use Rattle.wh_rows.specs.Tables.{Tables as TenTables};
 ghost use Rattle.wh_store.specs.Reads.{state_of};
-ghost use Rattle.wh_store.specs.Writes.{WritesOnly, Makes};
+ghost use Rattle.wh_engine.specs.Scanned.{WasClean};
+ghost use Rattle.wh_engine.specs.Writing.{WritesIn, MakesIn};
 ghost use Rattle.wh_model.specs.Defined.{AreOf};
 ghost use Rattle.wh_plan.specs.FirstRows.{IsGoodPolicy, making_row, calendar_rows, with_first, MayBeFirst};
 ghost use Rattle.wh_model.specs.Sound.{making_of};
@@ -58,8 +59,8 @@ fn put_first<S: Alter>(
     calendar: &[DateRow],
 ) -> Result<(), Cause>
     ensures same_reference { writing.new.tables.ghost_name ≡ writing.old.tables.ghost_name }
-    ensures writes { WritesOnly (state_of S.Store writing.old.tables.now) (state_of S.Store writing.new.tables.now) (MayBeFirst command.now customer.now profiles.now calendar.now) }
-    ensures put { Makes (state_of S.Store writing.old.tables.now) (state_of S.Store writing.new.tables.now) result (MayBeFirst command.now customer.now profiles.now calendar.now) (with_first command.now customer.now profiles.now calendar.now) }
+    ensures writes { WritesIn S.Store writing.old writing.new (MayBeFirst command.now customer.now profiles.now calendar.now) }
+    ensures put { MakesIn S.Store writing.old writing.new result (MayBeFirst command.now customer.now profiles.now calendar.now) (with_first command.now customer.now profiles.now calendar.now) }
 {
     writing.put::<tables::Command>(alloc, command)?;
     writing.put::<tables::Customer>(alloc, customer)?;
@@ -76,7 +77,7 @@ pub fn write_making<S: Alter>(
     bytes: &[u8],
 ) -> Result<(), Cause>
     ensures same_reference { writing.new.tables.ghost_name ≡ writing.old.tables.ghost_name }
-    ensures clean { HasCleanDisk (state_of S.Store writing.new.tables.now) → HasCleanDisk (state_of S.Store writing.old.tables.now) }
+    ensures clean { WasClean S.Store writing.old.tables.now writing.new.tables.now }
     ensures made { HasCleanDisk (state_of S.Store writing.new.tables.now) → IsWriting None None (state_of S.Store writing.old.tables.now) → IsGoodPolicy policy.now
         → OnOk result ((t : TenTables) × AreOf limits (making_of policy.now bytes.now ∷ []) t × IsWriting None (Some t) (state_of S.Store writing.new.tables.now)) }
     ensures left { HasCleanDisk (state_of S.Store writing.new.tables.now) → IsWriting None None (state_of S.Store writing.old.tables.now) → IsGoodPolicy policy.now

@@ -5,7 +5,7 @@ ghost use Rattle.sqlite.specs.Held.{state};
 ghost use Rattle.sqlite.specs.State.{HasCleanDisk};
 ghost use Rattle.wh_policy.specs.Policy.{policy_at};
 ghost use Rattle.wh_rows.specs.AtRest.{IsAtRest};
-ghost use Rattle.wh_store.specs.Reads.{is_any_taken, are_all_there, state_of, SaysAtRest, SaysAsStored, Spares};
+ghost use Rattle.wh_store.specs.Reads.{is_any_taken, are_all_there, state_of, SaysAtRest, SaysAsStored};
 ghost use Rattle.wh_store.specs.Opening.{IsServed, SparesStore};
 ghost use Rattle.wh_policy.specs.declared.format.Format.TheVariants.{One};
 ghost use Rattle.wh_policy.specs.Formats.{is_two};
@@ -14,8 +14,8 @@ ghost use Rattle.wh_rows.specs.Raw.{RestsOn, LeavesStored};
 ghost use Rattle.wh_engine.specs.Answered.{Rests, IsReady};
 ghost use Rattle.wh_plan.specs.FirstRows.{IsGoodPolicy};
 ghost use Rattle.wh_model.specs.Sound.{making_of};
-ghost use Rattle.wh_engine.specs.Opened.{of_command, last_policy_in, session_in, opened, IsTold, IsRead, PolicyIs, IsPolicyless, SessionIs, IsSessionless, IsUnopened, IsNotOpened, LeavesMaking, IsNotMade, NothingIsWritten, LeavesMade, WhenAdmitted};
-ghost use Rattle.wh_engine.specs.Scanned.{WhenAtRest, WhenStored};
+ghost use Rattle.wh_engine.specs.Opened.{of_command, last_policy_in, session_in, opened, IsTold, IsRead, PolicyIs, IsPolicyless, SessionIs, IsSessionless, IsUnopened, IsNotOpened, LeavesMaking, IsNotMade, NothingIsWritten, LeavesMade, WhenAdmitted, WhenNothing, IfOpened, IfHandedBack};
+ghost use Rattle.wh_engine.specs.Scanned.{SparesIn, WasClean, WhenAtRest, WhenStored};
 ghost use Rattle.wh_store.specs.declared.fault.OpenFault.TheVariants.{Store};
 ghost use Rattle.wh_rows.specs.declared.cause.Cause.{Cause};
 
@@ -55,10 +55,9 @@ fn commit_making<S: Alter>(
     policy: &Policy,
     bytes: &[u8],
 ) -> Result<u64, Cause>
-    ensures clean { HasCleanDisk (state_of S.Store tables.new) → HasCleanDisk (state_of S.Store tables.old) }
-    ensures made { HasCleanDisk (state_of S.Store tables.new) → IsAtRest None (state_of S.Store tables.old) → IsGoodPolicy policy.now
-        → OnOk result (Rests limits (making_of policy.now bytes.now ∷ []) (state_of S.Store tables.new)) }
-    ensures left { HasCleanDisk (state_of S.Store tables.new) → IsAtRest None (state_of S.Store tables.old) → IsGoodPolicy policy.now → LeavesMaking limits policy.now bytes.now (state_of S.Store tables.new) }
+    ensures clean { WasClean S.Store tables.old tables.new }
+    ensures made { WhenNothing (state_of S.Store tables.old) (state_of S.Store tables.new) (IsGoodPolicy policy.now → OnOk result (Rests limits (making_of policy.now bytes.now ∷ []) (state_of S.Store tables.new))) }
+    ensures left { WhenNothing (state_of S.Store tables.old) (state_of S.Store tables.new) (IsGoodPolicy policy.now → LeavesMaking limits policy.now bytes.now (state_of S.Store tables.new)) }
 {
     let mut writing = tables.begin()?;
     write_making(&mut writing, alloc, limits, policy, bytes)?;
@@ -83,7 +82,7 @@ fn policy_of(alloc: Global, commands: &[CommandRow]) -> Result<Policy, OpenFault
 /// The policy in force, which is that of the last command that gives one.
 fn policy_in<S: Alter>(tables: &mut Tables<S>, alloc: Global) -> Result<Policy, OpenFault>
     ensures same_format { tables.new.format ≡ tables.old.format }
-    ensures reads { Spares (state_of S.Store tables.old) (state_of S.Store tables.new) (IsServed result) }
+    ensures reads { SparesIn S.Store tables.old tables.new (IsServed result) }
     ensures read { WhenAtRest S.Store tables.old tables.new (λ t. IsRead result (of_command (last_policy_in t)) t (state_of S.Store tables.new)) }
     // The same of any rows, whoever wrote them: by the last that gives a policy.
     ensures stored { WhenStored S.Store tables.old tables.new (λ stored. IfOk result (λ policy. PolicyIs stored (Ok policy))) }
@@ -96,7 +95,7 @@ fn policy_in<S: Alter>(tables: &mut Tables<S>, alloc: Global) -> Result<Policy, 
 /// What an engine has to know of its warehouse.
 fn session_of<S: Alter>(tables: &mut Tables<S>, alloc: Global) -> Result<Session, OpenFault>
     ensures same_format { tables.new.format ≡ tables.old.format }
-    ensures reads { Spares (state_of S.Store tables.old) (state_of S.Store tables.new) (IsServed result) }
+    ensures reads { SparesIn S.Store tables.old tables.new (IsServed result) }
     ensures read { WhenAtRest S.Store tables.old tables.new (λ t. IsRead result (session_in t) t (state_of S.Store tables.new)) }
     // The same of any rows, whoever wrote them: by the limits, and then by the last row that gives a policy.
     ensures stored { WhenStored S.Store tables.old tables.new (λ stored. IfOk result (SessionIs stored)) }
@@ -123,7 +122,7 @@ impl<S: Alter> Engine<S> {
         policy: &[u8],
         limits: Limits,
     ) -> Result<Engine<S>, (InitFault, Connection<S>)>
-        ensures made { IfOk result (λ engine. HasCleanDisk (state_of S.Store engine.tables) → IsAtRest None (state S.Store conn) → IsReady limits (making_of engine.session.policy policy.now ∷ []) engine.session (state_of S.Store engine.tables)) }
+        ensures made { IfOpened S.Store conn result (λ old new engine. WhenNothing old new (IsReady limits (making_of engine.session.policy policy.now ∷ []) engine.session new)) }
         ensures written { IfOk result (λ engine. (policy_at policy.now ≡ Ok engine.session.policy) × (is_any_taken (state S.Store conn).now.schema ≡ false)) }
         ensures refused { IfErr result (λ e. IsNotMade policy.now (is_any_taken (state S.Store conn).now.schema) e.0) }
         ensures same { IfErr result (λ e. NothingIsWritten e.0 → e.1 ≡ conn) }
@@ -132,7 +131,7 @@ impl<S: Alter> Engine<S> {
         // A transaction of the caller's is neither joined nor ended.
         ensures outside { IfOk result (λ _. conn.in_transaction ≡ false) }
         ensures within { IsTrue conn.in_transaction → IfErr result (λ e. e.1 ≡ conn) }
-        ensures left { IfErr result (λ e. HasCleanDisk (state S.Store e.1) → IsAtRest None (state S.Store conn) → LeavesMade limits policy.now (state S.Store e.1)) }
+        ensures left { IfHandedBack S.Store conn result (λ old new _. WhenNothing old new (LeavesMade limits policy.now new)) }
     {
         let read = match Policy::read(alloc, policy) {
             Ok(read) => read,
@@ -160,16 +159,16 @@ impl<S: Alter> Engine<S> {
 
     /// Opens the warehouse of a connection. A refusal hands the connection back.
     pub fn open(alloc: Global, conn: Connection<S>) -> Result<Engine<S>, (OpenFault, Connection<S>)>
-        ensures clean { IfOk result (λ engine. HasCleanDisk (state_of S.Store engine.tables) → HasCleanDisk (state S.Store conn)) }
-        ensures clean_left { IfErr result (λ e. HasCleanDisk (state S.Store e.1) → HasCleanDisk (state S.Store conn)) }
-        ensures ready { IfOk result (λ engine. WhenAdmitted (state S.Store conn) (state_of S.Store engine.tables) (λ limits commands. IsReady limits commands engine.session)) }
-        ensures refused { IfErr result (λ e. WhenAdmitted (state S.Store conn) (state S.Store e.1) (λ limits commands. IsNotOpened limits commands e.0)) }
+        ensures clean { IfOpened S.Store conn result (λ old new _. HasCleanDisk new → HasCleanDisk old) }
+        ensures clean_left { IfHandedBack S.Store conn result (λ old new _. HasCleanDisk new → HasCleanDisk old) }
+        ensures ready { IfOpened S.Store conn result (λ old new engine. WhenAdmitted old new (λ limits commands. IsReady limits commands engine.session)) }
+        ensures refused { IfHandedBack S.Store conn result (λ old new why. WhenAdmitted old new (λ limits commands. IsNotOpened limits commands why)) }
         // The same of any ten tables, whoever wrote their rows, as far as all of these are of their types.
-        ensures found { IfOk result (λ engine. SaysAtRest (state S.Store conn) (state_of S.Store engine.tables) (λ t. (opened t ≡ Ok engine.session) × IsAtRest (Some t) (state_of S.Store engine.tables))) }
-        ensures fault { IfErr result (λ e. SaysAtRest (state S.Store conn) (state S.Store e.1) (λ t. IsRead (Err e.0) (opened t) t (state S.Store e.1))) }
+        ensures found { IfOpened S.Store conn result (λ old new engine. SaysAtRest old new (λ t. (opened t ≡ Ok engine.session) × IsAtRest (Some t) new)) }
+        ensures fault { IfHandedBack S.Store conn result (λ old new why. SaysAtRest old new (λ t. IsRead (Err why) (opened t) t new)) }
         // The same of any rows that are stored under the schema of a making: a damaged row that isn't asked for keeps nothing from opening.
-        ensures found_stored { IfOk result (λ engine. SaysAsStored (state S.Store conn) (state_of S.Store engine.tables) (λ stored. FormatIs One (is_two stored.format) stored (Ok engine.tables.format) × SessionIs stored engine.session × RestsOn stored (state_of S.Store engine.tables))) }
-        ensures fault_stored { IfErr result (λ e. SaysAsStored (state S.Store conn) (state S.Store e.1) (λ stored. IsUnopened stored e.0 × LeavesStored stored (state S.Store e.1) × (SparesStore e.0 → RestsOn stored (state S.Store e.1)))) }
+        ensures found_stored { IfOpened S.Store conn result (λ old new engine. SaysAsStored old new (λ stored. FormatIs One (is_two stored.format) stored (Ok engine.tables.format) × SessionIs stored engine.session × RestsOn stored new)) }
+        ensures fault_stored { IfHandedBack S.Store conn result (λ old new why. SaysAsStored old new (λ stored. IsUnopened stored why × LeavesStored stored new × (SparesStore why → RestsOn stored new))) }
         // No other format is known.
         ensures first { IfOk result (λ engine. engine.tables.format ≡ One) }
         ensures fresh { IfOk result (λ engine. (engine.session.must_reopen ≡ false) × (engine.writes ≡ 0)) }

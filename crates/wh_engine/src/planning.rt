@@ -1,12 +1,8 @@
 //! What a command would write.
 
-ghost use Rattle.std.specs.Prelude.{List, IfOk};
-ghost use Rattle.sqlite.specs.State.{HasCleanDisk};
-ghost use Rattle.wh_history.specs.Accepted.{Accepted};
-ghost use Rattle.wh_history.specs.Tables.{Limits as LimitCounts};
-ghost use Rattle.wh_store.specs.Reads.{state_of};
-ghost use Rattle.wh_engine.specs.Answered.{IsReady, IsForeseen, IsForetold, IsPlannedAgain};
-ghost use Rattle.wh_engine.specs.Scanned.{EngineReads, Reads, WhenReady, WhenStored};
+ghost use Rattle.std.specs.Prelude.{IfOk};
+ghost use Rattle.wh_engine.specs.Answered.{IsForeseen, IsForetold, IsPlannedAgain};
+ghost use Rattle.wh_engine.specs.Scanned.{EngineReads, Reads, WhenReady, WhenReadyOn, WhenStored};
 
 use crate::decision::{Decision, decide};
 use crate::engine::Engine;
@@ -26,8 +22,7 @@ fn foretell<S: Alter>(
     command: &Command,
 ) -> Result<Edits, Fault>
     ensures reads { Reads S.Store tables.old tables.new result }
-    ensures foretold { HasCleanDisk (state_of S.Store tables.new) → (limits : LimitCounts) (commands : List Accepted) → IsReady limits commands session.now (state_of S.Store tables.old)
-        → IsForeseen limits commands command.now result session.now (state_of S.Store tables.new) }
+    ensures foretold { WhenReadyOn S.Store tables.old tables.new session.now session.now (λ limits commands. IsForeseen limits commands command.now result) }
     ensures again { WhenStored S.Store tables.old tables.new (λ stored. IfOk result (IsPlannedAgain stored command.now)) }
 {
     match decide(tables, alloc, session, command) {

@@ -1,14 +1,12 @@
 //! From one run to the next.
 
-ghost use Rattle.std.specs.Prelude.{◌≡◌, ◌⊎◌, ◌++◌, false, List, IfOk, IfErr, ⊤};
-ghost use Rattle.sqlite.specs.Files.{file_state};
+ghost use Rattle.std.specs.Prelude.{◌≡◌, ◌++◌, false, IfOk, IfErr, ⊤};
+ghost use Rattle.sqlite.specs.Files.{file_state, over_files};
 ghost use Rattle.sqlite.specs.State.{HasCleanDisk};
-ghost use Rattle.wh_history.specs.Accepted.{Accepted};
-ghost use Rattle.wh_history.specs.Tables.{Limits as LimitCounts};
-ghost use Rattle.wh_engine.specs.Answered.{LeavesOneOf, IsReady};
+ghost use Rattle.wh_engine.specs.Answered.{LeavesOneOf};
 ghost use Rattle.wh_engine.specs.Redelivered.{IsRedelivered, IsDeliveredAgain};
-ghost use Rattle.wh_engine.specs.Reopened.{IsNotReady, IsNotReadyOn, IsNotDeliveredAgain};
-ghost use Rattle.wh_admission.specs.Admission.{AreAdmitted, accepted_after};
+ghost use Rattle.wh_engine.specs.Reopened.{WhereReady, OfAnyTwo, IsReadyForEither, IsNotReady, IsNotReadyOn, IsNotDeliveredAgain};
+ghost use Rattle.wh_admission.specs.Admission.{accepted_after};
 ghost use Rattle.wh_engine.specs.Delivered.{AreAsMany, IsNoRefusal};
 ghost use Rattle.wh_rows.specs.Raw.{Stored, LeavesStored};
 
@@ -38,11 +36,10 @@ pub fn restart<D: Crash + Drop>(
     options: Options,
 ) -> Result<Engine<FileStore<D>>, NotReopened<D>>
     ensures clean { IfOk result (λ again. HasCleanDisk (file_state again.tables.conn) → HasCleanDisk (file_state engine.tables.conn)) }
-    ensures ready { (limits : LimitCounts) (before after : List Accepted) → AreAdmitted limits before → AreAdmitted limits after → LeavesOneOf limits before after (file_state engine.tables.conn)
-        → IfOk result (λ again. HasCleanDisk (file_state again.tables.conn) → ∥ IsReady limits before again.session (file_state again.tables.conn) ⊎ IsReady limits after again.session (file_state again.tables.conn) ∥₁) }
-    ensures refused { (limits : LimitCounts) (before after : List Accepted) → AreAdmitted limits before → AreAdmitted limits after
-        → (HasCleanDisk (file_state engine.tables.conn) → LeavesOneOf limits before after (file_state engine.tables.conn))
-        → IfErr result (IsNotReady limits before after (HasCleanDisk (file_state engine.tables.conn))) }
+    ensures ready { OfAnyTwo (λ limits before after. LeavesOneOf limits before after (file_state engine.tables.conn)
+        → IfOk result (IsReadyForEither over_files limits before after)) }
+    ensures refused { OfAnyTwo (λ limits before after. (HasCleanDisk (file_state engine.tables.conn) → LeavesOneOf limits before after (file_state engine.tables.conn))
+        → IfErr result (IsNotReady limits before after (HasCleanDisk (file_state engine.tables.conn)))) }
     // The same of any rows, whoever wrote them.
     ensures refused_stored { (stored : Stored) → LeavesStored stored (file_state engine.tables.conn) → IfErr result (IsNotReadyOn stored) }
     ensures fresh { IfOk result (λ again. (again.session.must_reopen ≡ false) × (again.writes ≡ 0)) }
@@ -66,10 +63,8 @@ pub fn redeliver<D: Crash + Drop>(
     command: &Command,
     options: Options,
 ) -> Result<(Result<Reply, Fault>, Engine<FileStore<D>>), NotReopened<D>>
-    ensures redelivered { (limits : LimitCounts) (commands : List Accepted) → IsReady limits commands engine.session (file_state engine.tables.conn)
-        → IfOk result (λ it. HasCleanDisk (file_state it.1.tables.conn) → ∥ IsRedelivered limits commands command.now it.0 it.1.session (file_state it.1.tables.conn) ∥₁) }
-    ensures refused { (limits : LimitCounts) (commands : List Accepted) → IsReady limits commands engine.session (file_state engine.tables.conn)
-        → IfErr result (IsNotReady limits commands (accepted_after limits commands command.now) ⊤) }
+    ensures redelivered { WhereReady over_files engine (λ limits commands. IfOk result (λ it. HasCleanDisk (file_state it.1.tables.conn) → ∥ IsRedelivered limits commands command.now it.0 it.1.session (file_state it.1.tables.conn) ∥₁)) }
+    ensures refused { WhereReady over_files engine (λ limits commands. IfErr result (IsNotReady limits commands (accepted_after limits commands command.now) ⊤)) }
 {
     let _ = engine.apply(alloc, command);
     let mut again = match restart(alloc, engine, options) {
@@ -90,11 +85,9 @@ pub fn deliver_again<D: Crash + Drop>(
     commands: &[Command],
     options: Options,
 ) -> Result<(Replies, Replies, Engine<FileStore<D>>), (Replies, NotReopened<D>)>
-    ensures delivered { (limits : LimitCounts) (accepted : List Accepted) → IsReady limits accepted engine.session (file_state engine.tables.conn)
-        → IfOk result (λ it. HasCleanDisk (file_state it.2.tables.conn)
-        → ∥ IsDeliveredAgain limits accepted commands.now (it.0.answers.items ++ it.1.answers.items) it.1.stop it.2.session (file_state it.2.tables.conn) ∥₁) }
-    ensures refused { (limits : LimitCounts) (accepted : List Accepted) → IsReady limits accepted engine.session (file_state engine.tables.conn)
-        → IfErr result (λ e. IsNotDeliveredAgain limits accepted commands.now e.0.answers.items e.1) }
+    ensures delivered { WhereReady over_files engine (λ limits accepted. IfOk result (λ it. HasCleanDisk (file_state it.2.tables.conn)
+        → ∥ IsDeliveredAgain limits accepted commands.now (it.0.answers.items ++ it.1.answers.items) it.1.stop it.2.session (file_state it.2.tables.conn) ∥₁)) }
+    ensures refused { WhereReady over_files engine (λ limits accepted. IfErr result (λ e. IsNotDeliveredAgain limits accepted commands.now e.0.answers.items e.1)) }
     ensures many { IfErr result (λ e. AreAsMany commands.now e.0.answers.items e.0.stop) }
     ensures faults { IfErr result (λ e. IsNoRefusal e.0.stop) }
 {

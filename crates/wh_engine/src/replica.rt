@@ -8,7 +8,7 @@ ghost use Rattle.wh_history.specs.Tables.{Limits as LimitCounts};
 ghost use Rattle.wh_rows.specs.Rows as row;
 ghost use Rattle.wh_rows.specs.declared.table.Table.TheVariants.{Command as OfCommand};
 ghost use Rattle.wh_sql.specs.Reads.{IsOfDamage};
-ghost use Rattle.wh_store.specs.Reads.{ReadsOnly, state_of, SaysAsStored};
+ghost use Rattle.wh_engine.specs.Scanned.{ReadsOnlyIn, WhenStored};
 ghost use Rattle.wh_engine.specs.Replica.{is_making_row, IsOpenFor, IsReplica, IsFollowed, IsMadeOrNot, IsReplicated, IsEndOf};
 
 use crate::engine::Engine;
@@ -142,9 +142,9 @@ pub(crate) fn make_replica<S: Alter>(
     alloc: Global,
     limits: Limits,
 ) -> Result<Option<Tables<Scratch>>, ReadFault>
-    ensures reads { ReadsOnly (state_of S.Store tables.old) (state_of S.Store tables.new) result }
-    ensures replicated { SaysAsStored (state_of S.Store tables.old) (state_of S.Store tables.new) (λ stored. IfOk result (IsReplicated over_files stored limits)) }
-    ensures damaged { SaysAsStored (state_of S.Store tables.old) (state_of S.Store tables.new) (λ stored. IfErr result (IsOfDamage row.command OfCommand (stored.rows OfCommand))) }
+    ensures reads { ReadsOnlyIn S.Store tables.old tables.new result }
+    ensures replicated { WhenStored S.Store tables.old tables.new (λ stored. IfOk result (IsReplicated over_files stored limits)) }
+    ensures damaged { WhenStored S.Store tables.old tables.new (λ stored. IfErr result (IsOfDamage row.command OfCommand (stored.rows OfCommand))) }
 {
     // Each is from 1 to its greatest, as these calls say.
     let _each = (limits.commands(), limits.changes(), limits.facts());

@@ -1,17 +1,16 @@
 //! The rows of a warehouse's table, one at a time.
 
-ghost use Rattle.std.specs.Prelude.{◌≡◌, ◌||◌, List, false, Ok, None, IsTrue, IfOk, IfErr, OnErr, MatchResult};
+ghost use Rattle.std.specs.Prelude.{◌≡◌, ◌||◌, List, false, IsTrue, IfOk, IfErr, MatchResult};
 ghost use Rattle.std.specs.Borrow.{sem, RestsIfErr};
 ghost use Rattle.std.specs.FinMap.{values};
 ghost use Rattle.sqlite.specs.Order.{Row as Columns};
 ghost use Rattle.wh_rows.specs.Parts.{IsArranged};
 ghost use Rattle.wh_rows.specs.Raw.{Stored};
 ghost use Rattle.wh_rows.specs.Tables.{Tables as TenTables};
-ghost use Rattle.wh_store.specs.Reads.{state_of};
-ghost use Rattle.wh_store.specs.Scan.{rows_left, IsOver, AreLeft};
+ghost use Rattle.wh_store.specs.Scan.{rows_left, AreLeft};
 ghost use Rattle.wh_engine.specs.Faults.{IsWorkedOut};
-ghost use Rattle.wh_engine.specs.Handed.{HandsNext};
-ghost use Rattle.wh_engine.specs.Scanned.{EngineReads, IsServing, IsWanting, Reads, ReadsThrough, WhenAtRest, WhenReady};
+ghost use Rattle.wh_engine.specs.Handed.{HandsNext, Ends};
+ghost use Rattle.wh_engine.specs.Scanned.{EngineReads, EngineReadsThrough, IsServing, IsWanting, Reads, WhenAtRest, WhenReady};
 
 use crate::engine::Engine;
 use crate::fault::{Fault, stops};
@@ -30,8 +29,7 @@ fn row_after<T: PagedTable, S: Alter>(
     // The row is the next of the table's, and of its type, whoever wrote it.
     ensures hands { HandsNext S.Store T.KeyedTable.name T.StoredTable.layout T.KeyedTable.bind T.StoredTable.rows tables.old tables.new cursor.old cursor.new result }
     ensures sound { WhenAtRest S.Store tables.old tables.new (λ _. IfErr result IsWanting) }
-    ensures ended { OnErr result (IsOver cursor.new) }
-    ensures over { IsOver cursor.old → (result ≡ Ok None) × (tables.new ≡ tables.old) × IsOver cursor.new }
+    ensures ends { Ends tables.old tables.new cursor.old cursor.new result }
 {
     let found = next_row::<T, S>(tables, alloc, cursor)?;
     Ok(found)
@@ -58,11 +56,10 @@ impl<'e, S: Alter, T: PagedTable> Scan<'e, S, T> {
     /// The next row. After a fault none comes; after a refusal of the store the engine has to be opened again.
     pub fn next_row(&mut self, alloc: Global) -> Result<Option<T::Row>, Fault>
         ensures same_reference { self.new.engine.ghost_name ≡ self.old.engine.ghost_name }
-        ensures reads { ReadsThrough self.old.engine.now.session self.new.engine.now.session (state_of S.Store self.old.engine.now.tables) (state_of S.Store self.new.engine.now.tables) result }
+        ensures reads { EngineReadsThrough S.Store self.old.engine.now self.new.engine.now result }
         // The row is the next of the table's, and of its type, whoever wrote it.
         ensures hands { HandsNext S.Store T.KeyedTable.name T.StoredTable.layout T.KeyedTable.bind T.StoredTable.rows self.old.engine.now.tables self.new.engine.now.tables self.old.cursor self.new.cursor result }
-        ensures ended { OnErr result (IsOver self.new.cursor) }
-        ensures over { IsOver self.old.cursor → (result ≡ Ok None) × (self.new.engine.now.tables ≡ self.old.engine.now.tables) × IsOver self.new.cursor }
+        ensures ends { Ends self.old.engine.now.tables self.new.engine.now.tables self.old.cursor self.new.cursor result }
         ensures writes { self.new.engine.now.writes ≡ self.old.engine.now.writes }
         ensures work { IsWorkedOut result }
     {
@@ -79,11 +76,10 @@ impl<S: Alter> Engine<S> {
         alloc: Global,
         cursor: &mut Cursor<T::Key, T::Row>,
     ) -> Result<Option<T::Row>, Fault>
-        ensures reads { ReadsThrough self.old.session self.new.session (state_of S.Store self.old.tables) (state_of S.Store self.new.tables) result }
+        ensures reads { EngineReadsThrough S.Store self.old self.new result }
         // The row is the next of the table's, and of its type, whoever wrote it.
         ensures hands { HandsNext S.Store T.KeyedTable.name T.StoredTable.layout T.KeyedTable.bind T.StoredTable.rows self.old.tables self.new.tables cursor.old cursor.new result }
-        ensures ended { OnErr result (IsOver cursor.new) }
-        ensures over { IsOver cursor.old → (result ≡ Ok None) × (self.new.tables ≡ self.old.tables) × IsOver cursor.new }
+        ensures ends { Ends self.old.tables self.new.tables cursor.old cursor.new result }
         ensures writes { self.new.writes ≡ self.old.writes }
         ensures work { IsWorkedOut result }
     {
@@ -105,8 +101,7 @@ impl<S: Alter> Engine<S> {
         // The row is the next of the table's, and of its type, whoever wrote it.
         ensures hands { HandsNext S.Store T.KeyedTable.name T.StoredTable.layout T.KeyedTable.bind T.StoredTable.rows self.old.tables self.new.tables cursor.old cursor.new result }
         ensures unread { IsTrue self.old.session.must_reopen → cursor.new ≡ cursor.old }
-        ensures ended { self.old.session.must_reopen ≡ false → OnErr result (IsOver cursor.new) }
-        ensures over { self.old.session.must_reopen ≡ false → IsOver cursor.old → (result ≡ Ok None) × (self.new.tables ≡ self.old.tables) × IsOver cursor.new }
+        ensures ends { self.old.session.must_reopen ≡ false → Ends self.old.tables self.new.tables cursor.old cursor.new result }
     {
         if !self.session.must_reopen {
             return self.advance::<T>(alloc, cursor);

@@ -1,11 +1,8 @@
 //! Counting all facts of a warehouse, in whatever order they are stored.
 
-ghost use Rattle.std.specs.Prelude.{◌≡◌, [], IsTrue, IfOk, IfErr};
-ghost use Rattle.std.specs.FinMap.{values};
-ghost use Rattle.wh_rows.specs.declared.table.Table.TheVariants.{Fact};
-ghost use Rattle.wh_sql.specs.Tally.{HasCounted, HasCountedStored};
-ghost use Rattle.wh_engine.specs.Faults.{NamesTable};
-ghost use Rattle.wh_engine.specs.Scanned.{EngineReads, IsServing, IsWanting, Reads, WhenAtRest, WhenReady, WhenStored};
+ghost use Rattle.std.specs.Prelude.{◌≡◌, [], IsTrue, IfErr};
+ghost use Rattle.wh_engine.specs.Scanned.{EngineReads, IsServing, IsWanting, Reads, WhenAtRest, WhenReady};
+ghost use Rattle.wh_engine.specs.Tallied.{Tallies};
 
 use crate::engine::Engine;
 use crate::fault::{Fault, stops};
@@ -21,9 +18,7 @@ fn tally_facts<C: FactAggregate, S: Alter>(
 ) -> Result<(), Fault>
     requires { C.counts tally.old [] tally.old }
     ensures reads { Reads S.Store tables.old tables.new result }
-    ensures counted { WhenAtRest S.Store tables.old tables.new (λ t. IfOk result (λ _. HasCounted C.counts which tally.old tally.new (values t.fact))) }
-    ensures stored { WhenStored S.Store tables.old tables.new (λ stored. IfOk result (λ _. HasCountedStored C.counts which tally.old tally.new (stored.rows Fact))) }
-    ensures named { WhenStored S.Store tables.old tables.new (λ _. IfErr result (NamesTable Fact)) }
+    ensures tallies { Tallies S.Store C.counts which tally.old tally.new tables.old tables.new result }
     ensures sound { WhenAtRest S.Store tables.old tables.new (λ _. IfErr result IsWanting) }
 {
     tables.tally_facts(which, tally)?;
@@ -41,10 +36,8 @@ impl<S: Alter> Engine<S> {
         requires { C.counts tally.old [] tally.old }
         ensures reads { EngineReads S.Store self.old self.new result }
         ensures serves { WhenReady S.Store self.old self.new (λ limits commands. IsServing limits commands result) }
-        ensures counted { WhenAtRest S.Store self.old.tables self.new.tables (λ t. IfOk result (λ _. HasCounted C.counts which tally.old tally.new (values t.fact))) }
-        // The same of any rows, whoever wrote them, by the columns that are read of them.
-        ensures stored { WhenStored S.Store self.old.tables self.new.tables (λ stored. IfOk result (λ _. HasCountedStored C.counts which tally.old tally.new (stored.rows Fact))) }
-        ensures named { WhenStored S.Store self.old.tables self.new.tables (λ _. IfErr result (NamesTable Fact)) }
+        // Each fact is counted, whoever wrote it.
+        ensures tallies { Tallies S.Store C.counts which tally.old tally.new self.old.tables self.new.tables result }
         ensures unread { IsTrue self.old.session.must_reopen → tally.new ≡ tally.old }
     {
         if self.session.must_reopen {

@@ -1,14 +1,11 @@
 //! Writing the edits of a command, inside a transaction.
 
-ghost use Rattle.std.specs.Prelude.{◌≡◌, ◌⊎◌, ◌+◌, length, map, Some, OnOk, IfOk, ⊤};
-ghost use Rattle.std.specs.List.{AllByRecursion};
-ghost use Rattle.sqlite.specs.State.{HasCleanDisk};
+ghost use Rattle.std.specs.Prelude.{◌≡◌, ◌+◌, length, map, Some, OnOk, IfOk, ⊤};
 ghost use Rattle.wh_history.specs.declared.plan.Edit.TheVariants.{Put};
-ghost use Rattle.wh_rows.specs.AtRest.{AreTrees, IsAtRest};
-ghost use Rattle.wh_rows.specs.Steps.{after_all};
+ghost use Rattle.wh_rows.specs.AtRest.{IsAtRest};
 ghost use Rattle.wh_store.specs.Reads.{state_of};
-ghost use Rattle.wh_engine.specs.Scanned.{WhenAtRest};
-ghost use Rattle.wh_store.specs.Writes.{WritesOnly, Makes};
+ghost use Rattle.wh_engine.specs.Scanned.{WasClean, WhenAtRest};
+ghost use Rattle.wh_engine.specs.Writing.{WritesIn, MakesIn, AreValidFactEdits, with_fact_edits, LeavesEither};
 ghost use Rattle.wh_plan.specs.Edits.{with_commands, with_dimensions, with_facts, with_fact_edit, with_all_edits, count_commands, count_dimensions, count_facts, edit_count};
 ghost use Rattle.wh_plan.specs.declared.edits.FactEdit.TheVariants.{Row};
 ghost use Rattle.wh_plan.specs.Writable.{AreValidCommands, AreValidDimensions, AreValidFacts, IsValidFactEdit, MayBeWritten};
@@ -27,8 +24,8 @@ fn edit_commands<S: Alter>(
     edits: &Edits,
 ) -> Result<(), Cause>
     ensures same_reference { writing.new.tables.ghost_name ≡ writing.old.tables.ghost_name }
-    ensures writes { WritesOnly (state_of S.Store writing.old.tables.now) (state_of S.Store writing.new.tables.now) (AreValidCommands edits.now) }
-    ensures edited { Makes (state_of S.Store writing.old.tables.now) (state_of S.Store writing.new.tables.now) result (AreValidCommands edits.now) (with_commands edits.now) }
+    ensures writes { WritesIn S.Store writing.old writing.new (AreValidCommands edits.now) }
+    ensures edited { MakesIn S.Store writing.old writing.new result (AreValidCommands edits.now) (with_commands edits.now) }
     ensures counted { OnOk result (writing.new.writes ≡ writing.old.writes + count_commands edits.now) }
 {
     writing.edit_all::<tables::Command>(alloc, &edits.commands)?;
@@ -43,8 +40,8 @@ fn edit_dimensions<S: Alter>(
     edits: &Edits,
 ) -> Result<(), Cause>
     ensures same_reference { writing.new.tables.ghost_name ≡ writing.old.tables.ghost_name }
-    ensures writes { WritesOnly (state_of S.Store writing.old.tables.now) (state_of S.Store writing.new.tables.now) (AreValidDimensions edits.now) }
-    ensures edited { Makes (state_of S.Store writing.old.tables.now) (state_of S.Store writing.new.tables.now) result (AreValidDimensions edits.now) (with_dimensions edits.now) }
+    ensures writes { WritesIn S.Store writing.old writing.new (AreValidDimensions edits.now) }
+    ensures edited { MakesIn S.Store writing.old writing.new result (AreValidDimensions edits.now) (with_dimensions edits.now) }
     ensures counted { OnOk result (writing.new.writes ≡ writing.old.writes + count_dimensions edits.now) }
 {
     writing.edit_all::<tables::Product>(alloc, &edits.products)?;
@@ -59,8 +56,8 @@ fn edit_fact<S: Alter>(
     edit: &FactEdit,
 ) -> Result<(), Cause>
     ensures same_reference { writing.new.tables.ghost_name ≡ writing.old.tables.ghost_name }
-    ensures writes { WritesOnly (state_of S.Store writing.old.tables.now) (state_of S.Store writing.new.tables.now) ⊤ }
-    ensures edited { Makes (state_of S.Store writing.old.tables.now) (state_of S.Store writing.new.tables.now) result (IsValidFactEdit edit.now) (λ made. record made { fact = with_fact_edit edit.now made.fact }) }
+    ensures writes { WritesIn S.Store writing.old writing.new ⊤ }
+    ensures edited { MakesIn S.Store writing.old writing.new result (IsValidFactEdit edit.now) (λ made. record made { fact = with_fact_edit edit.now made.fact }) }
     ensures counted { OnOk result (writing.new.writes ≡ writing.old.writes + 1) }
 {
     match edit {
@@ -76,8 +73,8 @@ fn edit_each_fact<S: Alter>(
     edits: &[FactEdit],
 ) -> Result<(), Cause>
     ensures same_reference { writing.new.tables.ghost_name ≡ writing.old.tables.ghost_name }
-    ensures writes { WritesOnly (state_of S.Store writing.old.tables.now) (state_of S.Store writing.new.tables.now) (AllByRecursion IsValidFactEdit edits.now) }
-    ensures edited { Makes (state_of S.Store writing.old.tables.now) (state_of S.Store writing.new.tables.now) result (AllByRecursion IsValidFactEdit edits.now) (λ made. record made { fact = after_all with_fact_edit edits.now made.fact }) }
+    ensures writes { WritesIn S.Store writing.old writing.new (AreValidFactEdits edits.now) }
+    ensures edited { MakesIn S.Store writing.old writing.new result (AreValidFactEdits edits.now) (with_fact_edits edits.now) }
     ensures counted { OnOk result (writing.new.writes ≡ writing.old.writes + length edits.now) }
 {
     for edit in edits {
@@ -107,8 +104,8 @@ fn edit_facts_at_once<S: Alter>(
     edits: &[FactEdit],
 ) -> Result<(), Cause>
     ensures same_reference { writing.new.tables.ghost_name ≡ writing.old.tables.ghost_name }
-    ensures writes { WritesOnly (state_of S.Store writing.old.tables.now) (state_of S.Store writing.new.tables.now) (AllByRecursion IsValidFactEdit edits.now) }
-    ensures edited { Makes (state_of S.Store writing.old.tables.now) (state_of S.Store writing.new.tables.now) result (AllByRecursion IsValidFactEdit edits.now) (λ made. record made { fact = after_all with_fact_edit edits.now made.fact }) }
+    ensures writes { WritesIn S.Store writing.old writing.new (AreValidFactEdits edits.now) }
+    ensures edited { MakesIn S.Store writing.old writing.new result (AreValidFactEdits edits.now) (with_fact_edits edits.now) }
     ensures counted { OnOk result (writing.new.writes ≡ writing.old.writes + length edits.now) }
 {
     let Ok(Some(facts)) = facts_put(alloc, edits) else {
@@ -127,8 +124,8 @@ fn edit_all_facts<S: Alter>(
     edits: &[FactEdit],
 ) -> Result<(), Cause>
     ensures same_reference { writing.new.tables.ghost_name ≡ writing.old.tables.ghost_name }
-    ensures writes { WritesOnly (state_of S.Store writing.old.tables.now) (state_of S.Store writing.new.tables.now) (AllByRecursion IsValidFactEdit edits.now) }
-    ensures edited { Makes (state_of S.Store writing.old.tables.now) (state_of S.Store writing.new.tables.now) result (AllByRecursion IsValidFactEdit edits.now) (λ made. record made { fact = after_all with_fact_edit edits.now made.fact }) }
+    ensures writes { WritesIn S.Store writing.old writing.new (AreValidFactEdits edits.now) }
+    ensures edited { MakesIn S.Store writing.old writing.new result (AreValidFactEdits edits.now) (with_fact_edits edits.now) }
     ensures counted { OnOk result (writing.new.writes ≡ writing.old.writes + length edits.now) }
 {
     for part in edits.chunks(FACTS_AT_ONCE) {
@@ -144,8 +141,8 @@ fn edit_facts<S: Alter>(
     edits: &Edits,
 ) -> Result<(), Cause>
     ensures same_reference { writing.new.tables.ghost_name ≡ writing.old.tables.ghost_name }
-    ensures writes { WritesOnly (state_of S.Store writing.old.tables.now) (state_of S.Store writing.new.tables.now) (AreValidFacts edits.now) }
-    ensures edited { Makes (state_of S.Store writing.old.tables.now) (state_of S.Store writing.new.tables.now) result (AreValidFacts edits.now) (with_facts edits.now) }
+    ensures writes { WritesIn S.Store writing.old writing.new (AreValidFacts edits.now) }
+    ensures edited { MakesIn S.Store writing.old writing.new result (AreValidFacts edits.now) (with_facts edits.now) }
     ensures counted { OnOk result (writing.new.writes ≡ writing.old.writes + count_facts edits.now) }
 {
     writing.edit_all::<tables::Profile>(alloc, &edits.profiles)?;
@@ -160,8 +157,8 @@ pub fn write_edits<S: Alter>(
     edits: &Edits,
 ) -> Result<(), Cause>
     ensures same_reference { writing.new.tables.ghost_name ≡ writing.old.tables.ghost_name }
-    ensures writes { WritesOnly (state_of S.Store writing.old.tables.now) (state_of S.Store writing.new.tables.now) (MayBeWritten edits.now) }
-    ensures written { Makes (state_of S.Store writing.old.tables.now) (state_of S.Store writing.new.tables.now) result (MayBeWritten edits.now) (with_all_edits edits.now) }
+    ensures writes { WritesIn S.Store writing.old writing.new (MayBeWritten edits.now) }
+    ensures written { MakesIn S.Store writing.old writing.new result (MayBeWritten edits.now) (with_all_edits edits.now) }
     ensures counted { OnOk result (writing.new.writes ≡ writing.old.writes + edit_count edits.now) }
 {
     edit_commands(writing, alloc, edits)?;
@@ -175,9 +172,9 @@ pub(crate) fn commit_edits<S: Alter>(
     alloc: Global,
     edits: &Edits,
 ) -> Result<u64, Cause>
-    ensures clean { HasCleanDisk (state_of S.Store tables.new) → HasCleanDisk (state_of S.Store tables.old) }
+    ensures clean { WasClean S.Store tables.old tables.new }
     ensures written { WhenAtRest S.Store tables.old tables.new (λ t. MayBeWritten edits.now → OnOk result (IsAtRest (Some (with_all_edits edits.now t)) (state_of S.Store tables.new))) }
-    ensures left { WhenAtRest S.Store tables.old tables.new (λ t. MayBeWritten edits.now → (trees : _) → (state_of S.Store tables.new).may_leave trees → AreTrees (Some t) trees ⊎ AreTrees (Some (with_all_edits edits.now t)) trees) }
+    ensures left { WhenAtRest S.Store tables.old tables.new (λ t. MayBeWritten edits.now → LeavesEither t (with_all_edits edits.now t) (state_of S.Store tables.new)) }
     ensures counted { IfOk result (λ writes. writes ≡ edit_count edits.now) }
 {
     let mut writing = tables.begin()?;

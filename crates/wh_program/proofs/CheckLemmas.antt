@@ -15,6 +15,7 @@ use Rattle.wh_store.specs.declared.fault.OpenFault.{OpenFault}
 use Rattle.wh_store.specs.declared.fault.OpenFault.TheVariants as opening
 use Rattle.wh_admission.specs.Admission.{AreAdmitted}
 use Rattle.wh_check.specs.declared.verdict.Verdict.{Verdict}
+use Rattle.wh_check.specs.declared.verdict.Verdict.TheVariants.{Clean}
 use Rattle.wh_engine.specs.Answered as engine
 use Rattle.wh_engine.specs.Answered.{IsReady}
 use Rattle.wh_engine.specs.Checked.{IsChecked, IsCheckedOf}
@@ -27,21 +28,15 @@ use Rattle.wh_program.specs.Check.{IsFoundClean, IsVerdictOn, Checks}
 use Rattle.wh_program.specs.Reply.{opening_answer, verdict_answer}
 use Rattle.wh_program.specs.Standing.{DatabaseContent, Nothing, Holds, Keeps, Standing, Rests, LeftAt, IsAt, Stands}
 use Rattle.wh_program.specs.Warehouse.{Told, IsOpenedBy}
-use Rattle.wh_program.proofs.WarehouseLemmas.{opened, unopened, opened_by, unread}
+use Rattle.wh_program.proofs.WarehouseLemmas.{left, opened, unopened, opened_by, unread}
 
 -- of accepted commands
 found_clean : (limits : Limits) (commands : List Accepted) (told : Told) (verdict : Result Verdict Fault) (session : Session) (s : State)
     → IfOk told (λ a. a ≡ verdict_answer verdict) → IsCheckedOf limits commands verdict session s
     → (after : Standing) × IsFoundClean limits commands told after × Stands after s
-found_clean limits commands told (Ok verdict) session s tells (is, ready) =
-    (Rests (Holds limits commands), record { verdict = Ok verdict; leaves = (is, refl); tells = tells }, (ready.admitted, ready.rests))
-found_clean limits commands told (Err (fault.Refused why)) session s tells none = absurd none
-found_clean limits commands told (Err (fault.Damaged table)) session s tells none = absurd none
-found_clean limits commands told (Err fault.Memory) session s tells ready =
-    (Rests (Holds limits commands), record { verdict = Err fault.Memory; leaves = refl; tells = tells }, (ready.admitted, ready.rests))
-found_clean limits commands told (Err (fault.Store cause)) session s tells stopped =
-    (LeftAt (Holds limits commands) (Holds limits commands), record { verdict = Err (fault.Store cause); leaves = refl; tells = tells }, record { each = stopped.left.each })
-found_clean limits commands told (Err fault.Reopen) session s tells none = absurd none
+found_clean limits commands told verdict session s tells is =
+    let l = left (λ told. told ≡ Ok Clean) commands commands limits verdict session s is in
+    (l.0, record { verdict = verdict; leaves = l.1; tells = tells }, l.2)
 
 -- of rows that anybody wrote
 judged : (stored : Stored) (told : Told) (verdict : Result Verdict Fault) (s : State)

@@ -1,6 +1,6 @@
 -- What reports and dumps answer, and what they leave of what stood.
 use Rattle.std.proofs.Common.{◌≡◌, ◌∙◌, inl, refl, sym, ap, subst, ℕ, List, [], ◌∷◌, ◌++◌, Bool, true, false, Option, Some, None, Ok, Err}
-use Rattle.std.specs.Prelude.{Result, IfOk, not, nat_lt, ok_or}
+use Rattle.std.specs.Prelude.{Result, IfOk, IsOk, not, nat_lt, ok_or}
 use Rattle.std.specs.declared.alloc.AllocError.{AllocError}
 use Rattle.std.specs.declared.alloc.Global.{Global}
 use Rattle.std.specs.declared.vec.Vec.{Vec}
@@ -38,22 +38,18 @@ use Rattle.wh_program.specs.Answer.{done, refused}
 use Rattle.wh_program.specs.Reply.{request_line, report_answer}
 use Rattle.wh_program.specs.Readings.{LeavesRead, asked_under, asked_answer, IsReported, answer_after, TellsText, SaysStop}
 use Rattle.wh_program.specs.Run.{Prints}
-use Rattle.wh_program.specs.Standing.{DatabaseContent, Nothing, Holds, Keeps, IsOfCommands, Standing, Unknown, Rests, LeftAt, IsAt, Stands}
+use Rattle.wh_program.specs.Standing.{DatabaseContent, Nothing, Holds, Keeps, IsOfCommands, Standing, Unknown, Rests, IsAt, Stands}
 use Rattle.wh_program.specs.Task.{ReportWords}
 use Rattle.wh_program.specs.Warehouse.{Told, printed, Opens}
 use Rattle.wh_program.proofs.RunLemmas.{prints-answer_after, prints-cut}
+use Rattle.wh_program.proofs.WarehouseLemmas.{left as ended}
 
 -- ---- what is left
 
 -- what a call that reads through an engine leaves, as what stands
 pub left : (limits : Limits) (commands : List Accepted) (read : Result (Unit {0}) Fault) (session : Session) (s : State) → IsServing limits commands read session s
     → (after : Standing) × LeavesRead limits commands read after × Stands after s
-left limits commands (Ok read) session s ready = (Rests (Holds limits commands), refl, (ready.admitted, ready.rests))
-left limits commands (Err (fault.Refused why)) session s none = absurd none
-left limits commands (Err (fault.Damaged table)) session s none = absurd none
-left limits commands (Err fault.Memory) session s ready = (Rests (Holds limits commands), refl, (ready.admitted, ready.rests))
-left limits commands (Err (fault.Store cause)) session s stopped = (LeftAt (Holds limits commands) (Holds limits commands), refl, record { each = stopped.left.each })
-left limits commands (Err fault.Reopen) session s none = absurd none
+left limits commands read session s serving = ended IsOk commands commands limits read session s serving
 
 -- a warehouse that is opened, and what is done then and printed
 pub opened-printing : (does : Limits → List Accepted → Told → Standing → Type 0) (prints : Told → Type 0) (content : DatabaseContent) (first : Session) (s0 s1 s2 : State)
@@ -121,12 +117,12 @@ module _ (words : ReportWords) (limits : Limits) (commands : List Accepted) (tol
   pub not_asked : (why : RequestFault) → asked_under (current_policy commands) words ≡ Err why → IfOk told (λ a. a ≡ refused (request_line why)) → IsReady limits commands session s
       → (after : Standing) × IsReported words limits commands told after × Stands after s
   not_asked why is tells ready =
-      (Rests (Holds limits commands), record { read = Ok tt; leaves = refl; tells = IfOk-weaker told _ _ (λ a e. e ∙ sym (ap (asked_answer commands) is)) tells }, (ready.admitted, ready.rests))
+      (Rests (Holds limits commands), record { read = Ok tt; leaves = (refl, refl); tells = IfOk-weaker told _ _ (λ a e. e ∙ sym (ap (asked_answer commands) is)) tells }, (ready.admitted, ready.rests))
 
 -- no memory for what is asked
 pub not_read : (words : ReportWords) (limits : Limits) (commands : List Accepted) (e : AllocError) (session : Session) (s : State) → IsReady limits commands session s
     → (after : Standing) × IsReported words limits commands (Err e) after × Stands after s
-not_read words limits commands e session s ready = (Rests (Holds limits commands), record { read = Ok tt; leaves = refl; tells = tt }, (ready.admitted, ready.rests))
+not_read words limits commands e session s ready = (Rests (Holds limits commands), record { read = Ok tt; leaves = (refl, refl); tells = tt }, (ready.admitted, ready.rests))
 
 -- ---- dump
 

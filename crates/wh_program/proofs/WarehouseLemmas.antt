@@ -16,11 +16,13 @@ use Rattle.wh_sql.specs.Present.{are_all_there, is_any_taken}
 use Rattle.wh_sql.proofs.Worked.{taken_in_a_warehouse, taken_in_none}
 use Rattle.wh_plan.specs.Edits.{Edits}
 use Rattle.wh_model.specs.Sound.{making_of}
-use Rattle.wh_admission.specs.Admission.{accepted_after, AreAdmitted}
+use Rattle.wh_admission.specs.Admission.{answer, accepted_after, AreAdmitted}
 use Rattle.wh_engine.specs.Answered as engine
-use Rattle.wh_engine.specs.Answered.{IsReady, IsAnswered, IsForetold as EngineForetold, IsCounted as EngineCounted}
+use Rattle.wh_engine.specs.Answered.{IsReady, IsLeft, IsAnswered, IsPlanOf, IsForetold as EngineForetold, IsCounted as EngineCounted, counts_of}
+use Rattle.wh_engine.specs.Outcome.{Left, At, Between, Outcome}
 use Rattle.wh_engine.specs.Opened.{SessionIs, IsUnopened as UnopenedBy, IsNotOpened, IsNotMade, NothingIsWritten, LeavesMade}
 use Rattle.wh_admission.specs.declared.command.Command.{Command}
+use Rattle.wh_admission.specs.declared.command.Refused.{Refused as Refusal}
 use Rattle.wh_admission.specs.declared.command.Reply.{Reply}
 use Rattle.wh_engine.specs.declared.counts.Counts.{Counts}
 use Rattle.wh_engine.specs.declared.fault.Fault.{Fault}
@@ -39,7 +41,7 @@ use Rattle.wh_engine.specs.declared.session.Session.{Session}
 use Rattle.wh_program.specs.Answer.{Printed, done, refused, failed, no_file_line, policy_line}
 use Rattle.wh_program.specs.Inputs.{Files, Refusals}
 use Rattle.wh_program.specs.Reply.{sent_answer, plan_answer, opening_answer, status_answer, making_answer, made_line}
-use Rattle.wh_program.specs.Standing.{DatabaseContent, Nothing, Holds, Keeps, Standing, Unknown, Rests, LeftAt, IsAt, Stands}
+use Rattle.wh_program.specs.Standing.{DatabaseContent, Nothing, Holds, Keeps, Standing, Unknown, Rests, LeftAt, left_standing, IsAt, Stands}
 use Rattle.wh_program.specs.Warehouse.{Told, printed, Opens, IsOpenedBy, IsUnread, IsReplied, IsForetold, IsCounted, Makes, AnswersWith, IsTried, IsNotConnected}
 use Rattle.wh_program.specs.declared.host.HostError.{HostError}
 use Rattle.wh_program.specs.declared.host.HostError.TheVariants.{NoFile}
@@ -105,54 +107,45 @@ module _ (does : Limits → List Accepted → Told → Standing → Type 0) (con
     | Keeps stored ↦ λ at. let left = unread stored told why s1 at.0 tells (bad stored at.1) in (left.0, inr left.1, left.2)
   ] at
 
--- ---- load
+-- ---- how a call of the engine ended
 
--- what the engine's reply says of the store, as what stands, where there is room to print it
+stands_left : (limits : Limits) (left : Left) (session : Session) (s : State) → IsLeft limits session s left → Stands (left_standing limits left) s
+stands_left limits (At commands) session s ready = (ready.admitted, ready.rests)
+stands_left limits (Between before after) session s stopped = record { each = stopped.left.each }
+
+-- what it left of the engine is what stands then
+pub left : {A : Type 0} (is_due : Result A Refusal → Type 0) (before after : List Accepted) (limits : Limits) (result : Result A Fault) (session : Session) (s : State) → Outcome is_due before after result (IsLeft limits session s)
+    → (standing : Standing) × Outcome is_due before after result (λ where_to. standing ≡ left_standing limits where_to) × Stands standing s
+left is_due before after limits (Ok told) session s ended = (left_standing limits (At after), (ended.0, refl), stands_left limits (At after) session s ended.1)
+left is_due before after limits (Err (fault.Refused why)) session s ended = (left_standing limits (At before), (ended.0, refl), stands_left limits (At before) session s ended.1)
+left is_due before after limits (Err fault.Memory) session s ended = (left_standing limits (At before), refl, stands_left limits (At before) session s ended)
+left is_due before after limits (Err (fault.Store cause)) session s ended = (left_standing limits (Between before after), refl, stands_left limits (Between before after) session s ended)
+left is_due before after limits (Err (fault.Damaged table)) session s none = absurd none
+left is_due before after limits (Err fault.Reopen) session s none = absurd none
+
+-- a command that the engine replied to, where there is room to print the reply
 pub replied : (room : Type 0) (c : Command) (limits : Limits) (commands : List Accepted) (told : Told) (reply : Result Reply Fault) (session : Session) (s : State)
     → (room → printed told ≡ sent_answer c.id reply) → IsAnswered limits commands c reply session s
     → (after : Standing) × (room → IsReplied c limits commands told after) × Stands after s
-replied room c limits commands told (Ok reply) session s tells (is, ready) =
-    (Rests (Holds limits (accepted_after limits commands c)), λ has. record { reply = Ok reply; leaves = (is, refl); tells = tells has }, (ready.admitted, ready.rests))
-replied room c limits commands told (Err (fault.Refused why)) session s tells (is, ready) =
-    (Rests (Holds limits commands), λ has. record { reply = Err (fault.Refused why); leaves = (is, refl); tells = tells has }, (ready.admitted, ready.rests))
-replied room c limits commands told (Err (fault.Damaged table)) session s tells none = absurd none
-replied room c limits commands told (Err fault.Memory) session s tells ready =
-    (Rests (Holds limits commands), λ has. record { reply = Err fault.Memory; leaves = refl; tells = tells has }, (ready.admitted, ready.rests))
-replied room c limits commands told (Err (fault.Store cause)) session s tells stopped =
-    (LeftAt (Holds limits commands) (Holds limits (accepted_after limits commands c)), λ has. record { reply = Err (fault.Store cause); leaves = refl; tells = tells has }, record { each = stopped.left.each })
-replied room c limits commands told (Err fault.Reopen) session s tells none = absurd none
+replied room c limits commands told reply session s tells is =
+    let l = left (λ told. answer limits commands c ≡ told) commands (accepted_after limits commands c) limits reply session s is in
+    (l.0, λ has. record { reply = reply; leaves = l.1; tells = tells has }, l.2)
 
--- ---- plan
-
--- what the engine's plan says of the store, as what stands
+-- a plan
 pub foretold : (c : Command) (limits : Limits) (commands : List Accepted) (told : Told) (edits : Result Edits Fault) (session : Session) (s : State)
     → IfOk told (λ a. a ≡ plan_answer edits) → EngineForetold limits commands c edits session s
     → (after : Standing) × IsForetold c limits commands told after × Stands after s
-foretold c limits commands told (Ok edits) session s tells (is, are, ready) =
-    (Rests (Holds limits commands), record { edits = Ok edits; leaves = (is, are, refl); tells = tells }, (ready.admitted, ready.rests))
-foretold c limits commands told (Err (fault.Refused why)) session s tells (is, ready) =
-    (Rests (Holds limits commands), record { edits = Err (fault.Refused why); leaves = (is, refl); tells = tells }, (ready.admitted, ready.rests))
-foretold c limits commands told (Err (fault.Damaged table)) session s tells none = absurd none
-foretold c limits commands told (Err fault.Memory) session s tells ready =
-    (Rests (Holds limits commands), record { edits = Err fault.Memory; leaves = refl; tells = tells }, (ready.admitted, ready.rests))
-foretold c limits commands told (Err (fault.Store cause)) session s tells stopped =
-    (LeftAt (Holds limits commands) (Holds limits commands), record { edits = Err (fault.Store cause); leaves = refl; tells = tells }, record { each = stopped.left.each })
-foretold c limits commands told (Err fault.Reopen) session s tells none = absurd none
+foretold c limits commands told edits session s tells is =
+    let l = left (IsPlanOf limits commands c) commands commands limits edits session s is in
+    (l.0, record { edits = edits; leaves = l.1; tells = tells }, l.2)
 
--- ---- status
-
+-- a count
 pub counted : (limits : Limits) (commands : List Accepted) (told : Told) (counts : Result Counts Fault) (session : Session) (s : State)
     → IfOk told (λ a. a ≡ status_answer counts) → EngineCounted limits commands counts session s
     → (after : Standing) × IsCounted limits commands told after × Stands after s
-counted limits commands told (Ok counts) session s tells (is, ready) =
-    (Rests (Holds limits commands), record { counts = Ok counts; leaves = (is, refl); tells = tells }, (ready.admitted, ready.rests))
-counted limits commands told (Err (fault.Refused why)) session s tells none = absurd none
-counted limits commands told (Err (fault.Damaged table)) session s tells none = absurd none
-counted limits commands told (Err fault.Memory) session s tells ready =
-    (Rests (Holds limits commands), record { counts = Err fault.Memory; leaves = refl; tells = tells }, (ready.admitted, ready.rests))
-counted limits commands told (Err (fault.Store cause)) session s tells stopped =
-    (LeftAt (Holds limits commands) (Holds limits commands), record { counts = Err (fault.Store cause); leaves = refl; tells = tells }, record { each = stopped.left.each })
-counted limits commands told (Err fault.Reopen) session s tells none = absurd none
+counted limits commands told counts session s tells is =
+    let l = left (λ told. told ≡ Ok (counts_of commands)) commands commands limits counts session s is in
+    (l.0, record { counts = counts; leaves = l.1; tells = tells }, l.2)
 
 -- ---- init
 

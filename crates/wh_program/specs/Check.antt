@@ -6,21 +6,19 @@ use Rattle.wh_rows.specs.Raw.{Stored}
 use Rattle.wh_check.specs.declared.verdict.Verdict.{Verdict}
 use Rattle.wh_check.specs.declared.verdict.Verdict.TheVariants.{Clean}
 use Rattle.wh_engine.specs.Checked.{IsChecked}
+use Rattle.wh_engine.specs.Outcome.{Outcome}
 use Rattle.wh_engine.specs.declared.fault.Fault.{Fault}
 use Rattle.wh_engine.specs.declared.fault.Fault.TheVariants as fault
 use Rattle.wh_program.specs.Inputs.{Refusals}
 use Rattle.wh_program.specs.Reply.{verdict_answer}
-use Rattle.wh_program.specs.Standing.{DatabaseContent, Nothing, Holds, Keeps, Standing, Rests, LeftAt}
+use Rattle.wh_program.specs.Standing.{DatabaseContent, Nothing, Holds, Keeps, Standing, Rests, LeftAt, left_standing}
 use Rattle.wh_program.specs.Warehouse.{Told, Opens, IsOpenedBy, IsUnread, IsTried, IsNotConnected}
 
 -- ---- of accepted commands
 
--- What a check leaves of a warehouse with these commands: they are as they were, and it is clean.
+-- What a check leaves of a warehouse with these commands: it is clean, and nothing changes.
 abbrev pub LeavesClean : Limits → List Accepted → Result Verdict Fault → Standing → Type 0
-LeavesClean limits commands (Ok verdict) after = (verdict ≡ Clean) × (after ≡ Rests (Holds limits commands))
-LeavesClean limits commands (Err fault.Memory) after = after ≡ Rests (Holds limits commands)
-LeavesClean limits commands (Err (fault.Store cause)) after = after ≡ LeftAt (Holds limits commands) (Holds limits commands)
-LeavesClean limits commands (Err _) after = ⊥
+LeavesClean limits commands verdict after = Outcome (λ told. told ≡ Ok Clean) commands commands verdict (λ left. after ≡ left_standing limits left)
 
 pub record IsFoundClean (limits : Limits) (commands : List Accepted) (told : Told) (after : Standing) : Type 0 where
   pub verdict : Result Verdict Fault

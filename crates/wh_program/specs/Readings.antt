@@ -1,5 +1,5 @@
 -- What a report and a dump of a warehouse answer and leave.
-use Rattle.std.specs.Prelude.{◌≡◌, ◌⊎◌, ◌++◌, ℕ, List, Option, Result, Ok, Err, IfOk, take}
+use Rattle.std.specs.Prelude.{◌≡◌, ◌⊎◌, ◌++◌, ℕ, List, Option, Result, Ok, Err, IsOk, IfOk, take}
 use Rattle.std.specs.Io.KnownBytes.{Appends}
 use Rattle.wh_policy.specs.declared.policy.Policy.{Policy}
 use Rattle.wh_history.specs.Accepted.{Accepted}
@@ -8,8 +8,8 @@ use Rattle.wh_rows.specs.Tables.{Tables}
 use Rattle.wh_rows.specs.declared.table.Table.{Table}
 use Rattle.wh_model.specs.Defined.{AreOf}
 use Rattle.wh_admission.specs.Admission.{current_policy}
+use Rattle.wh_engine.specs.Outcome.{Outcome}
 use Rattle.wh_engine.specs.declared.fault.Fault.{Fault}
-use Rattle.wh_engine.specs.declared.fault.Fault.TheVariants as fault
 use Rattle.wh_report.specs.Asked.{Asked}
 use Rattle.wh_report.specs.Dump.{text_of_table}
 use Rattle.wh_report.specs.Reported.{report_of}
@@ -21,16 +21,13 @@ use Rattle.wh_program.specs.Answer.{Printed, done, refused, write_line}
 use Rattle.wh_program.specs.Inputs.{Refusals}
 use Rattle.wh_program.specs.Reply.{fault_answer, request_line, report_fault_answer}
 use Rattle.wh_program.specs.Run.{Prints}
-use Rattle.wh_program.specs.Standing.{DatabaseContent, Holds, Standing, Rests, LeftAt}
+use Rattle.wh_program.specs.Standing.{DatabaseContent, Standing, left_standing}
 use Rattle.wh_program.specs.Task.{ReportWords}
 use Rattle.wh_program.specs.Warehouse.{Told, printed, Opens, IsTried, IsNotConnected, AnswersWork}
 
--- What a call that only reads leaves of a warehouse with these commands.
+-- What a call that only reads leaves of a warehouse with these commands: nothing changes.
 abbrev pub LeavesRead : Limits → List Accepted → Result (Unit {0}) Fault → Standing → Type 0
-LeavesRead limits commands (Ok read) after = after ≡ Rests (Holds limits commands)
-LeavesRead limits commands (Err fault.Memory) after = after ≡ Rests (Holds limits commands)
-LeavesRead limits commands (Err (fault.Store cause)) after = after ≡ LeftAt (Holds limits commands) (Holds limits commands)
-LeavesRead limits commands (Err _) after = ⊥
+LeavesRead limits commands read after = Outcome IsOk commands commands read (λ left. after ≡ left_standing limits left)
 
 -- ---- report
 

@@ -13,6 +13,7 @@ use Rattle.wh_rows.specs.Schema.{schema_in}
 use Rattle.wh_policy.specs.declared.format.Format.TheVariants.{One}
 use Rattle.wh_admission.specs.Admission.{AreAdmitted}
 use Rattle.wh_engine.specs.Answered as engine
+use Rattle.wh_engine.specs.Outcome.{Left, At, Between}
 
 -- What a database holds: no object at all; or the tables of a warehouse that was made with these limits and has accepted these commands; or the ten tables of the
 -- first format, whose rows anybody may have written.
@@ -32,6 +33,11 @@ pub data Standing : Type 0 where
   Unknown : Standing
   Rests : DatabaseContent → Standing
   LeftAt : DatabaseContent → DatabaseContent → Standing
+
+-- what is left standing, where a call left a warehouse
+abbrev pub left_standing : Limits → Left → Standing
+left_standing limits (At commands) = Rests (Holds limits commands)
+left_standing limits (Between before after) = LeftAt (Holds limits before) (Holds limits after)
 
 -- the connection is at rest with the content
 abbrev pub IsAt : DatabaseContent → State → Type 0

@@ -8,17 +8,17 @@ use Rattle.wh_history.specs.Accepted.{Accepted}
 use Rattle.wh_history.specs.Tables.{Limits}
 use Rattle.wh_rows.specs.Limits.{greatest_limits}
 use Rattle.wh_rows.specs.Raw.{Stored}
-use Rattle.wh_plan.specs.Edits.{Edits, AreEdits}
+use Rattle.wh_plan.specs.Edits.{Edits}
 use Rattle.wh_model.specs.Sound.{making_of}
 use Rattle.wh_admission.specs.Admission.{answer, accepted_after}
-use Rattle.wh_engine.specs.Answered.{counts_of}
+use Rattle.wh_engine.specs.Answered.{counts_of, IsPlanOf}
+use Rattle.wh_engine.specs.Outcome.{Outcome}
 use Rattle.wh_engine.specs.Opened.{IsNotMade, SessionIs, IsUnopened as UnopenedBy}
 use Rattle.wh_admission.specs.declared.command.Command.{Command}
 use Rattle.wh_batch.specs.declared.kind.CommandKind.{CommandKind}
 use Rattle.wh_admission.specs.declared.command.Reply.{Reply}
 use Rattle.wh_engine.specs.declared.counts.Counts.{Counts}
 use Rattle.wh_engine.specs.declared.fault.Fault.{Fault}
-use Rattle.wh_engine.specs.declared.fault.Fault.TheVariants as fault
 use Rattle.wh_engine.specs.declared.opening.InitFault.{InitFault}
 use Rattle.wh_engine.specs.declared.opening.InitFault.TheVariants as making
 use Rattle.wh_engine.specs.declared.session.Session.{Session}
@@ -32,7 +32,7 @@ use Rattle.wh_program.specs.Answer.{Printed, done, refused, failed, no_file_line
 use Rattle.wh_program.specs.Inputs.{Files, Refusals, up_to, input_limit}
 use Rattle.wh_program.specs.Reply.{sent_answer, plan_answer, opening_answer, status_answer, making_answer, made_line}
 use Rattle.wh_program.specs.Run.{out_of_memory}
-use Rattle.wh_program.specs.Standing.{DatabaseContent, Nothing, Holds, Keeps, Standing, Unknown, Rests, LeftAt}
+use Rattle.wh_program.specs.Standing.{DatabaseContent, Nothing, Holds, Keeps, Standing, Unknown, Rests, LeftAt, left_standing}
 
 -- an answer, where there is memory for one
 abbrev pub Told : Type 0
@@ -83,13 +83,9 @@ Opens does (Keeps stored) told after = (IsOpenedBy stored × (after ≡ Unknown)
 
 -- ---- load and migrate
 
--- What a command leaves of a warehouse with these commands, by what the engine replied.
+-- What a command leaves of a warehouse with these commands, by what the engine replied: the definition's answer is due, and it leads to the list with the command.
 abbrev pub LeavesReplied : Limits → List Accepted → Command → Result Reply Fault → Standing → Type 0
-LeavesReplied limits commands c (Ok reply) after = (answer limits commands c ≡ Ok reply) × (after ≡ Rests (Holds limits (accepted_after limits commands c)))
-LeavesReplied limits commands c (Err (fault.Refused why)) after = (answer limits commands c ≡ Err why) × (after ≡ Rests (Holds limits commands))
-LeavesReplied limits commands c (Err fault.Memory) after = after ≡ Rests (Holds limits commands)
-LeavesReplied limits commands c (Err (fault.Store cause)) after = after ≡ LeftAt (Holds limits commands) (Holds limits (accepted_after limits commands c))
-LeavesReplied limits commands c (Err _) after = ⊥
+LeavesReplied limits commands c reply after = Outcome (λ told. answer limits commands c ≡ told) commands (accepted_after limits commands c) reply (λ left. after ≡ left_standing limits left)
 
 -- The engine replied to the command, and just that is printed: the line of memory only where it replied so, and kept nothing.
 pub record IsReplied (c : Command) (limits : Limits) (commands : List Accepted) (told : Told) (after : Standing) : Type 0 where
@@ -99,15 +95,9 @@ pub record IsReplied (c : Command) (limits : Limits) (commands : List Accepted) 
 
 -- ---- plan
 
--- What a plan of a command leaves of a warehouse with these commands, by what the engine foretold: the edits are exactly those that its tables need to be
--- those of the list after the command.
+-- What a plan of a command leaves of a warehouse with these commands, by what the engine foretold: the plan is the one that is due, and nothing changes.
 abbrev pub LeavesForetold : Limits → List Accepted → Command → Result Edits Fault → Standing → Type 0
-LeavesForetold limits commands c (Ok edits) after =
-    ((reply : Reply) × (answer limits commands c ≡ Ok reply)) × AreEdits commands (accepted_after limits commands c) edits × (after ≡ Rests (Holds limits commands))
-LeavesForetold limits commands c (Err (fault.Refused why)) after = (answer limits commands c ≡ Err why) × (after ≡ Rests (Holds limits commands))
-LeavesForetold limits commands c (Err fault.Memory) after = after ≡ Rests (Holds limits commands)
-LeavesForetold limits commands c (Err (fault.Store cause)) after = after ≡ LeftAt (Holds limits commands) (Holds limits commands)
-LeavesForetold limits commands c (Err _) after = ⊥
+LeavesForetold limits commands c edits after = Outcome (IsPlanOf limits commands c) commands commands edits (λ left. after ≡ left_standing limits left)
 
 -- the engine foretold what the command would write
 pub record IsForetold (c : Command) (limits : Limits) (commands : List Accepted) (told : Told) (after : Standing) : Type 0 where
@@ -117,12 +107,9 @@ pub record IsForetold (c : Command) (limits : Limits) (commands : List Accepted)
 
 -- ---- status
 
--- What a count leaves of a warehouse with these commands.
+-- What a count leaves of a warehouse with these commands: it is theirs, and nothing changes.
 abbrev pub LeavesCounted : Limits → List Accepted → Result Counts Fault → Standing → Type 0
-LeavesCounted limits commands (Ok counts) after = (counts ≡ counts_of commands) × (after ≡ Rests (Holds limits commands))
-LeavesCounted limits commands (Err fault.Memory) after = after ≡ Rests (Holds limits commands)
-LeavesCounted limits commands (Err (fault.Store cause)) after = after ≡ LeftAt (Holds limits commands) (Holds limits commands)
-LeavesCounted limits commands (Err _) after = ⊥
+LeavesCounted limits commands counts after = Outcome (λ told. told ≡ Ok (counts_of commands)) commands commands counts (λ left. after ≡ left_standing limits left)
 
 pub record IsCounted (limits : Limits) (commands : List Accepted) (told : Told) (after : Standing) : Type 0 where
   pub counts : Result Counts Fault

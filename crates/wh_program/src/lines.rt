@@ -3,6 +3,7 @@
 pub(crate) mod answer;
 pub(crate) mod delivery_text;
 pub(crate) mod plan_text;
+pub(crate) mod reporting;
 
 ghost use Rattle.std.specs.Prelude.{◌≡◌, ◌+◌, ◌≤◌, ◌++◌, IfOk, OnOk, codes, length, string_bytes, vec_capacity};
 ghost use Rattle.std.specs.Fmt.{decimal};

@@ -45,7 +45,7 @@ unread s st x = record {
     rests = λ clean stored on calm. on;
     leaves = λ clean stored on. on.left;
   };
-  serves = λ clean limits commands ready. ready;
+  serves = λ clean limits commands ready. (refl, ready);
   blames = λ clean stored on. tt;
   noted = sym (ap (λ (m : Bool). record { limits = s.limits; policy = s.policy; must_reopen = m }) (or_false s.must_reopen));
   only = λ is. absurd (cc);
@@ -61,7 +61,7 @@ and_then r s t old mid new x result first second = record {
     rests = λ clean stored on calm. second.spares.rests clean stored (first.spares.rests (second.spares.clean clean) stored on tt) calm;
     leaves = λ clean stored on. second.spares.leaves clean stored (first.spares.rests (second.spares.clean clean) stored on tt);
   };
-  serves = λ clean limits commands ready. second.serves clean limits commands (first.serves (second.spares.clean clean) limits commands ready);
+  serves = λ clean limits commands ready. second.serves clean limits commands ((first.serves (second.spares.clean clean) limits commands ready).1);
   blames = λ clean stored on. second.blames clean stored (first.spares.rests (second.spares.clean clean) stored on tt);
   noted = second.noted ∙ ap (λ (q : Session). noting q result) first.noted ∙ noted_twice r x result;
   only = λ is. flagged_before r s x first.noted (second.only is);
@@ -81,7 +81,7 @@ faulted r s old new faults.Reopen reads = record { spares = reads.spares; serves
 
 -- memory ran out then
 pub out_of_memory : {A B : Type 0} (r s : Session) (old new : State) (x : A) → ReadsThrough r s old new (Ok x) → ReadsThrough {A = B} r s old new (Err faults.Memory)
-out_of_memory r s old new x reads = record { spares = reads.spares; serves = reads.serves; blames = reads.blames; noted = reads.noted; only = λ is. absurd (cc) }
+out_of_memory r s old new x reads = record { spares = reads.spares; serves = λ clean limits commands ready. (reads.serves clean limits commands ready).1; blames = reads.blames; noted = reads.noted; only = λ is. absurd (cc) }
 
 -- or what was read can't be counted
 pub read_not_counted : (B : Type 0) (r s : Session) (old new : State) (column : LabelColumn) (why : FactFault) → ReadsThrough {A = Unit {0}} r s old new (Ok tt) → ReadsThrough r s old new (of_warehouse {A = B} (Err (uncounted column why)))

@@ -187,7 +187,7 @@ module _ (limits : Limits) (commands : List Accepted) (admitted : AreAdmitted li
 wanting : (limits : Limits) (commands : List Accepted) (fault : Fault) (session : Session) (s : State) → IsServing {A = Unit {0}} limits commands (Err fault) session s → IsWanting fault
 wanting limits commands faults.Memory session s serves = tt
 wanting limits commands (faults.Store cause) session s serves = tt
-wanting limits commands (faults.Refused why) session s serves = serves
+wanting limits commands (faults.Refused why) session s serves = absurd (cc serves.0)
 wanting limits commands (faults.Damaged table) session s serves = serves
 wanting limits commands faults.Reopen session s serves = serves
 

@@ -15,9 +15,9 @@ ghost use Rattle.wh_program.specs.Warehouse.{Told, Opens, printed};
 
 use crate::host::{Host, HostError, Visitor};
 use crate::lines::answer::Status;
+use crate::lines::reporting::report_fault_answer;
 use crate::lines::{no_file, opening_answer};
 use crate::output::{print_answer, write_failed};
-use crate::visits::report::report_fault_answer;
 use sqlite::{Alter, Connection};
 use std::alloc::{AllocError, Global};
 use std::io::Write;

@@ -6,6 +6,7 @@ use Rattle.wh_history.specs.declared.rows.DimRow.{DimRow}
 use Rattle.wh_rows.specs.declared.rows.ProfileRow.{ProfileRow}
 use Rattle.wh_report.specs.Labels.{AreLabels, first_text, row_labels, profile_labels}
 use Rattle.wh_report.specs.Reported.{AreAllOfDim, AreAllProfiles}
+use Rattle.wh_report.proofs.EngineReading.{and_then}
 use Rattle.wh_report.proofs.Entries.{labels_through}
 use Rattle.wh_report.proofs.column_labels.labels_by_profiles.Goals as goal
 
@@ -25,3 +26,6 @@ returns-clause-stored g c clean stored on =
     let read = first.stored before stored on in
     IfOk-weaker _ _ (λ labels. (rows : List DimRow) × AreAllOfDim Customer stored rows × ((profiles : List ProfileRow) × AreAllProfiles stored profiles × AreLabels labels (row_labels c.args.column (λ number. first_text number (profile_labels c.args.column profiles)) rows))) (λ labels rows. (rows.0, rows.1, (read.0, read.1, labels_through c.args.column rows.0 (profile_labels c.args.column read.0) _ labels read.2 rows.2)))
     (second.stored clean stored (first.reads.spares.rests before stored on tt))
+
+pub returns-clause-reads : goal.returns-clause-reads
+returns-clause-reads g c = and_then _ _ _ _ _ _ _ _ c.in_ok-profiles.ensures.reads c.labels_of_rows.ensures.reads

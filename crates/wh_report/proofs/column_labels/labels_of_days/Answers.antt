@@ -1,9 +1,10 @@
 use Rattle.std.proofs.Common.{refl, rules, [], ◌∙◌}
 use Rattle.wh_rows.specs.Keys.{bind_number}
 use Rattle.wh_rows.specs.declared.table.Table.TheVariants as table
-use Rattle.std.specs.Prelude.{Ok}
+use Rattle.std.specs.Prelude.{Ok, Err}
 use Rattle.wh_rows.specs.Rows as row
-use Rattle.wh_report.proofs.EngineReading.{through, unread, and_then, answered, handed_out}
+use Rattle.std.proofs.lemmas.Result.{err_from_is_err_and}
+use Rattle.wh_report.proofs.EngineReading.{through, unread, and_then, answered, faulted, handed_out, out_of_memory}
 use Rattle.wh_report.proofs.Arranged.{seen_none, none_ahead, made_more, made_all}
 use Rattle.wh_report.proofs.HandedRows.{none_seen, one_seen, all_seen, no_labels}
 use Rattle.wh_report.proofs.Outputs.{row_handed, none_handed}
@@ -50,3 +51,11 @@ returns-in-None-clause-stored g c clean stored on =
     let before = read.reads.spares.clean clean in
     let rests = kept.reads.spares.rests before stored on tt in
     made_all row.calendar bind_number (stored.rows table.Calendar) _ _ _ _ _ _ _ c.in-None.is (kept.stored before stored on) (read.hands.stored clean stored refl rests)
+
+pub returns-in_err-row-clause-reads : goal.returns-in_err-row-clause-reads
+returns-in_err-row-clause-reads g c =
+    let p = err_from_is_err_and c.from_residual.result c.from_residual.ensures.1 in
+    rw (p.1, p.2) (faulted _ _ _ _ _ (and_then _ _ _ _ _ _ tt (Err c.in_err-row.field-0.0) c.days.invariant.reads (through g.S.Store _ _ _ c.in_err-row.ensures.reads c.in_err-row.ensures.serves)))
+
+pub returns-clause-reads : goal.returns-clause-reads
+returns-clause-reads g c = out_of_memory _ _ _ _ _ c.days.invariant.reads

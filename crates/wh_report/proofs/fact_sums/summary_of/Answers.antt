@@ -21,14 +21,14 @@ returns-clause-reads g c = rw c.uncounted.ensures (read_not_counted Summed _ _ _
 
 pub returns-in-Ok-clause-sums : goal.returns-in-Ok-clause-sums
 returns-in-Ok-clause-sums g c clean t at =
-    let counted = c.in_ok-tally_facts.ensures.counted clean t at in
+    let counted = c.in_ok-tally_facts.ensures.tallies.counted clean t at in
     let tally = c.tally_facts.new.tally in
     summed_by_labels c.args.request.now c.args.column (text_of c.args.labels.now) (state_of g.S.Store c.args.engine.now.tables) t at c.fact_key.result c.fact_key.ensures counted.0 counted.1 tally.request.now (ap (λ q. q.now) counted.2.request) tally.sums tally.fault counted.2.made
     c.by_label.result c.by_label.ensures c.in-Ok.summary c.in-Ok.is
 
 pub returns-clause-sums : goal.returns-clause-sums
 returns-clause-sums g c clean t at =
-    let counted = c.in_ok-tally_facts.ensures.counted clean t at in
+    let counted = c.in_ok-tally_facts.ensures.tallies.counted clean t at in
     let tally = c.tally_facts.new.tally in
     rw c.uncounted.ensures
     (cut_by_labels c.args.request.now c.args.column (text_of c.args.labels.now) (state_of g.S.Store c.args.engine.now.tables) t at c.fact_key.result c.fact_key.ensures counted.0 counted.1 tally.request.now (ap (λ q. q.now) counted.2.request) tally.sums tally.fault counted.2.made
@@ -36,14 +36,14 @@ returns-clause-sums g c clean t at =
 
 pub returns-in-Ok-clause-stored : goal.returns-in-Ok-clause-stored
 returns-in-Ok-clause-stored g c clean stored on =
-    let counted = c.in_ok-tally_facts.ensures.stored clean stored on in
+    let counted = c.in_ok-tally_facts.ensures.tallies.stored clean stored on in
     let tally = c.tally_facts.new.tally in
     summed_stored c.args.request.now c.args.column (text_of c.args.labels.now) stored c.fact_key.result c.fact_key.ensures counted.0 counted.1
     c.by_label.result (of_request c.args.request.now tally.request.now (ap (λ q. q.now) counted.2.request) _ _ _ _ _ counted.2.made c.by_label.ensures) c.in-Ok.summary c.in-Ok.is
 
 pub returns-clause-stored : goal.returns-clause-stored
 returns-clause-stored g c clean stored on =
-    let counted = c.in_ok-tally_facts.ensures.stored clean stored on in
+    let counted = c.in_ok-tally_facts.ensures.tallies.stored clean stored on in
     let tally = c.tally_facts.new.tally in
     rw c.uncounted.ensures
     (cut_stored c.args.request.now c.args.column (text_of c.args.labels.now) stored c.fact_key.result c.fact_key.ensures counted.0 counted.1

@@ -1,5 +1,6 @@
 use Rattle.sqlite.specs.Held.{state}
-use Rattle.wh_engine.proofs.Performing.{foretold}
+use Rattle.wh_engine.specs.Answered.{IsPlanOf}
+use Rattle.wh_engine.proofs.Outcomes.{noted}
 use Rattle.wh_engine.proofs.Scanning.{read, shut}
 use Rattle.wh_engine.proofs.engine.Engine.plan.Goals as goal
 
@@ -12,4 +13,4 @@ returns-clause-reads g c = rw c.stops-self.ensures (read g.S.Store c.args.self.n
 pub returns-clause-foretold : goal.returns-clause-foretold
 returns-clause-foretold g c clean limits commands ready =
     let new = state g.S.Store c.foretell-edits.new.tables.conn in
-    rw c.stops-self.ensures (foretold limits commands c.args.command.now c.args.self.now.session new c.foretell-edits.result (c.foretell-edits.ensures.foretold clean limits commands ready))
+    rw c.stops-self.ensures (noted limits c.args.self.now.session new (IsPlanOf limits commands c.args.command.now) commands commands c.foretell-edits.result (c.foretell-edits.ensures.foretold clean limits commands ready))
