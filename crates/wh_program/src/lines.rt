@@ -178,7 +178,7 @@ pub fn no_file(alloc: Global, path: &str) -> Result<Answer, AllocError>
 }
 
 /// A line that is the same each time.
-pub fn told(alloc: Global, status: Status, line: &str) -> Result<Answer, AllocError>
+pub fn fixed_line(alloc: Global, status: Status, line: &str) -> Result<Answer, AllocError>
     ensures { IfOk result (λ answer. answer ≡ record { status = status_code status; text = line.now }) }
 {
     let text = String::from_str(alloc, line)?;
@@ -420,7 +420,7 @@ pub fn verdict_answer(alloc: Global, verdict: Result<Verdict, Fault>) -> Result<
     ensures { IfOk result (λ answer. answer ≡ verdict_answer verdict) }
 {
     match verdict {
-        Ok(Verdict::Clean) => told(alloc, Status::Done, "clean\n"),
+        Ok(Verdict::Clean) => fixed_line(alloc, Status::Done, "clean\n"),
         Ok(Verdict::Wrong(table)) => wrong(alloc, table),
         Err(fault) => fault_answer(alloc, fault),
     }
@@ -472,9 +472,11 @@ pub fn opening_answer(alloc: Global, fault: OpenFault) -> Result<Answer, AllocEr
     ensures { IfOk result (λ answer. answer ≡ opening_answer fault) }
 {
     match fault {
-        OpenFault::NotAWarehouse => { told(alloc, Status::Failed, "failed: N1 not a warehouse\n") }
-        OpenFault::OldFormat => told(alloc, Status::Failed, "failed: N2 old format\n"),
-        OpenFault::NewFormat => told(alloc, Status::Failed, "failed: N3 new format\n"),
+        OpenFault::NotAWarehouse => {
+            fixed_line(alloc, Status::Failed, "failed: N1 not a warehouse\n")
+        }
+        OpenFault::OldFormat => fixed_line(alloc, Status::Failed, "failed: N2 old format\n"),
+        OpenFault::NewFormat => fixed_line(alloc, Status::Failed, "failed: N3 new format\n"),
         OpenFault::Damaged(table) => damaged(alloc, table),
         OpenFault::Memory => Err(AllocError),
         OpenFault::Store(cause) => store_failed(alloc, cause),

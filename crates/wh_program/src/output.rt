@@ -36,10 +36,10 @@ pub fn print<W: Write>(out: &mut W, status: Status, text: &[u8]) -> Status
 }
 
 /// Prints an answer, or that memory ran out.
-pub fn print_answer<W: Write>(out: &mut W, told: Result<Answer, AllocError>) -> Status
-    ensures { Prints (W.contents out.old) (W.contents out.new) (status_code result) (printed told) }
+pub fn print_answer<W: Write>(out: &mut W, answer: Result<Answer, AllocError>) -> Status
+    ensures { Prints (W.contents out.old) (W.contents out.new) (status_code result) (printed answer) }
 {
-    match told {
+    match answer {
         Ok(answer) => print(out, answer.status(), answer.text()),
         Err(_) => print(out, Status::Failed, MEMORY_LINE),
     }

@@ -7,7 +7,7 @@ ghost use Rattle.wh_program.specs.Answer.{failed, refused, line, write_line};
 ghost use Rattle.wh_program.specs.Reply.{no_reading_line, request_line, report_fault_answer, report_answer};
 
 use crate::lines::answer::{Answer, Status};
-use crate::lines::{WRITE_LINE, damaged, fault_answer, told};
+use crate::lines::{WRITE_LINE, damaged, fault_answer, fixed_line};
 use std::alloc::{AllocError, Global};
 use wh_policy::AttributeType;
 use wh_report::{Mode, ReportFault, RequestFault};
@@ -41,10 +41,14 @@ pub fn request_answer(alloc: Global, fault: RequestFault) -> Result<Answer, Allo
     ensures { IfOk result (λ answer. answer ≡ refused (request_line fault)) }
 {
     match fault {
-        RequestFault::NoAttribute => told(alloc, Status::Refused, "refused: G1 no attribute\n"),
+        RequestFault::NoAttribute => fixed_line(
+            alloc,
+            Status::Refused,
+            "refused: G1 no attribute\n",
+        ),
         RequestFault::NoReading(kind, mode) => no_reading(alloc, kind, mode),
         RequestFault::NoDateReading(mode) => no_date_reading(alloc, mode),
-        RequestFault::BadRange => told(alloc, Status::Refused, "refused: G3 bad range\n"),
+        RequestFault::BadRange => fixed_line(alloc, Status::Refused, "refused: G3 bad range\n"),
     }
 }
 
