@@ -73,6 +73,7 @@ fact ticket line = record {
   quantity = pos 1;
   amount = pos 1;
   cost = pos 1;
+  discount = 0;
 }
 
 -- a late record of a product: one row takes the place of another, a third one is split, and a sale gets other keys
