@@ -20,9 +20,7 @@ use sqlite::Alter;
 use sqlite_value::value::Bytes;
 use std::alloc::{AllocError, Global};
 use wh_admission::{Command, Receipt, Refused};
-use wh_batch::{
-    CommandKind, DimensionRecords, Kind, SaleRecords, dimension_records, sale_records,
-};
+use wh_batch::{CommandKind, DimensionRecords, Kind, SaleRecords, dimension_records, sale_records};
 use wh_day::{ParseError, Value, is_key};
 use wh_migration::plan_migration;
 use wh_plan::reading::command_of;

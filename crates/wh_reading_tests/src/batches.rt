@@ -96,9 +96,7 @@ fn header(word: &str) -> &'static str {
         "product" => "id,day,description,brand\n",
         "store" => "id,day,city\n",
         "customer" => "id,day,tier\n",
-        "discounted" => {
-            "ticket,line,day,store,product,customer,quantity,amount,cost,discount\n"
-        }
+        "discounted" => { "ticket,line,day,store,product,customer,quantity,amount,cost,discount\n" }
         _ => "ticket,line,day,store,product,customer,quantity,amount,cost\n",
     }
 }

@@ -29,7 +29,12 @@ use wh_sql::{ReadFault, SalesBetween, ask, count, get};
 
 impl<S: Alter> Tables<S> {
     /// The fact of a line, if it is there.
-    pub fn fact(&mut self, alloc: Global, format: Format, line: &LineKey) -> Result<Option<Fact>, ReadFault>
+    pub fn fact(
+        &mut self,
+        alloc: Global,
+        format: Format,
+        line: &LineKey,
+    ) -> Result<Option<Fact>, ReadFault>
         ensures reads { ReadsOnly (state_of S.Store self.old) (state_of S.Store self.new) result }
         ensures same_format { self.new.format ≡ self.old.format }
         ensures row { SaysAtRest (state_of S.Store self.old) (state_of S.Store self.new) (λ t. IfOk result (λ row. row ≡ get (facts_in format t) line.now)) }
@@ -80,7 +85,12 @@ impl<S: Alter> Tables<S> {
 
 impl<'t, S: Alter> Writing<'t, S> {
     /// Makes one edit of a fact.
-    pub fn edit_fact(&mut self, alloc: Global, format: Format, edit: &Edit<Fact, LineKey>) -> Result<(), Cause>
+    pub fn edit_fact(
+        &mut self,
+        alloc: Global,
+        format: Format,
+        edit: &Edit<Fact, LineKey>,
+    ) -> Result<(), Cause>
         ensures same_reference { self.new.tables.ghost_name ≡ self.old.tables.ghost_name }
         ensures same_format { (self.new.tables.now.format ≡ self.old.tables.now.format) × (self.new.makes ≡ self.old.makes) }
         ensures writes { WritesOnly (state_of S.Store self.old.tables.now) (state_of S.Store self.new.tables.now) ⊤ }
@@ -117,7 +127,12 @@ impl<'t, S: Alter> Writing<'t, S> {
 
     /// Puts facts in that aren't there yet, sixteen in one statement. Where there are not sixteen of them, or one of their lines is taken, also by
     /// another of them, nothing changes, and the answer is false.
-    pub fn insert_new_facts(&mut self, alloc: Global, format: Format, facts: &[&Fact]) -> Result<bool, Cause>
+    pub fn insert_new_facts(
+        &mut self,
+        alloc: Global,
+        format: Format,
+        facts: &[&Fact],
+    ) -> Result<bool, Cause>
         ensures same_reference { self.new.tables.ghost_name ≡ self.old.tables.ghost_name }
         ensures same_format { (self.new.tables.now.format ≡ self.old.tables.now.format) × (self.new.makes ≡ self.old.makes) }
         ensures writes { WritesOnly (state_of S.Store self.old.tables.now) (state_of S.Store self.new.tables.now) ⊤ }

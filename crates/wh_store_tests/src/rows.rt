@@ -8,10 +8,10 @@ use sqlite::{Connection, Row};
 use std::alloc::{AllocError, Global};
 use wh_day::{ParseError, Value};
 use wh_history::FactKeys;
+use wh_policy::Format;
 use wh_rows::tables::{
     Calendar, Change, Command, Customer, Fact, Fact2, Member, Meta, Product, Profile, Store, Void,
 };
-use wh_policy::Format;
 use wh_rows::{Cause, LineKey, Table};
 use wh_scenarios::parted;
 

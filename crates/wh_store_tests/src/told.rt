@@ -9,8 +9,8 @@ use std::alloc::Global;
 use wh_day::{DateRow, Day, Value};
 use wh_history::{DimRow, Fact};
 use wh_rows::{
-    ChangeKey, ChangeRow, CommandRow, LineKey, MemberKey, MemberRow, MetaRow, ProfileRow,
-    VoidRow, tables,
+    ChangeKey, ChangeRow, CommandRow, LineKey, MemberKey, MemberRow, MetaRow, ProfileRow, VoidRow,
+    tables,
 };
 use wh_scenarios::parted;
 use wh_sql::KeyedTable;
