@@ -1,6 +1,6 @@
 -- The last of the stored rows of an id is that of a command that came before.
-use Rattle.std.proofs.Common.{◌≡◌, Bool, true, false, List, [], ◌∷◌, ◌++◌, map, Option, Some, Result, Ok, Err, refl, sym, ap, subst, ◌∙◌, inl, inr}
-use Rattle.std.specs.Prelude.{ℕ, filter, bytes_eq, IsTrue, ◌&&◌, if◌then◌else◌}
+use Rattle.std.proofs.Common.{◌≡◌, Bool, true, false, List, [], ◌∷◌, ◌++◌, map, Some, Ok, Err, refl, sym, ◌∙◌, inl, inr}
+use Rattle.std.specs.Prelude.{ℕ, filter, bytes_eq, ◌&&◌, if◌then◌else◌}
 use Rattle.std.specs.Cmp.Lexicographic.{slice_cmp}
 use Rattle.std.specs.List.{list_all}
 use Rattle.std.specs.Ordering.{eq_by_cmp, nat_cmp}
@@ -10,9 +10,8 @@ use Rattle.sqlite.specs.Order.{Row}
 use Rattle.sqlite_rules.specs.Lists.{Has}
 use Rattle.sqlite_rules.proofs.ListLemmas.{has_filtered}
 use Rattle.wh_batch.specs.Kind.{command_word}
-use Rattle.wh_rows.specs.Holds.{Layout}
 use Rattle.wh_rows.specs.Questions.{has_id}
-use Rattle.wh_rows.specs.Raw.{Stored, IsLastOf, AreRows}
+use Rattle.wh_rows.specs.Raw.{Stored, IsLastOf}
 use Rattle.wh_rows.specs.Rows as layout
 use Rattle.wh_policy.specs.declared.format.Format.TheVariants.{One}
 use Rattle.wh_rows.specs.declared.rows.CommandRow.{CommandRow}
@@ -24,7 +23,6 @@ use Rattle.wh_admission.specs.Admission.{receipt_again}
 use Rattle.wh_admission.specs.Repeated.{IsKept}
 use Rattle.wh_admission.specs.declared.command.Command.{Command}
 use Rattle.wh_admission.specs.declared.command.Receipt.{Receipt}
-use Rattle.wh_admission.specs.declared.command.Refused.{Refused}
 use Rattle.wh_admission.specs.declared.command.Refused.TheVariants.{Reused}
 
 pub last_valid : {V : Type 0} (p : V → Bool) (before : List V) (v : V) → list_all p (before ++ v ∷ []) ≡ true → p v ≡ true

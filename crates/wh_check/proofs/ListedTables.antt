@@ -1,5 +1,5 @@
 -- A table stores what a function gives exactly where it stores the rows that list it.
-use Rattle.std.proofs.Common.{◌≡◌, T, Bool, true, false, ◌&&◌, List, [], ◌∷◌, map, Option, refl, sym, ap, subst, ◌∙◌, Less}
+use Rattle.std.proofs.Common.{◌≡◌, T, Bool, true, false, List, [], ◌∷◌, map, Option, refl, sym, ap, subst, ◌∙◌, Less}
 use Rattle.std.specs.Prelude.{IsTrue}
 use Rattle.std.specs.Cmp.{IsTotalOrder}
 use Rattle.std.specs.FinMap.{FinMap, values, get, find, is_sorted, from_sorted, entries-from_sorted, get-from_sorted, same_map, IsAntisymmetric}

@@ -1,16 +1,15 @@
 -- The rows of meta, and the limits that they say.
-use Rattle.std.proofs.Common.{◌≡◌, ◌⊎◌, inl, inr, ℕ, ℤ, pos, Bool, true, false, cond, ◌&&◌, List, [], ◌∷◌, Option, Some, None, refl, sym, ap, subst, ◌∙◌}
+use Rattle.std.proofs.Common.{◌≡◌, ◌⊎◌, inl, inr, ℕ, ℤ, Bool, true, false, cond, ◌&&◌, List, [], ◌∷◌, Option, Some, None, refl, sym, ap, subst, ◌∙◌}
 use Rattle.std.specs.Prelude.{codes}
 use Rattle.std.specs.Ordering.{eq_by_cmp, nat_cmp}
 use Rattle.std.specs.Cmp.Lexicographic.{slice_cmp}
-use Rattle.wh_history.specs.Tables.{Limits, meta_value}
+use Rattle.wh_history.specs.Tables.{Limits}
 use Rattle.wh_model.specs.Defined.{meta_at}
 use Rattle.wh_rows.specs.Keys.{stands_at_text}
 use Rattle.wh_rows.specs.Raw.{Stored, HasDamage}
 use Rattle.wh_rows.specs.Rows as row
 use Rattle.wh_rows.specs.declared.rows.MetaRow.{MetaRow}
 use Rattle.wh_rows.specs.declared.table.Table.TheVariants.{Meta}
-use Rattle.wh_model.proofs.GrownKeys.{keyed_map}
 use Rattle.wh_rows.proofs.Keys.{equal-Text}
 use Rattle.wh_rows.proofs.Places as places
 use Rattle.wh_store.specs.Meta.{meta_number, limits_of_numbers}

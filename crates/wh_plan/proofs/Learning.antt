@@ -1,6 +1,6 @@
 -- What is learned of combinations of profile values by look-ups, and the numbers of new ones.
 use Rattle.std.proofs.Common.{◌≡◌, ℕ, suc, ◌+◌, ◌-◌, Bool, true, false, cond, not, ◌||◌, List, [], ◌∷◌, ◌++◌, map, length, Option, Some, None, refl, sym, ◌∙◌, ap, arith, append-nil, length-append, ◌<◌, drop, get_or}
-use Rattle.std.specs.Prelude.{filter_map, option_map, find, slice_get}
+use Rattle.std.specs.Prelude.{filter_map, option_map, find}
 use Rattle.std.specs.List.{list_any, cons_option, range_with_len, AllByRecursion}
 use Rattle.std.specs.Option.{option_or, option_to_list}
 use Rattle.std.proofs.lemmas.List.{append_assoc, at_drop_more}

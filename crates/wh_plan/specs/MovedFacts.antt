@@ -1,7 +1,7 @@
 -- Which stored facts a batch of records moves.
-use Rattle.std.specs.Prelude.{◌≡◌, ◌⊎◌, ◌<◌, ℕ, nat_lt, if◌then◌else◌, ◌&&◌, List, [], ◌∷◌, ◌++◌, filter, filter_map, flat_map, Option, Some}
+use Rattle.std.specs.Prelude.{◌≡◌, ◌⊎◌, ◌<◌, ℕ, nat_lt, if◌then◌else◌, List, [], ◌∷◌, ◌++◌, filter, filter_map, flat_map, Option, Some}
 use Rattle.std.specs.FinMap.{FinMap, values}
-use Rattle.std.specs.Ordering.{eq_by_cmp, is_ge, is_le, nat_cmp}
+use Rattle.std.specs.Ordering.{eq_by_cmp, nat_cmp}
 use Rattle.wh_policy.specs.declared.attribute.Dim.{Dim}
 use Rattle.wh_policy.specs.declared.attribute.Dim.TheVariants.{Product, Store, Customer}
 use Rattle.wh_policy.specs.declared.record.DimensionRecord.{DimensionRecord}

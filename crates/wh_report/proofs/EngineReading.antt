@@ -1,5 +1,5 @@
 -- Calls that read through an engine, one after another.
-use Rattle.std.proofs.Common.{◌≡◌, ◌≢◌, true≢false, Bool, true, false, ◌||◌, Result, Ok, Err, IfErr, IsTrue, refl, sym, ap, ◌∙◌}
+use Rattle.std.proofs.Common.{◌≡◌, ◌≢◌, true≢false, Bool, false, ◌||◌, Result, Ok, Err, IfErr, IsTrue, refl, sym, ap, ◌∙◌}
 use Rattle.sqlite_trees.specs.declared.store.Store.{Ghosts}
 use Rattle.sqlite.specs.State.{State}
 use Rattle.wh_store.specs.Reads.{state_of}

@@ -1,4 +1,4 @@
-use Rattle.std.proofs.Common.{◌≡◌, ◌∙◌, ap, sym, subst, refl, ℕ, List, [], Option, Some, None, option_map, unwrap_or, Bor}
+use Rattle.std.proofs.Common.{◌≡◌, ◌∙◌, ap, subst, refl, ℕ, List, [], Option, Some, None, option_map, unwrap_or, Bor}
 use Rattle.csv.specs.Records.{fields_of, field_at}
 use Rattle.wh_day.specs.Reading.{Gives}
 use Rattle.wh_batch.specs.Layouts.{discount_in}

@@ -1,4 +1,4 @@
-use Rattle.std.proofs.Common.{ap, sym, subst, ◌∙◌, ◌≡◌, ◌<◌, ◌++◌, ◌∷◌, [], add-one, take, length, map, arith}
+use Rattle.std.proofs.Common.{ap, sym, ◌∙◌, ◌≡◌, ◌<◌, ◌++◌, ◌∷◌, [], add-one, take, length, map, arith}
 use Rattle.std.proofs.lemmas.List.{map_push, take_all, take_more_set, length-set}
 use Rattle.csv.proofs.RecordFacts.{field-there}
 use Rattle.csv.specs.Records.{fields_of}

@@ -1,4 +1,4 @@
-use Rattle.std.proofs.Common.{◌≡◌, ◌∙◌, ◌<◌, Bool, true, false, rules, length, None, sym, ap, subst, arith}
+use Rattle.std.proofs.Common.{◌≡◌, ◌∙◌, Bool, true, false, rules, None, sym, ap, arith}
 use Rattle.std.specs.Prelude.{is_some}
 use Rattle.wh_model.specs.Defined.{command_at}
 use Rattle.wh_plan.proofs.FoundCommands.{command_past}
