@@ -11,8 +11,8 @@ use Rattle.wh_engine.specs.Faults.{NamesTable}
 use Rattle.wh_engine.specs.Scanned.{WhenAtRest, WhenStored}
 use Rattle.wh_engine.specs.declared.fault.Fault.{Fault}
 
--- It counted each fact of any tables at rest once, so of those of the accepted commands. So it is of any rows, whoever wrote them, by the columns that are read of them, and a row that isn't of its type
--- is reported as one of this table. `Counts` says what a tally comes to by sales.
+-- It counts each fact once: of tables at rest, and so of the accepted commands; of stored rows of any origin, by the columns that it reads. A row out of its type is reported as one of this table.
+-- `Counts` says what a tally comes to by sales.
 pub record Tallies {S C : Type 0} (g : Ghosts S) (Counts : C → List KeyedSale → C → Type 0) (which : FactColumn) (before after : C) (old new : Tables S) (result : Result (Unit {0}) Fault) : Type 0 where
   pub counted : WhenAtRest g old new (λ t. IfOk result (λ _. HasCounted Counts which before after (values t.fact)))
   pub stored : WhenStored g old new (λ stored. IfOk result (λ _. HasCountedStored Counts which before after (stored.rows Fact)))

@@ -36,7 +36,7 @@ impl<S: Alter> Engine<S> {
         requires { C.counts tally.old [] tally.old }
         ensures reads { EngineReads S.Store self.old self.new result }
         ensures serves { WhenReady S.Store self.old self.new (λ limits commands. IsServing limits commands result) }
-        // Each fact is counted, whoever wrote it.
+        // It counts each fact once.
         ensures tallies { Tallies S.Store C.counts which tally.old tally.new self.old.tables self.new.tables result }
         ensures unread { IsTrue self.old.session.must_reopen → tally.new ≡ tally.old }
     {

@@ -9,3 +9,4 @@ pub mod InFiles
 pub mod Raw
 pub mod Faithful
 pub mod Scan
+pub mod FactTexts
