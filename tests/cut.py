@@ -4,8 +4,8 @@ tests/readers.py. Build the program first (`rt run` in crates/wh).
 
 usage: cut.py [PROGRAM]
 
-A policy (by a trial, and a making of those that are good), a policy that is a byte too long, a customer's batch and one of sales (each loaded where it
-is due, and looked at in the file), a manifest (delivered to a warehouse that was just made).
+A policy (by a trial, and a making of those that are good), a policy that is a byte too long, a customer's batch and one of sales in each format (each
+loaded where it is due, and looked at in the file), a manifest (delivered to a warehouse that was just made).
 """
 
 import os
@@ -78,11 +78,16 @@ for end in ("", "-wal"):
         os.remove(f"{folder}/w{end}")
 make_worked(PROGRAM, folder, 10)
 copy(f"{folder}/w", f"{folder}/after10")
+make_worked(PROGRAM, folder, 17, since=11)
+copy(f"{folder}/w", f"{folder}/after17")
 NAMES = ["tier", "age_band", "spend_band"]
 
 
-def stored_facts(base):
-    return base.execute("SELECT ticket, line, day, quantity, amount, cost FROM fact ORDER BY ticket").fetchall()
+def stored_facts(base, form):
+    """What the facts have of their sales, but for those that an upgrade carried over."""
+    if form == 1:
+        return base.execute("SELECT ticket, line, day, quantity, amount, cost FROM fact ORDER BY ticket").fetchall()
+    return base.execute("SELECT ticket, line, day, quantity, amount, cost, discount FROM fact2 WHERE ticket > 'T4' ORDER BY ticket").fetchall()
 
 
 def hundredths(text):
@@ -94,16 +99,16 @@ def hundredths(text):
 def as_stored(kind, records):
     if kind == "customer":
         return [[day.replace(b"-", b""), *(value or b"(none)" for value in values)] for _, day, *values in records]
-    return sorted((row[0].decode(), int(row[1]), int(row[2].replace(b"-", b"")), int(row[6]), hundredths(row[7]), hundredths(row[8])) for row in records)
+    return sorted((row[0].decode(), int(row[1]), int(row[2].replace(b"-", b"")), int(row[6]), *map(hundredths, row[7:])) for row in records)
 
 
-def load_beginnings(kind, id, number, before, names, more):
-    """Loads each beginning of a batch into a copy of a file; `more` adds to what is accepted how many placeholders there are by it."""
+def load_beginnings(kind, id, number, before, names, more, form=1):
+    """Loads each beginning of a batch into a copy of a file of a format; `more` adds to what is accepted how many placeholders there are by it."""
     rows = rows_of(f"{folder}/{before}")
     for cut in beginnings(FILES[id]):
         write("cut", cut)
         copy(f"{folder}/{before}", f"{folder}/w")
-        records, fault = readers.read_batch(kind, names, (2023, 2026), cut)
+        records, fault = readers.read_batch(kind, names, (2023, 2026), cut, form)
         answer = run(PROGRAM, folder, f"load w {kind} {id} cut")
         name = f"the first {len(cut)} bytes of {id}"
         if fault:
@@ -114,7 +119,7 @@ def load_beginnings(kind, id, number, before, names, more):
         base = sqlite3.connect(f"{folder}/w")
         if kind == "customer":
             base.text_factory = bytes
-        found = stored_facts(base) if kind == "sales" else [[str(row[0]).encode(), *row[1:]] for row in stored_day_values(base, number)]
+        found = stored_facts(base, form) if kind == "sales" else [[str(row[0]).encode(), *row[1:]] for row in stored_day_values(base, number)]
         base.close()
         count.case([] if found == as_stored(kind, records) else f"{name}: {found} is stored")
 
@@ -126,19 +131,21 @@ def stored_day_values(base, number):
 # every name is known but for the sales' store, which comes with the first record, and a customer that a cut may leave
 load_beginnings("customer", "c2", 15, "after10", NAMES, lambda records: 0)
 load_beginnings("sales", "s1", 5, "after2", [], lambda records: 1 if records else 0)
+load_beginnings("sales", "d5", 22, "after17", [], lambda records: 0, form=2)
 
 # ---- manifests
 
 run(PROGRAM, folder, "init made policy")
 MADE = rows_of(f"{folder}/made")
-MANIFEST = b"product,p1,p1\nsales,s1,s1\nsales,s1,s1\nstore,bad id,p1\nmigrate,m1,m1\nproduct,p2,p2\n"
+MANIFEST = b"product,p1,p1\nsales,s1,s1\nsales,s1,s1\nstore,bad id,p1\nmigrate,m1,m1\nupgrade,u1,none\nproduct,p2,p2\n"
 LINES = [
     "accepted 2 p1: 1 records, 0 placeholders",
     "accepted 3 s1: 2 records, 1 placeholders",
     "already 3 s1: 2 records, 1 placeholders",
     "refused: E1 bad id",
     "accepted 4 m1: 0 records, 0 placeholders",
-    "accepted 5 p2: 1 records, 0 placeholders",
+    "accepted 5 u1: 0 records, 0 placeholders",
+    "accepted 6 p2: 1 records, 0 placeholders",
 ]
 for cut in beginnings(MANIFEST):
     write("cut", cut)
@@ -146,7 +153,8 @@ for cut in beginnings(MANIFEST):
     entries, bad = readers.read_manifest(cut)
     answer = run(PROGRAM, folder, "deliver w cut")
     name = f"the manifest's first {len(cut)} bytes"
-    missing = bad or next((path for _, _, path in entries if path not in FILES), None)
+    # the last field of an upgrade names no file
+    missing = bad or next((path for kind, _, path in entries if kind != "upgrade" and path not in FILES), None)
     if missing is None:
         text = "".join(line + "\n" for line in LINES[: len(entries)]).encode()
         count.case([] if answer == Answer(text, 2 if len(entries) > 3 else 0) else f"{name}: {answer}")

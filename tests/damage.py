@@ -4,12 +4,12 @@
 
 usage: damage.py [CHANGES] [PROGRAM] [FIRST]
 
-First ten changes whose answers were worked out by hand, each through check, load, plan, report, dump and status, and a late record that is accepted
-since the damage is in rows of others. Then 1,000 random changes, or CHANGES of them, from number FIRST on: another value of whatever type, another
-key, a row that is gone, or that stands under a second key. What each word may say of the rows is worked out in tests/stored.py: check, dump and report
-exactly. A damaged value is never taken for another: what is out of its type is told of its table, or the answer is the one without that row or without the
-damage. What is refused or only read leaves the rows of all ten tables as they were; no run takes 20 seconds or is ended by a signal. The same numbers give the same
-changes.
+First changes whose answers were worked out by hand, ten of the sixteen worked rows and thirteen of their upgrade, each through check, load, plan, report, dump
+and status, and a late record that is accepted since the damage is in rows of others. Then 1,000 random changes, or CHANGES of them, from number FIRST on, the even
+ones of the upgraded warehouse: another value of whatever type, another key, a row that is gone, or that stands under a second key, or one in a table that has none.
+What each word may say of the rows is worked out in tests/stored.py: check, dump and report exactly. A damaged value is never taken for another: what is out of its
+type is told of its table, or the answer is the one without that row or without the damage. What is refused or only read leaves the rows of all tables as they were;
+no run takes 20 seconds or is ended by a signal. The same numbers give the same changes.
 """
 
 import os
@@ -21,7 +21,7 @@ import tempfile
 
 import stored
 from stored import damaged, e7
-from worked import DAYS, FILES, TABLES, WORDS, Answer, Count, Text, batch, connected, copy, make_worked, rows_of, run, said, same, write_files
+from worked import DAYS, FILES, REPORT, SECOND, TABLES, Answer, Count, Text, batch, connected, copy, make_worked, printed, rows_of, run, said, same, write_files
 
 ARGUMENTS = dict(enumerate(sys.argv))
 CHANGES = int(ARGUMENTS.get(1, 1000))
@@ -31,8 +31,12 @@ FIRST = int(ARGUMENTS.get(3, 1))
 ACCEPTED = "accepted 21 p10: 1 records, 0 placeholders"
 BRAND, AGE, HOLIDAY = f"product.brand was {DAYS}", f"customer.age_band is {DAYS}", f"date.holiday was {DAYS}"
 PLANNED = "put command 21\nput change 21 1\nput product 3\nput product 5\nedits 4"
-COUNTED = WORDS[-1][2]
-# the change, what check says, the load of p10, a report and what it says where that is another thing than without the change, status where it is
+COUNTED = printed(16, "status w")
+# the sale of T1, of 5.00 at a cost of 3.20, has the brand that its key leads to
+BOLT = "       1          2           5.00           3.20           1.80  Bolt\n"
+THREE, FIVE = "       2          3           7.50           4.80           2.70  Cask\n", "       3          5          12.50           8.00           4.50  Cask\n"
+# the change, what check says, the load of p10, a report and what it says where that is another thing than without the change (a text or some that it may
+# be, or lines of it and those in their place), status
 TEN = [
     ("INSERT INTO meta VALUES ('colour', 1)", "wrong: meta", ACCEPTED, BRAND, None, COUNTED),
     ("UPDATE command SET records = 2 WHERE number = 3", "wrong: command", ACCEPTED, BRAND, None, COUNTED),
@@ -42,8 +46,28 @@ TEN = [
     ("UPDATE product SET to_day = 20240332 WHERE surrogate = 3", e7("product"), e7("product"), BRAND, e7("product"), COUNTED),
     ("DELETE FROM profile WHERE number = 3; UPDATE fact SET product_key = 4 WHERE ticket = 'T1'", "wrong: profile", ACCEPTED, AGE, (e7("customer"), e7("profile")), COUNTED),
     ("UPDATE calendar SET holiday = '(none)' WHERE date_key = 20241225", "wrong: calendar", ACCEPTED, HOLIDAY, None, COUNTED),
-    ("UPDATE fact SET product_key = 4 WHERE ticket = 'T1'", "wrong: fact", ACCEPTED, BRAND, "Bolt", COUNTED),
+    ("UPDATE fact SET product_key = 4 WHERE ticket = 'T1'", "wrong: fact", ACCEPTED, BRAND, {THREE: BOLT + THREE.replace("2          3           7.50           4.80           2.70", "1          1           2.50           1.60           0.90")}, COUNTED),
     ("UPDATE command SET bytes = x'' WHERE id IN ('init', 'm1', 'm2')", e7("command"), e7("command"), BRAND, e7("command"), e7("command")),
+]
+# the same of the upgraded warehouse
+ACCEPTED_AFTER = ACCEPTED.replace("21", "23")
+COUNTED_AFTER = printed(19, "status w")
+NO_SALES = f"report {BRAND}\n{REPORT}       0          0           0.00           0.00           0.00  total"
+NONE, NEWER = "failed: N1 not a warehouse", "failed: N3 new format"
+OF_UPGRADE = [
+    ("UPDATE meta SET value = 1 WHERE name = 'format'", "wrong: command", ACCEPTED_AFTER, BRAND, NO_SALES, COUNTED_AFTER.replace("format 2", "format 1").replace("facts 5", "facts 0")),
+    ("UPDATE meta SET value = 3 WHERE name = 'format'", NEWER, NEWER, BRAND, NEWER, NEWER),
+    ("DROP TABLE void", NONE, NONE, BRAND, NONE, NONE),
+    ("UPDATE command SET bytes = x'0a' WHERE id = 'u1'", "wrong: command", ACCEPTED_AFTER, BRAND, None, COUNTED_AFTER),
+    ("UPDATE command SET kind = 'upgraded' WHERE id = 'u1'", e7("command"), (ACCEPTED_AFTER, e7("command")), BRAND, None, COUNTED_AFTER),
+    ("INSERT INTO fact SELECT 'T9', line, day, store_key, product_key, customer_key, store_durable, product_durable, customer_durable, profile, quantity, amount, cost FROM fact2 WHERE ticket = 'T1'", "wrong: fact", ACCEPTED_AFTER, BRAND, None, COUNTED_AFTER),
+    ("UPDATE fact2 SET discount = 51 WHERE ticket = 'T5'", "wrong: fact2", ACCEPTED_AFTER, BRAND, None, COUNTED_AFTER),
+    ("UPDATE fact2 SET discount = 0.5 WHERE ticket = 'T2'", e7("fact2"), ACCEPTED_AFTER, BRAND, ("as it was", e7("fact2")), COUNTED_AFTER),
+    ("UPDATE fact2 SET quantity = 10000 WHERE ticket = 'T2'", e7("fact2"), ACCEPTED_AFTER, BRAND, e7("fact2"), COUNTED_AFTER),
+    ("UPDATE fact2 SET product_key = 4 WHERE ticket = 'T1'", "wrong: fact2", ACCEPTED_AFTER, BRAND, {FIVE: BOLT + THREE}, COUNTED_AFTER),
+    ("INSERT INTO void VALUES ('T5', 1, 22)", "wrong: void", ACCEPTED_AFTER, BRAND, None, COUNTED_AFTER),
+    ("INSERT INTO void VALUES ('T5', 0, 22)", e7("void"), ACCEPTED_AFTER, BRAND, None, COUNTED_AFTER),
+    ("UPDATE fact2 SET discount = 51 WHERE ticket = 'T5'; INSERT INTO void VALUES ('T5', 0, 22)", "wrong: fact2", ACCEPTED_AFTER, BRAND, None, COUNTED_AFTER),
 ]
 # damage in rows of others than the record's product, with which its load has nothing to do
 ELSEWHERE = "UPDATE command SET bytes = x'' WHERE number = 4; UPDATE change SET day = 20240632 WHERE command = 14; UPDATE product SET to_day = 20240332 WHERE surrogate = 9"
@@ -52,12 +76,35 @@ count = Count()
 work = tempfile.TemporaryDirectory()
 folder = work.name
 write_files(folder)
-make_worked(PROGRAM, folder)
 changed = f"{folder}/changed"
 
 
-def change(sql):
-    copy(f"{folder}/w", changed)
+class Warehouse:
+    """A warehouse whose copies are changed: a copy of `w` under a name, its rows, the loads that the copies are sent, and what they would write of it."""
+
+    def __init__(self, name, sales):
+        copy(f"{folder}/w", f"{folder}/{name}")
+        self.name, self.rows = name, rows_of(f"{folder}/{name}")
+        self.loads = [
+            ("product", "p10", FILES["p10"]),
+            ("store", "x1", batch("store", "S1,2024-03-01,Bern")),
+            ("customer", "x2", batch("customer", "C9,2024-06-01,Gold,20-29,low")),
+            ("sales", *sales),
+        ]
+        for _, id, content in self.loads:
+            with open(f"{folder}/{id}", "wb") as file:
+                file.write(content)
+        self.plans = {id: run(PROGRAM, folder, f"plan {name} {kind} {id} {id}") for kind, id, _ in self.loads}
+
+
+make_worked(PROGRAM, folder)
+PLAIN = Warehouse("plain", ("x3", batch("sales", "T9,1,2024-06-07,S1,P1,C9,1,1,1", "T9,2,2024-06-07,S2,P9,,1,1,1")))
+make_worked(PROGRAM, folder, 18, since=17)
+UPGRADED = Warehouse("upgraded", ("x4", batch("sales2", "T9,1,2024-06-07,S1,P1,C9,1,1,1,0.25", "T9,2,2024-06-07,S2,P9,,1,1,1,0")))
+
+
+def change(sql, warehouse):
+    copy(f"{folder}/{warehouse.name}", changed)
     base = sqlite3.connect(changed, isolation_level=None)
     base.executescript(sql)
     base.close()
@@ -75,7 +122,7 @@ def left(name, before):
     return [] if same(rows_of(changed), before) else [f"{name}: the rows are others now"]
 
 
-# ---- ten changes
+# ---- changes that were worked out by hand
 
 def dump_of_stored(name, rows, table):
     """The faults of a dump, which prints what is stored, or lines of rows before a damaged one and which table is damaged."""
@@ -89,25 +136,31 @@ def dump_of_stored(name, rows, table):
     return [f"{name}, dump {table}: {answer}"]
 
 
-for sql, verdict, loaded, report, reported, counted in TEN:
-    change(sql)
+def faults_of_report(name, answer, whole, reported):
+    """What is wrong with a report, where that without the change is given, and what is another thing by it."""
+    if isinstance(reported, dict):
+        text = whole.text.decode()
+        for lines, others in reported.items():
+            if lines not in text:
+                return [f"{name}: {whole} without the change"]
+            text = text.replace(lines, others)
+        return one_of(name, answer, text)
+    if reported is None or isinstance(reported, tuple) and reported[0] == "as it was":
+        if answer == whole and not whole.status:
+            return []
+        return one_of(name, answer, reported[1:]) if reported else [f"{name}: {answer}"]
+    return one_of(name, answer, reported)
+
+
+for warehouse, (sql, verdict, loaded, report, reported, counted) in [*((PLAIN, it) for it in TEN), *((UPGRADED, it) for it in OF_UPGRADE)]:
+    change(sql, warehouse)
     rows = rows_of(changed)
     faults = one_of(f"{sql}: check", run(PROGRAM, folder, "check changed"), verdict)
     opened = stored.opening(rows, "changed")
-    for table in TABLES:
+    for table in TABLES if warehouse is PLAIN else ("meta", "command", "fact", *SECOND):
         faults += dump_of_stored(sql, rows, table) if not opened else one_of(f"{sql}: dump", run(PROGRAM, folder, f"dump changed {table}"), opened)
-    answer = run(PROGRAM, folder, f"report changed {report}")
-    whole = run(PROGRAM, folder, f"report w {report}")
-    if reported is None:
-        faults += [] if answer == whole and not whole.status else [f"{sql}: report {answer}"]
-    elif reported == "Bolt":  # the sale of T1, of 5.00 at a cost of 3.20, has the brand that its key leads to
-        wanted = whole.text.replace(
-            b"       2          3           7.50           4.80           2.70  Cask\n",
-            b"       1          2           5.00           3.20           1.80  Bolt\n       1          1           2.50           1.60           0.90  Cask\n",
-        )
-        faults += [] if answer == Answer(wanted, 0) and wanted != whole.text else [f"{sql}: report {answer}"]
-    else:
-        faults += one_of(f"{sql}: report", answer, reported)
+    whole = run(PROGRAM, folder, f"report {warehouse.name} {report}")
+    faults += faults_of_report(f"{sql}: report", run(PROGRAM, folder, f"report changed {report}"), whole, reported)
     faults += one_of(f"{sql}: status", run(PROGRAM, folder, "status changed"), counted)
     faults += left(sql, rows)
     answer = run(PROGRAM, folder, "load changed product p10 p10")
@@ -116,7 +169,7 @@ for sql, verdict, loaded, report, reported, counted in TEN:
         faults += left(sql, rows)
     count.case(faults)
 
-change(ELSEWHERE)
+change(ELSEWHERE, PLAIN)
 faults = one_of("plan of p10", run(PROGRAM, folder, "plan changed product p10 p10"), PLANNED)
 faults += one_of("load of p10", run(PROGRAM, folder, "load changed product p10 p10"), ACCEPTED)
 base = sqlite3.connect(changed)
@@ -128,25 +181,14 @@ count.case(faults)
 
 # ---- random changes
 
-ORIGINAL = rows_of(f"{folder}/w")
 ANSWERS = {}
-LOADS = [
-    ("product", "p10", FILES["p10"]),
-    ("store", "x1", batch("store", "S1,2024-03-01,Bern")),
-    ("customer", "x2", batch("customer", "C9,2024-06-01,Gold,20-29,low")),
-    ("sales", "x3", batch("sales", "T9,1,2024-06-07,S1,P1,C9,1,1,1", "T9,2,2024-06-07,S2,P9,,1,1,1")),
-]
-for _, name, content in LOADS:
-    with open(f"{folder}/{name}", "wb") as file:
-        file.write(content)
 REPORTS = [
     ("product.brand", "was"), ("product.category", "was"), ("product.category", "is"), ("product.department", "is"), ("product.supplier", "prior"),
     ("product.supplier", "is"), ("store.city", "was"), ("customer.tier", "was"), ("customer.age_band", "was"), ("customer.age_band", "is"),
     ("date.month", "was"), ("date.holiday", "is"),
 ]
-PLANS = {id: run(PROGRAM, folder, f"plan w {kind} {id} {id}") for kind, id, _ in LOADS}
 NUMBERS = [0, 1, 2, 3, 7, -1, 9_999_999, 10_000_000, 2**40, 2**63 - 1, -(2**63), 20240230, 20240632, 20231231, 19000101, 1.5, 1e300]
-TEXTS = [b"", b"x", b"S 1", b"(none)", b"(unknown)", b"(no card)", b"(other)", b"x" * 61, b"a\x07", b"a\nb", b"a\x00b", b"a,b", b'a"b', "Zürich".encode(), b"\xff", b"7", b"init", b"sales"]
+TEXTS = [b"", b"x", b"S 1", b"(none)", b"(unknown)", b"(no card)", b"(other)", b"x" * 61, b"a\x07", b"a\nb", b"a\x00b", b"a,b", b'a"b', "Zürich".encode(), b"\xff", b"7", b"init", b"sales", b"upgrade"]
 
 
 def another(chance, value, column):
@@ -194,15 +236,36 @@ def rewrite(base, table, text):
     base.execute("PRAGMA writable_schema = OFF")
 
 
-def damage(chance, table):
+def strange_row(chance, warehouse, table):
+    """A row for a table of the upgraded warehouse that has none, each value as one of its column could be, or all but one."""
+    sale = chance.choice(warehouse.rows["fact2"])
+    row = list(sale[:13] if table == "fact" else (*sale[:2], len(warehouse.rows["command"])))
+    if chance.randrange(2):
+        place = chance.randrange(len(row))
+        row[place] = another(chance, row[place], [row[place]])
+    return row
+
+
+def insert(base, table, row):
+    base.execute(f"INSERT INTO {table} VALUES ({', '.join(map(bound, row))})", [bytes(it) if type(it) is Text else it for it in row])
+
+
+def damage(chance, warehouse, table):
     """Makes a random change in a table of a copy, and says what it was; None where the file can't take it."""
     names = TABLES[table][1].split()
     keys = TABLES[table][0]
-    row = chance.choice(ORIGINAL[table])
-    what = chance.choice(["value"] * 6 + ["two values", "key", "key", "gone", "gone", "twice", "twice"])
-    copy(f"{folder}/w", changed)
+    there = warehouse.rows[table]
+    row = chance.choice(there) if there else strange_row(chance, warehouse, table)
+    what = chance.choice(["value"] * 6 + ["two values", "key", "key", "gone", "gone", "twice", "twice"]) if there else "new"
+    copy(f"{folder}/{warehouse.name}", changed)
     base = connected(changed)
     try:
+        if what == "new":
+            text = without_rule(base, table) if None in row else None
+            insert(base, table, row)
+            if text:
+                rewrite(base, table, text)
+            return f"{table} has {row}"
         if what == "gone":
             write(base, table, row, f"DELETE FROM {table} WHERE", [])
             return f"{table} {row[:keys]} is gone"
@@ -212,10 +275,10 @@ def damage(chance, table):
                 new[place] = row[place] + chance.randrange(1, 40) if type(row[place]) is int else Text(row[place] + b"-%d" % chance.randrange(9))
             if table in ("command", "member"):
                 new[1 if table == "command" else 2] = Text(b"Q%d" % chance.randrange(99))
-            base.execute(f"INSERT INTO {table} VALUES ({', '.join(map(bound, new))})", [bytes(it) if type(it) is Text else it for it in new])
+            insert(base, table, new)
             return f"{table} {row[:keys]} stands under {new[:keys]} too"
         places = range(keys) if what == "key" else range(len(names))
-        news = {place: another(chance, row[place], [it[place] for it in ORIGINAL[table]]) for place in chance.sample(places, 2 if what == "two values" else 1)}
+        news = {place: another(chance, row[place], [it[place] for it in there]) for place in chance.sample(places, 2 if what == "two values" else 1)}
         text = without_rule(base, table) if None in news.values() else None
         write(base, table, row, f"UPDATE {table} SET {', '.join(f'{names[it]} = {bound(new)}' for it, new in news.items())} WHERE", list(news.values()))
         if text:
@@ -229,12 +292,16 @@ def damage(chance, table):
 
 def defined(rows):
     """The rows that the stored commands define, by a making and a delivery of them in a file of their own; None where they aren't accepted so."""
-    if same(rows["command"], ORIGINAL["command"]):
-        return ORIGINAL
+    for warehouse in (PLAIN, UPGRADED):
+        if same(rows["command"], warehouse.rows["command"]):
+            return warehouse.rows
     commands = rows["command"]
     if not commands or [row[0] for row in commands] != list(range(1, len(commands) + 1)):
         return None
     if commands[0][1:3] != (b"init", b"init") or any(row[2] == b"init" for row in commands[1:]):
+        return None
+    # of an upgrade no bytes are read, and none are kept
+    if any(row[2] == b"upgrade" and row[3] for row in commands):
         return None
     lines = []
     with open(f"{folder}/again.csv", "wb") as manifest:
@@ -268,10 +335,11 @@ def faults_of_reading(chance, rows, table):
     if opened:
         faults += one_of("status", answer, opened)
     else:
-        counts = [f"{name}s {len(rows[name])}" for name in ("command", "change", "fact")]
+        form = stored.meta_of(rows)[b"format"]
+        counts = [f"format {form}", f"commands {len(rows['command'])}", f"changes {len(rows['change'])}", f"facts {len(rows[stored.facts_table(rows)])}"]
         # of the members how many they are, or the greatest number of one
         members = [{len(them), max(them, default=0)} for them in ([row[1] for row in rows["member"] if row[0] == dim and type(row[1]) is int] for dim in (1, 2, 3))]
-        found = re.fullmatch("format 1\n" + "\n".join(counts) + "\nmembers product (\\d+) store (\\d+) customer (\\d+)", answer.line())
+        found = re.fullmatch("\n".join(counts) + "\nmembers product (\\d+) store (\\d+) customer (\\d+)", answer.line())
         if not (found and answer.status == 0 and all(int(it) in them for it, them in zip(found.groups(), members))):
             faults += one_of("status", answer, e7("member")) if damaged(rows, "member") else [f"status: {answer}"]
     faults += left("status", rows)
@@ -280,7 +348,7 @@ def faults_of_reading(chance, rows, table):
     answer = run(PROGRAM, folder, f"report changed {subject} {mode} {DAYS}")
     if opened:
         faults += one_of("report", answer, opened)
-    elif same(stored.policy_row(rows)[3], ORIGINAL["command"][0][3]):
+    elif same(stored.policy_row(rows)[3], FILES["policy"]):
         wanted = stored.report(rows, subject, mode, *DAYS.split())
         if not any(answer == Answer(text, stored_status(text)) for text in wanted):
             faults.append(f"report {subject} {mode}: {answer}, and not {wanted}")
@@ -303,7 +371,7 @@ def keys_of(lines):
 
 def differing(before, after):
     for table, (keys, _) in TABLES.items():
-        old, new = ({tuple(map(str, map(plain, row[:keys]))): row for row in them[table]} for them in (before, after))
+        old, new = ({tuple(map(str, map(plain, row[:keys]))): row for row in them.get(table, [])} for them in (before, after))
         for key in {*old, *new}:
             if not same(old.get(key), new.get(key)):
                 yield (table, *key)
@@ -313,9 +381,9 @@ def plain(value):
     return bytes(value).decode(errors="replace") if isinstance(value, bytes) else value
 
 
-def faults_of_load(chance, rows, table):
+def faults_of_load(chance, warehouse, rows, table):
     """What is wrong with the answers to a plan and a load, and with what the load leaves."""
-    kind, id, content = chance.choice(LOADS)
+    kind, id, content = chance.choice(warehouse.loads)
     name = f"of {kind} {id}"
     planned = run(PROGRAM, folder, f"plan changed {kind} {id} {id}")
     faults = left("plan", rows)
@@ -347,9 +415,9 @@ def faults_of_load(chance, rows, table):
         for text in {planned.line(), loaded.line()}:
             if text.startswith("failed: E7") and not (text == e7(table) and damaged(rows, table)):
                 faults.append(f"{text}, and nothing in that table is out of its type")
-    if damaged(rows, table) and planned.line() != e7(table) and planned != PLANS[id]:
+    if damaged(rows, table) and planned.line() != e7(table) and planned != warehouse.plans[id]:
         # then the damaged rows are as if they weren't there
-        faults += planned_without(name, rows, table, planned, f"{kind} {id} {id}")
+        faults += planned_without(name, rows, table, planned, f"{kind} {id} {id}", warehouse.plans[id])
     return faults
 
 
@@ -364,7 +432,7 @@ def kept(commands, row):
     return sorted([*commands, row], key=lambda it: it[0])
 
 
-def planned_without(name, rows, table, planned, words):
+def planned_without(name, rows, table, planned, words, undamaged):
     copy(f"{folder}/before", f"{folder}/without")
     base = connected(f"{folder}/without")
     for row in damaged(rows, table):
@@ -372,21 +440,22 @@ def planned_without(name, rows, table, planned, words):
         base.execute(f"DELETE FROM {table} WHERE " + " AND ".join(f"{key} IS {bound(value)}" for key, value in zip(keys, row)), [bytes(it) if type(it) is Text else it for it in row[: len(keys)]])
     base.close()
     wanted = run(PROGRAM, folder, f"plan without {words}")
-    return [] if planned == wanted else [f"plan {name}: {planned}, and not {PLANS[words.split()[1]]} or {wanted}"]
+    return [] if planned == wanted else [f"plan {name}: {planned}, and not {undamaged} or {wanted}"]
 
 
 for number in range(FIRST, FIRST + CHANGES):
     chance = random.Random(number)
+    warehouse = PLAIN if number % 2 else UPGRADED
     made = None
     while not made:
-        table = chance.choice(list(TABLES))
-        made = damage(chance, table)
-        rows = rows_of(changed) if made else ORIGINAL
-        if same(rows, ORIGINAL):
+        table = chance.choice(list(warehouse.rows))
+        made = damage(chance, warehouse, table)
+        rows = rows_of(changed) if made else warehouse.rows
+        if same(rows, warehouse.rows):
             made = None
     copy(changed, f"{folder}/before")
-    faults = faults_of_reading(chance, rows, table) + faults_of_load(chance, rows, table)
-    count.case([f"change {number}, {made}: {it}" for it in faults])
+    faults = faults_of_reading(chance, rows, table) + faults_of_load(chance, warehouse, rows, table)
+    count.case([f"change {number}, {warehouse.name}, {made}: {it}" for it in faults])
 
 print(", ".join(f"{line} {times}" for line, times in sorted(ANSWERS.items())))
 work.cleanup()

@@ -2,10 +2,10 @@
 # Kills deliveries of the built program at random moments, delivers the same manifest again, and looks at what the file then holds. Build the
 # program first (`rt run` in crates/wh). deliveries.sh [ROUNDS] [PROGRAM]: 50 rounds, or as many as 300 seconds allow.
 #
-# A manifest names 40 commands of all five kinds. One file is delivered it with no kill. In each round another is made, and its delivery is killed
+# A manifest names 40 commands of all six kinds, in its midst an upgrade. One file is delivered it with no kill. In each round another is made, and its delivery is killed
 # (`kill -9`) twice, each time at some moment of the time that the first one took. What is printed of it is a beginning of what is printed
 # without a kill, and `check` finds the file clean. Afterwards the same manifest has to end as without a kill: each command with its receipt, accepted or already there, and
-# the same rows in the ten tables.
+# the same rows in all tables.
 set -eu
 cd "$(dirname "$0")/.."
 rounds=${1:-50}
@@ -17,12 +17,16 @@ seconds=300
 kinds=(product sales store customer sales)
 
 for number in $(seq 1 40); do
-    if [ $((number % 8)) = 0 ]; then
+    if [ $number = 21 ]; then
+        echo "upgrade,u$number,none"
+    elif [ $((number % 8)) = 0 ]; then
         policy=$([ $((number % 16)) = 0 ] && echo flat || echo overwritten)
         echo "migrate,m$number,examples/$policy.toml"
     else
         kind=${kinds[$((number % 5))]}
-        batch "$kind" "$number" > "$work/$number.csv"
+        layout=$kind
+        [ "$kind" != sales ] || [ $number -lt 21 ] || layout=discounted
+        batch "$layout" "$number" > "$work/$number.csv"
         echo "$kind,b$number,$work/$number.csv"
     fi
 done > "$work/night.csv"

@@ -1,8 +1,9 @@
 #!/usr/bin/env bash
 # Refuses each growth of memory of a load in turn, and of one making, in the built program, and looks at what its file then holds.
 # Build the program first (`rt run` in crates/wh). growths.sh [STEP] [PROGRAM] [NAME]: every growth of a load of records, of a load of sales and of
-# a load of a late record that moves a sale, of a migration, of a delivery of these three, of a report, of a dump and of a check, or one in STEP of them, and of the making, which has more, one in ten times as many; with NAME (making, load, sales, late,
-# migration, delivery, report, dump, check) of that one alone.
+# a load of a late record that moves a sale, of a migration, of an upgrade and of a load of sales after it, of a delivery of these three loads, of a report, of a dump and
+# of a check, or one in STEP of them, and of the making, which has more, one in ten times as many; with NAME (making, load, sales, late, migration, upgrade, discounted,
+# delivery, report, dump, check) of that one alone.
 #
 # A run is answered as with ample memory, with `failed: E8 memory`, or with `failed: E9 store, memory`. After E8 the file holds what it
 # held; the same words again are answered as accepted. After E9 they are answered as accepted or, of a load that was kept, as already
@@ -37,7 +38,7 @@ POLICY
 printf 'id,day,brand\nP1,2024-02-01,Acme\n' > "$work/first.csv"
 printf 'id,day,brand\nP1,2024-01-20,Bolt\nP2,2024-01-10,Cask\n' > "$work/second.csv"
 
-# the rows of the ten tables of a file
+# the rows of all tables of a file
 rows() {
     if command -v sqlite3 > /dev/null; then
         sqlite3 "$1" ".dump"
@@ -133,6 +134,13 @@ sed 's/type = 2/type = 1/' "$work/policy.toml" > "$work/newer.toml"
 cp "$work/late.before" "$work/migration.before"
 "$program" load "$work/migration.before" product p2 "$work/second.csv" > "$work/told" || fail "$(cat "$work/told")"
 refuse_all migration 'already 5 m1: 0 records, 0 placeholders' "$step" migrate "$work/file" m1 "$work/newer.toml"
+
+cp "$work/late.before" "$work/upgrade.before"
+refuse_all upgrade 'already 4 u1: 0 records, 0 placeholders' "$step" upgrade "$work/file" u1
+printf '%s\nT2,1,2024-06-10,S1,P9,C9,1,10.00,7.00,0.50\n' "$header,discount" > "$work/discounted.csv"
+cp "$work/upgrade.before" "$work/discounted.before"
+"$program" upgrade "$work/discounted.before" u1 > "$work/told" || fail "$(cat "$work/told")"
+refuse_all discounted 'already 5 s2: 1 records, 2 placeholders' "$step" load "$work/file" sales s2 "$work/discounted.csv"
 
 # A delivery stops at the fault. The same manifest again gives each command its receipt, accepted or already there.
 judge_delivery() {

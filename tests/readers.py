@@ -7,8 +7,10 @@ import re
 import tomllib
 
 MARK = b"\xef\xbb\xbf"
-KINDS = ("product", "store", "customer", "sales", "migrate")
-SALES = "ticket,line,day,store,product,customer,quantity,amount,cost".split(",")
+KINDS = ("product", "store", "customer", "sales", "migrate", "upgrade")
+FIRST = "ticket,line,day,store,product,customer,quantity,amount,cost".split(",")
+# the header of sales by the format
+SALES = {1: FIRST, 2: [*FIRST, "discount"]}
 
 
 def rows_of(content):
@@ -43,6 +45,10 @@ def is_money(text):
     return re.fullmatch(rb"-?\d{1,7}(\.\d{1,2})?", text) is not None
 
 
+def is_discount(text):
+    return not text.startswith(b"-") and is_money(text)
+
+
 # what a field may be, and the fault otherwise
 FIELDS = {
     "ticket": (lambda text: is_key(text, 20), "B4 bad key"),
@@ -54,16 +60,17 @@ FIELDS = {
     "quantity": (lambda text: re.fullmatch(rb"-?\d{1,4}", text), "B7 bad number"),
     "amount": (is_money, "B7 bad number"),
     "cost": (is_money, "B7 bad number"),
+    "discount": (is_discount, "B7 bad number"),
 }
 DESCRIBED = {"id": (is_key, "B4 bad key"), "day": (lambda text: is_day(text, 2199), "B5 bad day")}
 VALUE = (lambda text: not text or is_given(text), "B6 bad value")
 
 
-def read_batch(kind, names, years, content):
-    """The records of a batch and None, or None and its first fault; names are those of the dimension's attributes."""
+def read_batch(kind, names, years, content, form=1):
+    """The records of a batch and None, or None and its first fault; names are those of the dimension's attributes, the format is that of sales."""
     if len(content) > 1_000_000:
         return None, "B1 too large, record 0"
-    header = SALES if kind == "sales" else ["id", "day", *names]
+    header = SALES[form] if kind == "sales" else ["id", "day", *names]
     rows = rows_of(content)
     if not rows or rows[0] != [name.encode() for name in header]:
         return None, "B2 wrong header, record 0"

@@ -1,10 +1,10 @@
 #!/usr/bin/env python3
-"""Refuses each growth of memory of each of the sixteen worked rows in turn, one at a time, in the built program, and looks at its answer and at its file.
+"""Refuses each growth of memory of each of the worked rows in turn, one at a time, in the built program, and looks at its answer and at its file.
 Build the program first (`rt run` in crates/wh); a C compiler makes the library tests/refuse_each.c that is loaded in front of it.
 
 usage: row_growths.py [STEP] [PROGRAM] [ROW]
 
-Every growth of each of the words in tests/worked.py, or one in STEP of them; with ROW those of that row alone. An answer is the worked one, or
+Every growth of each of the words in tests/worked.py, from the making to what comes after the upgrade, or one in STEP of them; with ROW those of that row alone. An answer is the worked one, or
 `failed: E8 memory` with the rows as they were, or `failed: E9 store, memory` with the rows as they were or as they are with the command; of a dump some of its
 lines may stand before. No other answer changes. The same words again end as they do without a refusal.
 
@@ -46,7 +46,7 @@ def held():
 
 
 def rows(name):
-    """The rows of the ten tables as a text, or None where there is no warehouse."""
+    """The rows of all tables as a text, or None where there is no warehouse."""
     return repr(rows_of(f"{folder}/{name}")) if run(PROGRAM, folder, f"status {name}").status == 0 else None
 
 

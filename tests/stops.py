@@ -4,14 +4,15 @@ first (`rt run` in crates/wh); a C compiler makes the library tests/stop_file.c 
 
 usage: stops.py [STEP] [PROGRAM] [NAME]
 
-Every such call of a making, of a load of a late record and of a delivery of three commands, or one in STEP of them, until a run ends without a stop; with
-NAME (making, load, delivery, open, again) of that one alone. Each stop is tried three times: with nothing of that call done; with the first half of the
-bytes of that write done; and with all taken back that was written since its file was last synced. `open` stops a `status` that opens what the stopped
-delivery left, and `again` stops that delivery when it comes again, each after one in four times STEP of the delivery's stops.
+Every such call of a making, of a load of a late record and of a delivery of three commands, or one in STEP of them, until a run ends without a stop; of an
+upgrade of the sixteen worked rows, and of a delivery of an upgrade, a late record and a migration, one in four times STEP; with NAME (making, load, delivery,
+upgrade, carrying, open, again) of that one alone. Each stop is tried three times: with nothing of that call done; with the first half of the bytes of that write
+done; and with all taken back that was written since its file was last synced. `open` stops a `status` that opens what the stopped delivery left, and `again`
+stops that delivery when it comes again, each after one in four times STEP of the delivery's stops.
 
-After each stop the file is opened, or it is no warehouse where the making was stopped, which is then made again. It is clean, the rows of the ten tables are those
-after some of the commands, among them each whose line went out. The same commands again end with their receipts, and all ten dumps are those of a run
-without a stop.
+After each stop the file is opened, or it is no warehouse where the making was stopped, which is then made again. It is clean, the rows of its tables, ten or twelve
+of them, are those after some of the commands, among them each whose line went out. The same commands again end with their receipts, and all twelve dumps are those
+of a run without a stop.
 """
 
 import os
@@ -37,21 +38,25 @@ subprocess.run(["cc", "-O1", "-shared", "-fPIC", "-o", f"{folder}/stop.so", f"{H
 write_files(folder)
 with open(f"{folder}/night", "w") as file:
     file.write("product,p3,p3\nsales,s2,s2\ncustomer,c1,c1\n")
+with open(f"{folder}/carrying", "w") as file:
+    file.write("upgrade,u1,none\nproduct,p3,p3\nmigrate,m1,m1\n")
 make_worked(PROGRAM, folder, 3)
-os.rename(f"{folder}/w", f"{folder}/made")
-if os.path.exists(f"{folder}/w-wal"):
-    os.rename(f"{folder}/w-wal", f"{folder}/made-wal")
+copy(f"{folder}/w", f"{folder}/made")
+make_worked(PROGRAM, folder, since=4)
+copy(f"{folder}/w", f"{folder}/worked")
 
 MADE = ["accepted 1 init: 0 records, 0 placeholders"]
 LOADED = ["accepted 6 p3: 1 records, 0 placeholders"]
 DELIVERED = [*LOADED, "accepted 7 s2: 1 records, 2 placeholders", "accepted 8 c1: 1 records, 0 placeholders"]
+UPGRADED = ["accepted 21 u1: 0 records, 0 placeholders"]
+CARRIED = ["accepted 6 u1: 0 records, 0 placeholders", "accepted 7 p3: 1 records, 0 placeholders", "accepted 8 m1: 0 records, 0 placeholders"]
 
 
 class Work:
-    """Words that are stopped: the file before them or None, the lines that they print, and the rows after each number of commands."""
+    """Words that are stopped: the file before them or None, the lines that they print, the rows after each number of commands, and at one in how many calls."""
 
-    def __init__(self, name, before, words, lines, steps):
-        self.name, self.before, self.words, self.lines = name, before, words, lines
+    def __init__(self, name, before, words, lines, steps, step=STEP):
+        self.name, self.before, self.words, self.lines, self.step = name, before, words, lines, step
         self.states = [self.start() and rows_of(f"{folder}/w")]
         for step in steps:
             run(PROGRAM, folder, step)
@@ -128,7 +133,7 @@ def stop_each(work, words, start, least, name):
             faults, kept = faults_after(work, where, out, least)
             count.case(faults or faults_again(work, where, kept))
             calls[call] = calls.get(call, 0) + 1
-            number += STEP
+            number += work.step
     return calls
 
 
@@ -143,7 +148,9 @@ def is_wanted(name):
 making = Work("making", None, "init w policy", MADE, ["init w policy"])
 load = Work("load", "made", "load w product p3 p3", LOADED, ["load w product p3 p3"])
 delivery = Work("delivery", "made", "deliver w night", DELIVERED, ["load w product p3 p3", "load w sales s2 s2", "load w customer c1 c1"])
-for it in (making, load, delivery):
+upgrade = Work("upgrade", "worked", "upgrade w u1", UPGRADED, ["upgrade w u1"], 4 * STEP)
+carrying = Work("carrying", "made", "deliver w carrying", CARRIED, ["upgrade w u1", "load w product p3 p3", "migrate w m1 m1"], 4 * STEP)
+for it in (making, load, delivery, upgrade, carrying):
     if is_wanted(it.name):
         calls = stop_each(it, it.words, it.start, 0, it.name)
         tell(it.name, calls)

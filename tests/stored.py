@@ -1,11 +1,12 @@
-"""What the rules of docs/ say of the rows that a file stores, whoever wrote them: which are of their types, and what the words over the file then print."""
+"""What the rules of docs/ say of the rows that a file stores, whoever wrote them, in either format: which are of their types, and what the words over the
+file then print. Rows are by their tables; those of the second format may be there or not."""
 
 import datetime
 import re
 import tomllib
 
 import readers
-from worked import HEADERS, REPORT, TABLES, Text, same
+from worked import HEADERS, REPORT, SECOND, TABLES, Text, same
 
 GREATEST = {"commands_max": 100_000, "changes_max": 1_000_000, "facts_max": 1_000_000}
 NO_CARD = b"(no card)"
@@ -46,12 +47,13 @@ def is_slot(value):
 
 
 def is_kind(value):
-    return type(value) is Text and value in (b"init", b"migrate", b"product", b"store", b"customer", b"sales")
+    return type(value) is Text and value in (b"init", b"migrate", b"upgrade", b"product", b"store", b"customer", b"sales")
 
 
 number, flag, dim = whole(0, 9_999_999), whole(0, 1), whole(1, 3)
 money = whole(-999_999_999, 999_999_999)
 DIMENSION = [number, number, key(32), is_day, is_day, flag, *[is_slot] * 12, number]
+FACT = [key(20), whole(1, 9999), is_day, *[number] * 7, whole(-9999, 9999), money, money]
 # of each column whether a value is of its type
 TYPES = {
     "meta": [is_text, is_int],
@@ -63,7 +65,9 @@ TYPES = {
     "customer": DIMENSION,
     "profile": [number, *[is_slot] * 6],
     "calendar": [is_day, is_text, *[is_int] * 6, is_text, flag, is_text],
-    "fact": [key(20), whole(1, 9999), is_day, *[number] * 7, whole(-9999, 9999), money, money],
+    "fact": FACT,
+    "fact2": [*FACT, whole(0, 999_999_999)],
+    "void": [key(20), whole(1, 9999), number],
 }
 
 
@@ -74,11 +78,26 @@ def is_damaged(table, row):
 
 
 def damaged(rows, table):
-    return [row for row in rows[table] if is_damaged(table, row)]
+    return [row for row in rows.get(table, []) if is_damaged(table, row)]
 
 
 def e7(table):
     return f"failed: E7 damaged, {table}"
+
+
+def meta_of(rows):
+    """The numbers of meta by their names."""
+    return {bytes(name): value for name, value in rows["meta"] if type(name) is Text}
+
+
+def tables_in(form):
+    """The tables that a format has."""
+    return [table for table in TABLES if form == 2 or table not in SECOND]
+
+
+def facts_table(rows):
+    """The table in which the sales of a file stand that is opened."""
+    return "fact2" if meta_of(rows)[b"format"] == 2 else "fact"
 
 
 def policy_row(rows):
@@ -90,13 +109,17 @@ def opening(rows, name):
     if any(value is None for table in rows.values() for row in table for value in row):
         # the schema forbids it, so the file isn't sound as SQLite sees it
         return f"failed: F1 file, {name}"
-    meta = {name: value for name, value in rows["meta"] if type(name) is Text}
+    if any(table not in rows for table in tables_in(1)):
+        return "failed: N1 not a warehouse"
+    meta = meta_of(rows)
     if b"format" not in meta:
         return "failed: N1 not a warehouse"
     if not is_int(meta[b"format"]):
         return e7("meta")
-    if meta[b"format"] != 1:
+    if meta[b"format"] not in (1, 2):
         return "failed: N2 old format" if meta[b"format"] < 1 else "failed: N3 new format"
+    if any(table not in rows for table in tables_in(meta[b"format"])):
+        return "failed: N1 not a warehouse"
     if not all(whole(1, most)(meta.get(name.encode())) for name, most in GREATEST.items()):
         return e7("meta")
     row = policy_row(rows)
@@ -111,11 +134,14 @@ def verdict(rows, defined):
         return e7("meta") if damaged(rows, "meta") else "wrong: meta"
     if damaged(rows, "command"):
         return e7("command")
-    meta = {name.decode(): value for name, value in rows["meta"]}
+    meta = meta_of(rows)
     wanted = defined(rows)
-    if not wanted or any(len(wanted[table]) > meta[f"{table}s_max"] for table in ("command", "change", "fact")):
+    if not wanted or meta_of(wanted)[b"format"] != meta[b"format"]:
         return "wrong: command"
-    for table in list(TABLES)[2:]:
+    most = {"commands_max": wanted["command"], "changes_max": wanted["change"], "facts_max": wanted[facts_table(wanted)]}
+    if any(len(them) > meta[name.encode()] for name, them in most.items()):
+        return "wrong: command"
+    for table in tables_in(meta[b"format"])[2:]:
         if not same(rows[table], wanted[table]):
             return e7(table) if damaged(rows, table) else f"wrong: {table}"
     return "clean"
@@ -131,9 +157,9 @@ def field(value):
 
 
 def dump(rows, table):
-    """The lines of a table, up to the first row that is out of its type, and whether there is one."""
+    """The lines of a table, up to the first row that is out of its type, and whether there is one. One that the format hasn't has no row."""
     lines = [TABLES[table][1].replace(" ", ",").encode() + b"\n"]
-    for row in rows[table]:
+    for row in rows[table] if table in tables_in(meta_of(rows)[b"format"]) else []:
         if is_damaged(table, row):
             return lines, True
         lines.append(b",".join(field(value) for value in row) + b"\n")
@@ -183,13 +209,14 @@ def report(rows, subject, mode, first, last):
     for table in tables:
         if damaged(rows, table):
             return [e7(table).encode() + b"\n"]
-    place = named("fact", column)
+    facts = facts_table(rows)
+    place = named(facts, column)
     read = [2, place, 10, 11, 12]
-    if any(not TYPES["fact"][it](row[it]) for row in rows["fact"] for it in read):
-        return [e7("fact").encode() + b"\n"]
+    if any(not TYPES[facts][it](row[it]) for row in rows[facts] for it in read):
+        return [e7(facts).encode() + b"\n"]
     sums = {}
     total = [0, 0, 0, 0]
-    for row in rows["fact"]:
+    for row in rows[facts]:
         if not int(first.replace("-", "")) <= row[2] <= int(last.replace("-", "")):
             continue
         if row[place] not in by_key:
@@ -201,4 +228,4 @@ def report(rows, subject, mode, first, last):
     for label, (lines, quantity, amount, cost) in [*sorted(sums.items()), (b"total", total)]:
         text += b"%8d %10d %14s %14s %14s  %s\n" % (lines, quantity, money_text(amount), money_text(cost), money_text(amount - cost), label)
     # what isn't read needs not be of its type
-    return [text, e7("fact").encode() + b"\n"] if damaged(rows, "fact") else [text]
+    return [text, e7(facts).encode() + b"\n"] if damaged(rows, facts) else [text]

@@ -6,7 +6,8 @@ fail() {
     exit 1
 }
 
-# a batch of this kind whose records depend on this number: 300 records of 100 members, on days of three years, or 300 sales to them
+# a batch of this kind whose records depend on this number: 300 records of 100 members, on days of three years, or 300 sales to them; `discounted`: those of
+# the second format
 batch() {
     python3 - "$1" "$2" <<'PYTHON'
 import random
@@ -20,11 +21,12 @@ def day():
     return f"{chance.randrange(2023, 2026)}-{chance.randrange(1, 13):02}-{chance.randrange(1, 29):02}"
 
 
-if kind == "sales":
-    print("ticket,line,day,store,product,customer,quantity,amount,cost")
+if kind in ("sales", "discounted"):
+    print("ticket,line,day,store,product,customer,quantity,amount,cost" + (",discount" if kind == "discounted" else ""))
     for place in range(300):
         card = f"M{chance.randrange(100)}" if place % 2 else ""
-        print(f"T{number}-{place // 3},{place % 3 + 1},{day()},M{chance.randrange(100)},M{chance.randrange(100)},{card},{chance.randrange(9)},{chance.randrange(99)}.5,1.25")
+        sale = f"T{number}-{place // 3},{place % 3 + 1},{day()},M{chance.randrange(100)},M{chance.randrange(100)},{card},{chance.randrange(9)},{chance.randrange(99)}.5,1.25"
+        print(sale + (f",{place % 4}.5" if kind == "discounted" else ""))
     sys.exit()
 header = {"product": "description,brand,category,department,launched,supplier", "store": "city", "customer": "tier"}[kind]
 print("id,day," + header)
@@ -48,10 +50,10 @@ for row in sqlite3.connect(sys.argv[1]).execute(sys.argv[2]): print(*row, sep="|
     fi
 }
 
-# the rows of the ten tables
+# the rows of the ten tables, and of the two that an upgrade adds where they are there
 rows() {
     if command -v sqlite3 > /dev/null; then
-        sqlite3 "$1" ".dump meta command member change product store customer profile calendar fact"
+        sqlite3 "$1" ".dump meta command member change product store customer profile calendar fact fact2 void"
     else
         python3 -c 'import sqlite3, sys
 for line in sqlite3.connect(sys.argv[1]).iterdump(): print(line)' "$1"

@@ -1,4 +1,5 @@
-"""The warehouse of sixteen worked rows, and how a script runs the program over it and reads its file. The scripts in Python share it.
+"""The warehouse of worked rows, sixteen and then those of its upgrade, and how a script runs the program over it and reads its file. The scripts in
+Python share it.
 
 `WORDS` are what is asked of one warehouse `w`, row after row, each with the lines that it prints. They were worked out by hand from the rules of
 docs/, and so were all that the scripts compare with. `FILES` are the policies and batches that the words name.
@@ -49,8 +50,9 @@ day = "2024-12-25"
 name = "Christmas Day"
 """
 
-# the ten tables in the order in which they are judged, with their columns; the first so many are the key
+# the tables in the order in which they are judged, with their columns; the first so many are the key
 DIMENSION = "surrogate durable natural from_day to_day is_current a1 a2 a3 a4 a5 a6 b1 b2 b3 b4 b5 b6 profile_now"
+FACT = "ticket line day store_key product_key customer_key store_durable product_durable customer_durable profile quantity amount cost"
 TABLES = {
     "meta": (1, "name value"),
     "command": (1, "number id kind bytes records placeholders"),
@@ -61,14 +63,20 @@ TABLES = {
     "customer": (1, DIMENSION),
     "profile": (1, "number v1 v2 v3 v4 v5 v6"),
     "calendar": (1, "date_key iso year quarter month day day_of_year weekday weekday_name weekend holiday"),
-    "fact": (2, "ticket line day store_key product_key customer_key store_durable product_durable customer_durable profile quantity amount cost"),
+    "fact": (2, FACT),
+    "fact2": (2, f"{FACT} discount"),
+    "void": (2, "ticket line command"),
 }
+# those that an upgrade adds
+SECOND = ("fact2", "void")
 
 HEADERS = {
     "product": "id,day,description,brand,category,department,launched,supplier",
     "store": "id,day,city",
     "customer": "id,day,tier,age_band,spend_band",
     "sales": "ticket,line,day,store,product,customer,quantity,amount,cost",
+    # those of the second format
+    "sales2": "ticket,line,day,store,product,customer,quantity,amount,cost,discount",
 }
 
 
@@ -105,6 +113,10 @@ FILES = {
     "c3": b"\xef\xbb\xbf" + C2.replace(b"\n", b"\r\n"),
     "c4": batch("customer", f"C8,2024-07-01,{60 * 'x'},,"),
     "c5": batch("customer", f"C8,2024-07-01,{61 * 'x'},,"),
+    "d5": batch("sales2", "T5,1,2024-07-05,S1,P1,C9,2,5.00,3.20,0.5"),
+    "d6": batch("sales2", "T6,1,2024-07-05,S1,P1,C9,2,5.00,3.20,0", "T6,2,2024-07-05,S1,P1,C9,2,5.00,3.20,-0.5"),
+    "d7": batch("sales2", "T6,1,2024-07-05,S1,P1,C9,2,5.00,3.20,12345678"),
+    "d8": batch("sales2", "T6,1,2024-07-05,S1,P1,C9,2,5.00,3.20,9999999.99", "T1,1,2024-02-05,S1,P1,,2,5.00,3.20,0"),
 }
 FILES["p1-longer"] = FILES["p1"] + b"\n"
 
@@ -115,6 +127,15 @@ PRODUCTS = """\
 4,1,P1,20240120,20240131,0,Cola 1 l,Bolt,Drinks,Grocery,2019,South,,,Soft drinks,,,East,0
 6,1,P1,20240401,99991231,1,Cola 1 l,Cask,Soft drinks,Grocery,2019,South,,,Soft drinks,,,East,0
 """
+# the facts that row 17 carries into the second table, those after row 18, and the lines of the plan of row 17
+CARRIED = """\
+T0,1,20231231,1,1,0,1,1,0,0,1,250,160,0
+T1,1,20240205,1,3,0,1,1,0,0,2,500,320,0
+T2,1,20240610,1,9,1,1,2,1,2,1,1000,700,0
+T4,1,20240229,1,3,0,1,1,0,0,1,250,160,0
+"""
+DISCOUNTED = CARRIED + "T5,1,20240705,1,6,1,1,1,1,3,2,500,320,50"
+MOVED = "remove fact T0 1\nremove fact T1 1\nremove fact T2 1\nremove fact T4 1\nput fact2 T0 1\nput fact2 T1 1\nput fact2 T2 1\nput fact2 T4 1\n"
 REPORT = "   lines   quantity         amount           cost         margin  label\n"
 TOTAL = "       4          5          20.00          13.40           6.60  total\n"
 BY_AGE = """\
@@ -206,6 +227,41 @@ report product.category is 2025-01-01 2025-12-31
     (16, "load w customer c5 c5", "refused: E3 batch, B6 bad value, record 1"),
     (16, "check w", "clean"),
     (16, "status w", "format 1\ncommands 20\nchanges 13\nfacts 4\nmembers product 2 store 1 customer 2"),
+    (17, "dump w fact2", ""),
+    (17, "dump w void", ""),
+    (17, "upgrade w u/1", "refused: E1 bad id"),
+    (17, "upgrade w s1", "refused: E2 id reused"),
+    (17, "plan w upgrade u1 none", f"put meta format\nput command 21\n{MOVED}edits 10"),
+    (17, "upgrade w u1", "accepted 21 u1: 0 records, 0 placeholders"),
+    (17, "upgrade w u1", "already 21 u1: 0 records, 0 placeholders"),
+    (17, "plan w upgrade u1 none", "edits 0"),
+    (17, "upgrade w u2", "refused: E6 format, 2"),
+    (17, "plan w upgrade u2 none", "refused: E6 format, 2"),
+    (17, "load w product u1 p1", "refused: E2 id reused"),
+    (17, "dump w meta", "changes_max,1000000\ncommands_max,100000\nfacts_max,1000000\nformat,2"),
+    (17, "dump w fact", ""),
+    (17, "dump w fact2", CARRIED),
+    (17, "status w", "format 2\ncommands 21\nchanges 13\nfacts 4\nmembers product 2 store 1 customer 2"),
+    (18, "load w sales s5 s4", "refused: E3 batch, B2 wrong header, record 0"),
+    (18, "load w sales s5 d6", "refused: E3 batch, B7 bad number, record 2"),
+    (18, "load w sales s5 d7", "refused: E3 batch, B7 bad number, record 1"),
+    (18, "load w sales s5 d8", "refused: E6 line there, record 2"),
+    (18, "plan w sales s5 d5", "put command 22\nput fact2 T5 1\nedits 2"),
+    (18, "load w sales s5 d5", "accepted 22 s5: 1 records, 0 placeholders"),
+    (18, "dump w fact2", DISCOUNTED),
+    (18, "dump w fact", ""),
+    (18, "dump w void", ""),
+    (19, "load w sales s1 s1", "already 5 s1: 2 records, 1 placeholders"),
+    (19, "plan w migrate m4 m1", "put command 23\nput product 1\nremove product 3\nremove product 4\nrekey fact2 T1 1\nrekey fact2 T4 1\nedits 6"),
+    (19, f"report w date.month was {DAYS}", f"""\
+report date.month was {DAYS}
+{REPORT}       1          1           2.50           1.60           0.90  2023-12
+       2          3           7.50           4.80           2.70  2024-02
+       1          1          10.00           7.00           3.00  2024-06
+       1          2           5.00           3.20           1.80  2024-07
+       5          7          25.00          16.60           8.40  total"""),
+    (19, "check w", "clean"),
+    (19, "status w", "format 2\ncommands 22\nchanges 13\nfacts 5\nmembers product 2 store 1 customer 2"),
 ]
 
 
@@ -250,6 +306,11 @@ def expected(words, lines):
     return said(lines)
 
 
+def printed(row, words):
+    """The lines that words of a row print at last."""
+    return next(lines for at, asked, lines in reversed(WORDS) if (at, asked) == (row, words))
+
+
 def run(program, folder, words, **environment):
     """Runs the program in a folder; it is ended, and the script with it, where it takes 20 seconds."""
     words = words.split(" ") if isinstance(words, str) else words
@@ -260,10 +321,11 @@ def run(program, folder, words, **environment):
     return Answer(done.stdout, done.returncode)
 
 
-def make_worked(program, folder, until=16):
-    """Makes the warehouse `w` as it is after a row, by the words of the rows that write, and sees that each is answered as it should be."""
+def make_worked(program, folder, until=16, since=1):
+    """Makes the warehouse `w` as it is after a row, by the words of the rows that write, and sees that each is answered as it should be; with `since` from
+    what it is before that row."""
     for row, words, lines in WORDS:
-        if row <= until and words.split()[0] in ("init", "load", "migrate"):
+        if since <= row <= until and words.split()[0] in ("init", "load", "migrate", "upgrade"):
             answer = run(program, folder, words)
             if answer != expected(words, lines):
                 sys.exit(f"row {row}, {words}: {answer}")
@@ -282,11 +344,17 @@ def connected(path):
     return base
 
 
+def columns_in(base, table):
+    """The columns that a table has in a file; none where it isn't there."""
+    return [bytes(name).decode() for _, name, *_ in base.execute(f"PRAGMA table_info({table})")]
+
+
 def rows_of(path):
-    """The rows of the ten tables, in order of their keys."""
+    """The rows of the tables that are there with their columns, in order of their keys: ten, and twelve after an upgrade."""
     base = connected(path)
     try:
-        return {table: base.execute(f"SELECT * FROM {table} ORDER BY {', '.join(columns.split()[:keys])}").fetchall() for table, (keys, columns) in TABLES.items()}
+        there = [table for table, (_, columns) in TABLES.items() if columns_in(base, table) == columns.split()]
+        return {table: base.execute(f"SELECT * FROM {table} ORDER BY {', '.join(TABLES[table][1].split()[: TABLES[table][0]])}").fetchall() for table in there}
     finally:
         base.close()
 

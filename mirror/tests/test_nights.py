@@ -20,7 +20,11 @@ class Nights(MirrorTest):
         reader.start()
         self.addCleanup(reader.end)
         for night in range(1, NIGHTS + 1):
+            tables, commands = shop.tables, shop.status()["commands"]
             shop.night()
+            if shop.tables != tables:
+                # the views change over to another table, in which a snapshot of before finds no sales
+                expected.add((commands, 0, None))
             self.mirrors(shop.path, dsn)
             expected.add(totals_of(shop))
             with self.subTest(night=night):

@@ -1,6 +1,6 @@
 -- The lists of commands that were admitted from the making on.
 use Rattle.std.proofs.Common.{◌≡◌, List, [], ◌∷◌, ◌++◌, Result, Ok, Err, refl, sym, ap, subst, ◌∙◌, append_assoc}
-use Rattle.wh_history.specs.Accepted.{Accepted, Content}
+use Rattle.wh_history.specs.Accepted.{Accepted, Content, format_of}
 use Rattle.wh_history.specs.Tables.{Limits}
 use Rattle.wh_model.specs.Sound.{making_of}
 use Rattle.wh_model.specs.Sound.{IsAccepted}
@@ -10,6 +10,7 @@ use Rattle.wh_admission.specs.declared.command.Command.{Command}
 use Rattle.wh_admission.specs.declared.command.Reply.{Reply}
 use Rattle.wh_admission.specs.declared.command.Reply.TheVariants.{Accepted as Accepts, Already}
 use Rattle.wh_admission.specs.declared.command.Refused.{Refused}
+use Rattle.wh_admission.proofs.KeptBytes.{kept_says}
 use Rattle.wh_admission.proofs.StaysAccepted.{stays_accepted}
 
 -- ---- they are sound
@@ -60,17 +61,17 @@ record IsReadFrom (making : Accepted) (commands : List Accepted) : Type 0 where
 
 module _ (making : Accepted) (limits : Limits) where
   module _ (commands : List Accepted) (c : Command) (from : IsReadFrom making commands) where
-    by_content : (r : Result Content Refused) → content_of c.kind (current_policy commands) c.bytes ≡ r → IsReadFrom making (with_content commands c r)
+    by_content : (r : Result Content Refused) → content_of c.kind (format_of commands) (current_policy commands) c.bytes ≡ r → IsReadFrom making (with_content commands c r)
     by_content (Ok content) is = record {
       later = from.later ++ accepted_as c content ∷ [];
       begins = ap (λ (list : List Accepted). list ++ accepted_as c content ∷ []) from.begins;
       are = one_more_read (making ∷ []) from.later (accepted_as c content) from.are
-          (subst (λ list. IsOfItsBytes list (accepted_as c content)) from.begins (record { kind = c.kind; kind_is = refl; content_is = is }));
+          (subst (λ list. IsOfItsBytes list (accepted_as c content)) from.begins (record { kind = c.kind; kind_is = refl; content_is = kept_says c.kind (format_of commands) (current_policy commands) c.bytes ∙ is }));
     }
     by_content (Err why) is = from
 
     by_answer : (r : Result Reply Refused) → IsReadFrom making (after_answer commands c r)
-    by_answer (Ok (Accepts receipt)) = by_content (content_of c.kind (current_policy commands) c.bytes) refl
+    by_answer (Ok (Accepts receipt)) = by_content (content_of c.kind (format_of commands) (current_policy commands) c.bytes) refl
     by_answer (Ok (Already receipt)) = from
     by_answer (Err why) = from
 

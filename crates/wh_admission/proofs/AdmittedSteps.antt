@@ -2,7 +2,7 @@
 use Rattle.std.proofs.Common.{◌≡◌, true, List, [], ◌∷◌, ◌++◌, None, Result, Ok, Err, refl, sym, ap, subst, ◌∙◌, append_assoc, append-nil}
 use Rattle.std.specs.Prelude.{find, bytes_eq}
 use Rattle.wh_batch.specs.declared.kind.CommandKind.{CommandKind}
-use Rattle.wh_history.specs.Accepted.{Accepted, Content}
+use Rattle.wh_history.specs.Accepted.{Accepted, Content, format_of}
 use Rattle.wh_history.specs.Tables.{Limits}
 use Rattle.wh_model.specs.Sound.{making_of}
 use Rattle.wh_rows.specs.Types.{is_key}
@@ -13,6 +13,7 @@ use Rattle.wh_admission.specs.declared.command.Receipt.{Receipt}
 use Rattle.wh_admission.specs.declared.command.Reply.{Reply}
 use Rattle.wh_admission.specs.declared.command.Reply.TheVariants.{Accepted as Accepts, Already}
 use Rattle.wh_admission.specs.declared.command.Refused.{Refused}
+use Rattle.wh_admission.proofs.KeptBytes.{kept_again, kept_says}
 use Rattle.wh_admission.proofs.Repeats.{new_id}
 use Rattle.wh_admission.proofs.StaysAccepted.{was_numbered, had_number}
 
@@ -31,7 +32,7 @@ nothing_added : (limits : Limits) (commands : List Accepted) → Adds limits com
 nothing_added limits commands = record { added = []; is = sym (append-nil commands); come = tt }
 
 module _ (limits : Limits) (commands : List Accepted) (c : Command) where
-  by_content : (read : Result Content Refused) (receipt : Receipt) → content_of c.kind (current_policy commands) c.bytes ≡ read → is_key 40 c.id ≡ true → find (λ (a : Accepted). bytes_eq a.id c.id) commands ≡ None
+  by_content : (read : Result Content Refused) (receipt : Receipt) → content_of c.kind (format_of commands) (current_policy commands) c.bytes ≡ read → is_key 40 c.id ≡ true → find (λ (a : Accepted). bytes_eq a.id c.id) commands ≡ None
       → when_read limits commands c read ≡ Ok (Accepts receipt) → Adds limits commands (with_content commands c read)
   by_content (Err why) receipt told good new h = nothing_added limits commands
   by_content (Ok content) receipt told good new h =
@@ -40,7 +41,18 @@ module _ (limits : Limits) (commands : List Accepted) (c : Command) where
       record {
         added = accepted_as c content ∷ [];
         is = refl;
-        come = (record { kind = c.kind; kind_is = refl; good = good; new = new; read = told; numbered = numbered.1 ∙ ap Ok next }, tt);
+        come = (
+          record {
+            kind = c.kind;
+            kind_is = refl;
+            good = good;
+            new = new;
+            read = kept_says c.kind (format_of commands) (current_policy commands) c.bytes ∙ told;
+            kept = kept_again c.kind c.bytes;
+            numbered = numbered.1 ∙ ap Ok next;
+          },
+          tt,
+        );
       }
 
   by_answer : (a : Result Reply Refused) → answer limits commands c ≡ a → Adds limits commands (after_answer commands c a)
@@ -48,8 +60,8 @@ module _ (limits : Limits) (commands : List Accepted) (c : Command) where
   by_answer (Err why) said = nothing_added limits commands
   by_answer (Ok (Accepts receipt)) said =
       let new = new_id limits commands c (is_key 40 c.id) (find (λ (a : Accepted). bytes_eq a.id c.id) commands) receipt refl refl said in
-      let read : when_read limits commands c (content_of c.kind (current_policy commands) c.bytes) ≡ Ok (Accepts receipt) = rw (new.0, new.1) at said in
-      by_content (content_of c.kind (current_policy commands) c.bytes) receipt refl new.0 new.1 read
+      let read : when_read limits commands c (content_of c.kind (format_of commands) (current_policy commands) c.bytes) ≡ Ok (Accepts receipt) = rw (new.0, new.1) at said in
+      by_content (content_of c.kind (format_of commands) (current_policy commands) c.bytes) receipt refl new.0 new.1 read
 
   one_added : Adds limits commands (accepted_after limits commands c)
   one_added = by_answer (answer limits commands c) refl
@@ -60,7 +72,7 @@ sent_as a kind = record { id = a.id; kind = kind; bytes = a.bytes }
 
 pub is_taken : (limits : Limits) (before : List Accepted) (a : Accepted) (comes : ComesAfter limits before a) → accepted_after limits before (sent_as a comes.kind) ≡ before ++ a ∷ []
 unfolding sent_as
-is_taken limits before a comes = rw (comes.good, comes.new, comes.read, comes.numbered, comes.read) (ap (λ (b : Accepted). before ++ b ∷ []) (λ i. record { id = a.id; kind = sym comes.kind_is i; bytes = a.bytes; content = a.content }))
+is_taken limits before a comes = rw (comes.good, comes.new, comes.read, comes.numbered, comes.read) (ap (λ (b : Accepted). before ++ b ∷ []) (λ i. record { id = a.id; kind = sym comes.kind_is i; bytes = comes.kept i; content = a.content }))
 
 -- ---- some steps
 

@@ -7,18 +7,18 @@ use Rattle.std.proofs.lemmas.Bool.Decides.{nat_tests}
 use Rattle.std.proofs.lemmas.Slice.Eq.{bytes_eq-Decides}
 use Rattle.wh_policy.specs.declared.record.SaleRecord.{SaleRecord}
 use Rattle.wh_batch.specs.Kind.{command_word}
-use Rattle.wh_history.specs.Accepted.{Accepted, Content, sold, sold_by}
+use Rattle.wh_history.specs.Accepted.{Accepted, Content, sold, sold_by, format_of}
 use Rattle.wh_history.specs.Keys.{place, after_one, at_place}
 use Rattle.wh_history.specs.Tables.{Limits}
 use Rattle.wh_history.proofs.Basics.{some_is, both_true, find_passes}
 use Rattle.wh_model.specs.Sound.{changes_kept}
 use Rattle.wh_rows.specs.Types.{is_key}
-use Rattle.wh_admission.specs.Admission.{content_of, current_policy, receipt_of, changes_in, first_line_there, number_past_lines, number_for, answer_with, when_read, already as told_already, by_id, answer}
-use Rattle.wh_admission.specs.Answers.{HasIdOf, IsAlike, IsNew, Says, MayBeCounted, is_sold, BringsNewLines, KeepsToChanges, IsFirstSold, IsAnswer, AnswerIsByCases, AnswersAreOne}
+use Rattle.wh_admission.specs.Admission.{upgrades_again, bytes_kept, content_of, current_policy, receipt_of, changes_in, first_line_there, number_past_lines, number_for, answer_with, when_read, already as told_already, by_id, answer}
+use Rattle.wh_admission.specs.Answers.{HasIdOf, IsAlike, IsNew, Says, MayBeCounted, FitsFormat, is_sold, BringsNewLines, KeepsToChanges, IsFirstSold, IsAnswer, AnswerIsByCases, AnswersAreOne}
 use Rattle.wh_admission.specs.declared.command.Command.{Command}
 use Rattle.wh_admission.specs.declared.command.Reply.{Reply}
 use Rattle.wh_admission.specs.declared.command.Refused.{Refused}
-use Rattle.wh_admission.specs.declared.command.Refused.TheVariants.{BadId, Reused, Full}
+use Rattle.wh_admission.specs.declared.command.Refused.TheVariants.{BadId, Reused, Upgraded, Full}
 use Rattle.wh_admission.specs.declared.command.Limit.TheVariants.{Commands, Changes, Facts}
 use Rattle.wh_admission.proofs.Repeats.{first_or}
 use Rattle.wh_admission.proofs.StaysAccepted.{all_new}
@@ -153,15 +153,15 @@ module _ (limits : Limits) (commands : List Accepted) (c : Command) where
   abbrev found : Option Accepted
   found = find (has_id c.id) commands
 
-  alike : (a : Accepted) (b : Bool) → (bytes_eq a.kind (command_word c.kind) && bytes_eq a.bytes c.bytes) ≡ b → HasIdOf commands c (place bytes_eq c.id (ids commands)) a
+  alike : (a : Accepted) (b : Bool) → (bytes_eq a.kind (command_word c.kind) && bytes_eq a.bytes (bytes_kept c.kind c.bytes)) ≡ b → HasIdOf commands c (place bytes_eq c.id (ids commands)) a
       → Is (told_already (cond b (Ok (receipt_of commands (place bytes_eq c.id (ids commands)) a.content)) (Err Reused)))
   alike a true same has =
-      let both = both_true (bytes_eq a.kind (command_word c.kind)) (bytes_eq a.bytes c.bytes) same in
-      IsAnswer.already (place bytes_eq c.id (ids commands)) a has (record { kind = (bytes_eq-Decides a.kind (command_word c.kind)).0 both.0; bytes = (bytes_eq-Decides a.bytes c.bytes).0 both.1 })
+      let both = both_true (bytes_eq a.kind (command_word c.kind)) (bytes_eq a.bytes (bytes_kept c.kind c.bytes)) same in
+      IsAnswer.already (place bytes_eq c.id (ids commands)) a has (record { kind = (bytes_eq-Decides a.kind (command_word c.kind)).0 both.0; bytes = (bytes_eq-Decides a.bytes (bytes_kept c.kind c.bytes)).0 both.1 })
   alike a false other has = IsAnswer.reused (place bytes_eq c.id (ids commands)) a has (λ it.
       let kind = (bytes_eq-Decides a.kind (command_word c.kind)).1 it.kind in
-      let bytes = (bytes_eq-Decides a.bytes c.bytes).1 it.bytes in
-      let no : (bytes_eq a.kind (command_word c.kind) && bytes_eq a.bytes c.bytes) ≡ true = rw (kind, bytes) refl in
+      let bytes = (bytes_eq-Decides a.bytes (bytes_kept c.kind c.bytes)).1 it.bytes in
+      let no : (bytes_eq a.kind (command_word c.kind) && bytes_eq a.bytes (bytes_kept c.kind c.bytes)) ≡ true = rw (kind, bytes) refl in
       cc)
 
   module _ (content : Content) where
@@ -174,23 +174,28 @@ module _ (limits : Limits) (commands : List Accepted) (c : Command) where
     changes true over brings = IsAnswer.changes_full content brings (ltb-true _ _ over)
     changes false within brings = facts (nat_lt limits.facts (length (sold commands) + length (sold_by content))) refl (record { lines = brings; changes_left = ltb-false _ _ within })
 
-    lines : (o : Option ℕ) → first_line_there (sold commands) 1 (sold_by content) ≡ o → MayBeCounted limits commands c content → Is (answer_with commands c content (number_past_lines limits commands content o))
+    lines : (o : Option ℕ) → first_line_there (sold commands) 1 (sold_by content) ≡ o → FitsFormat limits commands c content → Is (answer_with commands c content (number_past_lines limits commands content o))
     lines (Some number) is may = IsAnswer.line_there content number may (first_sold commands number (sold_by content) is)
-    lines None is may = changes (nat_lt limits.changes (changes_kept commands + changes_in content)) refl (record { counted = may; lines_new = all_new (sold commands) 1 (sold_by content) is })
+    lines None is may = changes (nat_lt limits.changes (changes_kept commands + changes_in content)) refl (record { fits = may; lines_new = all_new (sold commands) 1 (sold_by content) is })
+
+    once : (b : Bool) → upgrades_again commands content ≡ b → MayBeCounted limits commands c content
+        → Is (answer_with commands c content (cond b (Err Upgraded) (number_past_lines limits commands content (first_line_there (sold commands) 1 (sold_by content)))))
+    once true again may = IsAnswer.upgraded content may again
+    once false first may = lines (first_line_there (sold commands) 1 (sold_by content)) refl (record { counted = may; upgrades_once = first })
 
     room : (b : Bool) → nat_le limits.commands (length commands) ≡ b → Says commands c content
-        → Is (answer_with commands c content (cond b (Err (Full Commands)) (number_past_lines limits commands content (first_line_there (sold commands) 1 (sold_by content)))))
+        → Is (answer_with commands c content (cond b (Err (Full Commands)) (cond (upgrades_again commands content) (Err Upgraded) (number_past_lines limits commands content (first_line_there (sold commands) 1 (sold_by content))))))
     room true full says = IsAnswer.commands_full content says (leb-true _ _ full)
-    room false left says = lines (first_line_there (sold commands) 1 (sold_by content)) refl (record { says = says; commands_left = leb-false _ _ left })
+    room false left says = once (upgrades_again commands content) refl (record { says = says; commands_left = leb-false _ _ left })
 
-  read : (told : Result Content Refused) → content_of c.kind (current_policy commands) c.bytes ≡ told → IsNew commands c → Is (when_read limits commands c told)
+  read : (told : Result Content Refused) → content_of c.kind (format_of commands) (current_policy commands) c.bytes ≡ told → IsNew commands c → Is (when_read limits commands c told)
   read (Err why) is new = IsAnswer.faulty why new is
   read (Ok content) is new = room content (nat_le limits.commands (length commands)) refl (record { new = new; read = is })
 
   known : (o : Option Accepted) → found ≡ o → is_key 40 c.id ≡ true → Is (by_id limits commands c o)
-  known (Some a) is good = alike a (bytes_eq a.kind (command_word c.kind) && bytes_eq a.bytes c.bytes) refl
+  known (Some a) is good = alike a (bytes_eq a.kind (command_word c.kind) && bytes_eq a.bytes (bytes_kept c.kind c.bytes)) refl
       (record { good = good; there = found_there c.id commands a is; same_id = (bytes_eq-Decides a.id c.id).0 (find_passes (has_id c.id) a commands is) })
-  known None is good = read (content_of c.kind (current_policy commands) c.bytes) refl (record { good = good; others = none_has c.id commands is })
+  known None is good = read (content_of c.kind (format_of commands) (current_policy commands) c.bytes) refl (record { good = good; others = none_has c.id commands is })
 
   called : (b : Bool) → is_key 40 c.id ≡ b → Is (cond b (by_id limits commands c found) (Err BadId))
   called true good = known found refl good
@@ -198,7 +203,7 @@ module _ (limits : Limits) (commands : List Accepted) (c : Command) where
 
   -- ---- the other way round
 
-  by_new : IsNew commands c → answer limits commands c ≡ when_read limits commands c (content_of c.kind (current_policy commands) c.bytes)
+  by_new : IsNew commands c → answer limits commands c ≡ when_read limits commands c (content_of c.kind (format_of commands) (current_policy commands) c.bytes)
   by_new new =
       let good = new.good in
       let none = none_found c.id commands new.others in
@@ -207,14 +212,23 @@ module _ (limits : Limits) (commands : List Accepted) (c : Command) where
   by_says : (content : Content) → Says commands c content → answer limits commands c ≡ answer_with commands c content (number_for limits commands content)
   by_says content says = by_new says.new ∙ ap (when_read limits commands c) says.read
 
-  by_count : (content : Content) → MayBeCounted limits commands c content → answer limits commands c ≡ answer_with commands c content (number_past_lines limits commands content (first_line_there (sold commands) 1 (sold_by content)))
+  abbrev past_count : Content → Bool → Result ℕ Refused
+  past_count content b = cond b (Err (Full Commands)) (cond (upgrades_again commands content) (Err Upgraded) (number_past_lines limits commands content (first_line_there (sold commands) 1 (sold_by content))))
+
+  abbrev past_format : Content → Bool → Result ℕ Refused
+  past_format content b = cond b (Err Upgraded) (number_past_lines limits commands content (first_line_there (sold commands) 1 (sold_by content)))
+
+  by_count : (content : Content) → MayBeCounted limits commands c content → answer limits commands c ≡ answer_with commands c content (past_format content (upgrades_again commands content))
   by_count content may =
       let left = may.commands_left in
       let no : nat_le limits.commands (length commands) ≡ false = grind (arith, nat_tests) in
-      by_says content may.says ∙ ap (λ b. answer_with commands c content (cond b (Err (Full Commands)) (number_past_lines limits commands content (first_line_there (sold commands) 1 (sold_by content))))) no
+      by_says content may.says ∙ ap (λ b. answer_with commands c content (past_count content b)) no
+
+  by_format : (content : Content) → FitsFormat limits commands c content → answer limits commands c ≡ answer_with commands c content (number_past_lines limits commands content (first_line_there (sold commands) 1 (sold_by content)))
+  by_format content fits = by_count content fits.counted ∙ ap (λ b. answer_with commands c content (past_format content b)) fits.upgrades_once
 
   by_lines : (content : Content) → BringsNewLines limits commands c content → answer limits commands c ≡ answer_with commands c content (number_past_lines limits commands content None)
-  by_lines content brings = by_count content brings.counted ∙ ap (λ o. answer_with commands c content (number_past_lines limits commands content o)) (none_sold commands 1 (sold_by content) brings.lines_new)
+  by_lines content brings = by_format content brings.fits ∙ ap (λ o. answer_with commands c content (number_past_lines limits commands content o)) (none_sold commands 1 (sold_by content) brings.lines_new)
 
   by_changes : (content : Content) → KeepsToChanges limits commands c content
       → answer limits commands c ≡ answer_with commands c content (cond (nat_lt limits.facts (length (sold commands) + length (sold_by content))) (Err (Full Facts)) (Ok (suc (length commands))))
@@ -224,7 +238,7 @@ module _ (limits : Limits) (commands : List Accepted) (c : Command) where
       by_lines content keeps.lines ∙ ap (λ b. answer_with commands c content (cond b (Err (Full Changes)) (cond (nat_lt limits.facts (length (sold commands) + length (sold_by content))) (Err (Full Facts)) (Ok (suc (length commands)))))) no
 
   module _ (once : IsDistinct bytes_eq (ids commands)) where
-    has_answer : (number : ℕ) (a : Accepted) (b : Bool) → HasIdOf commands c number a → (bytes_eq a.kind (command_word c.kind) && bytes_eq a.bytes c.bytes) ≡ b
+    has_answer : (number : ℕ) (a : Accepted) (b : Bool) → HasIdOf commands c number a → (bytes_eq a.kind (command_word c.kind) && bytes_eq a.bytes (bytes_kept c.kind c.bytes)) ≡ b
         → answer limits commands c ≡ told_already (cond b (Ok (receipt_of commands number a.content)) (Err Reused))
     has_answer number a b has is =
         let good = has.good in
@@ -237,22 +251,23 @@ module _ (limits : Limits) (commands : List Accepted) (c : Command) where
     only _ (IsAnswer.bad_id bad) = rw bad refl
     only _ (IsAnswer.already number a has same) =
         let kind = (bytes_eq-Decides a.kind (command_word c.kind)).1 same.kind in
-        let bytes = (bytes_eq-Decides a.bytes c.bytes).1 same.bytes in
+        let bytes = (bytes_eq-Decides a.bytes (bytes_kept c.kind c.bytes)).1 same.bytes in
         sym (has_answer number a true has (rw (kind, bytes) refl))
     only _ (IsAnswer.reused number a has other) = sym (has_answer number a false has (not_alike a other))
       where
-        not_alike : (a : Accepted) → ¬ IsAlike a c → (bytes_eq a.kind (command_word c.kind) && bytes_eq a.bytes c.bytes) ≡ false
-        not_alike a other = elim (bytes_eq a.kind (command_word c.kind) && bytes_eq a.bytes c.bytes) as (λ b. ((bytes_eq a.kind (command_word c.kind) && bytes_eq a.bytes c.bytes) ≡ b) → b ≡ false) [
+        not_alike : (a : Accepted) → ¬ IsAlike a c → (bytes_eq a.kind (command_word c.kind) && bytes_eq a.bytes (bytes_kept c.kind c.bytes)) ≡ false
+        not_alike a other = elim (bytes_eq a.kind (command_word c.kind) && bytes_eq a.bytes (bytes_kept c.kind c.bytes)) as (λ b. ((bytes_eq a.kind (command_word c.kind) && bytes_eq a.bytes (bytes_kept c.kind c.bytes)) ≡ b) → b ≡ false) [
           | true ↦ λ same.
-              let both = both_true (bytes_eq a.kind (command_word c.kind)) (bytes_eq a.bytes c.bytes) same in
-              absurd (other (record { kind = (bytes_eq-Decides a.kind (command_word c.kind)).0 both.0; bytes = (bytes_eq-Decides a.bytes c.bytes).0 both.1 }))
+              let both = both_true (bytes_eq a.kind (command_word c.kind)) (bytes_eq a.bytes (bytes_kept c.kind c.bytes)) same in
+              absurd (other (record { kind = (bytes_eq-Decides a.kind (command_word c.kind)).0 both.0; bytes = (bytes_eq-Decides a.bytes (bytes_kept c.kind c.bytes)).0 both.1 }))
           | false ↦ λ _. refl
         ] refl
     only _ (IsAnswer.faulty why new is) = sym (by_new new ∙ ap (when_read limits commands c) is)
     only _ (IsAnswer.commands_full content says full) =
         let yes : nat_le limits.commands (length commands) ≡ true = grind (arith, nat_tests) in
-        sym (by_says content says ∙ ap (λ b. answer_with commands c content (cond b (Err (Full Commands)) (number_past_lines limits commands content (first_line_there (sold commands) 1 (sold_by content))))) yes)
-    only _ (IsAnswer.line_there content number may first) = sym (by_count content may ∙ ap (λ o. answer_with commands c content (number_past_lines limits commands content o)) (sold_first commands number (sold_by content) first))
+        sym (by_says content says ∙ ap (λ b. answer_with commands c content (past_count content b)) yes)
+    only _ (IsAnswer.upgraded content may again) = sym (by_count content may ∙ ap (λ b. answer_with commands c content (past_format content b)) again)
+    only _ (IsAnswer.line_there content number may first) = sym (by_format content may ∙ ap (λ o. answer_with commands c content (number_past_lines limits commands content o)) (sold_first commands number (sold_by content) first))
     only _ (IsAnswer.changes_full content brings over) =
         let yes : nat_lt limits.changes (changes_kept commands + changes_in content) ≡ true = grind (arith, nat_tests) in
         sym (by_lines content brings ∙ ap (λ b. answer_with commands c content (cond b (Err (Full Changes)) (cond (nat_lt limits.facts (length (sold commands) + length (sold_by content))) (Err (Full Facts)) (Ok (suc (length commands)))))) yes)

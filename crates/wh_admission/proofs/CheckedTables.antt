@@ -2,14 +2,15 @@
 use Rattle.std.proofs.Common.{◌≡◌, ℕ, ℤ, suc, List, [], ◌∷◌, ◌++◌, map, Option, Some, None, Result, Ok, refl, sym, ap, subst, ◌∙◌}
 use Rattle.std.specs.Prelude.{slice_get, option_map, codes, pos}
 use Rattle.wh_policy.specs.declared.attribute.Dim.TheVariants.{Product as Products, Store as Stores, Customer as Customers}
+use Rattle.wh_policy.specs.declared.format.Format.{Format}
 use Rattle.wh_policy.specs.declared.policy.Policy.{Policy}
 use Rattle.wh_policy.specs.declared.fault.PolicyFault.{PolicyFault}
 use Rattle.wh_policy.specs.Policy.{policy_at}
 use Rattle.wh_batch.specs.Kind.{command_word, command_kind_of}
 use Rattle.wh_batch.specs.declared.kind.Kind.TheVariants.{Dimension, Sales}
 use Rattle.wh_batch.specs.declared.kind.CommandKind.{CommandKind}
-use Rattle.wh_batch.specs.declared.kind.CommandKind.TheVariants.{Batch, Migration}
-use Rattle.wh_history.specs.Accepted.{Accepted, Content, records_by, placeholders_by}
+use Rattle.wh_batch.specs.declared.kind.CommandKind.TheVariants.{Batch, Migration, Upgrade}
+use Rattle.wh_history.specs.Accepted.{Accepted, Content, records_by, placeholders_by, format_of}
 use Rattle.wh_history.specs.Tables as history
 use Rattle.wh_admission.specs.declared.command.Refused.{Refused}
 use Rattle.wh_history.specs.Keys.{at_place}
@@ -34,8 +35,8 @@ use Rattle.wh_admission.proofs.StoredMaps.{same_function, undamaged}
 
 -- ---- limits
 
-pub meta_keyed : (limits : Limits) (name : List ℕ) (v : MetaRow) → meta_at limits name ≡ Some v → row.meta.key v ≡ name
-meta_keyed limits name v is = keyed_map row.meta.key name (λ (value : ℕ). record { name = name; value = pos value }) (λ _. refl) (meta_value limits name) v is
+pub meta_keyed : (format : Format) (limits : Limits) (name : List ℕ) (v : MetaRow) → meta_at format limits name ≡ Some v → row.meta.key v ≡ name
+meta_keyed format limits name v is = keyed_map row.meta.key name (λ (value : ℕ). record { name = name; value = pos value }) (λ _. refl) (meta_value format limits name) v is
 
 number_of : Option MetaRow → ℤ
 number_of None = pos 0
@@ -49,10 +50,10 @@ same_numbers : (m n : ℕ) → pos m ≡ pos n → m ≡ n
 unfolding natural_of
 same_numbers m n is = ap natural_of is
 
-pub limits_are_one : (stored : Stored) (limits others : Limits) → AreRowsAt row.meta (meta_at limits) (stored.rows Meta) → AreRowsAt row.meta (meta_at others) (stored.rows Meta) → limits ≡ others
+pub limits_are_one : (stored : Stored) (format : Format) (limits others : Limits) → AreRowsAt row.meta (meta_at format limits) (stored.rows Meta) → AreRowsAt row.meta (meta_at format others) (stored.rows Meta) → limits ≡ others
 unfolding number_of
-limits_are_one stored limits others first second =
-    let same = same_function row.meta places.meta.total (stored.rows Meta) places.meta.once (meta_at limits) (meta_at others) first second (meta_keyed limits) (meta_keyed others) in
+limits_are_one stored format limits others first second =
+    let same = same_function row.meta places.meta.total (stored.rows Meta) places.meta.once (meta_at format limits) (meta_at format others) first second (meta_keyed format limits) (meta_keyed format others) in
     let commands : limits.commands ≡ others.commands = same_numbers _ _ (ap number_of (same (codes "commands_max"))) in
     let changes : limits.changes ≡ others.changes = same_numbers _ _ (ap number_of (same (codes "changes_max"))) in
     let facts : limits.facts ≡ others.facts = same_numbers _ _ (ap number_of (same (codes "facts_max"))) in
@@ -92,6 +93,7 @@ kind_again (Batch (Dimension Stores)) = refl
 kind_again (Batch (Dimension Customers)) = refl
 kind_again (Batch Sales) = refl
 kind_again Migration = refl
+kind_again Upgrade = refl
 
 pub same_kind : (kind other : CommandKind) → command_word kind ≡ command_word other → kind ≡ other
 same_kind kind other is = some_is kind other (sym (kind_again kind) ∙ ap command_kind_of is ∙ kind_again other)
@@ -121,7 +123,7 @@ same_after limits before (a ∷ later) [] come more same = absurd cc
 same_after limits before (a ∷ later) (b ∷ others) come more same =
     let parts = parts_of a b cc in
     let kind : come.0.kind ≡ more.0.kind = same_kind come.0.kind more.0.kind (sym come.0.kind_is ∙ parts.kind ∙ more.0.kind_is) in
-    let content : a.content ≡ b.content = ok_is a.content b.content (sym come.0.read ∙ (λ i. content_of (kind i) (current_policy before) (parts.bytes i)) ∙ more.0.read) in
+    let content : a.content ≡ b.content = ok_is a.content b.content (sym come.0.read ∙ (λ i. content_of (kind i) (format_of before) (current_policy before) (parts.bytes i)) ∙ more.0.read) in
     let one = same_command a b parts content in
     let rest = same_after limits (before ++ a ∷ []) later others come.1 (subst (λ (x : Accepted). ComeAfter limits (before ++ x ∷ []) others) (sym one) more.1) cc in
     λ i. one i ∷ rest i
@@ -150,7 +152,7 @@ commands_told stored limits commands told it other first second =
 
 pub commands_are_one : CommandsAreOne
 commands_are_one stored limits others commands told first second =
-    let same = limits_are_one stored limits others first.said.defined second.said.defined in
+    let same = limits_are_one stored stored.format limits others first.said.defined second.said.defined in
     (same, commands_told stored limits commands told first.admitted (subst (λ l. AreAdmitted l told) (sym same) second.admitted) first.defined second.defined)
 
 -- ---- sound is each right
@@ -179,7 +181,7 @@ right_from stored limits commands said Fact2 defined = as_commanded stored Fact2
 right_from stored limits commands said Void defined = as_commanded stored Void limits commands said defined
 
 pub defined_from : (stored : Stored) (limits : Limits) (commands : List Accepted) → SaysCommands stored limits commands → (table : Table) → IsRight stored table → IsDefined limits commands stored table
-defined_from stored limits commands said Meta right = said.said.defined
+defined_from stored limits commands said Meta right = subst (λ (f : Format). AreRowsAt row.meta (meta_at f limits) (stored.rows Meta)) said.formatted said.said.defined
 defined_from stored limits commands said Command right = said.defined
 defined_from stored limits commands said Member right = defined_by stored Member limits commands said right
 defined_from stored limits commands said Change right = defined_by stored Change limits commands said right
@@ -193,20 +195,25 @@ defined_from stored limits commands said Fact2 right = defined_by stored Fact2 l
 defined_from stored limits commands said Void right = defined_by stored Void limits commands said right
 
 says_of_sound : (stored : Stored) (it : IsSoundStored stored) → SaysCommands stored it.limits it.commands
-says_of_sound stored it = record { said = record { good = it.admitted.limited; defined = it.each Meta }; admitted = it.admitted; defined = it.each Command }
+says_of_sound stored it = record {
+  said = record { good = it.admitted.limited; defined = subst (λ (f : Format). AreRowsAt row.meta (meta_at f it.limits) (stored.rows Meta)) (sym it.formatted) (it.each Meta) };
+  formatted = it.formatted;
+  admitted = it.admitted;
+  defined = it.each Command;
+}
 
 pub sound_is_each_right : SoundIsEachRight
 sound_is_each_right stored = (
   λ it table. right_from stored it.limits it.commands (says_of_sound stored it) table (it.each table),
   λ right.
       let (limits, commands, said) = right Command in
-      record { limits = limits; commands = commands; admitted = said.admitted; each = λ table. defined_from stored limits commands said table (right table) },
+      record { limits = limits; commands = commands; admitted = said.admitted; formatted = said.formatted; each = λ table. defined_from stored limits commands said table (right table) },
 )
 
 -- ---- damage
 
 undamaged_in : (stored : Stored) (table : Table) (limits : Limits) (commands : List Accepted) → IsDefined limits commands stored table → ¬ HasDamageIn stored table
-undamaged_in stored Meta limits commands are = undamaged row.meta places.meta.total (stored.rows Meta) (meta_at limits) are
+undamaged_in stored Meta limits commands are = undamaged row.meta places.meta.total (stored.rows Meta) _ are
 undamaged_in stored Command limits commands are = undamaged row.command places.command.total (stored.rows Command) (command_at commands) are
 undamaged_in stored Member limits commands are = undamaged row.member places.member.total (stored.rows Member) _ are
 undamaged_in stored Change limits commands are = undamaged row.change places.change.total (stored.rows Change) _ are
@@ -223,7 +230,7 @@ commanded_undamaged : (stored : Stored) (table : Table) → IsAsCommanded stored
 commanded_undamaged stored table right = undamaged_in stored table right.limits right.commands right.defined
 
 pub damage_is_wrong : DamageIsWrong
-damage_is_wrong stored Meta damage right = undamaged row.meta places.meta.total (stored.rows Meta) (meta_at right.0) right.1.defined damage
+damage_is_wrong stored Meta damage right = undamaged row.meta places.meta.total (stored.rows Meta) _ right.1.defined damage
 damage_is_wrong stored Command damage right = undamaged row.command places.command.total (stored.rows Command) (command_at right.1) right.2.defined damage
 damage_is_wrong stored Member damage right = commanded_undamaged stored Member right damage
 damage_is_wrong stored Change damage right = commanded_undamaged stored Change right damage

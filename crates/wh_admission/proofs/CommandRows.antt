@@ -7,7 +7,7 @@ use Rattle.wh_policy.specs.declared.attribute.Dim.{Dim}
 use Rattle.wh_policy.specs.declared.attribute.Dim.TheVariants.{Product, Store, Customer}
 use Rattle.wh_batch.specs.Kind.{command_word, command_kind_of, kind_of_word}
 use Rattle.wh_batch.specs.declared.kind.Kind.TheVariants.{Dimension, Sales}
-use Rattle.wh_batch.specs.declared.kind.CommandKind.TheVariants.{Batch, Migration}
+use Rattle.wh_batch.specs.declared.kind.CommandKind.TheVariants.{Batch, Migration, Upgrade}
 use Rattle.wh_batch.specs.declared.kind.CommandKind.{CommandKind}
 use Rattle.wh_history.specs.Accepted.{Accepted, Content, Governs, Describes, Sells, Upgrades, records_by, members_after, placeholders_by}
 use Rattle.wh_history.specs.Tables as history
@@ -83,6 +83,10 @@ word_is word kind h = first (bytes_eq word (codes "migrate")) refl h
     second true is back = (bytes_eq-Decides word (codes "sales")).0 is ∙ ap command_word (some_is (Batch Sales) kind back)
     second false is back = dims (dim_of_word word) refl back
 
-    first : (m : Bool) → bytes_eq word (codes "migrate") ≡ m → cond m (Some Migration) (option_map Batch (kind_of_word word)) ≡ Some kind → word ≡ command_word kind
+    upgrade : (u : Bool) → bytes_eq word (codes "upgrade") ≡ u → cond u (Some Upgrade) (option_map Batch (kind_of_word word)) ≡ Some kind → word ≡ command_word kind
+    upgrade true is back = (bytes_eq-Decides word (codes "upgrade")).0 is ∙ ap command_word (some_is Upgrade kind back)
+    upgrade false is back = second (bytes_eq word (codes "sales")) refl back
+
+    first : (m : Bool) → bytes_eq word (codes "migrate") ≡ m → cond m (Some Migration) (cond (bytes_eq word (codes "upgrade")) (Some Upgrade) (option_map Batch (kind_of_word word))) ≡ Some kind → word ≡ command_word kind
     first true is back = (bytes_eq-Decides word (codes "migrate")).0 is ∙ ap command_word (some_is Migration kind back)
-    first false is back = second (bytes_eq word (codes "sales")) refl back
+    first false is back = upgrade (bytes_eq word (codes "upgrade")) refl back

@@ -19,7 +19,7 @@ use Rattle.wh_rows.specs.declared.table.Table.TheVariants as table
 use Rattle.wh_model.proofs.FoundPlaces.{same_text_is}
 use Rattle.wh_rows.proofs.EachTable.Commands.{of_id_stored}
 use Rattle.wh_rows.proofs.Raw.{has_again}
-use Rattle.wh_admission.specs.Admission.{receipt_again}
+use Rattle.wh_admission.specs.Admission.{bytes_kept, receipt_again}
 use Rattle.wh_admission.specs.Repeated.{IsKept}
 use Rattle.wh_admission.specs.declared.command.Command.{Command}
 use Rattle.wh_admission.specs.declared.command.Receipt.{Receipt}
@@ -33,12 +33,12 @@ has_last : {V : Type 0} (f : V → Row) (before : List V) (v : V) → Has (map f
 has_last f [] v = inl refl
 has_last f (b ∷ before) v = inr (has_last f before v)
 
-receipt_of_alike : (kind bytes : List ℕ) (c : Command) (kept receipt : Receipt) → receipt_again kind bytes c kept ≡ Ok receipt → (kind ≡ command_word c.kind) × (bytes ≡ c.bytes) × (receipt ≡ kept)
-receipt_of_alike kind bytes c kept receipt is = go (bytes_eq kind (command_word c.kind)) (bytes_eq bytes c.bytes) refl refl is
+receipt_of_alike : (kind bytes : List ℕ) (c : Command) (kept receipt : Receipt) → receipt_again kind bytes c kept ≡ Ok receipt → (kind ≡ command_word c.kind) × (bytes ≡ bytes_kept c.kind c.bytes) × (receipt ≡ kept)
+receipt_of_alike kind bytes c kept receipt is = go (bytes_eq kind (command_word c.kind)) (bytes_eq bytes (bytes_kept c.kind c.bytes)) refl refl is
   where
-    go : (same_kind same_bytes : Bool) → bytes_eq kind (command_word c.kind) ≡ same_kind → bytes_eq bytes c.bytes ≡ same_bytes → (if same_kind && same_bytes then Ok kept else Err Reused) ≡ Ok receipt
-        → (kind ≡ command_word c.kind) × (bytes ≡ c.bytes) × (receipt ≡ kept)
-    go true true k b is = ((bytes_eq-Decides kind (command_word c.kind)).0 k, (bytes_eq-Decides bytes c.bytes).0 b, cc)
+    go : (same_kind same_bytes : Bool) → bytes_eq kind (command_word c.kind) ≡ same_kind → bytes_eq bytes (bytes_kept c.kind c.bytes) ≡ same_bytes → (if same_kind && same_bytes then Ok kept else Err Reused) ≡ Ok receipt
+        → (kind ≡ command_word c.kind) × (bytes ≡ bytes_kept c.kind c.bytes) × (receipt ≡ kept)
+    go true true k b is = ((bytes_eq-Decides kind (command_word c.kind)).0 k, (bytes_eq-Decides bytes (bytes_kept c.kind c.bytes)).0 b, cc)
     go true false k b is = absurd cc
     go false same_bytes k b is = absurd cc
 

@@ -3,13 +3,13 @@ use Rattle.std.proofs.Common.{◌≡◌, ℕ, zero, suc, ◌-◌, ◌<◌, ◌�
 use Rattle.std.specs.Prelude.{find, bytes_eq, IsOk}
 use Rattle.std.proofs.lemmas.List.{map-append, take-append-le}
 use Rattle.std.proofs.lemmas.Slice.Eq.{bytes_eq-Decides}
-use Rattle.wh_history.specs.Accepted.{Accepted, Content, Governs, Describes, Sells, Upgrades, records_by, placeholders_by}
+use Rattle.wh_history.specs.Accepted.{Accepted, Content, Governs, Describes, Sells, Upgrades, records_by, placeholders_by, format_of}
 use Rattle.wh_history.specs.Keys.{place, after_one}
 use Rattle.wh_history.specs.Tables.{Limits}
 use Rattle.wh_history.proofs.Numbers.{place-append_front}
 use Rattle.wh_rows.specs.Types.{is_key}
 use Rattle.wh_batch.specs.Kind.{command_word}
-use Rattle.wh_admission.specs.Admission.{content_of, current_policy, accepted_as, receipt_of, receipt_told, already, by_id, number_for, answer_with, when_read, answer, with_content, after_answer, accepted_after, accepted_after_all, ActsOnceLater}
+use Rattle.wh_admission.specs.Admission.{bytes_kept, content_of, current_policy, accepted_as, receipt_of, receipt_told, already, by_id, number_for, answer_with, when_read, answer, with_content, after_answer, accepted_after, accepted_after_all, ActsOnceLater}
 use Rattle.wh_admission.specs.declared.command.Command.{Command}
 use Rattle.wh_admission.specs.declared.command.Receipt.{Receipt}
 use Rattle.wh_admission.specs.declared.command.Reply.{Reply}
@@ -25,7 +25,7 @@ pub record IsKnown (commands : List Accepted) (c : Command) : Type 0 where
   pub accepted : Accepted
   pub found : find (λ (a : Accepted). bytes_eq a.id c.id) commands ≡ Some accepted
   pub good : is_key 40 c.id ≡ true
-  pub same : bytes_eq accepted.kind (command_word c.kind) && bytes_eq accepted.bytes c.bytes ≡ true
+  pub same : bytes_eq accepted.kind (command_word c.kind) && bytes_eq accepted.bytes (bytes_kept c.kind c.bytes) ≡ true
 
 -- ---- it stays known
 
@@ -51,7 +51,7 @@ module _ (limits : Limits) where
   known_by_content commands c d (Err why) known = known
 
   known_by_answer : (commands : List Accepted) (c d : Command) (a : Result Reply Refused) → IsKnown commands c → IsKnown (after_answer commands d a) c
-  known_by_answer commands c d (Ok (Accepts receipt)) known = known_by_content commands c d (content_of d.kind (current_policy commands) d.bytes) known
+  known_by_answer commands c d (Ok (Accepts receipt)) known = known_by_content commands c d (content_of d.kind (format_of commands) (current_policy commands) d.bytes) known
   known_by_answer commands c d (Ok (Already receipt)) known = known
   known_by_answer commands c d (Err why) known = known
 
@@ -88,12 +88,12 @@ module _ (limits : Limits) where
 
     repeat_known : (b : Bool) (o : Option Accepted) (receipt : Receipt) → is_key 40 c.id ≡ b → there ≡ o → by_case b o ≡ Ok (Already receipt) → IsKnown commands c
     repeat_known false o receipt good is h = absurd cc
-    repeat_known true None receipt good is h = absurd (read_anew (content_of c.kind (current_policy commands) c.bytes) receipt h)
+    repeat_known true None receipt good is h = absurd (read_anew (content_of c.kind (format_of commands) (current_policy commands) c.bytes) receipt h)
     repeat_known true (Some a) receipt good is h = record {
       accepted = a;
       found = is;
       good = good;
-      same = same_bytes a (bytes_eq a.kind (command_word c.kind) && bytes_eq a.bytes c.bytes) _ receipt h;
+      same = same_bytes a (bytes_eq a.kind (command_word c.kind) && bytes_eq a.bytes (bytes_kept c.kind c.bytes)) _ receipt h;
     }
 
     accepted_known : (read : Result Content Refused) (receipt : Receipt) → is_key 40 c.id ≡ true → there ≡ None → when_read limits commands c read ≡ Ok (Accepts receipt) → IsKnown (with_content commands c read) c
@@ -101,7 +101,7 @@ module _ (limits : Limits) where
     accepted_known (Ok content) receipt good new h =
         let id = (bytes_eq-Decides c.id c.id).1 refl in
         let kind = (bytes_eq-Decides (command_word c.kind) (command_word c.kind)).1 refl in
-        let bytes = (bytes_eq-Decides c.bytes c.bytes).1 refl in
+        let bytes = (bytes_eq-Decides (bytes_kept c.kind c.bytes) (bytes_kept c.kind c.bytes)).1 refl in
         record {
           accepted = accepted_as c content;
           found = find_last (λ (a : Accepted). bytes_eq a.id c.id) (accepted_as c content) commands new id;
@@ -114,7 +114,7 @@ module _ (limits : Limits) where
     known_after (Ok (Already receipt)) is ok = repeat_known (is_key 40 c.id) there receipt refl refl is
     known_after (Ok (Accepts receipt)) is ok =
         let new = new_id limits commands c (is_key 40 c.id) there receipt refl refl is in
-        accepted_known (content_of c.kind (current_policy commands) c.bytes) receipt new.0 new.1 (rw (new.0, new.1) at is)
+        accepted_known (content_of c.kind (format_of commands) (current_policy commands) c.bytes) receipt new.0 new.1 (rw (new.0, new.1) at is)
 
 -- ---- and it is answered as before
 
@@ -175,13 +175,13 @@ module _ (limits : Limits) where
 
   -- once it was answered, the same command has the receipt
   module _ (commands : List Accepted) (c : Command) where
-    taken : (read : Result Content Refused) (receipt : Receipt) → content_of c.kind (current_policy commands) c.bytes ≡ read → is_key 40 c.id ≡ true → find (λ (a : Accepted). bytes_eq a.id c.id) commands ≡ None
+    taken : (read : Result Content Refused) (receipt : Receipt) → content_of c.kind (format_of commands) (current_policy commands) c.bytes ≡ read → is_key 40 c.id ≡ true → find (λ (a : Accepted). bytes_eq a.id c.id) commands ≡ None
         → answer limits commands c ≡ Ok (Accepts receipt) → answer limits (with_content commands c read) c ≡ Ok (Already receipt)
     taken (Err why) receipt told good new is = let none : when_read limits commands c (Err why) ≡ Ok (Accepts receipt) = rw (good, new, told) at is in absurd cc
     taken (Ok content) receipt told good new is =
         let id = (bytes_eq-Decides c.id c.id).1 refl in
         let kind = (bytes_eq-Decides (command_word c.kind) (command_word c.kind)).1 refl in
-        let bytes = (bytes_eq-Decides c.bytes c.bytes).1 refl in
+        let bytes = (bytes_eq-Decides (bytes_kept c.kind c.bytes) (bytes_kept c.kind c.bytes)).1 refl in
         let there = find_last (λ (a : Accepted). bytes_eq a.id c.id) (accepted_as c content) commands new id in
         let after = commands ++ accepted_as c content ∷ [] in
         let last = placed_last c.id commands (accepted_as c content) new id in
@@ -195,7 +195,7 @@ module _ (limits : Limits) where
     told_at_once (Ok (Accepts receipt)) reply is ok =
         let same : Accepts receipt ≡ reply = cc in
         let new = new_id limits commands c (is_key 40 c.id) (find (λ (a : Accepted). bytes_eq a.id c.id) commands) receipt refl refl is in
-        taken (content_of c.kind (current_policy commands) c.bytes) receipt refl new.0 new.1 is ∙ ap (λ (r : Reply). Ok (Already (receipt_told r))) same
+        taken (content_of c.kind (format_of commands) (current_policy commands) c.bytes) receipt refl new.0 new.1 is ∙ ap (λ (r : Reply). Ok (Already (receipt_told r))) same
 
 -- so it acts once
 

@@ -14,3 +14,4 @@ pub mod CheckedTables
 pub mod SoundTables
 pub mod AnswersByCases
 pub mod KeptRows
+pub mod KeptBytes

@@ -2,11 +2,11 @@
 use Rattle.std.proofs.Common.{◌≡◌, Bool, true, false, cond, ◌&&◌, List, [], ◌∷◌, ◌++◌, Option, Some, None, Result, Ok, Err, refl, ◌∙◌, ap}
 use Rattle.std.specs.Prelude.{find, bytes_eq}
 use Rattle.std.proofs.lemmas.Slice.Eq.{bytes_eq-Decides}
-use Rattle.wh_history.specs.Accepted.{Accepted, Content}
+use Rattle.wh_history.specs.Accepted.{Accepted, Content, format_of}
 use Rattle.wh_history.specs.Tables.{Limits}
 use Rattle.wh_rows.specs.Types.{is_key}
 use Rattle.wh_batch.specs.Kind.{command_word}
-use Rattle.wh_admission.specs.Admission.{content_of, current_policy, accepted_as, already, by_id, answer, with_content, after_answer, accepted_after}
+use Rattle.wh_admission.specs.Admission.{bytes_kept, content_of, current_policy, accepted_as, already, by_id, answer, with_content, after_answer, accepted_after}
 use Rattle.wh_admission.specs.declared.command.Command.{Command}
 use Rattle.wh_admission.specs.declared.command.Receipt.{Receipt}
 use Rattle.wh_admission.specs.declared.command.Reply.{Reply}
@@ -42,15 +42,15 @@ module _ (limits : Limits) (commands : List Accepted) (c : Command) where
   pub new_id : (b : Bool) (o : Option Accepted) (receipt : Receipt) → is_key 40 c.id ≡ b → found ≡ o → by_case b o ≡ Ok (Accepts receipt) → (is_key 40 c.id ≡ true) × (found ≡ None)
   new_id false o receipt good is h = cc
   new_id true None receipt good is h = (good, is)
-  new_id true (Some a) receipt good is h = absurd (known_refused (bytes_eq a.kind (command_word c.kind) && bytes_eq a.bytes c.bytes) _ receipt h)
+  new_id true (Some a) receipt good is h = absurd (known_refused (bytes_eq a.kind (command_word c.kind) && bytes_eq a.bytes (bytes_kept c.kind c.bytes)) _ receipt h)
 
-  by_content : (read : Result Content Refused) (receipt : Receipt) → content_of c.kind (current_policy commands) c.bytes ≡ read → is_key 40 c.id ≡ true → found ≡ None → answer limits commands c ≡ Ok (Accepts receipt)
+  by_content : (read : Result Content Refused) (receipt : Receipt) → content_of c.kind (format_of commands) (current_policy commands) c.bytes ≡ read → is_key 40 c.id ≡ true → found ≡ None → answer limits commands c ≡ Ok (Accepts receipt)
       → accepted_after limits (with_content commands c read) c ≡ with_content commands c read
   by_content (Err why) receipt told good new is = ap (after_answer commands c) is ∙ ap (with_content commands c) told
   by_content (Ok content) receipt told good new is =
       let id = (bytes_eq-Decides c.id c.id).1 refl in
       let kind = (bytes_eq-Decides (command_word c.kind) (command_word c.kind)).1 refl in
-      let bytes = (bytes_eq-Decides c.bytes c.bytes).1 refl in
+      let bytes = (bytes_eq-Decides (bytes_kept c.kind c.bytes) (bytes_kept c.kind c.bytes)).1 refl in
       let again = find_last (λ (a : Accepted). bytes_eq a.id c.id) (accepted_as c content) commands new id in
       rw (good, again, kind, bytes) refl
 
@@ -59,7 +59,7 @@ module _ (limits : Limits) (commands : List Accepted) (c : Command) where
   by_answer (Err why) is = ap (after_answer commands c) is
   by_answer (Ok (Accepts receipt)) is =
       let new = new_id (is_key 40 c.id) found receipt refl refl is in
-      by_content (content_of c.kind (current_policy commands) c.bytes) receipt refl new.0 new.1 is
+      by_content (content_of c.kind (format_of commands) (current_policy commands) c.bytes) receipt refl new.0 new.1 is
 
   pub acts_once : accepted_after limits (accepted_after limits commands c) c ≡ accepted_after limits commands c
   acts_once = by_answer (answer limits commands c) refl

@@ -1,12 +1,12 @@
--- What is sound are the ten tables of commands that were admitted.
-use Rattle.std.proofs.Common.{◌≡◌, List, Option, refl}
-use Rattle.std.specs.FinMap.{FinMap, get, empty}
+-- What is sound are the tables of commands that were admitted.
+use Rattle.std.proofs.Common.{◌≡◌, List, Option, refl, ◌∙◌}
+use Rattle.std.specs.FinMap.{FinMap, get}
 use Rattle.sqlite.specs.Order.{Row}
 use Rattle.wh_policy.specs.declared.attribute.Dim.TheVariants.{Product as Products, Store as Stores, Customer as Customers}
-use Rattle.wh_history.specs.Accepted.{Accepted}
+use Rattle.wh_history.specs.Accepted.{Accepted, format_of}
 use Rattle.wh_history.specs.Tables.{Limits, dimension_row}
-use Rattle.wh_model.specs.Defined.{AreOf, meta_at, command_at, member_at, change_at, profile_at, calendar_at, fact_at}
-use Rattle.wh_policy.specs.declared.format.Format.TheVariants.{One}
+use Rattle.wh_model.specs.Defined.{AreOf, meta_at, command_at, member_at, change_at, profile_at, calendar_at, fact_in}
+use Rattle.wh_policy.specs.declared.format.Format.TheVariants.{One, Two}
 use Rattle.wh_rows.specs.Holds.{Layout}
 use Rattle.wh_rows.specs.Raw.{Stored}
 use Rattle.wh_rows.specs.Rows as row
@@ -26,7 +26,7 @@ module _ (stored : Stored) (limits : Limits) (commands : List Accepted) where
   module _ (each : (table : Table) → IsDefined limits commands stored table) where
     abbrev found : Tables
     found = record {
-      format = One;
+      format = format_of commands;
       meta = (each Meta).rows;
       command = (each Command).rows;
       member = (each Member).rows;
@@ -37,8 +37,8 @@ module _ (stored : Stored) (limits : Limits) (commands : List Accepted) where
       profile = (each Profile).rows;
       calendar = (each Calendar).rows;
       fact = (each Fact).rows;
-      fact2 = empty;
-      void = empty;
+      fact2 = (each Fact2).rows;
+      void = (each Void).rows;
     }
 
     found_are : AreOf limits commands found
@@ -54,10 +54,12 @@ module _ (stored : Stored) (limits : Limits) (commands : List Accepted) where
       profile = (each Profile).are;
       calendar = (each Calendar).are;
       fact = (each Fact).are;
+      fact2 = (each Fact2).are;
+      void = (each Void).are;
     }
 
     found_stored : (table : Table) → StoresTable stored found table
-    found_stored Meta = rows_of row.meta (meta_at limits) (stored.rows Meta) (each Meta)
+    found_stored Meta = rows_of row.meta (meta_at (format_of commands) limits) (stored.rows Meta) (each Meta)
     found_stored Command = rows_of row.command (command_at commands) (stored.rows Command) (each Command)
     found_stored Member = rows_of row.member (member_at commands) (stored.rows Member) (each Member)
     found_stored Change = rows_of row.change (change_at commands) (stored.rows Change) (each Change)
@@ -66,13 +68,13 @@ module _ (stored : Stored) (limits : Limits) (commands : List Accepted) where
     found_stored Customer = rows_of row.customer (dimension_row commands Customers) (stored.rows Customer) (each Customer)
     found_stored Profile = rows_of row.profile (profile_at commands) (stored.rows Profile) (each Profile)
     found_stored Calendar = rows_of row.calendar (calendar_at commands) (stored.rows Calendar) (each Calendar)
-    found_stored Fact = rows_of row.fact (fact_at commands) (stored.rows Fact) (each Fact)
-    found_stored Fact2 = each Fact2
-    found_stored Void = each Void
+    found_stored Fact = rows_of row.fact (fact_in One commands) (stored.rows Fact) (each Fact)
+    found_stored Fact2 = rows_of row.fact2 (fact_in Two commands) (stored.rows Fact2) (each Fact2)
+    found_stored Void = rows_of row.void _ (stored.rows Void) (each Void)
 
   module _ (t : Tables) (are : AreOf limits commands t) (stores : (table : Table) → StoresTable stored t table) where
     defined : (table : Table) → IsDefined limits commands stored table
-    defined Meta = rows_at row.meta t.meta (meta_at limits) (stored.rows Meta) are.meta (stores Meta)
+    defined Meta = rows_at row.meta t.meta (meta_at (format_of commands) limits) (stored.rows Meta) are.meta (stores Meta)
     defined Command = rows_at row.command t.command (command_at commands) (stored.rows Command) are.command (stores Command)
     defined Member = rows_at row.member t.member (member_at commands) (stored.rows Member) are.member (stores Member)
     defined Change = rows_at row.change t.change (change_at commands) (stored.rows Change) are.change (stores Change)
@@ -81,9 +83,9 @@ module _ (stored : Stored) (limits : Limits) (commands : List Accepted) where
     defined Customer = rows_at row.customer t.customer (dimension_row commands Customers) (stored.rows Customer) are.customer (stores Customer)
     defined Profile = rows_at row.profile t.profile (profile_at commands) (stored.rows Profile) are.profile (stores Profile)
     defined Calendar = rows_at row.calendar t.calendar (calendar_at commands) (stored.rows Calendar) are.calendar (stores Calendar)
-    defined Fact = rows_at row.fact t.fact (fact_at commands) (stored.rows Fact) are.fact (stores Fact)
-    defined Fact2 = stores Fact2
-    defined Void = stores Void
+    defined Fact = rows_at row.fact t.fact (fact_in One commands) (stored.rows Fact) are.fact (stores Fact)
+    defined Fact2 = rows_at row.fact2 t.fact2 (fact_in Two commands) (stored.rows Fact2) are.fact2 (stores Fact2)
+    defined Void = rows_at row.void t.void _ (stored.rows Void) are.void (stores Void)
 
 pub sound_is_of_commands : SoundIsOfCommands
 sound_is_of_commands stored = (
@@ -92,8 +94,9 @@ sound_is_of_commands stored = (
     commands = sound.commands;
     tables = found stored sound.limits sound.commands sound.each;
     admitted = sound.admitted;
+    format = sound.formatted;
     are = found_are stored sound.limits sound.commands sound.each;
     stores = found_stored stored sound.limits sound.commands sound.each;
   },
-  λ it. record { limits = it.limits; commands = it.commands; admitted = it.admitted; each = defined stored it.limits it.commands it.tables it.are it.stores },
+  λ it. record { limits = it.limits; commands = it.commands; admitted = it.admitted; formatted = it.format ∙ it.are.format; each = defined stored it.limits it.commands it.tables it.are it.stores },
 )

@@ -18,23 +18,24 @@ use Rattle.wh_batch.specs.declared.kind.Kind.TheVariants.{Dimension, Sales}
 use Rattle.wh_policy.specs.declared.format.Format.{Format}
 use Rattle.wh_policy.specs.declared.format.Format.TheVariants.{One}
 use Rattle.wh_batch.proofs.GoodLemmas.{bind_ok, cond_ok}
-use Rattle.wh_history.specs.Accepted.{Accepted, Content, Governs, Describes, Sells, Upgrades, policy_after, format_after, formatted, described, described_by, sold, sold_by, same_dim}
+use Rattle.wh_history.specs.Accepted.{Accepted, Content, Governs, Describes, Sells, Upgrades, policy_after, described, described_by, sold, sold_by, same_dim, format_of}
 use Rattle.wh_history.specs.Tables.{Limits}
 use Rattle.wh_history.proofs.Joins.{all_append}
 use Rattle.wh_history.proofs.Untouched.{described-last}
 use Rattle.wh_rows.specs.Questions.{gives_policy}
 use Rattle.wh_rows.specs.Types.{is_key, is_kind}
 use Rattle.wh_batch.specs.Kind.{command_word}
-use Rattle.wh_admission.specs.Admission.{of_batch, records_told, sales_told, policy_told, content_of, current_policy, accepted_as, receipt_of, changes_in, first_line_there, number_past_lines, number_for, answer_with, when_read, answer, with_content, after_answer, accepted_after, AcceptedListsStaySound}
+use Rattle.wh_admission.specs.Admission.{bytes_kept, upgrades_again, of_batch, records_told, sales_told, policy_told, content_of, current_policy, accepted_as, receipt_of, changes_in, first_line_there, number_past_lines, number_for, answer_with, when_read, answer, with_content, after_answer, accepted_after, AcceptedListsStaySound}
+use Rattle.wh_model.proofs.Formatted.{format_before}
 use Rattle.wh_model.specs.Sound.{IsGoodRecord, IsGoodSale, same_line, changes_kept, GivesPolicy, IsAccepted}
 use Rattle.wh_admission.specs.declared.command.Command.{Command}
 use Rattle.wh_batch.specs.declared.kind.CommandKind.{CommandKind}
-use Rattle.wh_batch.specs.declared.kind.CommandKind.TheVariants.{Batch, Migration}
+use Rattle.wh_batch.specs.declared.kind.CommandKind.TheVariants.{Batch, Migration, Upgrade}
 use Rattle.wh_admission.specs.declared.command.Receipt.{Receipt}
 use Rattle.wh_admission.specs.declared.command.Reply.{Reply}
 use Rattle.wh_admission.specs.declared.command.Reply.TheVariants.{Accepted as Accepts, Already}
 use Rattle.wh_admission.specs.declared.command.Refused.{Refused}
-use Rattle.wh_admission.specs.declared.command.Refused.TheVariants.{Full}
+use Rattle.wh_admission.specs.declared.command.Refused.TheVariants.{Upgraded, Full}
 use Rattle.wh_admission.specs.declared.command.Limit.TheVariants.{Commands, Changes, Facts}
 use Rattle.wh_admission.proofs.Migrated.{HasSix, policy_taken, policy_with, still_governed, still_six}
 use Rattle.wh_admission.proofs.Repeats.{first_or, new_id}
@@ -93,20 +94,14 @@ all_new before number (s ∷ sales) none =
 
 -- ---- one command more
 
--- the format after one more
-format_with : (before : Format) (commands : List Accepted) (c : Accepted) → format_after before (commands ++ c ∷ []) ≡ formatted (format_after before commands) c.content
-format_with before [] c = refl
-format_with before (d ∷ ds) c = format_with (formatted before d.content) ds c
-
--- a content that a command can hold: few good records, or few good sales of which no two have one line
-pub record IsGoodContent (content : Content) : Type 0 where
+-- a content that a command can hold in a format: few good records, or few good sales of which no two have one line, and in the first format none a discount
+pub record IsGoodContent (format : Format) (content : Content) : Type 0 where
   pub few : changes_in content ≤ 5000
   pub few_sales : length (sold_by content) ≤ 5000
   pub records : (dim : Dim) → AllByRecursion IsGoodRecord (described_by dim content)
   pub sales : AllByRecursion IsGoodSale (sold_by content)
   pub lines : IsDistinct same_line (sold_by content)
-  pub undiscounted : AllByRecursion (λ s. s.discount ≡ 0) (sold_by content)
-  pub stays : formatted One content ≡ One
+  pub undiscounted : format ≡ One → AllByRecursion (λ s. s.discount ≡ 0) (sold_by content)
 
 all_if : (P : DimensionRecord → Type 0) (b : Bool) (records : List DimensionRecord) → AllByRecursion P records → AllByRecursion P (cond b records [])
 all_if P true records all = all
@@ -121,7 +116,7 @@ counted (Describes Customer records) = omega arith
 counted (Sells sales) = omega arith
 counted Upgrades = omega arith
 
-module _ (limits : Limits) (commands : List Accepted) (c : Accepted) (accepted : IsAccepted limits commands) (good : IsGoodContent c.content) (gives : GivesPolicy c.kind c.bytes c.content) where
+module _ (limits : Limits) (commands : List Accepted) (c : Accepted) (accepted : IsAccepted limits commands) (good : IsGoodContent (format_of commands) c.content) (gives : GivesPolicy c.kind c.bytes c.content) where
   abbrev after : List Accepted
   after = commands ++ c ∷ []
 
@@ -174,8 +169,9 @@ module _ (limits : Limits) (commands : List Accepted) (c : Accepted) (accepted :
         records = λ other. rw (described-last other commands c) (all_append IsGoodRecord (described other commands) (described_by other c.content) (accepted.records other) (good.records other));
         sales = rw sold_more (all_append IsGoodSale (sold commands) (sold_by c.content) accepted.sales good.sales);
         lines = rw sold_more (lines_joined (sold commands) (sold_by c.content) accepted.lines good.lines lines);
-        first = format_with One commands c ∙ ap (λ format. formatted format c.content) accepted.first ∙ good.stays;
-        undiscounted = λ _. rw sold_more (all_append (λ (s : SaleRecord). s.discount ≡ 0) (sold commands) (sold_by c.content) (accepted.undiscounted accepted.first) good.undiscounted);
+        undiscounted = λ first.
+            let before = format_before commands c first in
+            rw sold_more (all_append (λ (s : SaleRecord). s.discount ≡ 0) (sold commands) (sold_by c.content) (accepted.undiscounted before) (good.undiscounted before));
       }
 
 -- ---- the answer's cases
@@ -191,6 +187,7 @@ kind_known (Batch (Dimension Store)) = refl
 kind_known (Batch (Dimension Customer)) = refl
 kind_known (Batch Sales) = refl
 kind_known Migration = refl
+kind_known Upgrade = refl
 
 -- there was room for what was accepted, and no line of it was there
 pub record HasRoom (limits : Limits) (commands : List Accepted) (content : Content) : Type 0 where
@@ -211,7 +208,8 @@ module _ (limits : Limits) (commands : List Accepted) (content : Content) (next 
   pub had_number : number_for limits commands content ≡ Ok next → HasRoom limits commands content × (next ≡ suc (length commands))
   had_number h =
       let (few, rest) = cond_ok (leb limits.commands (length commands)) (Full Commands) _ next h in
-      room_after_lines (leb-false _ _ few) (first_line_there (sold commands) 1 (sold_by content)) refl rest
+      let (once, last) = cond_ok (upgrades_again commands content) Upgraded _ next rest in
+      room_after_lines (leb-false _ _ few) (first_line_there (sold commands) 1 (sold_by content)) refl last
 
 module _ (limits : Limits) (commands : List Accepted) (c : Command) (content : Content) (receipt : Receipt) where
   pub was_numbered : (o : Result ℕ Refused) → answer_with commands c content o ≡ Ok (Accepts receipt) → (next : ℕ) × (o ≡ Ok next) × (receipt_of (commands ++ accepted_as c content ∷ []) next content ≡ receipt)
@@ -237,13 +235,14 @@ no_policy Store = refl
 no_policy Customer = refl
 
 -- what was read of a command is good, and gives a policy as its word says
-pub record IsWell (word bytes : List ℕ) (content : Content) : Type 0 where
-  pub good : IsGoodContent content
+pub record IsWell (format : Format) (word bytes : List ℕ) (content : Content) : Type 0 where
+  pub good : IsGoodContent format content
   pub gives : GivesPolicy word bytes content
 
-well : (kind : CommandKind) (policy : Policy) (bytes : List ℕ) (content : Content) → ((dim : Dim) → length (attributes_of policy dim) ≤ 6) → content_of kind policy bytes ≡ Ok content → IsWell (command_word kind) bytes content
+well : (kind : CommandKind) (format : Format) (policy : Policy) (bytes : List ℕ) (content : Content) → ((dim : Dim) → length (attributes_of policy dim) ≤ 6) → content_of kind format policy bytes ≡ Ok content
+    → IsWell format (command_word kind) (bytes_kept kind bytes) content
 unfolding IsDistinct
-well (Batch (Dimension dim)) policy bytes content six told =
+well (Batch (Dimension dim)) format policy bytes content six told =
     let (records, given, last) = bind_ok (records_told dim policy bytes) (λ records. Ok (Describes dim records)) content told in
     let read = batch_ok (dimension_records dim policy bytes) records given in
     let e : Describes dim records ≡ content = cc in
@@ -255,41 +254,42 @@ well (Batch (Dimension dim)) policy bytes content six told =
         records = λ other. all_if IsGoodRecord (same_dim other dim) records good;
         sales = tt;
         lines = tt;
-        undiscounted = tt;
-        stays = refl;
+        undiscounted = λ _. tt;
       };
       gives = no_policy dim;
     })
-well (Batch Sales) policy bytes content six told =
-    let (sales, given, last) = bind_ok (sales_told policy bytes) (λ sales. Ok (Sells sales)) content told in
-    let read = batch_ok (sale_records policy One bytes) sales given in
+well (Batch Sales) format policy bytes content six told =
+    let (sales, given, last) = bind_ok (sales_told format policy bytes) (λ sales. Ok (Sells sales)) content told in
+    let read = batch_ok (sale_records policy format bytes) sales given in
     let e : Sells sales ≡ content = cc in
     rw (← e) (record {
       good = record {
         few = omega arith;
-        few_sales = few_sales policy One bytes sales read;
+        few_sales = few_sales policy format bytes sales read;
         records = λ other. tt;
-        sales = good_sales policy One bytes sales read;
-        lines = sales_once policy One bytes sales read;
-        undiscounted = none_discounted policy bytes sales read;
-        stays = refl;
+        sales = good_sales policy format bytes sales read;
+        lines = sales_once policy format bytes sales read;
+        undiscounted = λ first. none_discounted policy bytes sales (subst (λ f. sale_records policy f bytes ≡ Ok sales) first read);
       };
       gives = refl;
     })
-well Migration policy bytes content six told =
+well Migration format policy bytes content six told =
     let (newer, read, last) = bind_ok (policy_told policy bytes) (λ newer. Ok (Governs newer)) content told in
     let e : Governs newer ≡ content = cc in
     let taken = policy_taken policy bytes newer read in
     rw (← e) (record {
-      good = record { few = omega arith; few_sales = omega arith; records = λ other. tt; sales = tt; lines = tt; undiscounted = tt; stays = refl };
+      good = record { few = omega arith; few_sales = omega arith; records = λ other. tt; sales = tt; lines = tt; undiscounted = λ _. tt };
       gives = (refl, taken.written);
     })
+well Upgrade format policy bytes content six told =
+    let e : Upgrades ≡ content = cc in
+    rw (← e) (record { good = record { few = omega arith; few_sales = omega arith; records = λ other. tt; sales = tt; lines = tt; undiscounted = λ _. tt }; gives = refl })
 
 module _ (limits : Limits) (commands : List Accepted) (c : Command) (accepted : IsAccepted limits commands) where
-  content_well : (content : Content) → content_of c.kind (current_policy commands) c.bytes ≡ Ok content → IsWell (command_word c.kind) c.bytes content
-  content_well content told = well c.kind (current_policy commands) c.bytes content (λ dim. in_force_six dim (policy_after None commands) _ accepted.governed (accepted.six dim)) told
+  content_well : (content : Content) → content_of c.kind (format_of commands) (current_policy commands) c.bytes ≡ Ok content → IsWell (format_of commands) (command_word c.kind) (bytes_kept c.kind c.bytes) content
+  content_well content told = well c.kind (format_of commands) (current_policy commands) c.bytes content (λ dim. in_force_six dim (policy_after None commands) _ accepted.governed (accepted.six dim)) told
 
-  by_content : (read : Result Content Refused) (receipt : Receipt) → content_of c.kind (current_policy commands) c.bytes ≡ read → is_key 40 c.id ≡ true → find (λ (a : Accepted). bytes_eq a.id c.id) commands ≡ None
+  by_content : (read : Result Content Refused) (receipt : Receipt) → content_of c.kind (format_of commands) (current_policy commands) c.bytes ≡ read → is_key 40 c.id ≡ true → find (λ (a : Accepted). bytes_eq a.id c.id) commands ≡ None
       → when_read limits commands c read ≡ Ok (Accepts receipt) → IsAccepted limits (with_content commands c read)
   by_content (Err why) receipt told good new h = accepted
   by_content (Ok content) receipt told good new h =
@@ -302,8 +302,8 @@ module _ (limits : Limits) (commands : List Accepted) (c : Command) (accepted : 
   by_answer (Err why) said = accepted
   by_answer (Ok (Accepts receipt)) said =
       let new = new_id limits commands c (is_key 40 c.id) (find (λ (a : Accepted). bytes_eq a.id c.id) commands) receipt refl refl said in
-      let read : when_read limits commands c (content_of c.kind (current_policy commands) c.bytes) ≡ Ok (Accepts receipt) = rw (new.0, new.1) at said in
-      by_content (content_of c.kind (current_policy commands) c.bytes) receipt refl new.0 new.1 read
+      let read : when_read limits commands c (content_of c.kind (format_of commands) (current_policy commands) c.bytes) ≡ Ok (Accepts receipt) = rw (new.0, new.1) at said in
+      by_content (content_of c.kind (format_of commands) (current_policy commands) c.bytes) receipt refl new.0 new.1 read
 
   pub stays_accepted : IsAccepted limits (accepted_after limits commands c)
   stays_accepted = by_answer (answer limits commands c) refl

@@ -1,5 +1,5 @@
 -- The answer to a command, and the list of those that are accepted.
-use Rattle.std.specs.Prelude.{◌≡◌, ⊤, true, ℕ, suc, ◌+◌, ◌&&◌, nat_le, nat_lt, if◌then◌else◌, List, [], ◌∷◌, ◌++◌, length, map, find, Option, Some, None, unwrap_or, bytes_eq, Result, Ok, Err}
+use Rattle.std.specs.Prelude.{◌≡◌, ⊤, Bool, true, false, ℕ, suc, ◌+◌, ◌&&◌, nat_le, nat_lt, if◌then◌else◌, List, [], ◌∷◌, ◌++◌, length, map, find, Option, Some, None, unwrap_or, bytes_eq, Result, Ok, Err}
 use Rattle.std.specs.List.{list_any}
 use Rattle.wh_day.specs.Reading.{◌>>=◌}
 use Rattle.wh_policy.specs.Names.{fits}
@@ -12,10 +12,12 @@ use Rattle.wh_policy.specs.declared.record.SaleRecord.{SaleRecord}
 use Rattle.wh_batch.specs.Kind.{command_word}
 use Rattle.wh_batch.specs.Layouts.{dimension_records, sale_records}
 use Rattle.wh_batch.specs.declared.kind.Kind.TheVariants.{Dimension, Sales}
-use Rattle.wh_policy.specs.declared.format.Format.TheVariants.{One}
+use Rattle.wh_policy.specs.declared.format.Format.{Format}
+use Rattle.wh_policy.specs.declared.format.Format.TheVariants.{Two}
+use Rattle.wh_policy.specs.Formats.{is_two}
 use Rattle.wh_batch.specs.declared.fault.BatchFault.{BatchFault}
 use Rattle.wh_history.specs.Keys.{place}
-use Rattle.wh_history.specs.Accepted.{Accepted, Content, Governs, Describes, Sells, Upgrades, policy_after, sold, sold_by, records_by, placeholders_by}
+use Rattle.wh_history.specs.Accepted.{Accepted, Content, Governs, Describes, Sells, Upgrades, policy_after, format_of, sold, sold_by, records_by, placeholders_by}
 use Rattle.wh_history.specs.Tables.{Limits}
 use Rattle.wh_rows.specs.Types.{is_key}
 use Rattle.wh_rows.specs.Limits.{are_limits}
@@ -23,12 +25,12 @@ use Rattle.wh_model.specs.Sound.{making_of}
 use Rattle.wh_model.specs.Sound.{IsAccepted, changes_kept, same_line}
 use Rattle.wh_admission.specs.declared.command.Command.{Command}
 use Rattle.wh_batch.specs.declared.kind.CommandKind.{CommandKind}
-use Rattle.wh_batch.specs.declared.kind.CommandKind.TheVariants.{Batch, Migration}
+use Rattle.wh_batch.specs.declared.kind.CommandKind.TheVariants.{Batch, Migration, Upgrade}
 use Rattle.wh_admission.specs.declared.command.Receipt.{Receipt}
 use Rattle.wh_admission.specs.declared.command.Reply.{Reply}
 use Rattle.wh_admission.specs.declared.command.Reply.TheVariants.{Accepted as Accepts, Already}
 use Rattle.wh_admission.specs.declared.command.Refused.{Refused}
-use Rattle.wh_admission.specs.declared.command.Refused.TheVariants.{BadId, Reused, Batch as BadBatch, Policy as BadPolicy, Unfit, LineThere, Full}
+use Rattle.wh_admission.specs.declared.command.Refused.TheVariants.{BadId, Reused, Batch as BadBatch, Policy as BadPolicy, Unfit, Upgraded, LineThere, Full}
 use Rattle.wh_admission.specs.declared.command.Limit.TheVariants.{Commands, Changes, Facts}
 
 -- the policy in force; a list of accepted commands begins with a making, so it has one
@@ -43,8 +45,8 @@ of_batch (Err fault) = Err (BadBatch fault)
 abbrev pub records_told : Dim → Policy → List ℕ → Result (List DimensionRecord) Refused
 records_told dim policy bytes = of_batch (dimension_records dim policy bytes)
 
-abbrev pub sales_told : Policy → List ℕ → Result (List SaleRecord) Refused
-sales_told policy bytes = of_batch (sale_records policy One bytes)
+abbrev pub sales_told : Format → Policy → List ℕ → Result (List SaleRecord) Refused
+sales_told format policy bytes = of_batch (sale_records policy format bytes)
 
 -- what was read of a policy file, or its first fault
 abbrev pub of_file : Result Policy PolicyFault → Result Policy Refused
@@ -55,20 +57,34 @@ of_file (Err fault) = Err (BadPolicy fault)
 abbrev pub policy_told : Policy → List ℕ → Result Policy Refused
 policy_told older bytes = of_file (policy_at bytes) >>= λ newer. if fits older newer then Ok newer else Err Unfit
 
--- what the bytes of a command say under a policy, or why they are refused
-abbrev pub content_of : CommandKind → Policy → List ℕ → Result Content Refused
-content_of (Batch (Dimension dim)) policy bytes = records_told dim policy bytes >>= λ records. Ok (Describes dim records)
-content_of (Batch Sales) policy bytes = sales_told policy bytes >>= λ sales. Ok (Sells sales)
-content_of Migration policy bytes = policy_told policy bytes >>= λ newer. Ok (Governs newer)
+-- what the bytes of a command say in a format and under a policy, or why they are refused
+abbrev pub content_of : CommandKind → Format → Policy → List ℕ → Result Content Refused
+content_of (Batch (Dimension dim)) format policy bytes = records_told dim policy bytes >>= λ records. Ok (Describes dim records)
+content_of (Batch Sales) format policy bytes = sales_told format policy bytes >>= λ sales. Ok (Sells sales)
+content_of Migration format policy bytes = policy_told policy bytes >>= λ newer. Ok (Governs newer)
+content_of Upgrade format policy bytes = Ok Upgrades
 
--- the policy that is in force once such a command is accepted: a batch leaves the one that is, a migration brings its own
+-- what is kept of the bytes of a command: an upgrade has none
+abbrev pub bytes_kept : CommandKind → List ℕ → List ℕ
+bytes_kept (Batch kind) bytes = bytes
+bytes_kept Migration bytes = bytes
+bytes_kept Upgrade bytes = []
+
+-- the policy that is in force once such a command is accepted: a migration brings its own, and all others leave the one that is
 abbrev pub policy_brought : CommandKind → Policy → List ℕ → Result Policy Refused
 policy_brought (Batch kind) policy bytes = Ok policy
 policy_brought Migration policy bytes = policy_told policy bytes
+policy_brought Upgrade policy bytes = Ok policy
+
+-- and the format
+abbrev pub format_brought : CommandKind → Format → Format
+format_brought (Batch kind) format = format
+format_brought Migration format = format
+format_brought Upgrade format = Two
 
 -- a command with what it says
 abbrev pub accepted_as : Command → Content → Accepted
-accepted_as c content = record { id = c.id; kind = command_word c.kind; bytes = c.bytes; content = content }
+accepted_as c content = record { id = c.id; kind = command_word c.kind; bytes = bytes_kept c.kind c.bytes; content = content }
 
 -- the receipt of a command of the list
 abbrev pub receipt_of : List Accepted → ℕ → Content → Receipt
@@ -95,10 +111,19 @@ number_past_lines limits commands content None =
     else if nat_lt limits.facts (length (sold commands) + length (sold_by content)) then Err (Full Facts)
     else Ok (suc (length commands))
 
--- the number of the next command where there is room for it and for this content, and no line of it is there
+-- it makes the second format of commands that have it
+abbrev pub upgrades_again : List Accepted → Content → Bool
+upgrades_again commands (Governs policy) = false
+upgrades_again commands (Describes dim records) = false
+upgrades_again commands (Sells sales) = false
+upgrades_again commands Upgrades = is_two (format_of commands)
+
+-- the number of the next command where there is room for it and for this content, it is no second upgrade, and no line of it is there
 abbrev pub number_for : Limits → List Accepted → Content → Result ℕ Refused
 number_for limits commands content =
-    if nat_le limits.commands (length commands) then Err (Full Commands) else number_past_lines limits commands content (first_line_there (sold commands) 1 (sold_by content))
+    if nat_le limits.commands (length commands) then Err (Full Commands)
+    else if upgrades_again commands content then Err Upgraded
+    else number_past_lines limits commands content (first_line_there (sold commands) 1 (sold_by content))
 
 -- the answer with its number, or why there is none
 abbrev pub answer_with : List Accepted → Command → Content → Result ℕ Refused → Result Reply Refused
@@ -111,7 +136,7 @@ when_read limits commands c (Ok content) = answer_with commands c content (numbe
 
 -- a command whose id is known comes again where kind and bytes are the same too, and has the receipt that was kept
 abbrev pub receipt_again : (kind bytes : List ℕ) → Command → Receipt → Result Receipt Refused
-receipt_again kind bytes c kept = if bytes_eq kind (command_word c.kind) && bytes_eq bytes c.bytes then Ok kept else Err Reused
+receipt_again kind bytes c kept = if bytes_eq kind (command_word c.kind) && bytes_eq bytes (bytes_kept c.kind c.bytes) then Ok kept else Err Reused
 
 -- and the answer with it
 abbrev pub already : Result Receipt Refused → Result Reply Refused
@@ -123,7 +148,7 @@ when_known commands c a = already (receipt_again a.kind a.bytes c (receipt_of co
 
 abbrev pub by_id : Limits → List Accepted → Command → Option Accepted → Result Reply Refused
 by_id limits commands c (Some a) = when_known commands c a
-by_id limits commands c None = when_read limits commands c (content_of c.kind (current_policy commands) c.bytes)
+by_id limits commands c None = when_read limits commands c (content_of c.kind (format_of commands) (current_policy commands) c.bytes)
 
 -- the first case that applies
 abbrev pub answer : Limits → List Accepted → Command → Result Reply Refused
@@ -141,7 +166,7 @@ with_content commands c (Err why) = commands
 
 -- the list after a command: with it where it is accepted
 abbrev pub after_answer : List Accepted → Command → Result Reply Refused → List Accepted
-after_answer commands c (Ok (Accepts receipt)) = with_content commands c (content_of c.kind (current_policy commands) c.bytes)
+after_answer commands c (Ok (Accepts receipt)) = with_content commands c (content_of c.kind (format_of commands) (current_policy commands) c.bytes)
 after_answer commands c (Ok (Already receipt)) = commands
 after_answer commands c (Err why) = commands
 
@@ -181,11 +206,11 @@ pub record AreAdmitted (limits : Limits) (commands : List Accepted) : Type 0 whe
 abbrev pub AdmittedListsAreSound : Type 0
 AdmittedListsAreSound = (limits : Limits) (commands : List Accepted) → AreAdmitted limits commands → IsAccepted limits commands
 
--- what the command says is what its kind and bytes give under the policy that was in force before it
+-- what the command says is what its kind and bytes give in the format and under the policy that were in force before it
 pub record IsOfItsBytes (before : List Accepted) (a : Accepted) : Type 0 where
   pub kind : CommandKind
   pub kind_is : a.kind ≡ command_word kind
-  pub content_is : content_of kind (current_policy before) a.bytes ≡ Ok a.content
+  pub content_is : content_of kind (format_of before) (current_policy before) a.bytes ≡ Ok a.content
 
 -- so it is of each command that came after these
 abbrev pub AreOfTheirBytes : List Accepted → List Accepted → Type 0

@@ -3,17 +3,17 @@ use Rattle.std.specs.Prelude.{◌≡◌, ◌≢◌, ◌<◌, ◌≤◌, ℕ, suc
 use Rattle.std.specs.List.{list_any, AllByRecursion, IsDistinct}
 use Rattle.wh_policy.specs.declared.record.SaleRecord.{SaleRecord}
 use Rattle.wh_batch.specs.Kind.{command_word}
-use Rattle.wh_history.specs.Accepted.{Accepted, Content, sold, sold_by}
+use Rattle.wh_history.specs.Accepted.{Accepted, Content, sold, sold_by, format_of}
 use Rattle.wh_history.specs.Keys.{at_place}
 use Rattle.wh_history.specs.Tables.{Limits}
 use Rattle.wh_model.specs.Sound.{changes_kept, same_line}
 use Rattle.wh_rows.specs.Types.{is_key}
-use Rattle.wh_admission.specs.Admission.{current_policy, content_of, accepted_as, receipt_of, changes_in, answer}
+use Rattle.wh_admission.specs.Admission.{current_policy, content_of, accepted_as, receipt_of, changes_in, answer, bytes_kept, upgrades_again}
 use Rattle.wh_admission.specs.declared.command.Command.{Command}
 use Rattle.wh_admission.specs.declared.command.Reply.{Reply}
 use Rattle.wh_admission.specs.declared.command.Reply.TheVariants.{Accepted as Accepts, Already}
 use Rattle.wh_admission.specs.declared.command.Refused.{Refused}
-use Rattle.wh_admission.specs.declared.command.Refused.TheVariants.{BadId, Reused, LineThere, Full}
+use Rattle.wh_admission.specs.declared.command.Refused.TheVariants.{BadId, Reused, Upgraded, LineThere, Full}
 use Rattle.wh_admission.specs.declared.command.Limit.TheVariants.{Commands, Changes, Facts}
 
 -- the id is a good one, and an accepted command with this number has it
@@ -25,7 +25,7 @@ pub record HasIdOf (commands : List Accepted) (c : Command) (number : ℕ) (a : 
 -- an accepted command has this one's kind and bytes
 pub record IsAlike (a : Accepted) (c : Command) : Type 0 where
   pub kind : a.kind ≡ command_word c.kind
-  pub bytes : a.bytes ≡ c.bytes
+  pub bytes : a.bytes ≡ bytes_kept c.kind c.bytes
 
 -- the id is a good one, and no accepted command has it
 pub record IsNew (commands : List Accepted) (c : Command) : Type 0 where
@@ -35,12 +35,17 @@ pub record IsNew (commands : List Accepted) (c : Command) : Type 0 where
 -- it is new, and under the policy in force it says this
 pub record Says (commands : List Accepted) (c : Command) (content : Content) : Type 0 where
   pub new : IsNew commands c
-  pub read : content_of c.kind (current_policy commands) c.bytes ≡ Ok content
+  pub read : content_of c.kind (format_of commands) (current_policy commands) c.bytes ≡ Ok content
 
 -- and the limit of commands isn't reached
 pub record MayBeCounted (limits : Limits) (commands : List Accepted) (c : Command) (content : Content) : Type 0 where
   pub says : Says commands c content
   pub commands_left : length commands < limits.commands
+
+-- and it is no second upgrade
+pub record FitsFormat (limits : Limits) (commands : List Accepted) (c : Command) (content : Content) : Type 0 where
+  pub counted : MayBeCounted limits commands c content
+  pub upgrades_once : upgrades_again commands content ≡ false
 
 -- a sale's ticket and line are those of a sale that was accepted
 abbrev pub is_sold : List Accepted → SaleRecord → Bool
@@ -48,7 +53,7 @@ is_sold commands s = list_any (λ t. same_line t s) (sold commands)
 
 -- and none of its lines is there
 pub record BringsNewLines (limits : Limits) (commands : List Accepted) (c : Command) (content : Content) : Type 0 where
-  pub counted : MayBeCounted limits commands c content
+  pub fits : FitsFormat limits commands c content
   pub lines_new : AllByRecursion (λ s. is_sold commands s ≡ false) (sold_by content)
 
 -- and the limit of changes isn't passed
@@ -68,9 +73,10 @@ pub data IsAnswer (limits : Limits) (commands : List Accepted) (c : Command) : R
   bad_id : is_key 40 c.id ≡ false → IsAnswer limits commands c (Err BadId)
   already : (number : ℕ) (a : Accepted) → HasIdOf commands c number a → IsAlike a c → IsAnswer limits commands c (Ok (Already (receipt_of commands number a.content)))
   reused : (number : ℕ) (a : Accepted) → HasIdOf commands c number a → ¬ IsAlike a c → IsAnswer limits commands c (Err Reused)
-  faulty : (why : Refused) → IsNew commands c → content_of c.kind (current_policy commands) c.bytes ≡ Err why → IsAnswer limits commands c (Err why)
+  faulty : (why : Refused) → IsNew commands c → content_of c.kind (format_of commands) (current_policy commands) c.bytes ≡ Err why → IsAnswer limits commands c (Err why)
   commands_full : (content : Content) → Says commands c content → limits.commands ≤ length commands → IsAnswer limits commands c (Err (Full Commands))
-  line_there : (content : Content) (number : ℕ) → MayBeCounted limits commands c content → IsFirstSold commands (sold_by content) number → IsAnswer limits commands c (Err (LineThere number))
+  upgraded : (content : Content) → MayBeCounted limits commands c content → upgrades_again commands content ≡ true → IsAnswer limits commands c (Err Upgraded)
+  line_there : (content : Content) (number : ℕ) → FitsFormat limits commands c content → IsFirstSold commands (sold_by content) number → IsAnswer limits commands c (Err (LineThere number))
   changes_full : (content : Content) → BringsNewLines limits commands c content → limits.changes < changes_kept commands + changes_in content → IsAnswer limits commands c (Err (Full Changes))
   facts_full : (content : Content) → KeepsToChanges limits commands c content → limits.facts < length (sold commands) + length (sold_by content) → IsAnswer limits commands c (Err (Full Facts))
   accepted : (content : Content) → KeepsToChanges limits commands c content → length (sold commands) + length (sold_by content) ≤ limits.facts

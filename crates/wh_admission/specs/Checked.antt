@@ -5,9 +5,10 @@ use Rattle.std.specs.FinMap.{FinMap, get, values}
 use Rattle.std.specs.List.Sorted.{IsPermutation}
 use Rattle.sqlite.specs.Order.{Row}
 use Rattle.wh_policy.specs.declared.attribute.Dim.TheVariants.{Product as Products, Store as Stores, Customer as Customers}
-use Rattle.wh_history.specs.Accepted.{Accepted}
+use Rattle.wh_policy.specs.declared.format.Format.TheVariants.{One, Two}
+use Rattle.wh_history.specs.Accepted.{Accepted, format_of}
 use Rattle.wh_history.specs.Tables.{Limits, dimension_row}
-use Rattle.wh_model.specs.Defined.{meta_at, command_at, member_at, change_at, profile_at, calendar_at, fact_at}
+use Rattle.wh_model.specs.Defined.{meta_at, command_at, member_at, change_at, profile_at, calendar_at, fact_in}
 use Rattle.wh_rows.specs.Holds.{Layout}
 use Rattle.wh_rows.specs.Limits.{are_limits}
 use Rattle.wh_rows.specs.Raw.{Stored, HasDamageIn}
@@ -23,9 +24,9 @@ pub record AreRowsAt {K V : Type 0} (layout : Layout K V) (row_at : K → Option
   pub valid : IsTrue (list_all layout.is_valid (values rows))
   pub same : IsPermutation stored (map layout.encode (values rows))
 
--- What is stored in a table is what limits and accepted commands define. No command makes the second format, so its two tables have no row.
+-- What is stored in a table is what limits and accepted commands define. No command withdraws a line.
 abbrev pub IsDefined : Limits → List Accepted → Stored → Table → Type 0
-IsDefined limits commands stored Meta = AreRowsAt row.meta (meta_at limits) (stored.rows Meta)
+IsDefined limits commands stored Meta = AreRowsAt row.meta (meta_at (format_of commands) limits) (stored.rows Meta)
 IsDefined limits commands stored Command = AreRowsAt row.command (command_at commands) (stored.rows Command)
 IsDefined limits commands stored Member = AreRowsAt row.member (member_at commands) (stored.rows Member)
 IsDefined limits commands stored Change = AreRowsAt row.change (change_at commands) (stored.rows Change)
@@ -34,27 +35,29 @@ IsDefined limits commands stored Store = AreRowsAt row.store (dimension_row comm
 IsDefined limits commands stored Customer = AreRowsAt row.customer (dimension_row commands Customers) (stored.rows Customer)
 IsDefined limits commands stored Profile = AreRowsAt row.profile (profile_at commands) (stored.rows Profile)
 IsDefined limits commands stored Calendar = AreRowsAt row.calendar (calendar_at commands) (stored.rows Calendar)
-IsDefined limits commands stored Fact = AreRowsAt row.fact (fact_at commands) (stored.rows Fact)
-IsDefined limits commands stored Fact2 = AreRowsAt row.fact2 (λ _. None) (stored.rows Fact2)
+IsDefined limits commands stored Fact = AreRowsAt row.fact (fact_in One commands) (stored.rows Fact)
+IsDefined limits commands stored Fact2 = AreRowsAt row.fact2 (fact_in Two commands) (stored.rows Fact2)
 IsDefined limits commands stored Void = AreRowsAt row.void (λ _. None) (stored.rows Void)
 
--- What is stored is sound: it is that of a list of commands that were admitted, one after the other, under good limits.
+-- What is stored is sound: it is that of a list of commands that were admitted, one after the other, under good limits, in tables of the format that they make.
 pub record IsSoundStored (stored : Stored) : Type 0 where
   pub limits : Limits
   pub commands : List Accepted
   pub admitted : AreAdmitted limits commands
+  pub formatted : stored.format ≡ format_of commands
   pub each : (table : Table) → IsDefined limits commands stored table
 
 -- ---- one table after the other
 
--- meta says these limits, which are good; the format is 1
+-- meta says the format of the tables and these limits, which are good
 pub record SaysLimits (stored : Stored) (limits : Limits) : Type 0 where
   pub good : are_limits limits ≡ true
-  pub defined : AreRowsAt row.meta (meta_at limits) (stored.rows Meta)
+  pub defined : AreRowsAt row.meta (meta_at stored.format limits) (stored.rows Meta)
 
--- the command table says these commands, which were admitted under the limits that meta says
+-- the command table says these commands, which were admitted under the limits that meta says, and make the format that it says
 pub record SaysCommands (stored : Stored) (limits : Limits) (commands : List Accepted) : Type 0 where
   pub said : SaysLimits stored limits
+  pub formatted : stored.format ≡ format_of commands
   pub admitted : AreAdmitted limits commands
   pub defined : AreRowsAt row.command (command_at commands) (stored.rows Command)
 

@@ -6,6 +6,7 @@ use Rattle.wh_rows.specs.Raw.{Stored}
 use Rattle.wh_rows.specs.Rows as layout
 use Rattle.wh_rows.specs.declared.rows.CommandRow.{CommandRow}
 use Rattle.wh_rows.specs.declared.table.Table.TheVariants as table
+use Rattle.wh_admission.specs.Admission.{bytes_kept}
 use Rattle.wh_admission.specs.declared.command.Command.{Command}
 use Rattle.wh_admission.specs.declared.command.Receipt.{Receipt}
 
@@ -16,5 +17,5 @@ pub record IsKept (stored : Stored) (c : Command) (receipt : Receipt) : Type 0 w
   pub stands : Has (stored.rows table.Command) (layout.command.encode row)
   pub id : row.id ≡ c.id
   pub kind : row.kind ≡ command_word c.kind
-  pub bytes : row.bytes ≡ c.bytes
+  pub bytes : row.bytes ≡ bytes_kept c.kind c.bytes
   pub receipt_is : receipt ≡ record { number = row.number; records = row.records; placeholders = row.placeholders }

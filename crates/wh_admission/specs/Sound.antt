@@ -1,5 +1,5 @@
--- What is sound, said by the ten tables of accepted commands.
-use Rattle.std.specs.Prelude.{List, map, None, IsTrue}
+-- What is sound, said by the tables of accepted commands.
+use Rattle.std.specs.Prelude.{◌≡◌, List, map, IsTrue}
 use Rattle.std.specs.List.{list_all}
 use Rattle.std.specs.FinMap.{FinMap, values}
 use Rattle.std.specs.List.Sorted.{IsPermutation}
@@ -14,14 +14,14 @@ use Rattle.wh_rows.specs.Tables.{Tables}
 use Rattle.wh_rows.specs.declared.table.Table.{Table}
 use Rattle.wh_rows.specs.declared.table.Table.TheVariants.{Meta, Command, Member, Change, Product, Store, Customer, Profile, Calendar, Fact, Fact2, Void}
 use Rattle.wh_admission.specs.Admission.{AreAdmitted}
-use Rattle.wh_admission.specs.Checked.{AreRowsAt, IsSoundStored}
+use Rattle.wh_admission.specs.Checked.{IsSoundStored}
 
 -- just the rows of a map are stored, in whatever order, and each is of its type
 pub record AreRowsOf {K V : Type 0} (layout : Layout K V) (rows : FinMap layout.order V) (stored : List Row) : Type 0 where
   pub valid : IsTrue (list_all layout.is_valid (values rows))
   pub same : IsPermutation stored (map layout.encode (values rows))
 
--- so it is of a table; no row is stored in the two that only the second format has, which no command makes
+-- so it is of a table
 abbrev pub StoresTable : Stored → Tables → Table → Type 0
 StoresTable stored t Meta = AreRowsOf row.meta t.meta (stored.rows Meta)
 StoresTable stored t Command = AreRowsOf row.command t.command (stored.rows Command)
@@ -33,15 +33,16 @@ StoresTable stored t Customer = AreRowsOf row.customer t.customer (stored.rows C
 StoresTable stored t Profile = AreRowsOf row.profile t.profile (stored.rows Profile)
 StoresTable stored t Calendar = AreRowsOf row.calendar t.calendar (stored.rows Calendar)
 StoresTable stored t Fact = AreRowsOf row.fact t.fact (stored.rows Fact)
-StoresTable stored t Fact2 = AreRowsAt row.fact2 (λ _. None) (stored.rows Fact2)
-StoresTable stored t Void = AreRowsAt row.void (λ _. None) (stored.rows Void)
+StoresTable stored t Fact2 = AreRowsOf row.fact2 t.fact2 (stored.rows Fact2)
+StoresTable stored t Void = AreRowsOf row.void t.void (stored.rows Void)
 
--- Tables of the first format are stored, and they are those of a list of commands that were admitted.
+-- Tables are stored, and they are those of a list of commands that were admitted.
 pub record IsOfCommands (stored : Stored) : Type 0 where
   pub limits : Limits
   pub commands : List Accepted
   pub tables : Tables
   pub admitted : AreAdmitted limits commands
+  pub format : stored.format ≡ tables.format
   pub are : AreOf limits commands tables
   pub stores : (table : Table) → StoresTable stored tables table
 

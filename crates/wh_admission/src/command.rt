@@ -1,19 +1,34 @@
 //! Commands, and what is answered to them.
 
+ghost use Rattle.std.specs.Prelude.{◌≡◌};
+ghost use Rattle.wh_admission.specs.Admission.{bytes_kept};
+
 use sqlite_value::value::Bytes;
 use thiserror::Error;
 use wh_batch::{BatchFault, CommandKind};
 use wh_day::Value;
 use wh_policy::PolicyFault;
 
-/// A batch or a policy as it is sent, under a name that its sender gives it.
+/// A batch, a policy or an upgrade as it is sent, under a name that its sender gives it.
 #[derive(Debug, Drop)]
 pub struct Command {
     /// What the sender calls it. The same command may come again under the same id.
     pub id: Value,
     pub kind: CommandKind,
-    /// The batch, or the policy file.
+    /// The batch, or the policy file. Of an upgrade none are kept, and none compared.
     pub bytes: Bytes,
+}
+
+impl Command {
+    /// What is kept of its bytes.
+    pub fn kept_bytes(&self) -> &[u8]
+        ensures { result.now ≡ bytes_kept self.now.kind self.now.bytes }
+    {
+        match self.kind {
+            CommandKind::Batch(_) | CommandKind::Migration => self.bytes.as_slice(),
+            CommandKind::Upgrade => &[],
+        }
+    }
 }
 
 /// What an accepted command is answered, now and whenever it comes again.
@@ -60,6 +75,12 @@ pub enum Refused {
     /// The policy doesn't fit the one in force: a name or a year is lost, or a name stands in another slot.
     #[error("the policy does not fit the one in force")]
     Unfit,
+    /// The warehouse has the second format.
+    #[error("the warehouse has the second format")]
+    Upgraded,
+    /// A table, an index or a view of somebody else's has a name that the second format needs. No list of commands says so: it is found in the file.
+    #[error("a name of the second format is taken")]
+    NameTaken,
     /// The first sale, from 1, whose ticket and line are those of a stored fact.
     #[error("a fact of the ticket and line is there")]
     LineThere(u64),

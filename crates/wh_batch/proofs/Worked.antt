@@ -9,7 +9,7 @@ use Rattle.wh_policy.specs.declared.attribute.Dim.TheVariants.{Product}
 use Rattle.wh_policy.specs.declared.record.SaleRecord.{SaleRecord}
 use Rattle.wh_batch.specs.declared.fault.FaultKind.TheVariants.{WrongHeader, WrongLength, BadKey, BadDay, BadValue, BadNumber, TwiceInBatch, OutsideCalendar}
 use Rattle.wh_batch.specs.declared.kind.CommandKind.{CommandKind}
-use Rattle.wh_batch.specs.declared.kind.CommandKind.TheVariants.{Batch, Migration}
+use Rattle.wh_batch.specs.declared.kind.CommandKind.TheVariants.{Batch, Migration, Upgrade}
 use Rattle.wh_policy.specs.declared.format.Format.TheVariants.{One, Two}
 use Rattle.wh_batch.specs.declared.kind.Kind.TheVariants.{Dimension, Sales}
 use Rattle.wh_batch.specs.declared.manifest.ManifestEntry.{ManifestEntry}
@@ -180,8 +180,8 @@ unfolding batch_on_literals
 header_with_discount = refl
 
 -- the words of commands
-words : (command_kind_of (codes "sales") ≡ Some (Batch Sales)) × (command_kind_of (codes "migrate") ≡ Some Migration) × (command_kind_of (codes "init") ≡ None) × (command_word (Batch (Dimension Product)) ≡ codes "product")
-words = (refl, refl, refl, refl)
+words : (command_kind_of (codes "sales") ≡ Some (Batch Sales)) × (command_kind_of (codes "migrate") ≡ Some Migration) × (command_kind_of (codes "upgrade") ≡ Some Upgrade) × (command_kind_of (codes "init") ≡ None) × (command_word (Batch (Dimension Product)) ≡ codes "product")
+words = (refl, refl, refl, refl, refl)
 
 -- manifests, with the line end given
 abbrev night : List ℕ → List ℕ

@@ -4,7 +4,7 @@ use Rattle.wh_policy.specs.Words.{word_of, dim_of_word}
 use Rattle.wh_batch.specs.declared.kind.Kind.{Kind}
 use Rattle.wh_batch.specs.declared.kind.Kind.TheVariants.{Dimension, Sales}
 use Rattle.wh_batch.specs.declared.kind.CommandKind.{CommandKind}
-use Rattle.wh_batch.specs.declared.kind.CommandKind.TheVariants.{Batch, Migration}
+use Rattle.wh_batch.specs.declared.kind.CommandKind.TheVariants.{Batch, Migration, Upgrade}
 
 -- the word for a kind
 abbrev pub kind_word : Kind → List ℕ
@@ -19,7 +19,8 @@ kind_of_word word = if bytes_eq word (codes "sales") then Some Sales else option
 abbrev pub command_word : CommandKind → List ℕ
 command_word (Batch kind) = kind_word kind
 command_word Migration = codes "migrate"
+command_word Upgrade = codes "upgrade"
 
 -- the kind of a command by the word for it
 abbrev pub command_kind_of : List ℕ → Option CommandKind
-command_kind_of word = if bytes_eq word (codes "migrate") then Some Migration else option_map Batch (kind_of_word word)
+command_kind_of word = if bytes_eq word (codes "migrate") then Some Migration else if bytes_eq word (codes "upgrade") then Some Upgrade else option_map Batch (kind_of_word word)

@@ -44,16 +44,19 @@ pub enum CommandKind {
     Batch(Kind),
     /// A new policy, which is in force from then on.
     Migration,
+    /// The second format, from then on.
+    Upgrade,
 }
 
 impl CommandKind {
-    /// The word for it, in commands and among those that are kept: that of the batch, or `migrate`.
+    /// The word for it, in commands and among those that are kept: that of the batch, `migrate` or `upgrade`.
     pub fn word(self) -> &'static str
         ensures { result.now ≡ command_word self }
     {
         match self {
             CommandKind::Batch(kind) => kind.word(),
             CommandKind::Migration => "migrate",
+            CommandKind::Upgrade => "upgrade",
         }
     }
 
@@ -63,6 +66,9 @@ impl CommandKind {
     {
         if word == "migrate" {
             return Some(CommandKind::Migration);
+        }
+        if word == "upgrade" {
+            return Some(CommandKind::Upgrade);
         }
         match Kind::from_word(word) {
             Some(kind) => Some(CommandKind::Batch(kind)),

@@ -1,6 +1,6 @@
 -- From what is found of one table after the other to a verdict.
-use Rattle.std.proofs.Common.{◌<◌, List, subst, arith}
-use Rattle.wh_history.specs.Accepted.{Accepted}
+use Rattle.std.proofs.Common.{◌≡◌, ◌<◌, List, subst, arith}
+use Rattle.wh_history.specs.Accepted.{Accepted, format_of}
 use Rattle.wh_history.specs.Tables.{Limits}
 use Rattle.wh_model.specs.Defined.{command_at}
 use Rattle.wh_rows.specs.Raw.{Stored, HasDamageIn}
@@ -38,14 +38,14 @@ module _ (stored : Stored) where
     meta_before_command Fact2 less = absurd (omega (arith, less))
     meta_before_command Void less = absurd (omega (arith, less))
 
-    -- the command table tells no list that was admitted under these limits
-    pub command_wrong : ((commands : List Accepted) → AreAdmitted limits commands → ¬ AreRowsAt row.command (command_at commands) (stored.rows Command)) → IsFirstWrong stored Command
+    -- the command table tells no list that was admitted under these limits and makes this format
+    pub command_wrong : ((commands : List Accepted) → stored.format ≡ format_of commands → AreAdmitted limits commands → ¬ AreRowsAt row.command (command_at commands) (stored.rows Command)) → IsFirstWrong stored Command
     command_wrong none = record {
       before = meta_before_command;
       wrong = λ right.
           let (others, commands, said) = right in
-          let same = limits_are_one stored others limits said.said.defined meta.defined in
-          none commands (subst (λ l. AreAdmitted l commands) same said.admitted) said.defined;
+          let same = limits_are_one stored stored.format others limits said.said.defined meta.defined in
+          none commands said.formatted (subst (λ l. AreAdmitted l commands) same said.admitted) said.defined;
     }
 
     module _ (commands : List Accepted) (said : SaysCommands stored limits commands) where
@@ -57,4 +57,4 @@ module _ (stored : Stored) where
       table_wrong table defined other = record { before = defined_before table defined; wrong = λ right. other (defined_from stored limits commands said table right) }
 
       pub all_clean : ((table : Table) → IsDefined limits commands stored table) → IsSoundStored stored
-      all_clean defined = record { limits = limits; commands = commands; admitted = said.admitted; each = defined }
+      all_clean defined = record { limits = limits; commands = commands; admitted = said.admitted; formatted = said.formatted; each = defined }

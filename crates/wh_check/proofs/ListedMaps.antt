@@ -62,16 +62,17 @@ module _ {K V : Type 0} (layout : Layout K V) where
   all_valid [] each = refl
   all_valid (e ∷ es) each = both_true (layout.is_valid e.1) (list_all layout.is_valid (rows es)) each.0 (all_valid es each.1)
 
-  pub listed : (db : Trees) (m : FinMap layout.order V) (row_at : K → Option V) → Holds layout db m → ((key : K) → get m key ≡ row_at key) → AreListed layout row_at (values m)
-  listed db m row_at held are = record {
-    rise = rises (entries m) held.keyed (entries_sorted m);
-    valid = all_valid (entries m) held.valid;
-    found = λ key. ap (find layout.order key) (pairs (entries m) held.keyed) ∙ sym (get-entries m key) ∙ are key;
+  pub listed : (m : FinMap layout.order V) (row_at : K → Option V) → Keyed (entries m) → AllByRecursion (λ (e : K × V). IsTrue (layout.is_valid e.1)) (entries m) → ((key : K) → get m key ≡ row_at key) → AreListed layout row_at (values m)
+  listed m row_at keyed valid are = record {
+    rise = rises (entries m) keyed (entries_sorted m);
+    valid = all_valid (entries m) valid;
+    found = λ key. ap (find layout.order key) (pairs (entries m) keyed) ∙ sym (get-entries m key) ∙ are key;
   }
 
 -- What a comparison with a table's rows says: what is stored is what its map gives, or it isn't and none of it is damaged.
-pub rows_or_not : {K V : Type 0} (layout : Layout K V) → IsTotalOrder layout.order → IsAntisymmetric layout.order → (db : Trees) (m : FinMap layout.order V) → Holds layout db m → (stored : List Row) (same : Bool) → IsCompared layout stored (values m) same → AreRowsOrNot layout (get m) stored same
-rows_or_not layout total exact db m held stored same compared = defined_or_not layout total exact (get m) (values m) stored same (listed layout db m (get m) held (λ _. refl)) compared
+pub rows_or_not : {K V : Type 0} (layout : Layout K V) → IsTotalOrder layout.order → IsAntisymmetric layout.order → (m : FinMap layout.order V) → AreListed layout (get m) (values m) → (stored : List Row) (same : Bool) → IsCompared layout stored (values m) same
+    → AreRowsOrNot layout (get m) stored same
+rows_or_not layout total exact m all stored same compared = defined_or_not layout total exact (get m) (values m) stored same all compared
 
 -- the same of a function that gives what the map gives
 rows_so : {K V : Type 0} (layout : Layout K V) (f g : K → Option V) (stored : List Row) → ((key : K) → f key ≡ g key) → AreRowsAt layout f stored → AreRowsAt layout g stored

@@ -36,9 +36,9 @@ and_true false = refl
 stands_so : (k : List ℕ) (v : MetaRow) → stands_at_text k (row.meta.encode v) ≡ eq_by_cmp (slice_cmp nat_cmp) k v.name
 stands_so k v = and_true _ ∙ equal-Text v.name k
 
-number_read : (stored : Stored) (limits : Limits) → AreRowsAt row.meta (meta_at limits) (stored.rows Meta) → (name : List ℕ) (number : Option ℤ) → IsNumberIn stored name number → number ≡ meta_number (meta_at limits name)
+number_read : (stored : Stored) (limits : Limits) → AreRowsAt row.meta (meta_at stored.format limits) (stored.rows Meta) → (name : List ℕ) (number : Option ℤ) → IsNumberIn stored name number → number ≡ meta_number (meta_at stored.format limits name)
 number_read stored limits are name number it =
-    it.2 ∙ ap meta_number (found_at row.meta places.meta.total places.meta.once stands_at_text stands_so (meta_at limits) (meta_keyed limits) (stored.rows Meta) are name it.0 it.1)
+    it.2 ∙ ap meta_number (found_at row.meta places.meta.total places.meta.once stands_at_text stands_so (meta_at stored.format limits) (meta_keyed stored.format limits) (stored.rows Meta) are name it.0 it.1)
 
 -- the limits that are read by their names are those that meta says
 pub limits_read : (stored : Stored) (limits : Limits) (told : Option Limits) → SaysLimits stored limits → LimitsAre stored told → told ≡ Some limits
@@ -56,9 +56,9 @@ undamaged_by stored row_at true told = undamaged row.meta places.meta.total stor
 undamaged_by stored row_at false told = told.1
 
 -- limits that were read, and that meta doesn't say, are said by none
-pub no_limits : (stored : Stored) (limits : Limits) → LimitsAre stored (Some limits) → AreRowsOrNot row.meta (meta_at limits) (stored.rows Meta) false → AreLimitsSaid stored None
+pub no_limits : (stored : Stored) (limits : Limits) → LimitsAre stored (Some limits) → AreRowsOrNot row.meta (meta_at stored.format limits) (stored.rows Meta) false → AreLimitsSaid stored None
 no_limits stored limits read told = (
-  λ others says. let same : limits ≡ others = some_is limits others (limits_read stored others (Some limits) says read) in told.0 (subst (λ l. AreRowsAt row.meta (meta_at l) (stored.rows Meta)) (sym same) says.defined),
+  λ others says. let same : limits ≡ others = some_is limits others (limits_read stored others (Some limits) says read) in told.0 (subst (λ l. AreRowsAt row.meta (meta_at stored.format l) (stored.rows Meta)) (sym same) says.defined),
   told.1,
 )
 

@@ -4,8 +4,6 @@ ghost use Rattle.std.specs.Prelude.{◌≡◌, true, IsTrue, IfOk};
 ghost use Rattle.std.specs.List.{list_all};
 ghost use Rattle.sqlite_value.specs.Value.{owned};
 ghost use Rattle.sqlite.specs.Values.{bound};
-ghost use Rattle.wh_policy.specs.declared.format.Format.{Format};
-ghost use Rattle.wh_rows.specs.Names.{is_there};
 ghost use Rattle.wh_check.specs.Alike.{is_plain, same_value, same_values, AreAlike};
 
 use sqlite::types::ValueRef;
@@ -13,10 +11,8 @@ use std::alloc::{AllocError, Global};
 use wh_rows::tables;
 use wh_store::PagedTable;
 
-/// A table that each format has, whose columns hold integers, texts and blobs alone.
+/// A table whose columns hold integers, texts and blobs alone.
 pub trait Plain: PagedTable {
-    ghost in_each: { (format : Format) → is_there Self.KeyedTable.name format ≡ true };
-
     ghost plain: { (row : Self.Row) → IsTrue (list_all is_plain (Self.StoredTable.layout.encode row)) };
 }
 
@@ -66,78 +62,70 @@ impl Plain for tables::Meta {
     ghost use Rattle.std.specs.Prelude.{refl};
 
     ghost plain = { λ row. refl };
-
-    ghost in_each = { λ format. refl };
 }
 
 impl Plain for tables::Command {
     ghost use Rattle.std.specs.Prelude.{refl};
 
     ghost plain = { λ row. refl };
-
-    ghost in_each = { λ format. refl };
 }
 
 impl Plain for tables::Member {
     ghost use Rattle.std.specs.Prelude.{refl};
 
     ghost plain = { λ row. refl };
-
-    ghost in_each = { λ format. refl };
 }
 
 impl Plain for tables::Change {
     ghost use Rattle.std.specs.Prelude.{refl};
 
     ghost plain = { λ row. refl };
-
-    ghost in_each = { λ format. refl };
 }
 
 impl Plain for tables::Product {
     ghost use Rattle.std.specs.Prelude.{refl};
 
     ghost plain = { λ row. refl };
-
-    ghost in_each = { λ format. refl };
 }
 
 impl Plain for tables::Store {
     ghost use Rattle.std.specs.Prelude.{refl};
 
     ghost plain = { λ row. refl };
-
-    ghost in_each = { λ format. refl };
 }
 
 impl Plain for tables::Customer {
     ghost use Rattle.std.specs.Prelude.{refl};
 
     ghost plain = { λ row. refl };
-
-    ghost in_each = { λ format. refl };
 }
 
 impl Plain for tables::Profile {
     ghost use Rattle.std.specs.Prelude.{refl};
 
     ghost plain = { λ row. refl };
-
-    ghost in_each = { λ format. refl };
 }
 
 impl Plain for tables::Calendar {
     ghost use Rattle.std.specs.Prelude.{refl};
 
     ghost plain = { λ row. refl };
-
-    ghost in_each = { λ format. refl };
 }
 
 impl Plain for tables::Fact {
     ghost use Rattle.std.specs.Prelude.{refl};
 
     ghost plain = { λ row. refl };
+}
 
-    ghost in_each = { λ format. refl };
+impl Plain for tables::Fact2 {
+    ghost use Rattle.std.specs.Prelude.{refl};
+
+    ghost plain = { λ row. refl };
+}
+
+impl Plain for tables::Void {
+    ghost use Rattle.std.specs.Prelude.{refl};
+
+    ghost plain = { λ row. refl };
 }

@@ -4,33 +4,35 @@ use Rattle.std.proofs.lemmas.Bool.{le-leb, lt-leb, le-ltb, lt-ltb, leb-true, leb
 use Rattle.std.specs.Prelude.{find, bytes_eq, option_map, IsSome, unwrap_or}
 use Rattle.wh_day.specs.Reading.{◌>>=◌}
 use Rattle.wh_policy.specs.Policy.{trial_policy}
+use Rattle.wh_policy.specs.Formats.{is_two}
 use Rattle.wh_policy.specs.declared.attribute.Dim.{Dim}
+use Rattle.wh_policy.specs.declared.attribute.Dim.TheVariants.{Product}
 use Rattle.wh_policy.specs.declared.policy.Policy.{Policy}
 use Rattle.wh_policy.specs.declared.record.DimensionRecord.{DimensionRecord}
 use Rattle.wh_policy.specs.declared.record.SaleRecord.{SaleRecord}
 use Rattle.wh_policy.specs.Written.{IsSound}
 use Rattle.wh_batch.specs.declared.kind.Kind.TheVariants.{Dimension, Sales}
 use Rattle.wh_history.specs.Keys.{at_place}
-use Rattle.wh_history.specs.Accepted.{Accepted, Content, Governs, Describes, Sells, policy_after, sold, sold_by, records_by, placeholders_by}
+use Rattle.wh_history.specs.Accepted.{Accepted, Content, Governs, Describes, Sells, Upgrades, policy_after, format_of, sold, sold_by, records_by, placeholders_by}
 use Rattle.wh_history.specs.Tables.{Limits}
 use Rattle.wh_history.proofs.Basics.{some_is}
 use Rattle.wh_rows.specs.declared.rows.CommandRow.{CommandRow}
 use Rattle.wh_rows.specs.Types.{is_key}
 use Rattle.wh_batch.specs.Kind.{command_word}
-use Rattle.wh_admission.specs.Admission.{records_told, sales_told, policy_told, content_of, current_policy, accepted_as, receipt_of, changes_in, first_line_there, number_past_lines, number_for, answer_with, when_read, by_id, answer, with_content, after_answer, accepted_after}
+use Rattle.wh_admission.specs.Admission.{records_told, sales_told, policy_told, content_of, bytes_kept, current_policy, accepted_as, receipt_of, changes_in, upgrades_again, first_line_there, number_past_lines, number_for, answer_with, when_read, by_id, answer, with_content, after_answer, accepted_after}
 use Rattle.wh_engine.specs.Decided.{reply_to_known, IsNew}
 use Rattle.wh_model.specs.Defined.{command_at}
 use Rattle.wh_engine.specs.Faults.{Judges}
 use Rattle.wh_plan.specs.Reading.{number_by_id, command_with}
 use Rattle.wh_model.specs.Sound.{changes_kept, IsAccepted}
 use Rattle.wh_admission.specs.declared.command.Command.{Command}
-use Rattle.wh_batch.specs.declared.kind.CommandKind.TheVariants.{Batch, Migration}
+use Rattle.wh_batch.specs.declared.kind.CommandKind.TheVariants.{Batch, Migration, Upgrade}
 use Rattle.wh_engine.specs.declared.fault.Fault.{Fault}
 use Rattle.wh_engine.specs.declared.fault.Fault.TheVariants as faults
 use Rattle.wh_admission.specs.declared.command.Receipt.{Receipt}
 use Rattle.wh_admission.specs.declared.command.Reply.TheVariants.{Accepted as Accepts, Already}
 use Rattle.wh_admission.specs.declared.command.Refused.{Refused}
-use Rattle.wh_admission.specs.declared.command.Refused.TheVariants.{BadId, LineThere, Full}
+use Rattle.wh_admission.specs.declared.command.Refused.TheVariants.{BadId, Upgraded, LineThere, Full}
 use Rattle.wh_admission.specs.declared.command.Limit.TheVariants.{Commands, Changes, Facts}
 use Rattle.wh_plan.proofs.FoundCommands.{stored, told, find_numbered}
 use Rattle.wh_model.proofs.GrownKeys.{at_last}
@@ -43,9 +45,9 @@ module _ (limits : Limits) (commands : List Accepted) (content : Content) where
   pub no_room : limits.commands ≤ length commands → number_for limits commands content ≡ Err (Full Commands)
   no_room full = rw (le-leb limits.commands (length commands) full) refl
 
-  module _ (room : length commands < limits.commands) where
+  module _ (room : length commands < limits.commands) (once : upgrades_again commands content ≡ false) where
     past_commands : number_for limits commands content ≡ number_past_lines limits commands content (first_line_there (sold commands) 1 (sold_by content))
-    past_commands = rw (lt-leb limits.commands (length commands) room) refl
+    past_commands = rw (lt-leb limits.commands (length commands) room, once) refl
 
     pub line_is_there : (number : ℕ) → first_line_there (sold commands) 1 (sold_by content) ≡ Some number → number_for limits commands content ≡ Err (LineThere number)
     line_is_there number there = past_commands ∙ ap (number_past_lines limits commands content) there
@@ -72,6 +74,55 @@ is_none (Some x) other = absurd (other x refl)
 -- a content without sales has no line that is there
 pub no_line : (commands : List Accepted) (content : Content) → sold_by content ≡ [] → first_line_there (sold commands) 1 (sold_by content) ≡ None
 no_line commands content none = ap (first_line_there (sold commands) 1) none
+
+-- ---- the room for an upgrade is that for a batch of no records
+
+abbrev pub no_records : Content
+no_records = Describes Product []
+
+module _ (limits : Limits) (commands : List Accepted) (accepted : IsAccepted limits commands) where
+  few_changes : changes_kept commands + 0 ≤ limits.changes
+  few_changes = omega (arith, accepted.changes_within)
+
+  few_facts : length (sold commands) + 0 ≤ limits.facts
+  few_facts = omega (arith, accepted.facts_within)
+
+  module _ (room : length commands < limits.commands) where
+    room_for_none : number_for limits commands no_records ≡ Ok (suc (length commands))
+    room_for_none = has_room limits commands no_records room refl refl few_changes few_facts
+
+    room_for_upgrade : is_two (format_of commands) ≡ false → number_for limits commands Upgrades ≡ Ok (suc (length commands))
+    room_for_upgrade first = has_room limits commands Upgrades room first refl few_changes few_facts
+
+    upgraded_before : is_two (format_of commands) ≡ true → number_for limits commands Upgrades ≡ Err Upgraded
+    upgraded_before second = rw (lt-leb limits.commands (length commands) room, second) refl
+
+  -- whether the commands are at their limit
+  by_limit : (P : Type 0) → (length commands < limits.commands → P) → (limits.commands ≤ length commands → P) → P
+  by_limit P below at = go (leb limits.commands (length commands)) refl
+    where
+      go : (b : Bool) → leb limits.commands (length commands) ≡ b → P
+      go true full = at (leb-true limits.commands (length commands) full)
+      go false room = below (leb-false limits.commands (length commands) room)
+
+  pub upgrade_refused : (why : Refused) → number_for limits commands no_records ≡ Err why → number_for limits commands Upgrades ≡ Err why
+  upgrade_refused why none =
+      by_limit (number_for limits commands Upgrades ≡ Err why)
+      (λ room. let never = sym (room_for_none room) ∙ none in absurd (cc))
+      (λ full. no_room limits commands Upgrades full ∙ sym (no_room limits commands no_records full) ∙ none)
+
+  module _ (number : ℕ) (some : number_for limits commands no_records ≡ Ok number) where
+    pub upgrade_again : is_two (format_of commands) ≡ true → number_for limits commands Upgrades ≡ Err Upgraded
+    upgrade_again second =
+        by_limit (number_for limits commands Upgrades ≡ Err Upgraded)
+        (λ room. upgraded_before room second)
+        (λ full. let never = sym (no_room limits commands no_records full) ∙ some in absurd (cc))
+
+    pub upgrade_numbered : is_two (format_of commands) ≡ false → number_for limits commands Upgrades ≡ Ok number
+    upgrade_numbered first =
+        by_limit (number_for limits commands Upgrades ≡ Ok number)
+        (λ room. room_for_upgrade room first ∙ sym (room_for_none room) ∙ some)
+        (λ full. let never = sym (no_room limits commands no_records full) ∙ some in absurd (cc))
 
 -- what is left below a limit
 below-limit : (b : Bool) (kept more limit left : ℕ) → left ≡ limit - kept → kept ≤ limit → leb (kept + more) limit ≡ b → leb more left ≡ b
@@ -116,7 +167,7 @@ module _ (limits : Limits) (commands : List Accepted) (c : Command) where
   pub is_new : command_with commands c.id ≡ None → IsNew commands c
   is_new none = no_row found (sym row_found ∙ none)
 
-  pub new_answer : is_key 40 c.id ≡ true → IsNew commands c → answer limits commands c ≡ when_read limits commands c (content_of c.kind (current_policy commands) c.bytes)
+  pub new_answer : is_key 40 c.id ≡ true → IsNew commands c → answer limits commands c ≡ when_read limits commands c (content_of c.kind (format_of commands) (current_policy commands) c.bytes)
   new_answer good new = rw (good, new) refl
 
   pub bad_answer : is_key 40 c.id ≡ false → answer limits commands c ≡ Err BadId
@@ -129,14 +180,14 @@ module _ (limits : Limits) (commands : List Accepted) (c : Command) where
 
   module _ (good : is_key 40 c.id ≡ true) (new : IsNew commands c) where
     -- what it says is refused
-    content_refused : (why : Refused) → content_of c.kind (current_policy commands) c.bytes ≡ Err why → answer limits commands c ≡ Err why
+    content_refused : (why : Refused) → content_of c.kind (format_of commands) (current_policy commands) c.bytes ≡ Err why → answer limits commands c ≡ Err why
     content_refused why h = new_answer good new ∙ ap (when_read limits commands c) h
 
     -- there is no number for it
-    pub number_refused : (content : Content) (why : Refused) → content_of c.kind (current_policy commands) c.bytes ≡ Ok content → number_for limits commands content ≡ Err why → answer limits commands c ≡ Err why
+    pub number_refused : (content : Content) (why : Refused) → content_of c.kind (format_of commands) (current_policy commands) c.bytes ≡ Ok content → number_for limits commands content ≡ Err why → answer limits commands c ≡ Err why
     number_refused content why read none = new_answer good new ∙ ap (when_read limits commands c) read ∙ ap (answer_with commands c content) none
 
-    module _ (content : Content) (read : content_of c.kind (current_policy commands) c.bytes ≡ Ok content) (next : ℕ) (room : number_for limits commands content ≡ Ok next) where
+    module _ (content : Content) (read : content_of c.kind (format_of commands) (current_policy commands) c.bytes ≡ Ok content) (next : ℕ) (room : number_for limits commands content ≡ Ok next) where
       -- it is accepted
       pub command_accepted : answer limits commands c ≡ Ok (Accepts (receipt_of (after content) next content))
       command_accepted = new_answer good new ∙ ap (when_read limits commands c) read ∙ ap (answer_with commands c content) room
@@ -151,35 +202,38 @@ module _ (limits : Limits) (commands : List Accepted) (c : Command) where
       pub own_receipt : receipt_of (after content) next content ≡ record { number = next; records = records_by content; placeholders = placeholders_by (after content) next content }
       own_receipt = refl
 
-      pub own_row : command_at (after content) (suc (length commands)) ≡ Some (record { number = next; id = c.id; kind = command_word c.kind; bytes = c.bytes; records = records_by content; placeholders = placeholders_by (after content) next content })
+      pub own_row : command_at (after content) (suc (length commands)) ≡ Some (record { number = next; id = c.id; kind = command_word c.kind; bytes = bytes_kept c.kind c.bytes; records = records_by content; placeholders = placeholders_by (after content) next content })
       own_row =
           let longer : suc (length commands) ≡ length (after content) = omega (arith, length-append commands (accepted_as c content ∷ [])) in
           ap (λ (n : ℕ). option_map (stored (suc (length commands))) (option_map (told (after content) (suc (length commands))) (at_place n (after content)))) longer
           ∙ ap (λ (o : Option Accepted). option_map (stored (suc (length commands))) (option_map (told (after content) (suc (length commands))) o)) (at_last commands (accepted_as c content))
-          ∙ ap (λ (n : ℕ). Some (record { number = n; id = c.id; kind = command_word c.kind; bytes = c.bytes; records = records_by content; placeholders = placeholders_by (after content) n content })) (sym next_number)
+          ∙ ap (λ (n : ℕ). Some (record { number = n; id = c.id; kind = command_word c.kind; bytes = bytes_kept c.kind c.bytes; records = records_by content; placeholders = placeholders_by (after content) n content })) (sym next_number)
 
     -- a batch of records, one of sales, and a migration
 
     module _ (dim : Dim) (kind : c.kind ≡ Batch (Dimension dim)) where
-      pub records_content : (records : List DimensionRecord) → records_told dim (current_policy commands) c.bytes ≡ Ok records → content_of c.kind (current_policy commands) c.bytes ≡ Ok (Describes dim records)
-      records_content records read = ap (λ k. content_of k (current_policy commands) c.bytes) kind ∙ ap (λ o. o >>= λ records. Ok (Describes dim records)) read
+      pub records_content : (records : List DimensionRecord) → records_told dim (current_policy commands) c.bytes ≡ Ok records → content_of c.kind (format_of commands) (current_policy commands) c.bytes ≡ Ok (Describes dim records)
+      records_content records read = ap (λ k. content_of k (format_of commands) (current_policy commands) c.bytes) kind ∙ ap (λ o. o >>= λ records. Ok (Describes dim records)) read
 
       pub records_refused : (why : Refused) → records_told dim (current_policy commands) c.bytes ≡ Err why → answer limits commands c ≡ Err why
-      records_refused why read = content_refused why (ap (λ k. content_of k (current_policy commands) c.bytes) kind ∙ ap (λ o. o >>= λ records. Ok (Describes dim records)) read)
+      records_refused why read = content_refused why (ap (λ k. content_of k (format_of commands) (current_policy commands) c.bytes) kind ∙ ap (λ o. o >>= λ records. Ok (Describes dim records)) read)
 
     module _ (kind : c.kind ≡ Batch Sales) where
-      pub sales_content : (sales : List SaleRecord) → sales_told (current_policy commands) c.bytes ≡ Ok sales → content_of c.kind (current_policy commands) c.bytes ≡ Ok (Sells sales)
-      sales_content sales read = ap (λ k. content_of k (current_policy commands) c.bytes) kind ∙ ap (λ o. o >>= λ sales. Ok (Sells sales)) read
+      pub sales_content : (sales : List SaleRecord) → sales_told (format_of commands) (current_policy commands) c.bytes ≡ Ok sales → content_of c.kind (format_of commands) (current_policy commands) c.bytes ≡ Ok (Sells sales)
+      sales_content sales read = ap (λ k. content_of k (format_of commands) (current_policy commands) c.bytes) kind ∙ ap (λ o. o >>= λ sales. Ok (Sells sales)) read
 
-      pub sales_refused : (why : Refused) → sales_told (current_policy commands) c.bytes ≡ Err why → answer limits commands c ≡ Err why
-      sales_refused why read = content_refused why (ap (λ k. content_of k (current_policy commands) c.bytes) kind ∙ ap (λ o. o >>= λ sales. Ok (Sells sales)) read)
+      pub sales_refused : (why : Refused) → sales_told (format_of commands) (current_policy commands) c.bytes ≡ Err why → answer limits commands c ≡ Err why
+      sales_refused why read = content_refused why (ap (λ k. content_of k (format_of commands) (current_policy commands) c.bytes) kind ∙ ap (λ o. o >>= λ sales. Ok (Sells sales)) read)
 
     module _ (kind : c.kind ≡ Migration) where
-      pub policy_content : (newer : Policy) → policy_told (current_policy commands) c.bytes ≡ Ok newer → content_of c.kind (current_policy commands) c.bytes ≡ Ok (Governs newer)
-      policy_content newer read = ap (λ k. content_of k (current_policy commands) c.bytes) kind ∙ ap (λ o. o >>= λ newer. Ok (Governs newer)) read
+      pub policy_content : (newer : Policy) → policy_told (current_policy commands) c.bytes ≡ Ok newer → content_of c.kind (format_of commands) (current_policy commands) c.bytes ≡ Ok (Governs newer)
+      policy_content newer read = ap (λ k. content_of k (format_of commands) (current_policy commands) c.bytes) kind ∙ ap (λ o. o >>= λ newer. Ok (Governs newer)) read
 
       pub policy_refused : (why : Refused) → policy_told (current_policy commands) c.bytes ≡ Err why → answer limits commands c ≡ Err why
-      policy_refused why read = content_refused why (ap (λ k. content_of k (current_policy commands) c.bytes) kind ∙ ap (λ o. o >>= λ newer. Ok (Governs newer)) read)
+      policy_refused why read = content_refused why (ap (λ k. content_of k (format_of commands) (current_policy commands) c.bytes) kind ∙ ap (λ o. o >>= λ newer. Ok (Governs newer)) read)
+
+  pub upgrade_content : c.kind ≡ Upgrade → content_of c.kind (format_of commands) (current_policy commands) c.bytes ≡ Ok Upgrades
+  upgrade_content kind = ap (λ k. content_of k (format_of commands) (current_policy commands) c.bytes) kind
 
   -- ---- the list after a command
 
@@ -189,7 +243,7 @@ module _ (limits : Limits) (commands : List Accepted) (c : Command) where
   pub after_repeat : (receipt : Receipt) → answer limits commands c ≡ Ok (Already receipt) → accepted_after limits commands c ≡ commands
   after_repeat receipt said = ap (after_answer commands c) said
 
-  pub after_accepted : (receipt : Receipt) (content : Content) → answer limits commands c ≡ Ok (Accepts receipt) → content_of c.kind (current_policy commands) c.bytes ≡ Ok content → accepted_after limits commands c ≡ commands ++ accepted_as c content ∷ []
+  pub after_accepted : (receipt : Receipt) (content : Content) → answer limits commands c ≡ Ok (Accepts receipt) → content_of c.kind (format_of commands) (current_policy commands) c.bytes ≡ Ok content → accepted_after limits commands c ≡ commands ++ accepted_as c content ∷ []
   after_accepted receipt content said read = ap (after_answer commands c) said ∙ ap (with_content commands c) read
 
 -- the policy in force is the last that was given

@@ -6,7 +6,7 @@ use Rattle.wh_history.specs.Tables.{Limits}
 use Rattle.wh_admission.specs.Admission.{answer, after_answer, accepted_after, accepted_after_all}
 use Rattle.wh_policy.specs.declared.policy.Policy.{Policy}
 use Rattle.wh_engine.specs.Answered.{IsReady, IsStopped, IsAnswered, IsGoverned, KeepsNothing, IsNotAccepted, IsWritten}
-use Rattle.wh_engine.specs.Delivered.{answers_to, answer_or_stop, AcceptsNothing, AcceptNothing, AreAsMany, AreGoverned, IsDelivered, IsLastWritten, as_called, is_of_the_store}
+use Rattle.wh_engine.specs.Delivered.{answers_to, answer_or_stop, AcceptsNothing, AcceptNothing, AreAsMany, AreLed, IsDelivered, IsLastWritten, as_called, is_of_the_store}
 use Rattle.wh_engine.specs.Faults.{stops}
 use Rattle.wh_engine.specs.Nights.{DeliveriesJoin}
 use Rattle.wh_admission.specs.declared.command.Command.{Command}
@@ -115,21 +115,22 @@ policy_stays old new c (Ok (Accepts receipt)) governed none = absurd none
 policy_stays old new c (Ok (Already receipt)) governed none = governed
 policy_stays old new c (Err fault) governed none = governed
 
--- ---- the policy after a delivery
+-- ---- policy and format after a delivery
 
--- after one more command
-pub governed_on : (old mid new : Policy) (answers : List (Result Reply Refused)) (told : Result Reply Refused) (sent : List Command) (c : Command)
-    → AreGoverned old mid answers sent → length sent ≡ length answers → IsGoverned mid new c (as_called told) → AreGoverned old new (answers ++ told ∷ []) (sent ++ c ∷ [])
-governed_on old mid new [] told [] c so same is = (new, subst (λ p. IsGoverned p new c (as_called told)) so is, refl)
-governed_on old mid new [] told (d ∷ sent) c so same is = absurd (omega (arith, same))
-governed_on old mid new (a ∷ answers) told [] c so same is = absurd so
-governed_on old mid new (a ∷ answers) told (d ∷ sent) c so same is = (so.0, so.1, governed_on so.0 mid new answers told sent c so.2 (omega (arith, same)) is)
+module _ {X : Type 0} (Leads : X → X → Command → Result Reply Fault → Type 0) where
+  -- after one more command
+  pub led_on : (old mid new : X) (answers : List (Result Reply Refused)) (told : Result Reply Refused) (sent : List Command) (c : Command)
+      → AreLed Leads old mid answers sent → length sent ≡ length answers → Leads mid new c (as_called told) → AreLed Leads old new (answers ++ told ∷ []) (sent ++ c ∷ [])
+  led_on old mid new [] told [] c so same is = (new, subst (λ p. Leads p new c (as_called told)) so is, refl)
+  led_on old mid new [] told (d ∷ sent) c so same is = absurd (omega (arith, same))
+  led_on old mid new (a ∷ answers) told [] c so same is = absurd so
+  led_on old mid new (a ∷ answers) told (d ∷ sent) c so same is = (so.0, so.1, led_on so.0 mid new answers told sent c so.2 (omega (arith, same)) is)
 
--- of commands that have their answers, among more of them
-pub governed_among : (old new : Policy) (answers : List (Result Reply Refused)) (sent more : List Command) → AreGoverned old new answers sent → AreGoverned old new answers (sent ++ more)
-governed_among old new [] sent more so = so
-governed_among old new (a ∷ answers) [] more so = absurd so
-governed_among old new (a ∷ answers) (c ∷ sent) more so = (so.0, so.1, governed_among so.0 new answers sent more so.2)
+  -- of commands that have their answers, among more of them
+  pub led_among : (old new : X) (answers : List (Result Reply Refused)) (sent more : List Command) → AreLed Leads old new answers sent → AreLed Leads old new answers (sent ++ more)
+  led_among old new [] sent more so = so
+  led_among old new (a ∷ answers) [] more so = absurd so
+  led_among old new (a ∷ answers) (c ∷ sent) more so = (so.0, so.1, led_among so.0 new answers sent more so.2)
 
 -- a stop is kept in the session
 pub flag_at_stop : (fault : Fault) → stops {A = Reply} (Err fault) ≡ is_of_the_store (Some fault)

@@ -8,14 +8,14 @@ use Rattle.wh_policy.specs.declared.policy.Policy.{Policy}
 use Rattle.wh_policy.specs.declared.fault.PolicyFault.{PolicyFault}
 use Rattle.wh_batch.specs.Kind.{command_word, command_kind_of}
 use Rattle.wh_batch.specs.declared.kind.CommandKind.{CommandKind}
-use Rattle.wh_history.specs.Accepted.{Accepted, Content}
+use Rattle.wh_history.specs.Accepted.{Accepted, Content, format_of}
 use Rattle.wh_history.specs.Tables.{Limits}
 use Rattle.wh_history.proofs.Basics.{some_is}
 use Rattle.wh_model.specs.Defined.{command_at}
 use Rattle.wh_model.specs.Sound.{making_of}
 use Rattle.wh_rows.specs.Types.{is_key}
 use Rattle.wh_rows.specs.declared.rows.CommandRow.{CommandRow}
-use Rattle.wh_admission.specs.Admission.{current_policy, content_of, number_for, accepted_as, receipt_of, when_read, answer, with_content, after_answer, accepted_after, AreAdmitted}
+use Rattle.wh_admission.specs.Admission.{current_policy, bytes_kept, content_of, number_for, accepted_as, receipt_of, when_read, answer, with_content, after_answer, accepted_after, AreAdmitted}
 use Rattle.wh_admission.specs.Steps.{ComesAfter, IsNextRow}
 use Rattle.wh_admission.specs.declared.command.Command.{Command}
 use Rattle.wh_admission.specs.declared.command.Receipt.{Receipt}
@@ -25,6 +25,7 @@ use Rattle.wh_admission.specs.declared.command.Refused.{Refused}
 use Rattle.wh_admission.proofs.CommandRows.{row_of, row_is, word_is}
 use Rattle.wh_admission.proofs.AdmittedSteps.{stepped, parted, admitted_with}
 use Rattle.wh_admission.proofs.CheckedTables.{kind_again}
+use Rattle.wh_admission.proofs.KeptBytes.{kept_again, kept_says}
 use Rattle.wh_admission.proofs.Repeats.{new_id}
 use Rattle.wh_admission.proofs.StaysAccepted.{was_numbered, had_number, receipt_is}
 use Rattle.wh_engine.specs.Replica.{is_making_row, IsFollowed}
@@ -61,11 +62,11 @@ abbrev pub receipt_in : CommandRow → Receipt
 receipt_in row = record { number = row.number; records = row.records; placeholders = row.placeholders }
 
 -- a command that is accepted, with its receipt
-module _ (limits : Limits) (commands : List Accepted) (row : CommandRow) (kind : CommandKind) (word : row.kind ≡ command_word kind) (Holds : List Accepted → Type 0) (admitted : AreAdmitted limits commands) where
+module _ (limits : Limits) (commands : List Accepted) (row : CommandRow) (kind : CommandKind) (word : row.kind ≡ command_word kind) (kept : bytes_kept kind row.bytes ≡ row.bytes) (Holds : List Accepted → Type 0) (admitted : AreAdmitted limits commands) where
   abbrev c : Command
   c = sent row kind
 
-  by_content : (read : Result Content Refused) → content_of kind (current_policy commands) row.bytes ≡ read → is_key 40 row.id ≡ true → find (λ (a : Accepted). bytes_eq a.id row.id) commands ≡ None
+  by_content : (read : Result Content Refused) → content_of kind (format_of commands) (current_policy commands) row.bytes ≡ read → is_key 40 row.id ≡ true → find (λ (a : Accepted). bytes_eq a.id row.id) commands ≡ None
       → when_read limits commands c read ≡ Ok (Accepts (receipt_in row)) → Holds (with_content commands c read) → IsFollowed limits commands row Holds true
   by_content (Err why) told good new h holds = absurd (never h)
     where
@@ -75,13 +76,21 @@ module _ (limits : Limits) (commands : List Accepted) (row : CommandRow) (kind :
       let a = accepted_as c content in
       let numbered = was_numbered limits commands c content (receipt_in row) (number_for limits commands content) h in
       let next = (had_number limits commands content numbered.0 numbered.1).1 in
-      let comes : ComesAfter limits commands a = record { kind = kind; kind_is = refl; good = good; new = new; read = told; numbered = numbered.1 ∙ ap Ok next } in
+      let comes : ComesAfter limits commands a = record {
+        kind = kind;
+        kind_is = refl;
+        good = good;
+        new = new;
+        read = kept_says kind (format_of commands) (current_policy commands) row.bytes ∙ told;
+        kept = kept_again kind row.bytes;
+        numbered = numbered.1 ∙ ap Ok next;
+      } in
       let own : last_receipt commands a ≡ receipt_in row = receipt_is limits commands c content (receipt_in row) h in
       let back = sym word in (
         a,
         record {
           admitted = admitted_with limits commands a admitted comes;
-          row_is = row_here commands a ∙ ap (λ r. Some (row_by a r)) own ∙ (λ i. Some (record { number = row.number; id = row.id; kind = back i; bytes = row.bytes; records = row.records; placeholders = row.placeholders }));
+          row_is = row_here commands a ∙ ap (λ r. Some (row_by a r)) own ∙ (λ i. Some (record { number = row.number; id = row.id; kind = back i; bytes = kept i; records = row.records; placeholders = row.placeholders }));
         },
         holds,
       )
@@ -89,21 +98,22 @@ module _ (limits : Limits) (commands : List Accepted) (row : CommandRow) (kind :
   accepted_row : answer limits commands c ≡ Ok (Accepts (receipt_in row)) → Holds (accepted_after limits commands c) → IsFollowed limits commands row Holds true
   accepted_row said holds =
       let new = new_id limits commands c (is_key 40 row.id) (find (λ (a : Accepted). bytes_eq a.id row.id) commands) (receipt_in row) refl refl said in
-      let read : when_read limits commands c (content_of kind (current_policy commands) row.bytes) ≡ Ok (Accepts (receipt_in row)) = rw (new.0, new.1) at said in
-      by_content (content_of kind (current_policy commands) row.bytes) refl new.0 new.1 read (subst (λ a. Holds (after_answer commands c a)) said holds)
+      let read : when_read limits commands c (content_of kind (format_of commands) (current_policy commands) row.bytes) ≡ Ok (Accepts (receipt_in row)) = rw (new.0, new.1) at said in
+      by_content (content_of kind (format_of commands) (current_policy commands) row.bytes) refl new.0 new.1 read (subst (λ a. Holds (after_answer commands c a)) said holds)
 
 -- ---- the command that comes next
 
 record IsNextCommand (limits : Limits) (commands : List Accepted) (row : CommandRow) : Type 0 where
   kind : CommandKind
   kind_is : command_kind_of row.kind ≡ Some kind
+  kept : bytes_kept kind row.bytes ≡ row.bytes
   answered : answer limits commands (sent row kind) ≡ Ok (Accepts (receipt_in row))
 
 next_answered : (limits : Limits) (commands : List Accepted) (a : Accepted) (comes : ComesAfter limits commands a) → answer limits commands (record { id = a.id; kind = comes.kind; bytes = a.bytes }) ≡ Ok (Accepts (last_receipt commands a))
 next_answered limits commands a comes =
     let back = sym comes.kind_is in
     rw (comes.good, comes.new, comes.read, comes.numbered)
-    (ap (λ (b : Accepted). Ok (Accepts (receipt_of (commands ++ b ∷ []) (suc (length commands)) a.content))) (λ i. record { id = a.id; kind = back i; bytes = a.bytes; content = a.content }))
+    (ap (λ (b : Accepted). Ok (Accepts (receipt_of (commands ++ b ∷ []) (suc (length commands)) a.content))) (λ i. record { id = a.id; kind = back i; bytes = comes.kept i; content = a.content }))
 
 next_command : (limits : Limits) (commands : List Accepted) (a : Accepted) (more : List Accepted) (row : CommandRow) → AreAdmitted limits commands → AreAdmitted limits (commands ++ a ∷ more) → command_at (commands ++ a ∷ more) (suc (length commands)) ≡ Some row → IsNextCommand limits commands row
 next_command limits [] a more row begun admitted is = absurd (none (stepped limits [] begun).begins)
@@ -113,7 +123,7 @@ next_command limits [] a more row begun admitted is = absurd (none (stepped limi
 next_command limits (b ∷ commands) a more row begun admitted is =
     let comes = (parted limits b commands (a ∷ more) admitted).come.0 in
     subst (IsNextCommand limits (b ∷ commands)) (sym (row_told (b ∷ commands) a more row is))
-    (record { kind = comes.kind; kind_is = ap command_kind_of comes.kind_is ∙ kind_again comes.kind; answered = next_answered limits (b ∷ commands) a comes })
+    (record { kind = comes.kind; kind_is = ap command_kind_of comes.kind_is ∙ kind_again comes.kind; kept = comes.kept; answered = next_answered limits (b ∷ commands) a comes })
 
 -- ---- what is told of a row
 
@@ -152,11 +162,17 @@ module _ (limits : Limits) (commands : List Accepted) (row : CommandRow) (Holds 
         let next = next_command limits commands a more row begun admitted is in
         subst (λ k. answer limits commands (sent row k) ≡ Ok (Accepts (receipt_in row))) (same_kind next.kind kind next.kind_is told) next.answered
 
+    -- it has bytes that aren't kept
+    pub other_bytes : bytes_kept kind row.bytes ≢ row.bytes → IsFollowed limits commands row Holds false
+    other_bytes other a more admitted is =
+        let next = next_command limits commands a more row begun admitted is in
+        other (subst (λ k. bytes_kept k row.bytes ≡ row.bytes) (same_kind next.kind kind next.kind_is told) next.kept)
+
     -- it is accepted: its receipt is that of the row or isn't
-    pub is_accepted : (receipt : Receipt) (taken : Bool) → answer limits commands (sent row kind) ≡ Ok (Accepts receipt) → taken ≡ says_row receipt row → Holds (accepted_after limits commands (sent row kind)) → IsFollowed limits commands row Holds taken
-    is_accepted receipt true said is holds =
-        accepted_row limits commands row kind (word_is row.kind kind told) Holds begun (said ∙ ap (λ r. Ok (Accepts r)) (says_is receipt row (sym is))) holds
-    is_accepted receipt false said is holds = λ a more admitted own.
+    pub is_accepted : bytes_kept kind row.bytes ≡ row.bytes → (receipt : Receipt) (taken : Bool) → answer limits commands (sent row kind) ≡ Ok (Accepts receipt) → taken ≡ says_row receipt row → Holds (accepted_after limits commands (sent row kind)) → IsFollowed limits commands row Holds taken
+    is_accepted kept receipt true said is holds =
+        accepted_row limits commands row kind (word_is row.kind kind told) kept Holds begun (said ∙ ap (λ r. Ok (Accepts r)) (says_is receipt row (sym is))) holds
+    is_accepted kept receipt false said is holds = λ a more admitted own.
         let same = receipts receipt (receipt_in row) (sym said ∙ said_so a more admitted own) in
         let never : true ≡ false = sym (says_itself row) ∙ ap (λ r. says_row r row) (sym same) ∙ sym is in
         absurd (cc)

@@ -2,10 +2,13 @@
 use Rattle.std.proofs.Common.{◌≡◌, ℕ, List, length, Some, Result, Ok, Err, refl, sym, ap, ◌∙◌}
 use Rattle.std.specs.FinMap.{len}
 use Rattle.sqlite.specs.State.{State}
+use Rattle.wh_policy.specs.Formats.{format_number}
 use Rattle.wh_policy.specs.declared.attribute.Dim.TheVariants.{Product, Store, Customer}
-use Rattle.wh_history.specs.Accepted.{Accepted, members}
+use Rattle.wh_policy.specs.declared.format.Format.{Format}
+use Rattle.wh_history.specs.Accepted.{Accepted, format_of, members}
 use Rattle.wh_history.specs.Tables.{Limits}
 use Rattle.wh_rows.specs.AtRest.{IsAtRest, Leaves}
+use Rattle.wh_rows.specs.Facts.{facts_in}
 use Rattle.wh_rows.specs.Tables.{Tables}
 use Rattle.wh_engine.specs.Answered.{IsReady, IsCounted, counts_of}
 use Rattle.wh_model.specs.Defined.{AreOf}
@@ -20,11 +23,11 @@ use Rattle.wh_engine.proofs.FoundFacts.{facts_counted}
 use Rattle.wh_engine.proofs.Outcomes.{anywhere, fault_due, read_and_noted}
 use Rattle.wh_model.proofs.ListedChanges.{changes_counted}
 
-pub counts_are : (limits : Limits) (commands : List Accepted) (t : Tables) → AreOf limits commands t → IsAccepted limits commands → (held changes facts products stores customers : ℕ)
-    → held ≡ len t.command → changes ≡ len t.change → facts ≡ len t.fact → products ≡ length (members Product commands) → stores ≡ length (members Store commands) → customers ≡ length (members Customer commands)
-    → record { format = 1; commands = held; changes = changes; facts = facts; products = products; stores = stores; customers = customers } ≡ counts_of commands
-counts_are limits commands t are accepted held changes facts products stores customers held-is changes-are facts-are products-are stores-are customers-are =
-    rw (held-is ∙ commands_counted limits commands t are, changes-are ∙ changes_counted limits commands t are, facts-are ∙ facts_counted commands limits t are accepted.lines, products-are, stores-are, customers-are) refl
+pub counts_are : (limits : Limits) (commands : List Accepted) (t : Tables) → AreOf limits commands t → IsAccepted limits commands → (format : Format) → format ≡ format_of commands → (held changes facts products stores customers : ℕ)
+    → held ≡ len t.command → changes ≡ len t.change → facts ≡ len (facts_in format t) → products ≡ length (members Product commands) → stores ≡ length (members Store commands) → customers ≡ length (members Customer commands)
+    → record { format = format_number format; commands = held; changes = changes; facts = facts; products = products; stores = stores; customers = customers } ≡ counts_of commands
+counts_are limits commands t are accepted format same held changes facts products stores customers held-is changes-are facts-are products-are stores-are customers-are =
+    rw (same, held-is ∙ commands_counted limits commands t are, changes-are ∙ changes_counted limits commands t are, facts-are ∙ facts_counted commands limits t are format same accepted.lines, products-are, stores-are, customers-are) refl
 
 -- ---- a count that was answered, or refused
 
@@ -34,5 +37,5 @@ module _ (limits : Limits) (commands : List Accepted) (session : Session) (old n
   is_due (Err fault) judged = fault_due (λ told. told ≡ Ok (counts_of commands)) commands commands (λ (counts told : Counts). counts ≡ told) (Ok (counts_of commands)) fault judged (λ why is. sym is)
 
   pub counted : (result : Result Counts Fault) → Judges (λ counts told. counts ≡ told) result (Ok (counts_of commands)) → (IsServed result → IsAtRest (Some ready.rests.tables) new) → Leaves (Some ready.rests.tables) new
-      → IsCounted limits commands result (record { limits = session.limits; policy = session.policy; must_reopen = stops result }) new
+      → IsCounted limits commands result (record session { must_reopen = stops result }) new
   counted result judged rests left = read_and_noted limits commands session old new ready (λ told. told ≡ Ok (counts_of commands)) left result (is_due result judged) rests

@@ -1,4 +1,4 @@
--- How many facts the table of accepted commands holds.
+-- How many facts the table of the format of accepted commands holds.
 use Rattle.std.proofs.Common.{◌≡◌, ◌+◌, true, false, cond, List, [], ◌∷◌, map, length, Option, Some, None, refl, sym, ◌∙◌, ap, arith}
 use Rattle.std.specs.Prelude.{find, is_some}
 use Rattle.std.specs.FinMap.{FinMap, get, insert, empty, len, get-empty, get-insert, len-empty, len-insert, same_map}
@@ -6,14 +6,17 @@ use Rattle.std.specs.List.{AllByRecursion, IsDistinct}
 use Rattle.std.specs.Option.{option_or}
 use Rattle.std.specs.Ordering.{eq_by_cmp}
 use Rattle.std.proofs.lemmas.List.{length-map}
-use Rattle.wh_history.specs.Accepted.{Accepted, sold}
+use Rattle.wh_policy.specs.declared.format.Format.{Format}
+use Rattle.wh_history.specs.Accepted.{Accepted, format_of, sold}
 use Rattle.wh_history.specs.Tables.{Limits, fact_of}
 use Rattle.wh_history.specs.declared.facts.Fact.{Fact}
 use Rattle.wh_rows.proofs.Orders.{line_cmp_total, line_cmp-IsAntisymmetric}
+use Rattle.wh_rows.specs.Facts.{facts_in}
 use Rattle.wh_rows.specs.Rows as row
 use Rattle.wh_rows.specs.Tables.{Tables}
 use Rattle.wh_rows.specs.declared.key.LineKey.{LineKey}
 use Rattle.wh_model.specs.Defined.{AreOf}
+use Rattle.wh_model.proofs.Formatted.{facts_in_are}
 use Rattle.wh_plan.specs.BatchRows.{has_line}
 use Rattle.wh_model.specs.Sound.{same_line}
 use Rattle.wh_rows.specs.Steps.{with_rows}
@@ -53,15 +56,15 @@ none_in_empty (f ∷ fs) = (get-empty row.line_cmp (row.fact.key f), none_in_emp
 
 module _ (commands : List Accepted) where
   -- a fact for each sale
-  pub facts_counted : (limits : Limits) (t : Tables) → AreOf limits commands t → IsDistinct same_line (sold commands) → len t.fact ≡ length (sold commands)
-  facts_counted limits t are once =
+  pub facts_counted : (limits : Limits) (t : Tables) → AreOf limits commands t → (format : Format) → format ≡ format_of commands → IsDistinct same_line (sold commands) → len (facts_in format t) ≡ length (sold commands)
+  facts_counted limits t are format same once =
       let facts = map (fact_of commands) (sold commands) in
       let each = facts_once commands (sold commands) once in
       let made = with_rows row.fact facts empty in
-      let shows : (key : LineKey) → get t.fact key ≡ get made key = λ key.
-      are.fact key ∙ sym (found_mapped commands key (sold commands)) ∙ sym (facts_put facts empty key each ∙ ap (option_or (find (has_line key) facts)) (get-empty row.line_cmp key) ∙ or_none (find (has_line key) facts)) in
-      let same = ap len (same_map line_cmp_total line_cmp-IsAntisymmetric t.fact made shows) in
+      let shows : (key : LineKey) → get (facts_in format t) key ≡ get made key = λ key.
+      facts_in_are limits commands t are format same key ∙ sym (found_mapped commands key (sold commands)) ∙ sym (facts_put facts empty key each ∙ ap (option_or (find (has_line key) facts)) (get-empty row.line_cmp key) ∙ or_none (find (has_line key) facts)) in
+      let as_made = ap len (same_map line_cmp_total line_cmp-IsAntisymmetric (facts_in format t) made shows) in
       let counted = len_put facts empty each (none_in_empty facts) in
       let none = len-empty row.line_cmp Fact in
       let as_many = length-map (sold commands) (fact_of commands) in
-      omega (arith, same, counted, none, as_many)
+      omega (arith, as_made, counted, none, as_many)

@@ -1,19 +1,12 @@
 -- One table after the other, to a verdict.
-use Rattle.std.proofs.Common.{◌≡◌, ◌≤◌, ◌<◌, ℕ, suc, Bool, true, false, cond, nat_eq, List, [], map, Some, None, Ok, Err, Result, refl, sym, ap, subst, ◌∙◌, arith}
-use Rattle.std.specs.Prelude.{nat_lt, IsTrue}
-use Rattle.std.specs.FinMap.{empty, get-empty}
-use Rattle.std.specs.List.{list_all}
-use Rattle.std.specs.List.Sorted.{IsPermutation}
-use Rattle.std.proofs.lemmas.List.Sorted.{IsPermutation-refl}
-use Rattle.sqlite.specs.State.{State}
+use Rattle.std.proofs.Common.{◌≡◌, ◌≤◌, ◌<◌, ℕ, suc, Bool, true, false, cond, nat_eq, List, Some, None, Ok, Err, Result, refl, sym, ap, subst, ◌∙◌, arith}
+use Rattle.std.specs.Prelude.{nat_lt}
+use Rattle.wh_policy.specs.declared.format.Format.{Format}
 use Rattle.wh_history.specs.Accepted.{Accepted}
 use Rattle.wh_history.specs.Tables.{Limits}
-use Rattle.wh_rows.specs.Holds.{Layout}
-use Rattle.wh_rows.specs.Names.{is_there}
+use Rattle.wh_model.specs.Defined.{meta_at}
 use Rattle.wh_rows.specs.AtRest.{IsAtRest}
-use Rattle.wh_rows.specs.Raw.{Stored, HasDamageIn, RestsOn}
-use Rattle.wh_rows.proofs.Formats.{no_values}
-use Rattle.wh_store.proofs.Absent.{none_there}
+use Rattle.wh_rows.specs.Raw.{Stored, HasDamageIn}
 use Rattle.wh_rows.specs.declared.table.Table.{Table}
 use Rattle.wh_rows.specs.declared.table.Table.TheVariants.{Meta, Command, Member, Change, Product, Store, Customer, Profile, Calendar, Fact, Fact2, Void}
 use Rattle.wh_sql.specs.declared.fault.ReadFault.{ReadFault}
@@ -31,17 +24,6 @@ use Rattle.wh_check.proofs.Assembling.{damaged_first, none_before_meta, meta_wro
 use Rattle.wh_check.specs.Meta.{AreLimitsSaid}
 use Rattle.wh_engine.specs.Judging.{IsDefinedIn, IsOfDamageIn}
 use Rattle.wh_engine.specs.Replica.{HoldsAll, TellsNone, IsReplicated}
-
--- a table that isn't there has no row
-pub no_rows_there : {K V : Type 0} (layout : Layout K V) (name : Table) (s : State) (stored : Stored) → RestsOn stored s → is_there name stored.format ≡ false → AreRowsAt layout (λ _. None) (stored.rows name)
-no_rows_there {V = V} layout name s stored at absent =
-    let none = ap (map (λ e. e.1)) (no_values {V = V} layout.order) in
-    subst (AreRowsAt layout (λ _. None)) (sym (none_there name s stored at absent)) (record {
-      rows = empty;
-      are = λ key. get-empty layout.order key;
-      valid = subst (λ vs. IsTrue (list_all layout.is_valid vs)) (sym none) refl;
-      same = subst (λ vs. IsPermutation [] (map layout.encode vs)) (sym none) (IsPermutation-refl []);
-    })
 
 -- ---- places
 
@@ -106,7 +88,7 @@ one_more limits commands stored place next table follows is before here earlier 
 
 module _ (limits : Limits) (commands : List Accepted) (stored : Stored) (said : SaysCommands stored limits commands) where
   with_first : (place : ℕ) → AreDefinedTo limits commands stored place → (earlier : Table) → table_place earlier < place → IsDefined limits commands stored earlier
-  with_first place rest Meta less = said.said.defined
+  with_first place rest Meta less = subst (λ (f : Format). AreRowsAt row.meta (meta_at f limits) (stored.rows Meta)) said.formatted said.said.defined
   with_first place rest Command less = said.defined
   with_first place rest Member less = rest Member (omega arith) less
   with_first place rest Change less = rest Change (omega arith) less
@@ -159,4 +141,4 @@ module _ (stored : Stored) (limits : Limits) (meta : SaysLimits stored limits) w
 
   pub rest_judged : {M : Type 0} (g : Ghosts M) (tables : Tables M) (result : Result Verdict ReadFault) → IsReplicated g stored limits (Some tables)
       → ((others : Limits) (commands : List Accepted) → HoldsAll g others commands tables → SaysCommands stored others commands → IsJudged stored result) → IsJudged stored result
-  rest_judged g tables result is judged = judged limits is.0 is.3 (record { said = meta; admitted = is.1; defined = is.2 })
+  rest_judged g tables result is judged = judged limits is.0 is.4 (record { said = meta; formatted = is.1; admitted = is.2; defined = is.3 })

@@ -82,6 +82,5 @@ accepted written = record {
   records = good_records;
   sales = tt;
   lines = tt;
-  first = refl;
   undiscounted = λ _. tt;
 }

@@ -20,7 +20,7 @@ use Rattle.wh_store.specs.Raw.{FormatIs, LimitsAre, IsRefusedOn, IsLimitless}
 use Rattle.wh_store.specs.declared.fault.OpenFault.{OpenFault}
 use Rattle.wh_store.specs.declared.fault.OpenFault.TheVariants as faults
 use Rattle.wh_engine.specs.Opened.{of_policy, of_command, policies_stored, IsTold, PolicyIs, IsPolicyless, IsSessionless, IsUnopened}
-use Rattle.wh_policy.specs.declared.format.Format.TheVariants.{One}
+use Rattle.wh_policy.specs.declared.format.Format.TheVariants.{Two}
 
 -- ---- what is left
 
@@ -98,7 +98,7 @@ module _ (stored : Stored) where
 
   -- ---- the opening
 
-  pub format_refused : (fault : OpenFault) → IsRefusedOn One (is_two stored.format) stored fault → IsUnopened stored fault
+  pub format_refused : (fault : OpenFault) → IsRefusedOn Two (is_two stored.format) stored fault → IsUnopened stored fault
   format_refused faults.NotAWarehouse refused = refused
   format_refused faults.OldFormat refused = refused
   format_refused faults.NewFormat refused = refused
@@ -106,7 +106,7 @@ module _ (stored : Stored) where
   format_refused faults.Memory refused = tt
   format_refused (faults.Store cause) refused = tt
 
-  pub session_refused : ((format : Format) × FormatIs One (is_two stored.format) stored (Ok format)) → (fault : OpenFault) → IsSessionless stored fault → IsUnopened stored fault
+  pub session_refused : ((format : Format) × FormatIs Two (is_two stored.format) stored (Ok format)) → (fault : OpenFault) → IsSessionless stored fault → IsUnopened stored fault
   session_refused taken faults.NotAWarehouse refused = absurd refused
   session_refused taken faults.OldFormat refused = absurd refused
   session_refused taken faults.NewFormat refused = absurd refused

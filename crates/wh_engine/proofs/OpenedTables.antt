@@ -5,7 +5,7 @@ use Rattle.sqlite.specs.Tree.{Trees}
 use Rattle.sqlite.specs.State.{State}
 use Rattle.wh_policy.specs.Policy.{policy_at}
 use Rattle.wh_policy.specs.declared.policy.Policy.{Policy}
-use Rattle.wh_history.specs.Accepted.{Accepted}
+use Rattle.wh_history.specs.Accepted.{Accepted, format_of}
 use Rattle.wh_history.specs.Tables.{Limits}
 use Rattle.wh_history.proofs.Basics.{some_is}
 use Rattle.wh_rows.specs.AtRest.{AreTrees, IsAtRest, Leaves}
@@ -13,13 +13,13 @@ use Rattle.wh_rows.specs.Firsts.{last_one, part}
 use Rattle.wh_rows.specs.Questions.{gives_policy}
 use Rattle.wh_rows.specs.Limits.{limits_of, are_limits}
 use Rattle.wh_policy.specs.declared.format.Format.{Format}
-use Rattle.wh_policy.specs.declared.format.Format.TheVariants.{One}
-use Rattle.wh_policy.specs.Formats.{is_two}
+use Rattle.wh_policy.specs.declared.format.Format.TheVariants.{One, Two}
+use Rattle.wh_policy.specs.Formats.{format_number, is_two}
 use Rattle.wh_rows.specs.Tables.{Tables}
 use Rattle.wh_rows.specs.declared.cause.Cause.{Cause}
 use Rattle.wh_rows.specs.declared.rows.CommandRow.{CommandRow}
 use Rattle.wh_rows.specs.declared.rows.MetaRow.{MetaRow}
-use Rattle.wh_store.specs.Meta.{meta_number, number_in, format_of, limits_in}
+use Rattle.wh_store.specs.Meta.{meta_number, number_in, format_of as format_told, limits_in}
 use Rattle.wh_store.specs.Opening.{SparesStore, IsTaken, IsRefusedWith, unread}
 use Rattle.wh_rows.specs.declared.table.Table.{Table}
 use Rattle.wh_store.specs.Reads.{SparesRows, SparesStore as RefusesNothing}
@@ -60,29 +60,30 @@ fault_goes_on faults.Memory first whole t s goes read = read
 fault_goes_on (faults.Store cause) first whole t s goes read = read
 
 module _ (t : Tables) where
-  pub limits_fault : (e : OpenFault) → of_limits (limits_in t) ≡ Err e → session_in t ≡ Err e
-  unfolding session_in
-  limits_fault e is = rw is refl
+  module _ (format : Format) where
+    pub limits_fault : (e : OpenFault) → of_limits (limits_in t) ≡ Err e → session_in format t ≡ Err e
+    unfolding session_in
+    limits_fault e is = rw is refl
 
-  pub policy_fault : (limits : Limits) (e : OpenFault) → of_limits (limits_in t) ≡ Ok limits → of_command (last_policy_in t) ≡ Err e → session_in t ≡ Err e
-  unfolding session_in
-  policy_fault limits e first is = rw (first, is) refl
+    pub policy_fault : (limits : Limits) (e : OpenFault) → of_limits (limits_in t) ≡ Ok limits → of_command (last_policy_in t) ≡ Err e → session_in format t ≡ Err e
+    unfolding session_in
+    policy_fault limits e first is = rw (first, is) refl
 
-  pub session_is : (limits : Limits) (policy : Policy) → of_limits (limits_in t) ≡ Ok limits → of_command (last_policy_in t) ≡ Ok policy → session_in t ≡ Ok (record { limits = limits; policy = policy; must_reopen = false })
-  unfolding session_in
-  session_is limits policy first second = rw (first, second) refl
+    pub session_is : (limits : Limits) (policy : Policy) → of_limits (limits_in t) ≡ Ok limits → of_command (last_policy_in t) ≡ Ok policy → session_in format t ≡ Ok (record { limits = limits; format = format; policy = policy; must_reopen = false })
+    unfolding session_in
+    session_is limits policy first second = rw (first, second) refl
 
   -- ---- the format comes first
 
-  pub format_fault : (fault : OpenFault) → format_of One (is_two t.format) (number_in t (codes "format")) ≡ Err fault → opened t ≡ Err fault
+  pub format_fault : (fault : OpenFault) → format_told Two (is_two t.format) (number_in t (codes "format")) ≡ Err fault → opened t ≡ Err fault
   unfolding opened
   format_fault fault is = rw is refl
 
-  pub format_known : (format : Format) → IsTaken One (is_two t.format) t format → opened t ≡ session_in t
+  pub format_known : (format : Format) → IsTaken Two (is_two t.format) t format → opened t ≡ session_in format t
   unfolding opened
   format_known format is = rw is refl
 
-  pub not_opened : (old s : State) (fault : OpenFault) → IsRefusedWith One (is_two t.format) t old s fault → Leaves (Some t) s → (SparesStore fault → IsAtRest (Some t) s) → IsRead {A = Session} (Err fault) (opened t) t s
+  pub not_opened : (old s : State) (fault : OpenFault) → IsRefusedWith Two (is_two t.format) t old s fault → Leaves (Some t) s → (SparesStore fault → IsAtRest (Some t) s) → IsRead {A = Session} (Err fault) (opened t) t s
   not_opened old s faults.NotAWarehouse refused left rests = (format_fault faults.NotAWarehouse refused, rests tt)
   not_opened old s faults.OldFormat refused left rests = (format_fault faults.OldFormat refused, rests tt)
   not_opened old s faults.NewFormat refused left rests = (format_fault faults.NewFormat refused, rests tt)
@@ -97,11 +98,11 @@ module _ (t : Tables) where
   rows_unread (reading.Store cause) told s undamaged rests left = left
 
   -- so of the limits, which are damaged where one of them is not there
-  pub limits_unread : (why : ReadFault) (s : State) → ((table : Table) → ◌≡◌ {A = Result Limits ReadFault} (Err why) (Err (reading.Damaged table)) → (table ≡ Table.Meta) × (limits_in t ≡ None)) → (RefusesNothing why → IsAtRest (Some t) s) → Leaves (Some t) s
-      → IsRead {A = Session} (Err (unread why)) (session_in t) t s
-  limits_unread reading.Memory s said rests left = (tt, rests tt)
-  limits_unread (reading.Damaged table) s said rests left = (limits_fault (faults.Damaged table) (ap of_limits (said table refl).1 ∙ ap (λ which. Err (faults.Damaged which)) (sym (said table refl).0)), rests tt)
-  limits_unread (reading.Store cause) s said rests left = left
+  pub limits_unread : (format : Format) (why : ReadFault) (s : State) → ((table : Table) → ◌≡◌ {A = Result Limits ReadFault} (Err why) (Err (reading.Damaged table)) → (table ≡ Table.Meta) × (limits_in t ≡ None)) → (RefusesNothing why → IsAtRest (Some t) s) → Leaves (Some t) s
+      → IsRead {A = Session} (Err (unread why)) (session_in format t) t s
+  limits_unread format reading.Memory s said rests left = (tt, rests tt)
+  limits_unread format (reading.Damaged table) s said rests left = (limits_fault format (faults.Damaged table) (ap of_limits (said table refl).1 ∙ ap (λ which. Err (faults.Damaged which)) (sym (said table refl).0)), rests tt)
+  limits_unread format (reading.Store cause) s said rests left = left
 
 same_ok : {A F : Type 0} (r : Result A F) (x y : A) → r ≡ Ok x → r ≡ Ok y → x ≡ y
 same_ok r x y first second = cc
@@ -109,14 +110,22 @@ same_ok r x y first second = cc
 never : {A F : Type 0} {x : A} {e : F} → Ok x ≡ Err e → ⊥
 never h = cc
 
+-- a format's number says it, where its tables are there
+told_back : (format : Format) → format_told Two (is_two format) (Some (pos (format_number format))) ≡ Ok format
+told_back One = refl
+told_back Two = refl
+
 -- ---- the tables of accepted commands
 
 module _ (limits : Limits) (commands : List Accepted) (t : Tables) (accepted : IsAccepted limits commands) (are : AreOf limits commands t) where
-  number_there : (name : List ℕ) (row : MetaRow) → meta_at limits name ≡ Some row → number_in t name ≡ Some row.value
+  number_there : (name : List ℕ) (row : MetaRow) → meta_at (format_of commands) limits name ≡ Some row → number_in t name ≡ Some row.value
   number_there name row is = ap meta_number (are.meta name ∙ is)
 
-  format_there : IsTaken One (is_two t.format) t One
-  format_there = ap (format_of One (is_two t.format)) (number_there (codes "format") (record { name = codes "format"; value = pos 1 }) refl)
+  format_there : IsTaken Two (is_two t.format) t (format_of commands)
+  format_there =
+      let number = pos (format_number (format_of commands)) in
+      ap (format_told Two (is_two t.format)) (number_there (codes "format") (record { name = codes "format"; value = number }) refl)
+      ∙ ap (λ (f : Format). format_told Two (is_two f) (Some number)) are.format ∙ told_back (format_of commands)
 
   limits_if : (b : Bool) → are_limits limits ≡ b → b ≡ true → limits_of limits.commands limits.changes limits.facts ≡ Some limits
   limits_if b is good = rw (is ∙ good) refl
@@ -138,13 +147,13 @@ module _ (limits : Limits) (commands : List Accepted) (t : Tables) (accepted : I
         ap of_command there ∙ ap of_policy found.3 ∙ ap Ok same
   ]
 
-  pub opened_there : opened t ≡ Ok (record { limits = limits; policy = current_policy commands; must_reopen = false })
-  opened_there = format_known t One format_there ∙ session_is t limits (current_policy commands) (ap of_limits limits_there) policy_there
+  pub opened_there : opened t ≡ Ok (record { limits = limits; format = format_of commands; policy = current_policy commands; must_reopen = false })
+  opened_there = format_known t (format_of commands) format_there ∙ session_is t (format_of commands) limits (current_policy commands) (ap of_limits limits_there) policy_there
 
   -- it is opened ready
   pub opened_ready : AreAdmitted limits commands → (session : Session) (s : State) → opened t ≡ Ok session → IsAtRest (Some t) s → IsReady limits commands session s
   opened_ready admitted session s is rests =
-      let same : record { limits = limits; policy = current_policy commands; must_reopen = false } ≡ session = same_ok (opened t) _ session opened_there is in
+      let same : record { limits = limits; format = format_of commands; policy = current_policy commands; must_reopen = false } ≡ session = same_ok (opened t) _ session opened_there is in
       record { admitted = admitted; rests = record { tables = t; are = are; rests = rests }; session_is = sym same }
 
   -- and refused by the store, or for want of memory, alone
@@ -182,7 +191,7 @@ pub leaves_nothing : (limits : Limits) (bytes : List ℕ) (s : State) → IsAtRe
 leaves_nothing limits bytes s rests = record { each = λ trees may. inl (rests.left.each trees may) }
 
 pub made_ready : (limits : Limits) (policy : Policy) (bytes : List ℕ) (s : State) → are_limits limits ≡ true → policy_at bytes ≡ Ok policy → Rests limits (making_of policy bytes ∷ []) s
-    → IsReady limits (making_of policy bytes ∷ []) (record { limits = limits; policy = policy; must_reopen = false }) s
+    → IsReady limits (making_of policy bytes ∷ []) (record { limits = limits; format = One; policy = policy; must_reopen = false }) s
 made_ready limits policy bytes s limited written rests = record {
   admitted = record { limited = limited; policy = policy; bytes = bytes; written = written; sent = []; admitted = refl };
   rests = rests;

@@ -29,11 +29,11 @@ fault_due is_due before after fits judged faults.Reopen is refused = is
 -- ---- a refusal of the store is noted
 
 module _ (limits : Limits) (session : Session) (s : State) where
-  ready_on : (commands : List Accepted) → IsReady limits commands session s → IsReady limits commands (record { limits = session.limits; policy = session.policy; must_reopen = false }) s
-  ready_on commands ready = record { admitted = ready.admitted; rests = ready.rests; session_is = ap (λ (q : Session). record { limits = q.limits; policy = q.policy; must_reopen = false }) ready.session_is }
+  ready_on : (commands : List Accepted) → IsReady limits commands session s → IsReady limits commands (record session { must_reopen = false }) s
+  ready_on commands ready = record { admitted = ready.admitted; rests = ready.rests; session_is = ap (λ (q : Session). record q { must_reopen = false }) ready.session_is }
 
   pub noted : {A : Type 0} (is_due : Result A Refusal → Type 0) (before after : List Accepted) (result : Result A Fault) → Outcome is_due before after result (IsLeftUnnoted limits session s)
-      → Outcome is_due before after result (IsLeft limits (record { limits = session.limits; policy = session.policy; must_reopen = stops result }) s)
+      → Outcome is_due before after result (IsLeft limits (record session { must_reopen = stops result }) s)
   noted is_due before after (Ok told) ended = (ended.0, ready_on after ended.1)
   noted is_due before after (Err (faults.Refused why)) ended = (ended.0, ready_on before ended.1)
   noted is_due before after (Err faults.Memory) ended = ready_on before ended
@@ -66,5 +66,5 @@ module _ (limits : Limits) (commands : List Accepted) (session : Session) (old n
 
     -- and so does a call that only reads, which notes whether the store refused one
     pub read_and_noted : (result : Result A Fault) → Outcome is_due commands commands result anywhere → (IsServed result → IsAtRest (Some tables) new)
-        → Outcome is_due commands commands result (IsLeft limits (record { limits = session.limits; policy = session.policy; must_reopen = stops result }) new)
+        → Outcome is_due commands commands result (IsLeft limits (record session { must_reopen = stops result }) new)
     read_and_noted result due rests = noted limits session new is_due commands commands result (only_read result due rests)

@@ -1,20 +1,26 @@
 -- What is left of a command that was decided, written or refused.
-use Rattle.std.proofs.Common.{◌≡◌, ◌⊎◌, inl, inr, ℕ, false, List, [], ◌∷◌, ◌++◌, Option, Some, None, Ok, Err, refl, sym, ap, subst, ◌∙◌}
-use Rattle.std.specs.Prelude.{unwrap_or}
+use Rattle.std.proofs.Common.{◌≡◌, ◌⊎◌, inl, inr, ℕ, Bool, true, false, List, [], ◌∷◌, ◌++◌, Option, Some, None, Ok, Err, refl, sym, ap, subst, ◌∙◌}
+use Rattle.std.specs.Prelude.{unwrap_or, IsTrue}
 use Rattle.sqlite.specs.Tree.{Trees}
 use Rattle.sqlite.specs.State.{State}
 use Rattle.wh_policy.specs.Policy.{trial_policy}
+use Rattle.wh_policy.specs.declared.format.Format.{Format}
+use Rattle.wh_policy.specs.declared.format.Format.TheVariants.{One}
 use Rattle.wh_policy.specs.declared.policy.Policy.{Policy}
-use Rattle.wh_history.specs.Accepted.{Accepted, policy_after}
+use Rattle.wh_batch.specs.declared.kind.CommandKind.{CommandKind}
+use Rattle.wh_batch.specs.declared.kind.CommandKind.TheVariants.{Batch, Migration, Upgrade}
+use Rattle.wh_batch.specs.declared.kind.Kind.TheVariants.{Dimension, Sales}
+use Rattle.wh_batch.proofs.GoodLemmas.{bind_ok}
+use Rattle.wh_history.specs.Accepted.{Accepted, Content, Governs, Describes, Sells, Upgrades, format_of, formatted, policy_after}
 use Rattle.wh_history.specs.Tables.{Limits}
 use Rattle.wh_rows.specs.AtRest.{AreTrees, IsAtRest, Leaves}
 use Rattle.wh_rows.specs.Tables.{Tables}
-use Rattle.wh_admission.specs.Admission.{accepted_as, answer, accepted_after, current_policy, AreAdmitted}
+use Rattle.wh_admission.specs.Admission.{records_told, sales_told, policy_told, content_of, format_brought, accepted_as, answer, accepted_after, current_policy, AreAdmitted}
 use Rattle.wh_engine.specs.Answered.{AreTreesOf, LeavesOneOf, IsReady, IsPerformed, IsPlanOf, IsWritten, IsForeseen}
 use Rattle.wh_engine.specs.Decided.{IsHeld, IsEffectOf, Decides}
 use Rattle.wh_model.specs.Defined.{AreOf}
 use Rattle.wh_engine.specs.Faults.{IsServed, Judges}
-use Rattle.wh_plan.specs.Edits.{Edits, AreEdits, no_edits, edit_count, with_all_edits}
+use Rattle.wh_plan.specs.Edits.{Edits, AreEdits, UpgradesTo, no_edits, edit_count, with_all_edits}
 use Rattle.wh_model.specs.Sound.{IsAccepted}
 use Rattle.wh_plan.specs.Writable.{MayBeWritten}
 use Rattle.wh_admission.specs.declared.command.Command.{Command}
@@ -28,14 +34,38 @@ use Rattle.wh_engine.specs.declared.fault.Fault.{Fault}
 use Rattle.wh_engine.specs.declared.session.Session.{Session}
 use Rattle.wh_engine.proofs.Decisions.{judged_ok, after_repeat, after_accepted}
 use Rattle.wh_engine.proofs.Outcomes.{fault_due, still_ready, unanswered}
+use Rattle.wh_model.proofs.Formatted.{format_with}
 use Rattle.wh_plan.proofs.MayBeWritten.{a_command_may_be_written}
 use Rattle.wh_admission.proofs.Migrated.{policy_with, newer_in_force}
 use Rattle.wh_admission.proofs.StaysAccepted.{stays_accepted}
 use Rattle.wh_admission.proofs.Admitted.{admitted_sound, admitted_after}
 use Rattle.wh_plan.proofs.WrittenEdits.{edits_are_written, no_edits_stay}
 
-held_as : (limits : Limits) (commands : List Accepted) (session : Session) (t : Tables) → session ≡ record { limits = limits; policy = current_policy commands; must_reopen = false } → IsAccepted limits commands → AreOf limits commands t → IsHeld session commands t
-held_as limits commands session t is accepted are = rw is (record { accepted = accepted; are = are; policy = refl })
+-- what the bytes of a command say makes the format that its kind brings
+makes_format : (kind : CommandKind) (format : Format) (policy : Policy) (bytes : List ℕ) (content : Content) → content_of kind format policy bytes ≡ Ok content → (before : Format) → formatted before content ≡ format_brought kind before
+makes_format (Batch (Dimension dim)) format policy bytes content told before =
+    let (records, given, last) = bind_ok (records_told dim policy bytes) (λ records. Ok (Describes dim records)) content told in
+    let e : Describes dim records ≡ content = cc in
+    rw (← e) refl
+makes_format (Batch Sales) format policy bytes content told before =
+    let (sales, given, last) = bind_ok (sales_told format policy bytes) (λ sales. Ok (Sells sales)) content told in
+    let e : Sells sales ≡ content = cc in
+    rw (← e) refl
+makes_format Migration format policy bytes content told before =
+    let (newer, given, last) = bind_ok (policy_told policy bytes) (λ newer. Ok (Governs newer)) content told in
+    let e : Governs newer ≡ content = cc in
+    rw (← e) refl
+makes_format Upgrade format policy bytes content told before =
+    let e : Upgrades ≡ content = cc in
+    rw (← e) refl
+
+-- the second format is made of the first
+made_of_first : (upgrades : Bool) (before after : Format) → UpgradesTo upgrades before after → IsTrue upgrades → before ≡ One
+made_of_first true before after leads is = leads.0
+made_of_first false before after leads is = absurd cc
+
+held_as : (limits : Limits) (commands : List Accepted) (session : Session) (t : Tables) → session ≡ record { limits = limits; format = format_of commands; policy = current_policy commands; must_reopen = false } → IsAccepted limits commands → AreOf limits commands t → IsHeld session commands t
+held_as limits commands session t is accepted are = rw is (record { accepted = accepted; are = are; format = refl; policy = refl })
 
 module _ (limits : Limits) (commands : List Accepted) (c : Command) (session : Session) (old : State) (ready : IsReady limits commands session old) where
   abbrev tables : Tables
@@ -110,6 +140,10 @@ module _ (limits : Limits) (commands : List Accepted) (c : Command) (session : S
     pub may_write : MayBeWritten edits
     may_write = a_command_may_be_written limits commands added tables edits accepted ready.rests.are work.edits_are
 
+    -- the tables of the second format are made over those of the first alone
+    pub may_upgrade : IsTrue edits.upgrades → tables.format ≡ One
+    may_upgrade is = ready.rests.are.format ∙ made_of_first edits.upgrades (format_of commands) (format_of (commands ++ added ∷ [])) work.edits_are.upgrades is
+
     written : AreOf limits (commands ++ added ∷ []) (with_all_edits edits tables)
     written = edits_are_written limits commands (commands ++ added ∷ []) tables edits ready.rests.are work.edits_are
 
@@ -122,13 +156,17 @@ module _ (limits : Limits) (commands : List Accepted) (c : Command) (session : S
         ap (λ o. unwrap_or o (current_policy commands)) work.newer_is ∙ sym (newer_in_force (policy_after None commands) work.content trial_policy)
         ∙ ap (λ o. unwrap_or o trial_policy) (sym (policy_with None commands added))
 
-    abbrev governed : Session
-    governed = record { limits = session.limits; policy = unwrap_or newer session.policy; must_reopen = session.must_reopen }
+    -- and so is the format that its kind brings
+    format_then : format_brought c.kind (format_of commands) ≡ format_of (commands ++ added ∷ [])
+    format_then = sym (makes_format c.kind (format_of commands) (current_policy commands) c.bytes work.content work.read (format_of commands)) ∙ sym (format_with One commands added)
 
-    governed_is : governed ≡ record { limits = limits; policy = current_policy (commands ++ added ∷ []); must_reopen = false }
+    abbrev governed : Session
+    governed = record session { format = format_brought c.kind session.format; policy = unwrap_or newer session.policy }
+
+    governed_is : governed ≡ record { limits = limits; format = format_of (commands ++ added ∷ []); policy = current_policy (commands ++ added ∷ []); must_reopen = false }
     governed_is =
-        ap (λ (s : Session). record { limits = s.limits; policy = unwrap_or newer s.policy; must_reopen = s.must_reopen }) ready.session_is
-        ∙ ap (λ (policy : Policy). record { limits = limits; policy = policy; must_reopen = false }) now_in_force
+        ap (λ (s : Session). record s { format = format_brought c.kind s.format; policy = unwrap_or newer s.policy }) ready.session_is
+        ∙ (λ i. record { limits = limits; format = format_then i; policy = now_in_force i; must_reopen = false })
 
     -- its edits were kept
     pub accept_performed : (new : State) → IsAtRest (Some (with_all_edits edits tables)) new → IsPerformed limits commands c (Ok (Accepts receipt)) governed new

@@ -3,12 +3,12 @@ use Rattle.std.proofs.Common.{◌≡◌, true, List, [], ◌∷◌, ◌++◌, ma
 use Rattle.std.specs.Prelude.{find, bytes_eq}
 use Rattle.std.proofs.lemmas.Slice.Eq.{bytes_eq-Decides}
 use Rattle.wh_admission.proofs.StaysAccepted.{receipt_is}
-use Rattle.wh_history.specs.Accepted.{Accepted, Content}
+use Rattle.wh_history.specs.Accepted.{Accepted, Content, format_of}
 use Rattle.wh_history.specs.Keys.{place}
 use Rattle.wh_history.specs.Tables.{Limits}
 use Rattle.wh_rows.specs.Types.{is_key}
 use Rattle.wh_batch.specs.Kind.{command_word}
-use Rattle.wh_admission.specs.Admission.{content_of, current_policy, accepted_as, receipt_of, when_read, answer, with_content, after_answer, accepted_after, receipt_told}
+use Rattle.wh_admission.specs.Admission.{bytes_kept, content_of, current_policy, accepted_as, receipt_of, when_read, answer, with_content, after_answer, accepted_after, receipt_told}
 use Rattle.wh_engine.specs.Redelivered.{HasReceipt}
 use Rattle.wh_admission.specs.declared.command.Command.{Command}
 use Rattle.wh_admission.specs.declared.command.Receipt.{Receipt}
@@ -25,12 +25,12 @@ module _ (limits : Limits) (commands : List Accepted) (c : Command) where
   same_reply : (reply : Reply) → answer limits commands c ≡ Ok reply → HasReceipt limits commands c reply
   same_reply reply is = record { first = reply; said = is; same = refl }
 
-  again_with : (content : Content) (receipt : Receipt) (reply : Reply) → content_of c.kind (current_policy commands) c.bytes ≡ Ok content → is_key 40 c.id ≡ true → found ≡ None → answer limits commands c ≡ Ok (Accepts receipt)
+  again_with : (content : Content) (receipt : Receipt) (reply : Reply) → content_of c.kind (format_of commands) (current_policy commands) c.bytes ≡ Ok content → is_key 40 c.id ≡ true → found ≡ None → answer limits commands c ≡ Ok (Accepts receipt)
       → answer limits (commands ++ accepted_as c content ∷ []) c ≡ Ok reply → HasReceipt limits commands c reply
   again_with content receipt reply told good new is again =
       let id = (bytes_eq-Decides c.id c.id).1 refl in
       let kind = (bytes_eq-Decides (command_word c.kind) (command_word c.kind)).1 refl in
-      let bytes = (bytes_eq-Decides c.bytes c.bytes).1 refl in
+      let bytes = (bytes_eq-Decides (bytes_kept c.kind c.bytes) (bytes_kept c.kind c.bytes)).1 refl in
       let there = find_last (λ (a : Accepted). bytes_eq a.id c.id) (accepted_as c content) commands new id in
       let after = commands ++ accepted_as c content ∷ [] in
       let number = place bytes_eq c.id (map (λ (b : Accepted). b.id) after) in
@@ -43,7 +43,7 @@ module _ (limits : Limits) (commands : List Accepted) (c : Command) where
         same = ap receipt_told (sym reply_is) ∙ ap (λ n. receipt_of after n content) (placed_last c.id commands (accepted_as c content) new id) ∙ receipt_is limits commands c content receipt read;
       }
 
-  by_content : (read : Result Content Refused) (receipt : Receipt) (reply : Reply) → content_of c.kind (current_policy commands) c.bytes ≡ read → is_key 40 c.id ≡ true → found ≡ None → answer limits commands c ≡ Ok (Accepts receipt)
+  by_content : (read : Result Content Refused) (receipt : Receipt) (reply : Reply) → content_of c.kind (format_of commands) (current_policy commands) c.bytes ≡ read → is_key 40 c.id ≡ true → found ≡ None → answer limits commands c ≡ Ok (Accepts receipt)
       → answer limits (with_content commands c read) c ≡ Ok reply → HasReceipt limits commands c reply
   by_content (Err why) receipt reply told good new is again = same_reply reply again
   by_content (Ok content) receipt reply told good new is again = again_with content receipt reply told good new is again
@@ -53,7 +53,7 @@ module _ (limits : Limits) (commands : List Accepted) (c : Command) where
   by_answer (Err why) reply is again = same_reply reply again
   by_answer (Ok (Accepts receipt)) reply is again =
       let new = new_id limits commands c (is_key 40 c.id) found receipt refl refl is in
-      by_content (content_of c.kind (current_policy commands) c.bytes) receipt reply refl new.0 new.1 is again
+      by_content (content_of c.kind (format_of commands) (current_policy commands) c.bytes) receipt reply refl new.0 new.1 is again
 
   pub told_again : (reply : Reply) → answer limits (accepted_after limits commands c) c ≡ Ok reply → HasReceipt limits commands c reply
   told_again reply again = by_answer (answer limits commands c) reply refl again
@@ -63,7 +63,7 @@ module _ (limits : Limits) (commands : List Accepted) (c : Command) where
   not_refused content why good new again =
       let id = (bytes_eq-Decides c.id c.id).1 refl in
       let kind = (bytes_eq-Decides (command_word c.kind) (command_word c.kind)).1 refl in
-      let bytes = (bytes_eq-Decides c.bytes c.bytes).1 refl in
+      let bytes = (bytes_eq-Decides (bytes_kept c.kind c.bytes) (bytes_kept c.kind c.bytes)).1 refl in
       let there = find_last (λ (a : Accepted). bytes_eq a.id c.id) (accepted_as c content) commands new id in
       let known = rw (good, there, kind, bytes) at again in
       absurd cc
@@ -77,7 +77,7 @@ module _ (limits : Limits) (commands : List Accepted) (c : Command) where
   refused_by (Err other) why is again = again
   refused_by (Ok (Accepts receipt)) why is again =
       let new = new_id limits commands c (is_key 40 c.id) found receipt refl refl is in
-      refused_content (content_of c.kind (current_policy commands) c.bytes) why new.0 new.1 again
+      refused_content (content_of c.kind (format_of commands) (current_policy commands) c.bytes) why new.0 new.1 again
 
   pub refused_again : (why : Refused) → answer limits (accepted_after limits commands c) c ≡ Err why → answer limits commands c ≡ Err why
   refused_again why again = refused_by (answer limits commands c) why refl again

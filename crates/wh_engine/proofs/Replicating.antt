@@ -1,5 +1,5 @@
 -- The rows of the command table, handed to a warehouse in memory one after the other.
-use Rattle.std.proofs.Common.{inl, inr, ◌≡◌, ◌≢◌, ℕ, ◌≤◌, Bool, true, false, List, [], ◌∷◌, ◌++◌, map, filter, length, Some, None, refl, sym, ap, subst, ◌∙◌, append_assoc, append-nil}
+use Rattle.std.proofs.Common.{◌≡◌, ◌≢◌, ℕ, ◌≤◌, Bool, true, false, List, [], ◌∷◌, ◌++◌, map, filter, length, Some, None, refl, sym, ap, subst, ◌∙◌, append_assoc, append-nil}
 use Rattle.std.specs.List.{list_all}
 use Rattle.std.specs.List.Sorted.{IsPermutation}
 use Rattle.std.specs.Ordering.{nat_cmp}
@@ -7,7 +7,8 @@ use Rattle.std.specs.FinMap.{nat_cmp-IsAntisymmetric}
 use Rattle.std.proofs.lemmas.Bool.{and_parts}
 use Rattle.std.proofs.lemmas.Cmp.{nat_cmp_total}
 use Rattle.sqlite.specs.Order.{Row}
-use Rattle.wh_history.specs.Accepted.{Accepted}
+use Rattle.wh_policy.specs.declared.format.Format.{Format}
+use Rattle.wh_history.specs.Accepted.{Accepted, format_of}
 use Rattle.wh_history.specs.Tables.{Limits}
 use Rattle.wh_history.proofs.Basics.{some_is}
 use Rattle.wh_model.specs.Defined.{command_at}
@@ -24,10 +25,14 @@ use Rattle.wh_rows.proofs.Raw.{no_damage}
 use Rattle.wh_admission.specs.Admission.{AreAdmitted}
 use Rattle.sqlite.specs.Files.{over_files}
 use Rattle.wh_admission.specs.Steps.{IsBegunWith}
+use Rattle.wh_admission.specs.Checked.{AreRowsAt}
+use Rattle.wh_engine.specs.declared.engine.Engine.{Engine}
 use Rattle.wh_engine.specs.declared.replica.Replica.{Replica}
+use Rattle.wh_engine.specs.declared.session.Session.{Session}
 use Rattle.wh_engine.specs.Replica.{IsReplica, IsEngineOf, IsOpenFor, IsFollowed, TellsNone, IsReplicated, IsEndOf}
 use Rattle.wh_admission.proofs.CommandRows.{row_of, row_is}
 use Rattle.wh_admission.proofs.AdmittedSteps.{stepped}
+use Rattle.wh_admission.proofs.CheckedTables.{commands_told}
 use Rattle.wh_admission.proofs.ListedCommands.{rows_in, rows_last, rows_rise, all_found, next_told}
 use Rattle.wh_check.proofs.Comparing.{DoKeysRise, arranged_once, with_one, all_valid_with}
 use Rattle.wh_check.proofs.ListedTables.{listed_stored, stored_listed, listed_valid}
@@ -132,25 +137,42 @@ module _ (stored : List Row) (limits : Limits) (Left : List Row → Type 0) wher
 
 -- ---- at the end
 
-module _ (stored : Stored) (limits : Limits) (keyed : IsKeyed row.command bind_number stands_at_number) (once : (k : ℕ) → length (filter (stands_at_number k) (stored.rows Command)) ≤ 1) (Left : List Row → Type 0) (ends : Left []) where
+module _ (stored : Stored) (limits : Limits) (format : Format) (same_format : stored.format ≡ format) (keyed : IsKeyed row.command bind_number stands_at_number) (once : (k : ℕ) → length (filter (stands_at_number k) (stored.rows Command)) ≤ 1) (Left : List Row → Type 0) (ends : Left []) where
   whole : (replay : Replica) (is_list : Bool) (it : HasReplicated (stored.rows Command) limits Left replay is_list) → IsArranged row.command.table (stored.rows Command) (map row.command.encode it.seen)
   whole replay is_list it = subst (IsArranged row.command.table (stored.rows Command)) (append-nil (map row.command.encode it.seen)) (it.before [] ends)
 
-  pub told_list : (replay : Replica) (engine : _) → replay.engine ≡ Some engine → HasReplicated (stored.rows Command) limits Left replay true → IsReplicated over_files stored limits (Some engine.tables)
-  told_list replay engine is it =
-      let held = it.right refl in
-      let for_them : IsOpenFor over_files limits held.commands engine = subst (IsEngineOf over_files limits held.commands) is held.held.engine_is in
-      let valid : list_all row.command.is_valid (rows_of held.commands) ≡ true = ap (list_all row.command.is_valid) (sym held.rows) ∙ it.valid in
-      let same : IsPermutation (stored.rows Command) (map row.command.encode (rows_of held.commands)) = subst (λ vs. IsPermutation (stored.rows Command) (map row.command.encode vs)) held.rows (whole replay true it).same in (
-        held.commands,
-        for_them.1.admitted,
-        listed_stored row.command nat_cmp_total nat_cmp-IsAntisymmetric (command_at held.commands) (rows_of held.commands) (commands_rise held.commands) (all_found held.commands) (stored.rows Command) valid same,
-        (for_them.0, for_them.1.rests),
-      )
+  -- the rows are those of the commands that the replica has
+  module _ (replay : Replica) (engine : Engine _) (is : replay.engine ≡ Some engine) (it : HasReplicated (stored.rows Command) limits Left replay true) where
+    abbrev held : AreHeld limits replay it.seen
+    held = it.right refl
+
+    for_them : IsOpenFor over_files limits held.commands engine
+    for_them = subst (IsEngineOf over_files limits held.commands) is held.held.engine_is
+
+    own_rows : AreRowsAt row.command (command_at held.commands) (stored.rows Command)
+    own_rows =
+        let valid : list_all row.command.is_valid (rows_of held.commands) ≡ true = ap (list_all row.command.is_valid) (sym held.rows) ∙ it.valid in
+        let same : IsPermutation (stored.rows Command) (map row.command.encode (rows_of held.commands)) = subst (λ vs. IsPermutation (stored.rows Command) (map row.command.encode vs)) held.rows (whole replay true it).same in
+        listed_stored row.command nat_cmp_total nat_cmp-IsAntisymmetric (command_at held.commands) (rows_of held.commands) (commands_rise held.commands) (all_found held.commands) (stored.rows Command) valid same
+
+    format_is : engine.session.format ≡ format_of held.commands
+    format_is = ap (λ (s : Session). s.format) for_them.1.session_is
+
+    told_list : engine.session.format ≡ format → IsReplicated over_files stored limits (Some engine.tables)
+    told_list made = (held.commands, same_format ∙ sym made ∙ format_is, for_them.1.admitted, own_rows, (for_them.0, for_them.1.rests))
+
+    -- they make another format, and are the only ones
+    told_other : engine.session.format ≢ format → TellsNone stored limits
+    told_other other = (
+      λ commands formatted admitted are.
+          let one = commands_told stored limits commands held.commands admitted for_them.1.admitted are own_rows in
+          other (format_is ∙ ap format_of (sym one) ∙ sym formatted ∙ same_format),
+      no_damage row.command (stored.rows Command) it.seen it.valid (whole replay true it).same,
+    )
 
   no_list : (replay : Replica) (is_list : Bool) (it : HasReplicated (stored.rows Command) limits Left replay is_list) → ((commands : List Accepted) → AreAdmitted limits commands → it.seen ≢ rows_of commands) → TellsNone stored limits
   no_list replay is_list it differ = (
-    λ commands admitted are.
+    λ commands formatted admitted are.
         let same = stored_listed row.command nat_cmp_total nat_cmp-IsAntisymmetric (command_at commands) (rows_of commands) (commands_rise commands) (all_found commands) (stored.rows Command) are in
         let valid = listed_valid row.command nat_cmp_total nat_cmp-IsAntisymmetric (command_at commands) (rows_of commands) (commands_rise commands) (all_found commands) (stored.rows Command) are in
         let one = arranged_once row.command bind_number stands_at_number keyed (stored.rows Command) once (rows_of commands) it.seen (whole replay is_list it) (commands_rise commands) same in
@@ -158,7 +180,7 @@ module _ (stored : Stored) (limits : Limits) (keyed : IsKeyed row.command bind_n
     no_damage row.command (stored.rows Command) it.seen it.valid (whole replay is_list it).same,
   )
 
-  pub told_none : (replay : Replica) → replay.engine ≡ None → HasReplicated (stored.rows Command) limits Left replay true → TellsNone stored limits
+  told_none : (replay : Replica) → replay.engine ≡ None → HasReplicated (stored.rows Command) limits Left replay true → TellsNone stored limits
   unfolding rows_in
   told_none replay is it = no_list replay true it (λ commands admitted same.
       let held = it.right refl in
@@ -170,13 +192,16 @@ module _ (stored : Stored) (limits : Limits) (keyed : IsKeyed row.command bind_n
       nothing : {r : CommandRow} {rows : List CommandRow} → [] ≡ r ∷ rows → ⊥
       nothing h = cc
 
-  pub told_wrong : (replay : Replica) → HasReplicated (stored.rows Command) limits Left replay false → TellsNone stored limits
+  told_wrong : (replay : Replica) → HasReplicated (stored.rows Command) limits Left replay false → TellsNone stored limits
   told_wrong replay it = no_list replay false it (λ commands admitted same. it.wrong refl commands admitted [] (append-nil it.seen ∙ same))
 
   -- what is told of the list at the end
-  pub told_of : (replay : Replica) (is_list : Bool) (result : _) → IsEndOf is_list replay.engine result → HasReplicated (stored.rows Command) limits Left replay is_list → IsReplicated over_files stored limits result
+  pub told_of : (replay : Replica) (is_list : Bool) (result : _) → IsEndOf format is_list replay.engine result → HasReplicated (stored.rows Command) limits Left replay is_list → IsReplicated over_files stored limits result
   told_of replay is_list (Some tables) is it =
-      subst (λ t. IsReplicated over_files stored limits (Some t)) (sym is.3) (told_list replay is.0 is.1 (subst (HasReplicated (stored.rows Command) limits Left replay) is.2 it))
-  told_of replay is_list None (inl isnt) it = told_wrong replay (subst (HasReplicated (stored.rows Command) limits Left replay) isnt it)
-  told_of replay false None (inr without) it = told_wrong replay it
-  told_of replay true None (inr without) it = told_none replay without it
+      subst (λ t. IsReplicated over_files stored limits (Some t)) (sym is.4) (told_list replay is.0 is.1 (subst (HasReplicated (stored.rows Command) limits Left replay) is.2 it) is.3)
+  told_of replay false None other it = told_wrong replay it
+  told_of replay true None other it = by_engine replay.engine refl
+    where
+      by_engine : (kept : _) → replay.engine ≡ kept → TellsNone stored limits
+      by_engine None is = told_none replay is it
+      by_engine (Some engine) is = told_other replay engine is it (other refl engine is)

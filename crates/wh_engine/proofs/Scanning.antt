@@ -17,7 +17,7 @@ use Rattle.wh_store.specs.declared.tables.Tables.{Tables as HeldTables}
 use Rattle.wh_sql.specs.declared.fault.ReadFault.{ReadFault}
 use Rattle.wh_sql.specs.declared.fault.ReadFault.TheVariants as reading
 use Rattle.wh_engine.specs.Answered.{IsReady}
-use Rattle.wh_engine.specs.Faults.{of_reading, stops, IsServed, IsWorkedOut, BlamesDamage, NamesTable}
+use Rattle.wh_engine.specs.Faults.{of_reading, stops, IsServed, IsWorkedOut, BlamesDamage, TellsTaken, NamesTable}
 use Rattle.wh_engine.specs.Outcome.{Outcome}
 use Rattle.wh_engine.specs.Scanned.{noting, EngineReads, IsServing, IsWanting, Reads, ReadsThrough, WhenAtRest, WhenReady}
 use Rattle.wh_engine.specs.declared.engine.Engine.{Engine}
@@ -64,6 +64,13 @@ still_works {A} (Err fault) reading.Memory came = subst (λ (f : Fault). IsWorke
 still_works {A} (Err fault) (reading.Damaged table) came = subst (λ (f : Fault). IsWorkedOut {A = A} (Err f)) (sym came.1) tt
 still_works {A} (Err fault) (reading.Store cause) came = subst (λ (f : Fault). IsWorkedOut {A = A} (Err f)) (sym came.1) tt
 
+-- it tells no name as taken
+pub still_tells : {A : Type 0} (taken : Bool) (result : Result A Fault) (why : ReadFault) → IsErr result × IsErrAnd result (λ fault. fault ≡ of_reading why) → TellsTaken taken result
+still_tells taken (Ok x) why came = tt
+still_tells {A} taken (Err fault) reading.Memory came = subst (λ (f : Fault). TellsTaken {A = A} taken (Err f)) (sym came.1) tt
+still_tells {A} taken (Err fault) (reading.Damaged table) came = subst (λ (f : Fault). TellsTaken {A = A} taken (Err f)) (sym came.1) tt
+still_tells {A} taken (Err fault) (reading.Store cause) came = subst (λ (f : Fault). TellsTaken {A = A} taken (Err f)) (sym came.1) tt
+
 -- ---- a row that was handed out, or refused
 
 module _ (limits : Limits) (commands : List Accepted) (session : Session) (old new : State) (ready : IsReady limits commands session old) where
@@ -79,8 +86,8 @@ module _ (limits : Limits) (commands : List Accepted) (session : Session) (old n
   is_due (Err faults.Reopen) wants = wants
 
   -- nothing had been noted before
-  noting_is : {A : Type 0} (result : Result A Fault) → ◌≡◌ {A = Session} (record { limits = session.limits; policy = session.policy; must_reopen = stops result }) (noting session result)
-  noting_is result = ap (λ (m : Bool). record { limits = session.limits; policy = session.policy; must_reopen = m || stops result }) (sym (ap (λ (q : Session). q.must_reopen) ready.session_is))
+  noting_is : {A : Type 0} (result : Result A Fault) → ◌≡◌ {A = Session} (record session { must_reopen = stops result }) (noting session result)
+  noting_is result = ap (λ (m : Bool). record session { must_reopen = m || stops result }) (sym (ap (λ (q : Session). q.must_reopen) ready.session_is))
 
   pub serving : {A : Type 0} (result : Result A Fault) → IfErr result IsWanting → (IsServed result → IsAtRest (Some tables) new) → Leaves (Some tables) new → IsServing limits commands result (noting session result) new
   serving result wants rests left =
@@ -100,18 +107,18 @@ module _ {S A : Type 0} (g : Ghosts S) where
       leaves = λ clean stored on. on.left;
     };
     blames = λ clean stored on. tt;
-    noted = sym (ap (λ (m : Bool). record { limits = e.session.limits; policy = e.session.policy; must_reopen = m }) (or_false e.session.must_reopen));
+    noted = sym (ap (λ (m : Bool). record (e.session) { must_reopen = m }) (or_false e.session.must_reopen));
     shuts = record { same = λ is. (refl, refl, refl); only = λ is. flagged };
     writes = refl;
   }
 
   -- or it hadn't to, and its tables were read
   pub read : (old : Engine S) (tables : HeldTables S) (result : Result A Fault) → old.session.must_reopen ≡ false → Reads g old.tables tables result
-      → EngineReads g old (record { tables = tables; session = record { limits = old.session.limits; policy = old.session.policy; must_reopen = stops result }; writes = old.writes }) result
+      → EngineReads g old (record { tables = tables; session = record (old.session) { must_reopen = stops result }; writes = old.writes }) result
   read old tables result unflagged reads = record {
     spares = reads.spares;
     blames = reads.blames;
-    noted = sym (ap (λ (m : Bool). record { limits = old.session.limits; policy = old.session.policy; must_reopen = m || stops result }) unflagged);
+    noted = sym (ap (λ (m : Bool). record (old.session) { must_reopen = m || stops result }) unflagged);
     shuts = record { same = λ is. absurd (cc (is, unflagged)); only = not_reopen result _ reads.work };
     writes = refl;
   }
@@ -148,6 +155,6 @@ unserved s st flagged = record {
   };
   serves = λ clean limits commands ready. absurd (cc (flagged, ap (λ (q : Session). q.must_reopen) ready.session_is));
   blames = λ clean stored on. tt;
-  noted = sym (ap (λ (m : Bool). record { limits = s.limits; policy = s.policy; must_reopen = m }) (or_false s.must_reopen));
+  noted = sym (ap (λ (m : Bool). record s { must_reopen = m }) (or_false s.must_reopen));
   only = λ is. flagged;
 }

@@ -1,6 +1,6 @@
 -- The tables of commands are sound, and a check of them says so.
-use Rattle.std.proofs.Common.{◌≡◌, List, map, Option, Some, Result, Ok, Err, refl, ap, ◌∙◌}
-use Rattle.std.specs.FinMap.{FinMap, entries, values, get, get-empty}
+use Rattle.std.proofs.Common.{◌≡◌, List, map, Option, Some, Result, Ok, Err, refl, ap}
+use Rattle.std.specs.FinMap.{FinMap, entries, values, get}
 use Rattle.std.proofs.lemmas.List.Sorted.{IsPermutation-refl}
 use Rattle.sqlite.specs.State.{State}
 use Rattle.wh_history.specs.Accepted.{Accepted}
@@ -48,11 +48,11 @@ module _ (limits : Limits) (commands : List Accepted) (t : Tables) (are : AreOf 
   each_defined Profile = rows_at row.profile t.profile _ typed.profile are.profile
   each_defined Calendar = rows_at row.calendar t.calendar _ typed.calendar are.calendar
   each_defined Fact = rows_at row.fact t.fact _ typed.fact are.fact
-  each_defined Fact2 = rows_at row.fact2 t.fact2 _ typed.fact2 (λ key. ap (λ m. get m key) (typed.absent are.format).0 ∙ get-empty row.fact2.order key)
-  each_defined Void = rows_at row.void t.void _ typed.void (λ key. ap (λ m. get m key) (typed.absent are.format).1 ∙ get-empty row.void.order key)
+  each_defined Fact2 = rows_at row.fact2 t.fact2 _ typed.fact2 are.fact2
+  each_defined Void = rows_at row.void t.void _ typed.void are.void
 
   pub sound_stored : AreAdmitted limits commands → IsSoundStored (stored_of t)
-  sound_stored admitted = record { limits = limits; commands = commands; admitted = admitted; each = each_defined }
+  sound_stored admitted = record { limits = limits; commands = commands; admitted = admitted; formatted = are.format; each = each_defined }
 
 -- ---- a check that was answered, or refused
 
@@ -86,5 +86,5 @@ module _ (limits : Limits) (commands : List Accepted) (session : Session) (old n
   is_due (Err faults.Reopen) judged = judged
 
   pub checked : (result : Result Verdict Fault) → IsChecked (stored_of tables) result → (IsServed result → IsAtRest (Some tables) new) → Leaves (Some tables) new
-      → IsCheckedOf limits commands result (record { limits = session.limits; policy = session.policy; must_reopen = stops result }) new
+      → IsCheckedOf limits commands result (record session { must_reopen = stops result }) new
   checked result judged rests left = read_and_noted limits commands session old new ready (λ told. told ≡ Ok Clean) left result (is_due result judged) rests

@@ -4,6 +4,7 @@ use Rattle.std.specs.Prelude.{codes, pos, take, filter_map}
 use Rattle.wh_day.specs.Day.{is_day, day_before}
 use Rattle.wh_day.specs.Value.{none_text, unknown_text, no_card_text}
 use Rattle.wh_policy.specs.Policy.{described}
+use Rattle.wh_policy.specs.declared.format.Format.TheVariants.{One, Two}
 use Rattle.wh_policy.specs.declared.policy.Policy.{Policy}
 use Rattle.wh_policy.specs.declared.attribute.Dim.TheVariants.{Product, Store, Customer}
 use Rattle.wh_policy.specs.declared.attribute.AttributeType.TheVariants.{NewRow, MiniDimensionOutrigger}
@@ -55,13 +56,16 @@ product_row surrogate durable natural from to current brand = record {
   profile_now = 0;
 }
 
-meta-format : meta_at limits (codes "format") ≡ Some (record { name = codes "format"; value = pos 1 })
+meta-format : meta_at One limits (codes "format") ≡ Some (record { name = codes "format"; value = pos 1 })
 meta-format = refl
 
-meta-facts : meta_at limits (codes "facts_max") ≡ Some (record { name = codes "facts_max"; value = pos 30 })
+meta-format-2 : meta_at Two limits (codes "format") ≡ Some (record { name = codes "format"; value = pos 2 })
+meta-format-2 = refl
+
+meta-facts : meta_at One limits (codes "facts_max") ≡ Some (record { name = codes "facts_max"; value = pos 30 })
 meta-facts = refl
 
-meta-other : meta_at limits (codes "facts") ≡ None
+meta-other : meta_at One limits (codes "facts") ≡ None
 meta-other = refl
 
 command-1 : command_at (take 2 commands) 1 ≡ Some (record { number = 1; id = codes "init"; kind = codes "init"; bytes = codes "policy"; records = 0; placeholders = 0 })

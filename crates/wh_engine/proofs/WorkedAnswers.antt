@@ -11,16 +11,16 @@ use Rattle.wh_batch.specs.declared.kind.Kind.TheVariants.{Dimension, Sales}
 use Rattle.wh_batch.specs.declared.fault.FaultKind.TheVariants.{WrongHeader}
 use Rattle.wh_batch.specs.Batch.{at}
 use Rattle.wh_batch.proofs.OnLiterals.{batch_on_literals}
-use Rattle.wh_history.specs.Accepted.{Accepted, Governs, Describes, Sells}
+use Rattle.wh_history.specs.Accepted.{Accepted, Governs, Describes, Sells, Upgrades}
 use Rattle.wh_history.specs.Tables.{Limits}
 use Rattle.wh_admission.specs.Admission.{answer, accepted_after}
 use Rattle.wh_engine.specs.Delivered.{answers_to}
 use Rattle.wh_engine.specs.Nights.{after_night, before_any}
 use Rattle.wh_admission.specs.declared.command.Command.{Command}
-use Rattle.wh_batch.specs.declared.kind.CommandKind.TheVariants.{Batch}
+use Rattle.wh_batch.specs.declared.kind.CommandKind.TheVariants.{Batch, Upgrade}
 use Rattle.wh_admission.specs.declared.command.Receipt.{Receipt}
 use Rattle.wh_admission.specs.declared.command.Reply.TheVariants.{Accepted as Accepts, Already}
-use Rattle.wh_admission.specs.declared.command.Refused.TheVariants.{BadId, Reused, Batch as BadBatch, LineThere, Full}
+use Rattle.wh_admission.specs.declared.command.Refused.TheVariants.{BadId, Reused, Batch as BadBatch, Upgraded, LineThere, Full}
 use Rattle.wh_admission.specs.declared.command.Limit.TheVariants.{Commands, Changes}
 
 abbrev limits : ℕ → ℕ → ℕ → Limits
@@ -117,6 +117,29 @@ two_placeholders = refl
 line_there : answer (limits 9 9 9) (making ++ record { id = codes "s1"; kind = codes "sales"; bytes = sale_bytes; content = Sells (sale ∷ []) } ∷ []) (sent (codes "s2") Sales sale_bytes) ≡ Err (LineThere 1)
 unfolding batch_on_literals
 line_there = refl
+
+-- ---- an upgrade, whose bytes are not kept, and another one
+
+abbrev upgrade : List ℕ → List ℕ → Command
+upgrade id bytes = record { id = id; kind = Upgrade; bytes = bytes }
+
+abbrev upgraded : List Accepted
+upgraded = making ++ record { id = codes "u1"; kind = codes "upgrade"; bytes = []; content = Upgrades } ∷ []
+
+upgrade_accepted : answer (limits 9 9 9) making (upgrade (codes "u1") (codes "now")) ≡ Ok (Accepts (receipt 2 0 0))
+upgrade_accepted = refl
+
+upgrade_kept : accepted_after (limits 9 9 9) making (upgrade (codes "u1") (codes "now")) ≡ upgraded
+upgrade_kept = refl
+
+upgrade_again : answer (limits 9 9 9) upgraded (upgrade (codes "u1") []) ≡ Ok (Already (receipt 2 0 0))
+upgrade_again = refl
+
+second_upgrade : answer (limits 9 9 9) upgraded (upgrade (codes "u2") []) ≡ Err Upgraded
+second_upgrade = refl
+
+no_room_for_an_upgrade : answer (limits 2 9 9) upgraded (upgrade (codes "u2") []) ≡ Err (Full Commands)
+no_room_for_an_upgrade = refl
 
 -- ---- a delivery: p0, a command without an id, and p0 again
 

@@ -2,15 +2,18 @@
 use Rattle.std.specs.Prelude.{◌≡◌, ◌⊎◌, ℕ, false, List, length, Some, Result, Ok, Err, IsTrue, ⊤}
 use Rattle.sqlite.specs.Tree.{Trees}
 use Rattle.sqlite.specs.State.{State}
+use Rattle.wh_policy.specs.Formats.{format_number}
 use Rattle.wh_policy.specs.declared.attribute.Dim.TheVariants.{Product, Store as Stores, Customer}
+use Rattle.wh_policy.specs.declared.format.Format.{Format}
 use Rattle.wh_policy.specs.declared.policy.Policy.{Policy}
-use Rattle.wh_history.specs.Accepted.{Accepted, sold, members}
+use Rattle.wh_history.specs.Accepted.{Accepted, format_of, sold, members}
 use Rattle.wh_history.specs.Tables.{Limits}
 use Rattle.wh_rows.specs.AtRest.{AreTrees, IsAtRest}
 use Rattle.wh_rows.specs.Tables.{Tables}
+use Rattle.wh_rows.specs.Facts.{facts_table}
 use Rattle.wh_rows.specs.Raw.{Stored}
 use Rattle.wh_rows.specs.declared.table.Table.TheVariants as table
-use Rattle.wh_admission.specs.Admission.{current_policy, policy_brought, answer, accepted_after, AreAdmitted}
+use Rattle.wh_admission.specs.Admission.{current_policy, policy_brought, format_brought, answer, accepted_after, AreAdmitted}
 use Rattle.wh_model.specs.Defined.{AreOf}
 use Rattle.wh_plan.specs.Edits.{Edits, AreEdits, edit_count}
 use Rattle.wh_model.specs.Sound.{changes_kept}
@@ -47,7 +50,7 @@ pub record LeavesOneOf (limits : Limits) (before after : List Accepted) (s : Sta
 pub record IsReady (limits : Limits) (commands : List Accepted) (session : Session) (s : State) : Type 0 where
   pub admitted : AreAdmitted limits commands
   pub rests : Rests limits commands s
-  pub session_is : session ≡ record { limits = limits; policy = current_policy commands; must_reopen = false }
+  pub session_is : session ≡ record { limits = limits; format = format_of commands; policy = current_policy commands; must_reopen = false }
 
 -- The store refused a call of the engine, which has to be opened again; a crash leaves the tables before the command, or those with it.
 pub record IsStopped (limits : Limits) (before after : List Accepted) (session : Session) (s : State) : Type 0 where
@@ -112,11 +115,18 @@ IsGoverned old new c (Ok (replies.Accepted receipt)) = policy_brought c.kind old
 IsGoverned old new c (Ok (replies.Already receipt)) = new ≡ old
 IsGoverned old new c (Err fault) = new ≡ old
 
--- A call that was worked on notes whether the store refused it. The limits stay, and the policy is what the command makes of it.
+-- and the format is the one that it makes
+abbrev pub IsFormatted : Format → Format → Command → Result Reply Fault → Type 0
+IsFormatted old new c (Ok (replies.Accepted receipt)) = new ≡ format_brought c.kind old
+IsFormatted old new c (Ok (replies.Already receipt)) = new ≡ old
+IsFormatted old new c (Err fault) = new ≡ old
+
+-- A call that was worked on notes whether the store refused it. The limits stay, and policy and format are what the command makes of them.
 pub record IsNoted (old new : Session) (c : Command) (result : Result Reply Fault) : Type 0 where
   pub flag : new.must_reopen ≡ stops result
   pub limits : new.limits ≡ old.limits
   pub policy : IsGoverned old.policy new.policy c result
+  pub format : IsFormatted old.format new.format c result
 
 -- Exact edits lead from the tables of the commands to those of the list after the command, and as many keys are written; none where it isn't accepted.
 abbrev pub IsWritten : Limits → List Accepted → Command → Result Reply Fault → ℕ → Type 0
@@ -127,7 +137,7 @@ IsWritten limits commands c (Err fault) writes = writes ≡ 0
 -- how much the tables of these commands hold
 abbrev pub counts_of : List Accepted → Counts
 counts_of commands = record {
-  format = 1;
+  format = format_number (format_of commands);
   commands = length commands;
   changes = changes_kept commands;
   facts = length (sold commands);
@@ -136,10 +146,10 @@ counts_of commands = record {
   customers = length (members Customer commands);
 }
 
--- the format is 1, and of commands, accepted records and sales all that are stored are counted, damaged or not
-abbrev pub CountsStored : Stored → Counts → Type 0
-CountsStored stored counts =
-    (counts.format ≡ 1) × (counts.commands ≡ length (stored.rows table.Command)) × (counts.changes ≡ length (stored.rows table.Change)) × (counts.facts ≡ length (stored.rows table.Fact))
+-- The format is this one, and of commands, accepted records and its sales all that are stored are counted, damaged or not.
+abbrev pub CountsStored : Format → Stored → Counts → Type 0
+CountsStored format stored counts =
+    (counts.format ≡ format_number format) × (counts.commands ≡ length (stored.rows table.Command)) × (counts.changes ≡ length (stored.rows table.Change)) × (counts.facts ≡ length (stored.rows (facts_table format)))
 
 -- What a count says: it is that of the commands, and nothing changes.
 abbrev pub IsCounted : Limits → List Accepted → Result Counts Fault → Session → State → Type 0

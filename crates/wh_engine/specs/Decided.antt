@@ -1,10 +1,10 @@
 -- What is decided about a command, by what is read of the tables.
 use Rattle.std.specs.Prelude.{◌≡◌, ℕ, List, [], ◌∷◌, ◌++◌, length, filter, find, Option, None, unwrap_or, bytes_eq, true, Result, Ok, ⊤}
 use Rattle.wh_policy.specs.declared.policy.Policy.{Policy}
-use Rattle.wh_history.specs.Accepted.{Accepted, Content, governed}
+use Rattle.wh_history.specs.Accepted.{Accepted, Content, format_of, governed}
 use Rattle.wh_rows.specs.declared.rows.CommandRow.{CommandRow}
 use Rattle.wh_batch.specs.Kind.{command_word}
-use Rattle.wh_admission.specs.Admission.{answer, content_of, accepted_as, current_policy, policy_brought, receipt_again, already}
+use Rattle.wh_admission.specs.Admission.{answer, bytes_kept, content_of, accepted_as, current_policy, policy_brought, receipt_again, already}
 use Rattle.wh_rows.specs.Tables.{Tables}
 use Rattle.wh_model.specs.Defined.{AreOf}
 use Rattle.wh_plan.specs.Edits.{Edits, AreEdits}
@@ -35,7 +35,7 @@ reply_to_known row c = already (receipt_of_known row c)
 
 -- the row of a command that holds so many records and is the first to mention no member that it sells
 abbrev pub row_of_command : Command → ℕ → ℕ → CommandRow
-row_of_command c number records = record { number = number; id = c.id; kind = command_word c.kind; bytes = c.bytes; records = records; placeholders = 0 }
+row_of_command c number records = record { number = number; id = c.id; kind = command_word c.kind; bytes = bytes_kept c.kind c.bytes; records = records; placeholders = 0 }
 
 -- no accepted command has its id
 abbrev pub IsNew : List Accepted → Command → Type 0
@@ -45,12 +45,13 @@ IsNew commands c = find (λ (a : Accepted). bytes_eq a.id c.id) commands ≡ Non
 pub record IsHeld (session : Session) (commands : List Accepted) (tables : Tables) : Type 0 where
   pub accepted : IsAccepted session.limits commands
   pub are : AreOf session.limits commands tables
+  pub format : session.format ≡ format_of commands
   pub policy : session.policy ≡ current_policy commands
 
 -- the edits are those of the command, which says this, and the newer policy is the one that it gives, if it gives one
 pub record IsEffectOf (commands : List Accepted) (c : Command) (edits : Edits) (newer : Option Policy) : Type 0 where
   pub content : Content
-  pub read : content_of c.kind (current_policy commands) c.bytes ≡ Ok content
+  pub read : content_of c.kind (format_of commands) (current_policy commands) c.bytes ≡ Ok content
   pub edits_are : AreEdits commands (commands ++ accepted_as c content ∷ []) edits
   pub newer_is : newer ≡ governed None content
 

@@ -6,8 +6,7 @@ use Rattle.wh_history.specs.Accepted.{Accepted}
 use Rattle.wh_history.specs.Tables.{Limits}
 use Rattle.wh_rows.specs.Raw.{Stored, HasDamageIn}
 use Rattle.wh_admission.specs.Admission.{answer, accepted_after, accepted_after_all}
-use Rattle.wh_policy.specs.declared.policy.Policy.{Policy}
-use Rattle.wh_engine.specs.Answered.{IsReady, IsStopped, IsGoverned, IsWritten}
+use Rattle.wh_engine.specs.Answered.{IsReady, IsStopped, IsGoverned, IsFormatted, IsWritten}
 use Rattle.wh_admission.specs.declared.command.Command.{Command}
 use Rattle.wh_admission.specs.declared.command.Refused.{Refused as Refusal}
 use Rattle.wh_admission.specs.declared.command.Reply.{Reply}
@@ -88,18 +87,19 @@ abbrev pub as_called : Result Reply Refusal → Result Reply Fault
 as_called (Ok reply) = Ok reply
 as_called (Err why) = Err (Refused why)
 
--- the second policy is what the answers to the first commands make of the first one, one after the other
-abbrev pub AreGoverned : Policy → Policy → List (Result Reply Refusal) → List Command → Type 0
-AreGoverned old new [] sent = new ≡ old
-AreGoverned old new (told ∷ answers) [] = ⊥
-AreGoverned old new (told ∷ answers) (c ∷ sent) = (between : Policy) × IsGoverned old between c (as_called told) × AreGoverned between new answers sent
+-- the second is what the answers to the first commands make of the first, one after the other
+abbrev pub AreLed : {X : Type 0} → (X → X → Command → Result Reply Fault → Type 0) → X → X → List (Result Reply Refusal) → List Command → Type 0
+AreLed Leads old new [] sent = new ≡ old
+AreLed Leads old new (told ∷ answers) [] = ⊥
+AreLed {X} Leads old new (told ∷ answers) (c ∷ sent) = (between : X) × Leads old between c (as_called told) × AreLed Leads between new answers sent
 
--- A delivery notes whether the store refused a call. The limits stay, and so does the policy where nothing was accepted; else it is what the accepted commands make of it.
+-- A delivery notes whether the store refused a call. The limits stay, and so does the policy where nothing was accepted; else it and the format are what the accepted commands make of them.
 pub record IsDeliveryNoted (old new : Session) (sent : List Command) (answers : List (Result Reply Refusal)) (stop : Option Fault) : Type 0 where
   pub flag : new.must_reopen ≡ is_of_the_store stop
   pub limits : new.limits ≡ old.limits
   pub policy : AcceptNothing answers → new.policy ≡ old.policy
-  pub governed : AreGoverned old.policy new.policy answers sent
+  pub governed : AreLed IsGoverned old.policy new.policy answers sent
+  pub formatted : AreLed IsFormatted old.format new.format answers sent
 
 -- ---- how many keys are written
 

@@ -1,10 +1,11 @@
 -- Faults of an engine, and what they say of the tables.
-use Rattle.std.specs.Prelude.{◌≡◌, Bool, true, false, Result, Ok, Err, ⊤}
+use Rattle.std.specs.Prelude.{◌≡◌, Bool, true, false, Result, Ok, Err, IsTrue, ⊤}
 use Rattle.wh_rows.specs.Raw.{Stored, HasDamageIn}
 use Rattle.wh_rows.specs.declared.table.Table.{Table}
 use Rattle.wh_sql.specs.declared.fault.ReadFault.{ReadFault}
 use Rattle.wh_sql.specs.declared.fault.ReadFault.TheVariants as reading
 use Rattle.wh_admission.specs.declared.command.Refused.{Refused}
+use Rattle.wh_admission.specs.declared.command.Refused.TheVariants.{NameTaken}
 use Rattle.wh_engine.specs.declared.fault.Fault.{Fault}
 use Rattle.wh_engine.specs.declared.fault.Fault.TheVariants as faults
 
@@ -57,6 +58,11 @@ IsWorkedOut (Err (faults.Damaged table)) = ⊤
 IsWorkedOut (Err faults.Memory) = ⊤
 IsWorkedOut (Err (faults.Store cause)) = ⊤
 IsWorkedOut (Err faults.Reopen) = ⊥
+
+-- that a name of the second format is taken is told only where this is so
+abbrev pub TellsTaken : {A : Type 0} → Bool → Result A Fault → Type 0
+TellsTaken taken (Err (faults.Refused NameTaken)) = IsTrue taken
+TellsTaken taken result = ⊤
 
 -- The answer is that of the definition; or memory ran out, or the store refused a call. Nothing else comes.
 abbrev pub Judges : {X Y : Type 0} → (X → Y → Type 0) → Result X Fault → Result Y Refused → Type 0

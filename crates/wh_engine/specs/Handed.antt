@@ -3,6 +3,7 @@ use Rattle.std.specs.Prelude.{◌≡◌, Option, None, Result, Ok, IfOk, IfErr, 
 use Rattle.std.specs.FinMap.{FinMap}
 use Rattle.sqlite_trees.specs.declared.store.Store.{Ghosts}
 use Rattle.sqlite.specs.Order.{Row}
+use Rattle.wh_policy.specs.declared.format.Format.{Format}
 use Rattle.wh_rows.specs.Holds.{Layout}
 use Rattle.wh_rows.specs.Tables.{Tables as TypedTables}
 use Rattle.wh_rows.specs.declared.table.Table.{Table}
@@ -14,14 +15,13 @@ use Rattle.wh_engine.specs.Faults.{NamesTable}
 use Rattle.wh_engine.specs.Scanned.{WhenStored}
 use Rattle.wh_engine.specs.declared.fault.Fault.{Fault}
 
--- The row is the next of the table's in any tables at rest, so of those of the accepted commands. Of any rows, whoever wrote them, none is missed and none comes twice. What is
+-- Where the table is in a warehouse as by this format: the row is the next of the table's in any tables at rest, so of those of the accepted commands. Of any rows, whoever wrote them, none is missed and none comes twice. What is
 -- handed out is of its type, and a row that isn't is reported as one of this table.
-pub record HandsNext {S K V : Type 0} (g : Ghosts S) (name : Table) (layout : Layout K V) (bind : K → Row) (rows_of : TypedTables → FinMap layout.order V) (old new : Tables S) (before after : Cursor K V) (result : Result (Option V) Fault) : Type 0 where
-  pub rows : SaysInFormat g name old new (λ t. IfOk result (λ found. HandsOut (rows_left layout (rows_of t) before) found (rows_left layout (rows_of t) after)))
-  pub stored : SaysAsStoredIn g name old new (λ stored. IfOk result (λ found. HandsOutOf layout bind (stored.rows name) before found after))
-  pub valid : SaysAsStoredIn g name old new (λ _. AreValid layout before → IfOk result (λ found. IfSome found (λ row. IsTrue (layout.is_valid row)) × AreValid layout after))
+pub record HandsNext {S K V : Type 0} (g : Ghosts S) (name : Table) (layout : Layout K V) (bind : K → Row) (rows_of : TypedTables → FinMap layout.order V) (format : Format) (old new : Tables S) (before after : Cursor K V) (result : Result (Option V) Fault) : Type 0 where
+  pub rows : SaysInFormat g name format old new (λ t. IfOk result (λ found. HandsOut (rows_left layout (rows_of t) before) found (rows_left layout (rows_of t) after)))
+  pub stored : SaysAsStoredIn g name format old new (λ stored. IfOk result (λ found. HandsOutOf layout bind (stored.rows name) before found after))
+  pub valid : SaysAsStoredIn g name format old new (λ _. AreValid layout before → IfOk result (λ found. IfSome found (λ row. IsTrue (layout.is_valid row)) × AreValid layout after))
   pub named : WhenStored g old new (λ _. IfErr result (NamesTable name))
-  pub same_format : new.format ≡ old.format
 
 -- After a fault no row comes; and where none comes any more, none does, and nothing is read.
 pub record Ends {S K V : Type 0} (old new : Tables S) (before after : Cursor K V) (result : Result (Option V) Fault) : Type 0 where

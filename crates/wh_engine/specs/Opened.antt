@@ -35,7 +35,7 @@ use Rattle.wh_engine.specs.declared.opening.InitFault.{InitFault}
 use Rattle.wh_engine.specs.declared.opening.InitFault.TheVariants as init
 use Rattle.wh_store.specs.declared.fault.OpenFault.TheVariants as faults
 use Rattle.wh_engine.specs.declared.session.Session.{Session}
-use Rattle.wh_policy.specs.declared.format.Format.TheVariants.{One}
+use Rattle.wh_policy.specs.declared.format.Format.TheVariants.{Two}
 
 -- what is so where the tables of commands were at rest
 abbrev pub WhenAdmitted : State → State → (Limits → List Accepted → State → Type 0) → Type 0
@@ -70,13 +70,13 @@ abbrev pub of_command : Option CommandRow → Result Policy OpenFault
 of_command (Some row) = of_policy (policy_at row.bytes)
 of_command None = Err (faults.Damaged tables.Command)
 
--- What an engine has to know of tables that are opened, or the first fault that is met.
-unfoldable pub session_in : Tables → Result Session OpenFault
-session_in t =
-    of_limits (limits_in t) >>= λ limits. of_command (last_policy_in t) >>= λ policy. Ok (record { limits = limits; policy = policy; must_reopen = false })
+-- What an engine has to know of tables of this format that are opened, or the first fault that is met.
+unfoldable pub session_in : Format → Tables → Result Session OpenFault
+session_in format t =
+    of_limits (limits_in t) >>= λ limits. of_command (last_policy_in t) >>= λ policy. Ok (record { limits = limits; format = format; policy = policy; must_reopen = false })
 
 unfoldable pub opened : Tables → Result Session OpenFault
-opened t = format_of One (is_two t.format) (number_in t (codes "format")) >>= λ _. session_in t
+opened t = format_of Two (is_two t.format) (number_in t (codes "format")) >>= λ format. session_in format t
 
 -- what was read is what the bytes say, or memory ran out
 abbrev pub IsTold : {A : Type 0} → Result A OpenFault → Result A OpenFault → Type 0
@@ -108,7 +108,8 @@ IsPolicyless stored fault = ⊥
 
 -- what an engine has to know of what is stored
 abbrev pub SessionIs : Stored → Session → Type 0
-SessionIs stored session = LimitsAre stored (Some session.limits) × PolicyIs stored (Ok session.policy) × (session.must_reopen ≡ false)
+SessionIs stored session =
+    FormatIs Two (is_two stored.format) stored (Ok session.format) × LimitsAre stored (Some session.limits) × PolicyIs stored (Ok session.policy) × (session.must_reopen ≡ false)
 
 -- it can't be known, with this fault: the limits are refused; or they are good, and there is no policy
 abbrev pub IsSessionless : Stored → OpenFault → Type 0
@@ -121,8 +122,8 @@ IsSessionless stored fault = ⊥
 abbrev pub IsUnopened : Stored → OpenFault → Type 0
 IsUnopened stored faults.Memory = ⊤
 IsUnopened stored (faults.Store cause) = ⊤
-IsUnopened stored (faults.Damaged table) = IsRefusedOn One (is_two stored.format) stored (faults.Damaged table) ⊎ (((format : Format) × FormatIs One (is_two stored.format) stored (Ok format)) × IsSessionless stored (faults.Damaged table))
-IsUnopened stored fault = IsRefusedOn One (is_two stored.format) stored fault
+IsUnopened stored (faults.Damaged table) = IsRefusedOn Two (is_two stored.format) stored (faults.Damaged table) ⊎ (((format : Format) × FormatIs Two (is_two stored.format) stored (Ok format)) × IsSessionless stored (faults.Damaged table))
+IsUnopened stored fault = IsRefusedOn Two (is_two stored.format) stored fault
 
 -- ---- a warehouse
 

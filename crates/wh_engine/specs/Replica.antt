@@ -1,8 +1,9 @@
 -- A second warehouse, over a store that never fails to tell what was written, which is sent the commands that the command table tells.
-use Rattle.std.specs.Prelude.{◌≡◌, ◌≢◌, ◌⊎◌, ◌&&◌, ◌==◌, suc, Bool, true, false, codes, bytes_eq, length, List, [], ◌∷◌, ◌++◌, Option, Some, None}
+use Rattle.std.specs.Prelude.{◌≡◌, ◌≢◌, ◌&&◌, ◌==◌, suc, Bool, true, false, codes, bytes_eq, length, List, [], ◌∷◌, ◌++◌, Option, Some, None}
 use Rattle.sqlite_trees.specs.declared.store.Store.{Ghosts}
 use Rattle.sqlite.specs.Files.{over_files}
-use Rattle.wh_history.specs.Accepted.{Accepted}
+use Rattle.wh_history.specs.Accepted.{Accepted, format_of}
+use Rattle.wh_policy.specs.declared.format.Format.{Format}
 use Rattle.wh_history.specs.Tables.{Limits}
 use Rattle.wh_model.specs.Defined.{command_at}
 use Rattle.wh_rows.specs.Raw.{Stored, HasDamage}
@@ -51,16 +52,16 @@ IsMadeOrNot g limits row None = (a : Accepted) (more : List Accepted) → AreAdm
 abbrev pub HoldsAll : {M : Type 0} → Ghosts M → Limits → List Accepted → Tables M → Type 0
 HoldsAll g limits commands tables = IsFaithful g × Rests limits commands (state_of g tables)
 
--- The command table tells no list that was admitted under the limits, and none of its rows is damaged.
+-- The command table tells no list that was admitted under the limits and makes the format of the tables, and none of its rows is damaged.
 abbrev pub TellsNone : Stored → Limits → Type 0
-TellsNone stored limits = ((commands : List Accepted) → AreAdmitted limits commands → ¬ AreRowsAt row.command (command_at commands) (stored.rows Command)) × (¬ HasDamage row.command (stored.rows Command))
+TellsNone stored limits = ((commands : List Accepted) → stored.format ≡ format_of commands → AreAdmitted limits commands → ¬ AreRowsAt row.command (command_at commands) (stored.rows Command)) × (¬ HasDamage row.command (stored.rows Command))
 
 -- It tells such a list, and the tables of the second warehouse are those of it; or it tells none.
 abbrev pub IsReplicated : {M : Type 0} → Ghosts M → Stored → Limits → Option (Tables M) → Type 0
-IsReplicated g stored limits (Some tables) = (commands : List Accepted) × AreAdmitted limits commands × AreRowsAt row.command (command_at commands) (stored.rows Command) × HoldsAll g limits commands tables
+IsReplicated g stored limits (Some tables) = (commands : List Accepted) × (stored.format ≡ format_of commands) × AreAdmitted limits commands × AreRowsAt row.command (command_at commands) (stored.rows Command) × HoldsAll g limits commands tables
 IsReplicated g stored limits None = TellsNone stored limits
 
--- the list has a command, and each row was that of the next one; or a row wasn't, or there is no command
-abbrev pub IsEndOf : {M : Type 0} → Bool → Option (Engine M) → Option (Tables M) → Type 0
-IsEndOf {M} is_list kept (Some tables) = (engine : Engine M) × (kept ≡ Some engine) × (is_list ≡ true) × (tables ≡ engine.tables)
-IsEndOf is_list kept None = (is_list ≡ false) ⊎ (kept ≡ None)
+-- the list has a command, each row was that of the next one, and the format is this one; or a row wasn't, or there is no command, or the format is another
+abbrev pub IsEndOf : {M : Type 0} → Format → Bool → Option (Engine M) → Option (Tables M) → Type 0
+IsEndOf {M} format is_list kept (Some tables) = (engine : Engine M) × (kept ≡ Some engine) × (is_list ≡ true) × (engine.session.format ≡ format) × (tables ≡ engine.tables)
+IsEndOf {M} format is_list kept None = is_list ≡ true → (engine : Engine M) → kept ≡ Some engine → engine.session.format ≢ format

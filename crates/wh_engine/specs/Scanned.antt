@@ -8,13 +8,13 @@ use Rattle.wh_rows.specs.AtRest.{IsAtRest}
 use Rattle.wh_rows.specs.Raw.{Stored, RestsOn}
 use Rattle.wh_rows.specs.Tables.{Tables as TypedTables}
 use Rattle.wh_sql.specs.declared.fault.ReadFault.{ReadFault}
-use Rattle.wh_store.specs.Reads.{ReadsOnly, Spares, SaysAtRest, SaysAsStored, state_of}
+use Rattle.wh_store.specs.Reads.{ReadsOnly, Spares, SaysAtRest, SaysAsStored, is_second_taken, state_of}
 use Rattle.wh_store.specs.declared.tables.Tables.{Tables}
 use Rattle.wh_model.specs.Defined.{AreOf}
 use Rattle.wh_model.specs.Sound.{IsAccepted}
 use Rattle.wh_plan.specs.Reads.{Finds}
 use Rattle.wh_engine.specs.Answered.{IsReady, IsLeft}
-use Rattle.wh_engine.specs.Faults.{IsServed, IsWorkedOut, BlamesDamage, stops}
+use Rattle.wh_engine.specs.Faults.{IsServed, IsWorkedOut, BlamesDamage, TellsTaken, stops}
 use Rattle.wh_engine.specs.Outcome.{Outcome}
 use Rattle.wh_engine.specs.declared.engine.Engine.{Engine}
 use Rattle.wh_engine.specs.declared.fault.Fault.{Fault}
@@ -66,12 +66,13 @@ SparesIn g old new calm = Spares (state_of g old) (state_of g new) calm
 abbrev pub ReadsOnlyIn : {S A : Type 0} → Ghosts S → Tables S → Tables S → Result A ReadFault → Type 0
 ReadsOnlyIn g old new result = ReadsOnly (state_of g old) (state_of g new) result
 
--- What a reading leaves of the tables: they are as they were unless the store refused a call, and a crash leaves them. A table that is named as damaged is. It isn't
--- answered that the warehouse has to be opened again.
+-- What a reading leaves of the tables: they are as they were unless the store refused a call, and a crash leaves them. A table that is named as damaged is, and so is a name
+-- that is told as taken. It isn't answered that the warehouse has to be opened again.
 pub record Reads {S A : Type 0} (g : Ghosts S) (old new : Tables S) (result : Result A Fault) : Type 0 where
   pub spares : Spares (state_of g old) (state_of g new) (IsServed result)
   pub blames : WhenStored g old new (λ stored. BlamesDamage stored result)
   pub work : IsWorkedOut result
+  pub taken : TellsTaken (is_second_taken (state_of g new).now.schema) result
 
 -- this is told exactly where the engine had to be opened again, and then all is as it was
 pub record Shuts {S : Type 0} (old new : Engine S) (told : Type 0) : Type 0 where

@@ -4,14 +4,16 @@ use Rattle.std.specs.List.{AllByRecursion}
 use Rattle.sqlite_trees.specs.declared.store.Store.{Ghosts}
 use Rattle.sqlite.specs.Tree.{Trees}
 use Rattle.sqlite.specs.State.{State}
+use Rattle.wh_policy.specs.declared.format.Format.{Format}
 use Rattle.wh_rows.specs.AtRest.{AreTrees}
+use Rattle.wh_rows.specs.Facts.{facts_in, with_facts_in}
 use Rattle.wh_rows.specs.Steps.{after_all}
 use Rattle.wh_rows.specs.Tables.{Tables}
 use Rattle.wh_rows.specs.declared.cause.Cause.{Cause}
 use Rattle.wh_store.specs.Reads.{state_of}
 use Rattle.wh_store.specs.Writes.{WritesOnly, Makes}
 use Rattle.wh_store.specs.declared.writing.Writing.{Writing}
-use Rattle.wh_plan.specs.Edits.{with_fact_edit}
+use Rattle.wh_plan.specs.Edits.{Edits, with_fact_edit, with_commands, with_dimensions, with_facts}
 use Rattle.wh_plan.specs.Writable.{IsValidFactEdit}
 use Rattle.wh_plan.specs.declared.edits.FactEdit.{FactEdit}
 
@@ -23,12 +25,19 @@ WritesIn g old new may = WritesOnly (state_of g old.tables.now) (state_of g new.
 abbrev pub MakesIn : {S A : Type 0} → Ghosts S → Writing S → Writing S → Result A Cause → Type 0 → (Tables → Tables) → Type 0
 MakesIn g old new result may step = Makes (state_of g old.tables.now) (state_of g new.tables.now) result may step
 
--- the edits of facts may be written, and what they make
-abbrev pub AreValidFactEdits : List FactEdit → Type 0
-AreValidFactEdits edits = AllByRecursion IsValidFactEdit edits
+-- the edits of the facts of a format may be written, and what they make
+abbrev pub AreValidFactEdits : Format → List FactEdit → Type 0
+AreValidFactEdits format edits = AllByRecursion (IsValidFactEdit format) edits
 
-abbrev pub with_fact_edits : List FactEdit → Tables → Tables
-with_fact_edits edits made = record made { fact = after_all with_fact_edit edits made.fact }
+abbrev pub with_one_fact : Format → FactEdit → Tables → Tables
+with_one_fact format edit made = with_facts_in format (with_fact_edit edit (facts_in format made)) made
+
+abbrev pub with_fact_edits : Format → List FactEdit → Tables → Tables
+with_fact_edits format edits made = with_facts_in format (after_all with_fact_edit edits (facts_in format made)) made
+
+-- the tables with the rows of a command's edits, in the format that they have
+abbrev pub with_rows_edited : Edits → Tables → Tables
+with_rows_edited edits made = with_facts edits (with_dimensions edits (with_commands edits made))
 
 -- a crash leaves the one tables or the other
 abbrev pub LeavesEither : Tables → Tables → State → Type 0

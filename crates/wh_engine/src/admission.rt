@@ -1,16 +1,16 @@
 //! Whether a command is accepted, as far as the tables say.
 
-ghost use Rattle.std.specs.Prelude.{◌≡◌, ◌+◌, ◌*◌, ◌<◌, ◌≤◌, nat_le, [], length, false, is_some, IfOk};
+ghost use Rattle.std.specs.Prelude.{◌≡◌, ◌+◌, ◌-◌, ◌*◌, ◌<◌, ◌≤◌, nat_le, [], length, false, is_some, IfOk};
 ghost use Rattle.std.specs.FinMap.{len};
 ghost use Rattle.std.specs.List.{list_any};
-ghost use Rattle.wh_history.specs.Accepted.{Content, Sells, sold, sold_by};
-ghost use Rattle.wh_store.specs.Reads.{SaysInFormat};
-ghost use Rattle.wh_admission.specs.Admission.{changes_in, first_line_there, number_for};
+ghost use Rattle.wh_history.specs.Accepted.{Content, Sells, format_of, sold, sold_by};
+ghost use Rattle.wh_rows.specs.Facts.{facts_in};
+ghost use Rattle.wh_admission.specs.Admission.{changes_in, first_line_there, number_for, upgrades_again};
 ghost use Rattle.wh_engine.specs.Decided.{HasNoCommand, receipt_of_known};
 ghost use Rattle.wh_model.specs.Defined.{command_at};
 ghost use Rattle.wh_engine.specs.Faults.{Judges};
 ghost use Rattle.wh_model.specs.Sound.{same_line};
-ghost use Rattle.wh_engine.specs.Scanned.{Reads, ReadsOnlyIn, WhenAccepted, WhenOfCommands, WhenStored};
+ghost use Rattle.wh_engine.specs.Scanned.{Reads, ReadsOnlyIn, WhenAccepted, WhenAtRest, WhenOfCommands, WhenStored};
 
 use crate::fault::Fault;
 use sqlite::Alter;
@@ -18,7 +18,7 @@ use std::alloc::Global;
 use wh_admission::{Command, Limit, Receipt, Refused};
 use wh_batch::MOST_RECORDS;
 use wh_day::Value;
-use wh_policy::SaleRecord;
+use wh_policy::{Format, SaleRecord};
 use wh_rows::{Cause, CommandRow, Limits, LineKey, tables};
 use wh_store::{KeyedTable, ReadFault, Tables};
 
@@ -26,9 +26,7 @@ use wh_store::{KeyedTable, ReadFault, Tables};
 pub(crate) fn receipt_of_known(row: &CommandRow, command: &Command) -> Result<Receipt, Refused>
     ensures { result ≡ receipt_of_known row.now command.now }
 {
-    if row.kind.as_str() == command.kind.word()
-        && row.bytes.as_slice() == command.bytes.as_slice()
-    {
+    if row.kind.as_str() == command.kind.word() && row.bytes.as_slice() == command.kept_bytes() {
         return Ok(Receipt {
             number: row.number,
             records: row.records,
@@ -36,6 +34,13 @@ pub(crate) fn receipt_of_known(row: &CommandRow, command: &Command) -> Result<Re
         });
     }
     Err(Refused::Reused)
+}
+
+/// Whether there is room under a limit for so many more than are kept.
+fn has_room_left(limit: u64, kept: u64, records: u64) -> bool
+    ensures { result ≡ nat_le records (limit - kept) }
+{
+    records <= limit.saturating_sub(kept)
 }
 
 /// Whether there is room for so many more rows of a table that a limit counts. They are counted only where full batches
@@ -48,30 +53,51 @@ fn has_room_for<T: KeyedTable, S: Alter>(
     records: u64,
 ) -> Result<bool, ReadFault>
     ensures reads { ReadsOnlyIn S.Store tables.old tables.new result }
-    ensures room { SaysInFormat S.Store T.name tables.old tables.new (λ t. IfOk result (λ room. len (T.rows t) ≤ commands * 5000 → len (T.rows t) ≤ limit → room ≡ nat_le (len (T.rows t) + records) limit)) }
+    ensures room { WhenAtRest S.Store tables.old tables.new (λ t. IfOk result (λ room. len (T.rows t) ≤ commands * 5000 → len (T.rows t) ≤ limit → room ≡ nat_le (len (T.rows t) + records) limit)) }
 {
     let most = commands.saturating_mul(u64::from(MOST_RECORDS));
-    if records <= limit.saturating_sub(most) {
+    if has_room_left(limit, most, records) {
         return Ok(true);
     }
     let kept = tables.count::<T>(alloc)?;
-    Ok(records <= limit.saturating_sub(kept))
+    Ok(has_room_left(limit, kept, records))
+}
+
+/// The same of the facts of a format.
+fn has_room_for_facts<S: Alter>(
+    tables: &mut Tables<S>,
+    alloc: Global,
+    format: Format,
+    limit: u64,
+    commands: u64,
+    records: u64,
+) -> Result<bool, ReadFault>
+    ensures reads { ReadsOnlyIn S.Store tables.old tables.new result }
+    ensures room { WhenAtRest S.Store tables.old tables.new (λ t. IfOk result (λ room. len (facts_in format t) ≤ commands * 5000 → len (facts_in format t) ≤ limit → room ≡ nat_le (len (facts_in format t) + records) limit)) }
+{
+    let most = commands.saturating_mul(u64::from(MOST_RECORDS));
+    if has_room_left(limit, most, records) {
+        return Ok(true);
+    }
+    let kept = tables.count_facts(alloc, format)?;
+    Ok(has_room_left(limit, kept, records))
 }
 
 /// Whether a fact with a sale's ticket and line is stored.
 fn is_line_there<S: Alter>(
     tables: &mut Tables<S>,
     alloc: Global,
+    format: Format,
     sale: &SaleRecord,
 ) -> Result<bool, ReadFault>
     ensures reads { ReadsOnlyIn S.Store tables.old tables.new result }
-    ensures there { WhenOfCommands S.Store tables.old tables.new (λ _ commands. IfOk result (λ there. there ≡ list_any (λ s. same_line s sale.now) (sold commands))) }
+    ensures there { WhenOfCommands S.Store tables.old tables.new (λ _ commands. format ≡ format_of commands → IfOk result (λ there. there ≡ list_any (λ s. same_line s sale.now) (sold commands))) }
 {
     let key = LineKey {
         ticket: Value::new(alloc, sale.ticket.as_str())?,
         line: sale.line,
     };
-    let fact = tables.get::<tables::Fact>(alloc, &key)?;
+    let fact = tables.fact(alloc, format, &key)?;
     Ok(fact.is_some())
 }
 
@@ -79,13 +105,14 @@ fn is_line_there<S: Alter>(
 fn first_line_there<S: Alter>(
     tables: &mut Tables<S>,
     alloc: Global,
+    format: Format,
     sales: &[SaleRecord],
 ) -> Result<Option<u64>, ReadFault>
     ensures reads { ReadsOnlyIn S.Store tables.old tables.new result }
-    ensures there { WhenOfCommands S.Store tables.old tables.new (λ _ commands. IfOk result (λ there. there ≡ first_line_there (sold commands) 1 sales.now)) }
+    ensures there { WhenOfCommands S.Store tables.old tables.new (λ _ commands. format ≡ format_of commands → IfOk result (λ there. there ≡ first_line_there (sold commands) 1 sales.now)) }
 {
     for (place, sale) in sales.iter().enumerate() {
-        if is_line_there(tables, alloc, sale)? {
+        if is_line_there(tables, alloc, format, sale)? {
             return Ok(Some(place as u64 + 1));
         }
     }
@@ -127,7 +154,7 @@ pub(crate) fn number_for_records<S: Alter>(
     ensures reads { Reads S.Store tables.old tables.new result }
     // Under the number that is given no command is stored, whoever wrote the rows.
     ensures free { WhenStored S.Store tables.old tables.new (λ stored. IfOk result (HasNoCommand stored)) }
-    ensures number { WhenAccepted S.Store tables.old tables.new limits (λ commands. (content : Content) → sold_by content ≡ [] → changes_in content ≡ records → Judges (λ number next. number ≡ next) result (number_for limits commands content)) }
+    ensures number { WhenAccepted S.Store tables.old tables.new limits (λ commands. (content : Content) → sold_by content ≡ [] → changes_in content ≡ records → upgrades_again commands content ≡ false → Judges (λ number next. number ≡ next) result (number_for limits commands content)) }
 {
     let commands = tables.count::<tables::Command>(alloc)?;
     if limits.commands() <= commands {
@@ -144,23 +171,24 @@ pub(crate) fn number_for_records<S: Alter>(
 pub(crate) fn number_for_sales<S: Alter>(
     tables: &mut Tables<S>,
     alloc: Global,
+    format: Format,
     limits: Limits,
     sales: &[SaleRecord],
 ) -> Result<u64, Fault>
     ensures reads { Reads S.Store tables.old tables.new result }
     // Under the number that is given no command is stored, whoever wrote the rows.
     ensures free { WhenStored S.Store tables.old tables.new (λ stored. IfOk result (HasNoCommand stored)) }
-    ensures number { WhenAccepted S.Store tables.old tables.new limits (λ commands. Judges (λ number next. number ≡ next) result (number_for limits commands (Sells sales.now))) }
+    ensures number { WhenAccepted S.Store tables.old tables.new limits (λ commands. format ≡ format_of commands → Judges (λ number next. number ≡ next) result (number_for limits commands (Sells sales.now))) }
 {
     let commands = tables.count::<tables::Command>(alloc)?;
     if limits.commands() <= commands {
         return Err(Fault::Refused(Refused::Full(Limit::Commands)));
     }
-    if let Some(number) = first_line_there(tables, alloc, sales)? {
+    if let Some(number) = first_line_there(tables, alloc, format, sales)? {
         return Err(Fault::Refused(Refused::LineThere(number)));
     }
     let count = sales.len() as u64;
-    if !has_room_for::<tables::Fact, S>(tables, alloc, limits.facts(), commands, count)? {
+    if !has_room_for_facts(tables, alloc, format, limits.facts(), commands, count)? {
         return Err(Fault::Refused(Refused::Full(Limit::Facts)));
     }
     let number = free_number(tables, alloc, commands + 1)?;

@@ -1,9 +1,8 @@
 //! Whether what is stored is what its commands define: a second warehouse is sent them, and its tables are compared with those that are stored.
 
 ghost use Rattle.std.specs.Prelude.{◌≡◌, ◌≤◌, List, false, Some, IfOk, IfErr};
-ghost use Rattle.wh_history.specs.Accepted.{Accepted};
+ghost use Rattle.wh_history.specs.Accepted.{Accepted, format_of};
 ghost use Rattle.wh_history.specs.Tables.{Limits as LimitCounts};
-ghost use Rattle.wh_policy.specs.declared.format.Format.TheVariants.{One};
 ghost use Rattle.wh_rows.specs.Tables.{Tables as TenTables};
 ghost use Rattle.wh_store.specs.Faithful.{RestsFaithfully};
 ghost use Rattle.wh_store.specs.Reads.{IsServed, NamesDamage};
@@ -20,35 +19,36 @@ use crate::replica::make_replica;
 use sqlite::Alter;
 use std::alloc::Global;
 use wh_check::{Verdict, holds_the_same, limits_said};
+use wh_policy::Format;
 use wh_rows::{Table, tables};
 use wh_store::{ReadFault, Tables};
 
-/// Whether a table stores what the commands define whose tables the second warehouse holds.
+/// Whether a table stores what the commands define whose tables the second warehouse holds, both of this format.
 fn is_defined_in<S: Alter, M: Alter>(
     tables: &mut Tables<S>,
     alloc: Global,
+    format: Format,
     replica: &mut Tables<M>,
     table: Table,
 ) -> Result<bool, ReadFault>
     ensures reads { ReadsOnlyIn S.Store tables.old tables.new result }
     ensures rests { (t : TenTables) → RestsFaithfully M.Store (Some t) replica.old.conn → IfOk result (λ _. RestsFaithfully M.Store (Some t) replica.new.conn) }
-    ensures defined { WhenStored S.Store tables.old tables.new (λ stored. stored.format ≡ One → (limits : LimitCounts) (commands : List Accepted) → HoldsAll M.Store limits commands replica.old → IfOk result (IsDefinedIn limits commands stored table)) }
+    ensures defined { WhenStored S.Store tables.old tables.new (λ stored. stored.format ≡ format → (limits : LimitCounts) (commands : List Accepted) → format ≡ format_of commands → HoldsAll M.Store limits commands replica.old → IfOk result (IsDefinedIn limits commands stored table)) }
     ensures damaged { WhenStored S.Store tables.old tables.new (λ stored. IfErr result (IsOfDamageIn stored table)) }
 {
     match table {
-        Table::Meta => holds_the_same::<tables::Meta, S, M>(tables, alloc, replica),
-        Table::Command => holds_the_same::<tables::Command, S, M>(tables, alloc, replica),
-        Table::Member => holds_the_same::<tables::Member, S, M>(tables, alloc, replica),
-        Table::Change => holds_the_same::<tables::Change, S, M>(tables, alloc, replica),
-        Table::Product => holds_the_same::<tables::Product, S, M>(tables, alloc, replica),
-        Table::Store => holds_the_same::<tables::Store, S, M>(tables, alloc, replica),
-        Table::Customer => holds_the_same::<tables::Customer, S, M>(tables, alloc, replica),
-        Table::Profile => holds_the_same::<tables::Profile, S, M>(tables, alloc, replica),
-        Table::Calendar => holds_the_same::<tables::Calendar, S, M>(tables, alloc, replica),
-        Table::Fact => holds_the_same::<tables::Fact, S, M>(tables, alloc, replica),
-        // The first format hasn't these.
-        Table::Fact2 => Ok(true),
-        Table::Void => Ok(true),
+        Table::Meta => holds_the_same::<tables::Meta, S, M>(tables, alloc, format, replica),
+        Table::Command => holds_the_same::<tables::Command, S, M>(tables, alloc, format, replica),
+        Table::Member => holds_the_same::<tables::Member, S, M>(tables, alloc, format, replica),
+        Table::Change => holds_the_same::<tables::Change, S, M>(tables, alloc, format, replica),
+        Table::Product => holds_the_same::<tables::Product, S, M>(tables, alloc, format, replica),
+        Table::Store => holds_the_same::<tables::Store, S, M>(tables, alloc, format, replica),
+        Table::Customer => holds_the_same::<tables::Customer, S, M>(tables, alloc, format, replica),
+        Table::Profile => holds_the_same::<tables::Profile, S, M>(tables, alloc, format, replica),
+        Table::Calendar => holds_the_same::<tables::Calendar, S, M>(tables, alloc, format, replica),
+        Table::Fact => holds_the_same::<tables::Fact, S, M>(tables, alloc, format, replica),
+        Table::Fact2 => holds_the_same::<tables::Fact2, S, M>(tables, alloc, format, replica),
+        Table::Void => holds_the_same::<tables::Void, S, M>(tables, alloc, format, replica),
     }
 }
 
@@ -76,41 +76,50 @@ fn table_at(place: u8) -> Table
 fn judge_tables<S: Alter, M: Alter>(
     tables: &mut Tables<S>,
     alloc: Global,
+    format: Format,
     replica: &mut Tables<M>,
 ) -> Result<Verdict, ReadFault>
     ensures reads { ReadsOnlyIn S.Store tables.old tables.new result }
-    ensures judged { WhenStored S.Store tables.old tables.new (λ stored. stored.format ≡ One → (limits : LimitCounts) (commands : List Accepted) → HoldsAll M.Store limits commands replica.old → SaysCommands stored limits commands → IsJudged stored result) }
+    ensures judged { WhenStored S.Store tables.old tables.new (λ stored. stored.format ≡ format → (limits : LimitCounts) (commands : List Accepted) → HoldsAll M.Store limits commands replica.old → SaysCommands stored limits commands → IsJudged stored result) }
 {
     'tables: for place in 2..12u8 {
         let table = table_at(place);
-        if !is_defined_in(tables, alloc, replica, table)? {
+        if !is_defined_in(tables, alloc, format, replica, table)? {
             return Ok(Verdict::Wrong(table));
         }
     }
     Ok(Verdict::Clean)
 }
 
-/// What is found of the tables.
-fn judge<S: Alter>(tables: &mut Tables<S>, alloc: Global) -> Result<Verdict, ReadFault>
+/// What is found of the tables, which are of this format.
+fn judge<S: Alter>(
+    tables: &mut Tables<S>,
+    alloc: Global,
+    format: Format,
+) -> Result<Verdict, ReadFault>
     ensures reads { SparesIn S.Store tables.old tables.new (IsServed result) }
-    ensures judged { WhenStored S.Store tables.old tables.new (λ stored. stored.format ≡ One → IsJudged stored result) }
+    ensures judged { WhenStored S.Store tables.old tables.new (λ stored. stored.format ≡ format → IsJudged stored result) }
     ensures named { WhenStored S.Store tables.old tables.new (λ stored. IfErr result (NamesDamage stored)) }
 {
-    let Some(limits) = limits_said(tables, alloc)? else {
+    let Some(limits) = limits_said(tables, alloc, format)? else {
         return Ok(Verdict::Wrong(Table::Meta));
     };
-    let Some(mut replica) = make_replica(tables, alloc, limits)? else {
+    let Some(mut replica) = make_replica(tables, alloc, format, limits)? else {
         return Ok(Verdict::Wrong(Table::Command));
     };
-    judge_tables(tables, alloc, &mut replica)
+    judge_tables(tables, alloc, format, &mut replica)
 }
 
 /// The same, with the engine's faults.
-fn check_tables<S: Alter>(tables: &mut Tables<S>, alloc: Global) -> Result<Verdict, Fault>
+fn check_tables<S: Alter>(
+    tables: &mut Tables<S>,
+    alloc: Global,
+    format: Format,
+) -> Result<Verdict, Fault>
     ensures reads { Reads S.Store tables.old tables.new result }
-    ensures checked { WhenStored S.Store tables.old tables.new (λ stored. stored.format ≡ One → IsChecked stored result) }
+    ensures checked { WhenStored S.Store tables.old tables.new (λ stored. stored.format ≡ format → IsChecked stored result) }
 {
-    let verdict = judge(tables, alloc)?;
+    let verdict = judge(tables, alloc, format)?;
     Ok(verdict)
 }
 
@@ -120,13 +129,13 @@ impl<S: Alter> Engine<S> {
     /// it answers `Reopen`.
     pub fn check(&mut self, alloc: Global) -> Result<Verdict, Fault>
         ensures reads { EngineReads S.Store self.old self.new result }
-        ensures checked { self.old.session.must_reopen ≡ false → WhenStored S.Store self.old.tables self.new.tables (λ stored. stored.format ≡ One → IsChecked stored result) }
+        ensures checked { self.old.session.must_reopen ≡ false → WhenStored S.Store self.old.tables self.new.tables (λ stored. stored.format ≡ self.old.session.format → IsChecked stored result) }
         ensures sound { WhenReady S.Store self.old self.new (λ limits commands. IsCheckedOf limits commands result) }
     {
         if self.session.must_reopen {
             return Err(Fault::Reopen);
         }
-        let verdict = check_tables(&mut self.tables, alloc);
+        let verdict = check_tables(&mut self.tables, alloc, self.session.format);
         self.session.must_reopen = stops(&verdict);
         verdict
     }

@@ -1,7 +1,7 @@
 //! How much a warehouse holds.
 
 ghost use Rattle.std.specs.Prelude.{◌≡◌, List, length, Ok, IfOk};
-ghost use Rattle.wh_history.specs.Accepted.{Accepted, members};
+ghost use Rattle.wh_history.specs.Accepted.{Accepted, format_of, members};
 ghost use Rattle.wh_history.specs.Tables.{Limits};
 ghost use Rattle.wh_engine.specs.Answered.{IsCounted, CountsStored, counts_of};
 ghost use Rattle.wh_engine.specs.Faults.{Judges};
@@ -14,7 +14,7 @@ use crate::fault::{Fault, stops};
 use sqlite::Alter;
 use std::alloc::Global;
 use wh_plan::reading::last_member;
-use wh_policy::Dim;
+use wh_policy::{Dim, Format};
 use wh_rows::tables;
 use wh_store::Tables;
 
@@ -41,20 +41,24 @@ fn members_of<S: Alter>(tables: &mut Tables<S>, alloc: Global, dim: Dim) -> Resu
     Ok(last.durable)
 }
 
-/// The rows that are there.
-fn counts_of<S: Alter>(tables: &mut Tables<S>, alloc: Global) -> Result<Counts, Fault>
+/// The rows that are there, the facts in the table of this format.
+fn counts_of<S: Alter>(
+    tables: &mut Tables<S>,
+    alloc: Global,
+    format: Format,
+) -> Result<Counts, Fault>
     ensures reads { Reads S.Store tables.old tables.new result }
-    ensures counts { WhenAtRest S.Store tables.old tables.new (λ t. (limits : Limits) (commands : List Accepted) → AreOf limits commands t → IsAccepted limits commands → Judges (λ counts told. counts ≡ told) result (Ok (counts_of commands))) }
-    ensures stored { WhenStored S.Store tables.old tables.new (λ stored. IfOk result (CountsStored stored)) }
+    ensures counts { WhenAtRest S.Store tables.old tables.new (λ t. (limits : Limits) (commands : List Accepted) → AreOf limits commands t → IsAccepted limits commands → format ≡ format_of commands → Judges (λ counts told. counts ≡ told) result (Ok (counts_of commands))) }
+    ensures stored { WhenStored S.Store tables.old tables.new (λ stored. IfOk result (CountsStored format stored)) }
 {
     let commands = tables.count::<tables::Command>(alloc)?;
     let changes = tables.count::<tables::Change>(alloc)?;
-    let facts = tables.count::<tables::Fact>(alloc)?;
+    let facts = tables.count_facts(alloc, format)?;
     let products = members_of(tables, alloc, Dim::Product)?;
     let stores = members_of(tables, alloc, Dim::Store)?;
     let customers = members_of(tables, alloc, Dim::Customer)?;
     Ok(Counts {
-        format: 1,
+        format: format.number(),
         commands,
         changes,
         facts,
@@ -70,12 +74,12 @@ impl<S: Alter> Engine<S> {
         ensures reads { EngineReads S.Store self.old self.new result }
         ensures counted { WhenReady S.Store self.old self.new (λ limits commands. IsCounted limits commands result) }
         // Of any rows, whoever wrote them: how many are stored, damaged or not.
-        ensures stored { WhenStored S.Store self.old.tables self.new.tables (λ stored. IfOk result (CountsStored stored)) }
+        ensures stored { WhenStored S.Store self.old.tables self.new.tables (λ stored. IfOk result (CountsStored self.old.session.format stored)) }
     {
         if self.session.must_reopen {
             return Err(Fault::Reopen);
         }
-        let counts = counts_of(&mut self.tables, alloc);
+        let counts = counts_of(&mut self.tables, alloc, self.session.format);
         self.session.must_reopen = stops(&counts);
         counts
     }

@@ -1,15 +1,15 @@
 //! What is to be done about a command: the reads, and nothing written.
 
-ghost use Rattle.std.specs.Prelude.{◌≡◌, true, List, None, Some, Ok, IfOk};
+ghost use Rattle.std.specs.Prelude.{◌≡◌, Bool, true, List, None, Some, Ok, IfOk};
 ghost use Rattle.wh_batch.specs.declared.kind.Kind.TheVariants.{Dimension, Sales};
 ghost use Rattle.wh_policy.specs.declared.policy.Policy.{Policy};
-ghost use Rattle.wh_history.specs.Accepted.{Accepted, Sells};
+ghost use Rattle.wh_history.specs.Accepted.{Accepted, Sells, format_of};
 ghost use Rattle.wh_rows.specs.Raw.{Stored};
 ghost use Rattle.wh_rows.specs.Types.{is_key};
 ghost use Rattle.wh_admission.specs.Admission.{content_of, current_policy, policy_told, records_told, sales_told};
 ghost use Rattle.wh_engine.specs.Decided.{row_of_command, IsNew, IsDecided, IsDecidedNew, reply_to_known, Brings, Decides, RepeatsKept, WritesItsRow};
-ghost use Rattle.wh_batch.specs.declared.kind.CommandKind.TheVariants.{Batch, Migration};
-ghost use Rattle.wh_engine.specs.Faults.{BlamesDamage, IsWorkedOut, Judges};
+ghost use Rattle.wh_batch.specs.declared.kind.CommandKind.TheVariants.{Batch, Migration, Upgrade};
+ghost use Rattle.wh_engine.specs.Faults.{BlamesDamage, IsWorkedOut, Judges, TellsTaken};
 ghost use Rattle.wh_engine.specs.Scanned.{Reads, WhenStored};
 ghost use Rattle.wh_engine.specs.Serving.{Works};
 
@@ -22,9 +22,9 @@ use std::alloc::{AllocError, Global};
 use wh_admission::{Command, Receipt, Refused};
 use wh_batch::{CommandKind, DimensionRecords, Kind, SaleRecords, dimension_records, sale_records};
 use wh_day::{ParseError, Value, is_key};
-use wh_migration::plan_migration;
+use wh_migration::{plan_migration, plan_upgrade};
 use wh_plan::reading::command_of;
-use wh_plan::{Edits, plan_batch, plan_sales};
+use wh_plan::{Edits, Terms, plan_batch, plan_sales};
 use wh_policy::{Dim, Format, Policy, SaleRecord};
 use wh_rows::CommandRow;
 use wh_store::Tables;
@@ -47,6 +47,7 @@ fn records_of(
 ) -> Result<DimensionRecords, Fault>
     ensures read { Judges (λ records told. records ≡ told) result (records_told dim policy.now bytes.now) }
     ensures blames { (stored : Stored) → BlamesDamage stored result }
+    ensures taken { (taken : Bool) → TellsTaken taken result }
     ensures work { IsWorkedOut result }
 {
     match dimension_records(alloc, dim, policy, bytes) {
@@ -57,12 +58,18 @@ fn records_of(
 }
 
 /// The sales of a batch.
-fn sales_of(alloc: Global, policy: &Policy, bytes: &[u8]) -> Result<SaleRecords, Fault>
-    ensures read { Judges (λ sales told. sales ≡ told) result (sales_told policy.now bytes.now) }
+fn sales_of(
+    alloc: Global,
+    format: Format,
+    policy: &Policy,
+    bytes: &[u8],
+) -> Result<SaleRecords, Fault>
+    ensures read { Judges (λ sales told. sales ≡ told) result (sales_told format policy.now bytes.now) }
     ensures blames { (stored : Stored) → BlamesDamage stored result }
+    ensures taken { (taken : Bool) → TellsTaken taken result }
     ensures work { IsWorkedOut result }
 {
-    match sale_records(alloc, policy, Format::One, bytes) {
+    match sale_records(alloc, policy, format, bytes) {
         Ok(sales) => Ok(sales),
         Err(ParseError::Fault(fault)) => Err(Fault::Refused(Refused::Batch(fault))),
         Err(ParseError::Memory) => Err(Fault::Memory),
@@ -73,6 +80,7 @@ fn sales_of(alloc: Global, policy: &Policy, bytes: &[u8]) -> Result<SaleRecords,
 fn policy_of(alloc: Global, older: &Policy, bytes: &[u8]) -> Result<Policy, Fault>
     ensures read { Judges (λ newer told. newer ≡ told) result (policy_told older.now bytes.now) }
     ensures blames { (stored : Stored) → BlamesDamage stored result }
+    ensures taken { (taken : Bool) → TellsTaken taken result }
     ensures work { IsWorkedOut result }
 {
     let newer = match Policy::read(alloc, bytes) {
@@ -99,7 +107,7 @@ fn command_row(
         number,
         id: command.id.copy()?,
         kind: Value::new(alloc, command.kind.word())?,
-        bytes: Bytes::from_slice(alloc, command.bytes.as_slice())?,
+        bytes: Bytes::from_slice(alloc, command.kept_bytes())?,
         records,
         placeholders: 0,
     })
@@ -125,7 +133,11 @@ fn decide_records<S: Alter>(
         Err(fault) => return Err(fault),
     };
     let row = command_row(alloc, command, number, count)?;
-    let edits = plan_batch(tables, alloc, &session.policy, dim, row, records.as_slice())?;
+    let terms = Terms {
+        format: session.format,
+        policy: &session.policy,
+    };
+    let edits = plan_batch(tables, alloc, &terms, dim, row, records.as_slice())?;
     let receipt = Receipt {
         number,
         records: count,
@@ -144,17 +156,21 @@ fn decide_sold<S: Alter>(
 ) -> Result<Decision, Fault>
     ensures reads { Reads S.Store tables.old tables.new result }
     ensures decided { Works S.Store tables.old tables.new session.now (λ commands. is_key 40 command.now.id ≡ true → IsNew commands command.now
-        → content_of command.now.kind (current_policy commands) command.now.bytes ≡ Ok (Sells sales.now)
+        → content_of command.now.kind (format_of commands) (current_policy commands) command.now.bytes ≡ Ok (Sells sales.now)
         → IsDecided session.now command.now result commands) }
     ensures brings { command.now.kind ≡ Batch Sales → IfOk result (Brings session.now.policy command.now) }
     ensures own { IfOk result WritesItsRow }
 {
-    let number = match number_for_sales(tables, alloc, session.limits, sales) {
+    let number = match number_for_sales(tables, alloc, session.format, session.limits, sales) {
         Ok(number) => number,
         Err(fault) => return Err(fault),
     };
     let row = command_row(alloc, command, number, sales.len() as u64)?;
-    let edits = plan_sales(tables, alloc, &session.policy, row, sales)?;
+    let terms = Terms {
+        format: session.format,
+        policy: &session.policy,
+    };
+    let edits = plan_sales(tables, alloc, &terms, row, sales)?;
     let receipt = Receipt {
         number,
         records: sales.len() as u64,
@@ -175,7 +191,12 @@ fn decide_sales<S: Alter>(
     ensures brings { command.now.kind ≡ Batch Sales → IfOk result (Brings session.now.policy command.now) }
     ensures own { IfOk result WritesItsRow }
 {
-    let sales = sales_of(alloc, &session.policy, command.bytes.as_slice())?;
+    let sales = sales_of(
+        alloc,
+        session.format,
+        &session.policy,
+        command.bytes.as_slice(),
+    )?;
     decide_sold(tables, alloc, session, command, sales.as_slice())
 }
 
@@ -197,13 +218,49 @@ fn decide_migration<S: Alter>(
         Err(fault) => return Err(fault),
     };
     let row = command_row(alloc, command, number, 0)?;
-    let edits = plan_migration(tables, alloc, &session.policy, &newer, row)?;
+    let terms = Terms {
+        format: session.format,
+        policy: &session.policy,
+    };
+    let edits = plan_migration(tables, alloc, &terms, &newer, row)?;
     let receipt = Receipt {
         number,
         records: 0,
         placeholders: 0,
     };
     Ok(Decision::Accept(receipt, edits, Some(newer)))
+}
+
+/// What is to be done about an upgrade whose id is new.
+fn decide_upgrade<S: Alter>(
+    tables: &mut Tables<S>,
+    alloc: Global,
+    session: &Session,
+    command: &Command,
+) -> Result<Decision, Fault>
+    ensures reads { Reads S.Store tables.old tables.new result }
+    ensures decided { Works S.Store tables.old tables.new session.now (λ commands. command.now.kind ≡ Upgrade → IsDecidedNew session.now command.now result commands) }
+    ensures brings { command.now.kind ≡ Upgrade → IfOk result (Brings session.now.policy command.now) }
+    ensures own { IfOk result WritesItsRow }
+{
+    let number = match number_for_records(tables, alloc, session.limits, 0) {
+        Ok(number) => number,
+        Err(fault) => return Err(fault),
+    };
+    if session.format == Format::Two {
+        return Err(Fault::Refused(Refused::Upgraded));
+    }
+    if tables.is_second_taken() {
+        return Err(Fault::Refused(Refused::NameTaken));
+    }
+    let row = command_row(alloc, command, number, 0)?;
+    let edits = plan_upgrade(tables, alloc, row)?;
+    let receipt = Receipt {
+        number,
+        records: 0,
+        placeholders: 0,
+    };
+    Ok(Decision::Accept(receipt, edits, None))
 }
 
 /// What is to be done about a command whose id is new.
@@ -224,6 +281,7 @@ fn decide_new<S: Alter>(
         }
         CommandKind::Batch(Kind::Sales) => decide_sales(tables, alloc, session, command),
         CommandKind::Migration => decide_migration(tables, alloc, session, command),
+        CommandKind::Upgrade => decide_upgrade(tables, alloc, session, command),
     }
 }
 
@@ -233,6 +291,7 @@ fn decide_known(row: &CommandRow, command: &Command) -> Result<Decision, Fault>
     ensures brings { (policy : Policy) → IfOk result (Brings policy command.now) }
     ensures known { (commands : List Accepted) → Judges (Decides commands command.now) result (reply_to_known row.now command.now) }
     ensures blames { (stored : Stored) → BlamesDamage stored result }
+    ensures taken { (taken : Bool) → TellsTaken taken result }
 {
     match receipt_of_known(row, command) {
         Ok(receipt) => Ok(Decision::Repeat(receipt)),

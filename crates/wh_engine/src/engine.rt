@@ -1,8 +1,9 @@
 //! A warehouse that is open for commands.
 
 ghost use Rattle.std.specs.Prelude.{◌≡◌, false, Err};
-ghost use Rattle.wh_engine.specs.Answered.{IsAgain, IsAnswered, IsPerformed, IsWritten, IsGoverned, IsNotAccepted, IsNoted, KeepsNothing};
-ghost use Rattle.wh_engine.specs.Faults.{BlamesDamage, IsWorkedOut};
+ghost use Rattle.wh_engine.specs.Answered.{IsAgain, IsAnswered, IsPerformed, IsWritten, IsGoverned, IsFormatted, IsNotAccepted, IsNoted, KeepsNothing};
+ghost use Rattle.wh_store.specs.Reads.{is_second_taken, state_of};
+ghost use Rattle.wh_engine.specs.Faults.{BlamesDamage, IsWorkedOut, TellsTaken};
 ghost use Rattle.wh_engine.specs.Scanned.{Keeps, Shuts, WhenReady, WhenReadyOn, WhenStored};
 
 use crate::decision::{Decision, decide};
@@ -12,7 +13,7 @@ use crate::write::commit_edits;
 use sqlite::{Alter, Connection};
 use std::alloc::Global;
 use wh_admission::{Command, Reply};
-use wh_policy::Policy;
+use wh_policy::{Format, Policy};
 use wh_store::Tables;
 
 /// A warehouse that is open for commands, over one connection.
@@ -37,10 +38,12 @@ fn perform<S: Alter>(
     ensures blames { WhenStored S.Store tables.old tables.new (λ stored. BlamesDamage stored result) }
     ensures again { WhenStored S.Store tables.old tables.new (λ stored. IsAgain stored command.now result) }
     ensures work { IsWorkedOut result }
+    ensures taken { TellsTaken (is_second_taken (state_of S.Store tables.new).now.schema) result }
     ensures written { WhenReadyOn S.Store tables.old tables.new session.old session.new (λ limits commands _ _. IsWritten limits commands command.now result writes.new) }
     ensures silent { IsNotAccepted result → writes.new ≡ 0 }
     ensures limits { session.new.limits ≡ session.old.limits }
     ensures policy { IsGoverned session.old.policy session.new.policy command.now result }
+    ensures format { IsFormatted session.old.format session.new.format command.now result }
 {
     *writes = 0;
     match decide(tables, alloc, session, command) {
@@ -48,7 +51,7 @@ fn perform<S: Alter>(
         Ok(Decision::Accept(receipt, edits, newer)) => match commit_edits(tables, alloc, &edits) {
             Ok(count) => {
                 *writes = count;
-                session.govern(newer);
+                session.govern(command.kind, newer);
                 Ok(Reply::Accepted(receipt))
             }
             Err(cause) => Err(Fault::Store(cause)),
@@ -58,6 +61,13 @@ fn perform<S: Alter>(
 }
 
 impl<S: Alter> Engine<S> {
+    /// The format of the warehouse.
+    pub fn format(&self) -> Format
+        ensures { result ≡ self.now.session.format }
+    {
+        self.session.format
+    }
+
     /// The policy in force.
     pub fn policy(&self) -> &Policy
         ensures { result.now ≡ self.now.session.policy }
@@ -96,8 +106,10 @@ impl<S: Alter> Engine<S> {
         ensures blames { WhenStored S.Store self.old.tables self.new.tables (λ stored. BlamesDamage stored result) }
         // That a command came again is answered only where an undamaged row is stored with its id, kind and bytes; the receipt is that row's.
         ensures again { WhenStored S.Store self.old.tables self.new.tables (λ stored. IsAgain stored command.now result) }
+        // That a name of the second format is taken is told only where it is.
+        ensures taken { TellsTaken (is_second_taken (state_of S.Store self.new.tables).now.schema) result }
         ensures shuts { Shuts self.old self.new (result ≡ Err Fault.Reopen) }
-        // The limits stay, and so does the policy, but for that of an accepted migration.
+        // The limits stay, and so do the policy and the format, but for those of an accepted migration and upgrade.
         ensures noted { self.old.session.must_reopen ≡ false → IsNoted self.old.session self.new.session command.now result }
         // As many keys are written as its exact edits are, and none by an answer that accepts nothing.
         ensures written { WhenReady S.Store self.old self.new (λ limits commands _ _. IsWritten limits commands command.now result self.new.writes) }

@@ -7,7 +7,7 @@ ghost use Rattle.wh_policy.specs.Policy.{policy_at};
 ghost use Rattle.wh_rows.specs.AtRest.{IsAtRest};
 ghost use Rattle.wh_store.specs.Reads.{is_any_taken, are_all_there, state_of, SaysAtRest, SaysAsStored};
 ghost use Rattle.wh_store.specs.Opening.{IsServed, SparesStore};
-ghost use Rattle.wh_policy.specs.declared.format.Format.TheVariants.{One};
+ghost use Rattle.wh_policy.specs.declared.format.Format.TheVariants.{Two};
 ghost use Rattle.wh_policy.specs.Formats.{is_two};
 ghost use Rattle.wh_store.specs.Raw.{FormatIs};
 ghost use Rattle.wh_rows.specs.Raw.{RestsOn, LeavesStored};
@@ -81,7 +81,6 @@ fn policy_of(alloc: Global, commands: &[CommandRow]) -> Result<Policy, OpenFault
 
 /// The policy in force, which is that of the last command that gives one.
 fn policy_in<S: Alter>(tables: &mut Tables<S>, alloc: Global) -> Result<Policy, OpenFault>
-    ensures same_format { tables.new.format ≡ tables.old.format }
     ensures reads { SparesIn S.Store tables.old tables.new (IsServed result) }
     ensures read { WhenAtRest S.Store tables.old tables.new (λ t. IsRead result (of_command (last_policy_in t)) t (state_of S.Store tables.new)) }
     // The same of any rows, whoever wrote them: by the last that gives a policy.
@@ -92,13 +91,16 @@ fn policy_in<S: Alter>(tables: &mut Tables<S>, alloc: Global) -> Result<Policy, 
     policy_of(alloc, &last)
 }
 
-/// What an engine has to know of its warehouse.
-fn session_of<S: Alter>(tables: &mut Tables<S>, alloc: Global) -> Result<Session, OpenFault>
-    ensures same_format { tables.new.format ≡ tables.old.format }
+/// What an engine has to know of its warehouse, which is of this format.
+fn session_of<S: Alter>(
+    tables: &mut Tables<S>,
+    alloc: Global,
+    format: Format,
+) -> Result<Session, OpenFault>
     ensures reads { SparesIn S.Store tables.old tables.new (IsServed result) }
-    ensures read { WhenAtRest S.Store tables.old tables.new (λ t. IsRead result (session_in t) t (state_of S.Store tables.new)) }
+    ensures read { WhenAtRest S.Store tables.old tables.new (λ t. IsRead result (session_in format t) t (state_of S.Store tables.new)) }
     // The same of any rows, whoever wrote them: by the limits, and then by the last row that gives a policy.
-    ensures stored { WhenStored S.Store tables.old tables.new (λ stored. IfOk result (SessionIs stored)) }
+    ensures stored { WhenStored S.Store tables.old tables.new (λ stored. FormatIs Two (is_two stored.format) stored (Ok format) → IfOk result (SessionIs stored)) }
     ensures sessionless { WhenStored S.Store tables.old tables.new (λ stored. IfErr result (IsSessionless stored)) }
     ensures fresh { IfOk result (λ session. session.must_reopen ≡ false) }
 {
@@ -106,6 +108,7 @@ fn session_of<S: Alter>(tables: &mut Tables<S>, alloc: Global) -> Result<Session
     match policy_in(tables, alloc) {
         Ok(policy) => Ok(Session {
             limits,
+            format,
             policy,
             must_reopen: false,
         }),
@@ -148,6 +151,7 @@ impl<S: Alter> Engine<S> {
                 tables,
                 session: Session {
                     limits,
+                    format: Format::One,
                     policy: read,
                     must_reopen: false,
                 },
@@ -167,19 +171,17 @@ impl<S: Alter> Engine<S> {
         ensures found { IfOpened S.Store conn result (λ old new engine. SaysAtRest old new (λ t. (opened t ≡ Ok engine.session) × IsAtRest (Some t) new)) }
         ensures fault { IfHandedBack S.Store conn result (λ old new why. SaysAtRest old new (λ t. IsRead (Err why) (opened t) t new)) }
         // The same of any rows that are stored under the schema of a making: a damaged row that isn't asked for keeps nothing from opening.
-        ensures found_stored { IfOpened S.Store conn result (λ old new engine. SaysAsStored old new (λ stored. FormatIs One (is_two stored.format) stored (Ok engine.tables.format) × SessionIs stored engine.session × RestsOn stored new)) }
+        ensures found_stored { IfOpened S.Store conn result (λ old new engine. SaysAsStored old new (λ stored. SessionIs stored engine.session × RestsOn stored new)) }
         ensures fault_stored { IfHandedBack S.Store conn result (λ old new why. SaysAsStored old new (λ stored. IsUnopened stored why × LeavesStored stored new × (SparesStore why → RestsOn stored new))) }
-        // No other format is known.
-        ensures first { IfOk result (λ engine. engine.tables.format ≡ One) }
         ensures fresh { IfOk result (λ engine. (engine.session.must_reopen ≡ false) × (engine.writes ≡ 0)) }
         ensures within { IsTrue conn.in_transaction → result ≡ Err (OpenFault.Store Cause.Disk, conn) }
         ensures missing { conn.in_transaction ≡ false → are_all_there (state S.Store conn).now.schema ≡ false → result ≡ Err (OpenFault.NotAWarehouse, conn) }
     {
-        let mut tables = match Tables::open(alloc, conn, Format::One) {
-            Ok(tables) => tables,
+        let (mut tables, format) = match Tables::open(alloc, conn, Format::Two) {
+            Ok(opened) => opened,
             Err((fault, conn)) => return Err((fault, conn)),
         };
-        match session_of(&mut tables, alloc) {
+        match session_of(&mut tables, alloc, format) {
             Ok(session) => Ok(Engine {
                 tables,
                 session,

@@ -2,6 +2,8 @@
 
 ghost use Rattle.std.specs.Prelude.{IfOk};
 ghost use Rattle.wh_engine.specs.Answered.{IsForeseen, IsForetold, IsPlannedAgain};
+ghost use Rattle.wh_store.specs.Reads.{is_second_taken, state_of};
+ghost use Rattle.wh_engine.specs.Faults.{TellsTaken};
 ghost use Rattle.wh_engine.specs.Scanned.{EngineReads, Reads, WhenReady, WhenReadyOn, WhenStored};
 
 use crate::decision::{Decision, decide};
@@ -38,6 +40,8 @@ impl<S: Alter> Engine<S> {
     pub fn plan(&mut self, alloc: Global, command: &Command) -> Result<Edits, Fault>
         ensures reads { EngineReads S.Store self.old self.new result }
         ensures foretold { WhenReady S.Store self.old self.new (λ limits commands. IsForetold limits commands command.now result) }
+        // That a name of the second format is taken is told only where it is.
+        ensures taken { TellsTaken (is_second_taken (state_of S.Store self.new.tables).now.schema) result }
         // Nothing is planned only where an undamaged row is stored with the command's id, kind and bytes.
         ensures again { WhenStored S.Store self.old.tables self.new.tables (λ stored. IfOk result (IsPlannedAgain stored command.now)) }
     {

@@ -1,7 +1,8 @@
 //! A second warehouse, whose files lie in memory: it is made anew and sent each command that the command table tells, so that it holds what
 //! these define.
 
-ghost use Rattle.std.specs.Prelude.{◌≡◌, ◌&&◌, ◌==◌, List, [], true, Some, IfOk, IfErr};
+ghost use Rattle.std.specs.Prelude.{◌≡◌, ◌&&◌, ◌==◌, List, [], true, Some, bytes_eq, IfOk, IfErr};
+ghost use Rattle.wh_admission.specs.Admission.{bytes_kept};
 ghost use Rattle.sqlite.specs.Files.{over_files};
 ghost use Rattle.wh_history.specs.Accepted.{Accepted};
 ghost use Rattle.wh_history.specs.Tables.{Limits as LimitCounts};
@@ -18,6 +19,7 @@ use sqlite::Alter;
 use std::alloc::{AllocError, Global};
 use wh_admission::{Command, Receipt, Reply};
 use wh_batch::CommandKind;
+use wh_policy::Format;
 use wh_rows::{CommandRow, Limits, tables};
 use wh_store::{Cursor, ReadFault, Scratch, Tables, next_row, open_scratch};
 
@@ -58,6 +60,13 @@ fn says(receipt: Receipt, number: u64, records: u64, placeholders: u64) -> bool
     receipt.number == number && receipt.records == records && receipt.placeholders == placeholders
 }
 
+/// Whether all bytes of a command are kept.
+fn keeps_all(command: &Command) -> bool
+    ensures { result ≡ bytes_eq (bytes_kept command.now.kind command.now.bytes) command.now.bytes }
+{
+    command.kept_bytes() == command.bytes.as_slice()
+}
+
 /// Sends the second warehouse the command of a row, and tells whether it is the next one, and this its row.
 fn follow<M: Alter>(
     engine: &mut Engine<M>,
@@ -78,6 +87,9 @@ fn follow<M: Alter>(
         placeholders,
     } = row;
     let command = Command { id, kind, bytes };
+    if !keeps_all(&command) {
+        return Ok(false);
+    }
     match engine.apply(alloc, &command) {
         Ok(Reply::Accepted(receipt)) => Ok(says(receipt, number, records, placeholders)),
         Ok(Reply::Already(_)) => Ok(false),
@@ -122,28 +134,32 @@ impl Replica {
     }
 }
 
-/// The tables of the warehouse, where it has a command and each row was that of the next.
-fn tables_of(is_list: bool, replica: Replica) -> Option<Tables<Scratch>>
-    ensures { IsEndOf is_list replica.engine result }
+/// The tables of the warehouse, where it has a command, each row was that of the next, and it is of this format then.
+fn tables_of(format: Format, is_list: bool, replica: Replica) -> Option<Tables<Scratch>>
+    ensures { IsEndOf format is_list replica.engine result }
 {
     if !is_list {
         return None;
     }
-    match replica.engine {
-        Some(engine) => Some(engine.tables),
-        None => None,
+    let Some(engine) = replica.engine else {
+        return None;
+    };
+    if engine.session.format != format {
+        return None;
     }
+    Some(engine.tables)
 }
 
 /// Tables of a second warehouse that are those of the commands which the command table tells, where it tells a list that was admitted under
-/// these limits, with the receipts that were kept. It is read to its end, so that a damaged row is met wherever it stands.
+/// these limits, with the receipts that were kept, and makes this format. It is read to its end, so that a damaged row is met wherever it stands.
 pub(crate) fn make_replica<S: Alter>(
     tables: &mut Tables<S>,
     alloc: Global,
+    format: Format,
     limits: Limits,
 ) -> Result<Option<Tables<Scratch>>, ReadFault>
     ensures reads { ReadsOnlyIn S.Store tables.old tables.new result }
-    ensures replicated { WhenStored S.Store tables.old tables.new (λ stored. IfOk result (IsReplicated over_files stored limits)) }
+    ensures replicated { WhenStored S.Store tables.old tables.new (λ stored. stored.format ≡ format → IfOk result (IsReplicated over_files stored limits)) }
     ensures damaged { WhenStored S.Store tables.old tables.new (λ stored. IfErr result (IsOfDamage row.command OfCommand (stored.rows OfCommand))) }
 {
     // Each is from 1 to its greatest, as these calls say.
@@ -152,13 +168,13 @@ pub(crate) fn make_replica<S: Alter>(
     let mut replica = Replica::new(limits);
     let mut is_list = true;
     'rows: for _ in 0..u64::MAX {
-        match next_row::<tables::Command, S>(tables, alloc, &mut cursor)? {
+        match next_row::<tables::Command, S>(tables, alloc, format, &mut cursor)? {
             Some(row) => {
                 if is_list {
                     is_list = replica.take_row(alloc, row)?;
                 }
             }
-            None => return Ok(tables_of(is_list, replica)),
+            None => return Ok(tables_of(format, is_list, replica)),
         }
     }
     Err(ReadFault::Memory)

@@ -17,21 +17,23 @@ use crate::fault::{Fault, stops};
 use crate::session::Session;
 use sqlite::Alter;
 use std::alloc::Global;
+use wh_policy::Format;
 use wh_store::{Cursor, PagedTable, Tables, next_row};
 
-/// The next row of a table. After a fault none comes.
+/// The next row of a table of a format. After a fault none comes.
 fn row_after<T: PagedTable, S: Alter>(
     tables: &mut Tables<S>,
     alloc: Global,
+    format: Format,
     cursor: &mut Cursor<T::Key, T::Row>,
 ) -> Result<Option<T::Row>, Fault>
     ensures reads { Reads S.Store tables.old tables.new result }
     // The row is the next of the table's, and of its type, whoever wrote it.
-    ensures hands { HandsNext S.Store T.KeyedTable.name T.StoredTable.layout T.KeyedTable.bind T.StoredTable.rows tables.old tables.new cursor.old cursor.new result }
+    ensures hands { HandsNext S.Store T.KeyedTable.name T.StoredTable.layout T.KeyedTable.bind T.StoredTable.rows format tables.old tables.new cursor.old cursor.new result }
     ensures sound { WhenAtRest S.Store tables.old tables.new (λ _. IfErr result IsWanting) }
     ensures ends { Ends tables.old tables.new cursor.old cursor.new result }
 {
-    let found = next_row::<T, S>(tables, alloc, cursor)?;
+    let found = next_row::<T, S>(tables, alloc, format, cursor)?;
     Ok(found)
 }
 
@@ -58,7 +60,7 @@ impl<'e, S: Alter, T: PagedTable> Scan<'e, S, T> {
         ensures same_reference { self.new.engine.ghost_name ≡ self.old.engine.ghost_name }
         ensures reads { EngineReadsThrough S.Store self.old.engine.now self.new.engine.now result }
         // The row is the next of the table's, and of its type, whoever wrote it.
-        ensures hands { HandsNext S.Store T.KeyedTable.name T.StoredTable.layout T.KeyedTable.bind T.StoredTable.rows self.old.engine.now.tables self.new.engine.now.tables self.old.cursor self.new.cursor result }
+        ensures hands { HandsNext S.Store T.KeyedTable.name T.StoredTable.layout T.KeyedTable.bind T.StoredTable.rows self.old.engine.now.session.format self.old.engine.now.tables self.new.engine.now.tables self.old.cursor self.new.cursor result }
         ensures ends { Ends self.old.engine.now.tables self.new.engine.now.tables self.old.cursor self.new.cursor result }
         ensures writes { self.new.engine.now.writes ≡ self.old.engine.now.writes }
         ensures work { IsWorkedOut result }
@@ -78,12 +80,12 @@ impl<S: Alter> Engine<S> {
     ) -> Result<Option<T::Row>, Fault>
         ensures reads { EngineReadsThrough S.Store self.old self.new result }
         // The row is the next of the table's, and of its type, whoever wrote it.
-        ensures hands { HandsNext S.Store T.KeyedTable.name T.StoredTable.layout T.KeyedTable.bind T.StoredTable.rows self.old.tables self.new.tables cursor.old cursor.new result }
+        ensures hands { HandsNext S.Store T.KeyedTable.name T.StoredTable.layout T.KeyedTable.bind T.StoredTable.rows self.old.session.format self.old.tables self.new.tables cursor.old cursor.new result }
         ensures ends { Ends self.old.tables self.new.tables cursor.old cursor.new result }
         ensures writes { self.new.writes ≡ self.old.writes }
         ensures work { IsWorkedOut result }
     {
-        let found = row_after::<T, S>(&mut self.tables, alloc, cursor);
+        let found = row_after::<T, S>(&mut self.tables, alloc, self.session.format, cursor);
         note(&mut self.session, stops(&found));
         found
     }
@@ -99,7 +101,7 @@ impl<S: Alter> Engine<S> {
         ensures reads { EngineReads S.Store self.old self.new result }
         ensures serves { WhenReady S.Store self.old self.new (λ limits commands. IsServing limits commands result) }
         // The row is the next of the table's, and of its type, whoever wrote it.
-        ensures hands { HandsNext S.Store T.KeyedTable.name T.StoredTable.layout T.KeyedTable.bind T.StoredTable.rows self.old.tables self.new.tables cursor.old cursor.new result }
+        ensures hands { HandsNext S.Store T.KeyedTable.name T.StoredTable.layout T.KeyedTable.bind T.StoredTable.rows self.old.session.format self.old.tables self.new.tables cursor.old cursor.new result }
         ensures unread { IsTrue self.old.session.must_reopen → cursor.new ≡ cursor.old }
         ensures ends { self.old.session.must_reopen ≡ false → Ends self.old.tables self.new.tables cursor.old cursor.new result }
     {

@@ -13,6 +13,8 @@ use Rattle.wh_history.specs.Rows.{rows}
 use Rattle.wh_history.specs.Profiles.{current_profile}
 use Rattle.wh_history.specs.Facts.{key_in}
 use Rattle.wh_history.specs.Accepted.{Accepted, Content, Governs, Describes, Sells, Upgrades, opening_of, day_of, types_in, sold, anchors, members, durable_key, surrogate_key, member_of, profiles_of, records_by, placeholders_by}
+use Rattle.wh_policy.specs.Formats.{format_number}
+use Rattle.wh_policy.specs.declared.format.Format.{Format}
 use Rattle.wh_policy.specs.declared.policy.Policy.{Policy}
 use Rattle.wh_policy.specs.declared.record.DimensionRecord.{DimensionRecord}
 use Rattle.wh_policy.specs.declared.record.SaleRecord.{SaleRecord}
@@ -158,16 +160,16 @@ fact_of commands s = record {
 abbrev pub fact_row : List Accepted → List ℕ → ℕ → Option Fact
 fact_row commands ticket line = option_map (fact_of commands) (find (λ s. bytes_eq s.ticket ticket && (s.line == line)) (sold commands))
 
--- meta, by the three limits that were chosen at the making
+-- meta, by the format and the three limits that were chosen at the making
 pub record Limits : Type 0 where
   pub commands : ℕ
   pub changes : ℕ
   pub facts : ℕ
 
-abbrev pub meta_value : Limits → List ℕ → Option ℕ
-meta_value limits name =
+abbrev pub meta_value : Format → Limits → List ℕ → Option ℕ
+meta_value format limits name =
     if bytes_eq name (codes "changes_max") then Some limits.changes
     else if bytes_eq name (codes "commands_max") then Some limits.commands
     else if bytes_eq name (codes "facts_max") then Some limits.facts
-    else if bytes_eq name (codes "format") then Some 1
+    else if bytes_eq name (codes "format") then Some (format_number format)
     else None

@@ -28,6 +28,7 @@ use Rattle.wh_history.specs.declared.rows.DimRow.{DimRow}
 use Rattle.wh_history.proofs.Joins.{all_weaker}
 use Rattle.wh_history.proofs.Knowing.{number_all, day_known, all_changes_known}
 use Rattle.wh_history.proofs.Places.{at_place-place, place-distinct_given}
+use Rattle.wh_rows.specs.Facts.{facts_of}
 use Rattle.wh_rows.specs.Rows as row
 use Rattle.wh_rows.specs.Tables.{Tables}
 use Rattle.wh_rows.specs.declared.key.LineKey.{LineKey}
@@ -62,14 +63,14 @@ module _ (limits : Limits) (commands : List Accepted) (c : Accepted) (t : Tables
   move f = rekeyed_to f (keys f)
 
   abbrev moves : List Fact
-  moves = filter_map move (values t.fact)
+  moves = filter_map move (values (facts_of t))
 
   keeps_line : (key : LineKey) (f g : Fact) → move f ≡ Some g → has_line key g ≡ has_line key f
   keeps_line key f g some = ap (has_line key) (sym (moved_has f g (keys f) some))
 
   moves_of_line : (key : LineKey) → filter (has_line key) moves ≡ option_to_list (option_and_then move (fact_at commands key))
   moves_of_line key =
-      filter_moves (has_line key) move (keeps_line key) (values t.fact)
+      filter_moves (has_line key) move (keeps_line key) (values (facts_of t))
       ∙ ap (filter_map move) (facts_of_line limits commands t are key)
       ∙ moves_of_one move (fact_at commands key)
 
@@ -98,14 +99,14 @@ module _ (limits : Limits) (commands : List Accepted) (c : Accepted) (t : Tables
       by_row None at h = absurd cc
       by_row (Some old) at h = let same = moved_has old f (keys old) h in (old, at, sym same ∙ ap (λ (g : Fact). with_keys old g.keys) same)
 
-  pub moves_are : AreFacts (fact_at commands) (fact_at (commands ++ c ∷ [])) (filter_map (λ f. rekeyed_to f (keys f)) (values t.fact))
+  pub moves_are : AreFacts (fact_at commands) (fact_at (commands ++ c ∷ [])) (filter_map (λ f. rekeyed_to f (keys f)) (values (facts_of t)))
   moves_are = record {
     lead = moves_lead;
     needed = all_weaker (λ f. find (has_line (row.fact.key f)) moves ≡ Some f) (λ f. fact_at commands (row.fact.key f) ≢ Some f) moved_needed moves (found_each moves moves_once);
     once = moves_once;
   }
 
-  pub moves_rekeyed : AreRekeyed (fact_at commands) (filter_map (λ f. rekeyed_to f (keys f)) (values t.fact))
+  pub moves_rekeyed : AreRekeyed (fact_at commands) (filter_map (λ f. rekeyed_to f (keys f)) (values (facts_of t)))
   moves_rekeyed = all_weaker (λ f. find (has_line (row.fact.key f)) moves ≡ Some f) (λ f. (old : Fact) × (fact_at commands (row.fact.key f) ≡ Some old) × (f ≡ record old { keys = f.keys })) moved_stood moves (found_each moves moves_once)
 
 -- ---- the keys that all members give
@@ -215,10 +216,10 @@ module _ (commands : List Accepted) (c : Accepted) (is : governs c.content ≡ t
       same_keys_by s = ap (keys_all with_it) (ap (λ (f : Fact). record f { keys = (fact_of commands s).keys }) (durables_stay s s.customer))
 
   module _ (limits : Limits) (t : Tables) (are : AreOf limits commands t) where
-    pub anew_facts : AreFacts (fact_at commands) (fact_at (commands ++ c ∷ [])) (filter_map (λ f. rekeyed_to f (keys_all (commands ++ c ∷ []) f)) (values t.fact))
+    pub anew_facts : AreFacts (fact_at commands) (fact_at (commands ++ c ∷ [])) (filter_map (λ f. rekeyed_to f (keys_all (commands ++ c ∷ []) f)) (values (facts_of t)))
     anew_facts = moves_are limits commands c t is are (keys_all with_it) gives_keys
 
-    pub anew_rekeyed : AreRekeyed (fact_at commands) (filter_map (λ f. rekeyed_to f (keys_all (commands ++ c ∷ []) f)) (values t.fact))
+    pub anew_rekeyed : AreRekeyed (fact_at commands) (filter_map (λ f. rekeyed_to f (keys_all (commands ++ c ∷ []) f)) (values (facts_of t)))
     anew_rekeyed = moves_rekeyed limits commands c t is are (keys_all with_it) gives_keys
 
 -- ---- what a call shows

@@ -8,3 +8,4 @@ pub mod PlanCalendar
 pub mod MigrationPlans
 pub mod FoundCombinations
 pub mod PlanRenumbered
+pub mod UpgradePlans

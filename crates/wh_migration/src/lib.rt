@@ -6,5 +6,7 @@ mod calendar_plan;
 mod migrated;
 mod migration_plan;
 mod profile_plan;
+mod upgrade_plan;
 
 pub use migration_plan::plan_migration;
+pub use upgrade_plan::plan_upgrade;

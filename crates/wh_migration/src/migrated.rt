@@ -3,7 +3,7 @@
 ghost use Rattle.std.specs.Prelude.{◌≡◌, ◌++◌, ◌∷◌, [], List, true, filter_map, IfOk, OnOk};
 ghost use Rattle.std.specs.FinMap.{values};
 ghost use Rattle.wh_policy.specs.declared.attribute.Dim.{Dim};
-ghost use Rattle.wh_history.specs.Accepted.{Accepted, profiles_of};
+ghost use Rattle.wh_history.specs.Accepted.{Accepted, format_of, profiles_of};
 ghost use Rattle.wh_history.specs.Facts.{rekeyed_to};
 ghost use Rattle.std.specs.Option.{option_copied};
 ghost use Rattle.wh_history.specs.Keys.{at_place};
@@ -13,11 +13,14 @@ ghost use Rattle.wh_history.specs.Plan.{IsRowPlan};
 ghost use Rattle.wh_history.specs.Shapes.{shape_of, rendered_in};
 ghost use Rattle.wh_history.specs.Tables.{dimension_row, dimension_table};
 ghost use Rattle.wh_model.specs.Defined.{fact_at};
+ghost use Rattle.wh_rows.specs.Facts.{facts_in};
+ghost use Rattle.wh_rows.specs.Rows as row;
 ghost use Rattle.wh_plan.specs.Edits.{IsFactPlan};
 ghost use Rattle.wh_plan.specs.Reads.{Finds, Tells};
 ghost use Rattle.wh_migration.specs.Migrated.{all_rows, keys_anew, keys_given, moved_anew, showing, AreWarehouseMembers, ArePlannedAnew, AreAllShown, AreShown, AreDimensionMembers, IsMigrated};
 ghost use Rattle.wh_model.specs.Sound.{IsAccepted};
-ghost use Rattle.wh_store.specs.Reads.{ReadsOnly, state_of};
+ghost use Rattle.wh_store.specs.Reads.{ReadsOnly, SaysAtRest, state_of};
+ghost use Rattle.wh_store.specs.Scan.{rows_left, HandsOut};
 
 use crate::all_members::{DimensionMembers, WarehouseMembers};
 use sqlite::Alter;
@@ -31,8 +34,8 @@ use wh_plan::FactEdit;
 use wh_plan::fact_edits::fact_rekeys;
 use wh_plan::new_rows::rows_of_members;
 use wh_plan::sales::sale_keys::rendered_members;
-use wh_policy::Dim;
-use wh_rows::{Cause, tables};
+use wh_policy::{Dim, Format};
+use wh_rows::{Cause, LineKey, tables};
 use wh_store::{Cursor, ReadFault, Tables, next_row};
 
 /// The rows of a dimension's table, by its members.
@@ -133,6 +136,22 @@ impl ShownDimension<'_> {
     }
 }
 
+/// The next fact of the format's table after those that the cursor handed out.
+fn next_fact<S: Alter>(
+    tables: &mut Tables<S>,
+    alloc: Global,
+    format: Format,
+    cursor: &mut Cursor<LineKey, Fact>,
+) -> Result<Option<Fact>, ReadFault>
+    ensures reads { ReadsOnly (state_of S.Store tables.old) (state_of S.Store tables.new) result }
+    ensures rows { SaysAtRest (state_of S.Store tables.old) (state_of S.Store tables.new) (λ t. t.format ≡ format → IfOk result (λ found. HandsOut (rows_left row.fact (facts_in format t) cursor.old) found (rows_left row.fact (facts_in format t) cursor.new))) }
+{
+    match format {
+        Format::One => next_row::<tables::Fact, S>(tables, alloc, format, cursor),
+        Format::Two => next_row::<tables::Fact2, S>(tables, alloc, format, cursor),
+    }
+}
+
 /// The three dimensions with their members.
 #[derive(Drop)]
 struct ShownDimensions<'a> {
@@ -188,14 +207,15 @@ impl ShownDimensions<'_> {
         &self,
         tables: &mut Tables<S>,
         alloc: Global,
+        format: Format,
     ) -> Result<Vec<Fact>, ReadFault>
         ensures reads { ReadsOnly (state_of S.Store tables.old) (state_of S.Store tables.new) result }
-        ensures moved { Tells (state_of S.Store tables.old) (state_of S.Store tables.new) result (λ t moved. moved.items ≡ moved_anew self.now (values t.fact)) }
+        ensures moved { Tells (state_of S.Store tables.old) (state_of S.Store tables.new) result (λ t moved. t.format ≡ format → moved.items ≡ moved_anew self.now (values (facts_in format t))) }
     {
         let mut cursor = Cursor::new(alloc);
         let mut moved = Vec::new(alloc);
         'facts: for _ in 0..u64::MAX {
-            match next_row::<tables::Fact, S>(tables, alloc, &mut cursor)? {
+            match next_fact(tables, alloc, format, &mut cursor)? {
                 Some(fact) => self.add_moved(alloc, fact, &mut moved)?,
                 None => return Ok(moved),
             }
@@ -243,15 +263,16 @@ fn shown_dimensions<'a>(
 fn migrated_facts<S: Alter>(
     tables: &mut Tables<S>,
     alloc: Global,
+    format: Format,
     read: &WarehouseMembers,
     profiles: &Profiles,
 ) -> Result<Vec<FactEdit>, ReadFault>
     ensures reads { ReadsOnly (state_of S.Store tables.old) (state_of S.Store tables.new) result }
-    ensures edits { Finds (state_of S.Store tables.old) (state_of S.Store tables.new) (λ _ commands. (c : Accepted) → governs c.content ≡ true → AreWarehouseMembers (commands ++ c ∷ []) read.now → profiles.now ≡ all_numbered (profiles_of (commands ++ c ∷ []))
+    ensures edits { Finds (state_of S.Store tables.old) (state_of S.Store tables.new) (λ _ commands. format ≡ format_of commands → (c : Accepted) → governs c.content ≡ true → AreWarehouseMembers (commands ++ c ∷ []) read.now → profiles.now ≡ all_numbered (profiles_of (commands ++ c ∷ []))
         → IfOk result (λ edits. IsFactPlan (fact_at commands) (fact_at (commands ++ c ∷ [])) edits.items)) }
 {
     let shown = shown_dimensions(alloc, read, profiles)?;
-    let moved = shown.moved_facts(tables, alloc)?;
+    let moved = shown.moved_facts(tables, alloc, format)?;
     Ok(fact_rekeys(alloc, moved)?)
 }
 
@@ -268,16 +289,17 @@ pub(crate) struct MigratedTables {
 pub(crate) fn migrated_tables<S: Alter>(
     tables: &mut Tables<S>,
     alloc: Global,
+    format: Format,
     read: &WarehouseMembers,
     profiles: &Profiles,
 ) -> Result<MigratedTables, ReadFault>
     ensures reads { ReadsOnly (state_of S.Store tables.old) (state_of S.Store tables.new) result }
-    ensures edits { Finds (state_of S.Store tables.old) (state_of S.Store tables.new) (λ limits commands. (c : Accepted) → IsAccepted limits (commands ++ c ∷ []) → governs c.content ≡ true → AreWarehouseMembers (commands ++ c ∷ []) read.now → profiles.now ≡ all_numbered (profiles_of (commands ++ c ∷ [])) → IfOk result (ArePlannedAnew commands (commands ++ c ∷ []))) }
+    ensures edits { Finds (state_of S.Store tables.old) (state_of S.Store tables.new) (λ limits commands. format ≡ format_of commands → (c : Accepted) → IsAccepted limits (commands ++ c ∷ []) → governs c.content ≡ true → AreWarehouseMembers (commands ++ c ∷ []) read.now → profiles.now ≡ all_numbered (profiles_of (commands ++ c ∷ [])) → IfOk result (ArePlannedAnew commands (commands ++ c ∷ []))) }
 {
     let products = rows_of(tables, alloc, &read.products, profiles)?;
     let stores = rows_of(tables, alloc, &read.stores, profiles)?;
     let customers = rows_of(tables, alloc, &read.customers, profiles)?;
-    let facts = migrated_facts(tables, alloc, read, profiles)?;
+    let facts = migrated_facts(tables, alloc, format, read, profiles)?;
     Ok(MigratedTables {
         products,
         stores,

@@ -22,7 +22,7 @@ use wh_history::{Edit, Profiles, edit_between, profile_texts};
 use wh_plan::first_profiles::first_profiles;
 use wh_plan::profiles::{FIRST, add_combination, add_fresh};
 use wh_plan::reading::given_texts;
-use wh_policy::{AttributeType, Dim};
+use wh_policy::{AttributeType, Dim, Format};
 use wh_rows::{Cause, ChangeRow, ProfileRow, tables};
 use wh_store::{Cursor, ReadFault, Tables, next_row};
 
@@ -58,6 +58,7 @@ fn add_stored(
 fn combinations_stored<S: Alter>(
     tables: &mut Tables<S>,
     alloc: Global,
+    format: Format,
     types: &[AttributeType],
 ) -> Result<Vec<Values>, ReadFault>
     ensures reads { ReadsOnly (state_of S.Store tables.old) (state_of S.Store tables.new) result }
@@ -66,7 +67,7 @@ fn combinations_stored<S: Alter>(
     let mut cursor = Cursor::new(alloc);
     let mut found = Vec::new(alloc);
     'records: for _ in 0..u64::MAX {
-        match next_row::<tables::Change, S>(tables, alloc, &mut cursor)? {
+        match next_row::<tables::Change, S>(tables, alloc, format, &mut cursor)? {
             Some(row) => add_stored(alloc, types, &mut found, &row)?,
             None => return Ok(found),
         }
@@ -78,12 +79,13 @@ fn combinations_stored<S: Alter>(
 fn customer_combinations<S: Alter>(
     tables: &mut Tables<S>,
     alloc: Global,
+    format: Format,
     types: &[AttributeType],
 ) -> Result<Vec<Values>, ReadFault>
     ensures reads { ReadsOnly (state_of S.Store tables.old) (state_of S.Store tables.new) result }
     ensures combinations { Finds (state_of S.Store tables.old) (state_of S.Store tables.new) (λ _ commands. HaveNoEmptyValue commands → IfOk result (λ found. found.items ≡ combinations_of types.now (described Customer commands))) }
 {
-    let combinations = combinations_stored(tables, alloc, types)?;
+    let combinations = combinations_stored(tables, alloc, format, types)?;
     Ok(combinations)
 }
 
@@ -124,12 +126,13 @@ fn profile_edits(
 pub(crate) fn renumbered_profiles<S: Alter>(
     tables: &mut Tables<S>,
     alloc: Global,
+    format: Format,
     types: &[AttributeType],
 ) -> Result<RenumberedProfiles, ReadFault>
     ensures reads { ReadsOnly (state_of S.Store tables.old) (state_of S.Store tables.new) result }
     ensures renumbered { Finds (state_of S.Store tables.old) (state_of S.Store tables.new) (λ limits commands. (c : Accepted) → IsAccepted limits (commands ++ c ∷ []) → governs c.content ≡ true → AreTypes (commands ++ c ∷ []) Customer types.now → IfOk result (IsRenumbered commands (commands ++ c ∷ []))) }
 {
-    let combinations = customer_combinations(tables, alloc, types)?;
+    let combinations = customer_combinations(tables, alloc, format, types)?;
     let mut known = Profiles::new(alloc);
     let rows = numbered_rows(alloc, types, &mut known, &combinations)?;
     let stored = tables.all::<tables::Profile>(alloc)?;

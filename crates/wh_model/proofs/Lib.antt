@@ -20,6 +20,9 @@ pub mod Following
 pub mod ValidCalendar
 pub mod ValidFacts
 pub mod EffectiveFacts
+pub mod QuietLists
 pub mod GovernedLists
+pub mod Formatted
 pub mod MovedKeys
 pub mod SameLines
+pub mod UpgradedRows

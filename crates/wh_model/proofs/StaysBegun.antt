@@ -38,6 +38,5 @@ accepted_lists_begin limits policy bytes limited written =
       records = λ dim. tt;
       sales = tt;
       lines = tt;
-      first = refl;
       undiscounted = λ _. tt;
     }

@@ -7,10 +7,12 @@ use Rattle.wh_day.specs.Calendar.{calendar_row}
 use Rattle.wh_day.specs.declared.calendar.DateRow.{DateRow}
 use Rattle.wh_policy.specs.declared.attribute.Dim.TheVariants.{Product, Store, Customer}
 use Rattle.wh_policy.specs.declared.policy.Policy.{Policy}
-use Rattle.wh_history.specs.Accepted.{Accepted, policy_after}
+use Rattle.wh_history.specs.Accepted.{Accepted, policy_after, format_of}
 use Rattle.wh_history.specs.Tables.{Limits, meta_value, command_row, member_row, change_row, dimension_row, profile_row, fact_row}
 use Rattle.wh_history.specs.declared.facts.Fact.{Fact}
-use Rattle.wh_policy.specs.declared.format.Format.TheVariants.{One}
+use Rattle.wh_policy.specs.Formats.{same_format}
+use Rattle.wh_policy.specs.declared.format.Format.{Format}
+use Rattle.wh_policy.specs.declared.format.Format.TheVariants.{One, Two}
 use Rattle.wh_rows.specs.declared.rows.MetaRow.{MetaRow}
 use Rattle.wh_rows.specs.declared.rows.CommandRow.{CommandRow}
 use Rattle.wh_rows.specs.declared.rows.MemberRow.{MemberRow}
@@ -23,8 +25,8 @@ use Rattle.wh_rows.specs.Tables.{Tables}
 
 -- ---- the row under each key
 
-abbrev pub meta_at : Limits → List ℕ → Option MetaRow
-meta_at limits name = option_map (λ value. record { name = name; value = pos value }) (meta_value limits name)
+abbrev pub meta_at : Format → Limits → List ℕ → Option MetaRow
+meta_at format limits name = option_map (λ value. record { name = name; value = pos value }) (meta_value format limits name)
 
 abbrev pub command_at : List Accepted → ℕ → Option CommandRow
 command_at commands number = option_map (λ c. record { number = number; id = c.id; kind = c.kind; bytes = c.bytes; records = c.records; placeholders = c.placeholders }) (command_row commands number)
@@ -48,11 +50,14 @@ calendar_at commands day = option_and_then (λ policy. day_at policy day) (polic
 abbrev pub fact_at : List Accepted → LineKey → Option Fact
 fact_at commands key = fact_row commands key.ticket key.line
 
--- The tables are those of a warehouse that was made with these limits and has accepted these commands. They are of the first format, since no command
--- makes the second.
+-- The facts stand in the table of the format: in the other one there is none.
+abbrev pub fact_in : Format → List Accepted → LineKey → Option Fact
+fact_in format commands key = if same_format format (format_of commands) then fact_at commands key else None
+
+-- The tables are those of a warehouse that was made with these limits and has accepted these commands.
 pub record AreOf (limits : Limits) (commands : List Accepted) (tables : Tables) : Type 0 where
-  pub format : tables.format ≡ One
-  pub meta : (name : List ℕ) → get tables.meta name ≡ meta_at limits name
+  pub format : tables.format ≡ format_of commands
+  pub meta : (name : List ℕ) → get tables.meta name ≡ meta_at (format_of commands) limits name
   pub command : (number : ℕ) → get tables.command number ≡ command_at commands number
   pub member : (key : MemberKey) → get tables.member key ≡ member_at commands key
   pub change : (key : ChangeKey) → get tables.change key ≡ change_at commands key
@@ -61,4 +66,6 @@ pub record AreOf (limits : Limits) (commands : List Accepted) (tables : Tables) 
   pub customer : (key : ℕ) → get tables.customer key ≡ dimension_row commands Customer key
   pub profile : (number : ℕ) → get tables.profile number ≡ profile_at commands number
   pub calendar : (day : ℕ) → get tables.calendar day ≡ calendar_at commands day
-  pub fact : (key : LineKey) → get tables.fact key ≡ fact_at commands key
+  pub fact : (key : LineKey) → get tables.fact key ≡ fact_in One commands key
+  pub fact2 : (key : LineKey) → get tables.fact2 key ≡ fact_in Two commands key
+  pub void : (key : LineKey) → get tables.void key ≡ None

@@ -74,7 +74,7 @@ GivesPolicy kind bytes (Sells sales) = gives_policy kind ≡ false
 GivesPolicy kind bytes Upgrades = gives_policy kind ≡ false
 
 -- The list is one that a warehouse with these limits can have accepted: it begins with a making, and makings and migrations give the policies of their bytes, with up to six attributes a dimension; ids and kinds are well
--- formed, no two commands share an id; its records and sales are good, no two sales have one line, none has a discount in the first format, and no batch has more than 5,000; no command upgrades it yet; the limits aren't passed.
+-- formed, no two commands share an id; its records and sales are good, no two sales have one line, none has a discount in the first format, and no batch has more than 5,000; the limits aren't passed.
 pub record IsAccepted (limits : Limits) (commands : List Accepted) : Type 0 where
   pub limited : are_limits limits ≡ true
   pub commands_within : length commands ≤ limits.commands
@@ -92,5 +92,4 @@ pub record IsAccepted (limits : Limits) (commands : List Accepted) : Type 0 wher
   pub records : (dim : Dim) → AllByRecursion IsGoodRecord (described dim commands)
   pub sales : AllByRecursion IsGoodSale (sold commands)
   pub lines : IsDistinct same_line (sold commands)
-  pub first : format_of commands ≡ One
   pub undiscounted : format_of commands ≡ One → AllByRecursion (λ s. s.discount ≡ 0) (sold commands)

@@ -2,6 +2,7 @@
 use Rattle.std.proofs.Common.{◌≡◌, ◌⊎◌, inl, inr, ℕ, suc, ◌-◌, ◌<◌, false, List, [], ◌∷◌, ◌++◌, length, map, None, refl, sym, ◌∙◌, ap, subst, arith}
 use Rattle.std.specs.Prelude.{filter_map}
 use Rattle.std.specs.Cmp.{nat_cmp_is}
+use Rattle.std.specs.Cmp.Lexicographic.{nat_list_cmp_total}
 use Rattle.std.specs.FinMap.{nat_cmp-IsAntisymmetric}
 use Rattle.std.specs.List.{AllByRecursion}
 use Rattle.std.specs.Option.{option_and_then}
@@ -10,9 +11,11 @@ use Rattle.std.specs.declared.cmp.Ordering.TheVariants.{Less, Equal}
 use Rattle.std.proofs.lemmas.Cmp.{nat_cmp_total}
 use Rattle.wh_policy.specs.declared.attribute.Dim.{Dim}
 use Rattle.wh_policy.specs.declared.attribute.Dim.TheVariants.{Product, Store, Customer}
-use Rattle.wh_history.specs.Accepted.{Accepted, members, profiles_of, records_by}
+use Rattle.wh_policy.specs.declared.format.Format.{Format}
+use Rattle.wh_policy.specs.declared.format.Format.TheVariants.{One, Two}
+use Rattle.wh_history.specs.Accepted.{Accepted, format_of, members, profiles_of, records_by}
 use Rattle.wh_history.specs.Laws.{governs}
-use Rattle.wh_history.specs.Tables.{dimension_row}
+use Rattle.wh_history.specs.Tables.{Limits, dimension_row}
 use Rattle.wh_history.specs.Plan.{IsRowPlan}
 use Rattle.wh_history.specs.declared.plan.Edit.{Edit}
 use Rattle.wh_history.specs.declared.plan.Edit.TheVariants.{Put}
@@ -22,12 +25,14 @@ use Rattle.wh_rows.proofs.Orders.{member_cmp_total, member_cmp-IsAntisymmetric, 
 use Rattle.wh_rows.specs.Rows as row
 use Rattle.wh_rows.specs.declared.rows.MemberRow.{MemberRow}
 use Rattle.wh_rows.specs.declared.key.MemberKey.{MemberKey}
-use Rattle.wh_model.specs.Defined.{command_at, member_at, change_at, profile_at, calendar_at, day_at}
+use Rattle.wh_model.specs.Defined.{meta_at, command_at, member_at, change_at, profile_at, calendar_at, day_at}
 use Rattle.wh_plan.specs.BatchRows.{BatchRows, AreBatchRows, numbers_after, members_behind, new_members}
-use Rattle.wh_plan.specs.Edits.{Edits, AreEdits, IsTablePlan, rows_of_dimension}
+use Rattle.wh_plan.specs.Edits.{Edits, AreEdits, IsTablePlan, UpgradesTo, rows_of_dimension}
+use Rattle.wh_plan.specs.FactEdits.{edits_in}
 use Rattle.wh_model.proofs.Growing.{AmongKeys, among_front, among_back, among_mapped, among_range}
+use Rattle.wh_plan.proofs.FactPlans.{plan_in_table}
 use Rattle.wh_plan.proofs.Plans.{added_plan, grown_plan, one_plan, empty_plan, AboveKey, AscendKeys, keys_ascend, all_in_range}
-use Rattle.wh_plan.proofs.PlanEdits.{own_row}
+use Rattle.wh_plan.proofs.OwnRow.{less, own_row_plan}
 use Rattle.wh_model.proofs.GrownCommands.{command_keyed, command_grows}
 use Rattle.wh_model.proofs.GrownCommands as command
 use Rattle.wh_model.proofs.GrownMembers.{member_keyed}
@@ -37,8 +42,9 @@ use Rattle.wh_model.proofs.GrownChanges as change
 use Rattle.wh_model.proofs.GrownProfiles.{profile_keyed, profile_grows}
 use Rattle.wh_model.proofs.GrownProfiles as profile
 
-pub less : (n m : ℕ) → n < m → nat_cmp n m ≡ Less
-less n m h = sym (nat_cmp_is n m Less h)
+-- where the format stays, so does meta
+pub meta_stays : (before after : List Accepted) → format_of after ≡ format_of before → (limits : Limits) → IsTablePlan row.meta (meta_at (format_of before) limits) (meta_at (format_of after) limits) []
+meta_stays before after stays limits = empty_plan row.meta nat_list_cmp_total (meta_at (format_of before) limits) (meta_at (format_of after) limits) (λ name. ap (λ (f : Format). meta_at f limits name) stays)
 
 -- ---- the keys of the members of three dimensions
 
@@ -121,12 +127,6 @@ module _ (commands : List Accepted) (c : Accepted) where
   -- ---- the tables
 
   module _ (batch : governs c.content ≡ false) (brought : BatchRows) (are : AreBatchRows commands c brought) where
-    command_plan : IsTablePlan row.command (command_at commands) (command_at after) (map Put (brought.command ∷ []))
-    command_plan =
-        subst (λ rows. IsTablePlan row.command (command_at commands) (command_at after) (map Put rows)) (sym (own_row commands c brought.command are.command))
-        (grown_plan row.command nat_cmp_total nat_cmp-IsAntisymmetric (command_at after) (command_keyed after) (λ n. n) less (command_at commands) (length commands) (length after)
-        (command.none_past commands c commands) (command_grows commands c))
-
     member_plan : IsTablePlan row.member (member_at commands) (member_at after) (map Put brought.members)
     member_plan =
         subst (λ rows. IsTablePlan row.member (member_at commands) (member_at after) (map Put rows)) (sym are.members)
@@ -150,17 +150,21 @@ module _ (commands : List Accepted) (c : Accepted) where
     calendar_plan : IsTablePlan row.calendar (calendar_at commands) (calendar_at after) []
     calendar_plan = empty_plan row.calendar nat_cmp_total (calendar_at commands) (calendar_at after) (λ day. ap (option_and_then (λ policy. day_at policy day)) (policy_last None commands c batch))
 
-    pub brought_as_edits : (edits : Edits) → edits.commands ≡ Put brought.command ∷ [] → edits.members ≡ map Put brought.members → edits.changes ≡ map Put brought.changes
+    pub brought_as_edits : (edits : Edits) (format : Format) → format ≡ format_of commands → format_of (commands ++ c ∷ []) ≡ format_of commands
+        → edits.upgrades ≡ false → edits.meta ≡ [] → edits.commands ≡ Put brought.command ∷ [] → edits.members ≡ map Put brought.members → edits.changes ≡ map Put brought.changes
         → edits.products ≡ brought.products → edits.stores ≡ brought.stores → edits.customers ≡ brought.customers
-        → edits.profiles ≡ map Put brought.profiles → edits.calendar ≡ [] → edits.facts ≡ brought.facts → AreEdits commands (commands ++ c ∷ []) edits
-    brought_as_edits edits command_is members_are changes_are products_are stores_are customers_are profiles_are no_days facts_are = record {
-      commands = rw command_is command_plan;
+        → edits.profiles ≡ map Put brought.profiles → edits.calendar ≡ [] → edits.facts ≡ edits_in One format brought.facts → edits.facts2 ≡ edits_in Two format brought.facts → AreEdits commands (commands ++ c ∷ []) edits
+    brought_as_edits edits format same stays no_upgrade no_meta command_is members_are changes_are products_are stores_are customers_are profiles_are no_days facts_are facts2_are = record {
+      upgrades = subst (λ b. UpgradesTo b (format_of commands) (format_of after)) (sym no_upgrade) stays;
+      meta = λ limits. rw no_meta (meta_stays commands after stays limits);
+      commands = rw command_is (own_row_plan commands c brought.command are.command);
       members = rw members_are member_plan;
       changes = rw changes_are change_plan;
       rows = of_dimension;
       profiles = rw profiles_are profile_plan;
       calendar = rw no_days calendar_plan;
-      facts = rw facts_are are.facts;
+      facts = rw facts_are (plan_in_table commands after One format brought.facts same stays are.facts);
+      facts2 = rw facts2_are (plan_in_table commands after Two format brought.facts same stays are.facts);
     }
       where
         of_dimension : (dim : Dim) → IsRowPlan (dimension_row commands dim) (dimension_row after dim) (rows_of_dimension dim edits)

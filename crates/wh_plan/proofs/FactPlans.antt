@@ -12,6 +12,9 @@ use Rattle.std.specs.declared.cmp.Ordering.TheVariants.{Less, Equal, Greater}
 use Rattle.std.proofs.lemmas.List.Elements.{All-from_recursion, recursion_from_All}
 use Rattle.std.proofs.lemmas.List.Sorted.{All-permutation, IsPermutation-sym}
 use Rattle.std.proofs.lemmas.Map.Keys.{IsDistinct-IsPermutation}
+use Rattle.wh_policy.specs.Formats.{same_format}
+use Rattle.wh_policy.specs.declared.format.Format.{Format}
+use Rattle.wh_history.specs.Accepted.{Accepted, format_of}
 use Rattle.wh_history.specs.Plan.{Above, Ascends}
 use Rattle.wh_history.specs.declared.facts.Fact.{Fact}
 use Rattle.wh_history.proofs.Basics.{find_passes, some_is}
@@ -21,9 +24,10 @@ use Rattle.wh_rows.specs.Rekey.{with_keys}
 use Rattle.wh_rows.specs.Rows as row
 use Rattle.wh_rows.specs.declared.key.LineKey.{LineKey}
 use Rattle.wh_rows.specs.Steps.{after_all}
+use Rattle.wh_model.specs.Defined.{fact_at, fact_in}
 use Rattle.wh_plan.specs.BatchRows.{AreFacts, AreRekeyed, has_line}
 use Rattle.wh_plan.specs.Edits.{IsFactPlan, ChangesFact, NeedsFact, edited_line, with_fact_edit}
-use Rattle.wh_plan.specs.FactEdits.{by_line, put_of, rekey_of}
+use Rattle.wh_plan.specs.FactEdits.{by_line, edits_in, put_of, remove_of, rekey_of}
 use Rattle.wh_plan.specs.declared.edits.FactEdit.{FactEdit}
 use Rattle.wh_plan.specs.declared.edits.FactEdit.TheVariants.{Row, Rekey}
 use Rattle.wh_plan.proofs.Exact as exact
@@ -104,6 +108,15 @@ none_needed line (Some old) (Some new) is = inl (sym (some_is new old is), refl)
 pub no_facts : (facts : LineKey → Option Fact) → IsFactPlan facts facts []
 no_facts facts = record { ordered = tt; exact = λ line. none_needed line (facts line) (facts line) refl }
 
+-- of the facts of a format: in its table these edits are exact, and in the other one none are needed
+pub plan_in_table : (before after : List Accepted) (table format : Format) (es : List FactEdit) → format ≡ format_of before → format_of after ≡ format_of before
+    → IsFactPlan (fact_at before) (fact_at after) es → IsFactPlan (fact_in table before) (fact_in table after) (edits_in table format es)
+plan_in_table before after table format es same stays plan =
+    let kept : Bool → (LineKey → Option Fact) → LineKey → Option Fact = λ b facts line. cond b (facts line) None in
+    subst (λ (f : Format). IsFactPlan (fact_in table before) (kept (same_format table f) (fact_at after)) (edits_in table format es)) (sym stays)
+    (subst (λ (f : Format). IsFactPlan (fact_in table before) (kept (same_format table (format_of before)) (fact_at after)) (edits_in table f es)) (sym same)
+    (elim (same_format table (format_of before)) as (λ b. IsFactPlan (kept b (fact_at before)) (kept b (fact_at after)) (cond b es [])) [ true ↦ plan | false ↦ no_facts (λ _. None) ]))
+
 module _ (edit : Fact → FactEdit) (own : (f : Fact) → edited_line (edit f) ≡ row.fact.key f) where
   above_next : (f : Fact) (fs : List Fact) → Rises (f ∷ fs) → Once (f ∷ fs) → Above row.fact.order edited_line (row.fact.key f) (map edit fs)
   unfolding IsDistinct
@@ -164,6 +177,26 @@ rekeys_needed before (f ∷ fs) stood other =
 
 pub rekeys_plan : (before after : LineKey → Option Fact) (facts fs : List Fact) → AreFacts before after facts → AreRekeyed before facts → IsPermutation facts fs → IsSorted by_line fs → IsFactPlan before after (map rekey_of fs)
 rekeys_plan before after facts fs are stood moved sorted = plan_sorted rekey_of (λ f. refl) before after facts fs are moved sorted (rekeys_needed before facts stood are.needed)
+
+-- ---- facts that are taken out
+
+pub removes_plan : (kept : LineKey → Option Fact) (facts fs : List Fact) → AreFacts (λ _. None) kept facts → IsPermutation facts fs → IsSorted by_line fs → IsFactPlan kept (λ _. None) (map remove_of fs)
+removes_plan kept facts fs are moved sorted = record {
+  ordered = ascends remove_of (λ f. refl) fs (rises_sorted fs sorted) (once_permuted facts fs moved are.once);
+  exact = λ line.
+      let stands : option_or (find (has_line line) fs) None ≡ kept line = ap (λ o. option_or o None) (find_permuted facts fs moved are.once line) ∙ are.lead line in
+      rw (edit_found remove_of (λ f. refl) line fs) (elim (find (has_line line) fs) as (λ o. (find (has_line line) fs ≡ o) → option_or o None ≡ kept line → NeedsFact line (kept line) None (option_map remove_of o)) [
+        | None ↦ λ none at. rw (← at) refl
+        | Some f ↦ λ some at. let here : row.fact.key f ≡ line = line_is line f (find_passes (has_line line) f fs some) in rw (← at, here) refl
+      ] refl stands);
+}
+
+none_stood : (fs : List Fact) → AllByRecursion (λ f. ◌≡◌ {A = Option Fact} None None) fs
+none_stood [] = tt
+none_stood (f ∷ fs) = (refl, none_stood fs)
+
+pub carried_plan : (kept : LineKey → Option Fact) (facts fs : List Fact) → AreFacts (λ _. None) kept facts → IsPermutation facts fs → IsSorted by_line fs → IsFactPlan (λ _. None) kept (map put_of fs)
+carried_plan kept facts fs are moved sorted = puts_plan (λ _. None) kept facts fs are (none_stood facts) moved sorted
 
 -- ---- what they lead to
 

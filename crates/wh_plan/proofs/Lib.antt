@@ -4,6 +4,7 @@ pub mod Plans
 pub mod OneDimension
 pub mod GrownFacts
 pub mod PlanEdits
+pub mod OwnRow
 pub mod BatchPlans
 pub mod FoundCommands
 pub mod FoundMembers

@@ -1,14 +1,21 @@
 -- The edits of a command may be written.
-use Rattle.std.proofs.Common.{◌==◌, ◌≡◌, inl, inr, ℕ, suc, ◌≤◌, true, List, [], ◌∷◌, ◌++◌, length, Option, Some, None, refl, sym, ap, subst, ◌∙◌, arith, length-append}
-use Rattle.std.specs.Prelude.{take, option_map}
+use Rattle.std.proofs.Common.{◌==◌, ◌≡◌, inl, inr, ℕ, suc, ◌≤◌, true, false, cond, List, [], ◌∷◌, ◌++◌, length, Option, Some, None, refl, sym, ap, subst, ◌∙◌, arith, length-append}
+use Rattle.std.specs.Prelude.{bytes_eq, codes, pos, take, option_map}
+use Rattle.std.specs.Cmp.Lexicographic.{nat_list_cmp_total}
 use Rattle.std.specs.List.{AllByRecursion}
 use Rattle.std.specs.Option.{option_and_then}
+use Rattle.std.specs.Str.{is_utf8, chars}
+use lib.Utf8.{encode}
+use Rattle.std.proofs.lemmas.Slice.Eq.{bytes_eq-Decides}
 use Rattle.wh_policy.specs.declared.attribute.Dim.{Dim}
 use Rattle.wh_policy.specs.declared.attribute.Dim.TheVariants.{Product, Store, Customer}
+use Rattle.wh_policy.specs.Formats.{format_number, same_format}
+use Rattle.wh_policy.specs.declared.format.Format.{Format}
+use Rattle.wh_policy.specs.declared.format.Format.TheVariants.{One, Two}
 use Rattle.wh_policy.specs.declared.record.DimensionRecord.{DimensionRecord}
 use Rattle.wh_policy.specs.declared.record.SaleRecord.{SaleRecord}
-use Rattle.wh_history.specs.Accepted.{Accepted, Content, Governs, Describes, Sells, Upgrades, described, described_by, sold, members_after, records_by, placeholders_by}
-use Rattle.wh_history.specs.Tables.{Limits, change_row, change_row_in, change_row_of, dimension_row}
+use Rattle.wh_history.specs.Accepted.{Accepted, Content, Governs, Describes, Sells, Upgrades, format_of, described, described_by, sold, members_after, records_by, placeholders_by}
+use Rattle.wh_history.specs.Tables.{Limits, meta_value, change_row, change_row_in, change_row_of, dimension_row}
 use Rattle.wh_history.specs.Tables as history
 use Rattle.wh_history.specs.declared.facts.Fact.{Fact}
 use Rattle.wh_history.specs.declared.plan.Edit.TheVariants.{Put, Remove}
@@ -16,17 +23,19 @@ use Rattle.wh_history.specs.declared.rows.DimRow.{DimRow}
 use Rattle.wh_history.proofs.Basics.{both_true, some_is}
 use Rattle.wh_history.proofs.Batches.{same_dimension}
 use Rattle.wh_history.proofs.Untouched.{described-last}
+use Rattle.wh_rows.specs.declared.rows.MetaRow.{MetaRow}
 use Rattle.wh_rows.specs.declared.rows.CommandRow.{CommandRow}
 use Rattle.wh_rows.specs.declared.rows.ChangeRow.{ChangeRow}
-use Rattle.wh_rows.specs.Types.{is_number, is_measure, is_key, is_kind}
+use Rattle.wh_rows.specs.Types.{is_number, is_measure, is_discount, is_key, is_kind}
 use Rattle.wh_rows.proofs.Orders.{member_cmp_total, change_cmp_total, line_cmp_total}
 use Rattle.std.proofs.lemmas.Cmp.{nat_cmp_total}
 use Rattle.wh_rows.specs.Rekey.{are_keys}
 use Rattle.wh_rows.specs.declared.key.LineKey.{LineKey}
-use Rattle.wh_rows.specs.Rows.{is_command, is_change, is_dimension, has_good_columns, is_fact}
+use Rattle.wh_rows.specs.Facts.{fact_layout}
+use Rattle.wh_rows.specs.Rows.{is_command, is_change, is_dimension, has_good_columns}
 use Rattle.wh_rows.specs.Rows as row
 use Rattle.wh_rows.specs.Tables.{Tables}
-use Rattle.wh_model.specs.Defined.{command_at, member_at, change_at, profile_at, calendar_at, fact_at, AreOf}
+use Rattle.wh_model.specs.Defined.{meta_at, command_at, member_at, change_at, profile_at, calendar_at, fact_at, fact_in, AreOf}
 use Rattle.wh_plan.specs.Laws.{CommandsMayBeWritten}
 use Rattle.wh_plan.specs.Edits.{Edits, AreEdits, NeedsFact, rows_of_dimension, edited_line}
 use Rattle.wh_model.specs.Sound.{IsGoodRecord, IsAccepted}
@@ -44,17 +53,47 @@ use Rattle.wh_model.proofs.SmallNumbers.{is_small, commands_few, described_few, 
 use Rattle.wh_model.proofs.ValidTables.{made_of, dimension_valid, member_valid, change_made, profile_valid}
 use Rattle.wh_model.proofs.ValidCalendar.{calendar_valid}
 use Rattle.wh_model.proofs.ValidFacts.{fact_valid}
-use Rattle.wh_rows.specs.Facts.{fact_layout}
 use Rattle.wh_plan.proofs.SaleBatches.Selling.{sold_more}
 
 take_all : {X : Type 0} (xs : List X) → take (length xs) xs ≡ xs
 take_all [] = refl
 take_all (x ∷ xs) = ap (λ ys. x ∷ ys) (take_all xs)
 
--- the keys of a fact that can be stored can be
-are_keys_of : (f : Fact) → is_fact f ≡ true → are_keys f.keys ≡ true
-are_keys_of f valid =
-    let cost = both_true _ (is_measure 999999999 f.cost) (both_true (has_good_columns f) (f.discount == 0) valid).0 in
+-- ---- meta
+
+-- a text that is one of these names
+one_name : (name known : List ℕ) (value : ℕ) (others : Option ℕ) → is_utf8 known ≡ true → ((n : ℕ) → others ≡ Some n → is_utf8 name ≡ true) → (n : ℕ) → cond (bytes_eq name known) (Some value) others ≡ Some n → is_utf8 name ≡ true
+one_name name known value others text later n found =
+    elim (bytes_eq name known) as (λ b. (bytes_eq name known ≡ b) → cond b (Some value) others ≡ Some n → is_utf8 name ≡ true) [
+      | true ↦ λ same _. ap is_utf8 ((bytes_eq-Decides name known).0 same) ∙ text
+      | false ↦ λ _ rest. later n rest
+    ] refl found
+
+name_valid : (format : Format) (limits : Limits) (name : List ℕ) (n : ℕ) → meta_value format limits name ≡ Some n → is_utf8 name ≡ true
+unfolding is_utf8 chars encode
+name_valid format limits name =
+    one_name name (codes "changes_max") limits.changes _ refl
+    (one_name name (codes "commands_max") limits.commands _ refl
+    (one_name name (codes "facts_max") limits.facts _ refl
+    (one_name name (codes "format") (format_number format) None refl (λ n none. absurd cc))))
+
+meta_valid : (format : Format) (limits : Limits) (v : MetaRow) → meta_at format limits v.name ≡ Some v → is_utf8 v.name ≡ true
+meta_valid format limits v is =
+    let made = made_of (λ (n : ℕ). record { name = v.name; value = pos n }) (meta_value format limits v.name) v is in
+    name_valid format limits v.name made.0 made.1
+
+-- ---- the facts of a format
+
+same_is : (a b : Format) → same_format a b ≡ true → a ≡ b
+same_is One One h = refl
+same_is One Two h = absurd cc
+same_is Two One h = absurd cc
+same_is Two Two h = refl
+
+-- where the columns of a fact are good, so are its keys
+good_keys : (f : Fact) → has_good_columns f ≡ true → are_keys f.keys ≡ true
+good_keys f good =
+    let cost = both_true _ (is_measure 999999999 f.cost) good in
     let amount = both_true _ (is_measure 999999999 f.amount) cost.0 in
     let quantity = both_true _ (is_measure 9999 f.quantity) amount.0 in
     let profile = both_true _ (is_number f.keys.profile) quantity.0 in
@@ -65,6 +104,11 @@ are_keys_of f valid =
     let product = both_true _ (is_number f.keys.product_key) customer.0 in
     let store = both_true _ (is_number f.keys.store_key) product.0 in
     rw (store.1, product.1, customer.1, profile.1) refl
+
+-- the keys of a fact that can be stored can be
+are_keys_of : (format : Format) (f : Fact) → (fact_layout format).is_valid f ≡ true → are_keys f.keys ≡ true
+are_keys_of One f valid = good_keys f (both_true (has_good_columns f) (f.discount == 0) valid).0
+are_keys_of Two f valid = good_keys f (both_true (has_good_columns f) (is_discount f.discount) valid).0
 
 valid_parts : (r : CommandRow) → is_number r.number ≡ true → is_key 40 r.id ≡ true → is_kind r.kind ≡ true → is_number r.records ≡ true → is_number r.placeholders ≡ true → is_command r ≡ true
 valid_parts r number id kind records placeholders = rw (number, id, kind, records, placeholders) refl
@@ -172,24 +216,28 @@ module _ (limits : Limits) (commands : List Accepted) (c : Accepted) (t : Tables
 
   -- ---- the facts
 
-  valid_fact_edit : (e : FactEdit) → NeedsFact (edited_line e) (fact_at commands (edited_line e)) (fact_at after (edited_line e)) (Some e) → IsValidFactEdit e
-  valid_fact_edit e needs = by_rows e (fact_at commands (edited_line e)) (fact_at after (edited_line e)) refl needs
+  valid_fact_edit : (format : Format) (e : FactEdit) → NeedsFact (edited_line e) (fact_in format commands (edited_line e)) (fact_in format after (edited_line e)) (Some e) → IsValidFactEdit format e
+  valid_fact_edit format e needs = by_rows e (fact_in format commands (edited_line e)) (fact_in format after (edited_line e)) refl needs
     where
-      valid : (line : LineKey) (new : Fact) → fact_at after line ≡ Some new → is_fact new ≡ true
-      valid line new is = subst (λ format. (fact_layout format).is_valid new ≡ true) ok.first (fact_valid limits after ok line new is)
+      valid : (line : LineKey) (new : Fact) → fact_in format after line ≡ Some new → (fact_layout format).is_valid new ≡ true
+      valid line new is =
+          elim (same_format format (format_of after)) as (λ b. (same_format format (format_of after) ≡ b) → cond b (fact_at after line) None ≡ Some new → (fact_layout format).is_valid new ≡ true) [
+            | true ↦ λ same there. subst (λ (f : Format). (fact_layout f).is_valid new ≡ true) (sym (same_is format (format_of after) same)) (fact_valid limits after ok line new there)
+            | false ↦ λ _ none. absurd cc
+          ] refl is
 
-      keys : (line : LineKey) (new : Fact) → fact_at after line ≡ Some new → are_keys new.keys ≡ true
-      keys line new is = are_keys_of new (valid line new is)
+      keys : (line : LineKey) (new : Fact) → fact_in format after line ≡ Some new → are_keys new.keys ≡ true
+      keys line new is = are_keys_of format new (valid line new is)
 
-      by_rows : (e : FactEdit) (old new : Option Fact) → fact_at after (edited_line e) ≡ new → NeedsFact (edited_line e) old new (Some e) → IsValidFactEdit e
+      by_rows : (e : FactEdit) (old new : Option Fact) → fact_in format after (edited_line e) ≡ new → NeedsFact (edited_line e) old new (Some e) → IsValidFactEdit format e
       by_rows (Row (Put f)) None None at is = absurd cc
       by_rows (Row (Put f)) (Some old) None at is = absurd cc
-      by_rows (Row (Put f)) None (Some new) at is = let same : new ≡ f = cc in subst (λ g. is_fact g ≡ true) same (valid (row.fact.key f) new at)
+      by_rows (Row (Put f)) None (Some new) at is = let same : new ≡ f = cc in subst (λ g. (fact_layout format).is_valid g ≡ true) same (valid (row.fact.key f) new at)
       by_rows (Row (Put f)) (Some old) (Some new) at is = elim is [
         | inl kept ↦ let none = kept.1 in absurd cc
         | inr other ↦ elim other [
           | inl moved ↦ let rekeyed = moved.2 in absurd cc
-          | inr put ↦ let here = put.1 in let same : new ≡ f = cc in subst (λ g. is_fact g ≡ true) same (valid (row.fact.key f) new at)
+          | inr put ↦ let here = put.1 in let same : new ≡ f = cc in subst (λ g. (fact_layout format).is_valid g ≡ true) same (valid (row.fact.key f) new at)
         ]
       ]
       by_rows (Row (Remove line)) old new at is = tt
@@ -212,6 +260,7 @@ module _ (limits : Limits) (commands : List Accepted) (c : Accepted) (t : Tables
   pub may_be_written : MayBeWritten edits
   may_be_written = record {
     commands = record {
+      meta = plan_puts row.meta nat_list_cmp_total (IsValid row.meta) (meta_at (format_of commands) limits) (meta_at (format_of after) limits) edits.meta (are.meta limits) (λ r _ is. meta_valid (format_of after) limits r is);
       commands = plan_puts row.command nat_cmp_total (IsValid row.command) (command_at commands) (command_at after) edits.commands are.commands valid_put;
       members = plan_puts row.member member_cmp_total (IsValid row.member) (member_at commands) (member_at after) edits.members are.members (λ r _ is. member_valid limits after ok (row.member.key r) r is);
       changes = plan_puts row.change change_cmp_total (IsValid row.change) (change_at commands) (change_at after) edits.changes are.changes valid_change_put;
@@ -220,7 +269,8 @@ module _ (limits : Limits) (commands : List Accepted) (c : Accepted) (t : Tables
     facts = record {
       profiles = plan_puts row.profile nat_cmp_total (IsValid row.profile) (profile_at commands) (profile_at after) edits.profiles are.profiles (λ r _ is. profile_valid limits after ok r.number r is);
       calendar = plan_puts row.calendar nat_cmp_total (IsValid row.calendar) (calendar_at commands) (calendar_at after) edits.calendar are.calendar (λ r _ is. calendar_valid limits after ok r.date_key r is);
-      facts = exact_all row.fact.order line_cmp_total edited_line NeedsFact IsValidFactEdit (fact_at commands) (fact_at after) edits.facts are.facts valid_fact_edit;
+      facts = exact_all row.fact.order line_cmp_total edited_line NeedsFact (IsValidFactEdit One) (fact_in One commands) (fact_in One after) edits.facts are.facts (valid_fact_edit One);
+      facts2 = exact_all row.fact.order line_cmp_total edited_line NeedsFact (IsValidFactEdit Two) (fact_in Two commands) (fact_in Two after) edits.facts2 are.facts2 (valid_fact_edit Two);
     };
   }
 

@@ -42,6 +42,7 @@ use Rattle.wh_history.proofs.Until.{found_among, at_later_stays, key_later_stays
 use Rattle.wh_history.proofs.Stays.{types-last, profile_of_day_stays}
 use Rattle.wh_history.proofs.Untouched.{described-last}
 use Rattle.wh_rows.proofs.Orders.{line_cmp_total, line_cmp-IsAntisymmetric}
+use Rattle.wh_rows.specs.Facts.{facts_of}
 use Rattle.wh_rows.specs.Rows as row
 use Rattle.wh_rows.specs.Tables.{Tables}
 use Rattle.wh_rows.specs.declared.key.LineKey.{LineKey}
@@ -50,6 +51,7 @@ use Rattle.wh_model.specs.Defined.{AreOf, fact_at}
 use Rattle.wh_plan.specs.MovedFacts.{moved_for, rekeyed_facts, facts_with, facts_between, FactsOutsideTheDaysStay}
 use Rattle.wh_model.specs.Sound.{IsGoodSale, IsAccepted}
 use Rattle.wh_model.proofs.Following.{Named, owned, all_named, late_records_move_facts}
+use Rattle.wh_model.proofs.Formatted.{facts_are}
 use Rattle.wh_model.proofs.FoundPlaces.{same_number_is}
 use Rattle.wh_model.proofs.GrownKeys.{all_at}
 use Rattle.wh_model.proofs.GrownMembers.{opening_given}
@@ -265,9 +267,9 @@ module _ (limits : Limits) (commands : List Accepted) (c : Accepted) (rs : List 
       until = moves_until (stored_shown dim is natural) (after_shown dim is natural)
 
       -- a fact of the member that isn't between these days doesn't move
-      stays_outside : (key : LineKey) (f : Fact) → get t.fact key ≡ Some f → eq_by_cmp nat_cmp (durable_key dim after natural) (durable_of dim f) ≡ true → (f.day < since) ⊎ (until < f.day) → moved_for after dim natural f ≡ None
+      stays_outside : (key : LineKey) (f : Fact) → get (facts_of t) key ≡ Some f → eq_by_cmp nat_cmp (durable_key dim after natural) (durable_of dim f) ≡ true → (f.day < since) ⊎ (until < f.day) → moved_for after dim natural f ≡ None
       stays_outside key f here own apart =
-          let sale = sale_of key f (sym (are.fact key) ∙ here) in
+          let sale = sale_of key f (sym (facts_are limits commands t are key) ∙ here) in
           let s : SaleRecord = sale.0 in
           let durable : durable_key dim commands natural ≡ durable_of dim f = sym (durable_stays dim commands (c ∷ []) natural given) ∙ same_number_is (durable_key dim after natural) (durable_of dim f) own in
           let its : member_of_sale dim s ≡ Some natural = owner_is dim commands s natural given (durable ∙ ap (durable_of dim) (sym sale.1)) in
@@ -285,7 +287,7 @@ module _ (limits : Limits) (commands : List Accepted) (c : Accepted) (rs : List 
       abbrev moves_outside : Fact → Bool
       moves_outside f = own f && (not (is_between f) && is_some (moved_for after dim natural f))
 
-      none_outside : (key : LineKey) (f : Fact) → get t.fact key ≡ Some f → moves_outside f ≡ true → ⊥
+      none_outside : (key : LineKey) (f : Fact) → get (facts_of t) key ≡ Some f → moves_outside f ≡ true → ⊥
       none_outside key f here passes =
           let parts = both_true (own f) (not (is_between f) && is_some (moved_for after dim natural f)) passes in
           let rest = both_true (not (is_between f)) (is_some (moved_for after dim natural f)) parts.1 in
@@ -295,10 +297,10 @@ module _ (limits : Limits) (commands : List Accepted) (c : Accepted) (rs : List 
           cc
 
       -- so of its facts only those between them are asked for
-      pub moves_between_are_all : rekeyed_facts (shape_after dim after) (member_of dim after natural) (facts_between t.fact dim (durable_key dim after natural) since until)
-          ≡ rekeyed_facts (shape_after dim after) (member_of dim after natural) (facts_with t.fact dim (durable_key dim after natural))
-      moves_between_are_all = idle_left_out own is_between (moved_for after dim natural) (values t.fact)
-          (none_left moves_outside (values t.fact) (none_passes row.line_cmp line_cmp_total line_cmp-IsAntisymmetric row.fact.key moves_outside t.fact none_outside))
+      pub moves_between_are_all : rekeyed_facts (shape_after dim after) (member_of dim after natural) (facts_between (facts_of t) dim (durable_key dim after natural) since until)
+          ≡ rekeyed_facts (shape_after dim after) (member_of dim after natural) (facts_with (facts_of t) dim (durable_key dim after natural))
+      moves_between_are_all = idle_left_out own is_between (moved_for after dim natural) (values (facts_of t))
+          (none_left moves_outside (values (facts_of t)) (none_passes row.line_cmp line_cmp_total line_cmp-IsAntisymmetric row.fact.key moves_outside (facts_of t) none_outside))
 
 -- so the fact of such a day stays as it was
 pub facts_outside_stay : FactsOutsideTheDaysStay

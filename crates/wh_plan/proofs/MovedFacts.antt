@@ -19,6 +19,7 @@ use Rattle.wh_history.proofs.Joins.{all_weaker}
 use Rattle.wh_history.proofs.Once.{IsOnce, among_distinct, once_distinct, once_filtered}
 use Rattle.wh_history.proofs.Places.{one_place, place-distinct_given}
 use Rattle.wh_rows.proofs.Orders.{line_cmp_total, line_cmp-IsAntisymmetric}
+use Rattle.wh_rows.specs.Facts.{facts_of}
 use Rattle.wh_rows.specs.Rows as row
 use Rattle.wh_rows.specs.Tables.{Tables}
 use Rattle.wh_rows.specs.declared.key.LineKey.{LineKey}
@@ -28,6 +29,7 @@ use Rattle.wh_model.specs.Laws.{ShowsNoProfile, followed}
 use Rattle.wh_plan.specs.MovedFacts.{moved_for, moves_of_member, moves_of_members, MovedFactsAreExact}
 use Rattle.wh_plan.specs.BatchRows.{AreRekeyed, has_line}
 use Rattle.wh_plan.specs.NewRows.{members_among, naturals_told}
+use Rattle.wh_model.proofs.Formatted.{facts_are}
 use Rattle.wh_model.proofs.Following.{Named, all_named, late_records_move_facts}
 use Rattle.wh_model.proofs.FoundPlaces.{same_number_is, number_itself}
 use Rattle.wh_model.proofs.GrownChanges.{natural_among}
@@ -55,13 +57,13 @@ fact_keyed commands key f is = by_sale (find (on_line key) (sold commands)) refl
         line_is key f (ap (has_line key) (sym one) ∙ on)
 
 -- the facts of a line are up to one
-pub facts_of_line : (limits : Limits) (commands : List Accepted) (t : Tables) → AreOf limits commands t → (key : LineKey) → filter (has_line key) (values t.fact) ≡ option_to_list (fact_at commands key)
+pub facts_of_line : (limits : Limits) (commands : List Accepted) (t : Tables) → AreOf limits commands t → (key : LineKey) → filter (has_line key) (values (facts_of t)) ≡ option_to_list (fact_at commands key)
 facts_of_line limits commands t are key =
-    let keyed : (j : LineKey) (f : Fact) → get t.fact j ≡ Some f → row.fact.key f ≡ j = λ j f here. fact_keyed commands j f (sym (are.fact j) ∙ here) in
-    passes_at row.line_cmp line_cmp_total line_cmp-IsAntisymmetric row.fact.key (has_line key) t.fact key
+    let keyed : (j : LineKey) (f : Fact) → get (facts_of t) j ≡ Some f → row.fact.key f ≡ j = λ j f here. fact_keyed commands j f (sym (facts_are limits commands t are j) ∙ here) in
+    passes_at row.line_cmp line_cmp_total line_cmp-IsAntisymmetric row.fact.key (has_line key) (facts_of t) key
     (λ f here. let at = keyed key f here in (at, ap (λ k. has_line k f) (sym at) ∙ own_line f))
     (λ j f here on. sym (keyed j f here) ∙ line_is key f on)
-    ∙ ap option_to_list (are.fact key)
+    ∙ ap option_to_list (facts_are limits commands t are key)
 
 module _ (limits : Limits) (commands : List Accepted) (c : Accepted) (dim : Dim) (rs : List DimensionRecord) (t : Tables) (is : c.content ≡ Describes dim rs)
     (shown : dim ≡ Customer → ShowsNoProfile commands Product × ShowsNoProfile commands Store) (are : AreOf limits commands t) where
@@ -73,7 +75,7 @@ module _ (limits : Limits) (commands : List Accepted) (c : Accepted) (dim : Dim)
   touched = members_among commands dim (naturals_told rs)
 
   abbrev moves : List Fact
-  moves = moves_of_members commands after t.fact dim touched
+  moves = moves_of_members commands after (facts_of t) dim touched
 
   abbrev owns : Fact → List ℕ → Bool
   owns f natural = eq_by_cmp nat_cmp (durable_key dim commands natural) (durable_of dim f)
@@ -115,14 +117,14 @@ module _ (limits : Limits) (commands : List Accepted) (c : Accepted) (dim : Dim)
 
   moves_of_line : (key : LineKey) → filter (has_line key) moves ≡ option_to_list (option_and_then move_of (fact_at commands key))
   moves_of_line key =
-      filter_flat (has_line key) (moves_of_member commands after t.fact dim) touched
-      ∙ flat_map_same (λ n. filter (has_line key) (moves_of_member commands after t.fact dim n)) (λ n. option_to_list (option_and_then (gives n) (fact_at commands key))) by_member touched
+      filter_flat (has_line key) (moves_of_member commands after (facts_of t) dim) touched
+      ∙ flat_map_same (λ n. filter (has_line key) (moves_of_member commands after (facts_of t) dim n)) (λ n. option_to_list (option_and_then (gives n) (fact_at commands key))) by_member touched
       ∙ by_fact (fact_at commands key)
     where
-      by_member : (n : List ℕ) → filter (has_line key) (moves_of_member commands after t.fact dim n) ≡ option_to_list (option_and_then (gives n) (fact_at commands key))
+      by_member : (n : List ℕ) → filter (has_line key) (moves_of_member commands after (facts_of t) dim n) ≡ option_to_list (option_and_then (gives n) (fact_at commands key))
       by_member n =
-          ap (filter (has_line key)) (moves_of_some (λ f. owns f n) (moved_for after dim n) (values t.fact))
-          ∙ filter_moves (has_line key) (gives n) (keeps_line key n) (values t.fact)
+          ap (filter (has_line key)) (moves_of_some (λ f. owns f n) (moved_for after dim n) (values (facts_of t)))
+          ∙ filter_moves (has_line key) (gives n) (keeps_line key n) (values (facts_of t))
           ∙ ap (filter_map (gives n)) (facts_of_line limits commands t are key)
           ∙ moves_of_one (gives n) (fact_at commands key)
 

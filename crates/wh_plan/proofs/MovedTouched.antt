@@ -8,9 +8,10 @@ use Rattle.wh_policy.specs.Policy.{types_of}
 use Rattle.wh_policy.specs.Written.{IsSound}
 use Rattle.wh_policy.specs.declared.attribute.AttributeType.{AttributeType}
 use Rattle.wh_policy.specs.declared.attribute.Dim.{Dim}
+use Rattle.wh_policy.specs.declared.format.Format.{Format}
 use Rattle.wh_policy.specs.declared.policy.Policy.{Policy}
 use Rattle.wh_policy.specs.declared.record.DimensionRecord.{DimensionRecord}
-use Rattle.wh_history.specs.Accepted.{Accepted, Describes, types_in, profiles_of, durable_key, member_of, changes_of}
+use Rattle.wh_history.specs.Accepted.{Accepted, Describes, format_of, types_in, profiles_of, durable_key, member_of, changes_of}
 use Rattle.wh_history.specs.Dated.{dated}
 use Rattle.wh_history.specs.Laws.{governs}
 use Rattle.wh_history.specs.Facts.{key_in, rekeyed_fact}
@@ -29,6 +30,7 @@ use Rattle.wh_history.proofs.Basics.{some_is}
 use Rattle.wh_history.proofs.Growth.{durable_stays}
 use Rattle.wh_history.proofs.Knowing.{rows_enough, with_those, rekeyed_enough}
 use Rattle.wh_history.proofs.Stays.{policy_last}
+use Rattle.wh_rows.specs.Facts.{facts_in, facts_of}
 use Rattle.wh_rows.specs.Rows as row
 use Rattle.wh_rows.specs.Tables.{Tables}
 use Rattle.wh_model.specs.Defined.{AreOf, fact_at}
@@ -47,30 +49,30 @@ module _ (limits : Limits) (commands : List Accepted) (c : Accepted) (ok : IsAcc
   after = commands ++ c ∷ []
 
   abbrev by_rows : List ℕ → ℕ → List Fact
-  by_rows n durable = rekeyed_facts (shape_after dim after) (member_of dim after n) (facts_with t.fact dim durable)
+  by_rows n durable = rekeyed_facts (shape_after dim after) (member_of dim after n) (facts_with (facts_of t) dim durable)
 
   abbrev there : List ℕ → List Fact
-  there n = moved_of_touched (shape_after dim after) t.fact (member_of dim commands n, member_of dim after n)
+  there n = moved_of_touched (shape_after dim after) (facts_of t) (member_of dim commands n, member_of dim after n)
 
   -- what of the member's facts between the days moves
   abbrev by_days : List ℕ → List Fact
   by_days n =
       let shape = shape_after dim after in
       rekeyed_facts shape (member_of dim after n)
-      (facts_between t.fact dim (durable_key dim after n) (moves_since (changes_of dim commands n) (changes_of dim after n)) (moves_until (rendered_in shape (member_of dim commands n)) (rendered_in shape (member_of dim after n))))
+      (facts_between (facts_of t) dim (durable_key dim after n) (moves_since (changes_of dim commands n) (changes_of dim after n)) (moves_until (rendered_in shape (member_of dim commands n)) (rendered_in shape (member_of dim after n))))
 
-  pub moves_of_touched : (ns : List (List ℕ)) → flat_map (λ n. moved_of_touched (shape_after dim (commands ++ c ∷ [])) t.fact (member_of dim commands n, member_of dim (commands ++ c ∷ []) n)) ns
-      ≡ moves_of_members commands (commands ++ c ∷ []) t.fact dim (members_among commands dim ns)
+  pub moves_of_touched : (ns : List (List ℕ)) → flat_map (λ n. moved_of_touched (shape_after dim (commands ++ c ∷ [])) (facts_of t) (member_of dim commands n, member_of dim (commands ++ c ∷ []) n)) ns
+      ≡ moves_of_members commands (commands ++ c ∷ []) (facts_of t) dim (members_among commands dim ns)
   moves_of_touched [] = refl
   moves_of_touched (n ∷ ns) =
       let rest = moves_of_touched ns in
       elim (nat_lt 0 (durable_key dim commands n)) as (λ b. (nat_lt 0 (durable_key dim commands n) ≡ b)
-      → cond b (by_days n) [] ++ flat_map there ns ≡ moves_of_members commands after t.fact dim (cond b (n ∷ members_among commands dim ns) (members_among commands dim ns))) [
+      → cond b (by_days n) [] ++ flat_map there ns ≡ moves_of_members commands after (facts_of t) dim (cond b (n ∷ members_among commands dim ns) (members_among commands dim ns))) [
         | true ↦ λ e.
             let given = above_none (durable_key dim commands n) e in
             ap (λ fs. fs ++ flat_map there ns) (moves_between_are_all limits commands c rs ok dim is t are n given)
             ∙ ap (λ k. by_rows n k ++ flat_map there ns) (durable_stays dim commands (c ∷ []) n given)
-            ∙ ap (λ fs. moves_of_member commands after t.fact dim n ++ fs) rest
+            ∙ ap (λ fs. moves_of_member commands after (facts_of t) dim n ++ fs) rest
         | false ↦ λ _. rest
       ] refl
 
@@ -127,26 +129,28 @@ module _ (dim : Dim) (kinds : List AttributeType) (number : List (List ℕ) → 
       ap (λ fs. fs ++ flat_map (λ n. moved_of_touched (by number) table (g n, h n)) ns) (moves_known (g n) (h n) enough.0)
       ∙ ap (λ fs. moved_of_touched (by (profile_number combinations)) table (g n, h n) ++ fs) (all_moves_known g h ns enough.1)
 
--- for facts that a call gives
+-- for facts that a call gives, out of the table of the format
 pub facts_moved : (limits : Limits) (commands : List Accepted) (c : Accepted) (dim : Dim) (rs : List DimensionRecord) (kinds : List AttributeType) (t : Tables) → AreOf limits commands t → IsAccepted limits (commands ++ c ∷ []) → c.content ≡ Describes dim rs
     → AreTypes commands dim kinds
     → (number : List (List ℕ) → Option ℕ) → AllByRecursion (KnowsEnough dim kinds number (profiles_of (commands ++ c ∷ []))) (touched_by dim commands (commands ++ c ∷ []) rs).list
     → (pairs : List (Member × Member)) → pairs ≡ zip (map (member_of dim commands) (naturals_told rs)) (touched_by dim commands (commands ++ c ∷ []) rs).list
-    → (facts : List Fact) → facts ≡ flat_map (moved_of_touched (record { dim = dim; kinds = kinds; number = number }) t.fact) pairs
+    → (format : Format) → format ≡ format_of commands
+    → (facts : List Fact) → facts ≡ flat_map (moved_of_touched (record { dim = dim; kinds = kinds; number = number }) (facts_in format t)) pairs
     → AreFacts (fact_at commands) (fact_at (commands ++ c ∷ [])) facts × AreRekeyed (fact_at commands) facts
-facts_moved limits commands c dim rs kinds t are ok is typed number enough pairs paired facts made =
+facts_moved limits commands c dim rs kinds t are ok is typed number enough pairs paired format same facts made =
     let after = commands ++ c ∷ [] in
     let policy = typed.policy in
     let types : kinds ≡ types_in dim after = typed.are ∙ sym (ap (λ (o : Option Policy). unwrap_or (option_map (λ (p : Policy). types_of p dim) o) []) (policy_last None commands c (ap governs is) ∙ typed.governed)) in
     let numbers = profile_number (profiles_of after) in
     let ns = naturals_told rs in
     let by : List AttributeType → (List (List ℕ) → Option ℕ) → Shape = λ ks numbers. record { dim = dim; kinds = ks; number = numbers } in
-    let all : facts ≡ moves_of_members commands after t.fact dim (members_among commands dim ns) =
+    let all : facts ≡ moves_of_members commands after (facts_of t) dim (members_among commands dim ns) =
     made
-    ∙ ap (flat_map (moved_of_touched (by kinds number) t.fact)) paired
-    ∙ pairs_through (moved_of_touched (by kinds number) t.fact) (member_of dim commands) (member_of dim after) ns
-    ∙ all_moves_known dim kinds number (profiles_of after) t.fact (member_of dim commands) (member_of dim after) ns enough
-    ∙ ap (λ (ks : List AttributeType). flat_map (λ n. moved_of_touched (by ks numbers) t.fact (member_of dim commands n, member_of dim after n)) ns) types
+    ∙ ap (λ (f : Format). flat_map (moved_of_touched (by kinds number) (facts_in f t)) pairs) (same ∙ sym are.format)
+    ∙ ap (flat_map (moved_of_touched (by kinds number) (facts_of t))) paired
+    ∙ pairs_through (moved_of_touched (by kinds number) (facts_of t)) (member_of dim commands) (member_of dim after) ns
+    ∙ all_moves_known dim kinds number (profiles_of after) (facts_of t) (member_of dim commands) (member_of dim after) ns enough
+    ∙ ap (λ (ks : List AttributeType). flat_map (λ n. moved_of_touched (by ks numbers) (facts_of t) (member_of dim commands n, member_of dim after n)) ns) types
     ∙ moves_of_touched limits commands c ok dim rs is t are ns in
     let plain = sound_policies_show_none commands (λ (p : Policy) same. subst IsSound (some_is policy p (sym typed.governed ∙ same)) typed.sound) in
     subst (λ fs. AreFacts (fact_at commands) (fact_at after) fs × AreRekeyed (fact_at commands) fs) (sym all) (moved_facts_are_exact limits commands c dim rs t is (λ _. plain) are)

@@ -14,6 +14,7 @@ use Rattle.wh_history.specs.Shapes.{Shape, shape_after, rendered_in}
 use Rattle.wh_history.specs.Tables.{Limits, fact_of}
 use Rattle.wh_history.specs.declared.facts.Fact.{Fact}
 use Rattle.wh_history.specs.declared.member.Member.{Member}
+use Rattle.wh_rows.specs.Facts.{facts_of}
 use Rattle.wh_rows.specs.Rows as row
 use Rattle.wh_rows.specs.Tables.{Tables}
 use Rattle.wh_rows.specs.Questions.{durable_of, is_sold_between}
@@ -64,8 +65,8 @@ MovedFactsAreExact = (limits : Limits) (commands : List Accepted) (c : Accepted)
     → c.content ≡ Describes dim records
     → (dim ≡ Customer → ShowsNoProfile commands Product × ShowsNoProfile commands Store)
     → AreOf limits commands t
-    → AreFacts (fact_at commands) (fact_at (commands ++ c ∷ [])) (moves_of_members commands (commands ++ c ∷ []) t.fact dim (members_among commands dim (naturals_told records)))
-    × AreRekeyed (fact_at commands) (moves_of_members commands (commands ++ c ∷ []) t.fact dim (members_among commands dim (naturals_told records)))
+    → AreFacts (fact_at commands) (fact_at (commands ++ c ∷ [])) (moves_of_members commands (commands ++ c ∷ []) (facts_of t) dim (members_among commands dim (naturals_told records)))
+    × AreRekeyed (fact_at commands) (moves_of_members commands (commands ++ c ∷ []) (facts_of t) dim (members_among commands dim (naturals_told records)))
 
 -- the day is before or after those of which a touched member's facts are asked for
 abbrev pub IsOutside : List Accepted → List Accepted → Dim → List ℕ → ℕ → Type 0

@@ -1,16 +1,18 @@
 //! The rows that a batch brings, and the edits that they are.
 
 ghost use Rattle.std.specs.Prelude.{◌≡◌, ◌++◌, ◌∷◌, [], false, List, map, length, IfOk};
-ghost use Rattle.wh_history.specs.Accepted.{Accepted};
+ghost use Rattle.wh_history.specs.Accepted.{Accepted, format_of};
 ghost use Rattle.wh_history.specs.Laws.{governs};
 ghost use Rattle.wh_history.specs.declared.plan.Edit.TheVariants.{Put};
 ghost use Rattle.wh_plan.specs.BatchRows.{AreBatchRows};
 ghost use Rattle.wh_plan.specs.Edits.{AreEdits};
 
 use crate::edits::{Edits, FactEdit};
+use crate::fact_edits::in_tables;
 use std::alloc::{AllocError, Global};
 use std::marker::Model;
 use wh_history::{DimRow, Edit};
+use wh_policy::Format;
 use wh_rows::{ChangeRow, CommandRow, MemberRow, ProfileRow};
 
 /// What a batch brings: its own row, the rows of the members that it is the first to mention, of its records and of the profiles
@@ -58,14 +60,22 @@ fn puts<Row: Drop, Key: Drop>(
     Ok(edits)
 }
 
-/// The edits of a batch, by the rows that it brings.
-pub(crate) fn edits_of_batch(alloc: Global, rows: BatchRows) -> Result<Edits, AllocError>
-    ensures exact { (commands : List Accepted) (c : Accepted) → governs c.content ≡ false → AreBatchRows commands c rows → IfOk result (AreEdits commands (commands ++ c ∷ [])) }
+/// The edits of a batch, by the rows that it brings and the format of the tables, which it leaves as it is.
+pub(crate) fn edits_of_batch(
+    alloc: Global,
+    format: Format,
+    rows: BatchRows,
+) -> Result<Edits, AllocError>
+    ensures exact { (commands : List Accepted) (c : Accepted) → format ≡ format_of commands → format_of (commands ++ c ∷ []) ≡ format_of commands → governs c.content ≡ false
+        → AreBatchRows commands c rows → IfOk result (AreEdits commands (commands ++ c ∷ [])) }
     ensures own { IfOk result (λ edits. length edits.commands ≡ 1) }
 {
     let mut commands = Vec::new(alloc);
     commands.push(Edit::Put(rows.command))?;
+    let facts = in_tables(alloc, format, rows.facts);
     Ok(Edits {
+        upgrades: false,
+        meta: Vec::new(alloc),
         commands,
         members: puts(alloc, rows.members)?,
         changes: puts(alloc, rows.changes)?,
@@ -74,6 +84,7 @@ pub(crate) fn edits_of_batch(alloc: Global, rows: BatchRows) -> Result<Edits, Al
         customers: rows.customers,
         profiles: puts(alloc, rows.profiles)?,
         calendar: Vec::new(alloc),
-        facts: rows.facts,
+        facts: facts.one,
+        facts2: facts.two,
     })
 }

@@ -5,9 +5,11 @@ ghost use Rattle.wh_plan.specs.Edits.{no_edits};
 
 use std::alloc::Global;
 use std::marker::Model;
-use wh_day::{DateRow, Day};
+use wh_day::{DateRow, Day, Value};
 use wh_history::{DimRow, Edit, Fact, FactKeys};
-use wh_rows::{ChangeKey, ChangeRow, CommandRow, LineKey, MemberKey, MemberRow, ProfileRow};
+use wh_rows::{
+    ChangeKey, ChangeRow, CommandRow, LineKey, MemberKey, MemberRow, MetaRow, ProfileRow,
+};
 
 /// A change of one fact.
 #[derive(Debug, Drop)]
@@ -21,6 +23,9 @@ pub enum FactEdit {
 /// What a command writes: for each table the edits of its rows, in order of their keys. A key whose row stays the same has none.
 #[derive(Debug, Drop)]
 pub struct Edits {
+    /// The tables of the second format are made first.
+    pub upgrades: bool,
+    pub meta: Vec<Edit<MetaRow, Value>>,
     pub commands: Vec<Edit<CommandRow, u64>>,
     pub members: Vec<Edit<MemberRow, MemberKey>>,
     pub changes: Vec<Edit<ChangeRow, ChangeKey>>,
@@ -29,7 +34,10 @@ pub struct Edits {
     pub customers: Vec<Edit<DimRow, u64>>,
     pub profiles: Vec<Edit<ProfileRow, u64>>,
     pub calendar: Vec<Edit<DateRow, Day>>,
+    /// Of the facts of the first format.
     pub facts: Vec<FactEdit>,
+    /// Of those of the second.
+    pub facts2: Vec<FactEdit>,
 }
 
 impl Edits {
@@ -38,6 +46,8 @@ impl Edits {
         ensures { result ≡ no_edits }
     {
         Edits {
+            upgrades: false,
+            meta: Vec::new(alloc),
             commands: Vec::new(alloc),
             members: Vec::new(alloc),
             changes: Vec::new(alloc),
@@ -47,6 +57,7 @@ impl Edits {
             profiles: Vec::new(alloc),
             calendar: Vec::new(alloc),
             facts: Vec::new(alloc),
+            facts2: Vec::new(alloc),
         }
     }
 }
@@ -57,6 +68,8 @@ impl Model for Edits {
     ghost Value = { Lists };
 
     ghost view = { λ e. record {
+      upgrades = e.upgrades;
+      meta = e.meta.items;
       commands = e.commands.items;
       members = e.members.items;
       changes = e.changes.items;
@@ -66,5 +79,6 @@ impl Model for Edits {
       profiles = e.profiles.items;
       calendar = e.calendar.items;
       facts = e.facts.items;
+      facts2 = e.facts2.items;
     } };
 }

@@ -6,12 +6,14 @@ ghost use Rattle.std.specs.List.Sorted.{IsPermutation, IsSorted};
 ghost use Rattle.wh_rows.specs.Rows.{fact as layout};
 ghost use Rattle.wh_plan.specs.BatchRows.{AreFacts, AreRekeyed};
 ghost use Rattle.wh_plan.specs.Edits.{IsFactPlan};
-ghost use Rattle.wh_plan.specs.FactEdits.{Facts, by_line, put_of, rekey_of};
+ghost use Rattle.wh_plan.specs.FactEdits.{Facts, by_line, edits_in, put_of, remove_of, rekey_of};
+ghost use Rattle.wh_policy.specs.declared.format.Format.TheVariants.{One, Two};
 
 use crate::edits::FactEdit;
 use std::alloc::{AllocError, Global};
 use std::cmp::Ordering;
 use wh_history::{Edit, Fact};
+use wh_policy::Format;
 use wh_rows::LineKey;
 
 /// How the lines of two facts stand to each other: by the bytes of their tickets, and then by number.
@@ -74,6 +76,28 @@ fn each_rekeyed(alloc: Global, facts: Vec<Fact>) -> Result<Vec<FactEdit>, AllocE
     Ok(edits)
 }
 
+/// The edit that takes a fact out.
+fn remove_of(fact: &Fact) -> Result<FactEdit, AllocError>
+    ensures { IfOk result (λ edit. edit ≡ remove_of fact.now) }
+{
+    let line = LineKey {
+        ticket: fact.ticket.copy()?,
+        line: fact.line,
+    };
+    Ok(FactEdit::Row(Edit::Remove(line)))
+}
+
+/// The edits that take facts out, one after the other.
+fn each_removed(alloc: Global, facts: &[Fact]) -> Result<Vec<FactEdit>, AllocError>
+    ensures { IfOk result (λ edits. edits.items ≡ map remove_of facts.now) }
+{
+    let mut edits = Vec::new(alloc);
+    for fact in facts {
+        edits.push(remove_of(fact)?)?;
+    }
+    Ok(edits)
+}
+
 /// The edits that put facts, whose lines are not there, in order of their lines.
 pub(crate) fn fact_puts(alloc: Global, facts: Vec<Fact>) -> Result<Vec<FactEdit>, AllocError>
     ensures { (before after : Facts) → AreFacts before after facts.items → AllByRecursion (λ f. before (layout.key f) ≡ None) facts.items → IfOk result (λ edits. IsFactPlan before after edits.items) }
@@ -90,4 +114,41 @@ pub fn fact_rekeys(alloc: Global, facts: Vec<Fact>) -> Result<Vec<FactEdit>, All
     let mut facts = facts;
     sort_by_line(&mut facts);
     each_rekeyed(alloc, facts)
+}
+
+/// The edits of the facts in the table of each format.
+#[derive(Drop)]
+pub struct FactTables {
+    pub one: Vec<FactEdit>,
+    pub two: Vec<FactEdit>,
+}
+
+/// Edits of the facts of a format, which stand in its table alone.
+pub fn in_tables(alloc: Global, format: Format, edits: Vec<FactEdit>) -> FactTables
+    ensures one { result.one.items ≡ edits_in One format edits.items }
+    ensures two { result.two.items ≡ edits_in Two format edits.items }
+{
+    let none = Vec::new(alloc);
+    match format {
+        Format::One => FactTables {
+            one: edits,
+            two: none,
+        },
+        Format::Two => FactTables {
+            one: none,
+            two: edits,
+        },
+    }
+}
+
+/// The edits that carry all facts from the table of the first format to that of the second, each in order of their lines.
+pub fn carried_over(alloc: Global, facts: Vec<Fact>) -> Result<FactTables, AllocError>
+    ensures one { (kept : Facts) → AreFacts (λ _. None) kept facts.items → IfOk result (λ edits. IsFactPlan kept (λ _. None) edits.one.items) }
+    ensures two { (kept : Facts) → AreFacts (λ _. None) kept facts.items → IfOk result (λ edits. IsFactPlan (λ _. None) kept edits.two.items) }
+{
+    let mut facts = facts;
+    sort_by_line(&mut facts);
+    let one = each_removed(alloc, &facts)?;
+    let two = each_put(alloc, facts)?;
+    Ok(FactTables { one, two })
 }

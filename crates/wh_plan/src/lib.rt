@@ -14,7 +14,9 @@ pub mod profiles;
 pub mod reading;
 mod records;
 pub mod sales;
+mod terms;
 
 pub use edits::{Edits, FactEdit};
 pub use records::record_plan::plan_batch;
 pub use sales::sale_plan::plan_sales;
+pub use terms::Terms;

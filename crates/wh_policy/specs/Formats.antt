@@ -12,3 +12,9 @@ format_number Two = 2
 abbrev pub is_two : Format → Bool
 is_two One = false
 is_two Two = true
+
+abbrev pub same_format : Format → Format → Bool
+same_format One One = true
+same_format One Two = false
+same_format Two One = false
+same_format Two Two = true

@@ -1,6 +1,6 @@
 -- What a check of a warehouse's file leaves of what stood.
-use Rattle.std.proofs.Common.{◌≡◌, inl, inr, refl, List, None, Result, Ok, Err}
-use Rattle.std.specs.Prelude.{IfOk}
+use Rattle.std.proofs.Common.{◌≡◌, inl, inr, refl, sym, Bool, true, false, List, Option, Some, None, Result, Ok, Err}
+use Rattle.std.specs.Prelude.{IfOk, ℤ, pos, int_lt, if◌then◌else◌}
 use Rattle.sqlite.specs.State.{State}
 use Rattle.wh_history.specs.Accepted.{Accepted}
 use Rattle.wh_history.specs.Tables.{Limits}
@@ -9,7 +9,8 @@ use Rattle.wh_rows.specs.Raw.{Stored, RestsOn, LeavesStored}
 use Rattle.wh_store.specs.Opening.{SparesStore}
 use Rattle.wh_policy.specs.Formats.{is_two}
 use Rattle.wh_policy.specs.declared.format.Format.{Format}
-use Rattle.wh_policy.specs.declared.format.Format.TheVariants.{One}
+use Rattle.wh_policy.specs.declared.format.Format.TheVariants.{One, Two}
+use Rattle.wh_store.specs.Meta.{format_of}
 use Rattle.wh_store.specs.Raw.{FormatIs}
 use Rattle.wh_store.specs.declared.fault.OpenFault.{OpenFault}
 use Rattle.wh_store.specs.declared.fault.OpenFault.TheVariants as opening
@@ -24,11 +25,11 @@ use Rattle.wh_engine.specs.Opened.{SessionIs, IsNotOpened, IsUnopened as Unopene
 use Rattle.wh_engine.specs.declared.fault.Fault.{Fault}
 use Rattle.wh_engine.specs.declared.fault.Fault.TheVariants as fault
 use Rattle.wh_engine.specs.declared.session.Session.{Session}
-use Rattle.wh_program.specs.Check.{IsFoundClean, IsVerdictOn, Checks}
+use Rattle.wh_program.specs.Check.{IsFoundClean, SaysItsFormat, IsVerdictOn, Checks}
 use Rattle.wh_program.specs.Reply.{opening_answer, verdict_answer}
 use Rattle.wh_program.specs.Standing.{DatabaseContent, Nothing, Holds, Keeps, Standing, Rests, LeftAt, IsAt, Stands}
 use Rattle.wh_program.specs.Warehouse.{Told, IsOpenedBy}
-use Rattle.wh_program.proofs.WarehouseLemmas.{left, opened, unopened, opened_by, unread}
+use Rattle.wh_program.proofs.WarehouseLemmas.{left, unopened, unread}
 
 -- of accepted commands
 found_clean : (limits : Limits) (commands : List Accepted) (told : Told) (verdict : Result Verdict Fault) (session : Session) (s : State)
@@ -38,39 +39,56 @@ found_clean limits commands told verdict session s tells is =
     let l = left (λ told. told ≡ Ok Clean) commands commands limits verdict session s is in
     (l.0, record { verdict = verdict; leaves = l.1; tells = tells }, l.2)
 
--- of rows that anybody wrote
-judged : (stored : Stored) (told : Told) (verdict : Result Verdict Fault) (s : State)
-    → IfOk told (λ a. a ≡ verdict_answer verdict) → stored.format ≡ One → IsOpenedBy stored → IsChecked stored verdict → (IsServed verdict → RestsOn stored s) → LeavesStored stored s
-    → (after : Standing) × IsVerdictOn stored told after × Stands after s
-judged stored told (Ok verdict) s tells first opened due rests left = (Rests (Keeps stored), record { opened = opened; verdict = Ok verdict; due = due; leaves = refl; tells = tells }, (first, rests tt))
-judged stored told (Err (fault.Refused why)) s tells first opened due rests left = absurd due
-judged stored told (Err (fault.Damaged table)) s tells first opened due rests left =
-    (Rests (Keeps stored), record { opened = opened; verdict = Err (fault.Damaged table); due = due; leaves = refl; tells = tells }, (first, rests tt))
-judged stored told (Err fault.Memory) s tells first opened due rests left = (Rests (Keeps stored), record { opened = opened; verdict = Err fault.Memory; due = due; leaves = refl; tells = tells }, (first, rests tt))
-judged stored told (Err (fault.Store cause)) s tells first opened due rests left =
-    (LeftAt (Keeps stored) (Keeps stored), record { opened = opened; verdict = Err (fault.Store cause); due = due; leaves = refl; tells = tells }, record { each = λ trees may. inl (left.each trees may) })
-judged stored told (Err fault.Reopen) s tells first opened due rests left = absurd due
+-- ---- of rows that anybody wrote
+
+-- without the tables of the second format no number says it
+no_second : (old new first : Bool) (said : Format) → (if old then Err opening.OldFormat else if new then Err opening.NewFormat else if first then Ok One else Err opening.NotAWarehouse) ≡ Ok said → said ≡ One
+no_second true new first said is = absurd (cc)
+no_second false true first said is = absurd (cc)
+no_second false false true said is = cc
+no_second false false false said is = absurd (cc)
+
+says_the_first : (number : Option ℤ) (said : Format) → format_of Two false number ≡ Ok said → said ≡ One
+says_the_first None said is = absurd (cc)
+says_the_first (Some number) said is = no_second (int_lt number (pos 1)) (int_lt (pos 2) number) (int_lt number (pos 2)) said is
+
+-- so what is said is the tables' format, where meta says it
+says_its_own : (stored : Stored) (has said : Format) → FormatIs Two (is_two has) stored (Ok said) → SaysItsFormat has said → has ≡ said
+says_its_own stored One said says its = sym (says_the_first says.0 said says.2)
+says_its_own stored Two said says its = sym its
+
+module _ (stored : Stored) (told : Told) (opened : IsOpenedBy stored) where
+  judged : (verdict : Result Verdict Fault) (s : State)
+      → IfOk told (λ a. a ≡ verdict_answer verdict) → (SaysItsFormat stored.format opened.session.format → IsChecked stored verdict) → (IsServed verdict → RestsOn stored s) → LeavesStored stored s
+      → (after : Standing) × IsVerdictOn stored told after × Stands after s
+  judged (Ok verdict) s tells due rests left = (Rests (Keeps stored), record { opened = opened; verdict = Ok verdict; due = due; leaves = refl; tells = tells }, rests tt)
+  judged (Err (fault.Refused why)) s tells due rests left = (Rests (Keeps stored), record { opened = opened; verdict = Err (fault.Refused why); due = due; leaves = refl; tells = tells }, rests tt)
+  judged (Err (fault.Damaged table)) s tells due rests left = (Rests (Keeps stored), record { opened = opened; verdict = Err (fault.Damaged table); due = due; leaves = refl; tells = tells }, rests tt)
+  judged (Err fault.Memory) s tells due rests left = (Rests (Keeps stored), record { opened = opened; verdict = Err fault.Memory; due = due; leaves = refl; tells = tells }, rests tt)
+  judged (Err (fault.Store cause)) s tells due rests left =
+      (LeftAt (Keeps stored) (Keeps stored), record { opened = opened; verdict = Err (fault.Store cause); due = due; leaves = refl; tells = tells }, record { each = λ trees may. inl (left.each trees may) })
+  judged (Err fault.Reopen) s tells due rests left = (Rests (Keeps stored), record { opened = opened; verdict = Err fault.Reopen; due = due; leaves = refl; tells = tells }, rests tt)
 
 module _ (content : DatabaseContent) (told : Told) where
   -- a file that was opened and checked
-  pub checked : (format : Format) (verdict : Result Verdict Fault) (first last : Session) (s0 s1 s2 : State)
+  pub checked : (verdict : Result Verdict Fault) (first last : Session) (s0 s1 s2 : State)
       → ((limits : Limits) (commands : List Accepted) → AreAdmitted limits commands → engine.Rests limits commands s0 → IsReady limits commands first s1)
       → ((limits : Limits) (commands : List Accepted) → IsReady limits commands first s1 → IsCheckedOf limits commands verdict last s2)
       → (IsAtRest None s0 → ⊥)
-      → ((stored : Stored) → RestsOn stored s0 → FormatIs One (is_two stored.format) stored (Ok format) × SessionIs stored first × RestsOn stored s1)
-      → ((stored : Stored) → RestsOn stored s1 → stored.format ≡ One → IsChecked stored verdict)
+      → ((stored : Stored) → RestsOn stored s0 → SessionIs stored first × RestsOn stored s1)
+      → ((stored : Stored) → RestsOn stored s1 → stored.format ≡ first.format → IsChecked stored verdict)
       → ((stored : Stored) → RestsOn stored s1 → IsServed verdict → RestsOn stored s2)
       → ((stored : Stored) → RestsOn stored s1 → LeavesStored stored s2)
       → IfOk told (λ a. a ≡ verdict_answer verdict)
       → IsAt content s0 → (after : Standing) × Checks content told after × Stands after s2
-  checked format verdict first last s0 s1 s2 opens sound missing found due rests left tells at = elim content as (λ what. IsAt what s0 → (after : Standing) × Checks what told after × Stands after s2) [
+  checked verdict first last s0 s1 s2 opens sound missing found due rests left tells at = elim content as (λ what. IsAt what s0 → (after : Standing) × Checks what told after × Stands after s2) [
     | Nothing ↦ λ at. absurd (missing at)
     | Holds limits commands ↦ λ at.
         let it = found_clean limits commands told verdict last s2 tells (sound limits commands (opens limits commands at.0 at.1)) in
         (it.0, inl it.1, it.2)
     | Keeps stored ↦ λ at.
-        let here = found stored at.1 in
-        let it = judged stored told verdict s2 tells at.0 (opened_by stored format first s1 here) (due stored here.2 at.0) (rests stored here.2) (left stored here.2) in
+        let here = found stored at in
+        let it = judged stored told (record { session = first; says = here.0 }) verdict s2 tells (λ its. due stored here.1 (says_its_own stored stored.format first.format here.0.0 its)) (rests stored here.1) (left stored here.1) in
         (it.0, inl it.1, it.2)
   ] at
 
@@ -84,5 +102,5 @@ module _ (content : DatabaseContent) (told : Told) where
   unchecked why s0 s1 refused missing bad tells at = elim content as (λ what. IsAt what s0 → (after : Standing) × Checks what told after × Stands after s1) [
     | Nothing ↦ λ at. unopened IsFoundClean Nothing told why s0 s1 refused missing bad tells at
     | Holds limits commands ↦ λ at. unopened IsFoundClean (Holds limits commands) told why s0 s1 refused missing bad tells at
-    | Keeps stored ↦ λ at. let it = unread stored told why s1 at.0 tells (bad stored at.1) in (it.0, inr it.1, it.2)
+    | Keeps stored ↦ λ at. let it = unread stored told why s1 tells (bad stored at) in (it.0, inr it.1, it.2)
   ] at

@@ -5,7 +5,7 @@ use Rattle.clap.specs.Words.{Kinds, Text, subcommand_of}
 use Rattle.clap.specs.declared.error.kind.ErrorKind.{ErrorKind}
 use Rattle.clap.specs.declared.error.kind.ErrorKind.TheVariants.{MissingSubcommand}
 use Rattle.clap.proofs.OnLiterals.{clap_on_literals}
-use Rattle.wh_program.specs.CommandLine.{CommandLine, Trial, Init, Load, Migrate, Deliver, Plan, Report, Dump, Check, Status, program_app, words_of, is_operand, has_operands, named, Says}
+use Rattle.wh_program.specs.CommandLine.{CommandLine, Trial, Init, Load, Migrate, Upgrade, Deliver, Plan, Report, Dump, Check, Status, program_app, words_of, is_operand, has_operands, named, Says}
 use Rattle.wh_program.specs.Task.{task_of, no_line, when_none, faults_in, asked_by}
 use Rattle.wh_program.proofs.CommandLineLemmas.{IsPlain, plain, both, found}
 
@@ -30,6 +30,10 @@ load_faultless f k i p f-is k-is i-is p-is = rw (f-is.no_end, f-is.no_long, f-is
 migrate_faultless : (f i p : Text) → IsPlain f → IsPlain i → IsPlain p → faults_in (words_of (Migrate f i p)) ≡ []
 unfolding faults_in clap_on_literals
 migrate_faultless f i p f-is i-is p-is = rw (f-is.no_end, f-is.no_long, f-is.no_short, i-is.no_end, i-is.no_long, i-is.no_short, p-is.no_end, p-is.no_long, p-is.no_short) refl
+
+upgrade_faultless : (f i : Text) → IsPlain f → IsPlain i → faults_in (words_of (Upgrade f i)) ≡ []
+unfolding faults_in clap_on_literals
+upgrade_faultless f i f-is i-is = rw (f-is.no_end, f-is.no_long, f-is.no_short, i-is.no_end, i-is.no_long, i-is.no_short) refl
 
 deliver_faultless : (f m : Text) → IsPlain f → IsPlain m → faults_in (words_of (Deliver f m)) ≡ []
 unfolding faults_in clap_on_literals
@@ -76,6 +80,7 @@ faultless (Migrate f i p) is =
     let f-is = both (is_operand f) _ is in
     let i-is = both (is_operand i) _ f-is.1 in
     migrate_faultless f i p (plain f f-is.0) (plain i i-is.0) (plain p i-is.1)
+faultless (Upgrade f i) is = let f-is = both (is_operand f) _ is in upgrade_faultless f i (plain f f-is.0) (plain i f-is.1)
 faultless (Deliver f m) is = let f-is = both (is_operand f) _ is in deliver_faultless f m (plain f f-is.0) (plain m f-is.1)
 faultless (Plan f k i p) is =
     let f-is = both (is_operand f) _ is in

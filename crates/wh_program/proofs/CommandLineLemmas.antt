@@ -3,7 +3,7 @@ use Rattle.std.proofs.Common.{◌≡◌, [], ◌∷◌, refl, sym, true, false, 
 use Rattle.clap.specs.Words.{is_simple, takes, subcommand_of, Text}
 use Rattle.clap.specs.Lexer.{long_of, short_of}
 use Rattle.clap.proofs.OnLiterals.{clap_on_literals}
-use Rattle.wh_program.specs.CommandLine.{CommandLine, Trial, Init, Load, Migrate, Deliver, Plan, Report, Dump, Check, Status, program_app, words_of, is_operand, has_operands, named}
+use Rattle.wh_program.specs.CommandLine.{CommandLine, Trial, Init, Load, Migrate, Upgrade, Deliver, Plan, Report, Dump, Check, Status, program_app, words_of, is_operand, has_operands, named}
 
 not-true : (b : Bool) → not b ≡ true → b ≡ false
 not-true true h = cc
@@ -68,6 +68,14 @@ migrate_taken f i p f-is i-is p-is = rw (f-is.no_end, f-is.no_long, f-is.no_shor
 migrate_named : (f i p : Text) → IsPlain f → IsPlain i → IsPlain p → named (subcommand_of program_app (words_of (Migrate f i p))) ≡ Some (Migrate f i p)
 unfolding clap_on_literals
 migrate_named f i p f-is i-is p-is = rw (f-is.no_end, f-is.no_long, f-is.no_short, i-is.no_end, i-is.no_long, i-is.no_short, p-is.no_end, p-is.no_long, p-is.no_short) (refl {a = Some (Migrate f i p)})
+
+upgrade_taken : (f i : Text) → IsPlain f → IsPlain i → takes program_app (words_of (Upgrade f i)) ≡ true
+unfolding clap_on_literals
+upgrade_taken f i f-is i-is = rw (f-is.no_end, f-is.no_long, f-is.no_short, i-is.no_end, i-is.no_long, i-is.no_short) refl
+
+upgrade_named : (f i : Text) → IsPlain f → IsPlain i → named (subcommand_of program_app (words_of (Upgrade f i))) ≡ Some (Upgrade f i)
+unfolding clap_on_literals
+upgrade_named f i f-is i-is = rw (f-is.no_end, f-is.no_long, f-is.no_short, i-is.no_end, i-is.no_long, i-is.no_short) (refl {a = Some (Upgrade f i)})
 
 deliver_taken : (f m : Text) → IsPlain f → IsPlain m → takes program_app (words_of (Deliver f m)) ≡ true
 unfolding clap_on_literals
@@ -141,6 +149,7 @@ taken (Migrate f i p) is =
     let f-is = both (is_operand f) _ is in
     let i-is = both (is_operand i) _ f-is.1 in
     migrate_taken f i p (plain f f-is.0) (plain i i-is.0) (plain p i-is.1)
+taken (Upgrade f i) is = let f-is = both (is_operand f) _ is in upgrade_taken f i (plain f f-is.0) (plain i f-is.1)
 taken (Deliver f m) is = let f-is = both (is_operand f) _ is in deliver_taken f m (plain f f-is.0) (plain m f-is.1)
 taken (Plan f k i p) is =
     let f-is = both (is_operand f) _ is in
@@ -177,6 +186,7 @@ found (Migrate f i p) is =
     let f-is = both (is_operand f) _ is in
     let i-is = both (is_operand i) _ f-is.1 in
     migrate_named f i p (plain f f-is.0) (plain i i-is.0) (plain p i-is.1)
+found (Upgrade f i) is = let f-is = both (is_operand f) _ is in upgrade_named f i (plain f f-is.0) (plain i f-is.1)
 found (Deliver f m) is = let f-is = both (is_operand f) _ is in deliver_named f m (plain f f-is.0) (plain m f-is.1)
 found (Plan f k i p) is =
     let f-is = both (is_operand f) _ is in

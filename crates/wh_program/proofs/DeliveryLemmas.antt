@@ -15,7 +15,7 @@ use Rattle.wh_engine.specs.declared.fault.Fault.{Fault}
 use Rattle.wh_engine.specs.declared.fault.Fault.TheVariants as fault
 use Rattle.wh_engine.specs.declared.session.Session.{Session}
 use Rattle.wh_program.specs.Delivery.{answered_lines, delivery_answer, IsDelivered, AreCommandsOf, IsFirstMissing}
-use Rattle.wh_program.specs.Inputs.{Files}
+use Rattle.wh_program.specs.Inputs.{Files, as_input}
 use Rattle.wh_program.specs.Standing.{Holds, Standing, Rests, LeftAt, Stands}
 use Rattle.wh_program.specs.Warehouse.{Told, printed, IsCommandOf}
 
@@ -70,11 +70,11 @@ module _ (holds : Files) (entries : List ManifestEntry) where
       let first = rw here at so in
       record {
         all = λ more are. rw append_assoc (first.all (c ∷ more) (is, are));
-        missing = λ path later. first.missing path (inr (is.1.0, is.1.1, later));
+        missing = λ path later. first.missing path (inr (is.0, is.1, later));
       }
 
   -- the file of the next isn't there
-  pub so_far-missing : (sent : List Command) (i : ℕ) (e : ManifestEntry) → i < length entries → e ≡ get_or entries i e → holds e.path None → IsSoFar holds entries sent (drop i entries) → IsFirstMissing holds entries e.path
+  pub so_far-missing : (sent : List Command) (i : ℕ) (e : ManifestEntry) → i < length entries → e ≡ get_or entries i e → as_input e.kind holds e.path None → IsSoFar holds entries sent (drop i entries) → IsFirstMissing holds entries e.path
   so_far-missing sent i e within at none so =
       let here = drop_more entries i e within ∙ ap (λ (x : ManifestEntry). x ∷ drop (i + 1) entries) (sym at) in
       (rw here at so).missing e.path (inl (none, refl))

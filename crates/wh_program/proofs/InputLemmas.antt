@@ -10,9 +10,9 @@ use Rattle.wh_policy.specs.declared.attribute.Dim.{Dim}
 use Rattle.wh_policy.specs.declared.policy.Policy.{Policy}
 use Rattle.wh_batch.specs.Batch.{Layout, batch_of}
 use Rattle.wh_batch.specs.Layouts.{dimension_layout, dimension_records, sales_layout, sale_records}
-use Rattle.wh_batch.specs.declared.kind.CommandKind.TheVariants.{Batch, Migration}
+use Rattle.wh_batch.specs.declared.kind.CommandKind.TheVariants.{Batch, Migration, Upgrade}
 use Rattle.wh_batch.specs.declared.kind.Kind.TheVariants.{Dimension, Sales}
-use Rattle.wh_policy.specs.declared.format.Format.TheVariants.{One}
+use Rattle.wh_policy.specs.declared.format.Format.{Format}
 use Rattle.wh_program.specs.Answer.{answer_under, AnswersTrial}
 use Rattle.wh_program.specs.Inputs.{Files, up_to, batch_limit, policy_limit, manifest_limit, manifest_part}
 use Rattle.wh_program.specs.Warehouse.{Told}
@@ -68,14 +68,15 @@ dimension_so : (dim : Dim) (policy : Policy) (bytes : List ℕ) → dimension_re
 unfolding dimension_records
 dimension_so dim policy bytes = batch_so (dimension_layout (attributes_of policy dim)) bytes
 
-sales_so : (policy : Policy) (bytes : List ℕ) → sale_records policy One (take (suc batch_limit) bytes) ≡ sale_records policy One bytes
+sales_so : (format : Format) (policy : Policy) (bytes : List ℕ) → sale_records policy format (take (suc batch_limit) bytes) ≡ sale_records policy format bytes
 unfolding sale_records
-sales_so policy bytes = batch_so (sales_layout One policy.years) bytes
+sales_so format policy bytes = batch_so (sales_layout format policy.years) bytes
 
 pub trials_so : TrialsAreReadSo
 trials_so dim policy bytes = rw (dimension_so dim policy bytes) refl
 
 pub commands_so : CommandsAreReadSo
-commands_so (Batch (Dimension dim)) policy bytes = rw (dimension_so dim policy bytes) refl
-commands_so (Batch Sales) policy bytes = rw (sales_so policy bytes) refl
-commands_so Migration policy bytes = rw (policies_so bytes) refl
+commands_so (Batch (Dimension dim)) format policy bytes = rw (dimension_so dim policy bytes) refl
+commands_so (Batch Sales) format policy bytes = rw (sales_so format policy bytes) refl
+commands_so Migration format policy bytes = rw (policies_so bytes) refl
+commands_so Upgrade format policy bytes = refl

@@ -14,7 +14,7 @@ use Rattle.clap.specs.declared.error.kind.ErrorKind.TheVariants.{DisplayHelp, In
 use Rattle.clap.proofs.FaultLemmas.{stopped_fault}
 use Rattle.clap.proofs.OnLiterals.{clap_on_literals}
 use Rattle.clap.proofs.WalkLemmas.{walk_stopped}
-use Rattle.wh_program.specs.CommandLine.{CommandLine, Trial, Init, Load, Migrate, Deliver, Plan, Report, Dump, Check, Status, program_app, is_operand, Says}
+use Rattle.wh_program.specs.CommandLine.{CommandLine, Trial, Init, Load, Migrate, Upgrade, Deliver, Plan, Report, Dump, Check, Status, program_app, is_operand, Says}
 use Rattle.wh_program.specs.Task.{faults_in, asked_by}
 use Rattle.wh_program.proofs.CommandLineLemmas.{IsPlain, plain, both}
 use Rattle.wh_program.proofs.CommandFaults.{not_asked, no_words}
@@ -222,6 +222,39 @@ migrate_fits (f ∷ i ∷ p ∷ x ∷ more) is =
     let p-is = both (is_operand p) _ i-is.1 in
     let x-is = both (is_operand x) _ p-is.1 in
     inr (migrate_into (f ∷ i ∷ p ∷ x ∷ more) UnknownArgument [] (stray (leaf (codes "migrate")) (f ∷ i ∷ p ∷ x ∷ more) UnknownArgument [] (migrate_and_more f i p x more (plain f f-is.0) (plain i i-is.0) (plain p p-is.0) (plain x x-is.0))))
+
+-- ---- upgrade
+
+upgrade_into : (rest : List Text) (k : ErrorKind) (ks : Kinds) → level_fault (leaf (codes "upgrade")) [] nothing_held rest false [] ≡ k ∷ ks → asked_by (codes "upgrade" ∷ rest) ≡ None
+unfolding faults_in clap_on_literals
+upgrade_into rest k ks level = not_asked (codes "upgrade" ∷ rest) k ks (into (built program_app) (codes "upgrade") rest (leaf (codes "upgrade")) k ks refl refl refl level)
+
+upgrade_lacks_0 : level_fault (leaf (codes "upgrade")) [] nothing_held ([]) false [] ≡ MissingRequiredArgument ∷ []
+unfolding clap_on_literals
+upgrade_lacks_0 = refl
+
+upgrade_lacks_1 : (f : Text) → IsPlain f → level_fault (leaf (codes "upgrade")) [] nothing_held (f ∷ []) false [] ≡ MissingRequiredArgument ∷ []
+unfolding clap_on_literals
+upgrade_lacks_1 f f-is = rw (f-is.no_end, f-is.no_long, f-is.no_short) refl
+
+upgrade_and_more : (f i x : Text) (more : List Text) → IsPlain f → IsPlain i → IsPlain x → walk_fault (leaf (codes "upgrade")) [] (walk_from nothing_held) (f ∷ i ∷ x ∷ more) ≡ UnknownArgument ∷ []
+unfolding clap_on_literals
+upgrade_and_more f i x more f-is i-is x-is = rw (f-is.no_end, f-is.no_long, f-is.no_short, i-is.no_end, i-is.no_long, i-is.no_short) (rw (x-is.no_end, x-is.no_long, x-is.no_short) refl)
+
+upgrade_fits : (rest : List Text) → list_all is_operand rest ≡ true → Fits (codes "upgrade" ∷ rest)
+upgrade_fits [] is = inr (upgrade_into ([]) MissingRequiredArgument [] upgrade_lacks_0)
+upgrade_fits (f ∷ []) is =
+    let f-is = both (is_operand f) _ is in
+    inr (upgrade_into (f ∷ []) MissingRequiredArgument [] (upgrade_lacks_1 f (plain f f-is.0)))
+upgrade_fits (f ∷ i ∷ []) is =
+    let f-is = both (is_operand f) _ is in
+    let i-is = both (is_operand i) _ f-is.1 in
+    inl (Upgrade f i, record { words_are = refl; operands = both_are f-is.0 i-is.0 })
+upgrade_fits (f ∷ i ∷ x ∷ more) is =
+    let f-is = both (is_operand f) _ is in
+    let i-is = both (is_operand i) _ f-is.1 in
+    let x-is = both (is_operand x) _ i-is.1 in
+    inr (upgrade_into (f ∷ i ∷ x ∷ more) UnknownArgument [] (stray (leaf (codes "upgrade")) (f ∷ i ∷ x ∷ more) UnknownArgument [] (upgrade_and_more f i x more (plain f f-is.0) (plain i i-is.0) (plain x x-is.0))))
 
 -- ---- deliver
 
@@ -464,6 +497,7 @@ record IsNoName (w : Text) : Type 0 where
   init : bytes_eq (codes "init") w ≡ false
   load : bytes_eq (codes "load") w ≡ false
   migrate : bytes_eq (codes "migrate") w ≡ false
+  upgrade : bytes_eq (codes "upgrade") w ≡ false
   deliver : bytes_eq (codes "deliver") w ≡ false
   plan : bytes_eq (codes "plan") w ≡ false
   report : bytes_eq (codes "report") w ≡ false
@@ -473,11 +507,11 @@ record IsNoName (w : Text) : Type 0 where
 
 unknown_word : (w : Text) (rest : List Text) → IsNoName w → IsPlain w → bytes_eq (codes "help") w ≡ false → faults_in (w ∷ rest) ≡ UnknownArgument ∷ InvalidSubcommand ∷ []
 unfolding faults_in clap_on_literals
-unknown_word w rest unnamed is other = rw (unnamed.trial, unnamed.init, unnamed.load, unnamed.migrate, unnamed.deliver, unnamed.plan, unnamed.report, unnamed.dump, unnamed.check, unnamed.status, other, is.no_end, is.no_long, is.no_short) refl
+unknown_word w rest unnamed is other = rw (unnamed.trial, unnamed.init, unnamed.load, unnamed.migrate, unnamed.upgrade, unnamed.deliver, unnamed.plan, unnamed.report, unnamed.dump, unnamed.check, unnamed.status, other, is.no_end, is.no_long, is.no_short) refl
 
 help_word : (w : Text) (rest : List Text) → IsNoName w → bytes_eq (codes "help") w ≡ true → faults_in (w ∷ rest) ≡ DisplayHelp ∷ InvalidSubcommand ∷ []
 unfolding faults_in clap_on_literals
-help_word w rest unnamed is = rw (unnamed.trial, unnamed.init, unnamed.load, unnamed.migrate, unnamed.deliver, unnamed.plan, unnamed.report, unnamed.dump, unnamed.check, unnamed.status, is) refl
+help_word w rest unnamed is = rw (unnamed.trial, unnamed.init, unnamed.load, unnamed.migrate, unnamed.upgrade, unnamed.deliver, unnamed.plan, unnamed.report, unnamed.dump, unnamed.check, unnamed.status, is) refl
 
 unknown_or_help : (w : Text) (rest : List Text) → IsNoName w → IsPlain w → (b : Bool) → bytes_eq (codes "help") w ≡ b → asked_by (w ∷ rest) ≡ None
 unknown_or_help w rest unnamed is true e = not_asked (w ∷ rest) DisplayHelp (InvalidSubcommand ∷ []) (help_word w rest unnamed e)
@@ -502,6 +536,8 @@ fits_behind w rest is others =
     (λ (load-is : bytes_eq (codes "load") w ≡ false).
     ⊎_elim (λ (e : w ≡ codes "migrate"). subst (λ (v : Text). Fits (v ∷ rest)) (sym e) (migrate_fits rest others))
     (λ (migrate-is : bytes_eq (codes "migrate") w ≡ false).
+    ⊎_elim (λ (e : w ≡ codes "upgrade"). subst (λ (v : Text). Fits (v ∷ rest)) (sym e) (upgrade_fits rest others))
+    (λ (upgrade-is : bytes_eq (codes "upgrade") w ≡ false).
     ⊎_elim (λ (e : w ≡ codes "deliver"). subst (λ (v : Text). Fits (v ∷ rest)) (sym e) (deliver_fits rest others))
     (λ (deliver-is : bytes_eq (codes "deliver") w ≡ false).
     ⊎_elim (λ (e : w ≡ codes "plan"). subst (λ (v : Text). Fits (v ∷ rest)) (sym e) (plan_fits rest others))
@@ -513,7 +549,7 @@ fits_behind w rest is others =
     ⊎_elim (λ (e : w ≡ codes "check"). subst (λ (v : Text). Fits (v ∷ rest)) (sym e) (check_fits rest others))
     (λ (check-is : bytes_eq (codes "check") w ≡ false).
     ⊎_elim (λ (e : w ≡ codes "status"). subst (λ (v : Text). Fits (v ∷ rest)) (sym e) (status_fits rest others))
-    (λ (status-is : bytes_eq (codes "status") w ≡ false). inr (unknown_or_help w rest (record { trial = trial-is; init = init-is; load = load-is; migrate = migrate-is; deliver = deliver-is; plan = plan-is; report = report-is; dump = dump-is; check = check-is; status = status-is }) (plain w is) (bytes_eq (codes "help") w) refl)) (named_or_not (codes "status") w)) (named_or_not (codes "check") w)) (named_or_not (codes "dump") w)) (named_or_not (codes "report") w)) (named_or_not (codes "plan") w)) (named_or_not (codes "deliver") w)) (named_or_not (codes "migrate") w)) (named_or_not (codes "load") w)) (named_or_not (codes "init") w)) (named_or_not (codes "trial") w)
+    (λ (status-is : bytes_eq (codes "status") w ≡ false). inr (unknown_or_help w rest (record { trial = trial-is; init = init-is; load = load-is; migrate = migrate-is; upgrade = upgrade-is; deliver = deliver-is; plan = plan-is; report = report-is; dump = dump-is; check = check-is; status = status-is }) (plain w is) (bytes_eq (codes "help") w) refl)) (named_or_not (codes "status") w)) (named_or_not (codes "check") w)) (named_or_not (codes "dump") w)) (named_or_not (codes "report") w)) (named_or_not (codes "plan") w)) (named_or_not (codes "deliver") w)) (named_or_not (codes "upgrade") w)) (named_or_not (codes "migrate") w)) (named_or_not (codes "load") w)) (named_or_not (codes "init") w)) (named_or_not (codes "trial") w)
 
 pub fits : (words : List Text) → list_all is_operand words ≡ true → Fits words
 fits [] is = inr (not_asked [] MissingSubcommand [] no_words)

@@ -9,7 +9,7 @@ use Rattle.wh_program.specs.Answer.{Printed, done, status_code, write_line}
 use Rattle.wh_program.specs.Inputs.{Files, Refusals}
 use Rattle.wh_program.specs.Readings.{answer_after}
 use Rattle.wh_program.specs.Run.{Prints}
-use Rattle.wh_program.specs.Task.{Task, Trial, Init, Load, Migrate, Deliver, Plan, Report, Dump, Check, Status}
+use Rattle.wh_program.specs.Task.{Task, Trial, Init, Load, Migrate, Upgrade, Deliver, Plan, Report, Dump, Check, Status}
 use Rattle.wh_program.specs.Tasks.{Stores, Runs}
 use Rattle.wh_program.specs.Warehouse.{Told}
 use Rattle.wh_program.specs.declared.lines.answer.Status.{Status as Ending}
@@ -57,6 +57,7 @@ not_run holds refuses before same prints e (Trial dim path policy) is p = (Err e
 not_run holds refuses before same prints e (Init file policy) is p = ((λ content stood. (Err e, inr (record { same = stood; tells = tt }), p)), (Err e, inr (is, tt), p))
 not_run holds refuses before same prints e (Load file kind id path) is p = λ content stood. (Err e, inr (record { same = stood; tells = tt }), p)
 not_run holds refuses before same prints e (Migrate file id policy) is p = λ content stood. (Err e, inr (record { same = stood; tells = tt }), p)
+not_run holds refuses before same prints e (Upgrade file id) is p = λ content stood. (Err e, inr (record { same = stood; tells = tt }), p)
 not_run holds refuses before same prints e (Deliver file manifest) is p = λ content stood. (Err e, inr (record { same = stood; tells = tt }), p)
 not_run holds refuses before same prints e (Plan file kind id path) is p = λ content stood. (Err e, inr (record { same = stood; tells = tt }), p)
 not_run holds refuses before same prints e (Report file words) is p = λ content stood. (Err e, inr (record { same = stood; tells = tt }), p)

@@ -3,7 +3,6 @@ use Rattle.std.proofs.Common.{◌≡◌, ◌∙◌, refl, sym, ap, Bool, true, f
 use Rattle.std.specs.Prelude.{find, bytes_eq, IfSome}
 use Rattle.std.proofs.lemmas.Slice.Eq.{bytes_eq-Decides}
 use Rattle.wh_rows.specs.Names.{table_name, table_named, every_table}
-use Rattle.wh_program.specs.Task.{of_first}
 use Rattle.wh_rows.specs.declared.table.Table.{Table}
 use Rattle.wh_rows.specs.declared.table.Table.TheVariants.{Meta, Command, Member, Change, Product, Store, Customer, Profile, Calendar, Fact, Fact2, Void}
 
@@ -35,18 +34,3 @@ none_found w (t ∷ tables) none =
 pub named_by_both : (w : List ℕ) (found : Option Table) → IfSome found (λ t. table_name t ≡ w) → ((t : Table) → table_name t ≡ w → found ≡ Some t) → found ≡ table_named w
 named_by_both w (Some t) is only = sym (ap table_named (sym is) ∙ named_back t)
 named_by_both w None is only = sym (none_found w every_table (λ t e. let taken = only t e in absurd (cc taken)))
-
--- each table but the two that the second format adds is one of the first
-pub one_of_the_first : (t : Table) → (t ≡ Fact2 → ⊥) → (t ≡ Void → ⊥) → Some t ≡ of_first t
-one_of_the_first Meta a b = refl
-one_of_the_first Command a b = refl
-one_of_the_first Member a b = refl
-one_of_the_first Change a b = refl
-one_of_the_first Product a b = refl
-one_of_the_first Store a b = refl
-one_of_the_first Customer a b = refl
-one_of_the_first Profile a b = refl
-one_of_the_first Calendar a b = refl
-one_of_the_first Fact a b = refl
-one_of_the_first Fact2 a b = absurd (a refl)
-one_of_the_first Void a b = absurd (b refl)

@@ -1,8 +1,10 @@
 -- What the words over a warehouse leave of what stood.
 use Rattle.std.proofs.Common.{◌≡◌, ◌⊎◌, inl, inr, refl, sym, subst, ap, ◌∙◌, ℕ, List, [], ◌∷◌, Some, None, Ok, Err, true, false}
-use Rattle.std.specs.Prelude.{Result, IfOk, IfErr, IsOk, OnErr}
+use Rattle.std.specs.Prelude.{Result, Bool, ◌||◌, map, IfOk, IfErr, IsOk, OnErr}
+use Rattle.std.specs.List.{list_any}
 use Rattle.std.proofs.lemmas.Result.{IfOk-weaker}
 use Rattle.std.specs.declared.alloc.AllocError.{AllocError}
+use Rattle.sqlite.specs.Change.{is_used}
 use Rattle.sqlite.specs.State.{State}
 use Rattle.wh_policy.specs.Policy.{policy_at}
 use Rattle.wh_policy.specs.declared.fault.PolicyFault.{PolicyFault}
@@ -11,9 +13,9 @@ use Rattle.wh_history.specs.Accepted.{Accepted}
 use Rattle.wh_history.specs.Tables.{Limits}
 use Rattle.wh_rows.specs.AtRest.{IsAtRest}
 use Rattle.wh_rows.specs.Limits.{greatest_limits}
-use Rattle.wh_rows.specs.Schema.{no_schema, schema_in}
-use Rattle.wh_sql.specs.Present.{are_all_there, is_any_taken}
-use Rattle.wh_sql.proofs.Worked.{taken_in_a_warehouse, taken_in_none}
+use Rattle.wh_rows.specs.Schema.{no_schema, warehouse, schema_in}
+use Rattle.wh_sql.specs.Present.{are_all_there, is_any_taken, is_second_taken}
+use Rattle.wh_sql.proofs.Worked.{taken_in_a_warehouse, taken_in_none, second_taken}
 use Rattle.wh_plan.specs.Edits.{Edits}
 use Rattle.wh_model.specs.Sound.{making_of}
 use Rattle.wh_admission.specs.Admission.{answer, accepted_after, AreAdmitted}
@@ -31,10 +33,8 @@ use Rattle.wh_engine.specs.declared.opening.InitFault.{InitFault}
 use Rattle.wh_engine.specs.declared.opening.InitFault.TheVariants as making
 use Rattle.wh_rows.specs.Raw.{Stored, RestsOn, LeavesStored}
 use Rattle.wh_store.specs.Opening.{SparesStore}
-use Rattle.wh_policy.specs.Formats.{is_two}
 use Rattle.wh_policy.specs.declared.format.Format.{Format}
-use Rattle.wh_policy.specs.declared.format.Format.TheVariants.{One}
-use Rattle.wh_store.specs.Raw.{FormatIs}
+use Rattle.wh_policy.specs.declared.format.Format.TheVariants.{One, Two}
 use Rattle.wh_store.specs.declared.fault.OpenFault.{OpenFault}
 use Rattle.wh_store.specs.declared.fault.OpenFault.TheVariants as opening
 use Rattle.wh_engine.specs.declared.session.Session.{Session}
@@ -42,7 +42,7 @@ use Rattle.wh_program.specs.Answer.{Printed, done, refused, failed, no_file_line
 use Rattle.wh_program.specs.Inputs.{Files, Refusals}
 use Rattle.wh_program.specs.Reply.{sent_answer, plan_answer, opening_answer, status_answer, making_answer, made_line}
 use Rattle.wh_program.specs.Standing.{DatabaseContent, Nothing, Holds, Keeps, Standing, Unknown, Rests, LeftAt, left_standing, IsAt, Stands}
-use Rattle.wh_program.specs.Warehouse.{Told, printed, Opens, IsOpenedBy, IsUnread, IsReplied, IsForetold, IsCounted, Makes, AnswersWith, IsTried, IsNotConnected}
+use Rattle.wh_program.specs.Warehouse.{Told, printed, Opens, IsUnread, IsReplied, IsForetold, IsCounted, Makes, AnswersWith, IsTried, IsNotConnected}
 use Rattle.wh_program.specs.declared.host.HostError.{HostError}
 use Rattle.wh_program.specs.declared.host.HostError.TheVariants.{NoFile}
 
@@ -51,36 +51,43 @@ pub none_there : are_all_there no_schema ≡ false
 unfolding are_all_there
 none_there = refl
 
+-- in a warehouse of either format names of its tables are taken
+either_taken : (ten second : Bool) → second ≡ true → (ten || second) ≡ true
+either_taken true second is = refl
+either_taken false second is = is
+
+taken_in : (format : Format) → is_any_taken (schema_in format) ≡ true
+unfolding is_any_taken
+taken_in One = taken_in_a_warehouse
+taken_in Two = either_taken (list_any (is_used (schema_in Two)) (map (λ t. t.name) warehouse.tables)) (is_second_taken (schema_in Two)) (second_taken Two)
+
 -- ---- rows that anybody wrote
 
-pub opened_by : (stored : Stored) (format : Format) (session : Session) (s : State) → FormatIs One (is_two stored.format) stored (Ok format) × SessionIs stored session × RestsOn stored s → IsOpenedBy stored
-opened_by stored format session s found = record { session = session; format = (format, found.0); says = found.1 }
-
 -- what is left of them where no warehouse was opened
-pub unread : (stored : Stored) (told : Told) (why : OpenFault) (s : State) → stored.format ≡ One → IfOk told (λ a. a ≡ opening_answer why) → UnopenedBy stored why × LeavesStored stored s × (SparesStore why → RestsOn stored s)
+pub unread : (stored : Stored) (told : Told) (why : OpenFault) (s : State) → IfOk told (λ a. a ≡ opening_answer why) → UnopenedBy stored why × LeavesStored stored s × (SparesStore why → RestsOn stored s)
     → (after : Standing) × IsUnread stored told after × Stands after s
-unread stored told opening.NotAWarehouse s first tells bad = (Rests (Keeps stored), record { why = opening.NotAWarehouse; unopened = bad.0; leaves = refl; tells = tells }, (first, bad.2 tt))
-unread stored told opening.OldFormat s first tells bad = (Rests (Keeps stored), record { why = opening.OldFormat; unopened = bad.0; leaves = refl; tells = tells }, (first, bad.2 tt))
-unread stored told opening.NewFormat s first tells bad = (Rests (Keeps stored), record { why = opening.NewFormat; unopened = bad.0; leaves = refl; tells = tells }, (first, bad.2 tt))
-unread stored told (opening.Damaged table) s first tells bad = (Rests (Keeps stored), record { why = opening.Damaged table; unopened = bad.0; leaves = refl; tells = tells }, (first, bad.2 tt))
-unread stored told opening.Memory s first tells bad = (Rests (Keeps stored), record { why = opening.Memory; unopened = bad.0; leaves = refl; tells = tells }, (first, bad.2 tt))
-unread stored told (opening.Store cause) s first tells bad =
+unread stored told opening.NotAWarehouse s tells bad = (Rests (Keeps stored), record { why = opening.NotAWarehouse; unopened = bad.0; leaves = refl; tells = tells }, bad.2 tt)
+unread stored told opening.OldFormat s tells bad = (Rests (Keeps stored), record { why = opening.OldFormat; unopened = bad.0; leaves = refl; tells = tells }, bad.2 tt)
+unread stored told opening.NewFormat s tells bad = (Rests (Keeps stored), record { why = opening.NewFormat; unopened = bad.0; leaves = refl; tells = tells }, bad.2 tt)
+unread stored told (opening.Damaged table) s tells bad = (Rests (Keeps stored), record { why = opening.Damaged table; unopened = bad.0; leaves = refl; tells = tells }, bad.2 tt)
+unread stored told opening.Memory s tells bad = (Rests (Keeps stored), record { why = opening.Memory; unopened = bad.0; leaves = refl; tells = tells }, bad.2 tt)
+unread stored told (opening.Store cause) s tells bad =
     (LeftAt (Keeps stored) (Keeps stored), record { why = opening.Store cause; unopened = bad.0; leaves = refl; tells = tells }, record { each = λ trees may. inl (bad.1.each trees may) })
 
 -- ---- a warehouse that is opened
 
 module _ (does : Limits → List Accepted → Told → Standing → Type 0) (content : DatabaseContent) (told : Told) where
   -- and what is done then
-  pub opened : (format : Format) (first : Session) (s0 s1 s2 : State)
+  pub opened : (first : Session) (s0 s1 s2 : State)
       → ((limits : Limits) (commands : List Accepted) → AreAdmitted limits commands → engine.Rests limits commands s0 → IsReady limits commands first s1)
       → ((limits : Limits) (commands : List Accepted) → IsReady limits commands first s1 → (after : Standing) × does limits commands told after × Stands after s2)
       → (IsAtRest None s0 → ⊥)
-      → ((stored : Stored) → RestsOn stored s0 → FormatIs One (is_two stored.format) stored (Ok format) × SessionIs stored first × RestsOn stored s1)
+      → ((stored : Stored) → RestsOn stored s0 → SessionIs stored first × RestsOn stored s1)
       → IsAt content s0 → (after : Standing) × Opens does content told after × Stands after s2
-  opened format first s0 s1 s2 opens works missing found at = elim content as (λ what. IsAt what s0 → (after : Standing) × Opens does what told after × Stands after s2) [
+  opened first s0 s1 s2 opens works missing found at = elim content as (λ what. IsAt what s0 → (after : Standing) × Opens does what told after × Stands after s2) [
     | Nothing ↦ λ at. absurd (missing at)
     | Holds limits commands ↦ λ at. let worked = works limits commands (opens limits commands at.0 at.1) in (worked.0, inl worked.1, worked.2)
-    | Keeps stored ↦ λ at. (Unknown, inl (opened_by stored format first s1 (found stored at.1), refl), tt)
+    | Keeps stored ↦ λ at. (Unknown, inl (record { session = first; says = (found stored at).0 }, refl), tt)
   ] at
 
   not_opened : (limits : Limits) (commands : List Accepted) (why : OpenFault) (s : State) → IfOk told (λ a. a ≡ opening_answer why) → AreAdmitted limits commands → IsNotOpened limits commands why s
@@ -104,7 +111,7 @@ module _ (does : Limits → List Accepted → Told → Standing → Type 0) (con
   unopened why s0 s1 refused missing bad tells at = elim content as (λ what. IsAt what s0 → (after : Standing) × Opens does what told after × Stands after s1) [
     | Nothing ↦ λ at. let m = missing at in (Rests Nothing, (refl, subst (λ w. IfOk told (λ a. a ≡ opening_answer w)) m.0 tells), m.1)
     | Holds limits commands ↦ λ at. not_opened limits commands why s1 tells at.0 (refused limits commands at.0 at.1)
-    | Keeps stored ↦ λ at. let left = unread stored told why s1 at.0 tells (bad stored at.1) in (left.0, inr left.1, left.2)
+    | Keeps stored ↦ λ at. let left = unread stored told why s1 tells (bad stored at) in (left.0, inr left.1, left.2)
   ] at
 
 -- ---- how a call of the engine ended
@@ -156,10 +163,10 @@ made_ok Nothing bytes told policy limits session s0 s1 most reads makes free tel
     let ready = subst (λ l. IsReady l (making_of policy bytes ∷ []) session s1) most (makes at) in
     (Rests (Holds greatest_limits (making_of policy bytes ∷ [])), inl (record { policy = policy; reads = reads; then_is = refl; tells = tells }), (ready.admitted, ready.rests))
 made_ok (Keeps stored) bytes told policy limits session s0 s1 most reads makes free tells at =
-    let taken : is_any_taken s0.now.schema ≡ true = ap is_any_taken at.1.now.schema ∙ ap (λ format. is_any_taken (schema_in format)) at.0 ∙ taken_in_a_warehouse in
+    let taken : is_any_taken s0.now.schema ≡ true = ap is_any_taken at.now.schema ∙ taken_in stored.format in
     absurd (cc (free, taken))
 made_ok (Holds l cs) bytes told policy limits session s0 s1 most reads makes free tells at =
-    let taken : is_any_taken s0.now.schema ≡ true = ap is_any_taken at.1.rests.now.schema ∙ ap (λ format. is_any_taken (schema_in format)) at.1.are.format ∙ taken_in_a_warehouse in
+    let taken : is_any_taken s0.now.schema ≡ true = ap is_any_taken at.1.rests.now.schema ∙ taken_in at.1.tables.format in
     absurd (cc (free, taken))
 
 unmade_store : (bytes : List ℕ) (told : Told) (why : InitFault) (s1 : State) (read : Result Policy PolicyFault) → policy_at bytes ≡ read → IsOk read
@@ -194,10 +201,10 @@ unmade Nothing bytes told why limits s0 s1 most refused same left kept tells at 
     let free : is_any_taken s0.now.schema ≡ false = ap is_any_taken at.now.schema ∙ taken_in_none in
     unmade_nothing bytes told why s1 (subst (λ taken. IsNotMade bytes taken why) free refused) (λ w. same w at) (subst (λ l. LeavesMade l bytes s1) most (left at)) tells
 unmade (Holds l cs) bytes told why limits s0 s1 most refused same left kept tells at =
-    let taken : is_any_taken s0.now.schema ≡ true = ap is_any_taken at.1.rests.now.schema ∙ ap (λ format. is_any_taken (schema_in format)) at.1.are.format ∙ taken_in_a_warehouse in
+    let taken : is_any_taken s0.now.schema ≡ true = ap is_any_taken at.1.rests.now.schema ∙ taken_in at.1.tables.format in
     (Rests (Holds l cs), record { why = why; refused = subst (λ b. IsNotMade bytes b why) taken refused; same = refl; tells = tells }, kept taken (Holds l cs) at)
 unmade (Keeps stored) bytes told why limits s0 s1 most refused same left kept tells at =
-    let taken : is_any_taken s0.now.schema ≡ true = ap is_any_taken at.1.now.schema ∙ ap (λ format. is_any_taken (schema_in format)) at.0 ∙ taken_in_a_warehouse in
+    let taken : is_any_taken s0.now.schema ≡ true = ap is_any_taken at.now.schema ∙ taken_in stored.format in
     (Rests (Keeps stored), record { why = why; refused = subst (λ b. IsNotMade bytes b why) taken refused; same = refl; tells = tells }, kept taken (Keeps stored) at)
 
 -- no memory for the line

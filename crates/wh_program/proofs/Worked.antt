@@ -1,5 +1,5 @@
 -- The text of plans and of deliveries, by computation. Of a row its key alone is looked at.
-use Rattle.std.proofs.Common.{◌≡◌, ℕ, List, [], ◌∷◌, false, Some, None, Ok, Err, refl}
+use Rattle.std.proofs.Common.{◌≡◌, ℕ, List, [], ◌∷◌, true, false, Some, None, Ok, Err, refl}
 use Rattle.std.specs.Prelude.{codes, pos, Result}
 use Rattle.std.specs.Fmt.{digits}
 use Rattle.wh_policy.specs.declared.attribute.Dim.{Dim}
@@ -9,7 +9,7 @@ use Rattle.wh_batch.specs.declared.kind.CommandKind.TheVariants.{Migration}
 use Rattle.wh_admission.specs.declared.command.Command.{Command}
 use Rattle.wh_admission.specs.declared.command.Receipt.{Receipt}
 use Rattle.wh_admission.specs.declared.command.Refused.{Refused}
-use Rattle.wh_admission.specs.declared.command.Refused.TheVariants.{BadId}
+use Rattle.wh_admission.specs.declared.command.Refused.TheVariants.{BadId, Upgraded, NameTaken}
 use Rattle.wh_admission.specs.declared.command.Reply.{Reply}
 use Rattle.wh_admission.specs.declared.command.Reply.TheVariants.{Accepted, Already}
 use Rattle.wh_engine.specs.declared.fault.Fault.TheVariants.{Memory, Store}
@@ -27,6 +27,7 @@ use Rattle.wh_plan.specs.declared.edits.FactEdit.TheVariants.{Row, Rekey}
 use Rattle.wh_program.specs.Answer.{done, refused, failed}
 use Rattle.wh_program.specs.Delivery.{delivery_answer, manifest_line}
 use Rattle.wh_program.specs.PlanText.{plan_text}
+use Rattle.wh_program.specs.Reply.{refused_line}
 
 abbrev command : ℕ → CommandRow
 command number = record { number = number; id = []; kind = []; bytes = []; records = 1; placeholders = 0 }
@@ -115,6 +116,38 @@ other_tables = record no_edits {
 text_of_other_tables : plan_text other_tables ≡ codes "put store 10\nput profile 2\nremove profile 3\nremove calendar 20231231\nput calendar 20240229\nremove fact T-1 9999\nedits 6\n"
 unfolding digits
 text_of_other_tables = refl
+
+-- an upgrade of a warehouse with one fact, which goes from the one table to the other
+abbrev upgrade : Edits
+upgrade = record no_edits {
+  upgrades = true;
+  meta = Put (record { name = codes "format"; value = pos 2 }) ∷ [];
+  commands = Put (command 9) ∷ [];
+  facts = Row (Remove (record { ticket = codes "T1"; line = 1 })) ∷ [];
+  facts2 = Row (Put (fact (codes "T1") 1)) ∷ [];
+}
+
+text_of_an_upgrade : plan_text upgrade ≡ codes "put meta format\nput command 9\nremove fact T1 1\nput fact2 T1 1\nedits 4\n"
+unfolding digits
+text_of_an_upgrade = refl
+
+-- a late record, and a new sale, in the second format
+abbrev second_format : Edits
+second_format = record no_edits {
+  commands = Put (command 10) ∷ [];
+  facts2 = Rekey (record { ticket = codes "T1"; line = 1 }) keys ∷ Row (Put (fact (codes "T3") 2)) ∷ [];
+}
+
+text_of_the_second_format : plan_text second_format ≡ codes "put command 10\nrekey fact2 T1 1\nput fact2 T3 2\nedits 3\n"
+unfolding digits
+text_of_the_second_format = refl
+
+-- an upgrade that is refused
+line_of_an_upgrade_again : refused_line Upgraded ≡ codes "refused: E6 format, 2\n"
+line_of_an_upgrade_again = refl
+
+line_of_a_taken_name : refused_line NameTaken ≡ codes "refused: E11 not empty\n"
+line_of_a_taken_name = refl
 
 -- a batch that was accepted before
 text_of_none : plan_text no_edits ≡ codes "edits 0\n"

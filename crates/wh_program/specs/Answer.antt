@@ -91,13 +91,13 @@ abbrev pub no_kind_line : List ℕ
 no_kind_line = line (codes "error: KIND is none of product, store, customer and sales")
 
 abbrev pub no_command_kind_line : List ℕ
-no_command_kind_line = line (codes "error: KIND is none of product, store, customer, sales and migrate")
+no_command_kind_line = line (codes "error: KIND is none of product, store, customer, sales, migrate and upgrade")
 
 abbrev pub no_mode_line : List ℕ
 no_mode_line = line (codes "error: MODE is none of was, is and prior")
 
 abbrev pub no_table_line : List ℕ
-no_table_line = line (codes "error: TABLE is none of meta, command, member, change, product, store, customer, profile, calendar and fact")
+no_table_line = line (codes "error: TABLE is none of meta, command, member, change, product, store, customer, profile, calendar, fact, fact2 and void")
 
 abbrev pub no_text_line : List ℕ
 no_text_line = line (codes "error: an argument is no text")

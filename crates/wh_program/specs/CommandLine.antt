@@ -36,6 +36,9 @@ load_app = command_app (codes "load") (codes "FILE" ∷ codes "KIND" ∷ codes "
 abbrev pub migrate_app : App
 migrate_app = command_app (codes "migrate") (codes "FILE" ∷ codes "ID" ∷ codes "POLICY" ∷ [])
 
+abbrev pub upgrade_app : App
+upgrade_app = command_app (codes "upgrade") (codes "FILE" ∷ codes "ID" ∷ [])
+
 abbrev pub deliver_app : App
 deliver_app = command_app (codes "deliver") (codes "FILE" ∷ codes "MANIFEST" ∷ [])
 
@@ -65,7 +68,7 @@ with_commands app (command ∷ rest) = with_commands (with_subcommand app comman
 
 -- the whole program
 abbrev pub program_app : App
-program_app = with_commands top_app (trial_app ∷ init_app ∷ load_app ∷ migrate_app ∷ deliver_app ∷ plan_app ∷ report_app ∷ dump_app ∷ check_app ∷ status_app ∷ [])
+program_app = with_commands top_app (trial_app ∷ init_app ∷ load_app ∷ migrate_app ∷ upgrade_app ∷ deliver_app ∷ plan_app ∷ report_app ∷ dump_app ∷ check_app ∷ status_app ∷ [])
 
 -- the words of a trial, under its own policy or the one in a file
 abbrev pub trial_words : List ℕ → List ℕ → Option (List ℕ) → List (List ℕ)
@@ -87,6 +90,7 @@ pub data CommandLine : Type 0 where
   Init : (file policy : List ℕ) → CommandLine
   Load : (file kind id path : List ℕ) → CommandLine
   Migrate : (file id policy : List ℕ) → CommandLine
+  Upgrade : (file id : List ℕ) → CommandLine
   Deliver : (file manifest : List ℕ) → CommandLine
   Plan : (file kind id path : List ℕ) → CommandLine
   Report : (file attribute mode from to : List ℕ) → CommandLine
@@ -100,6 +104,7 @@ words_of (Trial dimension path policy) = trial_words dimension path policy
 words_of (Init file policy) = codes "init" ∷ file ∷ policy ∷ []
 words_of (Load file kind id path) = codes "load" ∷ file ∷ kind ∷ id ∷ path ∷ []
 words_of (Migrate file id policy) = codes "migrate" ∷ file ∷ id ∷ policy ∷ []
+words_of (Upgrade file id) = codes "upgrade" ∷ file ∷ id ∷ []
 words_of (Deliver file manifest) = codes "deliver" ∷ file ∷ manifest ∷ []
 words_of (Plan file kind id path) = codes "plan" ∷ file ∷ kind ∷ id ∷ path ∷ []
 words_of (Report file attribute mode from to) = codes "report" ∷ file ∷ attribute ∷ mode ∷ from ∷ to ∷ []
@@ -113,6 +118,7 @@ has_operands (Trial dimension path policy) = is_operand dimension && (is_operand
 has_operands (Init file policy) = is_operand file && is_operand policy
 has_operands (Load file kind id path) = is_operand file && (is_operand kind && (is_operand id && is_operand path))
 has_operands (Migrate file id policy) = is_operand file && (is_operand id && is_operand policy)
+has_operands (Upgrade file id) = is_operand file && is_operand id
 has_operands (Deliver file manifest) = is_operand file && is_operand manifest
 has_operands (Plan file kind id path) = is_operand file && (is_operand kind && (is_operand id && is_operand path))
 has_operands (Report file attribute mode from to) = is_operand file && (is_operand attribute && (is_operand mode && (is_operand from && is_operand to)))
@@ -154,6 +160,9 @@ named_plan rows = option_map (λ s. Plan s.file s.kind s.id s.path) (named_sent 
 abbrev pub named_migrate : List Row → Option CommandLine
 named_migrate rows = option_and_then (λ f. option_and_then (λ i. option_map (λ p. Migrate f i p) (first_of (codes "POLICY") rows)) (first_of (codes "ID") rows)) (first_of (codes "FILE") rows)
 
+abbrev pub named_upgrade : List Row → Option CommandLine
+named_upgrade rows = option_and_then (λ f. option_map (λ i. Upgrade f i) (first_of (codes "ID") rows)) (first_of (codes "FILE") rows)
+
 abbrev pub named_deliver : List Row → Option CommandLine
 named_deliver rows = option_and_then (λ f. option_map (λ m. Deliver f m) (first_of (codes "MANIFEST") rows)) (first_of (codes "FILE") rows)
 
@@ -180,6 +189,7 @@ named_by name rows =
     else if bytes_eq name (codes "init") then named_init rows
     else if bytes_eq name (codes "load") then named_load rows
     else if bytes_eq name (codes "migrate") then named_migrate rows
+    else if bytes_eq name (codes "upgrade") then named_upgrade rows
     else if bytes_eq name (codes "deliver") then named_deliver rows
     else if bytes_eq name (codes "plan") then named_plan rows
     else if bytes_eq name (codes "report") then named_report rows

@@ -18,7 +18,7 @@ use Rattle.wh_admission.specs.declared.command.Reply.{Reply}
 use Rattle.wh_engine.specs.declared.fault.Fault.{Fault}
 use Rattle.wh_engine.specs.declared.fault.Fault.TheVariants as fault
 use Rattle.wh_program.specs.Answer.{Printed, refused, failed, line, no_file_line, status_code}
-use Rattle.wh_program.specs.Inputs.{Files, Refusals, as_manifest}
+use Rattle.wh_program.specs.Inputs.{Files, Refusals, as_input, as_manifest}
 use Rattle.wh_program.specs.Reply.{reply_answer, refused_line, fault_answer}
 use Rattle.wh_program.specs.Standing.{DatabaseContent, Holds, Standing, Rests, LeftAt}
 use Rattle.wh_program.specs.Warehouse.{Told, printed, IsCommandOf, AnswersWork}
@@ -78,14 +78,14 @@ pub record IsDelivered (sent : List Command) (limits : Limits) (commands : List 
 
 -- ---- the manifest and its inputs
 
--- each entry's command, whose bytes its file holds, as far as it is read
+-- each entry's command, whose bytes its file holds, as far as it is read; that of an upgrade isn't
 abbrev pub AreCommandsOf : Files → List ManifestEntry → List Command → Type 0
 AreCommandsOf holds entries sent = AllZip (λ (e : ManifestEntry) c. IsCommandOf holds e.kind e.id e.path (Some c)) entries sent
 
--- the path of the first entry whose file isn't there
+-- the path of the first entry whose file isn't there; an upgrade needs none
 abbrev pub IsFirstMissing : Files → List ManifestEntry → List ℕ → Type 0
 IsFirstMissing holds [] path = ⊥
-IsFirstMissing holds (e ∷ entries) path = (holds e.path None × (path ≡ e.path)) ⊎ ((bytes : List ℕ) × holds e.path (Some bytes) × IsFirstMissing holds entries path)
+IsFirstMissing holds (e ∷ entries) path = (as_input e.kind holds e.path None × (path ≡ e.path)) ⊎ ((bytes : List ℕ) × as_input e.kind holds e.path (Some bytes) × IsFirstMissing holds entries path)
 
 -- why the commands of entries weren't had
 abbrev pub LacksInput : Files → List ManifestEntry → ParseError (Bor (List ℕ)) → Type 0

@@ -1,7 +1,7 @@
 -- The files that a run reads, and how far.
 use Rattle.std.specs.Prelude.{◌≡◌, ℕ, suc, List, [], ◌∷◌, ◌++◌, length, take, nat_lt, if◌then◌else◌, Option, Some, None}
 use Rattle.wh_batch.specs.declared.kind.CommandKind.{CommandKind}
-use Rattle.wh_batch.specs.declared.kind.CommandKind.TheVariants.{Batch, Migration}
+use Rattle.wh_batch.specs.declared.kind.CommandKind.TheVariants.{Batch, Migration, Upgrade}
 
 -- what a host holds under a path, if a file is there
 abbrev pub Files : Type 1
@@ -24,10 +24,25 @@ batch_limit = 1_000_000
 abbrev pub policy_limit : ℕ
 policy_limit = 65_536
 
--- those of the input of a command
-abbrev pub input_limit : CommandKind → ℕ
-input_limit (Batch kind) = batch_limit
-input_limit Migration = policy_limit
+-- those of the input of a command; an upgrade has none to read
+abbrev pub input_limit : CommandKind → Option ℕ
+input_limit (Batch kind) = Some batch_limit
+input_limit Migration = Some policy_limit
+input_limit Upgrade = None
+
+-- what counts of the bytes of an input that is read to a limit, or isn't read
+abbrev pub read_within : Option ℕ → List ℕ → List ℕ
+read_within (Some most) bytes = take (suc most) bytes
+read_within None bytes = []
+
+-- what is had of an input under a path: what is read of the file; or, where it isn't read, no bytes, whatever stands there
+abbrev pub had_within : Option ℕ → Files → Files
+had_within (Some most) holds = up_to most holds
+had_within None holds = λ path file. file ≡ Some []
+
+-- so of the input of a command
+abbrev pub as_input : CommandKind → Files → Files
+as_input kind = had_within (input_limit kind)
 
 -- the most bytes of a manifest, 64 MB
 abbrev pub manifest_limit : ℕ

@@ -2,6 +2,7 @@
 use Rattle.std.specs.Prelude.{◌≡◌, ◌⊎◌, ◌<◌, ℕ, suc, List, length, take, true, None, Err}
 use Rattle.std.specs.List.{list_all}
 use Rattle.wh_policy.specs.Policy.{policy_at}
+use Rattle.wh_policy.specs.declared.format.Format.{Format}
 use Rattle.wh_policy.specs.declared.attribute.Dim.{Dim}
 use Rattle.wh_policy.specs.declared.policy.Policy.{Policy}
 use Rattle.wh_batch.specs.Manifest.{manifest_of}
@@ -10,7 +11,7 @@ use Rattle.wh_batch.specs.declared.manifest.BadManifest.{BadManifest}
 use Rattle.wh_admission.specs.Admission.{content_of}
 use Rattle.wh_program.specs.Answer.{trial_rows}
 use Rattle.wh_program.specs.CommandLine.{CommandLine, Says, is_operand}
-use Rattle.wh_program.specs.Inputs.{batch_limit, policy_limit, input_limit, manifest_limit, manifest_part}
+use Rattle.wh_program.specs.Inputs.{batch_limit, policy_limit, input_limit, read_within, manifest_limit, manifest_part}
 use Rattle.wh_program.specs.Task.{asked_by, no_line, task_of}
 
 -- a policy is what is read so
@@ -21,9 +22,9 @@ PoliciesAreReadSo = (bytes : List ℕ) → policy_at (take (suc policy_limit) by
 abbrev pub TrialsAreReadSo : Type 0
 TrialsAreReadSo = (dim : Dim) (policy : Policy) (bytes : List ℕ) → trial_rows dim policy (take (suc batch_limit) bytes) ≡ trial_rows dim policy bytes
 
--- a command says what its input says that is read so
+-- a command says what its input says that is read so, in either format; and an upgrade, whose input isn't read, what any says
 abbrev pub CommandsAreReadSo : Type 0
-CommandsAreReadSo = (kind : CommandKind) (policy : Policy) (bytes : List ℕ) → content_of kind policy (take (suc (input_limit kind)) bytes) ≡ content_of kind policy bytes
+CommandsAreReadSo = (kind : CommandKind) (format : Format) (policy : Policy) (bytes : List ℕ) → content_of kind format policy (read_within (input_limit kind) bytes) ≡ content_of kind format policy bytes
 
 -- a manifest of more bytes than the limit is a bad one
 abbrev pub LongManifestsAreBad : Type 0

@@ -11,7 +11,7 @@ use Rattle.wh_rows.specs.declared.key.MemberKey.{MemberKey}
 use Rattle.wh_rows.specs.declared.key.ChangeKey.{ChangeKey}
 use Rattle.wh_rows.specs.declared.key.LineKey.{LineKey}
 use Rattle.wh_rows.specs.declared.table.Table.{Table}
-use Rattle.wh_rows.specs.declared.table.Table.TheVariants.{Command, Member, Change, Product, Store, Customer, Profile, Calendar, Fact}
+use Rattle.wh_rows.specs.declared.table.Table.TheVariants.{Meta, Command, Member, Change, Product, Store, Customer, Profile, Calendar, Fact, Fact2}
 use Rattle.wh_plan.specs.Edits.{Edits, edit_count}
 use Rattle.wh_plan.specs.declared.edits.FactEdit.{FactEdit}
 use Rattle.wh_plan.specs.declared.edits.FactEdit.TheVariants.{Row, Rekey}
@@ -43,16 +43,17 @@ edit_line table row_words key_words (Remove key) = key_line (codes "remove") tab
 abbrev pub edit_lines : {K V : Type 0} → Table → Layout K V → (K → List ℕ) → List (Edit V K) → List ℕ
 edit_lines table layout words edits = flat_map (edit_line table (λ r. words (layout.key r)) words) edits
 
--- an edit of a fact, which may only get other keys
-abbrev pub fact_line : FactEdit → List ℕ
-fact_line (Row edit) = edit_line Fact (λ r. line_words (row.fact.key r)) line_words edit
-fact_line (Rekey key keys) = key_line (codes "rekey") Fact (line_words key)
+-- an edit of a fact in its table, which may only get other keys
+abbrev pub fact_line : Table → FactEdit → List ℕ
+fact_line table (Row edit) = edit_line table (λ r. line_words (row.fact.key r)) line_words edit
+fact_line table (Rekey key keys) = key_line (codes "rekey") table (line_words key)
 
 -- ---- a plan
 
 abbrev pub commands_text : Edits → List ℕ
 commands_text edits =
-    edit_lines Command row.command decimal edits.commands ++ edit_lines Member row.member member_words edits.members ++ edit_lines Change row.change change_words edits.changes
+    edit_lines Meta row.meta (λ name. name) edits.meta ++ edit_lines Command row.command decimal edits.commands ++ edit_lines Member row.member member_words edits.members
+    ++ edit_lines Change row.change change_words edits.changes
 
 abbrev pub dimensions_text : Edits → List ℕ
 dimensions_text edits =
@@ -60,7 +61,7 @@ dimensions_text edits =
 
 abbrev pub facts_text : Edits → List ℕ
 facts_text edits =
-    edit_lines Profile row.profile decimal edits.profiles ++ edit_lines Calendar row.calendar decimal edits.calendar ++ flat_map fact_line edits.facts
+    edit_lines Profile row.profile decimal edits.profiles ++ edit_lines Calendar row.calendar decimal edits.calendar ++ flat_map (fact_line Fact) edits.facts ++ flat_map (fact_line Fact2) edits.facts2
 
 abbrev pub count_line : Edits → List ℕ
 count_line edits = line (codes "edits " ++ decimal (edit_count edits))

@@ -61,6 +61,8 @@ refused_line refusal.Reused = line (codes "refused: E2 id reused")
 refused_line (refusal.Batch fault) = batch_line fault
 refused_line (refusal.Policy fault) = policy_line fault
 refused_line refusal.Unfit = line (codes "refused: E5 policy does not fit")
+refused_line refusal.Upgraded = line (codes "refused: E6 format, 2")
+refused_line refusal.NameTaken = line (codes "refused: E11 not empty")
 refused_line (refusal.LineThere number) = sale_there_line number
 refused_line (refusal.Full limit) = full_line limit
 

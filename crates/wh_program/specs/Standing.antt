@@ -10,13 +10,12 @@ use Rattle.wh_history.specs.Tables.{Limits}
 use Rattle.wh_rows.specs.AtRest.{AreTrees, IsAtRest}
 use Rattle.wh_rows.specs.Raw.{Stored, IsStored, RestsOn}
 use Rattle.wh_rows.specs.Schema.{schema_in}
-use Rattle.wh_policy.specs.declared.format.Format.TheVariants.{One}
 use Rattle.wh_admission.specs.Admission.{AreAdmitted}
 use Rattle.wh_engine.specs.Answered as engine
 use Rattle.wh_engine.specs.Outcome.{Left, At, Between}
 
--- What a database holds: no object at all; or the tables of a warehouse that was made with these limits and has accepted these commands; or the ten tables of the
--- first format, whose rows anybody may have written.
+-- What a database holds: no object at all; or the tables of a warehouse that was made with these limits and has accepted these commands; or the tables of either
+-- format, whose rows anybody may have written.
 pub data DatabaseContent : Type 0 where
   Nothing : DatabaseContent
   Holds : Limits → List Accepted → DatabaseContent
@@ -43,7 +42,7 @@ left_standing limits (Between before after) = LeftAt (Holds limits before) (Hold
 abbrev pub IsAt : DatabaseContent → State → Type 0
 IsAt Nothing s = IsAtRest None s
 IsAt (Holds limits commands) s = AreAdmitted limits commands × engine.Rests limits commands s
-IsAt (Keeps stored) s = (stored.format ≡ One) × RestsOn stored s
+IsAt (Keeps stored) s = RestsOn stored s
 
 -- the trees are those of a database with the content
 abbrev pub HasTrees : DatabaseContent → Trees → Type 0

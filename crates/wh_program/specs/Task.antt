@@ -10,7 +10,6 @@ use Rattle.wh_report.specs.Words.{mode_of_word}
 use Rattle.std.specs.Option.{option_and_then}
 use Rattle.clap.specs.Words.{Kinds, fault_of, subcommand_of}
 use Rattle.wh_rows.specs.declared.table.Table.{Table}
-use Rattle.wh_rows.specs.declared.table.Table.TheVariants.{Fact2, Void}
 use Rattle.wh_rows.specs.Names.{table_named}
 use Rattle.wh_program.specs.Answer.{no_dimension_line, no_kind_line, no_command_kind_line, no_mode_line, no_table_line}
 use Rattle.wh_program.specs.CommandLine.{CommandLine, program_app, named}
@@ -28,6 +27,7 @@ pub data Task : Type 0 where
   Init : (file policy : List ℕ) → Task
   Load : (file : List ℕ) → Kind → (id path : List ℕ) → Task
   Migrate : (file id policy : List ℕ) → Task
+  Upgrade : (file id : List ℕ) → Task
   Deliver : (file manifest : List ℕ) → Task
   Plan : (file : List ℕ) → CommandKind → (id path : List ℕ) → Task
   Report : (file : List ℕ) → ReportWords → Task
@@ -47,18 +47,8 @@ plan_asked file kind id path = ok_or (option_map (λ k. Plan file k id path) (co
 abbrev pub report_asked : (file attribute mode from to : List ℕ) → Result Task (List ℕ)
 report_asked file attribute mode from to = ok_or (option_map (λ m. Report file (record { attribute = attribute; mode = m; from = from; to = to })) (mode_of_word mode)) no_mode_line
 
--- a table that the first format has
-abbrev pub of_first : Table → Option Table
-of_first Fact2 = None
-of_first Void = None
-of_first table = Some table
-
--- the table of a word, by its name
-abbrev pub table_asked : List ℕ → Option Table
-table_asked word = option_and_then of_first (table_named word)
-
 abbrev pub dump_asked : (file table : List ℕ) → Result Task (List ℕ)
-dump_asked file table = ok_or (option_map (λ t. Dump file t) (table_asked table)) no_table_line
+dump_asked file table = ok_or (option_map (λ t. Dump file t) (table_named table)) no_table_line
 
 -- what the words of a command ask for, or the line that says which of them is none of those that are listed
 abbrev pub task_of : CommandLine → Result Task (List ℕ)
@@ -66,6 +56,7 @@ task_of (line.Trial dimension path policy) = trial_asked dimension path policy
 task_of (line.Init file policy) = Ok (Init file policy)
 task_of (line.Load file kind id path) = load_asked file kind id path
 task_of (line.Migrate file id policy) = Ok (Migrate file id policy)
+task_of (line.Upgrade file id) = Ok (Upgrade file id)
 task_of (line.Deliver file manifest) = Ok (Deliver file manifest)
 task_of (line.Plan file kind id path) = plan_asked file kind id path
 task_of (line.Report file attribute mode from to) = report_asked file attribute mode from to

@@ -4,11 +4,11 @@ use Rattle.wh_batch.specs.declared.kind.CommandKind.TheVariants.{Batch, Migratio
 use Rattle.wh_program.specs.Answer.{AnswersTrial}
 use Rattle.wh_program.specs.Check.{AnswersCheck}
 use Rattle.wh_program.specs.Delivery.{AnswersDelivery}
-use Rattle.wh_program.specs.Inputs.{Files, Refusals, up_to, batch_limit, policy_limit, input_limit}
+use Rattle.wh_program.specs.Inputs.{Files, Refusals, up_to, batch_limit, policy_limit, as_input}
 use Rattle.wh_program.specs.Readings.{AnswersReport, AnswersDump}
 use Rattle.wh_program.specs.Standing.{DatabaseContent, IsOfCommands, Standing, Rests}
-use Rattle.wh_program.specs.Task.{Task, Trial, Init, Load, Migrate, Deliver, Plan, Report, Dump, Check, Status}
-use Rattle.wh_program.specs.Warehouse.{Told, Makes, Sends, Plans, AnswersWith, AnswersStatus, IsJudgedFirst}
+use Rattle.wh_program.specs.Task.{Task, Trial, Init, Load, Migrate, Upgrade, Deliver, Plan, Report, Dump, Check, Status}
+use Rattle.wh_program.specs.Warehouse.{Told, Makes, Sends, Plans, AnswersWith, AnswersUpgrade, AnswersStatus, IsJudgedFirst}
 
 -- what a host stores under its names
 abbrev pub Stores : Type 1
@@ -31,8 +31,9 @@ Runs holds refuses before after same prints (Init file policy) =
     × ((told : Told) × IsJudgedFirst (up_to policy_limit holds) same policy told × prints told)
 Runs holds refuses before after same prints (Load file kind id path) = RunsOver before file (λ content told. AnswersWith (up_to batch_limit holds) refuses (after file) (Sends (Batch kind) id) content file path told) prints
 Runs holds refuses before after same prints (Migrate file id policy) = RunsOver before file (λ content told. AnswersWith (up_to policy_limit holds) refuses (after file) (Sends Migration id) content file policy told) prints
+Runs holds refuses before after same prints (Upgrade file id) = RunsOver before file (λ content told. AnswersUpgrade refuses (after file) content file id told) prints
 Runs holds refuses before after same prints (Deliver file manifest) = RunsOver before file (λ content told. AnswersDelivery holds refuses (after file) content file manifest told) prints
-Runs holds refuses before after same prints (Plan file kind id path) = RunsOver before file (λ content told. AnswersWith (up_to (input_limit kind) holds) refuses (after file) (Plans kind id) content file path told) prints
+Runs holds refuses before after same prints (Plan file kind id path) = RunsOver before file (λ content told. AnswersWith (as_input kind holds) refuses (after file) (Plans kind id) content file path told) prints
 Runs holds refuses before after same prints (Report file words) = RunsOver before file (λ content told. AnswersReport refuses (after file) content file words told) prints
 Runs holds refuses before after same prints (Dump file table) = RunsOverCommands before file (λ content told. AnswersDump refuses (after file) content file table told) prints
 Runs holds refuses before after same prints (Check file) = RunsOver before file (λ content told. AnswersCheck refuses (after file) content file told) prints

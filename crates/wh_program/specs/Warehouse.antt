@@ -16,20 +16,17 @@ use Rattle.wh_engine.specs.Outcome.{Outcome}
 use Rattle.wh_engine.specs.Opened.{IsNotMade, SessionIs, IsUnopened as UnopenedBy}
 use Rattle.wh_admission.specs.declared.command.Command.{Command}
 use Rattle.wh_batch.specs.declared.kind.CommandKind.{CommandKind}
+use Rattle.wh_batch.specs.declared.kind.CommandKind.TheVariants.{Upgrade}
 use Rattle.wh_admission.specs.declared.command.Reply.{Reply}
 use Rattle.wh_engine.specs.declared.counts.Counts.{Counts}
 use Rattle.wh_engine.specs.declared.fault.Fault.{Fault}
 use Rattle.wh_engine.specs.declared.opening.InitFault.{InitFault}
 use Rattle.wh_engine.specs.declared.opening.InitFault.TheVariants as making
 use Rattle.wh_engine.specs.declared.session.Session.{Session}
-use Rattle.wh_policy.specs.Formats.{is_two}
-use Rattle.wh_policy.specs.declared.format.Format.{Format}
-use Rattle.wh_policy.specs.declared.format.Format.TheVariants.{One}
-use Rattle.wh_store.specs.Raw.{FormatIs}
 use Rattle.wh_store.specs.declared.fault.OpenFault.{OpenFault}
 use Rattle.wh_store.specs.declared.fault.OpenFault.TheVariants as opening
 use Rattle.wh_program.specs.Answer.{Printed, done, refused, failed, no_file_line, policy_line}
-use Rattle.wh_program.specs.Inputs.{Files, Refusals, up_to, input_limit}
+use Rattle.wh_program.specs.Inputs.{Files, Refusals, as_input}
 use Rattle.wh_program.specs.Reply.{sent_answer, plan_answer, opening_answer, status_answer, making_answer, made_line}
 use Rattle.wh_program.specs.Run.{out_of_memory}
 use Rattle.wh_program.specs.Standing.{DatabaseContent, Nothing, Holds, Keeps, Standing, Unknown, Rests, LeftAt, left_standing}
@@ -71,7 +68,6 @@ pub record IsUnread (stored : Stored) (told : Told) (after : Standing) : Type 0 
 -- They say a format that is read, limits, and a policy in force.
 pub record IsOpenedBy (stored : Stored) : Type 0 where
   pub session : Session
-  pub format : (format : Format) × FormatIs One (is_two stored.format) stored (Ok format)
   pub says : SessionIs stored session
 
 -- What opens what stands and does this to a warehouse: where there is none, that is the answer, and nothing changed. Over rows that anybody wrote it says whether they
@@ -81,7 +77,7 @@ Opens does Nothing told after = (after ≡ Rests Nothing) × IfOk told (λ a. a 
 Opens does (Holds limits commands) told after = does limits commands told after ⊎ IsUnopened limits commands told after
 Opens does (Keeps stored) told after = (IsOpenedBy stored × (after ≡ Unknown)) ⊎ IsUnread stored told after
 
--- ---- load and migrate
+-- ---- load, migrate and upgrade
 
 -- What a command leaves of a warehouse with these commands, by what the engine replied: the definition's answer is due, and it leads to the list with the command.
 abbrev pub LeavesReplied : Limits → List Accepted → Command → Result Reply Fault → Standing → Type 0
@@ -155,10 +151,10 @@ pub record IsTried (stands : Standing → Type 0) (does : Told → Standing → 
   pub then_stands : stands after
   pub did : does told after
 
--- the command whose bytes a file holds, as far as it is read, if the file is there
+-- the command whose bytes a file holds, as far as it is read, if the file is there; an upgrade has none, and needs no file
 abbrev pub IsCommandOf : Files → CommandKind → (id path : List ℕ) → Option Command → Type 0
-IsCommandOf holds kind id path None = holds path None
-IsCommandOf holds kind id path (Some c) = (bytes : List ℕ) × up_to (input_limit kind) holds path (Some bytes) × (c ≡ record { id = id; kind = kind; bytes = bytes })
+IsCommandOf holds kind id path None = as_input kind holds path None
+IsCommandOf holds kind id path (Some c) = (bytes : List ℕ) × as_input kind holds path (Some bytes) × (c ≡ record { id = id; kind = kind; bytes = bytes })
 
 -- with the bytes of its input
 pub record IsTriedWith (holds : Files) (stands : Standing → Type 0) (does : List ℕ → Told → Standing → Type 0) (path : List ℕ) (told : Told) : Type 0 where
@@ -195,6 +191,14 @@ Plans kind id bytes = Opens (IsForetold (record { id = id; kind = kind; bytes = 
 -- a word that works on a warehouse that is opened
 abbrev pub AnswersWork : Refusals → (Standing → Type 0) → (Limits → List Accepted → Told → Standing → Type 0) → DatabaseContent → (file : List ℕ) → Told → Type 0
 AnswersWork refuses stands does content file told = IsTried stands (Opens does content) told ⊎ IsNotConnected refuses stands content file told
+
+-- a command that was sent to the warehouse in a file
+abbrev pub AnswersCommand : Refusals → (Standing → Type 0) → DatabaseContent → (file : List ℕ) → Command → Told → Type 0
+AnswersCommand refuses stands content file c told = AnswersWork refuses stands (IsReplied c) content file told
+
+-- an upgrade, which has no input
+abbrev pub AnswersUpgrade : Refusals → (Standing → Type 0) → DatabaseContent → (file id : List ℕ) → Told → Type 0
+AnswersUpgrade refuses stands content file id told = AnswersCommand refuses stands content file (record { id = id; kind = Upgrade; bytes = [] }) told
 
 -- a making under the policy of these bytes
 abbrev pub AnswersMaking : Refusals → (Standing → Type 0) → DatabaseContent → (file bytes : List ℕ) → Told → Type 0

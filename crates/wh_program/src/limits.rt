@@ -9,12 +9,13 @@ use wh_policy::POLICY_LIMIT;
 /// The most bytes of a manifest: 64 MB.
 pub const MANIFEST_LIMIT: usize = 64 * 1024 * 1024;
 
-/// The most bytes of the input of a command.
-pub fn input_limit(kind: CommandKind) -> usize
+/// The most bytes of the input of a command. An upgrade has none to read.
+pub fn input_limit(kind: CommandKind) -> Option<usize>
     ensures { result ≡ input_limit kind }
 {
     match kind {
-        CommandKind::Batch(_) => BATCH_LIMIT,
-        CommandKind::Migration => POLICY_LIMIT,
+        CommandKind::Batch(_) => Some(BATCH_LIMIT),
+        CommandKind::Migration => Some(POLICY_LIMIT),
+        CommandKind::Upgrade => None,
     }
 }

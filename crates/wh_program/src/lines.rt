@@ -38,14 +38,14 @@ pub const NO_KIND_LINE: &str = "error: KIND is none of product, store, customer 
 
 /// What is wrong with the words of a plan.
 pub const NO_COMMAND_KIND_LINE: &str =
-    "error: KIND is none of product, store, customer, sales and migrate\n";
+    "error: KIND is none of product, store, customer, sales, migrate and upgrade\n";
 
 /// What is wrong with the words of a report.
 pub const NO_MODE_LINE: &str = "error: MODE is none of was, is and prior\n";
 
 /// What is wrong with the words of a dump.
 pub const NO_TABLE_LINE: &str =
-    "error: TABLE is none of meta, command, member, change, product, store, customer, profile, calendar and fact\n";
+    "error: TABLE is none of meta, command, member, change, product, store, customer, profile, calendar, fact, fact2 and void\n";
 
 /// What is wrong with words of which none names a command.
 pub const NO_COMMAND_LINE: &str = "error: no command was given\n";
@@ -296,6 +296,8 @@ pub fn push_refused(text: &mut Vec<u8>, why: &Refused) -> Result<(), AllocError>
         Refused::Batch(fault) => push_batch_line(text, *fault),
         Refused::Policy(fault) => push_policy_line(text, *fault),
         Refused::Unfit => text.extend_from_slice(b"refused: E5 policy does not fit\n"),
+        Refused::Upgraded => text.extend_from_slice(b"refused: E6 format, 2\n"),
+        Refused::NameTaken => text.extend_from_slice(b"refused: E11 not empty\n"),
         Refused::LineThere(number) => push_sale_there_line(text, *number),
         Refused::Full(limit) => push_full_line(text, *limit),
     }

@@ -19,7 +19,7 @@ use crate::visits::dump::print_dump;
 use crate::visits::report::report_answer;
 use crate::visits::trial::trial;
 use crate::visits::verdict::check;
-use crate::visits::warehouse::{init, plan, send, status};
+use crate::visits::warehouse::{init, plan, send, status, upgrade};
 use crate::words::command::{Request, Task, parse};
 use std::alloc::Global;
 use std::convert::AsStr;
@@ -49,6 +49,7 @@ fn run_task<H: Host, W: Write>(alloc: Global, task: Task, host: &mut H, out: &mu
             let kind = CommandKind::Migration;
             print_answer(out, send(alloc, file, kind, id, policy, host))
         }
+        Task::Upgrade { file, id } => print_answer(out, upgrade(alloc, file, id, host)),
         Task::Deliver { file, manifest } => print_answer(out, deliver(alloc, file, manifest, host)),
         Task::Plan {
             file,

@@ -56,6 +56,12 @@ const SUBCOMMANDS: &[Subcommand<'static>] = &[
         ],
     },
     Subcommand {
+        name: "upgrade",
+        about: "Makes a warehouse one of the second format, in which sales have a discount",
+        example: "Example: wh upgrade shop.wh u1",
+        operands: &[FILE, ("ID", "what the upgrade is called, once")],
+    },
+    Subcommand {
         name: "deliver",
         about: "Sends the commands of a manifest, in order",
         example: "Example: wh deliver shop.wh examples/night.csv",
@@ -69,13 +75,19 @@ const SUBCOMMANDS: &[Subcommand<'static>] = &[
     },
     Subcommand {
         name: "plan",
-        about: "Prints what a load or a migration would write, and writes nothing",
+        about: "Prints what a load, a migration or an upgrade would write, and writes nothing",
         example: "Example: wh plan shop.wh product p1 examples/late.csv",
         operands: &[
             FILE,
-            ("KIND", "product, store, customer, sales or migrate"),
+            (
+                "KIND",
+                "product, store, customer, sales, migrate or upgrade",
+            ),
             ID,
-            ("INPUT", "the batch's file, or the newer policy's"),
+            (
+                "INPUT",
+                "the batch's file, or the newer policy's; for an upgrade none is read",
+            ),
         ],
     },
     Subcommand {
@@ -104,7 +116,7 @@ const SUBCOMMANDS: &[Subcommand<'static>] = &[
             FILE,
             (
                 "TABLE",
-                "meta, command, member, change, product, store, customer, profile, calendar or fact",
+                "meta, command, member, change, product, store, customer, profile, calendar, fact, fact2 or void",
             ),
         ],
     },

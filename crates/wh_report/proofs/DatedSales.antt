@@ -19,10 +19,10 @@ use Rattle.wh_policy.specs.declared.record.DimensionRecord.{DimensionRecord}
 use Rattle.wh_policy.specs.declared.record.SaleRecord.{SaleRecord}
 use Rattle.wh_batch.specs.Layouts.{sales_layout, sale_records}
 use Rattle.wh_batch.specs.declared.fault.BatchFault.{BatchFault}
-use Rattle.wh_policy.specs.declared.format.Format.TheVariants.{One}
+use Rattle.wh_policy.specs.declared.format.Format.{Format}
 use Rattle.wh_batch.specs.declared.kind.Kind.TheVariants.{Dimension, Sales}
 use Rattle.wh_batch.proofs.GoodLemmas.{reads_batches}
-use Rattle.wh_history.specs.Accepted.{Accepted, Content, Governs, Describes, Sells, governed, policy_after, sold, sold_by}
+use Rattle.wh_history.specs.Accepted.{Accepted, Content, Governs, Describes, Sells, Upgrades, format_of, governed, policy_after, sold, sold_by}
 use Rattle.wh_history.specs.Tables.{Limits}
 use Rattle.wh_history.proofs.Joins.{all_append, all_weaker}
 use Rattle.wh_model.specs.Defined.{calendar_at, day_at}
@@ -31,7 +31,7 @@ use Rattle.wh_model.specs.Sound.{IsGoodSale}
 use Rattle.wh_admission.specs.Admission.{current_policy, of_batch, of_file, records_told, content_of, accepted_as, answer, with_content, after_answer, accepted_after, accepted_after_all}
 use Rattle.wh_admission.specs.declared.command.Command.{Command}
 use Rattle.wh_batch.specs.declared.kind.CommandKind.{CommandKind}
-use Rattle.wh_batch.specs.declared.kind.CommandKind.TheVariants.{Batch, Migration}
+use Rattle.wh_batch.specs.declared.kind.CommandKind.TheVariants.{Batch, Migration, Upgrade}
 use Rattle.wh_admission.specs.declared.command.Reply.{Reply}
 use Rattle.wh_admission.specs.declared.command.Reply.TheVariants.{Accepted as Accepts, Already}
 use Rattle.wh_admission.specs.declared.command.Refused.{Refused}
@@ -79,9 +79,9 @@ each_passes : (years : Years) (sales : List SaleRecord) → list_all (λ s. is_w
 each_passes years [] all = tt
 each_passes years (s ∷ sales) all = let parts = both _ _ all in (parts.0, each_passes years sales parts.1)
 
-read_within : (policy : Policy) (bytes : List ℕ) (sales : List SaleRecord) → sale_records policy One bytes ≡ Ok sales → AreWithin policy.years sales
+read_within : (policy : Policy) (format : Format) (bytes : List ℕ) (sales : List SaleRecord) → sale_records policy format bytes ≡ Ok sales → AreWithin policy.years sales
 unfolding sale_records
-read_within policy bytes sales read = each_passes policy.years sales (((reads_batches (sales_layout One policy.years) bytes sales).0 read).within)
+read_within policy format bytes sales read = each_passes policy.years sales (((reads_batches (sales_layout format policy.years) bytes sales).0 read).within)
 
 module _ (commands : List Accepted) (c : Command) (within : IsWithinAll commands) where
   abbrev with_it : Content → List Accepted
@@ -101,8 +101,8 @@ module _ (commands : List Accepted) (c : Command) (within : IsWithinAll commands
       subst (λ (p : Policy). AreWithin p.years (sold (with_it (Governs newer)))) (sym force)
       (subst (AreWithin newer.years) (sym (sold_behind commands (accepted_as c (Governs newer)) ∙ append-nil (sold commands))) (kept (current_policy commands) newer (sold commands) fit within))
 
-  of_sales : (r : Result (List SaleRecord) BatchFault) (content : Content) → sale_records (current_policy commands) One c.bytes ≡ r → (of_batch r >>= λ sales. Ok (Sells sales)) ≡ Ok content → IsWithinAll (with_it content)
-  of_sales (Ok sales) content is e = subst (λ x. IsWithinAll (with_it x)) (ok_is _ _ e) (same_policy (Sells sales) refl (read_within (current_policy commands) c.bytes sales is))
+  of_sales : (r : Result (List SaleRecord) BatchFault) (content : Content) → sale_records (current_policy commands) (format_of commands) c.bytes ≡ r → (of_batch r >>= λ sales. Ok (Sells sales)) ≡ Ok content → IsWithinAll (with_it content)
+  of_sales (Ok sales) content is e = subst (λ x. IsWithinAll (with_it x)) (ok_is _ _ e) (same_policy (Sells sales) refl (read_within (current_policy commands) (format_of commands) c.bytes sales is))
   of_sales (Err fault) content is e = absurd cc
 
   of_records : (dim : Dim) (r : Result (List DimensionRecord) Refused) (content : Content) → (r >>= λ records. Ok (Describes dim records)) ≡ Ok content → IsWithinAll (with_it content)
@@ -117,17 +117,18 @@ module _ (commands : List Accepted) (c : Command) (within : IsWithinAll commands
       ] refl e
   of_policy (Err fault) content e = absurd cc
 
-  of_kind : (kind : CommandKind) (content : Content) → content_of kind (current_policy commands) c.bytes ≡ Ok content → IsWithinAll (with_it content)
+  of_kind : (kind : CommandKind) (content : Content) → content_of kind (format_of commands) (current_policy commands) c.bytes ≡ Ok content → IsWithinAll (with_it content)
   of_kind (Batch (Dimension dim)) content e = of_records dim (records_told dim (current_policy commands) c.bytes) content e
-  of_kind (Batch Sales) content e = of_sales (sale_records (current_policy commands) One c.bytes) content refl e
+  of_kind (Batch Sales) content e = of_sales (sale_records (current_policy commands) (format_of commands) c.bytes) content refl e
   of_kind Migration content e = of_policy (policy_at c.bytes) content e
+  of_kind Upgrade content e = subst (λ x. IsWithinAll (with_it x)) (ok_is _ _ e) (same_policy Upgrades refl tt)
 
-  by_content : (r : Result Content Refused) → content_of c.kind (current_policy commands) c.bytes ≡ r → IsWithinAll (with_content commands c r)
+  by_content : (r : Result Content Refused) → content_of c.kind (format_of commands) (current_policy commands) c.bytes ≡ r → IsWithinAll (with_content commands c r)
   by_content (Ok content) is = of_kind c.kind content is
   by_content (Err why) is = within
 
   by_answer : (r : Result Reply Refused) → IsWithinAll (after_answer commands c r)
-  by_answer (Ok (Accepts receipt)) = by_content (content_of c.kind (current_policy commands) c.bytes) refl
+  by_answer (Ok (Accepts receipt)) = by_content (content_of c.kind (format_of commands) (current_policy commands) c.bytes) refl
   by_answer (Ok (Already receipt)) = within
   by_answer (Err why) = within
 

@@ -9,6 +9,7 @@ use Rattle.wh_engine.specs.declared.engine.Engine.{Engine}
 use Rattle.wh_engine.specs.declared.fault.Fault.{Fault}
 use Rattle.wh_engine.specs.declared.fault.Fault.TheVariants as faults
 use Rattle.wh_engine.specs.declared.session.Session.{Session}
+use Rattle.wh_policy.specs.declared.format.Format.{Format}
 use Rattle.wh_report.specs.Output.{IsOfNoTable, of_warehouse}
 use Rattle.wh_report.specs.Reported.{uncounted}
 use Rattle.wh_report.specs.declared.column.LabelColumn.{LabelColumn}
@@ -19,7 +20,7 @@ use Rattle.wh_report.specs.declared.output.ReportFault.TheVariants as report
 use Rattle.wh_history.proofs.Records.{or_false}
 
 noted_twice : {A B : Type 0} (s : Session) (x : A) (result : Result B Fault) → noting (noting s (Ok x)) result ≡ noting s result
-noted_twice s x result = ap (λ (m : Bool). record { limits = s.limits; policy = s.policy; must_reopen = m || stops result }) (or_false s.must_reopen)
+noted_twice s x result = ap (λ (m : Bool). record { limits = s.limits; policy = s.policy; format = s.format; must_reopen = m || stops result }) (or_false s.must_reopen)
 
 -- an engine that has to be opened again after a call that was answered had to be before
 pub flagged_before : {A : Type 0} (r s : Session) (x : A) → s ≡ noting r (Ok x) → IsTrue s.must_reopen → IsTrue r.must_reopen
@@ -35,6 +36,10 @@ module _ {S A : Type 0} (g : Ghosts S) where
       → ReadsThrough old.session new.session (state_of g old.tables) (state_of g new.tables) result
   through old new result reads serves = record { spares = reads.spares; serves = serves; blames = reads.blames; noted = reads.noted; only = reads.shuts.only }
 
+-- and leaves the format as it was
+pub format_kept : {A : Type 0} (before after : Session) (old new : State) (result : Result A Fault) → ReadsThrough before after old new result → after.format ≡ before.format
+format_kept before after old new result reads = ap (λ (s : Session). s.format) reads.noted
+
 -- nothing was read yet
 pub unread : {A : Type 0} (s : Session) (st : State) (x : A) → ReadsThrough s s st st (Ok x)
 unread s st x = record {
@@ -47,7 +52,7 @@ unread s st x = record {
   };
   serves = λ clean limits commands ready. (refl, ready);
   blames = λ clean stored on. tt;
-  noted = sym (ap (λ (m : Bool). record { limits = s.limits; policy = s.policy; must_reopen = m }) (or_false s.must_reopen));
+  noted = sym (ap (λ (m : Bool). record { limits = s.limits; policy = s.policy; format = s.format; must_reopen = m }) (or_false s.must_reopen));
   only = λ is. absurd (cc);
 }
 
@@ -84,10 +89,10 @@ pub out_of_memory : {A B : Type 0} (r s : Session) (old new : State) (x : A) →
 out_of_memory r s old new x reads = record { spares = reads.spares; serves = λ clean limits commands ready. (reads.serves clean limits commands ready).1; blames = reads.blames; noted = reads.noted; only = λ is. absurd (cc) }
 
 -- or what was read can't be counted
-pub read_not_counted : (B : Type 0) (r s : Session) (old new : State) (column : LabelColumn) (why : FactFault) → ReadsThrough {A = Unit {0}} r s old new (Ok tt) → ReadsThrough r s old new (of_warehouse {A = B} (Err (uncounted column why)))
-read_not_counted B r s old new column uncountable.Memory reads = out_of_memory r s old new tt reads
-read_not_counted B r s old new column uncountable.NoLabel reads = reads
-read_not_counted B r s old new column uncountable.Damaged reads = reads
+pub read_not_counted : (B : Type 0) (r s : Session) (old new : State) (format : Format) (column : LabelColumn) (why : FactFault) → ReadsThrough {A = Unit {0}} r s old new (Ok tt) → ReadsThrough r s old new (of_warehouse {A = B} (Err (uncounted format column why)))
+read_not_counted B r s old new format column uncountable.Memory reads = out_of_memory r s old new tt reads
+read_not_counted B r s old new format column uncountable.NoLabel reads = reads
+read_not_counted B r s old new format column uncountable.Damaged reads = reads
 
 -- or it was all, or the writer failed
 pub ended : {A B : Type 0} (r s : Session) (old new : State) (x : A) (result : Result B ReportFault) → IfErr result IsOfNoTable → ReadsThrough r s old new (Ok x) → ReadsThrough r s old new (of_warehouse result)

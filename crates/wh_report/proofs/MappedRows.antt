@@ -9,12 +9,13 @@ use Rattle.std.specs.Option.{option_or}
 use Rattle.std.specs.Ordering.{eq_by_cmp, is_eq, nat_cmp}
 use Rattle.std.proofs.lemmas.Cmp.{nat_cmp_total}
 use Rattle.std.proofs.lemmas.List.Elements.{filter_map-append}
-use Rattle.wh_history.specs.Accepted.{Accepted, sold}
+use Rattle.wh_history.specs.Accepted.{Accepted, sold, format_of}
 use Rattle.wh_history.specs.Tables.{Limits, fact_of}
 use Rattle.wh_history.specs.declared.facts.Fact.{Fact}
 use Rattle.wh_history.proofs.Basics.{some_is}
 use Rattle.wh_rows.proofs.Maps.{both_true, less_is}
 use Rattle.wh_rows.proofs.Orders.{line_cmp_total, line_cmp-IsAntisymmetric}
+use Rattle.wh_rows.specs.Facts.{facts_in}
 use Rattle.wh_rows.specs.Rows as row
 use Rattle.wh_rows.specs.Tables.{Tables}
 use Rattle.wh_rows.specs.declared.key.LineKey.{LineKey}
@@ -22,6 +23,7 @@ use Rattle.wh_plan.specs.BatchRows.{has_line}
 use Rattle.wh_model.specs.Defined.{AreOf}
 use Rattle.wh_model.specs.Sound.{same_line}
 use Rattle.wh_plan.proofs.GrownFacts.{own_line, line_is, line_tied, Once, facts_put, found_mapped, facts_once, or_none}
+use Rattle.wh_model.proofs.Formatted.{facts_in_are}
 use Rattle.wh_model.proofs.Listed.{len-values}
 use Rattle.wh_rows.specs.Steps.{with_rows}
 use Rattle.wh_report.specs.Defined.{AreRowsOf}
@@ -161,15 +163,15 @@ module _ (counts : Fact → Option Sold) where
   none_of_empty (v ∷ vs) none = absurd (omega arith)
 
   -- the facts of a table are those of the sales, in another order
-  pub sums_of_sales : (limits : Limits) (commands : List Accepted) (t : Tables) → AreOf limits commands t → IsDistinct same_line (sold commands) → summed (sums (values t.fact)) ≡ summed (sums (map (fact_of commands) (sold commands)))
+  pub sums_of_sales : (limits : Limits) (commands : List Accepted) (t : Tables) → AreOf limits commands t → IsDistinct same_line (sold commands) → summed (sums (values (facts_in (format_of commands) t))) ≡ summed (sums (map (fact_of commands) (sold commands)))
   sums_of_sales limits commands t are once =
       let facts = map (fact_of commands) (sold commands) in
       let each = facts_once commands (sold commands) once in
       let no_facts : FinMap row.line_cmp Fact = empty in
       let made = with_rows row.fact facts no_facts in
-      let shows : (key : LineKey) → get t.fact key ≡ get made key = λ key.
-      are.fact key ∙ sym (found_mapped commands key (sold commands)) ∙ sym (facts_put facts no_facts key each ∙ ap (option_or (find_first (has_line key) facts)) (get-empty row.line_cmp key) ∙ or_none (find_first (has_line key) facts)) in
+      let shows : (key : LineKey) → get (facts_in (format_of commands) t) key ≡ get made key = λ key.
+      facts_in_are limits commands t are (format_of commands) refl key ∙ sym (found_mapped commands key (sold commands)) ∙ sym (facts_put facts no_facts key each ∙ ap (option_or (find_first (has_line key) facts)) (get-empty row.line_cmp key) ∙ or_none (find_first (has_line key) facts)) in
       let none : values no_facts ≡ [] = none_of_empty (values no_facts) (sym (len-values row.line_cmp no_facts) ∙ len-empty row.line_cmp Fact) in
-      ap (λ m. summed (sums (values m))) (same_map line_cmp_total line_cmp-IsAntisymmetric t.fact made shows)
+      ap (λ m. summed (sums (values m))) (same_map line_cmp_total line_cmp-IsAntisymmetric (facts_in (format_of commands) t) made shows)
       ∙ sums_put facts no_facts each (none_in_empty facts)
       ∙ ap (λ vs. summed (sums (facts ++ vs))) none ∙ ap (λ fs. summed (sums fs)) (append-nil facts)

@@ -10,6 +10,8 @@ use Rattle.wh_policy.specs.declared.policy.Policy.{Policy}
 use Rattle.wh_history.specs.declared.facts.Fact.{Fact}
 use Rattle.wh_history.proofs.Basics.{some_is}
 use Rattle.wh_rows.specs.KeyedSales.{keyed}
+use Rattle.wh_policy.specs.declared.format.Format.{Format}
+use Rattle.wh_rows.specs.Facts.{facts_in}
 use Rattle.wh_rows.specs.Tables.{Tables}
 use Rattle.wh_rows.specs.declared.keyed_sale.KeyedSale.{KeyedSale}
 use Rattle.wh_report.specs.Asked.{Asked}
@@ -33,20 +35,20 @@ counted_same r column p q same (f ∷ facts) =
     ap (λ o. cons_option (cond (is_asked_of r f.day) (option_map (λ label. record { label = label; measures = measures_of (keyed (key_by column) f) }) o) None) (filter_map (counted r column p) facts)) (same (fact_key column f))
     ∙ ap (cons_option (counted r column q f)) (counted_same r column p q same facts)
 
-module _ (r : Asked) (column : LabelColumn) (t : Tables) (labels : List (ℕ × List ℕ)) (are : AreLabels labels (labels_in column (label_rows column t))) where
+module _ (format : Format) (r : Asked) (column : LabelColumn) (t : Tables) (labels : List (ℕ × List ℕ)) (are : AreLabels labels (labels_in column (label_rows column t))) where
   -- the facts are counted by the labels that were read
-  pub counted_read : filter_map (counted r column (text_of labels)) (values t.fact) ≡ sold_by_keys r column t
-  counted_read = counted_same r column (text_of labels) (text_at column t) are.found (values t.fact)
+  pub counted_read : filter_map (counted r column (text_of labels)) (values (facts_in format t)) ≡ sold_by_keys format r column t
+  counted_read = counted_same r column (text_of labels) (text_at column t) are.found (values (facts_in format t))
 
   labelled_read : (sales : List KeyedSale) → AreLabelled (text_of labels) sales → AreLabelled (text_at column t) sales
   labelled_read [] all = tt
   labelled_read (s ∷ sales) all = (subst IsSome (are.found s.key) all.0, labelled_read sales all.1)
 
-  pub text_read : (text : Vec ℕ Global) → text.items ≡ text_asked r (filter_map (counted r column (text_of labels)) (values t.fact)) → AreLabelled (text_of labels) (sales_of r column (values t.fact)) → ReportsTables r column t (Ok text)
-  text_read text is all = (is ∙ ap (text_asked r) counted_read, labelled_read (sales_of r column (values t.fact)) all)
+  pub text_read : (text : Vec ℕ Global) → text.items ≡ text_asked r (filter_map (counted r column (text_of labels)) (values (facts_in format t))) → AreLabelled (text_of labels) (sales_of r column (values (facts_in format t))) → ReportsTables format r column t (Ok text)
+  text_read text is all = (is ∙ ap (text_asked r) counted_read, labelled_read (sales_of r column (values (facts_in format t))) all)
 
   -- or they can't be counted
-  pub fault_read : (fault : ReportFault) → IsSummed r column (text_of labels) (values t.fact) (Err fault) → ReportsTables r column t (Err fault)
+  pub fault_read : (fault : ReportFault) → IsSummed format r column (text_of labels) (values (facts_in format t)) (Err fault) → ReportsTables format r column t (Err fault)
   fault_read Write cut = tt
   fault_read (Warehouse fault) cut = tt
   fault_read (Unwritten fault) cut = tt

@@ -15,12 +15,13 @@ use Rattle.wh_policy.specs.declared.attribute.Dim.{Dim}
 use Rattle.wh_policy.specs.declared.attribute.Dim.TheVariants.{Product, Store, Customer}
 use Rattle.wh_policy.specs.declared.policy.Policy.{Policy}
 use Rattle.wh_policy.specs.declared.record.SaleRecord.{SaleRecord}
-use Rattle.wh_history.specs.Accepted.{Accepted, policy_after, sold}
+use Rattle.wh_history.specs.Accepted.{Accepted, policy_after, sold, format_of}
 use Rattle.wh_history.specs.Tables.{Limits, dimension_row, fact_of}
 use Rattle.wh_history.specs.declared.facts.Fact.{Fact}
 use Rattle.wh_history.specs.declared.rows.DimRow.{DimRow}
 use Rattle.wh_history.proofs.Basics.{find_passes, some_is}
 use Rattle.wh_rows.specs.Limits.{are_limits}
+use Rattle.wh_rows.specs.Facts.{facts_in}
 use Rattle.wh_rows.specs.Rows as row
 use Rattle.wh_rows.specs.Tables.{Tables}
 use Rattle.wh_rows.proofs.Orders.{line_cmp_total}
@@ -34,6 +35,7 @@ use Rattle.wh_plan.proofs.FoundRows.{row_key}
 use Rattle.wh_plan.proofs.GrownFacts.{line_is}
 use Rattle.wh_model.proofs.GrownKeys.{found_is}
 use Rattle.wh_model.proofs.GrownProfiles.{profile_keyed}
+use Rattle.wh_model.proofs.Formatted.{facts_in_are}
 use Rattle.wh_model.proofs.ValidTables.{made_of}
 use Rattle.wh_model.proofs.Listed.{len-values}
 use Rattle.wh_admission.specs.Admission.{current_policy, AreAdmitted}
@@ -138,9 +140,9 @@ module _ (limits : Limits) (commands : List Accepted) (admitted : AreAdmitted li
   each_labelled : AllByRecursion IsLabelled (sold commands)
   each_labelled = sales_labelled limits commands r.words r.mode subject which (label_rows column t) ok (admitted_sales_are_dated limits commands admitted) reads (defined limits commands t are column)
 
-  told : text_asked r (sold_by_keys r column t) ≡ report commands subject which r
+  told : text_asked r (sold_by_keys (format_of commands) r column t) ≡ report commands subject which r
   told =
-      same_text r (sold_by_keys r column t) (filter_map (counted r column (text_at column t)) (map (fact_of commands) (sold commands))) (sums_of_sales (counted r column (text_at column t)) limits commands t are ok.lines)
+      same_text r (sold_by_keys (format_of commands) r column t) (filter_map (counted r column (text_at column t)) (map (fact_of commands) (sold commands))) (sums_of_sales (counted r column (text_at column t)) limits commands t are ok.lines)
       ∙ ap (text_asked r) (counted_as commands subject which r (text_at column t) (sold commands) each_labelled)
 
   is_report : report_of commands r ≡ report commands subject which r
@@ -149,12 +151,12 @@ module _ (limits : Limits) (commands : List Accepted) (admitted : AreAdmitted li
       ∙ ap (λ o. unwrap_or (option_map (λ w. report commands subject w r) o) []) shows
 
   -- no fact lacks its label
-  none_lacks : HasNoLabel (text_at column t) (sales_of r column (values t.fact)) → ⊥
+  none_lacks : HasNoLabel (text_at column t) (sales_of r column (values (facts_in (format_of commands) t))) → ⊥
   none_lacks lacks =
-      let from = sale_of_fact r column (values t.fact) lacks.sale lacks.there in
+      let from = sale_of_fact r column (values (facts_in (format_of commands) t)) lacks.sale lacks.there in
       let f : Fact = from.fact in
-      let each = each_under_key row.line_cmp line_cmp_total row.fact.key (fact_at commands) (fact_keyed commands) t.fact are.fact in
-      let stands = each_of (λ (f : Fact). fact_at commands (row.fact.key f) ≡ Some f) (values t.fact) f each from.there in
+      let each = each_under_key row.line_cmp line_cmp_total row.fact.key (fact_at commands) (fact_keyed commands) (facts_in (format_of commands) t) (facts_in_are limits commands t are (format_of commands) refl) in
+      let stands = each_of (λ (f : Fact). fact_at commands (row.fact.key f) ≡ Some f) (values (facts_in (format_of commands) t)) f each from.there in
       let key : LineKey = row.fact.key f in
       let made = made_of (fact_of commands) (find (on_line key) (sold commands)) f stands in
       let has : IsLabelled made.0 = found_is IsLabelled (on_line key) (sold commands) made.0 each_labelled made.1 in
@@ -163,19 +165,19 @@ module _ (limits : Limits) (commands : List Accepted) (admitted : AreAdmitted li
       cc
 
   -- nor are there too many
-  few : 4_294_967_295 ≤ length (values t.fact) → ⊥
+  few : 4_294_967_295 ≤ length (values (facts_in (format_of commands) t)) → ⊥
   few many =
-      let counts = facts_counted commands limits t are ok.lines in
-      let same = len-values row.line_cmp t.fact in
+      let counts = facts_counted commands limits t are (format_of commands) refl ok.lines in
+      let same = len-values row.line_cmp (facts_in (format_of commands) t) in
       let most = few_facts limits ok.limited in
       let within = ok.facts_within in
       omega arith
 
-  consistent : (found : Table) → IsInconsistent r column (text_at column t) (values t.fact) found → ⊥
+  consistent : (found : Table) → IsInconsistent (format_of commands) r column (text_at column t) (values (facts_in (format_of commands) t)) found → ⊥
   consistent found (inl lacks) = none_lacks lacks.1
   consistent found (inr many) = few many.1
 
-  reported : (result : Result (Vec ℕ Global) ReportFault) → ReportsTables r column t result → IfErr result IsOfTables → ((fault : Fault) → result ≡ Err (Warehouse fault) → IsWanting fault) → Reports commands r result
+  reported : (result : Result (Vec ℕ Global) ReportFault) → ReportsTables (format_of commands) r column t result → IfErr result IsOfTables → ((fault : Fault) → result ≡ Err (Warehouse fault) → IsWanting fault) → Reports commands r result
   reported (Ok text) says only wants = says.0 ∙ told ∙ sym is_report
   reported (Err (Warehouse fault)) says only wants = wants fault refl
   reported (Err (Inconsistent found)) says only wants = absurd (consistent found says)
@@ -193,10 +195,10 @@ wanting limits commands faults.Reopen session s serves = serves
 
 pub reported_history : (limits : Limits) (commands : List Accepted) (before after : Session) (old new : State) (r : Asked) (column : LabelColumn) (result : Result (Vec ℕ Global) ReportFault)
     → HasCleanDisk new → (ready : IsReady limits commands before old) → column_asked before.policy r ≡ Some column → ReadsThrough before after old new (of_warehouse result)
-    → ReportsTables r column ready.rests.tables result → IfErr result IsOfTables → Reports commands r result
+    → ReportsTables before.format r column ready.rests.tables result → IfErr result IsOfTables → Reports commands r result
 reported_history limits commands before after old new r column result clean ready asked reads says only =
     let governed : before.policy ≡ current_policy commands = ap (λ (s : Session). s.policy) ready.session_is in
     let asks = asks_of before.policy r column asked in
     let t : Tables = ready.rests.tables in
-    reported limits commands ready.admitted t ready.rests.are r asks.subject asks.which (sym (ap (λ (policy : Policy). subject_in policy r.words) governed) ∙ asks.names) asks.shows result (subst (λ (c : LabelColumn). ReportsTables r c t result) asks.is says) only
+    reported limits commands ready.admitted t ready.rests.are r asks.subject asks.which (sym (ap (λ (policy : Policy). subject_in policy r.words) governed) ∙ asks.names) asks.shows result (subst (λ (c : LabelColumn). ReportsTables (format_of commands) r c t result) asks.is (subst (λ (s : Session). ReportsTables s.format r column t result) ready.session_is says)) only
     (λ fault is. wanting limits commands fault after new (subst (λ (a : Result (Vec ℕ Global) ReportFault). IsServing limits commands (of_warehouse a) after new) is (reads.serves clean limits commands ready)))

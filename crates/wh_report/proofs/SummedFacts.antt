@@ -17,8 +17,16 @@ use Rattle.wh_day.specs.Day.{is_day}
 use Rattle.wh_history.specs.declared.facts.Fact.{Fact}
 use Rattle.wh_rows.specs.AtRest.{IsAtRest}
 use Rattle.wh_rows.specs.KeyedSales.{keyed}
-use Rattle.wh_rows.specs.Rows.{has_good_columns, is_fact}
-use Rattle.wh_rows.specs.Tables.{Tables}
+use Rattle.sqlite.specs.Effect.{Database}
+use Rattle.wh_policy.specs.declared.format.Format.{Format}
+use Rattle.wh_policy.specs.declared.format.Format.TheVariants.{One, Two}
+use Rattle.wh_rows.proofs.Formats.{valid_in}
+use Rattle.wh_rows.specs.Facts.{facts_in}
+use Rattle.wh_rows.specs.Rows as row
+use Rattle.wh_rows.specs.Rows.{has_good_columns}
+use Rattle.wh_rows.specs.Tables.{Tables, Stores}
+use Rattle.wh_rows.specs.Types.{is_discount}
+use Rattle.wh_rows.specs.declared.key.LineKey.{LineKey}
 use Rattle.wh_rows.specs.Types.{is_key, is_line, is_measure, is_number}
 use Rattle.wh_rows.specs.declared.keyed_sale.FactColumn.{FactColumn}
 use Rattle.wh_rows.specs.declared.keyed_sale.KeyedSale.{KeyedSale}
@@ -98,17 +106,25 @@ last_three a b c d e f g h i j x y z all =
     let quantity = and_parts _ x amount.0 in
     (quantity.1, amount.1, cost.1)
 
-valid_measures : (column : LabelColumn) (f : Fact) → is_fact f ≡ true → IsMeasured (measures_of (keyed (key_by column) f))
+valid_measures : (column : LabelColumn) (f : Fact) → has_good_columns f ≡ true → IsMeasured (measures_of (keyed (key_by column) f))
 valid_measures column f valid =
     let last = last_three (is_key 20 f.ticket) (is_line f.line) (is_day f.day) (is_number f.keys.store_key) (is_number f.keys.product_key) (is_number f.keys.customer_key) (is_number f.store_durable) (is_number f.product_durable) (is_number f.customer_durable) (is_number f.keys.profile)
-    (is_measure 9_999 f.quantity) (is_measure 999_999_999 f.amount) (is_measure 999_999_999 f.cost) (and_parts (has_good_columns f) (f.discount == 0) valid).0 in
+    (is_measure 9_999 f.quantity) (is_measure 999_999_999 f.amount) (is_measure 999_999_999 f.cost) valid in
     record { quantity = up_to 9_999 f.quantity last.0; amount = up_to 999_999_999 f.amount last.1; cost = up_to 999_999_999 f.cost last.2 }
 
-all_values : {K : Type 0} (P : Fact → Type 0) (es : List (K × Fact)) → AllByRecursion (λ e. P e.1) es → AllByRecursion P (map (λ e. e.1) es)
-all_values P [] all = tt
-all_values P (e ∷ es) all = (all.0, all_values P es all.1)
+abbrev HasGoodColumns : Fact → Type 0
+HasGoodColumns f = IsTrue (has_good_columns f)
 
-all_keyed : (column : LabelColumn) (facts : List Fact) → AllByRecursion (λ f. IsTrue (is_fact f)) facts → AllByRecursion (λ s. IsMeasured (measures_of s)) (map (keyed (key_by column)) facts)
+-- what is valid in either format has good columns
+all_good : (rest : Fact → Bool) (es : List (LineKey × Fact)) → AllByRecursion (λ e. IsTrue (has_good_columns e.1 && rest e.1)) es → AllByRecursion HasGoodColumns (map (λ e. e.1) es)
+all_good rest [] all = tt
+all_good rest (e ∷ es) all = ((and_parts (has_good_columns e.1) (rest e.1) all.0).0, all_good rest es all.1)
+
+good_facts : (db : Database) (t : Tables) → Stores db t → (format : Format) → AllByRecursion HasGoodColumns (values (facts_in format t))
+good_facts db t stored One = all_good (λ f. f.discount == 0) (entries t.fact) stored.fact.valid
+good_facts db t stored Two = all_good (λ f. is_discount f.discount) (entries t.fact2) (valid_in t.format row.fact2 db.trees t.fact2 stored.fact2)
+
+all_keyed : (column : LabelColumn) (facts : List Fact) → AllByRecursion HasGoodColumns facts → AllByRecursion (λ s. IsMeasured (measures_of s)) (map (keyed (key_by column)) facts)
 all_keyed column [] all = tt
 all_keyed column (f ∷ facts) all = (valid_measures column f all.0, all_keyed column facts all.1)
 
@@ -180,35 +196,35 @@ sales_labelled r column labels (f ∷ facts) all =
       | false ↦ λ own. sales_labelled r column labels facts all.1
     ] all.0
 
-module _ (r : Asked) (column : LabelColumn) (labels : ℕ → Option (List ℕ)) (st : State) (t : Tables) (at : IsAtRest (Some t) st) (which : FactColumn) (leads : which ≡ key_by column) (ordered : List Fact) (same : IsPermutation ordered (values t.fact)) where
-  labelled_too : AreLabelled labels (sales_of r column ordered) → AreLabelled labels (sales_of r column (values t.fact))
+module _ (format : Format) (r : Asked) (column : LabelColumn) (labels : ℕ → Option (List ℕ)) (st : State) (t : Tables) (at : IsAtRest (Some t) st) (which : FactColumn) (leads : which ≡ key_by column) (ordered : List Fact) (same : IsPermutation ordered (values (facts_in format t))) where
+  labelled_too : AreLabelled labels (sales_of r column ordered) → AreLabelled labels (sales_of r column (values (facts_in format t)))
   labelled_too all =
-      sales_labelled r column labels (values t.fact) (recursion_from_All (HasLabel r column labels) (values t.fact)
-      (All-permutation (HasLabel r column labels) ordered (values t.fact) same (All-from_recursion (HasLabel r column labels) ordered (facts_labelled r column labels ordered all))))
+      sales_labelled r column labels (values (facts_in format t)) (recursion_from_All (HasLabel r column labels) (values (facts_in format t))
+      (All-permutation (HasLabel r column labels) ordered (values (facts_in format t)) same (All-from_recursion (HasLabel r column labels) ordered (facts_labelled r column labels ordered all))))
 
-  lacks_too : HasNoLabel labels (sales_of r column ordered) → HasNoLabel labels (sales_of r column (values t.fact))
+  lacks_too : HasNoLabel labels (sales_of r column ordered) → HasNoLabel labels (sales_of r column (values (facts_in format t)))
   lacks_too lacks =
       let from = sale_of_fact r column ordered lacks.sale lacks.there in
-      let there = fact_in_sales r column (values t.fact) from.fact (Contains-permutation ordered (values t.fact) from.fact same from.there) from.asked in
-      record { sale = lacks.sale; there = subst (Contains (sales_of r column (values t.fact))) (sym from.is) there; none = lacks.none }
+      let there = fact_in_sales r column (values (facts_in format t)) from.fact (Contains-permutation ordered (values (facts_in format t)) from.fact same from.there) from.asked in
+      record { sale = lacks.sale; there = subst (Contains (sales_of r column (values (facts_in format t)))) (sym from.is) there; none = lacks.none }
 
   -- the facts come to what was counted of them
-  facts_summed : (sums : Summed) → IsLabelled labels (sales_of r column ordered) (Ok sums) → IsSummed r column labels (values t.fact) (Ok sums)
+  facts_summed : (sums : Summed) → IsLabelled labels (sales_of r column ordered) (Ok sums) → IsSummed format r column labels (values (facts_in format t)) (Ok sums)
   facts_summed sums are = (
     are.0 ∙ ap summed (asked_counted r labels (map (keyed (key_by column)) ordered) ∙ through r column labels ordered)
-        ∙ sym (any_order (filter_map (counted r column labels) ordered) (filter_map (counted r column labels) (values t.fact)) (reordered (counted r column labels) ordered (values t.fact) same)),
+        ∙ sym (any_order (filter_map (counted r column labels) ordered) (filter_map (counted r column labels) (values (facts_in format t))) (reordered (counted r column labels) ordered (values (facts_in format t)) same)),
     labelled_too are.1,
   )
 
   -- or they can't be counted
-  facts_cut : (f : FactFault) → IsCounted r labels (map (keyed (key_by column)) ordered) (Err f) → IsSummed r column labels (values t.fact) (Err (uncounted column f))
+  facts_cut : (f : FactFault) → IsCounted r labels (map (keyed (key_by column)) ordered) (Err f) → IsSummed format r column labels (values (facts_in format t)) (Err (uncounted format column f))
   facts_cut uncountable.Memory cut = tt
   facts_cut uncountable.NoLabel cut = inl (refl, lacks_too cut)
   facts_cut uncountable.Damaged cut =
-      let valid : AllByRecursion (λ (f : Fact). IsTrue (is_fact f)) (values t.fact) = all_values (λ (f : Fact). IsTrue (is_fact f)) (entries t.fact) at.now.tables.fact.valid in
-      let all = all_keyed column ordered (recursion_from_All (λ (f : Fact). IsTrue (is_fact f)) ordered (All-permutation (λ (f : Fact). IsTrue (is_fact f)) (values t.fact) ordered (IsPermutation-sym ordered (values t.fact) same) (All-from_recursion (λ (f : Fact). IsTrue (is_fact f)) (values t.fact) valid))) in
+      let valid = good_facts st.now t at.now.tables format in
+      let all = all_keyed column ordered (recursion_from_All HasGoodColumns ordered (All-permutation HasGoodColumns (values (facts_in format t)) ordered (IsPermutation-sym ordered (values (facts_in format t)) same) (All-from_recursion HasGoodColumns (values (facts_in format t)) valid))) in
       let most = cut all in
-      inr (refl, omega (arith, length_permutation ordered (values t.fact) same, length-map ordered (keyed (key_by column)), most))
+      inr (refl, omega (arith, length_permutation ordered (values (facts_in format t)) same, length-map ordered (keyed (key_by column)), most))
 
   module _ (q : Asked) (same_request : q ≡ r) (sums : List (ℕ × Figures)) (fault : Option AddError) (tally : IsTally r (map (keyed which) ordered) sums fault) (result : Result Summed FactFault) (told : (sales : List KeyedSale) → IsTally q sales sums fault → IsCounted q labels sales result) where
     counted_by_labels : IsCounted r labels (map (keyed (key_by column)) ordered) result
@@ -216,8 +232,8 @@ module _ (r : Asked) (column : LabelColumn) (labels : ℕ → Option (List ℕ))
         subst₂ (λ (a : Asked) (w : FactColumn). IsCounted a labels (map (keyed w) ordered) result) same_request leads
         (told (map (keyed which) ordered) (subst (λ (a : Asked). IsTally a (map (keyed which) ordered) sums fault) (sym same_request) tally))
 
-    pub summed_by_labels : (made : Summed) → result ≡ Ok made → IsSummed r column labels (values t.fact) (Ok made)
+    pub summed_by_labels : (made : Summed) → result ≡ Ok made → IsSummed format r column labels (values (facts_in format t)) (Ok made)
     summed_by_labels made is = facts_summed made (subst (IsCounted r labels (map (keyed (key_by column)) ordered)) is counted_by_labels)
 
-    pub cut_by_labels : (f : FactFault) → result ≡ Err f → IsSummed r column labels (values t.fact) (Err (uncounted column f))
+    pub cut_by_labels : (f : FactFault) → result ≡ Err f → IsSummed format r column labels (values (facts_in format t)) (Err (uncounted format column f))
     cut_by_labels f is = facts_cut f (subst (IsCounted r labels (map (keyed (key_by column)) ordered)) is counted_by_labels)

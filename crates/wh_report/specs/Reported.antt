@@ -17,6 +17,8 @@ use Rattle.wh_rows.specs.Holds.{Layout}
 use Rattle.wh_rows.specs.KeyedSales.{columns_of, shown_of}
 use Rattle.wh_rows.specs.Raw.{Stored}
 use Rattle.wh_rows.specs.Rows as row
+use Rattle.wh_policy.specs.declared.format.Format.{Format}
+use Rattle.wh_rows.specs.Facts.{facts_in, facts_table}
 use Rattle.wh_rows.specs.Tables.{Tables}
 use Rattle.wh_rows.specs.declared.keyed_sale.FactColumn.{FactColumn}
 use Rattle.wh_rows.specs.declared.keyed_sale.KeyedSale.{KeyedSale}
@@ -75,31 +77,31 @@ label_rows column t = record { rows = rows_for column t; profiles = values t.pro
 abbrev pub text_at : LabelColumn → Tables → ℕ → Option (List ℕ)
 text_at column t key = first_text key (labels_in column (label_rows column t))
 
--- the facts of the range, each with the label that its key leads to
-abbrev pub sold_by_keys : Asked → LabelColumn → Tables → List Sold
-sold_by_keys r column t = filter_map (counted r column (text_at column t)) (values t.fact)
+-- the facts of a format in the range, each with the label that its key leads to
+abbrev pub sold_by_keys : Format → Asked → LabelColumn → Tables → List Sold
+sold_by_keys format r column t = filter_map (counted r column (text_at column t)) (values (facts_in format t))
 
 -- a row that a fact of the range names is missing in the table that is found; or that is the facts', and it has more than can be counted
-abbrev pub IsInconsistent : Asked → LabelColumn → (ℕ → Option (List ℕ)) → List Fact → Table → Type 0
-IsInconsistent r column labels facts found = ((found ≡ table_of column) × HasNoLabel labels (sales_of r column facts)) ⊎ ((found ≡ table.Fact) × (4_294_967_295 ≤ length facts))
+abbrev pub IsInconsistent : Format → Asked → LabelColumn → (ℕ → Option (List ℕ)) → List Fact → Table → Type 0
+IsInconsistent format r column labels facts found = ((found ≡ table_of column) × HasNoLabel labels (sales_of r column facts)) ⊎ ((found ≡ facts_table format) × (4_294_967_295 ≤ length facts))
 
 -- what the facts come to, none of the range being passed over, or that they can't be counted
-abbrev pub IsSummed : Asked → LabelColumn → (ℕ → Option (List ℕ)) → List Fact → Result Summed ReportFault → Type 0
-IsSummed r column labels facts (Ok sums) = (sums ≡ summed (filter_map (counted r column labels) facts)) × AreLabelled labels (sales_of r column facts)
-IsSummed r column labels facts (Err (Inconsistent found)) = IsInconsistent r column labels facts found
-IsSummed r column labels facts (Err fault) = ⊤
+abbrev pub IsSummed : Format → Asked → LabelColumn → (ℕ → Option (List ℕ)) → List Fact → Result Summed ReportFault → Type 0
+IsSummed format r column labels facts (Ok sums) = (sums ≡ summed (filter_map (counted r column labels) facts)) × AreLabelled labels (sales_of r column facts)
+IsSummed format r column labels facts (Err (Inconsistent found)) = IsInconsistent format r column labels facts found
+IsSummed format r column labels facts (Err fault) = ⊤
 
 -- why a fact isn't counted, as a fault of the report
-abbrev pub uncounted : LabelColumn → FactFault → ReportFault
-uncounted column uncountable.Memory = Warehouse faults.Memory
-uncounted column uncountable.NoLabel = Inconsistent (table_of column)
-uncounted column uncountable.Damaged = Inconsistent table.Fact
+abbrev pub uncounted : Format → LabelColumn → FactFault → ReportFault
+uncounted format column uncountable.Memory = Warehouse faults.Memory
+uncounted format column uncountable.NoLabel = Inconsistent (table_of column)
+uncounted format column uncountable.Damaged = Inconsistent (facts_table format)
 
 -- what a report of any tables says; each fact of the range is in it, under the label that its key leads to
-abbrev pub ReportsTables : Asked → LabelColumn → Tables → Result (Vec ℕ Global) ReportFault → Type 0
-ReportsTables r column t (Ok text) = (text.items ≡ text_asked r (sold_by_keys r column t)) × AreLabelled (text_at column t) (sales_of r column (values t.fact))
-ReportsTables r column t (Err (Inconsistent found)) = IsInconsistent r column (text_at column t) (values t.fact) found
-ReportsTables r column t (Err fault) = ⊤
+abbrev pub ReportsTables : Format → Asked → LabelColumn → Tables → Result (Vec ℕ Global) ReportFault → Type 0
+ReportsTables format r column t (Ok text) = (text.items ≡ text_asked r (sold_by_keys format r column t)) × AreLabelled (text_at column t) (sales_of r column (values (facts_in format t)))
+ReportsTables format r column t (Err (Inconsistent found)) = IsInconsistent format r column (text_at column t) (values (facts_in format t)) found
+ReportsTables format r column t (Err fault) = ⊤
 
 -- ---- of any stored rows
 
@@ -132,26 +134,26 @@ AreAllFor CalendarHoliday stored t = AreAllDays stored t.days
 abbrev pub label_in : LabelColumn → LabelRows → ℕ → Option (List ℕ)
 label_in column t key = first_text key (labels_in column t)
 
--- the stored facts are these sales by one of their keys, in any order: each is of its types in the columns that are read
-abbrev pub AreAllSales : FactColumn → Stored → List KeyedSale → Type 0
-AreAllSales which stored sales = IsPermutation (map columns_of sales) (map (shown_of which) (stored.rows table.Fact))
+-- the stored facts of a format are these sales by one of their keys, in any order: each is of its types in the columns that are read
+abbrev pub AreAllSales : Format → FactColumn → Stored → List KeyedSale → Type 0
+AreAllSales format which stored sales = IsPermutation (map columns_of sales) (map (shown_of which) (stored.rows (facts_table format)))
 
 -- a row that a sale of the range names is missing in the table that is found; or that is the facts', and it has more than can be counted, or measures that no sale has
-abbrev pub AreInconsistent : Asked → LabelColumn → (ℕ → Option (List ℕ)) → List KeyedSale → Table → Type 0
-AreInconsistent r column labels sales found = ((found ≡ table_of column) × HasNoLabel labels (sales_asked r sales)) ⊎ ((found ≡ table.Fact) × (AllByRecursion (λ s. IsMeasured (measures_of s)) sales → 4_294_967_295 ≤ length sales))
+abbrev pub AreInconsistent : Format → Asked → LabelColumn → (ℕ → Option (List ℕ)) → List KeyedSale → Table → Type 0
+AreInconsistent format r column labels sales found = ((found ≡ table_of column) × HasNoLabel labels (sales_asked r sales)) ⊎ ((found ≡ facts_table format) × (AllByRecursion (λ s. IsMeasured (measures_of s)) sales → 4_294_967_295 ≤ length sales))
 
 -- what the sales of the range come to, none being passed over, or that they can't be counted
-abbrev pub IsSummedOf : Asked → LabelColumn → (ℕ → Option (List ℕ)) → Stored → Result Summed ReportFault → Type 0
-IsSummedOf r column labels stored (Ok sums) = (sales : List KeyedSale) × AreAllSales (key_by column) stored sales × (sums ≡ summed (filter_map (with_label labels) (sales_asked r sales))) × AreLabelled labels (sales_asked r sales)
-IsSummedOf r column labels stored (Err (Inconsistent found)) = (sales : List KeyedSale) × AreAllSales (key_by column) stored sales × AreInconsistent r column labels sales found
-IsSummedOf r column labels stored (Err fault) = ⊤
+abbrev pub IsSummedOf : Format → Asked → LabelColumn → (ℕ → Option (List ℕ)) → Stored → Result Summed ReportFault → Type 0
+IsSummedOf format r column labels stored (Ok sums) = (sales : List KeyedSale) × AreAllSales format (key_by column) stored sales × (sums ≡ summed (filter_map (with_label labels) (sales_asked r sales))) × AreLabelled labels (sales_asked r sales)
+IsSummedOf format r column labels stored (Err (Inconsistent found)) = (sales : List KeyedSale) × AreAllSales format (key_by column) stored sales × AreInconsistent format r column labels sales found
+IsSummedOf format r column labels stored (Err fault) = ⊤
 
 -- what a report of stored rows says: no row of those that it reads is damaged, and each fact of the range is in it, under the label that its key leads to
-abbrev pub ReportsStored : Asked → LabelColumn → Stored → Result (Vec ℕ Global) ReportFault → Type 0
-ReportsStored r column stored (Ok text) = (t : LabelRows) × AreAllFor column stored t × ((sales : List KeyedSale) × AreAllSales (key_by column) stored sales
+abbrev pub ReportsStored : Format → Asked → LabelColumn → Stored → Result (Vec ℕ Global) ReportFault → Type 0
+ReportsStored format r column stored (Ok text) = (t : LabelRows) × AreAllFor column stored t × ((sales : List KeyedSale) × AreAllSales format (key_by column) stored sales
     × (text.items ≡ text_asked r (filter_map (with_label (label_in column t)) (sales_asked r sales))) × AreLabelled (label_in column t) (sales_asked r sales))
-ReportsStored r column stored (Err (Inconsistent found)) = (t : LabelRows) × AreAllFor column stored t × ((sales : List KeyedSale) × AreAllSales (key_by column) stored sales × AreInconsistent r column (label_in column t) sales found)
-ReportsStored r column stored (Err fault) = ⊤
+ReportsStored format r column stored (Err (Inconsistent found)) = (t : LabelRows) × AreAllFor column stored t × ((sales : List KeyedSale) × AreAllSales format (key_by column) stored sales × AreInconsistent format r column (label_in column t) sales found)
+ReportsStored format r column stored (Err fault) = ⊤
 
 -- the column that is asked for under a policy
 abbrev pub column_asked : Policy → Asked → Option LabelColumn

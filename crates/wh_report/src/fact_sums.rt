@@ -3,6 +3,7 @@
 ghost use Rattle.std.specs.Prelude.{◌≡◌, List, IfErr};
 ghost use Rattle.std.specs.FinMap.{values};
 ghost use Rattle.wh_engine.specs.Scanned.{ReadsThrough};
+ghost use Rattle.wh_rows.specs.Facts.{facts_in, facts_table};
 ghost use Rattle.wh_rows.specs.declared.keyed_sale.KeyedSale.{KeyedSale};
 ghost use Rattle.wh_store.specs.Reads.{SaysAtRest, SaysAsStored, state_of};
 ghost use Rattle.wh_report.specs.Labels.{text_of};
@@ -20,18 +21,29 @@ use crate::summary::{AddError, Summary};
 use sqlite::Alter;
 use std::alloc::Global;
 use wh_engine::{Engine, Fault};
+use wh_policy::Format;
 use wh_rows::{KeyedSale, Table};
 use wh_store::FactAggregate;
 
+/// The table of the facts of a format.
+fn facts_table(format: Format) -> Table
+    ensures { result ≡ facts_table format }
+{
+    match format {
+        Format::One => Table::Fact,
+        Format::Two => Table::Fact2,
+    }
+}
+
 /// Why a sale isn't counted, as a fault of the report. A row that a sale names for its label isn't there; or there are more
 /// sales than can be counted.
-fn uncounted(column: LabelColumn, fault: FactFault) -> ReportFault
-    ensures { result ≡ uncounted column fault }
+fn uncounted(format: Format, column: LabelColumn, fault: FactFault) -> ReportFault
+    ensures { result ≡ uncounted format column fault }
 {
     match fault {
         FactFault::Memory => ReportFault::Warehouse(Fault::Memory),
         FactFault::NoLabel => ReportFault::Inconsistent(column.table()),
-        FactFault::Damaged => ReportFault::Inconsistent(Table::Fact),
+        FactFault::Damaged => ReportFault::Inconsistent(facts_table(format)),
     }
 }
 
@@ -80,8 +92,8 @@ pub(crate) fn summary_of<S: Alter>(
 ) -> Result<Summary, ReportFault>
     ensures reads { ReadsThrough engine.old.session engine.new.session (state_of S.Store engine.old.tables) (state_of S.Store engine.new.tables) (of_warehouse result) }
     ensures writes { engine.new.writes ≡ engine.old.writes }
-    ensures sums { SaysAtRest (state_of S.Store engine.old.tables) (state_of S.Store engine.new.tables) (λ t. IsSummed request.now column (text_of labels.now) (values t.fact) result) }
-    ensures stored { SaysAsStored (state_of S.Store engine.old.tables) (state_of S.Store engine.new.tables) (λ stored. IsSummedOf request.now column (text_of labels.now) stored result) }
+    ensures sums { SaysAtRest (state_of S.Store engine.old.tables) (state_of S.Store engine.new.tables) (λ t. IsSummed engine.old.session.format request.now column (text_of labels.now) (values (facts_in engine.old.session.format t)) result) }
+    ensures stored { SaysAsStored (state_of S.Store engine.old.tables) (state_of S.Store engine.new.tables) (λ stored. IsSummedOf engine.old.session.format request.now column (text_of labels.now) stored result) }
     ensures only { IfErr result IsOfTables }
 {
     let mut sums = FactSums {
@@ -89,9 +101,10 @@ pub(crate) fn summary_of<S: Alter>(
         sums: KeySums::new(alloc),
         fault: None,
     };
+    let format = engine.format();
     engine.tally_facts(column.fact_key(), &mut sums)?;
     match sums.by_label(alloc, labels) {
         Ok(summary) => Ok(summary),
-        Err(fault) => Err(uncounted(column, fault)),
+        Err(fault) => Err(uncounted(format, column, fault)),
     }
 }

@@ -50,8 +50,8 @@ fn report_over<S: Alter>(
 ) -> Result<Vec<u8>, ReportFault>
     ensures reads { ReadsThrough engine.old.session engine.new.session (state_of S.Store engine.old.tables) (state_of S.Store engine.new.tables) (of_warehouse result) }
     ensures writes { engine.new.writes ≡ engine.old.writes }
-    ensures tables { SaysAtRest (state_of S.Store engine.old.tables) (state_of S.Store engine.new.tables) (λ t. ReportsTables request.now column t result) }
-    ensures stored { SaysAsStored (state_of S.Store engine.old.tables) (state_of S.Store engine.new.tables) (λ stored. ReportsStored request.now column stored result) }
+    ensures tables { SaysAtRest (state_of S.Store engine.old.tables) (state_of S.Store engine.new.tables) (λ t. ReportsTables engine.old.session.format request.now column t result) }
+    ensures stored { SaysAsStored (state_of S.Store engine.old.tables) (state_of S.Store engine.new.tables) (λ stored. ReportsStored engine.old.session.format request.now column stored result) }
     ensures kinds { IfErr result IsOfTables }
 {
     let labels = labels_of(alloc, engine, column)?;
@@ -72,10 +72,10 @@ pub fn report<S: Alter>(
     ensures writes { engine.new.writes ≡ engine.old.writes }
     // Of any tables whose rows have values of their types, also of those that no warehouse made.
     ensures tables { SaysAtRest (state_of S.Store engine.old.tables) (state_of S.Store engine.new.tables) (λ t. (subject : Subject) (which : Reading)
-        → subject_in engine.old.session.policy request.now.words ≡ Some subject → reading_of subject request.now.mode ≡ Some which → ReportsTables request.now (column_of subject which) t result) }
+        → subject_in engine.old.session.policy request.now.words ≡ Some subject → reading_of subject request.now.mode ≡ Some which → ReportsTables engine.old.session.format request.now (column_of subject which) t result) }
     // And of any rows, whoever wrote them: of those that it reads none is damaged, in the columns that it reads.
     ensures stored { SaysAsStored (state_of S.Store engine.old.tables) (state_of S.Store engine.new.tables) (λ stored. (subject : Subject) (which : Reading)
-        → subject_in engine.old.session.policy request.now.words ≡ Some subject → reading_of subject request.now.mode ≡ Some which → ReportsStored request.now (column_of subject which) stored result) }
+        → subject_in engine.old.session.policy request.now.words ≡ Some subject → reading_of subject request.now.mode ≡ Some which → ReportsStored engine.old.session.format request.now (column_of subject which) stored result) }
     // Of the tables of accepted commands the text is that of the history.
     ensures reported { HasCleanDisk (state_of S.Store engine.new.tables) → (limits : Limits) (commands : List Accepted) → IsReady limits commands engine.old.session (state_of S.Store engine.old.tables)
         → Reports commands request.now result }

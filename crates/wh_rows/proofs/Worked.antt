@@ -185,6 +185,10 @@ migration : is_kind (codes "migrate") ≡ true
 unfolding rows_on_literals
 migration = refl
 
+upgrade : is_kind (codes "upgrade") ≡ true
+unfolding rows_on_literals
+upgrade = refl
+
 no_kind : is_kind (codes "fact") ≡ false
 unfolding rows_on_literals
 no_kind = refl

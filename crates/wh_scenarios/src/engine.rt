@@ -13,4 +13,5 @@ pub mod repeats;
 pub mod restarts;
 pub mod sales;
 pub mod stops;
+pub mod upgrades;
 pub mod worked;

@@ -6,4 +6,5 @@ pub mod checks;
 pub mod deliveries;
 pub mod reports;
 pub mod trials;
+pub mod upgrades;
 pub mod warehouses;

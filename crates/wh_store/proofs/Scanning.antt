@@ -1,5 +1,5 @@
 -- What a part of a table leaves to be read, and what is handed out of it.
-use Rattle.std.proofs.Common.{◌≡◌, ℕ, zero, suc, ◌-◌, List, [], ◌∷◌, ◌++◌, filter, length, slice_get, Bool, true, if◌then◌else◌, Option, None, Some, option_map, refl, ap, ◌∙◌, arith, nat_lt}
+use Rattle.std.proofs.Common.{◌≡◌, ℕ, zero, suc, ◌-◌, List, [], ◌∷◌, ◌++◌, filter, length, slice_get, Bool, true, false, if◌then◌else◌, Option, None, Some, option_map, refl, ap, ◌∙◌, arith, nat_lt}
 use Rattle.std.specs.FinMap.{FinMap, values}
 use Rattle.std.specs.Option.{option_to_list}
 use Rattle.sqlite.specs.State.{State}
@@ -33,6 +33,11 @@ handed None items rest unread is_over is ends none =
     let over : is_over ≡ true = ends all in
     (rw (all, over) refl, rw (empty, over) refl)
 handed (Some row) items rest unread is_over is ends none = ap (λ l. l ++ (if is_over then [] else unread)) is
+
+-- of no rows none is handed out
+pub none_handed : {V : Type 0} (items rest unread : List V) (is_over : Bool) → items ≡ [] → rest ≡ [] → unread ≡ [] → HandsOut (items ++ (if is_over then [] else unread)) None (rest ++ (if is_over then [] else unread))
+none_handed items rest unread true none left nothing = (rw none refl, rw left refl)
+none_handed items rest unread false none left nothing = (rw (none, nothing) refl, rw (left, nothing) refl)
 
 pub none_is : {V : Type 0} (found : Option V) → ((x : V) → found ≡ Some x → ⊥) → found ≡ None
 none_is None not = refl

@@ -1,6 +1,7 @@
 -- What a part of a table leaves to be read, and what is handed out of it, whoever wrote the rows.
 use Rattle.std.proofs.Common.{◌≡◌, ℕ, ◌-◌, ◌<◌, ◌≤◌, List, [], ◌∷◌, ◌++◌, map, filter, length, slice_get, Bool, true, false, Option, None, Some, option_map, refl, sym, ap, subst, ◌∙◌, arith, nat_lt}
 use Rattle.std.specs.Option.{option_to_list}
+use Rattle.std.proofs.lemmas.List.Sorted.{IsPermutation-refl}
 use Rattle.sqlite.specs.Order.{Row}
 use Rattle.wh_rows.specs.Holds.{Layout}
 use Rattle.wh_rows.specs.Raw.{IsFrontOf}
@@ -38,6 +39,14 @@ module _ {K V : Type 0} (layout : Layout K V) (bind : K → Row) (stored : List 
 
   pub none_left : (items : List V) → items ≡ [] → is_over ≡ true → AreAheadOf layout bind stored items after is_over []
   none_left items is over = ([], rw over refl, ap (λ vs. map layout.encode vs ++ []) (sym is))
+
+-- of no rows none is left
+pub none_stored : {K V : Type 0} (layout : Layout K V) (bind : K → Row) (stored : List Row) (items : List V) (after : Option K) (is_over : Bool) → items ≡ [] → stored ≡ [] → AreAheadOf layout bind stored items after is_over []
+none_stored layout bind stored items after is_over none nothing = ([], unread is_over, ap (λ vs. map layout.encode vs ++ []) (sym none))
+  where
+    unread : (b : Bool) → AreUnread layout bind stored after b []
+    unread true = refl
+    unread false = subst (λ rows. IsArranged layout.table (filter (stands_behind layout bind after) rows) []) (sym nothing) (record { same = IsPermutation-refl []; in_order = tt })
 
 -- before the first row all are left
 pub at_start : {K V : Type 0} (layout : Layout K V) (bind : K → Row) (stored : List Row) (items : List V) (after : Option K) (is_over : Bool) (left : List Row) → items ≡ [] → after ≡ None → is_over ≡ false → AreAheadOf layout bind stored items after is_over left → IsArranged layout.table stored left

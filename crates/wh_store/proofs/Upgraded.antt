@@ -23,7 +23,13 @@ use Rattle.wh_rows.proofs.ColumnLemmas.{both}
 use Rattle.wh_rows.proofs.Maps.{filter-get}
 use Rattle.wh_rows.proofs.Places as places
 use Rattle.wh_store.specs.Edits.{with_edit, IsValid, Puts}
-use Rattle.wh_store.specs.Upgrade.{removes_of, puts_of}
+
+-- the edits that carry each fact over, in the order of their keys
+abbrev pub removes_of : Tables → List (Edit Fact LineKey)
+removes_of t = map (λ f. Remove (row.fact.key f)) (values t.fact)
+
+abbrev pub puts_of : Tables → List (Edit Fact LineKey)
+puts_of t = map Put (values t.fact)
 
 -- ---- an edit for each row of a list
 

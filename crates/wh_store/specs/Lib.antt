@@ -3,7 +3,6 @@ pub mod Reads
 pub mod Writes
 pub mod Opening
 pub mod Edits
-pub mod Upgrade
 pub mod Beginning
 pub mod InFiles
 pub mod Raw

@@ -41,6 +41,6 @@ IsRefusedWith newest second t old new (Damaged table) = ⊥
 IsRefusedWith newest second t old new fault = format_of newest second (number_in t (codes "format")) ≡ Err fault
 
 -- the connection that opening leaves
-abbrev pub connection_after : {S : Type 0} → Result (Opened S) (OpenFault × Held S) → Held S
-connection_after (Ok tables) = tables.conn
+abbrev pub connection_after : {S : Type 0} → Result (Opened S × Format) (OpenFault × Held S) → Held S
+connection_after (Ok opened) = opened.0.conn
 connection_after (Err e) = e.1

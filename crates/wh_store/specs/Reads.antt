@@ -3,6 +3,7 @@ use Rattle.std.specs.Prelude.{◌≡◌, Some}
 use Rattle.sqlite_trees.specs.declared.store.Store.{Ghosts}
 use Rattle.sqlite.specs.Held.{state}
 use Rattle.sqlite.specs.State.{State, HasCleanDisk}
+use Rattle.wh_policy.specs.declared.format.Format.{Format}
 use Rattle.wh_rows.specs.declared.table.Table.{Table}
 use Rattle.wh_rows.specs.Names.{is_there}
 use Rattle.wh_rows.specs.AtRest.{IsAtRest}
@@ -25,9 +26,9 @@ SaysAtRest old new fact = HasCleanDisk new → (t : TypedTables) → IsAtRest (S
 abbrev pub SaysAsStored : State → State → (Stored → Type 0) → Type 0
 SaysAsStored old new fact = HasCleanDisk new → (stored : Stored) → RestsOn stored old → fact stored
 
--- The same of one table, where it is there as by the format that was found. Of a table that each format has, that is so by `refl`.
-abbrev pub SaysInFormat : {S : Type 0} → Ghosts S → Table → Tables S → Tables S → (TypedTables → Type 0) → Type 0
-SaysInFormat g name old new fact = HasCleanDisk (state_of g new) → (t : TypedTables) → is_there name t.format ≡ is_there name old.format → IsAtRest (Some t) (state_of g old) → fact t
+-- The same of one table, where it is there as by this format. Of a table that each format has, that is so by `refl`.
+abbrev pub SaysInFormat : {S : Type 0} → Ghosts S → Table → Format → Tables S → Tables S → (TypedTables → Type 0) → Type 0
+SaysInFormat g name format old new fact = HasCleanDisk (state_of g new) → (t : TypedTables) → is_there name t.format ≡ is_there name format → IsAtRest (Some t) (state_of g old) → fact t
 
-abbrev pub SaysAsStoredIn : {S : Type 0} → Ghosts S → Table → Tables S → Tables S → (Stored → Type 0) → Type 0
-SaysAsStoredIn g name old new fact = HasCleanDisk (state_of g new) → (stored : Stored) → is_there name stored.format ≡ is_there name old.format → RestsOn stored (state_of g old) → fact stored
+abbrev pub SaysAsStoredIn : {S : Type 0} → Ghosts S → Table → Format → Tables S → Tables S → (Stored → Type 0) → Type 0
+SaysAsStoredIn g name format old new fact = HasCleanDisk (state_of g new) → (stored : Stored) → is_there name stored.format ≡ is_there name format → RestsOn stored (state_of g old) → fact stored

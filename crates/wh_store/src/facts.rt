@@ -1,34 +1,28 @@
 //! The facts of a format, whichever table they stand in. Where tables are of another, a call is refused by the store, or finds none.
 
-ghost use Rattle.std.specs.Prelude.{◌≡◌, ◌≢◌, ◌+◌, ◌<◌, ◌≤◌, ◌⊎◌, [], ◌∷◌, pos, filter, length, map, if◌then◌else◌, true, false, Option, Some, IsTrue, IfOk, IfErr, OnOk, ⊤};
+ghost use Rattle.std.specs.Prelude.{◌≡◌, ◌≢◌, ◌+◌, ◌<◌, [], ◌∷◌, pos, filter, length, true, IsTrue, IfOk, IfErr, OnOk, ⊤};
 ghost use Rattle.std.specs.FinMap.{get, len, values};
-ghost use Rattle.std.specs.List.{AllByRecursion};
 ghost use Rattle.sqlite.specs.State.{HasCleanDisk};
 ghost use Rattle.sqlite_value.specs.declared.value.Value.TheVariants.{Int};
 ghost use Rattle.wh_rows.specs.declared.cause.Cause.TheVariants.{Memory};
-ghost use Rattle.wh_rows.specs.AtRest.{IsWriting, IsCauseOf};
+ghost use Rattle.wh_rows.specs.AtRest.{IsCauseOf};
 ghost use Rattle.wh_rows.specs.Facts.{facts_in, with_facts_in, facts_table, fact_layout};
-ghost use Rattle.wh_rows.specs.Inserting.{facts_at_once, BreaksRule};
 ghost use Rattle.wh_rows.specs.Keys.{bind_line, stands_at_line};
 ghost use Rattle.wh_rows.specs.Questions.{is_sale_between, is_sold_between};
-ghost use Rattle.wh_rows.specs.Raw.{AreRows, AreAsked, IsLastOf};
-ghost use Rattle.wh_rows.specs.Rekey.{are_keys, bind_rekey, rekeyed};
+ghost use Rattle.wh_rows.specs.Raw.{AreRows, IsLastOf};
 ghost use Rattle.wh_rows.specs.Rows as row;
-ghost use Rattle.wh_rows.specs.Steps.{with_rows};
-ghost use Rattle.wh_rows.specs.Tables.{Tables as TypedTables};
 ghost use Rattle.wh_rows.specs.Types.{is_number};
-ghost use Rattle.wh_sql.specs.Facts.{rekeying};
 ghost use Rattle.wh_sql.specs.Reads.{FailsToShow, FailsToCount};
 ghost use Rattle.wh_store.specs.Edits.{with_edit, statement_of, IsOfTypes, IsValid, Puts};
-ghost use Rattle.wh_store.specs.FactTexts.{fact_texts, sales_asked, inserting, inserted_facts};
-ghost use Rattle.wh_store.specs.Reads.{state_of, ReadsOnly, SaysAtRest, SaysAsStored, IsOfDamage, IsOfAskedDamage};
+ghost use Rattle.wh_store.specs.FactTexts.{fact_texts, sales_asked};
+ghost use Rattle.wh_store.specs.Reads.{state_of, ReadsOnly, SaysAtRest, SaysAsStored, IsOfDamage};
 ghost use Rattle.wh_store.specs.Writes.{WritesOnly, Makes, NotesRefusals};
 
 use crate::tables::Tables;
 use crate::writing::Writing;
 use sqlite::Alter;
 use std::alloc::Global;
-use wh_history::{Edit, Fact, FactKeys};
+use wh_history::{Edit, Fact};
 use wh_policy::Format;
 use wh_rows::{Cause, LineKey, tables};
 use wh_sql::{ReadFault, SalesBetween, ask, count, get};
@@ -42,7 +36,6 @@ impl<S: Alter> Tables<S> {
         line: &LineKey,
     ) -> Result<Option<Fact>, ReadFault>
         ensures reads { ReadsOnly (state_of S.Store self.old) (state_of S.Store self.new) result }
-        ensures same_format { self.new.format ≡ self.old.format }
         ensures row { SaysAtRest (state_of S.Store self.old) (state_of S.Store self.new) (λ t. IfOk result (λ row. row ≡ get (facts_in format t) line.now)) }
         // Only the rows that are stored at the line count, whatever the others hold.
         ensures stored { SaysAsStored (state_of S.Store self.old) (state_of S.Store self.new) (λ stored. IfOk result (IsLastOf (fact_layout format) (filter (stands_at_line line.now) (stored.rows (facts_table format))))) }
@@ -58,7 +51,6 @@ impl<S: Alter> Tables<S> {
     /// How many facts there are.
     pub fn count_facts(&mut self, alloc: Global, format: Format) -> Result<u64, ReadFault>
         ensures reads { ReadsOnly (state_of S.Store self.old) (state_of S.Store self.new) result }
-        ensures same_format { self.new.format ≡ self.old.format }
         ensures count { SaysAtRest (state_of S.Store self.old) (state_of S.Store self.new) (λ t. IfOk result (λ count. count ≡ len (facts_in format t))) }
         // It counts every row that is stored, a damaged one too.
         ensures stored { SaysAsStored (state_of S.Store self.old) (state_of S.Store self.new) (λ stored. IfOk result (λ count. count ≡ length (stored.rows (facts_table format)))) }
@@ -78,7 +70,6 @@ impl<S: Alter> Tables<S> {
         question: &SalesBetween,
     ) -> Result<Vec<Fact>, ReadFault>
         ensures reads { ReadsOnly (state_of S.Store self.old) (state_of S.Store self.new) result }
-        ensures same_format { self.new.format ≡ self.old.format }
         ensures facts { SaysAtRest (state_of S.Store self.old) (state_of S.Store self.new) (λ t. IfOk result (λ facts. facts.items ≡ filter (is_sold_between question.now.dim question.now.durable question.now.from question.now.to) (values (facts_in format t)))) }
         // No other row keeps these from being read.
         ensures stored { SaysAsStored (state_of S.Store self.old) (state_of S.Store self.new) (λ stored. IfOk result (λ facts. AreRows (fact_layout format) (filter (is_sale_between question.now.dim question.now.durable question.now.from question.now.to) (stored.rows (facts_table format))) facts.items)) }
@@ -101,7 +92,6 @@ impl<'t, S: Alter> Writing<'t, S> {
         edit: &Edit<Fact, LineKey>,
     ) -> Result<(), Cause>
         ensures same_reference { self.new.tables.ghost_name ≡ self.old.tables.ghost_name }
-        ensures same_format { (self.new.tables.now.format ≡ self.old.tables.now.format) × (self.new.makes ≡ self.old.makes) }
         ensures writes { WritesOnly (state_of S.Store self.old.tables.now) (state_of S.Store self.new.tables.now) ⊤ }
         ensures edited { Makes (state_of S.Store self.old.tables.now) (state_of S.Store self.new.tables.now) result (Puts (IsValid (fact_layout format)) edit.now) (λ made. with_facts_in format (with_edit row.fact edit.now (facts_in format made)) made) }
         ensures cause { HasCleanDisk (state_of S.Store self.new.tables.now) → IsTrue (state_of S.Store self.old.tables.now).in_transaction → self.old.writes < u64.MAX → IsOfTypes (fact_layout format) edit.now
@@ -112,55 +102,6 @@ impl<'t, S: Alter> Writing<'t, S> {
         match format {
             Format::One => self.edit::<tables::Fact>(alloc, edit),
             Format::Two => self.edit::<tables::Fact2>(alloc, edit),
-        }
-    }
-
-    /// Gives the fact of a line other keys, if it is there; its other columns stay.
-    pub fn rekey_fact(
-        &mut self,
-        alloc: Global,
-        format: Format,
-        line: &LineKey,
-        keys: &FactKeys,
-    ) -> Result<(), Cause>
-        ensures same_reference { self.new.tables.ghost_name ≡ self.old.tables.ghost_name }
-        ensures same_format { (self.new.tables.now.format ≡ self.old.tables.now.format) × (self.new.makes ≡ self.old.makes) }
-        ensures writes { WritesOnly (state_of S.Store self.old.tables.now) (state_of S.Store self.new.tables.now) ⊤ }
-        ensures rekeyed { Makes (state_of S.Store self.old.tables.now) (state_of S.Store self.new.tables.now) result (IsTrue (are_keys keys.now)) (λ made. with_facts_in format (rekeyed (line.now, keys.now) (facts_in format made)) made) }
-        ensures cause { HasCleanDisk (state_of S.Store self.new.tables.now) → IsTrue (state_of S.Store self.old.tables.now).in_transaction → self.old.writes < u64.MAX → IsTrue (are_keys keys.now)
-            → IfErr result (λ cause. cause ≢ Memory → IsCauseOf (rekeying format) (bind_rekey (line.now, keys.now)) (state_of S.Store self.old.tables.now) (state_of S.Store self.new.tables.now) cause) }
-        ensures counted { OnOk result (self.new.writes ≡ self.old.writes + 1) }
-        ensures noted { NotesRefusals self.old.refused self.new.refused result }
-    {
-        match format {
-            Format::One => self.rekey(alloc, line, keys),
-            Format::Two => self.rekey2(alloc, line, keys),
-        }
-    }
-
-    /// Puts facts in that aren't there yet, sixteen in one statement. Where there are not sixteen of them, or one of their lines is taken, also by
-    /// another of them, nothing changes, and the answer is false.
-    pub fn insert_new_facts(
-        &mut self,
-        alloc: Global,
-        format: Format,
-        facts: &[&Fact],
-    ) -> Result<bool, Cause>
-        ensures same_reference { self.new.tables.ghost_name ≡ self.old.tables.ghost_name }
-        ensures same_format { (self.new.tables.now.format ≡ self.old.tables.now.format) × (self.new.makes ≡ self.old.makes) }
-        ensures writes { WritesOnly (state_of S.Store self.old.tables.now) (state_of S.Store self.new.tables.now) ⊤ }
-        ensures inserted { HasCleanDisk (state_of S.Store self.new.tables.now) → (before : Option TypedTables) (made : TypedTables) → IsWriting before (Some made) (state_of S.Store self.old.tables.now) → AllByRecursion (IsValid (fact_layout format)) (map (λ f. f.now) facts.now)
-            → IfOk result (λ inserted. IsWriting before (Some (if inserted then with_facts_in format (with_rows row.fact (map (λ f. f.now) facts.now) (facts_in format made)) made else made)) (state_of S.Store self.new.tables.now)) }
-        ensures sixteen { IfOk result (λ inserted. IsTrue inserted → length facts.now ≡ facts_at_once) }
-        ensures refused { HasCleanDisk (state_of S.Store self.new.tables.now) → IfOk result (λ inserted. inserted ≡ false → (length facts.now ≢ facts_at_once) ⊎ BreaksRule (inserting format) (inserted_facts format (map (λ f. f.now) facts.now)) (state_of S.Store self.old.tables.now) (state_of S.Store self.new.tables.now)) }
-        ensures counted { IfOk result (λ inserted. self.new.writes ≡ self.old.writes + (if inserted then length facts.now else 0)) }
-        ensures cause { HasCleanDisk (state_of S.Store self.new.tables.now) → IsTrue (state_of S.Store self.old.tables.now).in_transaction → self.old.writes + length facts.now ≤ u64.MAX → AllByRecursion (IsValid (fact_layout format)) (map (λ f. f.now) facts.now)
-            → IfErr result (λ cause. cause ≢ Memory → IsCauseOf (inserting format) (inserted_facts format (map (λ f. f.now) facts.now)) (state_of S.Store self.old.tables.now) (state_of S.Store self.new.tables.now) cause) }
-        ensures noted { NotesRefusals self.old.refused self.new.refused result }
-    {
-        match format {
-            Format::One => self.insert_facts(alloc, facts),
-            Format::Two => self.insert_facts2(alloc, facts),
         }
     }
 }

@@ -23,4 +23,4 @@ pub use wh_sql::{
     LastPolicy, MemberOf, PagedTable, ProfileOf, Question, ReadFault, RecordsOf, RowsOf,
     SalesBetween,
 };
-pub use writing::{Writing, upgrade};
+pub use writing::Writing;

@@ -5,19 +5,21 @@ ghost use Rattle.std.specs.FinMap.{FinMap, values};
 ghost use Rattle.std.specs.Vec.Iter.{into_iter_items};
 ghost use Rattle.sqlite.specs.State.{HasCleanDisk};
 ghost use Rattle.wh_rows.specs.Holds.{Layout};
+ghost use Rattle.wh_rows.specs.Names.{is_there};
 ghost use Rattle.wh_rows.specs.Tables.{Tables as TypedTables};
 ghost use Rattle.wh_rows.specs.Parts.{forward, part_text, bind_part, stands_behind, IsArranged};
 ghost use Rattle.wh_rows.specs.Raw.{Stored};
 ghost use Rattle.sqlite.specs.Order.{Row as Columns};
 ghost use Rattle.wh_sql.specs.Page.{HasKey};
 ghost use Rattle.wh_sql.specs.Reads.{ReadsOnly, IsOfAskedDamage, FailsToShow};
-ghost use Rattle.wh_store.specs.Reads.{state_of, SaysAsStored, SaysInFormat, SaysAsStoredIn};
+ghost use Rattle.wh_store.specs.Reads.{state_of, SaysAtRest, SaysAsStored, SaysInFormat, SaysAsStoredIn};
 ghost use Rattle.wh_store.specs.Scan.{rows_left, HandsOut, IsOver, AreLeft, HandsOutOf, AreValid};
 
 use crate::tables::Tables;
 use sqlite::Alter;
 use std::alloc::{AllocError, Global};
 use std::vec::IntoIter;
+use wh_policy::Format;
 use wh_sql::{Page, PagedTable, ReadFault};
 
 /// How far a scan of a table has come.
@@ -65,17 +67,16 @@ fn read_ahead<T: PagedTable, S: Alter>(
     cursor: &mut Cursor<T::Key, T::Row>,
 ) -> Result<(), ReadFault>
     ensures reads { ReadsOnly (state_of S.Store tables.old) (state_of S.Store tables.new) result }
-    ensures same_format { tables.new.format ≡ tables.old.format }
-    ensures rows { SaysInFormat S.Store T.KeyedTable.name tables.old tables.new (λ t. IfOk result (λ _. cursor.old.is_over ≡ false → into_iter_items cursor.old.ahead ≡ [] → rows_left T.StoredTable.layout (T.StoredTable.rows t) cursor.new ≡ rows_left T.StoredTable.layout (T.StoredTable.rows t) cursor.old)) }
+    ensures rows { SaysAtRest (state_of S.Store tables.old) (state_of S.Store tables.new) (λ t. IfOk result (λ _. cursor.old.is_over ≡ false → into_iter_items cursor.old.ahead ≡ [] → rows_left T.StoredTable.layout (T.StoredTable.rows t) cursor.new ≡ rows_left T.StoredTable.layout (T.StoredTable.rows t) cursor.old)) }
     // Of any rows, whoever wrote them, none is missed and none comes twice.
-    ensures stored { SaysAsStoredIn S.Store T.KeyedTable.name tables.old tables.new (λ stored. IfOk result (λ _. cursor.old.is_over ≡ false → into_iter_items cursor.old.ahead ≡ [] → (left : List Columns)
+    ensures stored { SaysAsStored (state_of S.Store tables.old) (state_of S.Store tables.new) (λ stored. IfOk result (λ _. cursor.old.is_over ≡ false → into_iter_items cursor.old.ahead ≡ [] → (left : List Columns)
         → AreLeft T.StoredTable.layout T.KeyedTable.bind (stored.rows T.KeyedTable.name) cursor.new left → AreLeft T.StoredTable.layout T.KeyedTable.bind (stored.rows T.KeyedTable.name) cursor.old left)) }
     // A row of the part that is damaged is reported.
     ensures damaged { SaysAsStored (state_of S.Store tables.old) (state_of S.Store tables.new) (λ stored. IfErr result (IsOfAskedDamage (Some (forward T.part_texts.most)) T.StoredTable.layout T.KeyedTable.name (filter (stands_behind T.StoredTable.layout T.KeyedTable.bind cursor.old.unread.after) (stored.rows T.KeyedTable.name)))) }
     ensures refused { HasCleanDisk (state_of S.Store tables.new) → HasKey T.StoredTable.layout cursor.old.unread.after → IfErr result (FailsToShow T.StoredTable.layout T.KeyedTable.name (part_text T.part_texts cursor.old.unread.after) (bind_part T.KeyedTable.bind cursor.old.unread.after) (state_of S.Store tables.old) (state_of S.Store tables.new)) }
-    ensures keyed { SaysAsStoredIn S.Store T.KeyedTable.name tables.old tables.new (λ _. IfOk result (λ _. HasKey T.StoredTable.layout cursor.new.unread.after)) }
+    ensures keyed { SaysAsStored (state_of S.Store tables.old) (state_of S.Store tables.new) (λ _. IfOk result (λ _. HasKey T.StoredTable.layout cursor.new.unread.after)) }
     // All that is read ahead is of its type.
-    ensures valid { SaysAsStoredIn S.Store T.KeyedTable.name tables.old tables.new (λ _. IfOk result (λ _. AreValid T.StoredTable.layout cursor.new)) }
+    ensures valid { SaysAsStored (state_of S.Store tables.old) (state_of S.Store tables.new) (λ _. IfOk result (λ _. AreValid T.StoredTable.layout cursor.new)) }
     // Nothing is read ahead only where nothing is left.
     ensures short { IfOk result (λ _. into_iter_items cursor.new.ahead ≡ [] → IsTrue cursor.new.is_over) }
     ensures ended { into_iter_items cursor.old.ahead ≡ [] → OnErr result (IsOver cursor.new) }
@@ -90,30 +91,35 @@ fn read_ahead<T: PagedTable, S: Alter>(
     Ok(())
 }
 
-/// The next row of the table after those that the cursor handed out. After a fault none comes.
+/// The next row of the table after those that the cursor handed out. After a fault none comes, and of a table that the format hasn't none is asked.
 pub fn next_row<T: PagedTable, S: Alter>(
     tables: &mut Tables<S>,
     alloc: Global,
+    format: Format,
     cursor: &mut Cursor<T::Key, T::Row>,
 ) -> Result<Option<T::Row>, ReadFault>
     ensures reads { ReadsOnly (state_of S.Store tables.old) (state_of S.Store tables.new) result }
-    ensures same_format { tables.new.format ≡ tables.old.format }
-    ensures rows { SaysInFormat S.Store T.KeyedTable.name tables.old tables.new (λ t. IfOk result (λ found. HandsOut (rows_left T.StoredTable.layout (T.StoredTable.rows t) cursor.old) found (rows_left T.StoredTable.layout (T.StoredTable.rows t) cursor.new))) }
+    ensures rows { SaysInFormat S.Store T.KeyedTable.name format tables.old tables.new (λ t. IfOk result (λ found. HandsOut (rows_left T.StoredTable.layout (T.StoredTable.rows t) cursor.old) found (rows_left T.StoredTable.layout (T.StoredTable.rows t) cursor.new))) }
     // Of any rows, whoever wrote them, none is missed and none comes twice.
-    ensures stored { SaysAsStoredIn S.Store T.KeyedTable.name tables.old tables.new (λ stored. IfOk result (λ found. HandsOutOf T.StoredTable.layout T.KeyedTable.bind (stored.rows T.KeyedTable.name) cursor.old found cursor.new)) }
+    ensures stored { SaysAsStoredIn S.Store T.KeyedTable.name format tables.old tables.new (λ stored. IfOk result (λ found. HandsOutOf T.StoredTable.layout T.KeyedTable.bind (stored.rows T.KeyedTable.name) cursor.old found cursor.new)) }
     // What is handed out is of its type.
-    ensures valid { SaysAsStoredIn S.Store T.KeyedTable.name tables.old tables.new (λ _. AreValid T.StoredTable.layout cursor.old → IfOk result (λ found. IfSome found (λ row. IsTrue (T.StoredTable.layout.is_valid row)) × AreValid T.StoredTable.layout cursor.new)) }
+    ensures valid { SaysAsStoredIn S.Store T.KeyedTable.name format tables.old tables.new (λ _. AreValid T.StoredTable.layout cursor.old → IfOk result (λ found. IfSome found (λ row. IsTrue (T.StoredTable.layout.is_valid row)) × AreValid T.StoredTable.layout cursor.new)) }
     // A damaged row is reported with the part that it is in.
     ensures damaged { SaysAsStored (state_of S.Store tables.old) (state_of S.Store tables.new) (λ stored. IfErr result (IsOfAskedDamage (Some (forward T.part_texts.most)) T.StoredTable.layout T.KeyedTable.name (filter (stands_behind T.StoredTable.layout T.KeyedTable.bind cursor.old.unread.after) (stored.rows T.KeyedTable.name)))) }
     ensures refused { HasCleanDisk (state_of S.Store tables.new) → HasKey T.StoredTable.layout cursor.old.unread.after → IfErr result (FailsToShow T.StoredTable.layout T.KeyedTable.name (part_text T.part_texts cursor.old.unread.after) (bind_part T.KeyedTable.bind cursor.old.unread.after) (state_of S.Store tables.old) (state_of S.Store tables.new)) }
-    ensures keyed { SaysAsStoredIn S.Store T.KeyedTable.name tables.old tables.new (λ _. HasKey T.StoredTable.layout cursor.old.unread.after → IfOk result (λ _. HasKey T.StoredTable.layout cursor.new.unread.after)) }
+    ensures keyed { SaysAsStoredIn S.Store T.KeyedTable.name format tables.old tables.new (λ _. HasKey T.StoredTable.layout cursor.old.unread.after → IfOk result (λ _. HasKey T.StoredTable.layout cursor.new.unread.after)) }
     ensures ended { OnErr result (IsOver cursor.new) }
     ensures over { IsOver cursor.old → (result ≡ Ok None) × (tables.new ≡ tables.old) × IsOver cursor.new }
+    // Of a table that the format hasn't nothing is asked.
+    ensures absent { is_there T.KeyedTable.name format ≡ false → into_iter_items cursor.old.ahead ≡ [] → (result ≡ Ok None) × (tables.new ≡ tables.old) × (into_iter_items cursor.new.ahead ≡ []) }
 {
     if let Some(row) = cursor.ahead.next() {
         return Ok(Some(row));
     }
     if cursor.is_over {
+        return Ok(None);
+    }
+    if !T::is_in(format) {
         return Ok(None);
     }
     read_ahead::<T, S>(tables, alloc, cursor)?;
@@ -125,6 +131,8 @@ pub fn next_row<T: PagedTable, S: Alter>(
 #[derive(Drop)]
 pub struct Scan<'t, S: Alter, T: PagedTable> {
     tables: &'t mut Tables<S>,
+    /// The format that they are of.
+    format: Format,
     cursor: Cursor<T::Key, T::Row>,
 }
 
@@ -132,32 +140,36 @@ impl<'t, S: Alter, T: PagedTable> Scan<'t, S, T> {
     /// The next row. After a fault none comes.
     pub fn next_row(&mut self, alloc: Global) -> Result<Option<T::Row>, ReadFault>
         ensures same_reference { self.new.tables.ghost_name ≡ self.old.tables.ghost_name }
+        ensures same_format { self.new.format ≡ self.old.format }
         ensures reads { ReadsOnly (state_of S.Store self.old.tables.now) (state_of S.Store self.new.tables.now) result }
-        ensures same_format { self.new.tables.now.format ≡ self.old.tables.now.format }
-        ensures rows { SaysInFormat S.Store T.KeyedTable.name self.old.tables.now self.new.tables.now (λ t. IfOk result (λ found. HandsOut (rows_left T.StoredTable.layout (T.StoredTable.rows t) self.old.cursor) found (rows_left T.StoredTable.layout (T.StoredTable.rows t) self.new.cursor))) }
+        ensures rows { SaysInFormat S.Store T.KeyedTable.name self.old.format self.old.tables.now self.new.tables.now (λ t. IfOk result (λ found. HandsOut (rows_left T.StoredTable.layout (T.StoredTable.rows t) self.old.cursor) found (rows_left T.StoredTable.layout (T.StoredTable.rows t) self.new.cursor))) }
         // Of any rows, whoever wrote them, none is missed and none comes twice.
-        ensures stored { SaysAsStoredIn S.Store T.KeyedTable.name self.old.tables.now self.new.tables.now (λ stored. IfOk result (λ found. HandsOutOf T.StoredTable.layout T.KeyedTable.bind (stored.rows T.KeyedTable.name) self.old.cursor found self.new.cursor)) }
+        ensures stored { SaysAsStoredIn S.Store T.KeyedTable.name self.old.format self.old.tables.now self.new.tables.now (λ stored. IfOk result (λ found. HandsOutOf T.StoredTable.layout T.KeyedTable.bind (stored.rows T.KeyedTable.name) self.old.cursor found self.new.cursor)) }
         // A damaged row is reported with the part that it is in.
         ensures damaged { SaysAsStored (state_of S.Store self.old.tables.now) (state_of S.Store self.new.tables.now) (λ stored. IfErr result (IsOfAskedDamage (Some (forward T.part_texts.most)) T.StoredTable.layout T.KeyedTable.name (filter (stands_behind T.StoredTable.layout T.KeyedTable.bind self.old.cursor.unread.after) (stored.rows T.KeyedTable.name)))) }
         ensures refused { HasCleanDisk (state_of S.Store self.new.tables.now) → HasKey T.StoredTable.layout self.old.cursor.unread.after → IfErr result (FailsToShow T.StoredTable.layout T.KeyedTable.name (part_text T.part_texts self.old.cursor.unread.after) (bind_part T.KeyedTable.bind self.old.cursor.unread.after) (state_of S.Store self.old.tables.now) (state_of S.Store self.new.tables.now)) }
-        ensures keyed { SaysAsStoredIn S.Store T.KeyedTable.name self.old.tables.now self.new.tables.now (λ _. HasKey T.StoredTable.layout self.old.cursor.unread.after → IfOk result (λ _. HasKey T.StoredTable.layout self.new.cursor.unread.after)) }
+        ensures keyed { SaysAsStoredIn S.Store T.KeyedTable.name self.old.format self.old.tables.now self.new.tables.now (λ _. HasKey T.StoredTable.layout self.old.cursor.unread.after → IfOk result (λ _. HasKey T.StoredTable.layout self.new.cursor.unread.after)) }
         ensures ended { OnErr result (IsOver self.new.cursor) }
         ensures over { IsOver self.old.cursor → (result ≡ Ok None) × (self.new.tables.now ≡ self.old.tables.now) × IsOver self.new.cursor }
+        // Of a table that the format hasn't nothing is asked.
+        ensures absent { is_there T.KeyedTable.name self.old.format ≡ false → into_iter_items self.old.cursor.ahead ≡ [] → (result ≡ Ok None) × (self.new.tables.now ≡ self.old.tables.now) × (into_iter_items self.new.cursor.ahead ≡ []) }
     {
-        next_row::<T, S>(self.tables, alloc, &mut self.cursor)
+        next_row::<T, S>(self.tables, alloc, self.format, &mut self.cursor)
     }
 }
 
 impl<S: Alter> Tables<S> {
-    /// The rows of a table in the order of their keys, one at a time.
-    pub fn scan<T: PagedTable>(&mut self, alloc: Global) -> Scan<'_, S, T>
+    /// The rows of a table of these tables, which are of the format, in the order of their keys, one at a time.
+    pub fn scan<T: PagedTable>(&mut self, alloc: Global, format: Format) -> Scan<'_, S, T>
         ensures same_reference { result.tables.ghost_name ≡ self.entry.ghost_name }
         ensures same { result.tables.now ≡ self.old }
+        ensures format { result.format ≡ format }
         ensures left { (t : TypedTables) → rows_left T.StoredTable.layout (T.StoredTable.rows t) result.cursor ≡ values (T.StoredTable.rows t) }
         ensures left_stored { (stored : Stored) (left : List Columns) → AreLeft T.StoredTable.layout T.KeyedTable.bind (stored.rows T.KeyedTable.name) result.cursor left → IsArranged T.StoredTable.layout.table (stored.rows T.KeyedTable.name) left }
     {
         Scan {
             tables: self,
+            format,
             cursor: Cursor::new(alloc),
         }
     }

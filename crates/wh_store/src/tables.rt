@@ -1,30 +1,30 @@
 //! The tables over one connection.
 
-ghost use Rattle.std.specs.Prelude.{◌≡◌, ◌≢◌, ◌≤◌, ◌⊎◌, [], ◌∷◌, pos, true, false, map, filter, length, Ok, Err, Some, None, Option, IsTrue, IfOk, IfErr, OnOk, IsOkAnd};
+ghost use Rattle.std.specs.Prelude.{◌≡◌, ◌≤◌, ◌⊎◌, [], ◌∷◌, pos, true, false, map, filter, length, Ok, Err, Some, None, Option, IsTrue, IfOk, IfErr};
 ghost use Rattle.std.specs.Borrow.{sem, RestsIfErr};
 ghost use Rattle.std.specs.FinMap.{values, get, len};
 ghost use Rattle.sqlite_value.specs.declared.value.Value.TheVariants.{Int as Number};
 ghost use Rattle.sqlite.specs.Held.{state};
 ghost use Rattle.sqlite.specs.State.{HasCleanDisk, Survives};
 ghost use Rattle.wh_rows.specs.declared.table.Table.{Table};
-ghost use Rattle.wh_rows.specs.declared.table.Table.TheVariants.{Change as OfChange, Fact as OfFact, Fact2 as OfFact2};
+ghost use Rattle.wh_rows.specs.declared.table.Table.TheVariants.{Change as OfChange};
 ghost use Rattle.wh_rows.specs.declared.cause.Cause.{Cause};
 ghost use Rattle.wh_rows.specs.declared.cause.Cause.TheVariants.{Memory};
 ghost use Rattle.wh_policy.specs.Formats.{format_number};
-ghost use Rattle.wh_rows.specs.Names.{is_there};
-ghost use Rattle.wh_rows.specs.KeyedSales.{keyed_sales, keyed_sales2};
-ghost use Rattle.wh_rows.specs.Rows.{change, fact, fact2};
+ghost use Rattle.wh_rows.specs.Facts.{facts_table, fact_layout, facts_in};
+ghost use Rattle.wh_rows.specs.Rows.{change};
 ghost use Rattle.wh_rows.specs.Texts as texts;
-ghost use Rattle.wh_rows.specs.AtRest.{IsAtRest, IsWriting, Leaves};
+ghost use Rattle.wh_rows.specs.AtRest.{IsAtRest, IsWriting};
 ghost use Rattle.wh_rows.specs.Tables.{Tables as TypedTables};
 ghost use Rattle.std.specs.Ordering.{eq_by_cmp, nat_cmp};
 ghost use Rattle.wh_rows.specs.Types.{dim_number};
 ghost use Rattle.wh_rows.specs.Firsts.{part, greatest as greatest_of};
 ghost use Rattle.wh_rows.specs.Questions.{is_record_of};
-ghost use Rattle.wh_rows.specs.Raw.{Stored, RestsOn, LeavesStored, AreRows, AreAsked, IsLastOf, IsGreatestAnchor};
+ghost use Rattle.wh_rows.specs.Raw.{AreRows, AreAsked, IsLastOf, IsGreatestAnchor};
 ghost use Rattle.wh_sql.specs.Reads.{ReadsOnly, Spares, IsServed, IsOfDamage, IsOfAskedDamage, IsOfGreatestDamage, FailsToShow, FailsToCount};
+ghost use Rattle.wh_sql.specs.Facts.{facts_by};
 ghost use Rattle.wh_sql.specs.Refused.{IsCauseOfQuery, IsOneRefused};
-ghost use Rattle.wh_store.specs.Reads.{state_of, SaysAtRest, SaysAsStored, SaysInFormat, SaysAsStoredIn};
+ghost use Rattle.wh_store.specs.Reads.{state_of, SaysAtRest, SaysAsStored};
 ghost use Rattle.wh_sql.specs.Present.{is_any_taken, is_second_taken, are_all_there, is_second_there};
 ghost use Rattle.wh_sql.specs.Tally.{HasCounted, HasCountedStored};
 ghost use Rattle.wh_sql.specs.declared.fault.ReadFault.TheVariants.{Damaged, Store as Refused};
@@ -40,7 +40,7 @@ use crate::writing::Writing;
 use sqlite::{Alter, Connection};
 use std::alloc::Global;
 use wh_policy::{Dim, Format};
-use wh_rows::{Cause, FactColumn, Limits, Table, tables};
+use wh_rows::{Cause, FactColumn, Limits, Table};
 use wh_sql::{
     FactAggregate, KeyedTable, Question, ReadFault, all, ask, count, get, greatest_anchor,
     has_second, has_second_name, has_tables, has_taken_name, tally_facts,
@@ -50,8 +50,6 @@ use wh_sql::{
 #[derive(Drop)]
 pub struct Tables<S: Alter> {
     pub(crate) conn: Connection<S>,
-    /// The format that meta had when they were opened, or that was made since.
-    pub(crate) format: Format,
 }
 
 impl<S: Alter> Tables<S> {
@@ -62,7 +60,6 @@ impl<S: Alter> Tables<S> {
         ensures same { IfOk result (λ tables. tables.conn ≡ conn) }
         ensures back { IfErr result (λ e. e.1 ≡ conn) }
         ensures free { IfOk result (λ tables. is_any_taken (state S.Store conn).now.schema ≡ false) }
-        ensures first { IfOk result (λ tables. tables.format ≡ Format.One) }
         ensures outside { IfOk result (λ _. conn.in_transaction ≡ false) }
         ensures taken { IfErr result (λ e. ((e.0 ≡ MakeFault.NotEmpty) × (is_any_taken (state S.Store conn).now.schema ≡ true)) ⊎ ((e.0 ≡ MakeFault.Store Cause.Disk) × IsTrue conn.in_transaction)) }
     {
@@ -72,25 +69,22 @@ impl<S: Alter> Tables<S> {
         if has_taken_name(&conn) {
             return Err((MakeFault::NotEmpty, conn));
         }
-        Ok(Tables {
-            conn,
-            format: Format::One,
-        })
+        Ok(Tables { conn })
     }
 
-    /// Takes a connection to a warehouse, of the format that meta's number says. `newest`: the newest format that the caller knows; one that came after
-    /// it is refused.
+    /// Takes a connection to a warehouse, and answers its format too, by meta's number. `newest`: the newest format that the caller knows; one that came
+    /// after it is refused.
     pub fn open(
         alloc: Global,
         mut conn: Connection<S>,
         newest: Format,
-    ) -> Result<Tables<S>, (OpenFault, Connection<S>)>
+    ) -> Result<(Tables<S>, Format), (OpenFault, Connection<S>)>
         ensures reads { Spares (state S.Store conn) (state S.Store (connection_after result)) (IfErr result (λ e. SparesStore e.0)) }
-        ensures taken { SaysAtRest (state S.Store conn) (state S.Store (connection_after result)) (λ t. IfOk result (λ tables. IsTaken newest (is_second_there (state S.Store conn).now.schema) t tables.format)) }
+        ensures taken { SaysAtRest (state S.Store conn) (state S.Store (connection_after result)) (λ t. IfOk result (λ opened. IsTaken newest (is_second_there (state S.Store conn).now.schema) t opened.1)) }
         ensures refused { SaysAtRest (state S.Store conn) (state S.Store (connection_after result)) (λ t. are_all_there (state S.Store conn).now.schema ≡ true → IfErr result (λ e. IsRefusedWith newest (is_second_there (state S.Store conn).now.schema) t (state S.Store conn) (state S.Store e.1) e.0)) }
-        ensures known { IfOk result (λ tables. format_number tables.format ≤ format_number newest) }
+        ensures known { IfOk result (λ opened. format_number opened.1 ≤ format_number newest) }
         // The same of any rows, whoever wrote them: by those of the format.
-        ensures taken_stored { SaysAsStored (state S.Store conn) (state S.Store (connection_after result)) (λ stored. IfOk result (λ tables. FormatIs newest (is_second_there (state S.Store conn).now.schema) stored (Ok tables.format))) }
+        ensures taken_stored { SaysAsStored (state S.Store conn) (state S.Store (connection_after result)) (λ stored. IfOk result (λ opened. FormatIs newest (is_second_there (state S.Store conn).now.schema) stored (Ok opened.1))) }
         ensures refused_stored { SaysAsStored (state S.Store conn) (state S.Store (connection_after result)) (λ stored. are_all_there (state S.Store conn).now.schema ≡ true → IfErr result (λ e. IsRefusedOn newest (is_second_there (state S.Store conn).now.schema) stored e.0)) }
         ensures within { IsTrue conn.in_transaction → result ≡ Err (OpenFault.Store Cause.Disk, conn) }
         ensures missing { conn.in_transaction ≡ false → are_all_there (state S.Store conn).now.schema ≡ false → result ≡ Err (OpenFault.NotAWarehouse, conn) }
@@ -103,16 +97,9 @@ impl<S: Alter> Tables<S> {
         }
         let second = has_second(&conn);
         match meta::find_format(alloc, &mut conn, newest, second) {
-            Ok(format) => Ok(Tables { conn, format }),
+            Ok(format) => Ok((Tables { conn }, format)),
             Err(fault) => Err((fault, conn)),
         }
-    }
-
-    /// The format that they are of.
-    pub fn format(&self) -> Format
-        ensures { result ≡ self.now.format }
-    {
-        self.format
     }
 
     /// Whether a name that the second format needs is taken, by a table, an index or a view of somebody else's. Then no upgrade is possible.
@@ -125,7 +112,6 @@ impl<S: Alter> Tables<S> {
     /// The limits that were chosen at the making. Damaged is meta where one of the three isn't there or isn't good.
     pub fn limits(&mut self, alloc: Global) -> Result<Limits, ReadFault>
         ensures reads { Spares (state_of S.Store self.old) (state_of S.Store self.new) (IsServed result) }
-        ensures same_format { self.new.format ≡ self.old.format }
         ensures limits { SaysAtRest (state_of S.Store self.old) (state_of S.Store self.new) (λ t. IfOk result (λ limits. limits_in t ≡ Some limits)) }
         ensures damaged { SaysAtRest (state_of S.Store self.old) (state_of S.Store self.new) (λ t. (table : Table) → result ≡ Err (Damaged table) → (table ≡ Table.Meta) × (limits_in t ≡ None)) }
         // The same of any rows, whoever wrote them: by those of the three names.
@@ -145,18 +131,12 @@ impl<S: Alter> Tables<S> {
     /// All rows of a table, in the order of their keys.
     pub fn all<T: KeyedTable>(&mut self, alloc: Global) -> Result<Vec<T::Row>, ReadFault>
         ensures reads { ReadsOnly (state_of S.Store self.old) (state_of S.Store self.new) result }
-        ensures same_format { self.new.format ≡ self.old.format }
-        ensures rows { SaysInFormat S.Store T.name self.old self.new (λ t. IfOk result (λ rows. rows.items ≡ values (T.rows t))) }
+        ensures rows { SaysAtRest (state_of S.Store self.old) (state_of S.Store self.new) (λ t. IfOk result (λ rows. rows.items ≡ values (T.rows t))) }
         // The same of any rows, whoever wrote them: all that is stored is read, or a row of it is out of its type.
-        ensures stored { SaysAsStoredIn S.Store T.name self.old self.new (λ stored. IfOk result (λ rows. AreRows T.layout (stored.rows T.name) rows.items)) }
+        ensures stored { SaysAsStored (state_of S.Store self.old) (state_of S.Store self.new) (λ stored. IfOk result (λ rows. AreRows T.layout (stored.rows T.name) rows.items)) }
         ensures damaged { SaysAsStored (state_of S.Store self.old) (state_of S.Store self.new) (λ stored. IfErr result (IsOfDamage T.layout T.name (stored.rows T.name))) }
         ensures refused { HasCleanDisk (state_of S.Store self.new) → IfErr result (FailsToShow T.layout T.name T.texts.all [] (state_of S.Store self.old) (state_of S.Store self.new)) }
-        // Of a table that the format hasn't nothing is asked.
-        ensures absent { is_there T.name self.old.format ≡ false → (self.new ≡ self.old) × IsOkAnd result (λ rows. rows.items ≡ []) }
     {
-        if !T::is_in(self.format) {
-            return Ok(Vec::new(alloc));
-        }
         all::<T, S>(alloc, &mut self.conn)
     }
 
@@ -167,35 +147,23 @@ impl<S: Alter> Tables<S> {
         key: &T::Key,
     ) -> Result<Option<T::Row>, ReadFault>
         ensures reads { ReadsOnly (state_of S.Store self.old) (state_of S.Store self.new) result }
-        ensures same_format { self.new.format ≡ self.old.format }
-        ensures row { SaysInFormat S.Store T.name self.old self.new (λ t. IfOk result (λ row. row ≡ get (T.rows t) key.now)) }
+        ensures row { SaysAtRest (state_of S.Store self.old) (state_of S.Store self.new) (λ t. IfOk result (λ row. row ≡ get (T.rows t) key.now)) }
         // The same of any rows, whoever wrote them: of those that are stored at the key.
-        ensures stored { SaysAsStoredIn S.Store T.name self.old self.new (λ stored. IfOk result (IsLastOf T.layout (filter (T.stands_at key.now) (stored.rows T.name)))) }
+        ensures stored { SaysAsStored (state_of S.Store self.old) (state_of S.Store self.new) (λ stored. IfOk result (IsLastOf T.layout (filter (T.stands_at key.now) (stored.rows T.name)))) }
         ensures damaged { SaysAsStored (state_of S.Store self.old) (state_of S.Store self.new) (λ stored. IfErr result (IsOfDamage T.layout T.name (filter (T.stands_at key.now) (stored.rows T.name)))) }
         ensures refused { HasCleanDisk (state_of S.Store self.new) → (row : T.Row) → IsTrue (T.layout.is_valid row) → T.layout.key row ≡ key.now → IfErr result (FailsToShow T.layout T.name T.texts.get (T.bind key.now) (state_of S.Store self.old) (state_of S.Store self.new)) }
-        // Of a table that the format hasn't nothing is asked.
-        ensures absent { is_there T.name self.old.format ≡ false → (self.new ≡ self.old) × (result ≡ Ok None) }
     {
-        if !T::is_in(self.format) {
-            return Ok(None);
-        }
         get::<T, S>(alloc, &mut self.conn, key)
     }
 
     /// How many rows a table has.
     pub fn count<T: KeyedTable>(&mut self, alloc: Global) -> Result<u64, ReadFault>
         ensures reads { ReadsOnly (state_of S.Store self.old) (state_of S.Store self.new) result }
-        ensures same_format { self.new.format ≡ self.old.format }
-        ensures count { SaysInFormat S.Store T.name self.old self.new (λ t. IfOk result (λ count. count ≡ len (T.rows t))) }
+        ensures count { SaysAtRest (state_of S.Store self.old) (state_of S.Store self.new) (λ t. IfOk result (λ count. count ≡ len (T.rows t))) }
         // The same of any rows, whoever wrote them: all that are stored are counted, damaged or not.
-        ensures stored { SaysAsStoredIn S.Store T.name self.old self.new (λ stored. IfOk result (λ count. count ≡ length (stored.rows T.name))) }
+        ensures stored { SaysAsStored (state_of S.Store self.old) (state_of S.Store self.new) (λ stored. IfOk result (λ count. count ≡ length (stored.rows T.name))) }
         ensures refused { SaysAtRest (state_of S.Store self.old) (state_of S.Store self.new) (λ t. IfErr result (FailsToCount (len (T.rows t)) T.texts.count (state_of S.Store self.old) (state_of S.Store self.new))) }
-        // Of a table that the format hasn't nothing is asked.
-        ensures absent { is_there T.name self.old.format ≡ false → (self.new ≡ self.old) × (result ≡ Ok 0) }
     {
-        if !T::is_in(self.format) {
-            return Ok(0);
-        }
         count::<T, S>(alloc, &mut self.conn)
     }
 
@@ -206,67 +174,37 @@ impl<S: Alter> Tables<S> {
         question: &Q,
     ) -> Result<Vec<T::Row>, ReadFault>
         ensures reads { ReadsOnly (state_of S.Store self.old) (state_of S.Store self.new) result }
-        ensures same_format { self.new.format ≡ self.old.format }
-        ensures rows { SaysInFormat S.Store T.name self.old self.new (λ t. IfOk result (λ rows. rows.items ≡ part Q.front (filter (Q.keep question.now) (values (T.rows t))))) }
+        ensures rows { SaysAtRest (state_of S.Store self.old) (state_of S.Store self.new) (λ t. IfOk result (λ rows. rows.items ≡ part Q.front (filter (Q.keep question.now) (values (T.rows t))))) }
         // The same of any rows, whoever wrote them: no other row keeps these from being read.
-        ensures stored { SaysAsStoredIn S.Store T.name self.old self.new (λ stored. IfOk result (λ rows. AreAsked Q.front T.layout (filter (Q.stands question.now) (stored.rows T.name)) rows.items)) }
+        ensures stored { SaysAsStored (state_of S.Store self.old) (state_of S.Store self.new) (λ stored. IfOk result (λ rows. AreAsked Q.front T.layout (filter (Q.stands question.now) (stored.rows T.name)) rows.items)) }
         ensures damaged { SaysAsStored (state_of S.Store self.old) (state_of S.Store self.new) (λ stored. IfErr result (IsOfAskedDamage Q.front T.layout T.name (filter (Q.stands question.now) (stored.rows T.name)))) }
         ensures refused { HasCleanDisk (state_of S.Store self.new) → Q.can_be_asked question.now → IfErr result (FailsToShow T.layout T.name (Q.means question.now) (Q.bind question.now) (state_of S.Store self.old) (state_of S.Store self.new)) }
-        // Of a table that the format hasn't nothing is asked.
-        ensures absent { is_there T.name self.old.format ≡ false → (self.new ≡ self.old) × IsOkAnd result (λ rows. rows.items ≡ []) }
     {
-        if !T::is_in(self.format) {
-            return Ok(Vec::new(alloc));
-        }
         ask::<T, Q, S>(alloc, &mut self.conn, question)
     }
 
-    /// Has a tally count each fact by one of its keys, in whatever order they are stored. `Memory`: there are more facts than a
+    /// Has a tally count each fact of a format by one of its keys, in whatever order they are stored. `Memory`: also where there are more facts than a
     /// `u64` counts.
     pub fn tally_facts<C: FactAggregate>(
         &mut self,
+        format: Format,
         which: FactColumn,
         tally: &mut C,
     ) -> Result<(), ReadFault>
         requires { C.counts tally.old [] tally.old }
         ensures reads { ReadsOnly (state_of S.Store self.old) (state_of S.Store self.new) result }
-        ensures same_format { self.new.format ≡ self.old.format }
-        ensures counted { SaysAtRest (state_of S.Store self.old) (state_of S.Store self.new) (λ t. IfOk result (λ _. HasCounted C.counts which tally.old tally.new (values t.fact))) }
+        ensures counted { SaysAtRest (state_of S.Store self.old) (state_of S.Store self.new) (λ t. IfOk result (λ _. HasCounted C.counts which tally.old tally.new (values (facts_in format t)))) }
         // The same of any rows, whoever wrote them, by the columns that are read of them: each was counted, or one is damaged.
-        ensures stored { SaysAsStored (state_of S.Store self.old) (state_of S.Store self.new) (λ stored. IfOk result (λ _. HasCountedStored C.counts which tally.old tally.new (stored.rows OfFact))) }
-        ensures damaged { SaysAsStored (state_of S.Store self.old) (state_of S.Store self.new) (λ stored. IfErr result (IsOfDamage fact OfFact (stored.rows OfFact))) }
-        ensures refused { HasCleanDisk (state_of S.Store self.new) → IfErr result (λ fault. (why : Cause) → fault ≡ Refused why → IsCauseOfQuery (keyed_sales which) [] (state_of S.Store self.old) (state_of S.Store self.new) why) }
+        ensures stored { SaysAsStored (state_of S.Store self.old) (state_of S.Store self.new) (λ stored. IfOk result (λ _. HasCountedStored C.counts which tally.old tally.new (stored.rows (facts_table format)))) }
+        ensures damaged { SaysAsStored (state_of S.Store self.old) (state_of S.Store self.new) (λ stored. IfErr result (IsOfDamage (fact_layout format) (facts_table format) (stored.rows (facts_table format)))) }
+        ensures refused { HasCleanDisk (state_of S.Store self.new) → IfErr result (λ fault. (why : Cause) → fault ≡ Refused why → IsCauseOfQuery (facts_by format which) [] (state_of S.Store self.old) (state_of S.Store self.new) why) }
     {
-        tally_facts(&mut self.conn, Format::One, which, tally)
-    }
-
-    /// The same of the facts of the second format, of which the first has none.
-    pub fn tally_facts2<C: FactAggregate>(
-        &mut self,
-        which: FactColumn,
-        tally: &mut C,
-    ) -> Result<(), ReadFault>
-        requires { C.counts tally.old [] tally.old }
-        ensures reads { ReadsOnly (state_of S.Store self.old) (state_of S.Store self.new) result }
-        ensures same_format { self.new.format ≡ self.old.format }
-        ensures counted { SaysInFormat S.Store OfFact2 self.old self.new (λ t. IfOk result (λ _. HasCounted C.counts which tally.old tally.new (values t.fact2))) }
-        // The same of any rows, whoever wrote them, by the columns that are read of them: each was counted, or one is damaged.
-        ensures stored { SaysAsStoredIn S.Store OfFact2 self.old self.new (λ stored. IfOk result (λ _. HasCountedStored C.counts which tally.old tally.new (stored.rows OfFact2))) }
-        ensures damaged { SaysAsStored (state_of S.Store self.old) (state_of S.Store self.new) (λ stored. IfErr result (IsOfDamage fact2 OfFact2 (stored.rows OfFact2))) }
-        ensures refused { HasCleanDisk (state_of S.Store self.new) → IfErr result (λ fault. (why : Cause) → fault ≡ Refused why → IsCauseOfQuery (keyed_sales2 which) [] (state_of S.Store self.old) (state_of S.Store self.new) why) }
-        // Of a table that the format hasn't nothing is asked.
-        ensures absent { is_there OfFact2 self.old.format ≡ false → (self.new ≡ self.old) × (result ≡ Ok tt) × (tally.new ≡ tally.old) }
-    {
-        if !tables::Fact2::is_in(self.format) {
-            return Ok(());
-        }
-        tally_facts(&mut self.conn, Format::Two, which, tally)
+        tally_facts(&mut self.conn, format, which, tally)
     }
 
     /// The greatest anchor among the accepted records of a dimension, 0 where there is none.
     pub fn greatest_anchor(&mut self, alloc: Global, dim: Dim) -> Result<u64, ReadFault>
         ensures reads { ReadsOnly (state_of S.Store self.old) (state_of S.Store self.new) result }
-        ensures same_format { self.new.format ≡ self.old.format }
         ensures anchor { SaysAtRest (state_of S.Store self.old) (state_of S.Store self.new) (λ t. IfOk result (λ anchor. anchor ≡ greatest_of (map (λ r. r.anchor) (filter (λ r. eq_by_cmp nat_cmp (dim_number dim) (dim_number r.dim)) (values t.change))))) }
         // The same of any rows, whoever wrote them: none of the dimension's has a greater anchor.
         ensures stored { SaysAsStored (state_of S.Store self.old) (state_of S.Store self.new) (λ stored. IfOk result (IsGreatestAnchor (filter (is_record_of dim) (stored.rows OfChange)))) }
@@ -284,7 +222,6 @@ impl<S: Alter> Tables<S> {
         ensures survives { IfOk result (λ writing. Survives (state S.Store self.old.conn) (state S.Store writing.tables.now.conn) (λ _. ⊥)) }
         ensures counted { IfOk result (λ writing. writing.writes ≡ 0) }
         ensures fresh { IfOk result (λ writing. writing.refused ≡ false) }
-        ensures same_format { IfOk result (λ writing. (writing.tables.now.format ≡ self.old.format) × (writing.makes ≡ self.old.format)) }
     {
         begin(&mut self.conn)?;
         Ok(Writing::new(self))

@@ -3,6 +3,7 @@
 ghost use Rattle.std.specs.Prelude.{◌≡◌, ◌≢◌, ◌⊎◌, ◌+◌, ◌<◌, ◌≤◌, [], pos, codes, map, Option, None, Some, IsTrue, IfOk, IfErr, OnOk, length, ⊤, false, Err, if◌then◌else◌};
 ghost use Rattle.std.specs.FinMap.{insert, remove};
 ghost use Rattle.std.specs.List.{AllByRecursion};
+ghost use Rattle.sqlite.specs.Held.{state};
 ghost use Rattle.sqlite.specs.State.{HasCleanDisk, Survives};
 ghost use Rattle.sqlite_rules.specs.Lists.{Has};
 ghost use Rattle.wh_rows.specs.declared.cause.Cause.TheVariants.{Disk, Memory, Size};
@@ -12,14 +13,15 @@ ghost use Rattle.wh_rows.specs.Rows as row;
 ghost use Rattle.wh_rows.specs.Texts as texts;
 ghost use Rattle.wh_rows.specs.AtRest.{AreTrees, IsAtRest, IsWriting, Leaves, IsCauseOf};
 ghost use Rattle.wh_rows.specs.Tables.{Tables as TypedTables};
-ghost use Rattle.wh_rows.specs.Inserting.{facts_at_once, insert_text, bind_facts, insert2_text, bind_facts2, BreaksRule};
-ghost use Rattle.wh_rows.specs.Rekey.{rekey_text, bind_rekey, are_keys, rekeyed, rekey2_text};
+ghost use Rattle.wh_rows.specs.Facts.{facts_in, with_facts_in, fact_layout};
+ghost use Rattle.wh_rows.specs.Inserting.{facts_at_once, BreaksRule};
+ghost use Rattle.wh_rows.specs.Rekey.{bind_rekey, are_keys, rekeyed};
 ghost use Rattle.wh_rows.specs.Steps.{with_row, with_rows, after_all};
 ghost use Rattle.wh_policy.specs.declared.format.Format.TheVariants.{One, Two};
 ghost use Rattle.wh_rows.specs.Making.{upgrading_texts};
-ghost use Rattle.wh_sql.specs.Facts.{rekeying, with_rekeyed};
+ghost use Rattle.wh_sql.specs.Facts.{rekeying};
 ghost use Rattle.wh_sql.specs.Refused.{IsOneRefused, bare};
-ghost use Rattle.wh_store.specs.Upgrade.{upgraded};
+ghost use Rattle.wh_store.specs.FactTexts.{inserting, inserted_facts};
 ghost use Rattle.wh_store.specs.Reads.{state_of};
 ghost use Rattle.wh_store.specs.Writes.{WritesOnly, Makes, NotesRefusals, Undoes};
 ghost use Rattle.wh_store.specs.Edits.{with_edit, IsValid, Puts, IsOfTypes, statement_of};
@@ -28,22 +30,43 @@ ghost use Rattle.wh_store.specs.Meta.{made_with, with_number, making};
 use crate::meta;
 use crate::tables::Tables;
 use crate::transaction::{commit, roll_back};
-use sqlite::Alter;
+use sqlite::{Alter, Connection};
 use std::alloc::Global;
 use std::mem::replace;
 use wh_history::{Edit, Fact, FactKeys};
 use wh_policy::Format;
-use wh_rows::tables::{self, Meta};
+use wh_rows::tables::Meta;
 use wh_rows::{Cause, Limits, LineKey};
 use wh_sql::{KeyedTable, add_second, create, insert_facts, insert_facts2, put, rekey, remove};
+
+/// Puts facts of a format in that aren't there yet, sixteen in one statement, or none of them.
+fn insert<S: Alter>(
+    alloc: Global,
+    conn: &mut Connection<S>,
+    format: Format,
+    facts: &[&Fact],
+) -> Result<bool, Cause>
+    ensures clean { HasCleanDisk (state S.Store conn.new) → HasCleanDisk (state S.Store conn.old) }
+    ensures counts { (state S.Store conn.old).faults ≤ (state S.Store conn.new).faults }
+    ensures sixteen { IfOk result (λ done. IsTrue done → length facts.now ≡ facts_at_once) }
+    ensures put { HasCleanDisk (state S.Store conn.new) → (before : Option TypedTables) (made : TypedTables) → IsWriting before (Some made) (state S.Store conn.old) → AllByRecursion (IsValid (fact_layout format)) (map (λ f. f.now) facts.now)
+        → IfOk result (λ done. IsWriting before (Some (if done then with_facts_in format (with_rows row.fact (map (λ f. f.now) facts.now) (facts_in format made)) made else made)) (state S.Store conn.new)) }
+    ensures refused { HasCleanDisk (state S.Store conn.new) → IfOk result (λ done. done ≡ false → (length facts.now ≢ facts_at_once) ⊎ BreaksRule (inserting format) (inserted_facts format (map (λ f. f.now) facts.now)) (state S.Store conn.old) (state S.Store conn.new)) }
+    ensures left { HasCleanDisk (state S.Store conn.new) → (before : Option TypedTables) (made : TypedTables) → IsWriting before (Some made) (state S.Store conn.old) → Leaves before (state S.Store conn.new) }
+    ensures cause { HasCleanDisk (state S.Store conn.new) → IsTrue (state S.Store conn.old).in_transaction → AllByRecursion (IsValid (fact_layout format)) (map (λ f. f.now) facts.now)
+        → IfErr result (λ cause. cause ≢ Memory → IsCauseOf (inserting format) (inserted_facts format (map (λ f. f.now) facts.now)) (state S.Store conn.old) (state S.Store conn.new) cause) }
+{
+    match format {
+        Format::One => insert_facts(alloc, conn, facts),
+        Format::Two => insert_facts2(alloc, conn, facts),
+    }
+}
 
 /// Edits of the tables. They are kept by `commit` alone: where it is dropped before that, it leaves nothing.
 pub struct Writing<'t, S: Alter> {
     tables: &'t mut Tables<S>,
     /// How many keys it has written.
     writes: u64,
-    /// The format that the tables have with the edits.
-    makes: Format,
     /// Whether a write of it was refused. Such a write may have been made in part, so that nothing is kept then.
     refused: bool,
 }
@@ -54,13 +77,10 @@ impl<'t, S: Alter> Writing<'t, S> {
         ensures same { result.tables.now ≡ tables.old }
         ensures counted { result.writes ≡ 0 }
         ensures fresh { result.refused ≡ false }
-        ensures stays { result.makes ≡ tables.old.format }
     {
-        let makes = tables.format;
         Writing {
             tables,
             writes: 0,
-            makes,
             refused: false,
         }
     }
@@ -93,7 +113,6 @@ impl<'t, S: Alter> Writing<'t, S> {
     /// Puts the row at its key, in place of the one that was there.
     pub fn put<T: KeyedTable>(&mut self, alloc: Global, row: &T::Row) -> Result<(), Cause>
         ensures same_reference { self.new.tables.ghost_name ≡ self.old.tables.ghost_name }
-        ensures same_format { (self.new.tables.now.format ≡ self.old.tables.now.format) × (self.new.makes ≡ self.old.makes) }
         ensures writes { WritesOnly (state_of S.Store self.old.tables.now) (state_of S.Store self.new.tables.now) ⊤ }
         ensures put { Makes (state_of S.Store self.old.tables.now) (state_of S.Store self.new.tables.now) result (IsValid T.layout row.now) (λ made. T.with_rows (insert (T.rows made) (T.layout.key row.now) row.now) made) }
         ensures cause { HasCleanDisk (state_of S.Store self.new.tables.now) → IsTrue (state_of S.Store self.old.tables.now).in_transaction → self.old.writes < u64.MAX → IsValid T.layout row.now
@@ -112,7 +131,6 @@ impl<'t, S: Alter> Writing<'t, S> {
     /// Takes out the row at the key, if one is there.
     pub fn remove<T: KeyedTable>(&mut self, alloc: Global, key: &T::Key) -> Result<(), Cause>
         ensures same_reference { self.new.tables.ghost_name ≡ self.old.tables.ghost_name }
-        ensures same_format { (self.new.tables.now.format ≡ self.old.tables.now.format) × (self.new.makes ≡ self.old.makes) }
         ensures writes { WritesOnly (state_of S.Store self.old.tables.now) (state_of S.Store self.new.tables.now) ⊤ }
         ensures removed { Makes (state_of S.Store self.old.tables.now) (state_of S.Store self.new.tables.now) result ⊤ (λ made. T.with_rows (remove (T.rows made) key.now) made) }
         ensures cause { HasCleanDisk (state_of S.Store self.new.tables.now) → IsTrue (state_of S.Store self.old.tables.now).in_transaction → self.old.writes < u64.MAX → (row : T.Row) → IsTrue (T.layout.is_valid row) → T.layout.key row ≡ key.now
@@ -128,8 +146,8 @@ impl<'t, S: Alter> Writing<'t, S> {
         Ok(())
     }
 
-    /// Gives the fact of a line of a format other keys.
-    fn rekey_in(
+    /// Gives the fact of a line other keys, if it is there; its other columns stay.
+    pub fn rekey_fact(
         &mut self,
         alloc: Global,
         format: Format,
@@ -137,9 +155,8 @@ impl<'t, S: Alter> Writing<'t, S> {
         keys: &FactKeys,
     ) -> Result<(), Cause>
         ensures same_reference { self.new.tables.ghost_name ≡ self.old.tables.ghost_name }
-        ensures same_format { (self.new.tables.now.format ≡ self.old.tables.now.format) × (self.new.makes ≡ self.old.makes) }
         ensures writes { WritesOnly (state_of S.Store self.old.tables.now) (state_of S.Store self.new.tables.now) ⊤ }
-        ensures rekeyed { Makes (state_of S.Store self.old.tables.now) (state_of S.Store self.new.tables.now) result (IsTrue (are_keys keys.now)) (with_rekeyed format (line.now, keys.now)) }
+        ensures rekeyed { Makes (state_of S.Store self.old.tables.now) (state_of S.Store self.new.tables.now) result (IsTrue (are_keys keys.now)) (λ made. with_facts_in format (rekeyed (line.now, keys.now) (facts_in format made)) made) }
         ensures cause { HasCleanDisk (state_of S.Store self.new.tables.now) → IsTrue (state_of S.Store self.old.tables.now).in_transaction → self.old.writes < u64.MAX → IsTrue (are_keys keys.now)
             → IfErr result (λ cause. cause ≢ Memory → IsCauseOf (rekeying format) (bind_rekey (line.now, keys.now)) (state_of S.Store self.old.tables.now) (state_of S.Store self.new.tables.now) cause) }
         ensures counted { OnOk result (self.new.writes ≡ self.old.writes + 1) }
@@ -153,74 +170,28 @@ impl<'t, S: Alter> Writing<'t, S> {
         Ok(())
     }
 
-    /// Gives the fact of a line other keys, if it is there; its other columns stay.
-    pub fn rekey(&mut self, alloc: Global, line: &LineKey, keys: &FactKeys) -> Result<(), Cause>
-        ensures same_reference { self.new.tables.ghost_name ≡ self.old.tables.ghost_name }
-        ensures same_format { (self.new.tables.now.format ≡ self.old.tables.now.format) × (self.new.makes ≡ self.old.makes) }
-        ensures writes { WritesOnly (state_of S.Store self.old.tables.now) (state_of S.Store self.new.tables.now) ⊤ }
-        ensures rekeyed { Makes (state_of S.Store self.old.tables.now) (state_of S.Store self.new.tables.now) result (IsTrue (are_keys keys.now)) (λ made. record made { fact = rekeyed (line.now, keys.now) made.fact }) }
-        ensures cause { HasCleanDisk (state_of S.Store self.new.tables.now) → IsTrue (state_of S.Store self.old.tables.now).in_transaction → self.old.writes < u64.MAX → IsTrue (are_keys keys.now)
-            → IfErr result (λ cause. cause ≢ Memory → IsCauseOf rekey_text (bind_rekey (line.now, keys.now)) (state_of S.Store self.old.tables.now) (state_of S.Store self.new.tables.now) cause) }
-        ensures counted { OnOk result (self.new.writes ≡ self.old.writes + 1) }
-        ensures noted { NotesRefusals self.old.refused self.new.refused result }
-    {
-        self.rekey_in(alloc, Format::One, line, keys)
-    }
-
-    /// The same in the second format. In the first it is refused.
-    pub fn rekey2(&mut self, alloc: Global, line: &LineKey, keys: &FactKeys) -> Result<(), Cause>
-        ensures same_reference { self.new.tables.ghost_name ≡ self.old.tables.ghost_name }
-        ensures same_format { (self.new.tables.now.format ≡ self.old.tables.now.format) × (self.new.makes ≡ self.old.makes) }
-        ensures writes { WritesOnly (state_of S.Store self.old.tables.now) (state_of S.Store self.new.tables.now) ⊤ }
-        ensures rekeyed { Makes (state_of S.Store self.old.tables.now) (state_of S.Store self.new.tables.now) result (IsTrue (are_keys keys.now)) (λ made. record made { fact2 = rekeyed (line.now, keys.now) made.fact2 }) }
-        ensures cause { HasCleanDisk (state_of S.Store self.new.tables.now) → IsTrue (state_of S.Store self.old.tables.now).in_transaction → self.old.writes < u64.MAX → IsTrue (are_keys keys.now)
-            → IfErr result (λ cause. cause ≢ Memory → IsCauseOf rekey2_text (bind_rekey (line.now, keys.now)) (state_of S.Store self.old.tables.now) (state_of S.Store self.new.tables.now) cause) }
-        ensures counted { OnOk result (self.new.writes ≡ self.old.writes + 1) }
-        ensures noted { NotesRefusals self.old.refused self.new.refused result }
-    {
-        self.rekey_in(alloc, Format::Two, line, keys)
-    }
-
     /// Puts facts in that aren't there yet, sixteen in one statement. Where there are not sixteen of them, or one of their lines is taken, also by
     /// another of them, nothing changes, and the answer is false.
-    pub fn insert_facts(&mut self, alloc: Global, facts: &[&Fact]) -> Result<bool, Cause>
+    pub fn insert_new_facts(
+        &mut self,
+        alloc: Global,
+        format: Format,
+        facts: &[&Fact],
+    ) -> Result<bool, Cause>
         ensures same_reference { self.new.tables.ghost_name ≡ self.old.tables.ghost_name }
-        ensures same_format { (self.new.tables.now.format ≡ self.old.tables.now.format) × (self.new.makes ≡ self.old.makes) }
         ensures writes { WritesOnly (state_of S.Store self.old.tables.now) (state_of S.Store self.new.tables.now) ⊤ }
-        ensures inserted { HasCleanDisk (state_of S.Store self.new.tables.now) → (before : Option TypedTables) (made : TypedTables) → IsWriting before (Some made) (state_of S.Store self.old.tables.now) → AllByRecursion (IsValid row.fact) (map (λ f. f.now) facts.now)
-            → IfOk result (λ inserted. IsWriting before (Some (if inserted then record made { fact = with_rows row.fact (map (λ f. f.now) facts.now) made.fact } else made)) (state_of S.Store self.new.tables.now)) }
+        ensures inserted { HasCleanDisk (state_of S.Store self.new.tables.now) → (before : Option TypedTables) (made : TypedTables) → IsWriting before (Some made) (state_of S.Store self.old.tables.now) → AllByRecursion (IsValid (fact_layout format)) (map (λ f. f.now) facts.now)
+            → IfOk result (λ inserted. IsWriting before (Some (if inserted then with_facts_in format (with_rows row.fact (map (λ f. f.now) facts.now) (facts_in format made)) made else made)) (state_of S.Store self.new.tables.now)) }
         ensures sixteen { IfOk result (λ inserted. IsTrue inserted → length facts.now ≡ facts_at_once) }
-        ensures refused { HasCleanDisk (state_of S.Store self.new.tables.now) → IfOk result (λ inserted. inserted ≡ false → (length facts.now ≢ facts_at_once) ⊎ BreaksRule insert_text (bind_facts (map (λ f. f.now) facts.now)) (state_of S.Store self.old.tables.now) (state_of S.Store self.new.tables.now)) }
+        ensures refused { HasCleanDisk (state_of S.Store self.new.tables.now) → IfOk result (λ inserted. inserted ≡ false → (length facts.now ≢ facts_at_once) ⊎ BreaksRule (inserting format) (inserted_facts format (map (λ f. f.now) facts.now)) (state_of S.Store self.old.tables.now) (state_of S.Store self.new.tables.now)) }
         ensures counted { IfOk result (λ inserted. self.new.writes ≡ self.old.writes + (if inserted then length facts.now else 0)) }
-        ensures cause { HasCleanDisk (state_of S.Store self.new.tables.now) → IsTrue (state_of S.Store self.old.tables.now).in_transaction → self.old.writes + length facts.now ≤ u64.MAX → AllByRecursion (IsValid row.fact) (map (λ f. f.now) facts.now)
-            → IfErr result (λ cause. cause ≢ Memory → IsCauseOf insert_text (bind_facts (map (λ f. f.now) facts.now)) (state_of S.Store self.old.tables.now) (state_of S.Store self.new.tables.now) cause) }
+        ensures cause { HasCleanDisk (state_of S.Store self.new.tables.now) → IsTrue (state_of S.Store self.old.tables.now).in_transaction → self.old.writes + length facts.now ≤ u64.MAX → AllByRecursion (IsValid (fact_layout format)) (map (λ f. f.now) facts.now)
+            → IfErr result (λ cause. cause ≢ Memory → IsCauseOf (inserting format) (inserted_facts format (map (λ f. f.now) facts.now)) (state_of S.Store self.old.tables.now) (state_of S.Store self.new.tables.now) cause) }
         ensures noted { NotesRefusals self.old.refused self.new.refused result }
     {
         let refused = replace(&mut self.refused, true);
         let writes = self.and(facts.len() as u64)?;
-        let inserted = insert_facts(alloc, &mut self.tables.conn, facts)?;
-        self.writes = self.now_written(inserted, writes);
-        self.refused = refused;
-        Ok(inserted)
-    }
-
-    /// The same in the second format. In the first it is refused.
-    pub fn insert_facts2(&mut self, alloc: Global, facts: &[&Fact]) -> Result<bool, Cause>
-        ensures same_reference { self.new.tables.ghost_name ≡ self.old.tables.ghost_name }
-        ensures same_format { (self.new.tables.now.format ≡ self.old.tables.now.format) × (self.new.makes ≡ self.old.makes) }
-        ensures writes { WritesOnly (state_of S.Store self.old.tables.now) (state_of S.Store self.new.tables.now) ⊤ }
-        ensures inserted { HasCleanDisk (state_of S.Store self.new.tables.now) → (before : Option TypedTables) (made : TypedTables) → IsWriting before (Some made) (state_of S.Store self.old.tables.now) → AllByRecursion (IsValid row.fact2) (map (λ f. f.now) facts.now)
-            → IfOk result (λ inserted. IsWriting before (Some (if inserted then record made { fact2 = with_rows row.fact2 (map (λ f. f.now) facts.now) made.fact2 } else made)) (state_of S.Store self.new.tables.now)) }
-        ensures sixteen { IfOk result (λ inserted. IsTrue inserted → length facts.now ≡ facts_at_once) }
-        ensures refused { HasCleanDisk (state_of S.Store self.new.tables.now) → IfOk result (λ inserted. inserted ≡ false → (length facts.now ≢ facts_at_once) ⊎ BreaksRule insert2_text (bind_facts2 (map (λ f. f.now) facts.now)) (state_of S.Store self.old.tables.now) (state_of S.Store self.new.tables.now)) }
-        ensures counted { IfOk result (λ inserted. self.new.writes ≡ self.old.writes + (if inserted then length facts.now else 0)) }
-        ensures cause { HasCleanDisk (state_of S.Store self.new.tables.now) → IsTrue (state_of S.Store self.old.tables.now).in_transaction → self.old.writes + length facts.now ≤ u64.MAX → AllByRecursion (IsValid row.fact2) (map (λ f. f.now) facts.now)
-            → IfErr result (λ cause. cause ≢ Memory → IsCauseOf insert2_text (bind_facts2 (map (λ f. f.now) facts.now)) (state_of S.Store self.old.tables.now) (state_of S.Store self.new.tables.now) cause) }
-        ensures noted { NotesRefusals self.old.refused self.new.refused result }
-    {
-        let refused = replace(&mut self.refused, true);
-        let writes = self.and(facts.len() as u64)?;
-        let inserted = insert_facts2(alloc, &mut self.tables.conn, facts)?;
+        let inserted = insert(alloc, &mut self.tables.conn, format, facts)?;
         self.writes = self.now_written(inserted, writes);
         self.refused = refused;
         Ok(inserted)
@@ -229,7 +200,6 @@ impl<'t, S: Alter> Writing<'t, S> {
     /// Puts rows at their keys, one after the other.
     pub fn put_all<T: KeyedTable>(&mut self, alloc: Global, rows: &[T::Row]) -> Result<(), Cause>
         ensures same_reference { self.new.tables.ghost_name ≡ self.old.tables.ghost_name }
-        ensures same_format { (self.new.tables.now.format ≡ self.old.tables.now.format) × (self.new.makes ≡ self.old.makes) }
         ensures writes { WritesOnly (state_of S.Store self.old.tables.now) (state_of S.Store self.new.tables.now) (AllByRecursion (IsValid T.layout) rows.now) }
         ensures put { Makes (state_of S.Store self.old.tables.now) (state_of S.Store self.new.tables.now) result (AllByRecursion (IsValid T.layout) rows.now) (λ made. T.with_rows (after_all (with_row T.layout) rows.now (T.rows made)) made) }
         ensures cause { HasCleanDisk (state_of S.Store self.new.tables.now) → (before : Option TypedTables) (made : TypedTables) → IsWriting before (Some made) (state_of S.Store self.old.tables.now) → AllByRecursion (IsValid T.layout) rows.now → self.old.writes + length rows.now ≤ u64.MAX
@@ -250,7 +220,6 @@ impl<'t, S: Alter> Writing<'t, S> {
         edit: &Edit<T::Row, T::Key>,
     ) -> Result<(), Cause>
         ensures same_reference { self.new.tables.ghost_name ≡ self.old.tables.ghost_name }
-        ensures same_format { (self.new.tables.now.format ≡ self.old.tables.now.format) × (self.new.makes ≡ self.old.makes) }
         ensures writes { WritesOnly (state_of S.Store self.old.tables.now) (state_of S.Store self.new.tables.now) ⊤ }
         ensures edited { Makes (state_of S.Store self.old.tables.now) (state_of S.Store self.new.tables.now) result (Puts (IsValid T.layout) edit.now) (λ made. T.with_rows (with_edit T.layout edit.now (T.rows made)) made) }
         ensures cause { HasCleanDisk (state_of S.Store self.new.tables.now) → IsTrue (state_of S.Store self.old.tables.now).in_transaction → self.old.writes < u64.MAX → IsOfTypes T.layout edit.now
@@ -271,7 +240,6 @@ impl<'t, S: Alter> Writing<'t, S> {
         edits: &[Edit<T::Row, T::Key>],
     ) -> Result<(), Cause>
         ensures same_reference { self.new.tables.ghost_name ≡ self.old.tables.ghost_name }
-        ensures same_format { (self.new.tables.now.format ≡ self.old.tables.now.format) × (self.new.makes ≡ self.old.makes) }
         ensures writes { WritesOnly (state_of S.Store self.old.tables.now) (state_of S.Store self.new.tables.now) (AllByRecursion (Puts (IsValid T.layout)) edits.now) }
         ensures edited { Makes (state_of S.Store self.old.tables.now) (state_of S.Store self.new.tables.now) result (AllByRecursion (Puts (IsValid T.layout)) edits.now) (λ made. T.with_rows (after_all (with_edit T.layout) edits.now (T.rows made)) made) }
         ensures cause { HasCleanDisk (state_of S.Store self.new.tables.now) → (before : Option TypedTables) (made : TypedTables) → IsWriting before (Some made) (state_of S.Store self.old.tables.now) → AllByRecursion (Puts (IsValid T.layout)) edits.now → ((edit : _) → Has edits.now edit → IsOfTypes T.layout edit) → self.old.writes + length edits.now ≤ u64.MAX
@@ -288,7 +256,6 @@ impl<'t, S: Alter> Writing<'t, S> {
     /// Makes the ten tables, and the rows of meta for these limits.
     pub fn make(&mut self, alloc: Global, limits: Limits) -> Result<(), Cause>
         ensures same_reference { self.new.tables.ghost_name ≡ self.old.tables.ghost_name }
-        ensures same_format { (self.new.tables.now.format ≡ self.old.tables.now.format) × (self.new.makes ≡ self.old.makes) }
         ensures clean { HasCleanDisk (state_of S.Store self.new.tables.now) → HasCleanDisk (state_of S.Store self.old.tables.now) }
         ensures counts { (state_of S.Store self.old.tables.now).faults ≤ (state_of S.Store self.new.tables.now).faults }
         ensures made { HasCleanDisk (state_of S.Store self.new.tables.now) → IsWriting None None (state_of S.Store self.old.tables.now) → OnOk result (IsWriting None (Some (made_with limits)) (state_of S.Store self.new.tables.now)) }
@@ -310,7 +277,6 @@ impl<'t, S: Alter> Writing<'t, S> {
     /// Makes the tables of the second format over a warehouse of the first. All rows stay, and the new tables have none.
     pub fn add_second(&mut self) -> Result<(), Cause>
         ensures same_reference { self.new.tables.ghost_name ≡ self.old.tables.ghost_name }
-        ensures becomes { (self.new.tables.now.format ≡ self.old.tables.now.format) × OnOk result (self.new.makes ≡ Two) }
         ensures clean { HasCleanDisk (state_of S.Store self.new.tables.now) → HasCleanDisk (state_of S.Store self.old.tables.now) }
         ensures counts { (state_of S.Store self.old.tables.now).faults ≤ (state_of S.Store self.new.tables.now).faults }
         ensures added { HasCleanDisk (state_of S.Store self.new.tables.now) → (before : Option TypedTables) (made : TypedTables) → made.format ≡ One → IsWriting before (Some made) (state_of S.Store self.old.tables.now)
@@ -324,38 +290,13 @@ impl<'t, S: Alter> Writing<'t, S> {
     {
         let refused = replace(&mut self.refused, true);
         add_second(&mut self.tables.conn)?;
-        self.makes = Format::Two;
         self.refused = refused;
         Ok(())
-    }
-
-    /// Makes the second format of a warehouse of the first: its tables, its number in meta, and these edits of the facts.
-    pub fn upgrade(
-        &mut self,
-        alloc: Global,
-        removes: &[Edit<Fact, LineKey>],
-        puts: &[Edit<Fact, LineKey>],
-    ) -> Result<(), Cause>
-        ensures same_reference { self.new.tables.ghost_name ≡ self.old.tables.ghost_name }
-        ensures becomes { (self.new.tables.now.format ≡ self.old.tables.now.format) × OnOk result (self.new.makes ≡ Two) }
-        ensures clean { HasCleanDisk (state_of S.Store self.new.tables.now) → HasCleanDisk (state_of S.Store self.old.tables.now) }
-        ensures upgraded { HasCleanDisk (state_of S.Store self.new.tables.now) → (before : Option TypedTables) (made : TypedTables) → made.format ≡ One → IsWriting before (Some made) (state_of S.Store self.old.tables.now)
-            → AllByRecursion (Puts (IsValid row.fact)) removes.now → AllByRecursion (Puts (IsValid row.fact2)) puts.now → OnOk result (IsWriting before (Some (upgraded removes.now puts.now made)) (state_of S.Store self.new.tables.now)) }
-        ensures left { HasCleanDisk (state_of S.Store self.new.tables.now) → (before : Option TypedTables) (made : TypedTables) → made.format ≡ One → IsWriting before (Some made) (state_of S.Store self.old.tables.now)
-            → AllByRecursion (Puts (IsValid row.fact)) removes.now → AllByRecursion (Puts (IsValid row.fact2)) puts.now → Leaves before (state_of S.Store self.new.tables.now) }
-        ensures counted { OnOk result (self.new.writes ≡ self.old.writes + 1 + length removes.now + length puts.now) }
-        ensures noted { NotesRefusals self.old.refused self.new.refused result }
-    {
-        self.add_second()?;
-        self.put_number(alloc, "format", 2)?;
-        self.edit_all::<tables::Fact>(alloc, removes)?;
-        self.edit_all::<tables::Fact2>(alloc, puts)
     }
 
     /// Puts a number into meta under its name.
     fn put_number(&mut self, alloc: Global, name: &str, count: u64) -> Result<(), Cause>
         ensures same_reference { self.new.tables.ghost_name ≡ self.old.tables.ghost_name }
-        ensures same_format { (self.new.tables.now.format ≡ self.old.tables.now.format) × (self.new.makes ≡ self.old.makes) }
         ensures writes { WritesOnly (state_of S.Store self.old.tables.now) (state_of S.Store self.new.tables.now) ⊤ }
         ensures put { Makes (state_of S.Store self.old.tables.now) (state_of S.Store self.new.tables.now) result ⊤ (λ made. with_number name.now (pos count) made) }
         ensures cause { HasCleanDisk (state_of S.Store self.new.tables.now) → IsTrue (state_of S.Store self.old.tables.now).in_transaction → self.old.writes < u64.MAX → IsTrue (is_number count)
@@ -377,13 +318,11 @@ impl<'t, S: Alter> Writing<'t, S> {
         ensures left { HasCleanDisk (state_of S.Store self.exit.0.now) → (before made : Option TypedTables) → IsWriting before made (state_of S.Store self.entry.tables.now)
             → (trees : _) → (state_of S.Store self.exit.0.now).may_leave trees → AreTrees before trees ⊎ AreTrees made trees }
         ensures nothing { IsTrue self.entry.refused → (result ≡ Err Disk) × Undoes (state_of S.Store self.entry.tables.now) (state_of S.Store self.exit.0.now) }
-        ensures format { OnOk result (self.exit.0.now.format ≡ self.entry.makes) }
         ensures counted { IfOk result (λ writes. writes ≡ self.entry.writes) }
     {
         let Writing {
             tables,
             writes,
-            makes,
             refused,
         } = self;
         if refused {
@@ -391,7 +330,6 @@ impl<'t, S: Alter> Writing<'t, S> {
             return Err(Cause::Disk);
         }
         commit(&mut tables.conn)?;
-        tables.format = makes;
         Ok(writes)
     }
 }
@@ -403,35 +341,12 @@ impl<S: Alter> Drop for Writing<'_, S> {
             → IsTrue (state_of S.Store self.exit.0.now).is_open → IsAtRest before (state_of S.Store self.exit.0.now) }
         ensures left { HasCleanDisk (state_of S.Store self.exit.0.now) → (before made : Option TypedTables) → IsWriting before made (state_of S.Store self.entry.tables.now) → Leaves before (state_of S.Store self.exit.0.now) }
         ensures survives { Survives (state_of S.Store self.entry.tables.now) (state_of S.Store self.exit.0.now) (λ _. ⊥) }
-        ensures same_format { self.exit.0.now.format ≡ self.entry.tables.now.format }
     {
         let Writing {
             tables,
             writes: _,
-            makes: _,
             refused: _,
         } = self;
         roll_back(&mut tables.conn);
     }
-}
-
-/// Makes the second format of a warehouse of the first, in one transaction, and answers how many keys it wrote.
-pub fn upgrade<S: Alter>(
-    tables: &mut Tables<S>,
-    alloc: Global,
-    removes: &[Edit<Fact, LineKey>],
-    puts: &[Edit<Fact, LineKey>],
-) -> Result<u64, Cause>
-    ensures clean { HasCleanDisk (state_of S.Store tables.new) → HasCleanDisk (state_of S.Store tables.old) }
-    ensures upgraded { HasCleanDisk (state_of S.Store tables.new) → (t : TypedTables) → t.format ≡ One → IsAtRest (Some t) (state_of S.Store tables.old) → AllByRecursion (Puts (IsValid row.fact)) removes.now → AllByRecursion (Puts (IsValid row.fact2)) puts.now
-        → OnOk result (IsAtRest (Some (upgraded removes.now puts.now t)) (state_of S.Store tables.new)) }
-    // A stop at any moment leaves the one or the other.
-    ensures left { HasCleanDisk (state_of S.Store tables.new) → (t : TypedTables) → t.format ≡ One → IsAtRest (Some t) (state_of S.Store tables.old) → AllByRecursion (Puts (IsValid row.fact)) removes.now → AllByRecursion (Puts (IsValid row.fact2)) puts.now
-        → (trees : _) → (state_of S.Store tables.new).may_leave trees → AreTrees (Some t) trees ⊎ AreTrees (Some (upgraded removes.now puts.now t)) trees }
-    ensures format { OnOk result (tables.new.format ≡ Two) }
-    ensures counted { IfOk result (λ writes. writes ≡ 1 + length removes.now + length puts.now) }
-{
-    let mut writing = tables.begin()?;
-    writing.upgrade(alloc, removes, puts)?;
-    writing.commit()
 }

@@ -9,7 +9,7 @@
 //! warehouse. The answers are how often there was no warehouse, and what it is with all of them.
 
 use crate::held::Reads;
-use crate::opening::{changed, opened, run};
+use crate::opening::{changed, found, opened, run};
 use crate::rows::{on_table, push_number_line};
 use crate::trouble::Trouble;
 use crate::words::{Step, push_answer};
@@ -17,7 +17,7 @@ use sqlite::{Alter, Connection};
 use std::alloc::{AllocError, Global};
 use wh_rows::Table;
 use wh_scenarios::parted;
-use wh_store::{Format, OpenFault, Tables};
+use wh_store::OpenFault;
 
 /// The values of each kind.
 const KINDS: &str = "
@@ -247,8 +247,8 @@ fn is_found<S: Alter + Drop>(
     conn: Connection<S>,
     text: &str,
 ) -> Result<(Connection<S>, bool), Trouble> {
-    match Tables::open(alloc, run(conn, text)?, Format::Two) {
-        Ok(tables) => Ok((tables.close(), true)),
+    match found(alloc, run(conn, text)?) {
+        Ok(held) => Ok((held.tables.close(), true)),
         Err((OpenFault::NotAWarehouse, conn)) => Ok((conn, false)),
         Err((fault, _)) => Err(Trouble::Unopened(fault)),
     }

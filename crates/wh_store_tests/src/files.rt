@@ -2,7 +2,8 @@
 //!
 //! What is done with a connection is generic in its store, so that only `on_files` and `on_path` speak of a store over files.
 
-use crate::opening::make_tables;
+use crate::held::Warehouse;
+use crate::opening::{found, free, make_tables};
 use crate::second::upgrade_all;
 use crate::tables::{on_tables, show};
 use crate::trouble::Trouble;
@@ -13,7 +14,7 @@ use sqlite_disk::{Crash, Disk, Fuse, Memory};
 use std::alloc::Global;
 use std::fs;
 use wh_scenarios::parted;
-use wh_store::{Format, OpenFault, Tables, into_files, open_path, restart};
+use wh_store::{OpenFault, into_files, open_path, restart};
 
 /// A log and a database file in memory, which stop after so many calls.
 pub type Disks = Files<Fuse<Memory>>;
@@ -65,10 +66,10 @@ fn perform<S: Alter + Drop>(
 }
 
 fn make_over<S: Alter + Drop>(alloc: Global, conn: Connection<S>) -> (Connection<S>, Answer) {
-    match Tables::make(conn) {
-        Ok(mut tables) => {
-            let answer = make_tables(alloc, &mut tables);
-            (tables.close(), answer)
+    match free(conn) {
+        Ok(mut held) => {
+            let answer = make_tables(alloc, &mut held.tables);
+            (held.tables.close(), answer)
         }
         Err((fault, conn)) => (conn, Err(Trouble::Unmade(fault))),
     }
@@ -80,20 +81,20 @@ fn write_over<S: Alter + Drop>(
     edits: &str,
     out: &mut String,
 ) -> (Connection<S>, Answer) {
-    match Tables::open(alloc, conn, Format::Two) {
-        Ok(mut tables) => {
-            let answer = write(alloc, &mut tables, edits, out);
-            (tables.close(), answer)
+    match found(alloc, conn) {
+        Ok(mut held) => {
+            let answer = write(alloc, &mut held.tables, edits, out);
+            (held.tables.close(), answer)
         }
         Err((fault, conn)) => (conn, Err(Trouble::Unopened(fault))),
     }
 }
 
 fn upgrade_over<S: Alter + Drop>(alloc: Global, conn: Connection<S>) -> (Connection<S>, Answer) {
-    match Tables::open(alloc, conn, Format::Two) {
-        Ok(mut tables) => {
-            let answer = upgrade_all(alloc, &mut tables);
-            (tables.close(), answer)
+    match found(alloc, conn) {
+        Ok(mut held) => {
+            let answer = upgrade_all(alloc, &mut held);
+            (held.tables.close(), answer)
         }
         Err((fault, conn)) => (conn, Err(Trouble::Unopened(fault))),
     }
@@ -111,10 +112,10 @@ fn show_over<S: Alter + Drop>(
     conn: Connection<S>,
     out: &mut String,
 ) -> (Connection<S>, Answer) {
-    match Tables::open(alloc, conn, Format::Two) {
-        Ok(mut tables) => {
-            let answer = show(alloc, &mut tables, out);
-            (tables.close(), answer)
+    match found(alloc, conn) {
+        Ok(mut held) => {
+            let answer = show(alloc, &mut held, out);
+            (held.tables.close(), answer)
         }
         Err((OpenFault::NotAWarehouse, conn)) => show_unmade(alloc, conn, out),
         Err((fault, conn)) => (conn, Err(Trouble::Unopened(fault))),
@@ -130,10 +131,10 @@ fn show_unmade<S: Alter + Drop>(
     if objects_of(&mut conn) != Ok(0) {
         return (conn, Err(Trouble::Unopened(OpenFault::NotAWarehouse)));
     }
-    match Tables::make(conn) {
-        Ok(mut tables) => {
-            let answer = make_and_show(alloc, &mut tables, out);
-            (tables.close(), answer)
+    match free(conn) {
+        Ok(mut held) => {
+            let answer = make_and_show(alloc, &mut held, out);
+            (held.tables.close(), answer)
         }
         Err((fault, conn)) => (conn, Err(Trouble::Unmade(fault))),
     }
@@ -144,10 +145,10 @@ fn objects_of<S: Alter>(conn: &mut Connection<S>) -> Result<i64, Trouble> {
     Ok(row.get(0)?)
 }
 
-fn make_and_show<S: Alter>(alloc: Global, tables: &mut Tables<S>, out: &mut String) -> Answer {
+fn make_and_show<S: Alter>(alloc: Global, held: &mut Warehouse<S>, out: &mut String) -> Answer {
     push_answer(out, "empty, and then")?;
-    make_tables(alloc, tables)?;
-    show(alloc, tables, out)
+    make_tables(alloc, &mut held.tables)?;
+    show(alloc, held, out)
 }
 
 fn ask_over<S: Alter + Drop>(
@@ -156,10 +157,10 @@ fn ask_over<S: Alter + Drop>(
     questions: &str,
     out: &mut String,
 ) -> (Connection<S>, Answer) {
-    match Tables::open(alloc, conn, Format::Two) {
-        Ok(mut tables) => {
-            let answer = ask_all(alloc, &mut tables, questions, out);
-            (tables.close(), answer)
+    match found(alloc, conn) {
+        Ok(mut held) => {
+            let answer = ask_all(alloc, &mut held, questions, out);
+            (held.tables.close(), answer)
         }
         Err((fault, conn)) => (conn, Err(Trouble::Unopened(fault))),
     }
@@ -167,7 +168,7 @@ fn ask_over<S: Alter + Drop>(
 
 fn ask_all<S: Alter>(
     alloc: Global,
-    tables: &mut Tables<S>,
+    held: &mut Warehouse<S>,
     questions: &str,
     out: &mut String,
 ) -> Answer {
@@ -178,7 +179,7 @@ fn ask_all<S: Alter>(
             rest,
             body: "",
         };
-        on_tables(alloc, tables, step, out)?;
+        on_tables(alloc, held, step, out)?;
     }
     Ok(())
 }

@@ -3,10 +3,17 @@
 use sqlite::{Alter, Connection};
 use std::alloc::Global;
 use wh_history::FactKeys;
-use wh_policy::{Dim, Format};
+use wh_policy::Dim;
 use wh_rows::{Cause, LineKey};
 use wh_sql::{KeyedTable, Question, ReadFault};
-use wh_store::{Tables, Writing};
+use wh_store::{Format, Tables, Writing};
+
+/// The tables of a warehouse, and their format.
+#[derive(Drop)]
+pub struct Warehouse<S: Alter> {
+    pub tables: Tables<S>,
+    pub format: Format,
+}
 
 /// Where rows are read.
 pub trait Reads {

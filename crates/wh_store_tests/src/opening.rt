@@ -1,12 +1,13 @@
 //! Databases and warehouses that scenarios begin with.
 
+use crate::held::Warehouse;
 use crate::trouble::Trouble;
 use crate::words::number;
 use sqlite::{Alter, Connection, MemStore};
 use std::alloc::Global;
 use wh_rows::Cause;
 use wh_scenarios::parted;
-use wh_store::{Format, Limits, Tables};
+use wh_store::{Format, Limits, MakeFault, OpenFault, Tables};
 
 /// `COMMANDS CHANGES FACTS`: these limits.
 pub fn limits_of(words: &str) -> Result<Limits, Trouble> {
@@ -45,29 +46,49 @@ pub fn run<S: Alter + Drop>(mut conn: Connection<S>, text: &str) -> Result<Conne
 }
 
 /// The tables that may be made where their names are free.
-pub fn free<S: Alter + Drop>(conn: Connection<S>) -> Result<Tables<S>, Trouble> {
+pub fn free<S: Alter + Drop>(
+    conn: Connection<S>,
+) -> Result<Warehouse<S>, (MakeFault, Connection<S>)> {
     match Tables::make(conn) {
-        Ok(tables) => Ok(tables),
-        Err((fault, _)) => Err(Trouble::Unmade(fault)),
+        Ok(tables) => Ok(Warehouse {
+            tables,
+            format: Format::One,
+        }),
+        Err(refused) => Err(refused),
+    }
+}
+
+/// The tables that are found.
+pub fn found<S: Alter + Drop>(
+    alloc: Global,
+    conn: Connection<S>,
+) -> Result<Warehouse<S>, (OpenFault, Connection<S>)> {
+    match Tables::open(alloc, conn, Format::Two) {
+        Ok((tables, format)) => Ok(Warehouse { tables, format }),
+        Err(refused) => Err(refused),
     }
 }
 
 /// A warehouse in memory, for 10 commands, 200 changes and 3,000 facts.
-pub fn warehouse(alloc: Global) -> Result<Tables<MemStore>, Trouble> {
-    let mut tables = free(database(alloc, "")?)?;
-    make_tables(alloc, &mut tables)?;
-    Ok(tables)
+pub fn warehouse(alloc: Global) -> Result<Warehouse<MemStore>, Trouble> {
+    match free(database(alloc, "")?) {
+        Ok(mut held) => {
+            make_tables(alloc, &mut held.tables)?;
+            Ok(held)
+        }
+        Err((fault, _)) => Err(Trouble::Unmade(fault)),
+    }
 }
 
 /// The database of a warehouse on which this text was run.
 pub fn changed(alloc: Global, text: &str) -> Result<Connection<MemStore>, Trouble> {
-    run(warehouse(alloc)?.close(), text)
+    run(warehouse(alloc)?.tables.close(), text)
 }
 
 /// The tables of a warehouse that is opened.
 pub fn opened<S: Alter + Drop>(alloc: Global, conn: Connection<S>) -> Result<Tables<S>, Trouble> {
-    match Tables::open(alloc, conn, Format::Two) {
-        Ok(tables) => Ok(tables),
+    match found(alloc, conn) {
+        Ok(held) => Ok(held.tables),
         Err((fault, _)) => Err(Trouble::Unopened(fault)),
     }
 }

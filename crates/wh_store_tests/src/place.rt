@@ -3,13 +3,14 @@
 use crate::columns::{columns, missed};
 use crate::database::on_database;
 use crate::files::{Disks, blank, run_step, show_copy, stops};
-use crate::opening::{changed, database, limits_of, warehouse};
+use crate::held::Warehouse;
+use crate::opening::{self, changed, database, free, limits_of, warehouse};
 use crate::tables::{on_tables, push_limits};
 use crate::trouble::Trouble;
 use crate::words::{Step, push_answer, push_trouble};
 use sqlite::{Connection, MemStore};
 use std::alloc::{AllocError, Global};
-use wh_store::{Format, Limits, Tables};
+use wh_store::Limits;
 
 /// What the next step works on.
 #[derive(Drop)]
@@ -17,7 +18,7 @@ pub enum Place {
     Nothing,
     /// A database in memory, which may be no warehouse.
     Database(Connection<MemStore>),
-    Warehouse(Tables<MemStore>),
+    Warehouse(Warehouse<MemStore>),
     /// A log and a database file in memory.
     Disks(Disks),
 }
@@ -57,7 +58,7 @@ fn go_on(alloc: Global, place: Place, step: Step<'_>, out: &mut String) -> Outco
     match place {
         Place::Nothing => (Place::Nothing, Err(Trouble::Unknown)),
         Place::Database(conn) => from_database(alloc, conn, step, out),
-        Place::Warehouse(tables) => from_tables(alloc, tables, step, out),
+        Place::Warehouse(held) => from_tables(alloc, held, step, out),
         Place::Disks(files) => from_disks(alloc, files, step, out),
     }
 }
@@ -97,9 +98,9 @@ fn at_database(conn: Result<Connection<MemStore>, Trouble>) -> Outcome {
     }
 }
 
-fn at_tables(tables: Result<Tables<MemStore>, Trouble>) -> Outcome {
-    match tables {
-        Ok(tables) => (Place::Warehouse(tables), Ok(())),
+fn at_tables(held: Result<Warehouse<MemStore>, Trouble>) -> Outcome {
+    match held {
+        Ok(held) => (Place::Warehouse(held), Ok(())),
         Err(trouble) => (Place::Nothing, Err(trouble)),
     }
 }
@@ -121,15 +122,15 @@ fn found(alloc: Global, text: &str, out: &mut String) -> Outcome {
 }
 
 fn make(conn: Connection<MemStore>, out: &mut String) -> Outcome {
-    match Tables::make(conn) {
-        Ok(tables) => (Place::Warehouse(tables), said(out, "free")),
+    match free(conn) {
+        Ok(held) => (Place::Warehouse(held), said(out, "free")),
         Err((fault, conn)) => (Place::Database(conn), Err(Trouble::Unmade(fault))),
     }
 }
 
 fn open(alloc: Global, conn: Connection<MemStore>, out: &mut String) -> Outcome {
-    match Tables::open(alloc, conn, Format::Two) {
-        Ok(tables) => (Place::Warehouse(tables), said(out, "opened")),
+    match opening::found(alloc, conn) {
+        Ok(held) => (Place::Warehouse(held), said(out, "opened")),
         Err((fault, conn)) => (Place::Database(conn), Err(Trouble::Unopened(fault))),
     }
 }
@@ -156,13 +157,13 @@ fn from_database(
 
 fn from_tables(
     alloc: Global,
-    mut tables: Tables<MemStore>,
+    mut held: Warehouse<MemStore>,
     step: Step<'_>,
     out: &mut String,
 ) -> Outcome {
     if step.verb == "close" {
-        return (Place::Database(tables.close()), Ok(()));
+        return (Place::Database(held.tables.close()), Ok(()));
     }
-    let answer = on_tables(alloc, &mut tables, step, out);
-    (Place::Warehouse(tables), answer)
+    let answer = on_tables(alloc, &mut held, step, out);
+    (Place::Warehouse(held), answer)
 }

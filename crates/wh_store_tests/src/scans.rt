@@ -1,5 +1,6 @@
 //! Steps that hand out the rows of a table one at a time.
 
+use crate::held::Warehouse;
 use crate::rows::{push_number_line, push_rows, table_of};
 use crate::told::Told;
 use crate::trouble::Trouble;
@@ -10,7 +11,7 @@ use wh_rows::Table;
 use wh_rows::tables::{
     Calendar, Change, Command, Customer, Fact, Fact2, Member, Meta, Product, Profile, Store, Void,
 };
-use wh_store::{PagedTable, Scan, Tables};
+use wh_store::{PagedTable, Scan};
 
 /// Hands out up to so many rows.
 fn hand_out<T: Told + PagedTable, S: Alter>(
@@ -48,13 +49,13 @@ fn tell_more<T: Told + PagedTable, S: Alter>(
 /// `MOST`: up to so many rows, of which it tells the number and the last one.
 fn scan<T: Told + PagedTable, S: Alter>(
     alloc: Global,
-    tables: &mut Tables<S>,
+    held: &mut Warehouse<S>,
     words: &str,
     out: &mut String,
 ) -> Result<(), Trouble> {
     let most = number(words)?;
     let mut handed = Vec::new(alloc);
-    let mut scan = tables.scan::<T>(alloc);
+    let mut scan = held.tables.scan::<T>(alloc, held.format);
     let answer = hand_out::<T, S>(alloc, &mut scan, most, &mut handed);
     push_number_line(out, handed.len() as u64)?;
     push_last::<T>(out, &handed)?;
@@ -67,36 +68,36 @@ fn scan<T: Told + PagedTable, S: Alter>(
 /// `TABLE MOST`, of the tables whose keys are numbers.
 fn scan_numbered<S: Alter>(
     alloc: Global,
-    tables: &mut Tables<S>,
+    held: &mut Warehouse<S>,
     table: Table,
     words: &str,
     out: &mut String,
 ) -> Result<(), Trouble> {
     match table {
-        Table::Command => scan::<Command, S>(alloc, tables, words, out),
-        Table::Product => scan::<Product, S>(alloc, tables, words, out),
-        Table::Store => scan::<Store, S>(alloc, tables, words, out),
-        Table::Customer => scan::<Customer, S>(alloc, tables, words, out),
-        Table::Profile => scan::<Profile, S>(alloc, tables, words, out),
-        _ => scan::<Calendar, S>(alloc, tables, words, out),
+        Table::Command => scan::<Command, S>(alloc, held, words, out),
+        Table::Product => scan::<Product, S>(alloc, held, words, out),
+        Table::Store => scan::<Store, S>(alloc, held, words, out),
+        Table::Customer => scan::<Customer, S>(alloc, held, words, out),
+        Table::Profile => scan::<Profile, S>(alloc, held, words, out),
+        _ => scan::<Calendar, S>(alloc, held, words, out),
     }
 }
 
 /// `TABLE MOST`: hands out up to so many rows of a table, tells their number and the last of them, and then lets the scan go.
 pub fn scan_table<S: Alter>(
     alloc: Global,
-    tables: &mut Tables<S>,
+    held: &mut Warehouse<S>,
     step: Step<'_>,
     out: &mut String,
 ) -> Result<(), Trouble> {
     let (table, step) = table_of(step)?;
     match table {
-        Table::Meta => scan::<Meta, S>(alloc, tables, step.rest, out),
-        Table::Member => scan::<Member, S>(alloc, tables, step.rest, out),
-        Table::Change => scan::<Change, S>(alloc, tables, step.rest, out),
-        Table::Fact => scan::<Fact, S>(alloc, tables, step.rest, out),
-        Table::Fact2 => scan::<Fact2, S>(alloc, tables, step.rest, out),
-        Table::Void => scan::<Void, S>(alloc, tables, step.rest, out),
-        table => scan_numbered(alloc, tables, table, step.rest, out),
+        Table::Meta => scan::<Meta, S>(alloc, held, step.rest, out),
+        Table::Member => scan::<Member, S>(alloc, held, step.rest, out),
+        Table::Change => scan::<Change, S>(alloc, held, step.rest, out),
+        Table::Fact => scan::<Fact, S>(alloc, held, step.rest, out),
+        Table::Fact2 => scan::<Fact2, S>(alloc, held, step.rest, out),
+        Table::Void => scan::<Void, S>(alloc, held, step.rest, out),
+        table => scan_numbered(alloc, held, table, step.rest, out),
     }
 }

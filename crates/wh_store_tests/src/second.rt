@@ -1,39 +1,50 @@
 //! Steps that only the second format has.
 
+use crate::held::Warehouse;
 use crate::rows::row_of;
 use crate::trouble::Trouble;
 use crate::words::{dim, number, push_answer, push_count, push_number};
 use sqlite::Alter;
 use std::alloc::{AllocError, Global};
+use wh_day::Value;
 use wh_history::{Edit, Fact};
-use wh_rows::{FactColumn, KeyedSale, LineKey, tables};
+use wh_rows::{FactColumn, KeyedSale, LineKey, MetaRow, tables};
 use wh_scenarios::parted;
-use wh_store::{FactAggregate, Format, Tables, Writing, upgrade};
+use wh_store::{FactAggregate, Format, Tables, Writing};
 
-/// The edits that take facts out of the first format and put them, with no discount, into the second.
-#[derive(Drop)]
-struct Carried {
-    removes: Vec<Edit<Fact, LineKey>>,
-    puts: Vec<Edit<Fact, LineKey>>,
+/// Puts the number of the second format into meta.
+fn put_format<S: Alter>(alloc: Global, writing: &mut Writing<'_, S>) -> Result<(), Trouble> {
+    let row = MetaRow {
+        name: Value::new(alloc, "format")?,
+        value: 2,
+    };
+    Ok(writing.put::<tables::Meta>(alloc, &row)?)
 }
 
-fn carry(alloc: Global, facts: Vec<Fact>) -> Result<Carried, AllocError> {
-    let mut removes = Vec::new(alloc);
-    let mut puts = Vec::new(alloc);
+/// Takes facts out of the first format and puts them, with no discount, into the second.
+fn carry<S: Alter>(
+    alloc: Global,
+    writing: &mut Writing<'_, S>,
+    facts: Vec<Fact>,
+) -> Result<(), Trouble> {
     for fact in facts {
         let ticket = fact.ticket.copy()?;
         let line = fact.line;
-        removes.push(Edit::Remove(LineKey { ticket, line }))?;
-        puts.push(Edit::Put(fact))?;
+        writing.edit_fact(alloc, Format::One, &Edit::Remove(LineKey { ticket, line }))?;
+        writing.edit_fact(alloc, Format::Two, &Edit::Put(fact))?;
     }
-    Ok(Carried { removes, puts })
+    Ok(())
 }
 
 /// Makes the second format of the first, into which all facts go, and keeps it.
-pub fn upgrade_all<S: Alter>(alloc: Global, tables: &mut Tables<S>) -> Result<(), Trouble> {
-    let facts = tables.all::<tables::Fact>(alloc)?;
-    let carried = carry(alloc, facts)?;
-    upgrade(tables, alloc, &carried.removes, &carried.puts)?;
+pub fn upgrade_all<S: Alter>(alloc: Global, held: &mut Warehouse<S>) -> Result<(), Trouble> {
+    let facts = held.tables.all::<tables::Fact>(alloc)?;
+    let mut writing = held.tables.begin()?;
+    writing.add_second()?;
+    put_format(alloc, &mut writing)?;
+    carry(alloc, &mut writing, facts)?;
+    writing.commit()?;
+    held.format = Format::Two;
     Ok(())
 }
 
@@ -131,6 +142,6 @@ pub fn tally<S: Alter>(
         amount: 0,
         cost: 0,
     };
-    tables.tally_facts2(fact_key(words)?, &mut sums)?;
+    tables.tally_facts(Format::Two, fact_key(words)?, &mut sums)?;
     sums.push(out)
 }

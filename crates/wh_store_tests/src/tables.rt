@@ -1,6 +1,7 @@
 //! Steps on the tables of a warehouse.
 
 use crate::facts::read;
+use crate::held::Warehouse;
 use crate::questions::answer;
 use crate::rows::on_table;
 use crate::scans::scan_table;
@@ -15,32 +16,32 @@ use wh_store::{Format, Limits, Table, Tables};
 /// A step on the tables of a warehouse.
 pub fn on_tables<S: Alter>(
     alloc: Global,
-    tables: &mut Tables<S>,
+    held: &mut Warehouse<S>,
     step: Step<'_>,
     out: &mut String,
 ) -> Result<(), Trouble> {
     match step.verb {
-        "write" => write(alloc, tables, step.body, out),
-        "limits" => limits(alloc, tables, out),
-        "show" => show(alloc, tables, out),
-        "scan" => scan_table(alloc, tables, step, out),
-        "format" => format(tables, out),
-        "second" => add_second(tables),
-        "upgrade" => upgrade_all(alloc, tables),
-        "tally2" => tally(tables, step.rest, out),
-        "facts" => read(alloc, tables, step.rest, out),
-        _ => answer(alloc, tables, step, out),
+        "write" => write(alloc, &mut held.tables, step.body, out),
+        "limits" => limits(alloc, &mut held.tables, out),
+        "show" => show(alloc, held, out),
+        "scan" => scan_table(alloc, held, step, out),
+        "format" => format(held, out),
+        "second" => add_second(held),
+        "upgrade" => upgrade_all(alloc, held),
+        "tally2" => tally(&mut held.tables, step.rest, out),
+        "facts" => read(alloc, &mut held.tables, step.rest, out),
+        _ => answer(alloc, &mut held.tables, step, out),
     }
 }
 
 /// The format, and whether the names are taken that the second adds.
-fn format<S: Alter>(tables: &mut Tables<S>, out: &mut String) -> Result<(), Trouble> {
-    let format = match tables.format() {
+fn format<S: Alter>(held: &mut Warehouse<S>, out: &mut String) -> Result<(), Trouble> {
+    let format = match held.format {
         Format::One => "first, ",
         Format::Two => "second, ",
     };
     out.push_str(format)?;
-    let names = if tables.is_second_taken() {
+    let names = if held.tables.is_second_taken() {
         "taken"
     } else {
         "free"
@@ -49,10 +50,11 @@ fn format<S: Alter>(tables: &mut Tables<S>, out: &mut String) -> Result<(), Trou
 }
 
 /// Makes the second format, without a fact in it, and keeps it.
-fn add_second<S: Alter>(tables: &mut Tables<S>) -> Result<(), Trouble> {
-    let mut writing = tables.begin()?;
+fn add_second<S: Alter>(held: &mut Warehouse<S>) -> Result<(), Trouble> {
+    let mut writing = held.tables.begin()?;
     writing.add_second()?;
     writing.commit()?;
+    held.format = Format::Two;
     Ok(())
 }
 
@@ -74,20 +76,30 @@ pub fn push_limits(out: &mut String, limits: Limits) -> Result<(), Trouble> {
     Ok(())
 }
 
-/// The limits, and each row of each table.
+/// Whether a warehouse of the format has the table.
+fn is_there(table: Table, format: Format) -> bool {
+    match table {
+        Table::Fact2 | Table::Void => format == Format::Two,
+        _ => true,
+    }
+}
+
+/// The limits, and each row of each table that the format has.
 pub fn show<S: Alter>(
     alloc: Global,
-    tables: &mut Tables<S>,
+    held: &mut Warehouse<S>,
     out: &mut String,
 ) -> Result<(), Trouble> {
-    limits(alloc, tables, out)?;
+    limits(alloc, &mut held.tables, out)?;
     let step = Step {
         verb: "all",
         rest: "",
         body: "",
     };
     for table in Table::ALL {
-        on_table(alloc, tables, table, step, out)?;
+        if is_there(table, held.format) {
+            on_table(alloc, &mut held.tables, table, step, out)?;
+        }
     }
     Ok(())
 }

@@ -8,8 +8,8 @@
 //! - `trial`: the tables of a warehouse under the policy of a trial, with no engine over them.
 //!
 //! A warehouse takes:
-//! - `send KIND ID`: the lines that it is handed are the batch, or the policy or its name where KIND is `migrate`, and what the engine answers is the
-//!   answer;
+//! - `send KIND ID`: the lines that it is handed are the batch, or the policy or its name where KIND is `migrate`, and none where it is `upgrade`; what the
+//!   engine answers is the answer;
 //! - `deliver`: the lines that it is handed are commands, each a line `KIND ID` and then what `send` is handed, with an empty line between two. The answers
 //!   are a line each, and what stopped it is another. For `deliver p1 s1` they are of `batches`, by their ids;
 //! - `batch p1`: one of the commands of `batches`, by its id; `load p0 s2`: those from one to another, of which it answers those that aren't
@@ -17,7 +17,7 @@
 //! - `plan KIND ID`: what such a command would write, a line an edit; `writes`: how many keys the last command wrote;
 //! - `counts`; `check`; `policy`: the last year, and how many attributes a product has;
 //! - `table NAME`: the rows of a table; `command NUMBER`: the row of a command;
-//! - `mark`: remembers all ten tables; `same`: whether they are as they were then;
+//! - `mark`: remembers all tables; `same`: whether they are as they were then;
 //! - `close`, which leaves the database.
 //!
 //! A database takes `open`; `init POLICY`; `sql TEXT`; and `number TEXT`, which answers a number that a query gives.
@@ -75,7 +75,7 @@ enum Place {
 #[derive(Drop)]
 pub struct EngineDriver {
     place: Place,
-    /// All ten tables, when they were marked.
+    /// All tables, when they were marked.
     marked: String,
 }
 

@@ -2,12 +2,13 @@
 
 ghost use Rattle.std.specs.Prelude.{◌≡◌, ◌++◌, ◌∷◌, [], flat_map, map, IfOk};
 ghost use Rattle.std.specs.List.{AllByRecursion};
-ghost use Rattle.wh_history.specs.Accepted.{Accepted, Describes, member_of, profiles_of};
+ghost use Rattle.wh_history.specs.Accepted.{Accepted, Describes, format_of, member_of, profiles_of};
 ghost use Rattle.wh_history.specs.Known.{number_in, KnowsEnough};
 ghost use Rattle.wh_history.specs.MovingDays.{moves_since, moves_until};
 ghost use Rattle.wh_history.specs.Shapes.{rendered_in, shape_of, shown};
 ghost use Rattle.wh_history.specs.Touched.{touched_by};
 ghost use Rattle.wh_model.specs.Defined.{fact_at};
+ghost use Rattle.wh_rows.specs.Facts.{facts_in};
 ghost use Rattle.wh_plan.specs.BatchRows.{AreFacts, AreRekeyed};
 ghost use Rattle.wh_plan.specs.MovedFacts.{moved_of_touched, pair_of};
 ghost use Rattle.wh_plan.specs.NewRows.{Records, naturals_told};
@@ -20,7 +21,7 @@ use crate::records::touched::{TouchedMember, touched_pairs};
 use sqlite::Alter;
 use std::alloc::{AllocError, Global};
 use wh_history::{DimensionShape, Fact, Member, Rendered, moves_since};
-use wh_rows::tables;
+use wh_policy::Format;
 use wh_store::{ReadFault, SalesBetween, Tables};
 
 /// The question for the facts that can move, of a member as it is stored and as it is after a batch.
@@ -44,18 +45,19 @@ fn facts_to_ask(
 fn moved_of_touched<S: Alter>(
     tables: &mut Tables<S>,
     alloc: Global,
+    format: Format,
     dimension: &DimensionShape,
     touched: &TouchedMember,
 ) -> Result<Vec<Fact>, ReadFault>
     ensures reads { ReadsOnly (state_of S.Store tables.old) (state_of S.Store tables.new) result }
-    ensures moved { Tells (state_of S.Store tables.old) (state_of S.Store tables.new) result (λ t facts. facts.items ≡ moved_of_touched (shape_of dimension.now) t.fact (pair_of touched.now)) }
+    ensures moved { Tells (state_of S.Store tables.old) (state_of S.Store tables.new) result (λ t facts. facts.items ≡ moved_of_touched (shape_of dimension.now) (facts_in format t) (pair_of touched.now)) }
 {
     if touched.stored.durable == 0 {
         return Ok(Vec::new(alloc));
     }
     let after = dimension.rendered(alloc, touched.after)?;
     let question = facts_to_ask(alloc, dimension, touched.stored, &after)?;
-    let facts = tables.ask::<tables::Fact, SalesBetween>(alloc, &question)?;
+    let facts = tables.facts_between(alloc, format, &question)?;
     Ok(dimension.rekeyed_facts(alloc, &after, &facts)?)
 }
 
@@ -63,15 +65,16 @@ fn moved_of_touched<S: Alter>(
 fn moved_of_members<S: Alter>(
     tables: &mut Tables<S>,
     alloc: Global,
+    format: Format,
     dimension: &DimensionShape,
     touched: &[TouchedMember],
 ) -> Result<Vec<Fact>, ReadFault>
     ensures reads { ReadsOnly (state_of S.Store tables.old) (state_of S.Store tables.new) result }
-    ensures moved { Tells (state_of S.Store tables.old) (state_of S.Store tables.new) result (λ t facts. facts.items ≡ flat_map (moved_of_touched (shape_of dimension.now) t.fact) (map pair_of touched.now)) }
+    ensures moved { Tells (state_of S.Store tables.old) (state_of S.Store tables.new) result (λ t facts. facts.items ≡ flat_map (moved_of_touched (shape_of dimension.now) (facts_in format t)) (map pair_of touched.now)) }
 {
     let mut found = Vec::new(alloc);
     for member in touched {
-        let mut facts = moved_of_touched(tables, alloc, dimension, member)?;
+        let mut facts = moved_of_touched(tables, alloc, format, dimension, member)?;
         found.append(&mut facts)?;
     }
     Ok(found)
@@ -81,14 +84,15 @@ fn moved_of_members<S: Alter>(
 pub(crate) fn facts_to_move<'a, S: Alter>(
     tables: &mut Tables<S>,
     alloc: Global,
+    format: Format,
     dimension: &DimensionShape,
     stored: &'a [Member],
     after: &'a [Member],
 ) -> Result<Vec<Fact>, ReadFault>
     ensures reads { ReadsOnly (state_of S.Store tables.old) (state_of S.Store tables.new) result }
     // They are what leads from the facts of the commands so far to those with the batch.
-    ensures moved { Finds (state_of S.Store tables.old) (state_of S.Store tables.new) (λ limits commands. MovesFacts limits commands dimension.now stored.now after.now result) }
+    ensures moved { Finds (state_of S.Store tables.old) (state_of S.Store tables.new) (λ limits commands. format ≡ format_of commands → MovesFacts limits commands dimension.now stored.now after.now result) }
 {
     let touched = touched_pairs(alloc, stored, after)?;
-    moved_of_members(tables, alloc, dimension, &touched)
+    moved_of_members(tables, alloc, format, dimension, &touched)
 }

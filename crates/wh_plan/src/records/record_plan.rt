@@ -4,7 +4,7 @@ ghost use Rattle.std.specs.Prelude.{◌≡◌, ◌≤◌, ◌++◌, ◌∷◌, [
 ghost use Rattle.std.specs.List.{AllByRecursion};
 ghost use Rattle.wh_policy.specs.Written.{IsSound};
 ghost use Rattle.wh_policy.specs.declared.attribute.Dim.TheVariants.{Product, Store, Customer};
-ghost use Rattle.wh_history.specs.Accepted.{Accepted, Describes, member_of, policy_after, profiles_of};
+ghost use Rattle.wh_history.specs.Accepted.{Accepted, Describes, format_of, member_of, policy_after, profiles_of};
 ghost use Rattle.wh_history.specs.Keys.{greatest_number};
 ghost use Rattle.wh_history.specs.Known.{number_in, KnowsEnough};
 ghost use Rattle.wh_history.specs.Laws.{RecordsHaveDays};
@@ -32,11 +32,12 @@ use crate::reading::{stored_member, stored_rows};
 use crate::records::batch::Batch;
 use crate::records::moved_facts::facts_to_move;
 use crate::records::touched::touched_members;
+use crate::terms::Terms;
 use sqlite::Alter;
 use std::alloc::{AllocError, Global};
 use wh_day::Value;
 use wh_history::{DimRow, DimensionShape, Edit, Fact, Member, plan_rows};
-use wh_policy::{Dim, DimensionRecord, Policy};
+use wh_policy::{Dim, DimensionRecord};
 use wh_rows::{CommandRow, ProfileRow};
 use wh_store::{ReadFault, Tables};
 
@@ -214,17 +215,18 @@ fn rows_of_batch(
 pub fn plan_batch<S: Alter>(
     tables: &mut Tables<S>,
     alloc: Global,
-    policy: &Policy,
+    terms: &Terms,
     dim: Dim,
     command: CommandRow,
     records: &[DimensionRecord],
 ) -> Result<Edits, ReadFault>
     ensures reads { ReadsOnly (state_of S.Store tables.old) (state_of S.Store tables.new) result }
-    ensures edits { Finds (state_of S.Store tables.old) (state_of S.Store tables.new) (λ limits commands. PlansRecords limits commands dim records.now policy.now command result) }
+    ensures edits { Finds (state_of S.Store tables.old) (state_of S.Store tables.new) (λ limits commands. terms.now.format ≡ format_of commands → PlansRecords limits commands dim records.now terms.now.policy.now command result) }
     // Whatever is stored, a command that is planned writes its own row.
     ensures own { IfOk result (λ edits. length edits.commands ≡ 1) }
 {
-    let types = policy.types(alloc, dim)?;
+    let format = terms.format;
+    let types = terms.policy.types(alloc, dim)?;
     let batch = Batch {
         dim,
         types: &types,
@@ -240,12 +242,12 @@ pub fn plan_batch<S: Alter>(
         types: &types,
         profiles: &learned.known,
     };
-    let facts = facts_to_move(tables, alloc, &dimension, &found.members, after)?;
+    let facts = facts_to_move(tables, alloc, format, &dimension, &found.members, after)?;
     let planned = BatchPlan {
         found,
         profiles,
         facts,
     };
     let rows = rows_of_batch(alloc, command, records, &dimension, after, planned)?;
-    Ok(edits_of_batch(alloc, rows)?)
+    Ok(edits_of_batch(alloc, format, rows)?)
 }

@@ -4,7 +4,7 @@ ghost use Rattle.std.specs.Prelude.{◌≡◌, ◌++◌, ◌∷◌, [], suc, Lis
 ghost use Rattle.std.specs.List.{AllByRecursion, IsDistinct};
 ghost use Rattle.wh_policy.specs.Written.{IsSound};
 ghost use Rattle.wh_policy.specs.declared.attribute.Dim.TheVariants.{Product, Store, Customer};
-ghost use Rattle.wh_history.specs.Accepted.{Accepted, Sells, placeholders_by, policy_after};
+ghost use Rattle.wh_history.specs.Accepted.{Accepted, Sells, format_of, placeholders_by, policy_after};
 ghost use Rattle.wh_model.specs.Defined.{command_at, fact_at};
 ghost use Rattle.wh_model.specs.Sound.{IsAccepted, same_line};
 ghost use Rattle.wh_plan.specs.SoldMembers.{IsSoldDimension};
@@ -18,9 +18,10 @@ use crate::edits::Edits;
 use crate::fact_edits::fact_puts;
 use crate::sales::sale_keys::facts_of;
 use crate::sales::sold_dimension::{SoldDimension, read_sold_dimension};
+use crate::terms::Terms;
 use sqlite::Alter;
 use std::alloc::{AllocError, Global};
-use wh_policy::{Dim, Policy, SaleRecord};
+use wh_policy::{Dim, SaleRecord};
 use wh_rows::CommandRow;
 use wh_store::{ReadFault, Tables};
 
@@ -68,19 +69,19 @@ fn rows_of_sales(
 pub fn plan_sales<S: Alter>(
     tables: &mut Tables<S>,
     alloc: Global,
-    policy: &Policy,
+    terms: &Terms,
     command: CommandRow,
     sales: &[SaleRecord],
 ) -> Result<Edits, ReadFault>
     ensures reads { ReadsOnly (state_of S.Store tables.old) (state_of S.Store tables.new) result }
-    ensures edits { Finds (state_of S.Store tables.old) (state_of S.Store tables.new) (λ limits commands. (c : Accepted) → IsAccepted limits (commands ++ c ∷ []) → c.content ≡ Sells sales.now → policy_after None commands ≡ Some policy.now → IsSound policy.now
+    ensures edits { Finds (state_of S.Store tables.old) (state_of S.Store tables.new) (λ limits commands. terms.now.format ≡ format_of commands → (c : Accepted) → IsAccepted limits (commands ++ c ∷ []) → c.content ≡ Sells sales.now → policy_after None commands ≡ Some terms.now.policy.now → IsSound terms.now.policy.now
         → command_at (commands ++ c ∷ []) (suc (length commands)) ≡ Some (record command { placeholders = placeholders_by (commands ++ c ∷ []) (suc (length commands)) c.content }) → IfOk result (AreEdits commands (commands ++ c ∷ []))) }
     // Whatever is stored, a command that is planned writes its own row.
     ensures own { IfOk result (λ edits. length edits.commands ≡ 1) }
 {
-    let products = read_sold_dimension(tables, alloc, policy, Dim::Product, sales)?;
-    let stores = read_sold_dimension(tables, alloc, policy, Dim::Store, sales)?;
-    let customers = read_sold_dimension(tables, alloc, policy, Dim::Customer, sales)?;
+    let products = read_sold_dimension(tables, alloc, terms.policy, Dim::Product, sales)?;
+    let stores = read_sold_dimension(tables, alloc, terms.policy, Dim::Store, sales)?;
+    let customers = read_sold_dimension(tables, alloc, terms.policy, Dim::Customer, sales)?;
     let rows = rows_of_sales(alloc, command, sales, products, stores, customers)?;
-    Ok(edits_of_batch(alloc, rows)?)
+    Ok(edits_of_batch(alloc, terms.format, rows)?)
 }

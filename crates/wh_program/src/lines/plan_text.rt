@@ -12,7 +12,8 @@ use wh_day::{DateRow, Day, Value};
 use wh_history::{DimRow, Edit, Fact};
 use wh_plan::{Edits, FactEdit};
 use wh_rows::{
-    ChangeKey, ChangeRow, CommandRow, LineKey, MemberKey, MemberRow, ProfileRow, Table, dim_number,
+    ChangeKey, ChangeRow, CommandRow, LineKey, MemberKey, MemberRow, MetaRow, ProfileRow, Table,
+    dim_number,
 };
 
 pub fn push_number(text: &mut Vec<u8>, number: u64) -> Result<(), AllocError>
@@ -57,6 +58,14 @@ impl Keyed for u64 {
     }
 }
 
+impl Keyed for Value {
+    ghost words = { λ text. text };
+
+    fn push_key(&self, text: &mut Vec<u8>) -> Result<(), AllocError> {
+        text.extend_from_slice(self.as_str().as_bytes())
+    }
+}
+
 impl Keyed for Day {
     ghost words = { decimal };
 
@@ -86,6 +95,16 @@ impl Keyed for LineKey {
 
     fn push_key(&self, text: &mut Vec<u8>) -> Result<(), AllocError> {
         push_line_key(text, &self.ticket, self.line)
+    }
+}
+
+impl Keyed for MetaRow {
+    ghost use Rattle.wh_rows.specs.Rows.{meta};
+
+    ghost words = { λ r. meta.key r };
+
+    fn push_key(&self, text: &mut Vec<u8>) -> Result<(), AllocError> {
+        text.extend_from_slice(self.name.as_str().as_bytes())
     }
 }
 
@@ -202,30 +221,31 @@ fn push_edits<V: Keyed, K: Keyed>(
     Ok(())
 }
 
-/// The line of an edit of a fact.
-fn push_fact_edit(text: &mut Vec<u8>, edit: &FactEdit) -> Result<(), AllocError>
-    ensures { OnOk result (text.new.items ≡ text.old.items ++ fact_line edit.now) }
+/// The line of an edit of a fact in its table.
+fn push_fact_edit(text: &mut Vec<u8>, table: Table, edit: &FactEdit) -> Result<(), AllocError>
+    ensures { OnOk result (text.new.items ≡ text.old.items ++ fact_line table edit.now) }
 {
     match edit {
-        FactEdit::Row(edit) => push_edit(text, Table::Fact, edit),
-        FactEdit::Rekey(key, _) => push_line(text, "rekey", Table::Fact, key),
+        FactEdit::Row(edit) => push_edit(text, table, edit),
+        FactEdit::Rekey(key, _) => push_line(text, "rekey", table, key),
     }
 }
 
-/// The lines of the edits of facts.
-fn push_fact_edits(text: &mut Vec<u8>, edits: &[FactEdit]) -> Result<(), AllocError>
-    ensures { OnOk result (text.new.items ≡ text.old.items ++ flat_map fact_line edits.now) }
+/// The lines of the edits of facts in their table.
+fn push_fact_edits(text: &mut Vec<u8>, table: Table, edits: &[FactEdit]) -> Result<(), AllocError>
+    ensures { OnOk result (text.new.items ≡ text.old.items ++ flat_map (fact_line table) edits.now) }
 {
     for edit in edits {
-        push_fact_edit(text, edit)?;
+        push_fact_edit(text, table, edit)?;
     }
     Ok(())
 }
 
-/// The lines of command, member and change.
+/// The lines of meta, command, member and change.
 fn push_commands(text: &mut Vec<u8>, edits: &Edits) -> Result<(), AllocError>
     ensures { OnOk result (text.new.items ≡ text.old.items ++ commands_text edits.now) }
 {
+    push_edits(text, Table::Meta, &edits.meta)?;
     push_edits(text, Table::Command, &edits.commands)?;
     push_edits(text, Table::Member, &edits.members)?;
     push_edits(text, Table::Change, &edits.changes)
@@ -240,20 +260,22 @@ fn push_dimensions(text: &mut Vec<u8>, edits: &Edits) -> Result<(), AllocError>
     push_edits(text, Table::Customer, &edits.customers)
 }
 
-/// The lines of profile, calendar and fact.
+/// The lines of profile, calendar, fact and fact2.
 fn push_facts(text: &mut Vec<u8>, edits: &Edits) -> Result<(), AllocError>
     ensures { OnOk result (text.new.items ≡ text.old.items ++ facts_text edits.now) }
 {
     push_edits(text, Table::Profile, &edits.profiles)?;
     push_edits(text, Table::Calendar, &edits.calendar)?;
-    push_fact_edits(text, &edits.facts)
+    push_fact_edits(text, Table::Fact, &edits.facts)?;
+    push_fact_edits(text, Table::Fact2, &edits.facts2)
 }
 
 /// How many edits there are, in all tables.
 fn count(edits: &Edits) -> u128
     ensures { result ≡ edit_count edits.now }
 {
-    edits.commands.len() as u128
+    edits.meta.len() as u128
+        + edits.commands.len() as u128
         + edits.members.len() as u128
         + edits.changes.len() as u128
         + edits.products.len() as u128
@@ -262,6 +284,7 @@ fn count(edits: &Edits) -> u128
         + edits.profiles.len() as u128
         + edits.calendar.len() as u128
         + edits.facts.len() as u128
+        + edits.facts2.len() as u128
 }
 
 /// The line of how many edits there are.

@@ -4,7 +4,6 @@ ghost use Rattle.std.specs.Prelude.{◌≡◌, List};
 ghost use Rattle.sqlite.specs.State.{HasCleanDisk};
 ghost use Rattle.wh_history.specs.Accepted.{Accepted};
 ghost use Rattle.wh_history.specs.Tables.{Limits};
-ghost use Rattle.wh_policy.specs.declared.format.Format.TheVariants.{One};
 ghost use Rattle.wh_engine.specs.Answered.{IsReady};
 ghost use Rattle.wh_store.specs.Reads.{state_of};
 ghost use Rattle.wh_program.specs.Answer.{status_code};
@@ -43,7 +42,7 @@ fn print_table<S: Alter, W: Write>(
     out: &mut W,
 ) -> Status
     ensures clean { HasCleanDisk (state_of S.Store engine.new.tables) → HasCleanDisk (state_of S.Store engine.old.tables) }
-    ensures dumped { HasCleanDisk (state_of S.Store engine.new.tables) → engine.old.tables.format ≡ One → (limits : Limits) (commands : List Accepted) → IsReady limits commands engine.old.session (state_of S.Store engine.old.tables)
+    ensures dumped { HasCleanDisk (state_of S.Store engine.new.tables) → (limits : Limits) (commands : List Accepted) → IsReady limits commands engine.old.session (state_of S.Store engine.old.tables)
         → (after : Standing) × ((told : Told) × IsDumped table limits commands told after × Prints (W.contents out.old) (W.contents out.new) (status_code result) (printed told)) × Stands after (state_of S.Store engine.new.tables) }
 {
     match dump(alloc, engine, table, out) {

@@ -1,11 +1,11 @@
 //! The commands on a warehouse in a file.
 
-ghost use Rattle.std.specs.Prelude.{◌≡◌, ◌≤◌, IfOk, IfErr, vec_capacity};
+ghost use Rattle.std.specs.Prelude.{◌≡◌, ◌≤◌, IfOk, IfErr, option_map, vec_capacity};
 ghost use Rattle.wh_program.specs.Answer.{failed, no_file_line};
-ghost use Rattle.wh_program.specs.Inputs.{up_to, policy_limit, input_limit};
+ghost use Rattle.wh_program.specs.Inputs.{up_to, policy_limit, as_input};
 ghost use Rattle.wh_program.specs.Room.{longest_answer};
 ghost use Rattle.wh_program.specs.Standing.{DatabaseContent, Standing, Rests};
-ghost use Rattle.wh_program.specs.Warehouse.{IsReplied, IsForetold, IsCounted, IsCommandOf, Makes, Sends, Plans, AnswersWith, AnswersMaking, AnswersStatus, IsJudgedFirst};
+ghost use Rattle.wh_program.specs.Warehouse.{IsReplied, IsForetold, IsCounted, IsCommandOf, Makes, Sends, Plans, AnswersWith, AnswersCommand, AnswersUpgrade, AnswersMaking, AnswersStatus, IsJudgedFirst};
 ghost use Rattle.wh_program.specs.declared.host.HostError.TheVariants.{NoFile};
 
 use crate::host::{Host, HostError, Visitor, file_of};
@@ -150,7 +150,38 @@ pub fn init<H: Host>(
     }
 }
 
-/// The command whose batch, or whose policy, is in a file, if the file is there. It is read as far as it has to be.
+/// What is had of the input of a command, if its file is there. It is read as far as it has to be; that of an upgrade isn't, and has no bytes.
+fn input_of<H: Host>(
+    alloc: Global,
+    kind: CommandKind,
+    path: &str,
+    host: &H,
+) -> Result<Option<Vec<u8>>, AllocError>
+    ensures { IfOk result (λ input. as_input kind (H.holds host.now) path.now (option_map (λ bytes. bytes.items) input)) }
+{
+    match input_limit(kind) {
+        Some(most) => file_of(alloc, path, most, host),
+        None => Ok(Some(Vec::new(alloc))),
+    }
+}
+
+/// A command of these bytes.
+fn new_command(
+    alloc: Global,
+    kind: CommandKind,
+    id: &str,
+    bytes: &[u8],
+) -> Result<Command, AllocError>
+    ensures { IfOk result (λ command. command ≡ record { id = id.now; kind = kind; bytes = bytes.now }) }
+{
+    Ok(Command {
+        id: Value::new(alloc, id)?,
+        kind,
+        bytes: Bytes::from_slice(alloc, bytes)?,
+    })
+}
+
+/// The command whose batch, or whose policy, is in a file, if the file is there. An upgrade needs none.
 pub fn command_of<H: Host>(
     alloc: Global,
     kind: CommandKind,
@@ -160,14 +191,23 @@ pub fn command_of<H: Host>(
 ) -> Result<Option<Command>, AllocError>
     ensures { IfOk result (IsCommandOf (H.holds host.now) kind id.now path.now) }
 {
-    let Some(text) = file_of(alloc, path, input_limit(kind), host)? else {
+    let Some(text) = input_of(alloc, kind, path, host)? else {
         return Ok(None);
     };
-    Ok(Some(Command {
-        id: Value::new(alloc, id)?,
-        kind,
-        bytes: Bytes::from_slice(alloc, &text)?,
-    }))
+    Ok(Some(new_command(alloc, kind, id, &text)?))
+}
+
+/// Sends the warehouse in a file a command.
+fn send_command<H: Host>(
+    alloc: Global,
+    file: &str,
+    command: Command,
+    host: &mut H,
+) -> Result<Answer, AllocError>
+    ensures { (content : DatabaseContent) → H.stores host.old file.now (Rests content) → AnswersCommand (H.refuses host.old) (H.stores host.new file.now) content file.now command result }
+{
+    let room = room_for_receipt(alloc, command.id.as_str())?;
+    work_on(alloc, file, Sending { command, room }, host)
 }
 
 /// Sends the warehouse in a file the command in another: loads its batch, or puts its policy in force. The command's file is read
@@ -181,16 +221,28 @@ pub fn send<H: Host>(
     host: &mut H,
 ) -> Result<Answer, AllocError>
     ensures { (content : DatabaseContent) → H.stores host.old file.now (Rests content)
-        → AnswersWith (up_to (input_limit kind) (H.holds host.old)) (H.refuses host.old) (H.stores host.new file.now) (Sends kind id.now) content file.now path.now result }
+        → AnswersWith (as_input kind (H.holds host.old)) (H.refuses host.old) (H.stores host.new file.now) (Sends kind id.now) content file.now path.now result }
 {
     let Some(command) = command_of(alloc, kind, id, path, host)? else {
         return no_file(alloc, path);
     };
-    let room = room_for_receipt(alloc, id)?;
-    work_on(alloc, file, Sending { command, room }, host)
+    send_command(alloc, file, command, host)
 }
 
-/// Tells what the command in a file would write into the warehouse in another, and writes nothing.
+/// Sends the warehouse in a file an upgrade to the second format.
+pub fn upgrade<H: Host>(
+    alloc: Global,
+    file: &str,
+    id: &str,
+    host: &mut H,
+) -> Result<Answer, AllocError>
+    ensures { (content : DatabaseContent) → H.stores host.old file.now (Rests content) → AnswersUpgrade (H.refuses host.old) (H.stores host.new file.now) content file.now id.now result }
+{
+    let upgrade = new_command(alloc, CommandKind::Upgrade, id, &[])?;
+    send_command(alloc, file, upgrade, host)
+}
+
+/// Tells what the command in a file, or an upgrade, would write into the warehouse in another, and writes nothing.
 pub fn plan<H: Host>(
     alloc: Global,
     file: &str,
@@ -200,7 +252,7 @@ pub fn plan<H: Host>(
     host: &mut H,
 ) -> Result<Answer, AllocError>
     ensures { (content : DatabaseContent) → H.stores host.old file.now (Rests content)
-        → AnswersWith (up_to (input_limit kind) (H.holds host.old)) (H.refuses host.old) (H.stores host.new file.now) (Plans kind id.now) content file.now path.now result }
+        → AnswersWith (as_input kind (H.holds host.old)) (H.refuses host.old) (H.stores host.new file.now) (Plans kind id.now) content file.now path.now result }
 {
     let Some(command) = command_of(alloc, kind, id, path, host)? else {
         return no_file(alloc, path);

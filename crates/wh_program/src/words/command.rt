@@ -3,9 +3,10 @@
 ghost use Rattle.std.specs.Prelude.{◌≡◌, IfOk, IfErr, IsErr, Some, Ok, Err, map, option_map, true};
 ghost use Rattle.clap.specs.Words.{FailsBy, HasKind, Kinds, first_of, found_of, rows_of, subcommand_rows_of, kind_of, takes, subcommand_of};
 ghost use Rattle.clap.specs.declared.error.ErrorKind.TheVariants.{OutOfMemory};
-ghost use Rattle.wh_program.specs.CommandLine.{CommandLine, program_app, words_of, has_operands, named, named_trial, named_init, named_sent, named_load, named_migrate, named_deliver, named_plan, named_report, named_dump, named_check, named_status};
+ghost use Rattle.wh_rows.specs.Names.{table_named};
+ghost use Rattle.wh_program.specs.CommandLine.{CommandLine, program_app, words_of, has_operands, named, named_trial, named_init, named_sent, named_load, named_migrate, named_upgrade, named_deliver, named_plan, named_report, named_dump, named_check, named_status};
 ghost use Rattle.wh_program.specs.Request.{text_of, sent_of, line_of, asked_in, Asks, IsDeclined, IsReadAs};
-ghost use Rattle.wh_program.specs.Task.{trial_asked, load_asked, plan_asked, report_asked, of_first, table_asked, dump_asked, faults_in, asked_by};
+ghost use Rattle.wh_program.specs.Task.{trial_asked, load_asked, plan_asked, report_asked, dump_asked, faults_in, asked_by};
 
 use crate::lines::{
     NO_COMMAND_KIND_LINE, NO_COMMAND_LINE, NO_DIMENSION_LINE, NO_KIND_LINE, NO_MODE_LINE,
@@ -48,12 +49,17 @@ pub enum Task<'a> {
         id: &'a str,
         policy: &'a str,
     },
+    /// The upgrade of the warehouse in `file` to the second format, under an id.
+    Upgrade {
+        file: &'a str,
+        id: &'a str,
+    },
     /// The delivery of the commands that the file `manifest` lists to the warehouse in `file`.
     Deliver {
         file: &'a str,
         manifest: &'a str,
     },
-    /// What such a load, or such a migration, would write.
+    /// What such a load, migration or upgrade would write.
     Plan {
         file: &'a str,
         kind: CommandKind,
@@ -145,6 +151,10 @@ enum Operands<'a> {
         id: &'a str,
         policy: &'a str,
     },
+    Upgrade {
+        file: &'a str,
+        id: &'a str,
+    },
     Deliver {
         file: &'a str,
         manifest: &'a str,
@@ -217,6 +227,15 @@ fn migrate_operands<'a>(inner: &ArgMatches<'a>) -> Option<Operands<'a>>
     })
 }
 
+fn upgrade_operands<'a>(inner: &ArgMatches<'a>) -> Option<Operands<'a>>
+    ensures { option_map line_of result ≡ named_upgrade (rows_of (found_of inner.now)) }
+{
+    Some(Operands::Upgrade {
+        file: value_of(inner, "FILE")?,
+        id: value_of(inner, "ID")?,
+    })
+}
+
 fn deliver_operands<'a>(inner: &ArgMatches<'a>) -> Option<Operands<'a>>
     ensures { option_map line_of result ≡ named_deliver (rows_of (found_of inner.now)) }
 {
@@ -279,6 +298,7 @@ fn operands_of<'a>(matches: &ArgMatches<'a>) -> Option<Operands<'a>>
         "init" => init_operands(inner),
         "load" => load_operands(inner),
         "migrate" => migrate_operands(inner),
+        "upgrade" => upgrade_operands(inner),
         "deliver" => deliver_operands(inner),
         "plan" => plan_operands(inner),
         "report" => report_operands(inner),
@@ -370,25 +390,11 @@ fn report_request<'a>(alloc: Global, words: ReportOperands<'a>) -> Result<Reques
     }
 }
 
-/// The table, where the first format has it.
-fn of_first(table: Table) -> Option<Table>
-    ensures { result ≡ of_first table }
-{
-    match table {
-        Table::Fact2 => None,
-        Table::Void => None,
-        table => Some(table),
-    }
-}
-
-/// The table of a name, where the first format has it.
+/// The table of a name.
 fn table_of_word(name: &str) -> Option<Table>
-    ensures { result ≡ table_asked name.now }
+    ensures { result ≡ table_named name.now }
 {
-    match Table::from_name(name) {
-        Some(table) => of_first(table),
-        None => None,
-    }
+    Table::from_name(name)
 }
 
 /// The dump of a table.
@@ -416,6 +422,7 @@ fn requested<'a>(alloc: Global, operands: Operands<'a>) -> Result<Request<'a>, A
         Operands::Migrate { file, id, policy } => {
             Ok(Request::Task(Task::Migrate { file, id, policy }))
         }
+        Operands::Upgrade { file, id } => Ok(Request::Task(Task::Upgrade { file, id })),
         Operands::Deliver { file, manifest } => {
             Ok(Request::Task(Task::Deliver { file, manifest }))
         }

@@ -20,9 +20,15 @@ open
 make flat
 load p0 p1
 close
-sql UPDATE meta SET value = 2 WHERE name = 'format'
+sql UPDATE meta SET value = 3 WHERE name = 'format'
 open
 = NewFormat
+make flat
+load p0 p1
+close
+sql UPDATE meta SET value = 2 WHERE name = 'format'
+open
+= NotAWarehouse
 make flat
 load p0 p1
 close
@@ -110,7 +116,7 @@ open
 make flat
 load p0 p1
 close
-sql UPDATE meta SET value = 2 WHERE name = 'format'
+sql UPDATE meta SET value = 3 WHERE name = 'format'
 open
 = NewFormat
 sql UPDATE meta SET value = 1 WHERE name = 'format'

@@ -71,6 +71,14 @@ load m1 Unfit
 = refused: E5 policy does not fit
 = status 2
 
+# An upgrade.
+load u1 Upgraded
+= refused: E6 format, 2
+= status 2
+load u1 NameTaken
+= refused: E11 not empty
+= status 2
+
 # Failures.
 load p1 Damaged command
 = failed: E7 damaged, command

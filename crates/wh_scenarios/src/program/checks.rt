@@ -101,7 +101,7 @@ run check w
 = failed: E7 damaged, meta
 = status 3
 sql w UPDATE meta SET name = 'changes_max' WHERE name = 'bhanges_max'
-sql w UPDATE meta SET value = 2 WHERE name = 'format'
+sql w UPDATE meta SET value = 3 WHERE name = 'format'
 run check w
 = failed: N3 new format
 = status 3

@@ -1013,7 +1013,7 @@ run report w product.brand was 2023-01-01 2026-12-31
 run dump w product
 = failed: N2 old format
 = status 3
-sql w UPDATE meta SET value = 2 WHERE name = 'format'
+sql w UPDATE meta SET value = 3 WHERE name = 'format'
 run report w product.brand was 2023-01-01 2026-12-31
 = failed: N3 new format
 = status 3
@@ -1068,7 +1068,7 @@ ended dump w sales
 ended dump w date
 = a text
 = status 4
-ended dump w fact2
+ended dump w facts
 = a text
 = status 4
 ended dump w product more

@@ -465,7 +465,7 @@ anew
 run init w flat.toml
 = accepted 1 init: 0 records, 0 placeholders
 = status 0
-sql w UPDATE meta SET value = 2 WHERE name = 'format'
+sql w UPDATE meta SET value = 3 WHERE name = 'format'
 run status w
 = failed: N3 new format
 = status 3

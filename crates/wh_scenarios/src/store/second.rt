@@ -136,16 +136,18 @@ tally2 profile
 ";
 
 pub const FIRST: &str = "
-# The first format has no such facts, and takes none.
+# The first format has no such facts, and takes none. A scan asks for none.
 warehouse
 all fact2
+= refused disk
 get void T1 1
+= refused disk
 count fact2
-= 0
+= refused disk
 scan void 1
 = 0
 tally2 day
-= 0, 0, 0, 0, 0
+= refused disk
 write
 > tries rekey2 T1 1 1 1 1 1
 > tries insert2 16 T1 20240612, 1, 1, 0, 1, 1, 0, 0, 1, 150, 100, 25

@@ -37,6 +37,7 @@ impl<'a> Work<'a> {
 fn kind_of(word: &str) -> Result<CommandKind, Trouble> {
     match word {
         "migrate" => Ok(CommandKind::Migration),
+        "upgrade" => Ok(CommandKind::Upgrade),
         "product" => Ok(CommandKind::Batch(Kind::Dimension(Dim::Product))),
         "store" => Ok(CommandKind::Batch(Kind::Dimension(Dim::Store))),
         "customer" => Ok(CommandKind::Batch(Kind::Dimension(Dim::Customer))),

@@ -1,4 +1,4 @@
-//! The rows of the ten tables as text: a line a row, its columns parted by commas.
+//! The rows of the tables as text: a line a row, its columns parted by commas.
 
 use crate::trouble::Trouble;
 use crate::words::push_number;
@@ -7,9 +7,9 @@ use std::alloc::{AllocError, Global};
 use std::fmt::Write;
 use wh_day::{DateRow, Values};
 use wh_history::{DimRow, Fact};
-use wh_policy::Dim;
+use wh_policy::{Dim, Format};
 use wh_rows::tables::{Calendar, Change, Command, Customer, Member, Meta, Product, Profile, Store};
-use wh_rows::{ChangeRow, CommandRow, MemberRow, MetaRow, ProfileRow, Table, tables};
+use wh_rows::{ChangeRow, CommandRow, MemberRow, MetaRow, ProfileRow, Table, VoidRow, tables};
 use wh_scenarios::push_line;
 use wh_store::{KeyedTable, Tables};
 
@@ -157,6 +157,13 @@ impl Columns for Fact {
     }
 }
 
+impl Columns for VoidRow {
+    fn push(&self, out: &mut String) -> Result<(), AllocError> {
+        out.push_str(self.ticket.as_str())?;
+        push_numbers(out, &[self.line as u64, self.command])
+    }
+}
+
 /// Rows, each after a word.
 pub fn push_rows<R: Columns>(out: &mut String, word: &str, rows: &[R]) -> Result<(), AllocError> {
     for row in rows {
@@ -177,6 +184,20 @@ where
 {
     let rows = tables.all::<T>(alloc)?;
     Ok(push_rows(out, "", &rows)?)
+}
+
+/// Facts of the second format, each with its discount.
+fn push_discounted<S: Alter>(
+    alloc: Global,
+    tables: &mut Tables<S>,
+    out: &mut String,
+) -> Result<(), Trouble> {
+    for fact in tables.all::<tables::Fact2>(alloc)? {
+        fact.push(out)?;
+        push_numbers(out, &[fact.discount])?;
+        out.push_str("\n")?;
+    }
+    Ok(())
 }
 
 /// The rows of a table, in order of key.
@@ -207,17 +228,28 @@ fn push_more<S: Alter>(
         Table::Customer => push_all::<Customer, S>(alloc, tables, out),
         Table::Profile => push_all::<Profile, S>(alloc, tables, out),
         Table::Calendar => push_all::<Calendar, S>(alloc, tables, out),
+        Table::Fact2 => push_discounted(alloc, tables, out),
+        Table::Void => push_all::<tables::Void, S>(alloc, tables, out),
         _ => push_all::<tables::Fact, S>(alloc, tables, out),
     }
 }
 
-/// All ten tables, each after its name.
+/// The tables that a format has.
+fn tables_of(format: Format) -> &'static [Table] {
+    match format {
+        Format::One => &Table::ALL[..10],
+        Format::Two => &Table::ALL,
+    }
+}
+
+/// All tables of a format, each after its name.
 pub fn push_tables<S: Alter>(
     alloc: Global,
     tables: &mut Tables<S>,
+    format: Format,
     out: &mut String,
 ) -> Result<(), Trouble> {
-    for table in &Table::ALL[..10] {
+    for table in tables_of(format) {
         push_line(out, table.name())?;
         push_table(alloc, tables, *table, out)?;
     }

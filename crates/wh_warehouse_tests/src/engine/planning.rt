@@ -21,8 +21,8 @@ use wh_engine::{write_edits, write_making};
 use wh_history::{Change, Changes, DimensionShape, Edit, Member, Profiles};
 use wh_plan::new_rows::{new_changes, new_members, rows_of_members};
 use wh_plan::reading::{command_of, last_member, stored_changes, stored_member, stored_rows};
-use wh_plan::{Edits, FactEdit, plan_batch};
-use wh_policy::{Dim, DimensionRecord, Policy};
+use wh_plan::{Edits, FactEdit, Terms, plan_batch};
+use wh_policy::{Dim, DimensionRecord, Format, Policy};
 use wh_rows::tables::{Calendar, Product, Profile};
 use wh_rows::{Cause, CommandRow, Limits};
 use wh_scenarios::parted;
@@ -272,7 +272,11 @@ fn plan(alloc: Global, tables: &mut InMemory, words: &str, handed: &str) -> Resu
     let records = records_of(alloc, handed)?;
     let policy = Policy::trial(alloc)?;
     let command = batch_row(alloc, words, records.len())?;
-    let edits = plan_batch(tables, alloc, &policy, Dim::Product, command, &records)?;
+    let terms = Terms {
+        format: Format::One,
+        policy: &policy,
+    };
+    let edits = plan_batch(tables, alloc, &terms, Dim::Product, command, &records)?;
     Ok(edits)
 }
 

@@ -6,11 +6,11 @@ use crate::words::push_number;
 use sqlite::Alter;
 use std::alloc::{AllocError, Global};
 use std::fmt::Write;
-use wh_day::{DateRow, Day};
+use wh_day::{DateRow, Day, Value};
 use wh_engine::Engine;
 use wh_history::{DimRow, Edit};
 use wh_plan::{Edits, FactEdit};
-use wh_rows::{ChangeKey, ChangeRow, CommandRow, MemberKey, MemberRow, ProfileRow};
+use wh_rows::{ChangeKey, ChangeRow, CommandRow, MemberKey, MemberRow, MetaRow, ProfileRow};
 
 /// A row that has a key, or a key.
 trait Keyed {
@@ -58,6 +58,18 @@ impl Keyed for MemberRow {
             durable: self.durable,
         };
         key.push_key(out)
+    }
+}
+
+impl Keyed for Value {
+    fn push_key(&self, out: &mut String) -> Result<(), AllocError> {
+        out.push_str(self.as_str())
+    }
+}
+
+impl Keyed for MetaRow {
+    fn push_key(&self, out: &mut String) -> Result<(), AllocError> {
+        self.name.push_key(out)
     }
 }
 
@@ -115,17 +127,25 @@ fn push_table<R: Keyed, K: Keyed>(
     Ok(())
 }
 
-fn push_fact(out: &mut String, edit: &FactEdit) -> Result<(), AllocError> {
+fn push_fact(out: &mut String, table: &str, edit: &FactEdit) -> Result<(), AllocError> {
     let (word, ticket, line) = match edit {
         FactEdit::Row(Edit::Put(fact)) => ("put", &fact.ticket, fact.line),
         FactEdit::Row(Edit::Remove(key)) => ("remove", &key.ticket, key.line),
         FactEdit::Rekey(key, _) => ("rekey", &key.ticket, key.line),
     };
     let ticket = ticket.as_str();
-    write!(out, "{word} fact {ticket} {line}\n")
+    write!(out, "{word} {table} {ticket} {line}\n")
+}
+
+fn push_facts(out: &mut String, table: &str, edits: &[FactEdit]) -> Result<(), AllocError> {
+    for edit in edits {
+        push_fact(out, table, edit)?;
+    }
+    Ok(())
 }
 
 fn push_edits(out: &mut String, edits: &Edits) -> Result<(), AllocError> {
+    push_table(out, "meta ", &edits.meta)?;
     push_table(out, "command ", &edits.commands)?;
     push_table(out, "member ", &edits.members)?;
     push_table(out, "change ", &edits.changes)?;
@@ -134,10 +154,8 @@ fn push_edits(out: &mut String, edits: &Edits) -> Result<(), AllocError> {
     push_table(out, "customer ", &edits.customers)?;
     push_table(out, "profile ", &edits.profiles)?;
     push_table(out, "calendar ", &edits.calendar)?;
-    for edit in &edits.facts {
-        push_fact(out, edit)?;
-    }
-    Ok(())
+    push_facts(out, "fact", &edits.facts)?;
+    push_facts(out, "fact2", &edits.facts2)
 }
 
 /// `KIND ID`: what a command of these bytes would write.

@@ -12,6 +12,7 @@ mod repeats;
 mod restarts;
 mod sales;
 mod stops;
+mod upgrades;
 mod worked;
 
 use crate::check::check;

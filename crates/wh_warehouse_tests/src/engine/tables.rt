@@ -66,10 +66,11 @@ fn show_command<S: Alter>(
     }
 }
 
-/// What the tables answer to words; `all` are all ten.
+/// What the tables of a format answer to words; `all` are all that it has.
 fn look<S: Alter>(
     alloc: Global,
     tables: &mut Tables<S>,
+    format: Format,
     words: &str,
     out: &mut String,
 ) -> Result<(), Trouble> {
@@ -77,14 +78,14 @@ fn look<S: Alter>(
     match verb {
         "table" => show_table(alloc, tables, rest, out),
         "command" => show_command(alloc, tables, rest, out),
-        "all" => push_tables(alloc, tables, out),
+        "all" => push_tables(alloc, tables, format, out),
         _ => Err(Trouble),
     }
 }
 
-fn looked<S: Alter>(alloc: Global, tables: &mut Tables<S>, words: &str) -> Answer {
+fn looked<S: Alter>(alloc: Global, tables: &mut Tables<S>, format: Format, words: &str) -> Answer {
     let mut out = String::new(alloc);
-    look(alloc, tables, words, &mut out)?;
+    look(alloc, tables, format, words, &mut out)?;
     Ok(out)
 }
 
@@ -94,16 +95,16 @@ pub fn look_over<S: Alter + Drop>(
     conn: Connection<S>,
     words: &str,
 ) -> (Connection<S>, Answer) {
-    match Tables::open(alloc, conn, Format::One) {
-        Ok(mut tables) => {
-            let answer = looked(alloc, &mut tables, words);
+    match Tables::open(alloc, conn, Format::Two) {
+        Ok((mut tables, format)) => {
+            let answer = looked(alloc, &mut tables, format, words);
             (tables.close(), answer)
         }
         Err((_, conn)) => (conn, Err(Trouble)),
     }
 }
 
-/// All ten tables of a warehouse.
+/// All tables of a warehouse.
 pub fn all_over<S: Alter + Drop>(alloc: Global, conn: Connection<S>) -> (Connection<S>, Answer) {
     look_over(alloc, conn, "all")
 }

@@ -132,6 +132,8 @@ fn refused(word: &str, rest: &str) -> Result<Refused, Trouble> {
         })),
         "BadYears" => Ok(Refused::Policy(PolicyFault::BadYears)),
         "Unfit" => Ok(Refused::Unfit),
+        "Upgraded" => Ok(Refused::Upgraded),
+        "NameTaken" => Ok(Refused::NameTaken),
         "LineThere" => Ok(Refused::LineThere(number(rest)?)),
         "Full" => Ok(Refused::Full(limit(rest)?)),
         _ => Err(Trouble),

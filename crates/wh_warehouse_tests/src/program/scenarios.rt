@@ -5,6 +5,7 @@ mod checks;
 mod deliveries;
 mod reports;
 mod trials;
+mod upgrades;
 mod warehouses;
 
 use crate::check::check;

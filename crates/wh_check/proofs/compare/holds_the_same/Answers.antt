@@ -18,8 +18,8 @@ rows-init g c =
     record {
       reads = reads_nothing _ _;
       rests = λ t at. at;
-      valid = λ clean stored at. rw c.new-cursor.ensures.none refl;
-      seen = λ clean stored at t rest.
+      valid = λ clean stored at here. rw c.new-cursor.ensures.none refl;
+      seen = λ clean stored at here t there rest.
           seen_none layout g.T.KeyedTable.bind g.T.KeyedTable.stands_at g.met.T.PagedTable.keyed (stored.rows g.T.KeyedTable.name) (g.met.T.PagedTable.once (state_of g.S.Store c.args.tables.now).now stored at.now) (values (g.T.StoredTable.rows t))
           (rows_left layout (g.T.StoredTable.rows t) c.new-ahead.result) (AreLeft layout g.T.KeyedTable.bind (stored.rows g.T.KeyedTable.name) c.new-cursor.result)
           (c.new-ahead.ensures.left layout (g.T.StoredTable.rows t)) (λ left are. c.new-cursor.ensures.left_stored layout g.T.KeyedTable.bind (stored.rows g.T.KeyedTable.name) left are);
@@ -44,15 +44,14 @@ pub returns-in-None-clause-rests : goal.returns-in-None-clause-rests
 returns-in-None-clause-rests g c t at = c.in_ok-end-in-None.ensures.rests t (c.rows.invariant.rests t at)
 
 pub returns-then-not-same-clause-same : goal.returns-then-not-same-clause-same
-returns-then-not-same-clause-same g c clean stored at t rest =
+returns-then-not-same-clause-same g c clean stored at here t there rest =
     let layout = g.T.StoredTable.layout in
     let bind = g.T.KeyedTable.bind in
     let rows = stored.rows g.T.KeyedTable.name in
     let placed = g.met.T.KeyedTable.placed in
     let m = g.T.StoredTable.rows t in
     let second = (state_of g.M.Store c.args.expected.now).now in
-    let held = placed.held second t rest.1.now.tables (g.met.T.Plain.in_each t.format) in
-    let here = g.met.T.Plain.in_each stored.format ∙ sym (g.met.T.Plain.in_each c.rows.tables.format) in
+    let all = listed layout m (get m) (placed.keyed second t rest.1.now.tables) (placed.valid second t rest.1.now.tables) (λ _. refl) in
     let kept = c.rows.invariant in
     let read = c.in_ok-row.ensures in
     let before = read.reads.clean clean in
@@ -60,20 +59,19 @@ returns-then-not-same-clause-same g c clean stored at t rest =
     let ends : Left [] = subst (λ (found : Option _). HandsOutOf layout bind rows c.rows.cursor found c.next_row.new.cursor) c.in-None.is (read.stored clean stored here (kept.reads.rests before stored at tt)) in
     let once = g.met.T.PagedTable.once (state_of g.S.Store c.args.tables.now).now stored at.now in
     let left = rows_left layout m c.rows.ahead in
-    let seen : HasSeen layout rows (values m) left Left false = subst (HasSeen layout rows (values m) left Left) c.if-not-same.true (kept.seen before stored at t rest) in
-    rows_or_not layout placed.total placed.same second.trees m held rows false
-    (compared_other layout bind g.T.KeyedTable.stands_at g.met.T.PagedTable.keyed rows once (values m) (listed layout second.trees m (get m) held (λ _. refl)).rise Left ends left seen)
+    let seen : HasSeen layout rows (values m) left Left false = subst (HasSeen layout rows (values m) left Left) c.if-not-same.true (kept.seen before stored at here t there rest) in
+    rows_or_not layout placed.total placed.same m all rows false
+    (compared_other layout bind g.T.KeyedTable.stands_at g.met.T.PagedTable.keyed rows once (values m) all.rise Left ends left seen)
 
 pub returns-in-None-clause-same : goal.returns-in-None-clause-same
-returns-in-None-clause-same g c clean stored at t rest =
+returns-in-None-clause-same g c clean stored at here t there rest =
     let layout = g.T.StoredTable.layout in
     let bind = g.T.KeyedTable.bind in
     let rows = stored.rows g.T.KeyedTable.name in
     let placed = g.met.T.KeyedTable.placed in
     let m = g.T.StoredTable.rows t in
     let second = (state_of g.M.Store c.args.expected.now).now in
-    let held = placed.held second t rest.1.now.tables (g.met.T.Plain.in_each t.format) in
-    let here = g.met.T.Plain.in_each stored.format ∙ sym (g.met.T.Plain.in_each c.rows.tables.format) in
+    let all = listed layout m (get m) (placed.keyed second t rest.1.now.tables) (placed.valid second t rest.1.now.tables) (λ _. refl) in
     let kept = c.rows.invariant in
     let read = c.in_ok-row.ensures in
     let before = read.reads.clean clean in
@@ -81,10 +79,10 @@ returns-in-None-clause-same g c clean stored at t rest =
     let ends : Left [] = subst (λ (found : Option _). HandsOutOf layout bind rows c.rows.cursor found c.next_row.new.cursor) c.in-None.is (read.stored clean stored here (kept.reads.rests before stored at tt)) in
     let once = g.met.T.PagedTable.once (state_of g.S.Store c.args.tables.now).now stored at.now in
     let left = rows_left layout m c.rows.ahead in
-    let seen : HasSeen layout rows (values m) left Left true = subst (HasSeen layout rows (values m) left Left) c.if-not-same.false (kept.seen before stored at t rest) in
+    let seen : HasSeen layout rows (values m) left Left true = subst (HasSeen layout rows (values m) left Left) c.if-not-same.false (kept.seen before stored at here t there rest) in
     let end = c.in_ok-end-in-None.end in
-    rows_or_not layout placed.total placed.same second.trees m held rows end
-    (compared layout bind g.T.KeyedTable.stands_at g.met.T.PagedTable.keyed rows once (values m) (listed layout second.trees m (get m) held (λ _. refl)).rise Left ends left end (c.in_ok-end-in-None.ensures.end t (kept.rests t rest)) seen)
+    rows_or_not layout placed.total placed.same m all rows end
+    (compared layout bind g.T.KeyedTable.stands_at g.met.T.PagedTable.keyed rows once (values m) all.rise Left ends left end (c.in_ok-end-in-None.ensures.end t there (kept.rests t rest)) seen)
 
 pub rows-preserved : goal.rows-preserved
 rows-preserved g c =
@@ -99,28 +97,26 @@ rows-preserved g c =
         | then-same+in_ok-same-in-Some w ↦ rw w.expected-is (w.in_ok-same-in-Some.ensures.rests t (kept.rests t at))
         | else-same w ↦ rw w.expected-is (kept.rests t at)
       ];
-      valid = λ clean stored at.
+      valid = λ clean stored at here.
           let before = read.reads.clean clean in
-          let here = g.met.T.Plain.in_each stored.format ∙ sym (g.met.T.Plain.in_each c.rows.tables.format) in
-          (read.valid clean stored here (kept.reads.rests before stored at tt) (kept.valid before stored at)).1;
-      seen = λ clean stored at t rest.
+          (read.valid clean stored here (kept.reads.rests before stored at tt) (kept.valid before stored at here)).1;
+      seen = λ clean stored at here t there rest.
           let before = read.reads.clean clean in
-          let here = g.met.T.Plain.in_each stored.format ∙ sym (g.met.T.Plain.in_each c.rows.tables.format) in
           let rows = stored.rows g.T.KeyedTable.name in
           let m = g.T.StoredTable.rows t in
           let then_at = kept.reads.rests before stored at tt in
           let Left = AreLeft layout bind rows c.rows.cursor in
           let Rest = AreLeft layout bind rows c.next_row.new.cursor in
           let hands : (left : List Row) → Rest left → Left (layout.encode row ∷ left) = subst (λ (found : Option _). HandsOutOf layout bind rows c.rows.cursor found c.next_row.new.cursor) c.in-Some.is (read.stored clean stored here then_at) in
-          let good : IsTrue (layout.is_valid row) = subst (λ (found : Option _). IfSome found (λ r. IsTrue (layout.is_valid r))) c.in-Some.is (read.valid clean stored here then_at (kept.valid before stored at)).0 in
+          let good : IsTrue (layout.is_valid row) = subst (λ (found : Option _). IfSome found (λ r. IsTrue (layout.is_valid r))) c.in-Some.is (read.valid clean stored here then_at (kept.valid before stored at here)).0 in
           let once = g.met.T.PagedTable.once (state_of g.S.Store c.args.tables.now).now stored at.now in
           let keyed = g.met.T.PagedTable.keyed in
           let stands_at = g.T.KeyedTable.stands_at in
           let left = rows_left layout m c.rows.ahead in
-          let now : (same : Bool) → c.rows.same ≡ same → HasSeen layout rows (values m) left Left same = λ same is. subst (HasSeen layout rows (values m) left Left) is (kept.seen before stored at t rest) in
+          let now : (same : Bool) → c.rows.same ≡ same → HasSeen layout rows (values m) left Left same = λ same is. subst (HasSeen layout rows (values m) left Left) is (kept.seen before stored at here t there rest) in
           elim c.if-same.branch [
             | then-same+in_ok-same-in-Some w ↦
-                let next = w.in_ok-same-in-Some.ensures.next t (kept.rests t rest) in
+                let next = w.in_ok-same-in-Some.ensures.next t there (kept.rests t rest) in
                 rw (w.ahead-is, w.same-is)
                 (seen_next layout bind stands_at keyed rows once (values m) Left Rest row good hands left (rows_left layout m w.is_next.new.ahead) w.in_ok-same-in-Some.same (now true w.if-same.true) next)
             | else-same w ↦

@@ -9,8 +9,8 @@ not_twice true = refl
 not_twice false = refl
 
 pub returns-clause-end : goal.returns-clause-end
-returns-clause-end g c t at =
+returns-clause-end g c t same at =
     let layout = g.T.StoredTable.layout in
     let rows = g.T.StoredTable.rows t in
     let left = rows_left layout rows c.args.ahead.now in
-    subst (IsEnd left) (ap not c.is_none.ensures ∙ not_twice c.is_none.result) (handed_end left (rows_left layout rows c.next_expected.new.ahead) c.in_ok-found.found (c.in_ok-found.ensures.row t at))
+    subst (IsEnd left) (ap not c.is_none.ensures ∙ not_twice c.is_none.result) (handed_end left (rows_left layout rows c.next_expected.new.ahead) c.in_ok-found.found (c.in_ok-found.ensures.row t same at))

@@ -1,8 +1,9 @@
-use Rattle.std.proofs.Common.{arith}
+use Rattle.std.proofs.Common.{◌-◌, ◌∙◌, arith}
 use Rattle.std.specs.FinMap.{len}
 use Rattle.wh_engine.proofs.Decisions.{room_left}
 use Rattle.wh_engine.proofs.admission.has_room_for.Goals as goal
 
 pub returns-clause-room : goal.returns-clause-room
-returns-clause-room g c clean t same rests few within =
-    room_left (len (g.T.StoredTable.rows t)) c.args.records c.args.limit c.saturating_sub-2.result (omega (arith, c.in_ok-kept.ensures.count clean t same rests, c.saturating_sub-2.ensures)) within
+returns-clause-room g c clean t rests few within =
+    let left = c.args.limit - c.in_ok-kept.kept in
+    c.has_room_left-2.ensures ∙ room_left (len (g.T.StoredTable.rows t)) c.args.records c.args.limit left (omega (arith, c.in_ok-kept.ensures.count clean t rests)) within

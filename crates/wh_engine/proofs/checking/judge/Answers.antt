@@ -17,7 +17,7 @@ returns-in_err-replica-clause-judged g c clean stored rests format_is =
     let second = c.in_err-replica.ensures in
     let before = second.reads.clean clean in
     let at = first.reads.rests before stored rests tt in
-    let meta = subst (AreLimitsSaid stored) c.in-Some.is (first.said before stored rests) in
+    let meta = subst (AreLimitsSaid stored) c.in-Some.is (first.said before stored rests format_is) in
     let p = err_from_is_err_and c.from_residual-in_err-replica.result c.from_residual-in_err-replica.ensures.1 in
     rw (p.1, p.2) (command_fault stored c.in-Some.limits meta c.in_err-replica.field-0.0 (second.damaged clean stored at))
 
@@ -27,8 +27,8 @@ returns-in_default-2-clause-judged g c clean stored rests format_is =
     let second = c.in_ok-replica.ensures in
     let before = second.reads.clean clean in
     let at = first.reads.rests before stored rests tt in
-    let meta = subst (AreLimitsSaid stored) c.in-Some.is (first.said before stored rests) in
-    command_none stored c.in-Some.limits meta (subst (IsReplicated over_files stored c.in-Some.limits) c.in_default-2.is (second.replicated clean stored at))
+    let meta = subst (AreLimitsSaid stored) c.in-Some.is (first.said before stored rests format_is) in
+    command_none stored c.in-Some.limits meta (subst (IsReplicated over_files stored c.in-Some.limits) c.in_default-2.is (second.replicated clean stored at format_is))
 
 pub returns-clause-judged : goal.returns-clause-judged
 returns-clause-judged g c clean stored rests format_is =
@@ -39,8 +39,8 @@ returns-clause-judged g c clean stored rests format_is =
     let before = second.reads.clean after in
     let at = first.reads.rests before stored rests tt in
     let then_at = second.reads.rests after stored at tt in
-    let meta = subst (AreLimitsSaid stored) c.in-Some.is (first.said before stored rests) in
-    rest_judged stored c.in-Some.limits meta over_files c.in-Some-2.replica c.judge_tables.result (subst (IsReplicated over_files stored c.in-Some.limits) c.in-Some-2.is (second.replicated after stored at))
+    let meta = subst (AreLimitsSaid stored) c.in-Some.is (first.said before stored rests format_is) in
+    rest_judged stored c.in-Some.limits meta over_files c.in-Some-2.replica c.judge_tables.result (subst (IsReplicated over_files stored c.in-Some.limits) c.in-Some-2.is (second.replicated after stored at format_is))
     (λ limits commands holds said. third.judged clean stored then_at format_is limits commands holds said)
 
 pub returns-clause-reads : goal.returns-clause-reads

@@ -1,4 +1,4 @@
-use Rattle.std.proofs.Common.{◌≡◌, ◌+◌, suc, sym, subst, arith}
+use Rattle.std.proofs.Common.{◌≡◌, ◌∙◌, ◌+◌, suc, sym, subst, arith}
 use Rattle.std.proofs.lemmas.Result.{err_from_is_err_and}
 use Rattle.wh_check.proofs.ReadsOn.{answers_other, reads_on, fails_other}
 use Rattle.wh_engine.specs.Judging.{IsDefinedIn}
@@ -11,28 +11,30 @@ returns-in_err-is_defined_in-clause-reads g c =
     rw (p.1, p.2) (fails_other _ _ _ (reads_on _ _ _ _ _ c.tables.invariant.reads c.in_err-is_defined_in.ensures.reads))
 
 pub returns-in_err-is_defined_in-clause-judged : goal.returns-in_err-is_defined_in-clause-judged
-returns-in_err-is_defined_in-clause-judged g c clean stored rests first limits commands holds said =
+returns-in_err-is_defined_in-clause-judged g c clean stored rests same limits commands holds said =
     let kept = c.tables.invariant in
+    let of = sym same ∙ said.formatted in
     let read = c.in_err-is_defined_in.ensures in
     let p = err_from_is_err_and c.from_residual.result c.from_residual.ensures.1 in
     let before = read.reads.clean clean in
     let at = kept.reads.rests before stored rests tt in
     let less = c.tables-test.true in
     let is = c.table_at-table.ensures (omega (arith, less)) in
-    let defined = subst (AreDefinedTo limits commands stored) (sym is) (kept.defined before stored rests first limits commands holds) in
+    let defined = subst (AreDefinedTo limits commands stored) (sym is) (kept.defined before stored rests same limits commands of holds) in
     rw (p.1, p.2) (fault_judged limits commands stored said c.table_at-table.result defined c.in_err-is_defined_in.field-0.0 (read.damaged clean stored at))
 
 pub returns-then-not-branch-clause-judged : goal.returns-then-not-branch-clause-judged
-returns-then-not-branch-clause-judged g c clean stored rests first limits commands holds said =
+returns-then-not-branch-clause-judged g c clean stored rests same limits commands holds said =
     let kept = c.tables.invariant in
+    let of = sym same ∙ said.formatted in
     let read = c.in_ok-is_defined_in.ensures in
     let table = c.table_at-table.result in
     let before = read.reads.clean clean in
     let at = kept.reads.rests before stored rests tt in
     let less = c.tables-test.true in
     let is = c.table_at-table.ensures (omega (arith, less)) in
-    let defined = subst (AreDefinedTo limits commands stored) (sym is) (kept.defined before stored rests first limits commands holds) in
-    let told = read.defined clean stored at first limits commands (still_holds g.M.Store limits commands c.args.replica.now c.tables.replica holds (kept.still holds.1.tables (holds.0, holds.1.rests)).1) in
+    let defined = subst (AreDefinedTo limits commands stored) (sym is) (kept.defined before stored rests same limits commands of holds) in
+    let told = read.defined clean stored at same limits commands of (still_holds g.M.Store limits commands c.args.replica.now c.tables.replica holds (kept.still holds.1.tables (holds.0, holds.1.rests)).1) in
     wrong_judged limits commands stored said table defined (subst (IsDefinedIn limits commands stored table) c.if-not-branch.true told)
 
 pub tables-preserved : goal.tables-preserved
@@ -48,18 +50,19 @@ tables-preserved g c =
       from = omega (arith, least);
       to = omega (arith, less);
       still = λ t at. read.rests t (kept.still t at);
-      defined = λ clean stored rests first limits commands holds.
+      defined = λ clean stored rests same limits commands of holds.
           let before = read.reads.clean clean in
           let at = kept.reads.rests before stored rests tt in
-          let told = read.defined clean stored at first limits commands (still_holds g.M.Store limits commands c.args.replica.now c.tables.replica holds (kept.still holds.1.tables (holds.0, holds.1.rests)).1) in
+          let told = read.defined clean stored at same limits commands of (still_holds g.M.Store limits commands c.args.replica.now c.tables.replica holds (kept.still holds.1.tables (holds.0, holds.1.rests)).1) in
           let follows : c.tables.place + 1 ≡ suc c.tables.place = omega arith in
-          one_more limits commands stored c.tables.place (c.tables.place + 1) table follows is (kept.defined before stored rests first limits commands holds) (subst (IsDefinedIn limits commands stored table) c.if-not-branch.false told);
+          one_more limits commands stored c.tables.place (c.tables.place + 1) table follows is (kept.defined before stored rests same limits commands of holds) (subst (IsDefinedIn limits commands stored table) c.if-not-branch.false told);
     }
 
 pub returns-clause-judged : goal.returns-clause-judged
-returns-clause-judged g c clean stored rests first limits commands holds said =
+returns-clause-judged g c clean stored rests same limits commands holds said =
     let kept = c.tables.invariant in
+    let of = sym same ∙ said.formatted in
     let past = c.tables-test.false in
     let upto = kept.to in
     let is : c.tables.place ≡ 12 = omega (arith, past, upto) in
-    clean_judged limits commands stored said (subst (AreDefinedTo limits commands stored) is (kept.defined clean stored rests first limits commands holds))
+    clean_judged limits commands stored said (subst (AreDefinedTo limits commands stored) is (kept.defined clean stored rests same limits commands of holds))

@@ -1,7 +1,6 @@
 use Rattle.std.proofs.Common.{◌≡◌, ◌≤◌, ◌<◌, List, Some, Ok}
-use Rattle.wh_history.specs.Accepted.{Accepted}
+use Rattle.wh_history.specs.Accepted.{Accepted, format_of}
 use Rattle.wh_history.specs.Tables.{Limits}
-use Rattle.wh_policy.specs.declared.format.Format.TheVariants.{One}
 use Rattle.wh_rows.specs.Tables.{Tables as TenTables}
 use Rattle.wh_rows.specs.declared.table.Table.{Table}
 use Rattle.wh_admission.specs.Checked.{IsDefined, table_place}
@@ -17,6 +16,6 @@ invariant-tables g l = record {
   from : 2 ≤ l.place;
   to : l.place ≤ 12;
   still : (t : TenTables) → RestsFaithfully g.M.Store (Some t) l.fn.replica.conn → RestsFaithfully g.M.Store (Some t) l.replica.conn;
-  defined : SaysAsStored (state_of g.S.Store l.fn.tables) (state_of g.S.Store l.tables) (λ stored. stored.format ≡ One → (limits : Limits) (commands : List Accepted) → HoldsAll g.M.Store limits commands l.fn.replica
+  defined : SaysAsStored (state_of g.S.Store l.fn.tables) (state_of g.S.Store l.tables) (λ stored. stored.format ≡ l.format → (limits : Limits) (commands : List Accepted) → l.format ≡ format_of commands → HoldsAll g.M.Store limits commands l.fn.replica
       → (earlier : Table) → 2 ≤ table_place earlier → table_place earlier < l.place → IsDefined limits commands stored earlier);
 }

@@ -1,4 +1,4 @@
-use Rattle.std.proofs.Common.{◌≡◌, ℕ, Ok, Err, refl}
+use Rattle.std.proofs.Common.{◌≡◌, ℕ, Ok, Err}
 use Rattle.std.proofs.lemmas.Result.{err_from_is_err_and}
 use Rattle.wh_engine.specs.declared.counts.Counts.{Counts}
 use Rattle.wh_engine.specs.declared.fault.Fault.{Fault}
@@ -16,9 +16,9 @@ not_counted (Store cause) number counts judged = tt
 not_counted Reopen number counts judged = absurd judged
 
 pub returns-in_err-products-clause-counts : goal.returns-in_err-products-clause-counts
-returns-in_err-products-clause-counts g c clean t rests limits commands are accepted =
+returns-in_err-products-clause-counts g c clean t rests limits commands are accepted same =
     let clean3 = c.in_err-products.ensures.reads.spares.clean clean in
-    let clean2 = c.count-3.ensures.reads.clean clean3 in
+    let clean2 = c.count_facts.ensures.reads.clean clean3 in
     let clean1 = c.count-2.ensures.reads.clean clean2 in
     let rests1 = c.in_ok-commands.ensures.reads.same clean1 t rests tt in
     let rests2 = c.in_ok-changes.ensures.reads.same clean2 t rests1 tt in
@@ -27,10 +27,10 @@ returns-in_err-products-clause-counts g c clean t rests limits commands are acce
     rw (p.1, p.2) (not_counted c.in_err-products.field-0.0 _ _ (c.in_err-products.ensures.members clean t rests3 limits commands are))
 
 pub returns-in_err-stores-clause-counts : goal.returns-in_err-stores-clause-counts
-returns-in_err-stores-clause-counts g c clean t rests limits commands are accepted =
+returns-in_err-stores-clause-counts g c clean t rests limits commands are accepted same =
     let clean4 = c.in_err-stores.ensures.reads.spares.clean clean in
     let clean3 = c.members_of.ensures.reads.spares.clean clean4 in
-    let clean2 = c.count-3.ensures.reads.clean clean3 in
+    let clean2 = c.count_facts.ensures.reads.clean clean3 in
     let clean1 = c.count-2.ensures.reads.clean clean2 in
     let rests1 = c.in_ok-commands.ensures.reads.same clean1 t rests tt in
     let rests2 = c.in_ok-changes.ensures.reads.same clean2 t rests1 tt in
@@ -40,11 +40,11 @@ returns-in_err-stores-clause-counts g c clean t rests limits commands are accept
     rw (p.1, p.2) (not_counted c.in_err-stores.field-0.0 _ _ (c.in_err-stores.ensures.members clean t rests4 limits commands are))
 
 pub returns-in_err-customers-clause-counts : goal.returns-in_err-customers-clause-counts
-returns-in_err-customers-clause-counts g c clean t rests limits commands are accepted =
+returns-in_err-customers-clause-counts g c clean t rests limits commands are accepted same =
     let clean5 = c.in_err-customers.ensures.reads.spares.clean clean in
     let clean4 = c.members_of-2.ensures.reads.spares.clean clean5 in
     let clean3 = c.members_of.ensures.reads.spares.clean clean4 in
-    let clean2 = c.count-3.ensures.reads.clean clean3 in
+    let clean2 = c.count_facts.ensures.reads.clean clean3 in
     let clean1 = c.count-2.ensures.reads.clean clean2 in
     let rests1 = c.in_ok-commands.ensures.reads.same clean1 t rests tt in
     let rests2 = c.in_ok-changes.ensures.reads.same clean2 t rests1 tt in
@@ -55,28 +55,28 @@ returns-in_err-customers-clause-counts g c clean t rests limits commands are acc
     rw (p.1, p.2) (not_counted c.in_err-customers.field-0.0 _ _ (c.in_err-customers.ensures.members clean t rests5 limits commands are))
 
 pub returns-clause-counts : goal.returns-clause-counts
-returns-clause-counts g c clean t rests limits commands are accepted =
+returns-clause-counts g c clean t rests limits commands are accepted same =
     let clean5 = c.members_of-3.ensures.reads.spares.clean clean in
     let clean4 = c.members_of-2.ensures.reads.spares.clean clean5 in
     let clean3 = c.members_of.ensures.reads.spares.clean clean4 in
-    let clean2 = c.count-3.ensures.reads.clean clean3 in
+    let clean2 = c.count_facts.ensures.reads.clean clean3 in
     let clean1 = c.count-2.ensures.reads.clean clean2 in
     let rests1 = c.in_ok-commands.ensures.reads.same clean1 t rests tt in
     let rests2 = c.in_ok-changes.ensures.reads.same clean2 t rests1 tt in
     let rests3 = c.in_ok-facts.ensures.reads.same clean3 t rests2 tt in
     let rests4 = c.in_ok-products.ensures.reads.spares.same clean4 t rests3 tt in
     let rests5 = c.in_ok-stores.ensures.reads.spares.same clean5 t rests4 tt in
-    counts_are limits commands t are accepted c.in_ok-commands.commands c.in_ok-changes.changes c.in_ok-facts.facts c.in_ok-products.products c.in_ok-stores.stores c.in_ok-customers.customers
-    (c.in_ok-commands.ensures.count clean1 t refl rests) (c.in_ok-changes.ensures.count clean2 t refl rests1) (c.in_ok-facts.ensures.count clean3 t refl rests2)
-    (c.in_ok-products.ensures.members clean4 t rests3 limits commands are) (c.in_ok-stores.ensures.members clean5 t rests4 limits commands are) (c.in_ok-customers.ensures.members clean t rests5 limits commands are)
+    rw c.number.ensures (counts_are limits commands t are accepted c.args.format same c.in_ok-commands.commands c.in_ok-changes.changes c.in_ok-facts.facts c.in_ok-products.products c.in_ok-stores.stores c.in_ok-customers.customers
+    (c.in_ok-commands.ensures.count clean1 t rests) (c.in_ok-changes.ensures.count clean2 t rests1) (c.in_ok-facts.ensures.count clean3 t rests2)
+    (c.in_ok-products.ensures.members clean4 t rests3 limits commands are) (c.in_ok-stores.ensures.members clean5 t rests4 limits commands are) (c.in_ok-customers.ensures.members clean t rests5 limits commands are))
 
 pub returns-clause-stored : goal.returns-clause-stored
 returns-clause-stored g c clean stored rests =
     let clean5 = c.members_of-3.ensures.reads.spares.clean clean in
     let clean4 = c.members_of-2.ensures.reads.spares.clean clean5 in
     let clean3 = c.members_of.ensures.reads.spares.clean clean4 in
-    let clean2 = c.count-3.ensures.reads.clean clean3 in
+    let clean2 = c.count_facts.ensures.reads.clean clean3 in
     let clean1 = c.count-2.ensures.reads.clean clean2 in
     let rests1 = c.in_ok-commands.ensures.reads.rests clean1 stored rests tt in
     let rests2 = c.in_ok-changes.ensures.reads.rests clean2 stored rests1 tt in
-    (refl, c.in_ok-commands.ensures.stored clean1 stored refl rests, c.in_ok-changes.ensures.stored clean2 stored refl rests1, c.in_ok-facts.ensures.stored clean3 stored refl rests2)
+    (c.number.ensures, c.in_ok-commands.ensures.stored clean1 stored rests, c.in_ok-changes.ensures.stored clean2 stored rests1, c.in_ok-facts.ensures.stored clean3 stored rests2)

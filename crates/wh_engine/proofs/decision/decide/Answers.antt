@@ -36,6 +36,7 @@ returns-in-Some-clause-reads g c =
       };
       blames = λ clean stored rests. c.decide_known.ensures.blames stored;
       work = c.decide_known.ensures.work;
+      taken = c.decide_known.ensures.taken _;
     }
 
 pub returns-in-Some-clause-brings : goal.returns-in-Some-clause-brings

@@ -5,7 +5,7 @@ use Rattle.wh_admission.specs.Admission.{current_policy, accepted_as, answer, nu
 use Rattle.wh_engine.specs.Decided.{Decides}
 use Rattle.wh_engine.proofs.Decisions.{judged_ok, judged_err, number_refused, policy_content, command_accepted, list_accepted, own_row, policy_in_force}
 use Rattle.wh_admission.proofs.Migrated.{policy_taken}
-use Rattle.wh_engine.proofs.Scanning.{still_served, still_blames, still_works}
+use Rattle.wh_engine.proofs.Scanning.{still_served, still_blames, still_works, still_tells}
 use Rattle.wh_engine.proofs.decision.decide_migration.Goals as goal
 
 pub returns-clause-decided : goal.returns-clause-decided
@@ -20,11 +20,11 @@ returns-clause-decided g c clean commands t held rests kind good new =
     let told : policy_told (current_policy commands) command.bytes ≡ Ok newer = found.1 ∙ ap Ok (sym found.2) in
     let taken = policy_taken (current_policy commands) command.bytes newer told in
     let read = policy_content limits commands command good new kind newer told in
-    let numbered = judged_ok (λ number next. number ≡ next) number (number_for limits commands content) (c.in-Ok.ensures.number before t rests commands held.are held.accepted content refl refl) in
+    let numbered = judged_ok (λ number next. number ≡ next) number (number_for limits commands content) (c.in-Ok.ensures.number before t rests commands held.are held.accepted content refl refl refl) in
     let room : number_for limits commands content ≡ Ok number = numbered.1 ∙ ap Ok (sym numbered.2) in
     let still = c.in-Ok.ensures.reads.spares.same before t rests tt in
     let stored = own_row limits commands command good new content read number room ∙ ap Some (sym c.in_ok-row.ensures) in
-    let edits = c.in_ok-edits.ensures.edits clean limits commands t held.are still (accepted_as command content) (list_accepted limits commands command good new content read number room held.accepted)
+    let edits = c.in_ok-edits.ensures.edits clean limits commands t held.are still held.format (accepted_as command content) (list_accepted limits commands command good new content read number room held.accepted)
     refl (policy_in_force commands held.accepted.governed ∙ ap Some (sym held.policy)) (policies_are_sound command.bytes newer taken.written) (rw held.policy taken.fit) stored in
     rw (command_accepted limits commands command good new content read number room) (refl, record { content = content; read = read; edits_are = edits; newer_is = refl })
 
@@ -37,7 +37,7 @@ returns-in-Err-clause-decided g c clean commands t held rests kind good new =
     let found = judged_ok (λ newer told. newer ≡ told) newer (policy_told (current_policy commands) command.bytes) (rw (held.policy, c.as_slice.ensures) at c.in_ok-newer.ensures.read) in
     let told : policy_told (current_policy commands) command.bytes ≡ Ok newer = found.1 ∙ ap Ok (sym found.2) in
     let read = policy_content limits commands command good new kind newer told in
-    let judged = c.in-Err.ensures.number clean t rests commands held.are held.accepted content refl refl in
+    let judged = c.in-Err.ensures.number clean t rests commands held.are held.accepted content refl refl refl in
     judged_err (λ (number next : ℕ). number ≡ next) (Decides commands command) c.in-Err.fault (number_for limits commands content) (answer limits commands command) judged
     (λ why none. number_refused limits commands command good new content why read none)
 
@@ -57,4 +57,5 @@ returns-in_err-edits-clause-reads g c =
       };
       blames = λ clean stored rests. still_blames stored came.result why came.ensures (last.named clean stored (first.rests (last.clean clean) stored rests tt));
       work = still_works came.result why came.ensures;
+      taken = still_tells _ came.result why came.ensures;
     }

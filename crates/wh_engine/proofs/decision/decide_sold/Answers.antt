@@ -17,7 +17,7 @@ returns-clause-decided g c clean commands t held rests good new read =
     let number = c.in-Ok.number in
     let content = Sells c.args.sales.now in
     let before = c.in_ok-edits.ensures.reads.clean clean in
-    let numbered = judged_ok (λ number next. number ≡ next) number (number_for limits commands content) (c.in-Ok.ensures.number before t rests commands held.are held.accepted) in
+    let numbered = judged_ok (λ number next. number ≡ next) number (number_for limits commands content) (c.in-Ok.ensures.number before t rests commands held.are held.accepted held.format) in
     let room : number_for limits commands content ≡ Ok number = numbered.1 ∙ ap Ok (sym numbered.2) in
     let still = c.in-Ok.ensures.reads.spares.same before t rests tt in
     let accepted = list_accepted limits commands command good new content read number room held.accepted in
@@ -27,7 +27,7 @@ returns-clause-decided g c clean commands t held rests good new read =
     let stored = own_row limits commands command good new content read number room
     ∙ ap (λ (n : ℕ). Some (record (row_of_command command number (length c.args.sales.now)) { placeholders = placeholders_by after n content })) next
     ∙ ap (λ (r : CommandRow). Some (record r { placeholders = placeholders_by after (suc (length commands)) content })) (sym row) in
-    let edits = c.in_ok-edits.ensures.edits clean limits commands t held.are still (accepted_as command content) accepted refl (policy_in_force commands held.accepted.governed ∙ ap Some (sym held.policy))
+    let edits = c.in_ok-edits.ensures.edits clean limits commands t held.are still held.format (accepted_as command content) accepted refl (policy_in_force commands held.accepted.governed ∙ ap Some (sym held.policy))
     (subst IsSound (sym held.policy) (sound_in_force limits commands held.accepted)) stored in
     let shown = ap (λ (e : Edits). length e.members) c.edits.view_is in
     let as_many = members_counted commands (accepted_as command content) c.args.sales.now c.in_ok-edits.edits refl edits in
@@ -41,6 +41,6 @@ returns-in-Err-clause-decided g c clean commands t held rests good new read =
     let limits = c.args.session.now.limits in
     let command = c.args.command.now in
     let content = Sells c.args.sales.now in
-    let judged = c.in-Err.ensures.number clean t rests commands held.are held.accepted in
+    let judged = c.in-Err.ensures.number clean t rests commands held.are held.accepted held.format in
     judged_err (λ (number next : ℕ). number ≡ next) (Decides commands command) c.in-Err.fault (number_for limits commands content) (answer limits commands command) judged
     (λ why none. number_refused limits commands command good new content why read none)

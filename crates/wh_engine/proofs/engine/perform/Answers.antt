@@ -1,5 +1,5 @@
 use Rattle.sqlite.specs.Held.{state}
-use Rattle.wh_engine.proofs.Performing.{held, repeat_performed, fault_performed, may_write, accept_performed, writes_counted, stop_performed}
+use Rattle.wh_engine.proofs.Performing.{held, repeat_performed, fault_performed, may_write, may_upgrade, accept_performed, writes_counted, stop_performed}
 use Rattle.wh_engine.proofs.engine.perform.Goals as goal
 
 pub returns-in-Ok-Repeat-clause-performed : goal.returns-in-Ok-Repeat-clause-performed
@@ -22,8 +22,9 @@ returns-in-Ok-clause-performed g c clean limits commands ready =
     let judged = rw c.in-Ok-Accept.field-0-is at (c.in-Ok-Accept.ensures.decided before commands ready.rests.tables is_held rests) in
     let still = c.in-Ok-Accept.ensures.reads.spares.same before ready.rests.tables rests tt in
     let may = may_write limits commands command c.args.session.now old ready c.in-Ok-Accept.receipt c.in-Ok-Accept.edits c.in-Ok-Accept.newer judged in
+    let upgrade = may_upgrade limits commands command c.args.session.now old ready c.in-Ok-Accept.receipt c.in-Ok-Accept.edits c.in-Ok-Accept.newer judged in
     rw c.govern.ensures (accept_performed limits commands command c.args.session.now old ready c.in-Ok-Accept.receipt c.in-Ok-Accept.edits c.in-Ok-Accept.newer judged new
-    (c.in-Ok.ensures.written clean ready.rests.tables still may))
+    (c.in-Ok.ensures.written clean ready.rests.tables still may upgrade))
 
 pub returns-in-Ok-clause-written : goal.returns-in-Ok-clause-written
 returns-in-Ok-clause-written g c clean limits commands ready =
@@ -45,8 +46,9 @@ returns-in-Ok-Accept-clause-performed g c clean limits commands ready =
     let judged = rw c.in-Ok-Accept.field-0-is at (c.in-Ok-Accept.ensures.decided before commands ready.rests.tables is_held rests) in
     let still = c.in-Ok-Accept.ensures.reads.spares.same before ready.rests.tables rests tt in
     let may = may_write limits commands command c.args.session.now old ready c.in-Ok-Accept.receipt c.in-Ok-Accept.edits c.in-Ok-Accept.newer judged in
+    let upgrade = may_upgrade limits commands command c.args.session.now old ready c.in-Ok-Accept.receipt c.in-Ok-Accept.edits c.in-Ok-Accept.newer judged in
     stop_performed limits commands command c.args.session.now old ready c.in-Ok-Accept.receipt c.in-Ok-Accept.edits c.in-Ok-Accept.newer judged new
-    (c.commit_edits.ensures.left clean ready.rests.tables still may)
+    (c.commit_edits.ensures.left clean ready.rests.tables still may upgrade)
 
 pub returns-clause-performed : goal.returns-clause-performed
 returns-clause-performed g c clean limits commands ready =

@@ -1,4 +1,4 @@
-use Rattle.std.proofs.Common.{◌≡◌, ◌∙◌, subst, slice_get, Some, filter, refl}
+use Rattle.std.proofs.Common.{◌≡◌, ◌∙◌, subst, slice_get, Some, filter}
 use Rattle.std.proofs.lemmas.Result.{err_from_is_err_and}
 use Rattle.std.specs.FinMap.{values}
 use Rattle.wh_store.specs.Reads.{state_of}
@@ -18,7 +18,7 @@ returns-in_err-last-clause-read g c clean t rests =
 pub returns-clause-read : goal.returns-clause-read
 returns-clause-read g c clean t rests =
     let new = state_of g.S.Store c.ask.new.self in
-    let rows : c.deref.result.now ≡ part (Some last_one) (filter (λ r. gives_policy r.kind) (values t.command)) = c.deref.ensures.value ∙ c.in_ok-last.ensures.rows clean t refl rests in
+    let rows : c.deref.result.now ≡ part (Some last_one) (filter (λ r. gives_policy r.kind) (values t.command)) = c.deref.ensures.value ∙ c.in_ok-last.ensures.rows clean t rests in
     read_of_told c.policy_of.result (of_command (last_policy_in t)) t new
     (subst (λ rows. IsTold c.policy_of.result (of_command (slice_get rows 0))) rows c.policy_of.ensures.told) c.policy_of.ensures.pure (c.in_ok-last.ensures.reads.same clean t rests tt)
 
@@ -36,8 +36,8 @@ returns-in_err-last-clause-policyless g c clean stored at =
 
 pub returns-clause-stored : goal.returns-clause-stored
 returns-clause-stored g c clean stored at =
-    policy_said stored c.in_ok-last.last.items c.policy_of.result (c.in_ok-last.ensures.stored clean stored refl at) (rw c.deref.ensures.value at c.policy_of.ensures.told)
+    policy_said stored c.in_ok-last.last.items c.policy_of.result (c.in_ok-last.ensures.stored clean stored at) (rw c.deref.ensures.value at c.policy_of.ensures.told)
 
 pub returns-clause-policyless : goal.returns-clause-policyless
 returns-clause-policyless g c clean stored at =
-    no_policy stored c.in_ok-last.last.items c.policy_of.result (c.in_ok-last.ensures.stored clean stored refl at) (rw c.deref.ensures.value at c.policy_of.ensures.told)
+    no_policy stored c.in_ok-last.last.items c.policy_of.result (c.in_ok-last.ensures.stored clean stored at) (rw c.deref.ensures.value at c.policy_of.ensures.told)

@@ -1,4 +1,4 @@
-use Rattle.wh_engine.proofs.Scanning.{still_served, still_blames, still_works}
+use Rattle.wh_engine.proofs.Scanning.{still_served, still_blames, still_works, still_tells}
 use Rattle.wh_engine.proofs.tally.tally_facts.Goals as goal
 
 pub returns-in_err-tally_facts-clause-reads : goal.returns-in_err-tally_facts-clause-reads
@@ -16,4 +16,5 @@ returns-in_err-tally_facts-clause-reads g c =
       };
       blames = λ clean stored rests. still_blames stored came.result why came.ensures (read.named clean stored rests);
       work = still_works came.result why came.ensures;
+      taken = still_tells _ came.result why came.ensures;
     }

@@ -1,14 +1,12 @@
 use Rattle.std.proofs.Common.{◌≡◌, ◌+◌, Some, subst, sym, ap, ◌∙◌, arith, rules, refl, length, length-append}
 use Rattle.std.proofs.lemmas.List.{nil_from_length}
-use Rattle.std.specs.List.{AllByRecursion}
 use Rattle.std.specs.Slice.Iter.{chunks_rest}
 use Rattle.sqlite.specs.Held.{state}
 use Rattle.wh_rows.specs.AtRest.{IsWriting}
 use Rattle.wh_rows.specs.Tables.{Tables as TenTables}
-use Rattle.wh_rows.specs.Steps.{after_all}
-use Rattle.wh_plan.specs.Edits.{with_fact_edit}
 use Rattle.wh_plan.specs.Writable.{IsValidFactEdit}
-use Rattle.wh_engine.proofs.PutFacts.{in_parts, all_parts}
+use Rattle.wh_engine.specs.Writing.{AreValidFactEdits, with_fact_edits}
+use Rattle.wh_engine.proofs.PutFacts.{put_none, parts_put, all_parts}
 use Rattle.wh_engine.proofs.write.edit_all_facts.Goals as goal
 
 pub loop-part-init : goal.loop-part-init
@@ -25,8 +23,8 @@ loop-part-init g c =
       put = λ clean before made at may. (
         made,
         at,
-        subst (AllByRecursion IsValidFactEdit) (sym rest) may,
-        ap (λ es. record made { fact = after_all with_fact_edit es made.fact }) rest,
+        subst (AreValidFactEdits c.args.format) (sym rest) may,
+        ap (λ es. with_fact_edits c.args.format es made) rest,
       );
     }
 
@@ -39,7 +37,7 @@ returns-in_err-edit_facts_at_once-clause-writes g c =
       counts = omega (arith, kept.counts, c.edit_facts_at_once.ensures.writes.counts);
       left = λ clean before made at may.
           let was = kept.put (c.edit_facts_at_once.ensures.writes.clean clean) before made at may in
-          let parts = all_parts IsValidFactEdit c.in-Some.part.now (chunks_rest c.next.new.self) (subst (AllByRecursion IsValidFactEdit) steps.1.0 was.2) in
+          let parts = all_parts (IsValidFactEdit c.args.format) c.in-Some.part.now (chunks_rest c.next.new.self) (subst (AreValidFactEdits c.args.format) steps.1.0 was.2) in
           c.edit_facts_at_once.ensures.writes.left clean before was.0 was.1 parts.0;
     }
 
@@ -49,6 +47,7 @@ loop-part-preserved g c =
     let steps = c.in-Some.ensures.steps in
     let part = c.in-Some.part.now in
     let rest = chunks_rest c.next.new.self in
+    let format = c.args.format in
     record {
       can_next = search rules;
       is_finite = tt;
@@ -60,10 +59,10 @@ loop-part-preserved g c =
       put = λ clean before made at may.
           let was = kept.put (c.edit_facts_at_once.ensures.writes.clean clean) before made at may in
           let mid = was.0 in
-          let parts = all_parts IsValidFactEdit part rest (subst (AllByRecursion IsValidFactEdit) steps.1.0 was.2) in
-          let now : TenTables = record mid { fact = after_all with_fact_edit part mid.fact } in
-          let leads : ◌≡◌ {A = TenTables} (record mid { fact = after_all with_fact_edit (chunks_rest c.loop-part.part-iterator) mid.fact }) (record mid { fact = after_all with_fact_edit rest (after_all with_fact_edit part mid.fact) }) =
-          ap (λ facts. record mid { fact = facts }) (ap (λ es. after_all with_fact_edit es mid.fact) steps.1.0 ∙ in_parts with_fact_edit part rest mid.fact) in
+          let parts = all_parts (IsValidFactEdit format) part rest (subst (AreValidFactEdits format) steps.1.0 was.2) in
+          let now : TenTables = with_fact_edits format part mid in
+          let leads : with_fact_edits format (chunks_rest c.loop-part.part-iterator) mid ≡ with_fact_edits format rest now =
+          ap (λ es. with_fact_edits format es mid) steps.1.0 ∙ parts_put format part rest mid in
           (now, c.in_ok-edit_facts_at_once.ensures.edited clean before mid was.1 parts.0, parts.1, sym leads ∙ was.3);
     }
 
@@ -71,7 +70,8 @@ pub returns-clause-edited : goal.returns-clause-edited
 returns-clause-edited g c clean before made at may =
     let was = c.loop-part.invariant.put clean before made at may in
     let none = nil_from_length _ c.in-None.ensures.steps.1.0 in
-    subst (λ all. IsWriting before (Some all) (state g.S.Store c.loop-part.writing.tables.now.conn)) (rw none at was.3) was.1
+    let ends = ap (λ es. with_fact_edits c.args.format es was.0) none in
+    subst (λ all. IsWriting before (Some all) (state g.S.Store c.loop-part.writing.tables.now.conn)) (sym (put_none c.args.format was.0) ∙ sym ends ∙ was.3) was.1
 
 pub returns-clause-counted : goal.returns-clause-counted
 returns-clause-counted g c = omega (arith, c.loop-part.invariant.counted, c.in-None.ensures.steps.1.0)

@@ -1,12 +1,8 @@
 use Rattle.std.proofs.Common.{Some, subst, ◌∙◌, arith}
 use Rattle.sqlite.specs.Held.{state}
 use Rattle.wh_rows.specs.AtRest.{IsWriting}
-use Rattle.wh_rows.specs.Rows as row
-use Rattle.wh_rows.proofs.Places.{fact as place}
-use Rattle.wh_store.proofs.Looping.{next_is, next_may, next_way, way_ends}
-use Rattle.wh_plan.specs.Edits.{with_fact_edit}
-use Rattle.wh_plan.specs.Writable.{IsValidFactEdit}
-use Rattle.wh_engine.proofs.write.edit_each_fact.Invariants.{facts_in, with_facts_in}
+use Rattle.wh_store.proofs.Looping.{next_is}
+use Rattle.wh_engine.proofs.PutFacts.{next_may, next_way, way_ends}
 use Rattle.wh_engine.proofs.write.edit_each_fact.Goals as goal
 
 pub returns-in_err-edit_fact-clause-writes : goal.returns-in_err-edit_fact-clause-writes
@@ -27,14 +23,14 @@ loop-edit-preserved g c =
       put = λ clean before made at may.
           let was = kept.put (c.edit_fact.ensures.writes.clean clean) before made at may in
           let next = next_is c.args.edits.now c.loop-edit.edit-index c.edit-item.result c.loop-edit-test.true c.edit-item.is in
-          let one = next_may row.fact with_fact_edit IsValidFactEdit facts_in with_facts_in place c.args.edits.now c.loop-edit.edit-index c.edit-item.result was.0 _ next was.2 in
-          (_, c.in_ok-edit_fact.ensures.edited clean before was.0 was.1 one, next_way row.fact with_fact_edit IsValidFactEdit facts_in with_facts_in place c.args.edits.now c.loop-edit.edit-index c.edit-item.result was.0 _ next was.2);
+          let one = next_may c.args.edits.now c.loop-edit.edit-index c.edit-item.result was.0 _ next c.args.format was.2 in
+          (_, c.in_ok-edit_fact.ensures.edited clean before was.0 was.1 one, next_way c.args.edits.now c.loop-edit.edit-index c.edit-item.result was.0 _ next c.args.format was.2);
     }
 
 pub returns-clause-edited : goal.returns-clause-edited
 returns-clause-edited g c clean before made at may =
     let was = c.loop-edit.invariant.put clean before made at may in
-    subst (λ all. IsWriting before (Some all) (state g.S.Store c.loop-edit.writing.tables.now.conn)) (way_ends row.fact with_fact_edit IsValidFactEdit facts_in with_facts_in place c.args.edits.now c.loop-edit.edit-index was.0 _ c.loop-edit-test.false was.2) was.1
+    subst (λ all. IsWriting before (Some all) (state g.S.Store c.loop-edit.writing.tables.now.conn)) (way_ends c.args.format c.args.edits.now c.loop-edit.edit-index was.0 _ c.loop-edit-test.false was.2) was.1
 
 pub returns-clause-writes : goal.returns-clause-writes
 returns-clause-writes g c = record {

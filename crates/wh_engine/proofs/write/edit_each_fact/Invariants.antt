@@ -1,23 +1,11 @@
 use Rattle.std.proofs.Common.{◌≡◌, ◌+◌, ◌≤◌, Option, Some, drop}
-use Rattle.std.specs.FinMap.{FinMap}
-use Rattle.std.specs.List.{AllByRecursion}
 use Rattle.sqlite.specs.Held.{state}
 use Rattle.sqlite.specs.State.{HasCleanDisk}
-use Rattle.wh_history.specs.declared.facts.Fact.{Fact}
 use Rattle.wh_rows.specs.AtRest.{IsWriting}
-use Rattle.wh_rows.specs.Rows as row
 use Rattle.wh_rows.specs.Tables.{Tables as TenTables}
-use Rattle.wh_rows.specs.Steps.{after_all}
-use Rattle.wh_store.proofs.Looping.{IsOnTheWay}
-use Rattle.wh_plan.specs.Edits.{with_fact_edit}
-use Rattle.wh_plan.specs.Writable.{IsValidFactEdit}
+use Rattle.wh_engine.specs.Writing.{AreValidFactEdits, with_fact_edits}
+use Rattle.wh_engine.proofs.PutFacts.{IsOnItsWay}
 use Rattle.wh_engine.proofs.write.edit_each_fact.Given as goal
-
-abbrev pub facts_in : TenTables → FinMap row.fact.order Fact
-facts_in t = t.fact
-
-abbrev pub with_facts_in : FinMap row.fact.order Fact → TenTables → TenTables
-with_facts_in facts t = record t { fact = facts }
 
 abbrev pub invariant-loop-edit : goal.invariant-loop-edit
 invariant-loop-edit g l =
@@ -28,6 +16,6 @@ invariant-loop-edit g l =
       clean : HasCleanDisk now → HasCleanDisk old;
       counts : old.faults ≤ now.faults;
       counted : l.writing.writes ≡ l.fn.writing.writes + l.edit-index;
-      put : HasCleanDisk now → (before : Option TenTables) (made : TenTables) → IsWriting before (Some made) old → AllByRecursion IsValidFactEdit l.edits
-          → (mid : TenTables) × IsWriting before (Some mid) now × IsOnTheWay with_fact_edit IsValidFactEdit facts_in with_facts_in (drop l.edit-index l.edits) mid (with_facts_in (after_all with_fact_edit l.edits (facts_in made)) made);
+      put : HasCleanDisk now → (before : Option TenTables) (made : TenTables) → IsWriting before (Some made) old → AreValidFactEdits l.fn.format l.edits
+          → (mid : TenTables) × IsWriting before (Some mid) now × IsOnItsWay l.fn.format (drop l.edit-index l.edits) mid (with_fact_edits l.fn.format l.edits made);
     }

@@ -27,19 +27,8 @@ returns-in_err-edit_all-2-clause-writes g c = record {
       left clean before _ (edited one before made at valid.profiles) valid.calendar;
 }
 
-pub returns-clause-edited : goal.returns-clause-edited
-returns-clause-edited g c clean before made at may =
-    let valid = subst AreValidFacts (sym c.edits.view_is) may in
-    let edited_1 = rw c.deref.ensures.value at c.in_ok-edit_all.ensures.edited in
-    let edited_2 = rw c.deref-2.ensures.value at c.in_ok-edit_all-2.ensures.edited in
-    let edited_3 = rw c.deref-3.ensures.value at c.edit_all_facts.ensures.edited in
-    let two = c.edit_all_facts.ensures.writes.clean clean in
-    let one = c.edit_all-2.ensures.writes.clean two in
-    subst (λ e. OnOk c.edit_all_facts.result (IsWriting before (Some (with_facts e made)) (state g.S.Store c.edit_all_facts.new.writing.tables.now.conn))) c.edits.view_is
-    (edited_3 clean before _ (edited_2 two before _ (edited_1 one before made at valid.profiles) valid.calendar) valid.facts)
-
-pub returns-clause-writes : goal.returns-clause-writes
-returns-clause-writes g c = record {
+pub returns-in_err-edit_all_facts-clause-writes : goal.returns-in_err-edit_all_facts-clause-writes
+returns-in_err-edit_all_facts-clause-writes g c = record {
   clean = λ clean. c.edit_all.ensures.writes.clean (c.edit_all-2.ensures.writes.clean (c.edit_all_facts.ensures.writes.clean clean));
   counts = omega (arith, c.edit_all.ensures.writes.counts, c.edit_all-2.ensures.writes.counts, c.edit_all_facts.ensures.writes.counts);
   left = λ clean before made at may.
@@ -50,4 +39,33 @@ returns-clause-writes g c = record {
       let two = c.edit_all_facts.ensures.writes.clean clean in
       let one = c.edit_all-2.ensures.writes.clean two in
       left clean before _ (edited_2 two before _ (edited_1 one before made at valid.profiles) valid.calendar) valid.facts;
+}
+
+pub returns-clause-edited : goal.returns-clause-edited
+returns-clause-edited g c clean before made at may =
+    let valid = subst AreValidFacts (sym c.edits.view_is) may in
+    let edited_1 = rw c.deref.ensures.value at c.in_ok-edit_all.ensures.edited in
+    let edited_2 = rw c.deref-2.ensures.value at c.in_ok-edit_all-2.ensures.edited in
+    let edited_3 = rw c.deref-3.ensures.value at c.in_ok-edit_all_facts.ensures.edited in
+    let edited_4 = rw c.deref-4.ensures.value at c.edit_all_facts-2.ensures.edited in
+    let three = c.edit_all_facts-2.ensures.writes.clean clean in
+    let two = c.edit_all_facts.ensures.writes.clean three in
+    let one = c.edit_all-2.ensures.writes.clean two in
+    subst (λ e. OnOk c.edit_all_facts-2.result (IsWriting before (Some (with_facts e made)) (state g.S.Store c.edit_all_facts-2.new.writing.tables.now.conn))) c.edits.view_is
+    (edited_4 clean before _ (edited_3 three before _ (edited_2 two before _ (edited_1 one before made at valid.profiles) valid.calendar) valid.facts) valid.facts2)
+
+pub returns-clause-writes : goal.returns-clause-writes
+returns-clause-writes g c = record {
+  clean = λ clean. c.edit_all.ensures.writes.clean (c.edit_all-2.ensures.writes.clean (c.edit_all_facts.ensures.writes.clean (c.edit_all_facts-2.ensures.writes.clean clean)));
+  counts = omega (arith, c.edit_all.ensures.writes.counts, c.edit_all-2.ensures.writes.counts, c.edit_all_facts.ensures.writes.counts, c.edit_all_facts-2.ensures.writes.counts);
+  left = λ clean before made at may.
+      let valid = subst AreValidFacts (sym c.edits.view_is) may in
+      let edited_1 = rw c.deref.ensures.value at c.in_ok-edit_all.ensures.edited in
+      let edited_2 = rw c.deref-2.ensures.value at c.in_ok-edit_all-2.ensures.edited in
+      let edited_3 = rw c.deref-3.ensures.value at c.in_ok-edit_all_facts.ensures.edited in
+      let left = rw c.deref-4.ensures.value at c.edit_all_facts-2.ensures.writes.left in
+      let three = c.edit_all_facts-2.ensures.writes.clean clean in
+      let two = c.edit_all_facts.ensures.writes.clean three in
+      let one = c.edit_all-2.ensures.writes.clean two in
+      left clean before _ (edited_3 three before _ (edited_2 two before _ (edited_1 one before made at valid.profiles) valid.calendar) valid.facts) valid.facts2;
 }

@@ -1,4 +1,4 @@
-use Rattle.std.proofs.Common.{◌≡◌, sym, ◌∙◌, Some, refl}
+use Rattle.std.proofs.Common.{◌≡◌, sym, ◌∙◌, Some}
 use Rattle.wh_model.specs.Defined.{member_at}
 use Rattle.wh_migration.proofs.AllMembers.{member_there, number_given, number_is}
 use Rattle.wh_plan.proofs.FoundMembers.{key_of}
@@ -8,7 +8,7 @@ pub returns-in_ok-stored_changes-in-Some-clause-member : goal.returns-in_ok-stor
 returns-in_ok-stored_changes-in-Some-clause-member g c clean limits commands t are at full =
     let before = c.stored_changes.ensures.reads.clean clean in
     let row = c.in-Some.row in
-    let is : member_at commands (key_of c.args.dim c.args.durable) ≡ Some row = sym (are.member (key_of c.args.dim c.args.durable)) ∙ sym (c.in_ok-found.ensures.row before t refl at) ∙ c.in-Some.is in
+    let is : member_at commands (key_of c.args.dim c.args.durable) ≡ Some row = sym (are.member (key_of c.args.dim c.args.durable)) ∙ sym (c.in_ok-found.ensures.row before t at) ∙ c.in-Some.is in
     let still = c.in_ok-found.ensures.reads.same before t at tt in
     let given = number_given c.args.dim commands c.args.durable row is in
     let number = number_is c.args.dim commands c.args.durable row is in

@@ -4,7 +4,7 @@ use Rattle.wh_plan.proofs.PlanPremises.{days_after}
 use Rattle.wh_migration.proofs.migrated.migrated_tables.Goals as goal
 
 pub returns-clause-edits : goal.returns-clause-edits
-returns-clause-edits g c clean limits commands t are at d ok governs members known =
+returns-clause-edits g c clean limits commands t are at format d ok governs members known =
     let after = commands ++ d ∷ [] in
     let ends = days_after limits commands d ok in
     let third = c.in_ok-facts.ensures.reads.clean clean in
@@ -17,5 +17,5 @@ returns-clause-edits g c clean limits commands t are at d ok governs members kno
       products = c.in_ok-products.ensures.edits first limits commands t are at Product after ends members.products known;
       stores = c.in_ok-stores.ensures.edits second limits commands t are at_first Store after ends members.stores known;
       customers = c.in_ok-customers.ensures.edits third limits commands t are at_second Customer after ends members.customers known;
-      facts = c.in_ok-facts.ensures.edits clean limits commands t are at_third d governs members known;
+      facts = c.in_ok-facts.ensures.edits clean limits commands t are at_third format d governs members known;
     }

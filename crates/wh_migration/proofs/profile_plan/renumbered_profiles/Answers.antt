@@ -1,4 +1,4 @@
-use Rattle.std.proofs.Common.{◌≡◌, ◌++◌, ◌∷◌, [], ◌∙◌, sym, ap, subst, refl}
+use Rattle.std.proofs.Common.{◌≡◌, ◌++◌, ◌∷◌, [], ◌∙◌, sym, ap, subst}
 use Rattle.wh_history.specs.Accepted.{profiles_of}
 use Rattle.wh_history.specs.Known.{all_numbered}
 use Rattle.wh_rows.specs.Rows as row
@@ -17,7 +17,7 @@ returns-clause-renumbered g c clean limits commands t are at migration accepted 
     let before = c.in_ok-stored.ensures.reads.clean clean in
     let told : combinations ≡ profiles_of after = c.deref.ensures.value ∙ c.in_ok-combinations.ensures.combinations before limits commands t are at (values_before limits commands migration accepted) ∙ combinations_after commands migration gives kinds typed in
     let still = c.in_ok-combinations.ensures.reads.same before t at tt in
-    let stored = c.deref-2.ensures.value ∙ c.in_ok-stored.ensures.rows clean t refl still in
+    let stored = c.deref-2.ensures.value ∙ c.in_ok-stored.ensures.rows clean t still in
     let rows = c.deref-3.ensures.value ∙ c.in_ok-rows.ensures.0 in
     let edits = c.in_ok-edits.ensures ∙ ap (λ old. edits_of_profiles old c.deref-3.result.now) stored ∙ ap (edits_of_profiles _) rows in
     record {

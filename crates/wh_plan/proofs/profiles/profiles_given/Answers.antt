@@ -1,4 +1,4 @@
-use Rattle.std.proofs.Common.{◌≡◌, length, arith, ◌∙◌, ap, None, Some, refl}
+use Rattle.std.proofs.Common.{◌≡◌, length, arith, ◌∙◌, ap, None, Some}
 use Rattle.std.specs.Prelude.{vec_len}
 use Rattle.wh_history.proofs.Basics.{some_is}
 use Rattle.wh_rows.specs.declared.rows.ProfileRow.{ProfileRow}
@@ -11,7 +11,7 @@ returns-in-Some-clause-given g c clean limits commands t are at few =
     let found = c.in_ok-found.found in
     let len : vec_len found ≡ length found.items = omega arith in
     let last = last_profile limits commands t are in
-    let popped : Some c.in-Some.row ≡ Some last.0 = last_is (Some last.0) (Some c.in-Some.row) found.items c.pop.new.self.items (vec_len found) len (c.in_ok-found.ensures.rows clean t refl at ∙ last.1) c.in-Some.ensures.items c.in-Some.ensures.variant in
+    let popped : Some c.in-Some.row ≡ Some last.0 = last_is (Some last.0) (Some c.in-Some.row) found.items c.pop.new.self.items (vec_len found) len (c.in_ok-found.ensures.rows clean t at ∙ last.1) c.in-Some.ensures.items c.in-Some.ensures.variant in
     let number = ap (λ (r : ProfileRow). r.number) (some_is _ _ popped) ∙ last.2 in
     let least = c.min.ensures in
     omega arith
@@ -21,5 +21,5 @@ returns-clause-given g c clean limits commands t are at few =
     let found = c.in_ok-found.found in
     let len : vec_len found ≡ length found.items = omega arith in
     let last = last_profile limits commands t are in
-    let popped : None ≡ Some last.0 = last_is (Some last.0) None found.items c.pop.new.self.items (vec_len found) len (c.in_ok-found.ensures.rows clean t refl at ∙ last.1) c.in-None.ensures.items c.in-None.ensures.variant in
+    let popped : None ≡ Some last.0 = last_is (Some last.0) None found.items c.pop.new.self.items (vec_len found) len (c.in_ok-found.ensures.rows clean t at ∙ last.1) c.in-None.ensures.items c.in-None.ensures.variant in
     absurd cc

@@ -1,4 +1,4 @@
-use Rattle.std.proofs.Common.{◌≡◌, length, filter, arith, ◌∙◌, refl}
+use Rattle.std.proofs.Common.{◌≡◌, length, filter, arith, ◌∙◌}
 use Rattle.std.specs.Prelude.{vec_len}
 use Rattle.wh_sql.proofs.Reading.{last_is}
 use Rattle.wh_plan.specs.Reading.{command_with}
@@ -14,11 +14,11 @@ returns-clause-command g c clean limits commands t are at distinct =
     let found = c.in_ok-found.found in
     let len : vec_len found ≡ length found.items = omega arith in
     last_is (command_with commands c.args.id.now) c.pop.result found.items c.pop.new.self.items (vec_len found) len
-    (c.in_ok-found.ensures.rows clean t refl at ∙ command_of limits commands t are distinct c.args.id.now) c.pop.ensures.items c.pop.ensures.variant
+    (c.in_ok-found.ensures.rows clean t at ∙ command_of limits commands t are distinct c.args.id.now) c.pop.ensures.items c.pop.ensures.variant
 
 pub returns-clause-stored : goal.returns-clause-stored
 returns-clause-stored g c clean stored rests =
     let found = c.in_ok-found.found in
     let len : vec_len found ≡ length found.items = omega arith in
     last_found layout.command (filter (has_id c.args.id.now) (stored.rows table.Command)) c.pop.result found.items c.pop.new.self.items (vec_len found) len c.pop.ensures.items c.pop.ensures.variant
-    (c.in_ok-found.ensures.stored clean stored refl rests)
+    (c.in_ok-found.ensures.stored clean stored rests)

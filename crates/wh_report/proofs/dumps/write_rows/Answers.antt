@@ -3,6 +3,7 @@ use Rattle.std.specs.Prelude.{Err}
 use Rattle.std.proofs.lemmas.Result.{err_from_is_err_and}
 use Rattle.wh_rows.specs.Names.{is_there}
 use Rattle.wh_engine.specs.declared.fault.Fault.TheVariants as faults
+use Rattle.wh_engine.specs.declared.session.Session.{Session}
 use Rattle.wh_report.specs.Dump.{header_line, row_line}
 use Rattle.wh_report.specs.Output.{IsOutWhole, IsOutBefore}
 use Rattle.wh_report.proofs.Arranged.{seen_none, seen_one, seen_all, seen_some, row_hands, none_hands, left_there, valid_hands, none_ahead}
@@ -16,7 +17,6 @@ rows-init g c =
     let layout = g.T.StoredTable.layout in
     record {
       reads = unread _ _ tt;
-      same_format = refl;
       writes = search rules;
       gone = λ gathered. record {
         done = [];
@@ -34,7 +34,6 @@ rows-preserved g c =
     let row = c.in-Ok-Some.row in
     record {
       reads = handed_out _ _ _ _ _ _ _ c.in-Ok-Some.field-0 kept.reads (through g.S.Store _ _ _ read.reads read.serves);
-      same_format = read.hands.same_format ∙ kept.same_format;
       writes = read.reads.writes ∙ kept.writes;
       gone = λ gathered.
           let it = kept.gone gathered in
@@ -43,10 +42,10 @@ rows-preserved g c =
             going = row_added (header_line layout) (row_line layout) _ _ _ _ _ it.done row c.in_ok-write_row-in-Ok-Some.field-0 it.going (c.in_ok-write_row-in-Ok-Some.ensures.out it.going.rest it.going.gathered);
             typed = λ clean t same at.
                 let before = read.reads.spares.clean clean in
-                one_more it.done _ _ _ row (row_handed _ _ _ row c.in-Ok-Some.field-0-is (read.hands.rows clean t (same ∙ sym (ap (is_there g.T.KeyedTable.name) kept.same_format)) (kept.reads.spares.same before t at tt))) (it.typed before t same at);
+                one_more it.done _ _ _ row (row_handed _ _ _ row c.in-Ok-Some.field-0-is (read.hands.rows clean t (same ∙ sym (ap (λ (s : Session). is_there g.T.KeyedTable.name s.format) kept.reads.noted)) (kept.reads.spares.same before t at tt))) (it.typed before t same at);
             stored = λ clean stored same on.
                 let before = read.reads.spares.clean clean in
-                let there = same ∙ sym (ap (is_there g.T.KeyedTable.name) kept.same_format) in
+                let there = same ∙ sym (ap (λ (s : Session). is_there g.T.KeyedTable.name s.format) kept.reads.noted) in
                 let rests = kept.reads.spares.rests before stored on tt in
                 let seen = it.stored before stored same on in
                 let good = valid_hands _ _ _ row c.in-Ok-Some.field-0-is (read.hands.valid clean stored there rests seen.1) in
@@ -68,7 +67,7 @@ returns-in_err-write_row-in-Ok-Some-clause-out g c gathered unflagged clean t sa
     let failed = c.in_err-write_row-in-Ok-Some in
     let before = read.reads.spares.clean clean in
     let it = kept.gone gathered in
-    let left = row_handed _ _ _ c.in-Ok-Some.row c.in-Ok-Some.field-0-is (read.hands.rows clean t (same ∙ sym (ap (is_there g.T.KeyedTable.name) kept.same_format)) (kept.reads.spares.same before t at tt)) in
+    let left = row_handed _ _ _ c.in-Ok-Some.row c.in-Ok-Some.field-0-is (read.hands.rows clean t (same ∙ sym (ap (λ (s : Session). is_there g.T.KeyedTable.name s.format) kept.reads.noted)) (kept.reads.spares.same before t at tt)) in
     let all = ap (λ rows. it.done ++ rows) (sym left) ∙ it.typed before t same at in
     let p = err_from_is_err_and c.from_residual.result c.from_residual.ensures.1 in
     rw (p.1, p.2) (lines_for (header_line layout) (row_line layout) (Err failed.field-0.0) (g.W.Write.contents c.args.out.now) (g.W.Write.contents c.write_row.new.out) _ _ all
@@ -83,7 +82,7 @@ returns-in_err-write_row-in-Ok-Some-clause-stored g c gathered unflagged clean s
     let failed = c.in_err-write_row-in-Ok-Some in
     let row = c.in-Ok-Some.row in
     let before = read.reads.spares.clean clean in
-    let there = same ∙ sym (ap (is_there g.T.KeyedTable.name) kept.same_format) in
+    let there = same ∙ sym (ap (λ (s : Session). is_there g.T.KeyedTable.name s.format) kept.reads.noted) in
     let rests = kept.reads.spares.rests before stored on tt in
     let it = kept.gone gathered in
     let seen = it.stored before stored same on in
@@ -108,7 +107,7 @@ returns-in-Ok-None-clause-out g c gathered unflagged clean t same at =
     let read = c.in-Ok-None.ensures in
     let before = read.reads.spares.clean clean in
     let it = kept.gone gathered in
-    let none = none_handed _ _ _ c.in-Ok-None.field-0-is (read.hands.rows clean t (same ∙ sym (ap (is_there g.T.KeyedTable.name) kept.same_format)) (kept.reads.spares.same before t at tt)) in
+    let none = none_handed _ _ _ c.in-Ok-None.field-0-is (read.hands.rows clean t (same ∙ sym (ap (λ (s : Session). is_there g.T.KeyedTable.name s.format) kept.reads.noted)) (kept.reads.spares.same before t at tt)) in
     let all = sym (append-nil it.done) ∙ ap (λ rows. it.done ++ rows) (sym none) ∙ it.typed before t same at in
     lines_for (header_line layout) (row_line layout) _ _ _ _ _ all
     (last_out (header_line layout) (row_line layout) _ _ _ _ it.done c.go_out.result it.going (subst (IsOutWhole c.go_out.result _ _) it.going.gathered.lines c.go_out.ensures.out))
@@ -120,7 +119,7 @@ returns-in-Ok-None-clause-stored g c gathered unflagged clean stored same on =
     let kept = c.rows.invariant in
     let read = c.in-Ok-None.ensures in
     let before = read.reads.spares.clean clean in
-    let there = same ∙ sym (ap (is_there g.T.KeyedTable.name) kept.same_format) in
+    let there = same ∙ sym (ap (λ (s : Session). is_there g.T.KeyedTable.name s.format) kept.reads.noted) in
     let rests = kept.reads.spares.rests before stored on tt in
     let it = kept.gone gathered in
     let seen = it.stored before stored same on in

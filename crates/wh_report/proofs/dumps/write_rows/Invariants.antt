@@ -14,10 +14,9 @@ use Rattle.wh_report.proofs.dumps.write_rows.Given as goal
 abbrev pub invariant-rows : goal.invariant-rows
 invariant-rows g l = record {
   reads : ReadsThrough {A = Unit {0}} l.fn.engine.session l.engine.session (state_of g.S.Store l.fn.engine.tables) (state_of g.S.Store l.engine.tables) (Ok tt);
-  same_format : l.engine.tables.format ≡ l.fn.engine.tables.format;
   writes : l.engine.writes ≡ l.fn.engine.writes;
   gone : Gathers l.fn.part (header_line g.T.StoredTable.layout) → HasGone (header_line g.T.StoredTable.layout) (row_line g.T.StoredTable.layout)
-      (λ done. SaysInFormat g.S.Store g.T.KeyedTable.name l.fn.engine.tables l.engine.tables (λ t. done ++ rows_left g.T.StoredTable.layout (g.T.StoredTable.rows t) l.cursor ≡ values (g.T.StoredTable.rows t)))
-      (λ done. SaysAsStoredIn g.S.Store g.T.KeyedTable.name l.fn.engine.tables l.engine.tables (λ stored. HasSeen g.T.StoredTable.layout (stored.rows g.T.KeyedTable.name) (AreLeft g.T.StoredTable.layout g.T.KeyedTable.bind (stored.rows g.T.KeyedTable.name) l.cursor) done × AreValid g.T.StoredTable.layout l.cursor))
+      (λ done. SaysInFormat g.S.Store g.T.KeyedTable.name l.fn.engine.session.format l.fn.engine.tables l.engine.tables (λ t. done ++ rows_left g.T.StoredTable.layout (g.T.StoredTable.rows t) l.cursor ≡ values (g.T.StoredTable.rows t)))
+      (λ done. SaysAsStoredIn g.S.Store g.T.KeyedTable.name l.fn.engine.session.format l.fn.engine.tables l.engine.tables (λ stored. HasSeen g.T.StoredTable.layout (stored.rows g.T.KeyedTable.name) (AreLeft g.T.StoredTable.layout g.T.KeyedTable.bind (stored.rows g.T.KeyedTable.name) l.cursor) done × AreValid g.T.StoredTable.layout l.cursor))
       l.part (g.W.Write.contents l.fn.out) (g.W.Write.contents l.out);
 }

@@ -22,12 +22,12 @@ returns-clause-only g c = only_flagged _ _ _ _ _ c.report_over.ensures.reads
 pub returns-clause-tables : goal.returns-clause-tables
 returns-clause-tables g c clean t at subject which names shows =
     let asked : column_asked c.args.engine.now.session.policy c.args.request.now ≡ Some c.in-Some.column = ap (λ (p : Policy). column_asked p c.args.request.now) (sym c.policy.ensures) ∙ sym c.column_asked.ensures ∙ c.in-Some.is in
-    subst (λ (column : LabelColumn). ReportsTables c.args.request.now column t c.report_over.result) (column_is c.args.engine.now.session.policy c.args.request.now c.in-Some.column subject which asked names shows) (c.report_over.ensures.tables clean t at)
+    subst (λ (column : LabelColumn). ReportsTables c.args.engine.now.session.format c.args.request.now column t c.report_over.result) (column_is c.args.engine.now.session.policy c.args.request.now c.in-Some.column subject which asked names shows) (c.report_over.ensures.tables clean t at)
 
 pub returns-clause-stored : goal.returns-clause-stored
 returns-clause-stored g c clean stored on subject which names shows =
     let asked : column_asked c.args.engine.now.session.policy c.args.request.now ≡ Some c.in-Some.column = ap (λ (p : Policy). column_asked p c.args.request.now) (sym c.policy.ensures) ∙ sym c.column_asked.ensures ∙ c.in-Some.is in
-    subst (λ (column : LabelColumn). ReportsStored c.args.request.now column stored c.report_over.result) (column_is c.args.engine.now.session.policy c.args.request.now c.in-Some.column subject which asked names shows) (c.report_over.ensures.stored clean stored on)
+    subst (λ (column : LabelColumn). ReportsStored c.args.engine.now.session.format c.args.request.now column stored c.report_over.result) (column_is c.args.engine.now.session.policy c.args.request.now c.in-Some.column subject which asked names shows) (c.report_over.ensures.stored clean stored on)
 
 pub returns-clause-reported : goal.returns-clause-reported
 returns-clause-reported g c clean limits commands ready =

@@ -1,4 +1,6 @@
+use Rattle.std.proofs.Common.{ap}
 use Rattle.sqlite.specs.Held.{state}
+use Rattle.wh_engine.specs.declared.session.Session.{Session}
 use Rattle.wh_engine.proofs.FoundCounts.{counted}
 use Rattle.wh_admission.proofs.Admitted.{admitted_sound}
 use Rattle.wh_engine.proofs.Scanning.{read, shut}
@@ -17,4 +19,4 @@ returns-clause-counted g c clean limits commands ready =
     let t = ready.rests.tables in
     let rests = ready.rests.rests in
     rw c.stops-self.ensures (counted limits commands c.args.self.now.session old new ready c.counts_of-counts.result
-    (c.counts_of-counts.ensures.counts clean t rests limits commands ready.rests.are (admitted_sound limits commands ready.admitted)) (c.counts_of-counts.ensures.reads.spares.same clean t rests) (c.counts_of-counts.ensures.reads.spares.left clean t rests))
+    (c.counts_of-counts.ensures.counts clean t rests limits commands ready.rests.are (admitted_sound limits commands ready.admitted) (ap (λ (s : Session). s.format) ready.session_is)) (c.counts_of-counts.ensures.reads.spares.same clean t rests) (c.counts_of-counts.ensures.reads.spares.left clean t rests))

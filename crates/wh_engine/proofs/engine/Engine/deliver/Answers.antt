@@ -3,10 +3,10 @@ use Rattle.std.proofs.lemmas.Grind.{common_steps}
 use Rattle.std.proofs.lemmas.List.{take_more, take-append-drop}
 use Rattle.sqlite.specs.Held.{state}
 use Rattle.wh_admission.specs.Admission.{accepted_after_all}
-use Rattle.wh_engine.specs.Answered.{IsReady, IsAnswered, IsGoverned, KeepsNothing, IsNotAccepted, IsWritten}
-use Rattle.wh_engine.specs.Delivered.{answers_to, answer_or_stop, as_called, AcceptNothing, AreGoverned, IsLastWritten}
+use Rattle.wh_engine.specs.Answered.{IsReady, IsAnswered, IsGoverned, IsFormatted, KeepsNothing, IsNotAccepted, IsWritten}
+use Rattle.wh_engine.specs.Delivered.{answers_to, answer_or_stop, as_called, AcceptNothing, AreLed, IsLastWritten}
 use Rattle.wh_engine.proofs.Keeping.{keeps_on, keeps_where}
-use Rattle.wh_engine.proofs.Delivering.{deliveries_join, answers_join, goes_on, not_stopped, keeps, keeps_at_stop, stop_is, stopped_at, nothing_before, called, last_written, policy_stays, governed_on, governed_among, flag_at_stop, many_at_stop}
+use Rattle.wh_engine.proofs.Delivering.{deliveries_join, answers_join, goes_on, not_stopped, keeps, keeps_at_stop, stop_is, stopped_at, nothing_before, called, last_written, policy_stays, led_on, led_among, flag_at_stop, many_at_stop}
 use Rattle.wh_engine.specs.Faults.{stops}
 use Rattle.wh_engine.proofs.engine.Engine.deliver.Goals as goal
 
@@ -66,12 +66,16 @@ returns-in-Err-clause-noted g c off =
     let stop = stop_is c.apply-answered.result fault (sym c.in-Err.ensures) in
     let stays : c.apply-answered.new.self.session.policy ≡ c.loop-command.self.session.policy =
     subst (IsGoverned c.loop-command.self.session.policy c.apply-answered.new.self.session.policy command) stop noted.policy in
+    let same_format : c.apply-answered.new.self.session.format ≡ c.loop-command.self.session.format =
+    subst (IsFormatted c.loop-command.self.session.format c.apply-answered.new.self.session.format command) stop noted.format in
     record {
       flag = noted.flag ∙ ap stops stop ∙ flag_at_stop fault;
       limits = noted.limits ∙ kept.limits;
       policy = λ nothing. stays ∙ kept.policy nothing;
-      governed = subst₂ (λ p list. AreGoverned c.args.self.now.session.policy p answers list) (sym stays) (take-append-drop i sent)
-          (governed_among c.args.self.now.session.policy c.loop-command.self.session.policy answers (take i sent) (drop i sent) kept.governed);
+      governed = subst₂ (λ p list. AreLed IsGoverned c.args.self.now.session.policy p answers list) (sym stays) (take-append-drop i sent)
+          (led_among IsGoverned c.args.self.now.session.policy c.loop-command.self.session.policy answers (take i sent) (drop i sent) kept.governed);
+      formatted = subst₂ (λ f list. AreLed IsFormatted c.args.self.now.session.format f answers list) (sym same_format) (take-append-drop i sent)
+          (led_among IsFormatted c.args.self.now.session.format c.loop-command.self.session.format answers (take i sent) (drop i sent) kept.formatted);
     }
 
 pub loop-command-preserved : goal.loop-command-preserved
@@ -88,6 +92,7 @@ loop-command-preserved g c =
     let e : answer_or_stop answered ≡ Ok answer = sym c.in-Ok-answer_or_stop.ensures in
     let noted = c.apply-answered.ensures.noted kept.goes_on in
     let more : take (i + 1) sent ≡ take i sent ++ command ∷ [] = take_more sent i command c.loop-command-test.true ∙ ap (λ x. take i sent ++ x ∷ []) (sym c.command-item.is) in
+    let counted : length (take i sent) ≡ length answers = let all = length-take i sent in let less = c.loop-command-test.true in let count = sym c.loop-command.answers.ok.0 ∙ kept.count in omega (arith, all, less, count) in
     let split : AcceptNothing c.push_reserved.new.self.items → AcceptNothing answers × KeepsNothing answered × IsNotAccepted answered = λ nothing.
     let both = nothing_before answers answer (subst AcceptNothing c.push_reserved.ensures.items nothing) in
     let keeps_it = keeps answered answer e both.1 in
@@ -100,10 +105,13 @@ loop-command-preserved g c =
       limits = noted.limits ∙ kept.limits;
       policy = λ nothing. let parts = split nothing in policy_stays c.loop-command.self.session.policy session.policy command answered noted.policy parts.2 ∙ kept.policy parts.0;
       governed =
-          let counted : length (take i sent) ≡ length answers = let all = length-take i sent in let less = c.loop-command-test.true in let count = sym c.loop-command.answers.ok.0 ∙ kept.count in omega (arith, all, less, count) in
           let one = subst (λ r. IsGoverned c.loop-command.self.session.policy session.policy command r) (called answered answer e) noted.policy in
-          subst₂ (AreGoverned c.args.self.now.session.policy session.policy) (sym c.push_reserved.ensures.items) (sym more)
-          (governed_on c.args.self.now.session.policy c.loop-command.self.session.policy session.policy answers answer (take i sent) command kept.governed counted one);
+          subst₂ (AreLed IsGoverned c.args.self.now.session.policy session.policy) (sym c.push_reserved.ensures.items) (sym more)
+          (led_on IsGoverned c.args.self.now.session.policy c.loop-command.self.session.policy session.policy answers answer (take i sent) command kept.governed counted one);
+      formatted =
+          let one = subst (λ r. IsFormatted c.loop-command.self.session.format session.format command r) (called answered answer e) noted.format in
+          subst₂ (AreLed IsFormatted c.args.self.now.session.format session.format) (sym c.push_reserved.ensures.items) (sym more)
+          (led_on IsFormatted c.args.self.now.session.format c.loop-command.self.session.format session.format answers answer (take i sent) command kept.formatted counted one);
       so_far = λ clean limits accepted ready.
           let was = kept.so_far (c.apply-answered.ensures.keeps.clean clean) limits accepted ready in
           let before = accepted_after_all limits accepted (take i sent) in
@@ -136,6 +144,7 @@ returns-clause-noted g c off =
       limits = kept.limits;
       policy = kept.policy;
       governed = rw whole at kept.governed;
+      formatted = rw whole at kept.formatted;
     }
 
 pub returns-clause-written : goal.returns-clause-written

@@ -5,8 +5,8 @@ use Rattle.sqlite.specs.State.{HasCleanDisk}
 use Rattle.wh_history.specs.Accepted.{Accepted}
 use Rattle.wh_history.specs.Tables.{Limits}
 use Rattle.wh_admission.specs.Admission.{accepted_after_all}
-use Rattle.wh_engine.specs.Answered.{IsReady}
-use Rattle.wh_engine.specs.Delivered.{answers_to, AcceptNothing, AreGoverned, IsLastWritten}
+use Rattle.wh_engine.specs.Answered.{IsReady, IsGoverned, IsFormatted}
+use Rattle.wh_engine.specs.Delivered.{answers_to, AcceptNothing, AreLed, IsLastWritten}
 use Rattle.wh_engine.specs.Scanned.{Keeps}
 use Rattle.wh_engine.proofs.engine.Engine.deliver.Given as goal
 
@@ -21,7 +21,8 @@ invariant-loop-command g l =
       keeps : Keeps g.S.Store l.fn.self.tables l.self.tables (AcceptNothing l.answers.items);
       limits : l.self.session.limits ≡ l.fn.self.session.limits;
       policy : AcceptNothing l.answers.items → l.self.session.policy ≡ l.fn.self.session.policy;
-      governed : AreGoverned l.fn.self.session.policy l.self.session.policy l.answers.items (take l.command-index l.commands);
+      governed : AreLed IsGoverned l.fn.self.session.policy l.self.session.policy l.answers.items (take l.command-index l.commands);
+      formatted : AreLed IsFormatted l.fn.self.session.format l.self.session.format l.answers.items (take l.command-index l.commands);
       so_far : HasCleanDisk now → (limits : Limits) (accepted : List Accepted) → IsReady limits accepted l.fn.self.session old
           → (l.answers.items ≡ answers_to limits accepted (take l.command-index l.commands)) × IsReady limits (accepted_after_all limits accepted (take l.command-index l.commands)) l.self.session now;
       silent : AcceptNothing l.answers.items → l.self.writes ≡ 0;

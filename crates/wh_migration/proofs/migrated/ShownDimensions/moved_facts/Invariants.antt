@@ -1,6 +1,7 @@
 use Rattle.std.proofs.Common.{◌≡◌, ◌++◌}
 use Rattle.std.specs.Prelude.{Ok}
 use Rattle.std.specs.FinMap.{values}
+use Rattle.wh_rows.specs.Facts.{facts_in}
 use Rattle.wh_rows.specs.Rows as row
 use Rattle.wh_store.specs.Reads.{ReadsOnly, state_of}
 use Rattle.wh_store.specs.Scan.{rows_left}
@@ -12,5 +13,5 @@ use Rattle.wh_migration.proofs.migrated.ShownDimensions.moved_facts.Given as goa
 abbrev pub invariant-facts : goal.invariant-facts
 invariant-facts g l = record {
   reads : ReadsOnly (state_of g.S.Store l.fn.tables) (state_of g.S.Store l.tables) (Ok l.moved);
-  moved : Tells (state_of g.S.Store l.fn.tables) (state_of g.S.Store l.tables) (Ok l.moved) (λ t moved. moved.items ++ moved_anew l.self (rows_left row.fact t.fact l.cursor) ≡ moved_anew l.self (values t.fact));
+  moved : Tells (state_of g.S.Store l.fn.tables) (state_of g.S.Store l.tables) (Ok l.moved) (λ t moved. t.format ≡ l.format → moved.items ++ moved_anew l.self (rows_left row.fact (facts_in l.format t) l.cursor) ≡ moved_anew l.self (values (facts_in l.format t)));
 }

@@ -7,6 +7,7 @@ use Rattle.wh_history.specs.Known.{number_in, KnowsEnough}
 use Rattle.wh_history.specs.Shapes.{shape_of}
 use Rattle.wh_history.specs.Touched.{touched_by}
 use Rattle.wh_history.specs.declared.member.Member.{Member}
+use Rattle.wh_rows.specs.Facts.{facts_in}
 use Rattle.wh_model.specs.Defined.{fact_at}
 use Rattle.wh_plan.specs.BatchRows.{AreFacts, AreRekeyed}
 use Rattle.wh_plan.specs.MovedFacts.{moved_of_touched, pair_of}
@@ -16,17 +17,17 @@ use Rattle.wh_plan.proofs.MovedTouched.{facts_moved}
 use Rattle.wh_plan.proofs.records.moved_facts.facts_to_move.Goals as goal
 
 pub returns-clause-moved : goal.returns-clause-moved
-returns-clause-moved g c clean limits commands t are at sent records accepted is typed read list enough =
+returns-clause-moved g c clean limits commands t are at format sent records accepted is typed read list enough =
     let dimension = c.args.dimension.now in
     let dim = dimension.dim in
     let after = commands ++ sent ∷ [] in
     let number = number_in dimension.profiles.now in
-    let moves = moved_of_touched (shape_of dimension) t.fact in
+    let moves = moved_of_touched (shape_of dimension) (facts_in c.args.format t) in
     let touched = (touched_by dim commands after records).list in
     let pairs = map pair_of c.deref.result.now in
     let paired : pairs ≡ zip (map (member_of dim commands) (naturals_told records)) touched =
     ap (λ (ps : List TouchedMember). map pair_of ps) c.deref.ensures.value ∙ c.in_ok-touched.ensures ∙ ap (λ (ms : List Member). zip ms c.args.after.now) read ∙ ap (zip (map (member_of dim commands) (naturals_told records))) list in
     let known = subst (λ (ms : List Member). AllByRecursion (KnowsEnough dim dimension.types.now number (profiles_of after)) ms) list enough in
     IfOk-weaker c.moved_of_members.result (λ facts. facts.items ≡ flat_map moves pairs) (λ facts. AreFacts (fact_at commands) (fact_at after) facts.items × AreRekeyed (fact_at commands) facts.items)
-    (λ facts made. facts_moved limits commands sent dim records dimension.types.now t are accepted is typed number known pairs paired facts.items made)
+    (λ facts made. facts_moved limits commands sent dim records dimension.types.now t are accepted is typed number known pairs paired c.args.format format facts.items made)
     (c.moved_of_members.ensures.moved clean t at)

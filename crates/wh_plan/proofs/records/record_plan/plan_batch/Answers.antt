@@ -1,15 +1,17 @@
 use Rattle.std.proofs.Common.{List, ◌++◌, ◌∷◌, [], sym, ◌∙◌, ap, subst}
 use Rattle.std.specs.List.{AllByRecursion}
 use Rattle.wh_policy.specs.declared.attribute.AttributeType.{AttributeType}
-use Rattle.wh_history.specs.Accepted.{profiles_of}
+use Rattle.wh_policy.specs.declared.format.Format.TheVariants.{One}
+use Rattle.wh_history.specs.Accepted.{formatted, profiles_of}
 use Rattle.wh_history.specs.Known.{number_in, KnowsEnough}
 use Rattle.wh_history.specs.Laws.{governs}
 use Rattle.wh_model.specs.Sound.{AreTypes}
+use Rattle.wh_model.proofs.Formatted.{format_stays}
 use Rattle.wh_plan.proofs.PlanPremises.{days_before, days_after}
 use Rattle.wh_plan.proofs.records.record_plan.plan_batch.Goals as goal
 
 pub returns-clause-edits : goal.returns-clause-edits
-returns-clause-edits g c clean limits commands t are at sent accepted is governed sound command_is =
+returns-clause-edits g c clean limits commands t are at format sent accepted is governed sound command_is =
     let dim = c.args.dim in
     let after = commands ++ sent ∷ [] in
     let second = c.in_ok-facts.ensures.reads.clean clean in
@@ -19,11 +21,11 @@ returns-clause-edits g c clean limits commands t are at sent accepted is governe
     let at_second = c.in_ok-learned.ensures.reads.same second t at_first tt in
     let touched = c.in_ok-touched.ensures dim commands sent is (c.deref-2.ensures.value ∙ found.members_read) found.members_drawn found.anchors_drawn in
     let list = c.as_slice-after.ensures ∙ ap (λ t. t.list) touched in
-    let typed : AreTypes commands dim c.deref.result.now = record { policy = c.args.policy.now; governed = governed; sound = sound; are = c.deref.ensures.value ∙ c.in_ok-types.ensures } in
-    let typed_now : AreTypes commands dim c.deref-3.result.now = record { policy = c.args.policy.now; governed = governed; sound = sound; are = c.deref-3.ensures.value ∙ c.in_ok-types.ensures } in
+    let typed : AreTypes commands dim c.deref.result.now = record { policy = c.args.terms.now.policy.now; governed = governed; sound = sound; are = c.deref.ensures.value ∙ c.in_ok-types.ensures } in
+    let typed_now : AreTypes commands dim c.deref-3.result.now = record { policy = c.args.terms.now.policy.now; governed = governed; sound = sound; are = c.deref-3.ensures.value ∙ c.in_ok-types.ensures } in
     let learned = c.in_ok-learned.ensures.learned second limits commands t are at_first sent accepted is typed in
     let enough = subst (λ (ks : List AttributeType). AllByRecursion (KnowsEnough dim ks (number_in c.in_ok-learned.learned.known) (profiles_of after)) c.as_slice-after.result.now) (c.deref.ensures.value ∙ sym c.deref-3.ensures.value) learned.enough in
-    let facts = c.in_ok-facts.ensures.moved clean limits commands t are at_second sent c.args.records.now accepted is typed_now (c.deref-4.ensures.value ∙ found.members_read) list enough in
+    let facts = c.in_ok-facts.ensures.moved clean limits commands t are at_second format sent c.args.records.now accepted is typed_now (c.deref-4.ensures.value ∙ found.members_read) list enough in
     let rows = c.in_ok-rows.ensures commands sent is typed_now (days_before limits commands sent accepted) (days_after limits commands sent accepted) command_is
     (record { found = found; touched = list; enough = enough; profiles = learned.fresh; facts = facts.0; rekeyed = facts.1 }) in
-    c.in_ok-edits_of_batch.ensures.exact commands sent (ap governs is) rows
+    c.in_ok-edits_of_batch.ensures.exact commands sent format (format_stays commands sent (ap (formatted One) is)) (ap governs is) rows

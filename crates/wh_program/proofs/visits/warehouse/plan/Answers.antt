@@ -1,4 +1,4 @@
-use Rattle.wh_program.specs.Inputs.{up_to, input_limit}
+use Rattle.wh_program.specs.Inputs.{as_input}
 use Rattle.wh_program.specs.Warehouse.{Plans}
 use Rattle.wh_program.proofs.WarehouseLemmas.{answered_with}
 use Rattle.wh_program.proofs.visits.warehouse.plan.Goals as goal
@@ -6,5 +6,5 @@ use Rattle.wh_program.proofs.visits.warehouse.plan.Goals as goal
 pub returns : goal.returns
 returns g c = λ content stood.
     let sent = rw c.in-Some.is at c.in_ok-command.ensures in
-    answered_with (up_to (input_limit c.args.kind) (g.H.Host.holds c.args.host.now)) (g.H.Host.refuses c.args.host.now) (g.H.Host.stores c.work_on.new.host c.args.file.now) content c.args.file.now c.args.path.now
+    answered_with (as_input c.args.kind (g.H.Host.holds c.args.host.now)) (g.H.Host.refuses c.args.host.now) (g.H.Host.stores c.work_on.new.host c.args.file.now) content c.args.file.now c.args.path.now
     sent.0 sent.1 (Plans c.args.kind c.args.id.now) c.work_on.result (rw sent.2 at (c.work_on.ensures content stood))

@@ -36,7 +36,6 @@ loop-edit-preserved g c =
           (_, c.in_ok-edit.ensures.edited clean before was.0 was.1 one, next_way g.T.StoredTable.layout (with_edit g.T.StoredTable.layout) (Puts (IsValid g.T.StoredTable.layout)) g.T.StoredTable.rows g.T.StoredTable.with_rows g.met.T.KeyedTable.placed c.args.edits.now c.loop-edit.edit-index c.edit-item.result was.0 _ next was.2);
       counted = omega (arith, c.in_ok-edit.ensures.counted, kept.counted);
       noted = c.in_ok-edit.ensures.noted ∙ kept.noted;
-      stays = (c.edit.ensures.same_format.0 ∙ kept.stays.0, c.edit.ensures.same_format.1 ∙ kept.stays.1);
     }
 
 pub returns-clause-edited : goal.returns-clause-edited

@@ -24,5 +24,4 @@ invariant-loop-edit g l =
           → (mid : TypedTables) × IsWriting before (Some mid) now × IsOnTheWay step may table.rows table.with_rows (drop l.edit-index l.edits) mid (table.with_rows (after_all step l.edits (table.rows made)) made);
       counted : l.self.writes ≡ l.fn.self.writes + l.edit-index;
       noted : l.self.refused ≡ l.fn.self.refused;
-      stays : (l.self.tables.now.format ≡ l.fn.self.tables.now.format) × (l.self.makes ≡ l.fn.self.makes);
     }

@@ -39,7 +39,6 @@ loop-row-preserved g c =
           (_, c.in_ok-put.ensures.put clean before was.0 was.1 one, next_way g.T.StoredTable.layout (with_row g.T.StoredTable.layout) (IsValid g.T.StoredTable.layout) g.T.StoredTable.rows g.T.StoredTable.with_rows g.met.T.KeyedTable.placed c.args.rows.now c.loop-row.row-index c.row-item.result was.0 _ next was.2);
       counted = omega (arith, c.in_ok-put.ensures.counted, kept.counted);
       noted = c.in_ok-put.ensures.noted ∙ kept.noted;
-      stays = (c.put.ensures.same_format.0 ∙ kept.stays.0, c.put.ensures.same_format.1 ∙ kept.stays.1);
     }
 
 pub returns-clause-put : goal.returns-clause-put

@@ -24,5 +24,4 @@ invariant-loop-row g l =
           → (mid : TypedTables) × IsWriting before (Some mid) now × IsOnTheWay step may table.rows table.with_rows (drop l.row-index l.rows) mid (table.with_rows (after_all step l.rows (table.rows made)) made);
       counted : l.self.writes ≡ l.fn.self.writes + l.row-index;
       noted : l.self.refused ≡ l.fn.self.refused;
-      stays : (l.self.tables.now.format ≡ l.fn.self.tables.now.format) × (l.self.makes ≡ l.fn.self.makes);
     }

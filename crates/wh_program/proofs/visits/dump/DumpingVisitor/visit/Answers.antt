@@ -14,7 +14,7 @@ returns-in-Ok g c = rw c.close.ensures (λ clean content at.
     content c.in-Ok.engine.session
     (state g.T.Store c.args.connection) (state g.T.Store c.in-Ok.engine.tables.conn) (state g.T.Store c.print_table-status.new.engine.tables.conn)
     (c.in-Ok.ensures.ready (c.print_table-status.ensures.clean clean))
-    (c.print_table-status.ensures.dumped clean c.in-Ok.ensures.first)
+    (c.print_table-status.ensures.dumped clean)
     (λ rests. let e = c.in-Ok.ensures.missing rests.autocommit (rw rests.now.schema none_there) in cc) at)
 
 pub returns-in-Err : goal.returns-in-Err

@@ -5,7 +5,7 @@ use Rattle.wh_program.proofs.visits.opened.OnOpenedVisitor.visit.Goals as goal
 
 pub returns-in-Ok : goal.returns-in-Ok
 returns-in-Ok g c = rw c.close.ensures (λ clean content at.
-    opened (g.K.Work.does c.args.self.work) content c.work-answer.result c.in-Ok.engine.tables.format c.in-Ok.engine.session
+    opened (g.K.Work.does c.args.self.work) content c.work-answer.result c.in-Ok.engine.session
     (state g.T.Store c.args.connection) (state g.T.Store c.in-Ok.engine.tables.conn) (state g.T.Store c.work-answer.new.engine.tables.conn)
     (c.in-Ok.ensures.ready (c.work-answer.ensures.clean clean))
     (c.work-answer.ensures.done clean)

@@ -7,7 +7,7 @@ use Rattle.wh_program.proofs.visits.verdict.CheckingVisitor.visit.Goals as goal
 pub returns-in-Ok : goal.returns-in-Ok
 returns-in-Ok g c = rw c.close.ensures (λ clean content at.
     let check = c.check-verdict.ensures in
-    checked content c.verdict_answer.result c.in-Ok.engine.tables.format c.check-verdict.result c.in-Ok.engine.session c.check-verdict.new.self.session
+    checked content c.verdict_answer.result c.check-verdict.result c.in-Ok.engine.session c.check-verdict.new.self.session
     (state g.T.Store c.args.connection) (state g.T.Store c.in-Ok.engine.tables.conn) (state g.T.Store c.check-verdict.new.self.tables.conn)
     (c.in-Ok.ensures.ready (check.reads.spares.clean clean))
     (check.sound clean)

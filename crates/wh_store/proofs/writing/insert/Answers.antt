@@ -1,0 +1,19 @@
+use Rattle.std.proofs.Common.{Some, IfOk, map, subst, sym}
+use Rattle.std.specs.Prelude.{if◌then◌else◌}
+use Rattle.std.specs.List.{AllByRecursion}
+use Rattle.sqlite.specs.Held.{state}
+use Rattle.wh_rows.specs.AtRest.{IsWriting}
+use Rattle.wh_rows.specs.Facts.{fact_layout, facts_in, with_facts_in}
+use Rattle.wh_rows.specs.Rows as row
+use Rattle.wh_rows.specs.Steps.{with_rows}
+use Rattle.wh_store.specs.Edits.{IsValid}
+use Rattle.wh_store.proofs.FormatFacts.{same_rows}
+use Rattle.wh_store.proofs.writing.insert.Goals as goal
+
+pub returns-in-Two-clause-put : goal.returns-in-Two-clause-put
+returns-in-Two-clause-put g c clean before made at may =
+    let facts = map (λ f. f.now) c.args.facts.now in
+    let new = state g.S.Store c.insert_facts2.new.conn in
+    let made_so = c.insert_facts2.ensures.put clean before made at (subst (λ format. AllByRecursion (IsValid (fact_layout format)) facts) c.in-Two.is may) in
+    subst (λ format. IfOk c.insert_facts2.result (λ done. IsWriting before (Some (if done then with_facts_in format (with_rows row.fact facts (facts_in format made)) made else made)) new)) (sym c.in-Two.is)
+    (subst (λ rows. IfOk c.insert_facts2.result (λ done. IsWriting before (Some (if done then record made { fact2 = rows } else made)) new)) (same_rows facts made.fact2) made_so)

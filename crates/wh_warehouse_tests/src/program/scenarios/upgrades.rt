@@ -1,0 +1,16 @@
+//! Upgrades of a warehouse's file.
+
+use crate::program::scenarios::check_program;
+use std::test::Fail;
+use wh_scenarios::program::reports::FILES;
+use wh_scenarios::program::{checks, upgrades};
+
+#[test]
+fn upgrade(rt: HostRuntime) -> Result<(), Fail> {
+    check_program(&rt, rt.alloc(), &[FILES, checks::NIGHT, upgrades::UPGRADE])
+}
+
+#[test]
+fn delivered_upgrade(rt: HostRuntime) -> Result<(), Fail> {
+    check_program(&rt, rt.alloc(), &[upgrades::DELIVERED])
+}
