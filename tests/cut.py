@@ -4,8 +4,8 @@ tests/readers.py. Build the program first (`rt run` in crates/wh).
 
 usage: cut.py [PROGRAM]
 
-A policy (by a trial, and a making of those that are good), a policy that is a byte too long, a customer's batch and one of sales in each format (each
-loaded where it is due, and looked at in the file), a manifest (delivered to a warehouse that was just made).
+A policy (by a trial, and a making of those that are good), a policy that is a byte too long, a customer's batch, one of sales in each format and one of
+voids (each loaded where it is due, and looked at in the file), a manifest (delivered to a warehouse that was just made).
 """
 
 import os
@@ -14,7 +14,7 @@ import sys
 import tempfile
 
 import readers
-from worked import FILES, Answer, Count, copy, expected, make_worked, rows_of, run, said, same, write_files
+from worked import FILES, Answer, Count, Text, copy, expected, make_worked, rows_of, run, said, same, write_files
 
 PROGRAM = os.path.realpath(sys.argv[1] if len(sys.argv) > 1 else f"{os.path.dirname(__file__)}/../crates/wh/out/wh")
 count = Count()
@@ -133,11 +133,38 @@ load_beginnings("customer", "c2", 15, "after10", NAMES, lambda records: 0)
 load_beginnings("sales", "s1", 5, "after2", [], lambda records: 1 if records else 0)
 load_beginnings("sales", "d5", 22, "after17", [], lambda records: 0, form=2)
 
+
+def load_voids(id, number, before, form):
+    """Loads each beginning of a batch of voids into a copy of a file of a format. Those that are batches are accepted where each line has a fact."""
+    rows = rows_of(f"{folder}/{before}")
+    for cut in beginnings(FILES[id]):
+        write("cut", cut)
+        copy(f"{folder}/{before}", f"{folder}/w")
+        records, fault = readers.read_batch("void", [], (2023, 2026), cut, form)
+        answer = run(PROGRAM, folder, f"load w void {id} cut")
+        name = f"the first {len(cut)} bytes of {id} in format {form}"
+        lines = [] if fault else [(ticket, int(line)) for ticket, line in records]
+        there = {(bytes(row[0]), row[1]): row for row in rows.get("fact2", [])}
+        missing = next((place for place, line in enumerate(lines, 1) if line not in there), None)
+        if fault or missing:
+            says(name, answer, f"refused: E3 batch, {fault}" if fault else f"refused: E6 no line, record {missing}")
+            count.case([] if same(rows_of(f"{folder}/w"), rows) else f"{name}: the rows are others now")
+            continue
+        says(name, answer, f"accepted {number} {id}: {len(records)} records, 0 placeholders")
+        found = rows_of(f"{folder}/w")
+        facts = [row for line, row in there.items() if line not in lines]
+        voids = [(Text(ticket), line, number) for ticket, line in sorted(lines)]
+        count.case([] if same(found["fact2"], facts) and same(found["void"], voids) else f"{name}: {found['fact2']} and {found['void']} are stored")
+
+
+load_voids("v3", 0, "after2", form=1)
+load_voids("v3", 22, "after17", form=2)
+
 # ---- manifests
 
 run(PROGRAM, folder, "init made policy")
 MADE = rows_of(f"{folder}/made")
-MANIFEST = b"product,p1,p1\nsales,s1,s1\nsales,s1,s1\nstore,bad id,p1\nmigrate,m1,m1\nupgrade,u1,none\nproduct,p2,p2\n"
+MANIFEST = b"product,p1,p1\nsales,s1,s1\nsales,s1,s1\nstore,bad id,p1\nmigrate,m1,m1\nupgrade,u1,none\nproduct,p2,p2\nvoid,v1,v1\n"
 LINES = [
     "accepted 2 p1: 1 records, 0 placeholders",
     "accepted 3 s1: 2 records, 1 placeholders",
@@ -146,6 +173,7 @@ LINES = [
     "accepted 4 m1: 0 records, 0 placeholders",
     "accepted 5 u1: 0 records, 0 placeholders",
     "accepted 6 p2: 1 records, 0 placeholders",
+    "accepted 7 v1: 1 records, 0 placeholders",
 ]
 for cut in beginnings(MANIFEST):
     write("cut", cut)

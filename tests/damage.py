@@ -4,12 +4,12 @@
 
 usage: damage.py [CHANGES] [PROGRAM] [FIRST]
 
-First changes whose answers were worked out by hand, ten of the sixteen worked rows and thirteen of their upgrade, each through check, load, plan, report, dump
-and status, and a late record that is accepted since the damage is in rows of others. Then 1,000 random changes, or CHANGES of them, from number FIRST on, the even
-ones of the upgraded warehouse: another value of whatever type, another key, a row that is gone, or that stands under a second key, or one in a table that has none.
-What each word may say of the rows is worked out in tests/stored.py: check, dump and report exactly. A damaged value is never taken for another: what is out of its
-type is told of its table, or the answer is the one without that row or without the damage. What is refused or only read leaves the rows of all tables as they were;
-no run takes 20 seconds or is ended by a signal. The same numbers give the same changes.
+First changes whose answers were worked out by hand, ten of the sixteen worked rows and twenty-one after their upgrade and a void, each through check, load,
+plan, report, dump and status, and a late record that is accepted since the damage is in rows of others. Then 1,000 random changes, or CHANGES of them, from
+number FIRST on, the even ones of the warehouse after its upgrade and a void: another value of whatever type, another key, a row that is gone, or that stands
+under a second key, or one in a table that has none. What each word may say of the rows is worked out in tests/stored.py: check, dump and report exactly. A
+damaged value is never taken for another: what is out of its type is told of its table, or the answer is the one without that row or without the damage. What
+is refused or only read leaves the rows of all tables as they were; no run takes 20 seconds or is ended by a signal. The same numbers give the same changes.
 """
 
 import os
@@ -21,7 +21,7 @@ import tempfile
 
 import stored
 from stored import damaged, e7
-from worked import DAYS, FILES, REPORT, SECOND, TABLES, Answer, Count, Text, batch, connected, copy, make_worked, printed, rows_of, run, said, same, write_files
+from worked import DAYS, FILES, REPORT, SECOND, TABLES, TOTAL, Answer, Count, Text, batch, connected, copy, make_worked, printed, rows_of, run, said, same, write_files
 
 ARGUMENTS = dict(enumerate(sys.argv))
 CHANGES = int(ARGUMENTS.get(1, 1000))
@@ -34,6 +34,7 @@ PLANNED = "put command 21\nput change 21 1\nput product 3\nput product 5\nedits 
 COUNTED = printed(16, "status w")
 # the sale of T1, of 5.00 at a cost of 3.20, has the brand that its key leads to
 BOLT = "       1          2           5.00           3.20           1.80  Bolt\n"
+ONE = "       1          1           2.50           1.60           0.90  Cask\n"
 THREE, FIVE = "       2          3           7.50           4.80           2.70  Cask\n", "       3          5          12.50           8.00           4.50  Cask\n"
 # the change, what check says, the load of p10, a report and what it says where that is another thing than without the change (a text or some that it may
 # be, or lines of it and those in their place), status
@@ -46,28 +47,37 @@ TEN = [
     ("UPDATE product SET to_day = 20240332 WHERE surrogate = 3", e7("product"), e7("product"), BRAND, e7("product"), COUNTED),
     ("DELETE FROM profile WHERE number = 3; UPDATE fact SET product_key = 4 WHERE ticket = 'T1'", "wrong: profile", ACCEPTED, AGE, (e7("customer"), e7("profile")), COUNTED),
     ("UPDATE calendar SET holiday = '(none)' WHERE date_key = 20241225", "wrong: calendar", ACCEPTED, HOLIDAY, None, COUNTED),
-    ("UPDATE fact SET product_key = 4 WHERE ticket = 'T1'", "wrong: fact", ACCEPTED, BRAND, {THREE: BOLT + THREE.replace("2          3           7.50           4.80           2.70", "1          1           2.50           1.60           0.90")}, COUNTED),
+    ("UPDATE fact SET product_key = 4 WHERE ticket = 'T1'", "wrong: fact", ACCEPTED, BRAND, {THREE: BOLT + ONE}, COUNTED),
     ("UPDATE command SET bytes = x'' WHERE id IN ('init', 'm1', 'm2')", e7("command"), e7("command"), BRAND, e7("command"), e7("command")),
 ]
-# the same of the upgraded warehouse
-ACCEPTED_AFTER = ACCEPTED.replace("21", "23")
-COUNTED_AFTER = printed(19, "status w")
+# the same after an upgrade and a void: the sale of T5 has the measures of that of T1, which is withdrawn
+ACCEPTED_AFTER = ACCEPTED.replace("21", "24")
+COUNTED_AFTER = printed(20, "status w")
+SOLD = "       5          7          25.00          16.60           8.40  total\n"
 NO_SALES = f"report {BRAND}\n{REPORT}       0          0           0.00           0.00           0.00  total"
 NONE, NEWER = "failed: N1 not a warehouse", "failed: N3 new format"
 OF_UPGRADE = [
-    ("UPDATE meta SET value = 1 WHERE name = 'format'", "wrong: command", ACCEPTED_AFTER, BRAND, NO_SALES, COUNTED_AFTER.replace("format 2", "format 1").replace("facts 5", "facts 0")),
+    ("UPDATE meta SET value = 1 WHERE name = 'format'", "wrong: command", ACCEPTED_AFTER, BRAND, NO_SALES, COUNTED_AFTER.replace("format 2", "format 1").replace("facts 4", "facts 0")),
     ("UPDATE meta SET value = 3 WHERE name = 'format'", NEWER, NEWER, BRAND, NEWER, NEWER),
     ("DROP TABLE void", NONE, NONE, BRAND, NONE, NONE),
     ("UPDATE command SET bytes = x'0a' WHERE id = 'u1'", "wrong: command", ACCEPTED_AFTER, BRAND, None, COUNTED_AFTER),
     ("UPDATE command SET kind = 'upgraded' WHERE id = 'u1'", e7("command"), (ACCEPTED_AFTER, e7("command")), BRAND, None, COUNTED_AFTER),
-    ("INSERT INTO fact SELECT 'T9', line, day, store_key, product_key, customer_key, store_durable, product_durable, customer_durable, profile, quantity, amount, cost FROM fact2 WHERE ticket = 'T1'", "wrong: fact", ACCEPTED_AFTER, BRAND, None, COUNTED_AFTER),
+    ("INSERT INTO fact SELECT 'T9', line, day, store_key, product_key, customer_key, store_durable, product_durable, customer_durable, profile, quantity, amount, cost FROM fact2 WHERE ticket = 'T2'", "wrong: fact", ACCEPTED_AFTER, BRAND, None, COUNTED_AFTER),
     ("UPDATE fact2 SET discount = 51 WHERE ticket = 'T5'", "wrong: fact2", ACCEPTED_AFTER, BRAND, None, COUNTED_AFTER),
     ("UPDATE fact2 SET discount = 0.5 WHERE ticket = 'T2'", e7("fact2"), ACCEPTED_AFTER, BRAND, ("as it was", e7("fact2")), COUNTED_AFTER),
     ("UPDATE fact2 SET quantity = 10000 WHERE ticket = 'T2'", e7("fact2"), ACCEPTED_AFTER, BRAND, e7("fact2"), COUNTED_AFTER),
-    ("UPDATE fact2 SET product_key = 4 WHERE ticket = 'T1'", "wrong: fact2", ACCEPTED_AFTER, BRAND, {FIVE: BOLT + THREE}, COUNTED_AFTER),
+    ("UPDATE fact2 SET product_key = 4 WHERE ticket = 'T5'", "wrong: fact2", ACCEPTED_AFTER, BRAND, {THREE: BOLT + ONE}, COUNTED_AFTER),
     ("INSERT INTO void VALUES ('T5', 1, 22)", "wrong: void", ACCEPTED_AFTER, BRAND, None, COUNTED_AFTER),
     ("INSERT INTO void VALUES ('T5', 0, 22)", e7("void"), ACCEPTED_AFTER, BRAND, None, COUNTED_AFTER),
     ("UPDATE fact2 SET discount = 51 WHERE ticket = 'T5'; INSERT INTO void VALUES ('T5', 0, 22)", "wrong: fact2", ACCEPTED_AFTER, BRAND, None, COUNTED_AFTER),
+    ("DELETE FROM void", "wrong: void", ACCEPTED_AFTER, BRAND, None, COUNTED_AFTER),
+    ("UPDATE void SET command = 22", "wrong: void", ACCEPTED_AFTER, BRAND, None, COUNTED_AFTER),
+    ("INSERT INTO fact2 VALUES ('T1', 1, 20240205, 1, 3, 0, 1, 1, 0, 0, 2, 500, 320, 0)", "wrong: fact2", ACCEPTED_AFTER, BRAND, {THREE: FIVE, TOTAL: SOLD}, COUNTED_AFTER.replace("facts 4", "facts 5")),
+    ("UPDATE command SET bytes = CAST(replace(CAST(bytes AS TEXT), 'T1', 'T2') AS BLOB) WHERE id = 'v1'", "wrong: fact2", ACCEPTED_AFTER, BRAND, None, COUNTED_AFTER),
+    ("UPDATE command SET bytes = CAST(replace(CAST(bytes AS TEXT), 'T1', 'T9') AS BLOB) WHERE id = 'v1'", "wrong: command", ACCEPTED_AFTER, BRAND, None, COUNTED_AFTER),
+    ("UPDATE command SET records = 2 WHERE id = 'v1'", "wrong: command", ACCEPTED_AFTER, BRAND, None, COUNTED_AFTER),
+    ("UPDATE meta SET value = 4 WHERE name = 'facts_max'", "wrong: command", ACCEPTED_AFTER, BRAND, None, COUNTED_AFTER),
+    ("UPDATE meta SET value = 5 WHERE name = 'facts_max'", "clean", ACCEPTED_AFTER, BRAND, None, COUNTED_AFTER),
 ]
 # damage in rows of others than the record's product, with which its load has nothing to do
 ELSEWHERE = "UPDATE command SET bytes = x'' WHERE number = 4; UPDATE change SET day = 20240632 WHERE command = 14; UPDATE product SET to_day = 20240332 WHERE surrogate = 9"
@@ -90,6 +100,7 @@ class Warehouse:
             ("store", "x1", batch("store", "S1,2024-03-01,Bern")),
             ("customer", "x2", batch("customer", "C9,2024-06-01,Gold,20-29,low")),
             ("sales", *sales),
+            ("void", "x5", batch("void", "T0,1")),
         ]
         for _, id, content in self.loads:
             with open(f"{folder}/{id}", "wb") as file:
@@ -99,7 +110,7 @@ class Warehouse:
 
 make_worked(PROGRAM, folder)
 PLAIN = Warehouse("plain", ("x3", batch("sales", "T9,1,2024-06-07,S1,P1,C9,1,1,1", "T9,2,2024-06-07,S2,P9,,1,1,1")))
-make_worked(PROGRAM, folder, 18, since=17)
+make_worked(PROGRAM, folder, 20, since=17)
 UPGRADED = Warehouse("upgraded", ("x4", batch("sales2", "T9,1,2024-06-07,S1,P1,C9,1,1,1,0.25", "T9,2,2024-06-07,S2,P9,,1,1,1,0")))
 
 
@@ -188,7 +199,7 @@ REPORTS = [
     ("date.month", "was"), ("date.holiday", "is"),
 ]
 NUMBERS = [0, 1, 2, 3, 7, -1, 9_999_999, 10_000_000, 2**40, 2**63 - 1, -(2**63), 20240230, 20240632, 20231231, 19000101, 1.5, 1e300]
-TEXTS = [b"", b"x", b"S 1", b"(none)", b"(unknown)", b"(no card)", b"(other)", b"x" * 61, b"a\x07", b"a\nb", b"a\x00b", b"a,b", b'a"b', "Zürich".encode(), b"\xff", b"7", b"init", b"sales", b"upgrade"]
+TEXTS = [b"", b"x", b"S 1", b"(none)", b"(unknown)", b"(no card)", b"(other)", b"x" * 61, b"a\x07", b"a\nb", b"a\x00b", b"a,b", b'a"b', "Zürich".encode(), b"\xff", b"7", b"init", b"sales", b"upgrade", b"void"]
 
 
 def another(chance, value, column):
@@ -236,10 +247,9 @@ def rewrite(base, table, text):
     base.execute("PRAGMA writable_schema = OFF")
 
 
-def strange_row(chance, warehouse, table):
-    """A row for a table of the upgraded warehouse that has none, each value as one of its column could be, or all but one."""
-    sale = chance.choice(warehouse.rows["fact2"])
-    row = list(sale[:13] if table == "fact" else (*sale[:2], len(warehouse.rows["command"])))
+def strange_row(chance, warehouse):
+    """A row for `fact` of the upgraded warehouse, which has none, each value as one of its column could be, or all but one."""
+    row = list(chance.choice(warehouse.rows["fact2"])[:13])
     if chance.randrange(2):
         place = chance.randrange(len(row))
         row[place] = another(chance, row[place], [row[place]])
@@ -255,7 +265,7 @@ def damage(chance, warehouse, table):
     names = TABLES[table][1].split()
     keys = TABLES[table][0]
     there = warehouse.rows[table]
-    row = chance.choice(there) if there else strange_row(chance, warehouse, table)
+    row = chance.choice(there) if there else strange_row(chance, warehouse)
     what = chance.choice(["value"] * 6 + ["two values", "key", "key", "gone", "gone", "twice", "twice"]) if there else "new"
     copy(f"{folder}/{warehouse.name}", changed)
     base = connected(changed)

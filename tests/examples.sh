@@ -47,7 +47,9 @@ line "refused: E11 not empty" 2 init "$work/shop.wh" examples/flat.toml
 line "$(printf 'format 1\ncommands 3\nchanges 3\nfacts 2\nmembers product 1 store 1 customer 0')" 0 status "$work/shop.wh"
 line "accepted 4 m1: 0 records, 0 placeholders" 0 migrate "$work/shop.wh" m1 examples/overwritten.toml
 line "clean" 0 check "$work/shop.wh"
+line "refused: E3 batch, B10 not in format, record 0" 2 load "$work/shop.wh" void v1 examples/voids.csv
 line "accepted 5 u1: 0 records, 0 placeholders" 0 upgrade "$work/shop.wh" u1
+line "accepted 6 v1: 1 records, 0 placeholders" 0 load "$work/shop.wh" void v1 examples/voids.csv
 line "accepted 1 init: 0 records, 0 placeholders" 0 init "$work/night.wh" examples/flat.toml
 example night.txt 2 deliver "$work/night.wh" examples/night.csv
 line "clean" 0 check "$work/night.wh"

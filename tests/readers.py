@@ -7,10 +7,11 @@ import re
 import tomllib
 
 MARK = b"\xef\xbb\xbf"
-KINDS = ("product", "store", "customer", "sales", "migrate", "upgrade")
+KINDS = ("product", "store", "customer", "sales", "void", "migrate", "upgrade")
 FIRST = "ticket,line,day,store,product,customer,quantity,amount,cost".split(",")
 # the header of sales by the format
 SALES = {1: FIRST, 2: [*FIRST, "discount"]}
+VOIDS = ["ticket", "line"]
 
 
 def rows_of(content):
@@ -67,10 +68,12 @@ VALUE = (lambda text: not text or is_given(text), "B6 bad value")
 
 
 def read_batch(kind, names, years, content, form=1):
-    """The records of a batch and None, or None and its first fault; names are those of the dimension's attributes, the format is that of sales."""
+    """The records of a batch and None, or None and its first fault; names are those of the dimension's attributes, the format is that of sales and voids."""
+    if kind == "void" and form == 1:
+        return None, "B10 not in format, record 0"
     if len(content) > 1_000_000:
         return None, "B1 too large, record 0"
-    header = SALES[form] if kind == "sales" else ["id", "day", *names]
+    header = {"sales": SALES[form], "void": VOIDS}.get(kind, ["id", "day", *names])
     rows = rows_of(content)
     if not rows or rows[0] != [name.encode() for name in header]:
         return None, "B2 wrong header, record 0"
@@ -86,10 +89,10 @@ def fault_of_record(kind, header, years, row, seen):
     if len(row) != len(header):
         return "B3 wrong length"
     for name, field in zip(header, row):
-        is_good, fault = FIELDS[name] if kind == "sales" else DESCRIBED.get(name, VALUE)
+        is_good, fault = FIELDS[name] if kind in ("sales", "void") else DESCRIBED.get(name, VALUE)
         if not is_good(field):
             return fault
-    key = (row[0], int(row[1])) if kind == "sales" else (row[0], row[1])
+    key = (row[0], int(row[1])) if kind in ("sales", "void") else (row[0], row[1])
     if key in seen:
         return "B8 twice in batch"
     seen.add(key)

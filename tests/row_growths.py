@@ -4,9 +4,9 @@ Build the program first (`rt run` in crates/wh); a C compiler makes the library 
 
 usage: row_growths.py [STEP] [PROGRAM] [ROW]
 
-Every growth of each of the words in tests/worked.py, from the making to what comes after the upgrade, or one in STEP of them; with ROW those of that row alone. An answer is the worked one, or
-`failed: E8 memory` with the rows as they were, or `failed: E9 store, memory` with the rows as they were or as they are with the command; of a dump some of its
-lines may stand before. No other answer changes. The same words again end as they do without a refusal.
+Every growth of each of the words in tests/worked.py, from the making to what comes after the upgrade and a void, or one in STEP of them; with ROW those of
+that row alone. An answer is the worked one, or `failed: E8 memory` with the rows as they were, or `failed: E9 store, memory` with the rows as they were or as
+they are with the command; of a dump some of its lines may stand before. No other answer changes. The same words again end as they do without a refusal.
 
 A run that is refused a growth parts from one that isn't, so that what is before the growth is done once for all growths of some words. Where two of them
 leave the same file, byte for byte, what is found in it is looked at once.

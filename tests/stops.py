@@ -4,11 +4,11 @@ first (`rt run` in crates/wh); a C compiler makes the library tests/stop_file.c 
 
 usage: stops.py [STEP] [PROGRAM] [NAME]
 
-Every such call of a making, of a load of a late record and of a delivery of three commands, or one in STEP of them, until a run ends without a stop; of an
-upgrade of the sixteen worked rows, and of a delivery of an upgrade, a late record and a migration, one in four times STEP; with NAME (making, load, delivery,
-upgrade, carrying, open, again) of that one alone. Each stop is tried three times: with nothing of that call done; with the first half of the bytes of that write
-done; and with all taken back that was written since its file was last synced. `open` stops a `status` that opens what the stopped delivery left, and `again`
-stops that delivery when it comes again, each after one in four times STEP of the delivery's stops.
+Every such call of a making, of a load of a late record, of one of a void and of a delivery of three commands, or one in STEP of them, until a run ends
+without a stop; of an upgrade of the sixteen worked rows, and of a delivery of an upgrade, a late record and a migration, one in four times STEP; with NAME
+(making, load, void, delivery, upgrade, carrying, open, again) of that one alone. Each stop is tried three times: with nothing of that call done; with the
+first half of the bytes of that write done; and with all taken back that was written since its file was last synced. `open` stops a `status` that opens what
+the stopped delivery left, and `again` stops that delivery when it comes again, each after one in four times STEP of the delivery's stops.
 
 After each stop the file is opened, or it is no warehouse where the making was stopped, which is then made again. It is clean, the rows of its tables, ten or twelve
 of them, are those after some of the commands, among them each whose line went out. The same commands again end with their receipts, and all twelve dumps are those
@@ -44,10 +44,13 @@ make_worked(PROGRAM, folder, 3)
 copy(f"{folder}/w", f"{folder}/made")
 make_worked(PROGRAM, folder, since=4)
 copy(f"{folder}/w", f"{folder}/worked")
+make_worked(PROGRAM, folder, 18, since=17)
+copy(f"{folder}/w", f"{folder}/upgraded")
 
 MADE = ["accepted 1 init: 0 records, 0 placeholders"]
 LOADED = ["accepted 6 p3: 1 records, 0 placeholders"]
 DELIVERED = [*LOADED, "accepted 7 s2: 1 records, 2 placeholders", "accepted 8 c1: 1 records, 0 placeholders"]
+WITHDRAWN = ["accepted 23 v1: 1 records, 0 placeholders"]
 UPGRADED = ["accepted 21 u1: 0 records, 0 placeholders"]
 CARRIED = ["accepted 6 u1: 0 records, 0 placeholders", "accepted 7 p3: 1 records, 0 placeholders", "accepted 8 m1: 0 records, 0 placeholders"]
 
@@ -147,10 +150,11 @@ def is_wanted(name):
 
 making = Work("making", None, "init w policy", MADE, ["init w policy"])
 load = Work("load", "made", "load w product p3 p3", LOADED, ["load w product p3 p3"])
+void = Work("void", "upgraded", "load w void v1 v1", WITHDRAWN, ["load w void v1 v1"])
 delivery = Work("delivery", "made", "deliver w night", DELIVERED, ["load w product p3 p3", "load w sales s2 s2", "load w customer c1 c1"])
 upgrade = Work("upgrade", "worked", "upgrade w u1", UPGRADED, ["upgrade w u1"], 4 * STEP)
 carrying = Work("carrying", "made", "deliver w carrying", CARRIED, ["upgrade w u1", "load w product p3 p3", "migrate w m1 m1"], 4 * STEP)
-for it in (making, load, delivery, upgrade, carrying):
+for it in (making, load, void, delivery, upgrade, carrying):
     if is_wanted(it.name):
         calls = stop_each(it, it.words, it.start, 0, it.name)
         tell(it.name, calls)

@@ -47,7 +47,7 @@ def is_slot(value):
 
 
 def is_kind(value):
-    return type(value) is Text and value in (b"init", b"migrate", b"upgrade", b"product", b"store", b"customer", b"sales")
+    return type(value) is Text and value in (b"init", b"migrate", b"upgrade", b"product", b"store", b"customer", b"sales", b"void")
 
 
 number, flag, dim = whole(0, 9_999_999), whole(0, 1), whole(1, 3)
@@ -138,7 +138,8 @@ def verdict(rows, defined):
     wanted = defined(rows)
     if not wanted or meta_of(wanted)[b"format"] != meta[b"format"]:
         return "wrong: command"
-    most = {"commands_max": wanted["command"], "changes_max": wanted["change"], "facts_max": wanted[facts_table(wanted)]}
+    # what was sold and withdrawn counts among the facts
+    most = {"commands_max": wanted["command"], "changes_max": wanted["change"], "facts_max": [*wanted[facts_table(wanted)], *wanted.get("void", [])]}
     if any(len(them) > meta[name.encode()] for name, them in most.items()):
         return "wrong: command"
     for table in tables_in(meta[b"format"])[2:]:

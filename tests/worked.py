@@ -1,4 +1,4 @@
-"""The warehouse of worked rows, sixteen and then those of its upgrade, and how a script runs the program over it and reads its file. The scripts in
+"""The warehouse of worked rows, sixteen and then those of its upgrade and of a void, and how a script runs the program over it and reads its file. The scripts in
 Python share it.
 
 `WORDS` are what is asked of one warehouse `w`, row after row, each with the lines that it prints. They were worked out by hand from the rules of
@@ -77,6 +77,7 @@ HEADERS = {
     "sales": "ticket,line,day,store,product,customer,quantity,amount,cost",
     # those of the second format
     "sales2": "ticket,line,day,store,product,customer,quantity,amount,cost,discount",
+    "void": "ticket,line",
 }
 
 
@@ -117,6 +118,12 @@ FILES = {
     "d6": batch("sales2", "T6,1,2024-07-05,S1,P1,C9,2,5.00,3.20,0", "T6,2,2024-07-05,S1,P1,C9,2,5.00,3.20,-0.5"),
     "d7": batch("sales2", "T6,1,2024-07-05,S1,P1,C9,2,5.00,3.20,12345678"),
     "d8": batch("sales2", "T6,1,2024-07-05,S1,P1,C9,2,5.00,3.20,9999999.99", "T1,1,2024-02-05,S1,P1,,2,5.00,3.20,0"),
+    "d9": batch("sales2", "T1,1,2024-02-05,S1,P1,,2,5.00,3.20,0"),
+    "v1": batch("void", "T1,1"),
+    "v2": batch("void", "T2,1", "T1,01"),
+    "v3": batch("void", "T4,1", "T2,0001", "T1,10"),
+    "v4": batch("void", "T2,1", "T2,0001"),
+    "v5": batch("void", "T2,0"),
 }
 FILES["p1-longer"] = FILES["p1"] + b"\n"
 
@@ -135,6 +142,8 @@ T2,1,20240610,1,9,1,1,2,1,2,1,1000,700,0
 T4,1,20240229,1,3,0,1,1,0,0,1,250,160,0
 """
 DISCOUNTED = CARRIED + "T5,1,20240705,1,6,1,1,1,1,3,2,500,320,50"
+# those that stand after row 20
+STANDING = DISCOUNTED.replace("T1,1,20240205,1,3,0,1,1,0,0,2,500,320,0\n", "")
 MOVED = "remove fact T0 1\nremove fact T1 1\nremove fact T2 1\nremove fact T4 1\nput fact2 T0 1\nput fact2 T1 1\nput fact2 T2 1\nput fact2 T4 1\n"
 REPORT = "   lines   quantity         amount           cost         margin  label\n"
 TOTAL = "       4          5          20.00          13.40           6.60  total\n"
@@ -225,6 +234,8 @@ report product.category is 2025-01-01 2025-12-31
     (16, "load w customer c3 c3", "accepted 19 c3: 1 records, 0 placeholders"),
     (16, "load w customer c4 c4", "accepted 20 c4: 1 records, 0 placeholders"),
     (16, "load w customer c5 c5", "refused: E3 batch, B6 bad value, record 1"),
+    (16, "load w void v1 v1", "refused: E3 batch, B10 not in format, record 0"),
+    (16, "load w void v1 p00", "refused: E3 batch, B10 not in format, record 0"),
     (16, "check w", "clean"),
     (16, "status w", "format 1\ncommands 20\nchanges 13\nfacts 4\nmembers product 2 store 1 customer 2"),
     (17, "dump w fact2", ""),
@@ -262,6 +273,34 @@ report date.month was {DAYS}
        5          7          25.00          16.60           8.40  total"""),
     (19, "check w", "clean"),
     (19, "status w", "format 2\ncommands 22\nchanges 13\nfacts 5\nmembers product 2 store 1 customer 2"),
+    (20, "load w void v1 p00", "refused: E3 batch, B2 wrong header, record 0"),
+    (20, "load w void v1 v4", "refused: E3 batch, B8 twice in batch, record 2"),
+    (20, "load w void v1 v5", "refused: E3 batch, B7 bad number, record 1"),
+    (20, "load w void v1 v3", "refused: E6 no line, record 3"),
+    (20, "load w void s1 v1", "refused: E2 id reused"),
+    (20, "plan w void v1 v1", "put command 23\nremove fact2 T1 1\nput void T1 1\nedits 3"),
+    (20, "load w void v1 v1", "accepted 23 v1: 1 records, 0 placeholders"),
+    (20, "dump w fact2", STANDING),
+    (20, "dump w void", "T1,1,23"),
+    (20, f"report w date.month was {DAYS}", f"""\
+report date.month was {DAYS}
+{REPORT}       1          1           2.50           1.60           0.90  2023-12
+       1          1           2.50           1.60           0.90  2024-02
+       1          1          10.00           7.00           3.00  2024-06
+       1          2           5.00           3.20           1.80  2024-07
+{TOTAL}"""),
+    (20, "load w void v2 v1", "refused: E6 no line, record 1"),
+    (20, "load w void v2 v2", "refused: E6 no line, record 2"),
+    (20, "plan w void v2 v2", "refused: E6 no line, record 2"),
+    (20, "load w sales s6 d9", "refused: E6 line there, record 1"),
+    (20, "load w sales s6 d8", "refused: E6 line there, record 2"),
+    (20, "load w void v1 v1", "already 23 v1: 1 records, 0 placeholders"),
+    (20, "plan w void v1 v1", "edits 0"),
+    (20, "load w sales v1 v1", "refused: E2 id reused"),
+    (20, "plan w product p10 p10", "put command 24\nput change 24 1\nput product 3\nput product 5\nedits 4"),
+    (20, "plan w migrate m4 m1", "put command 24\nput product 1\nremove product 3\nremove product 4\nrekey fact2 T4 1\nedits 5"),
+    (20, "check w", "clean"),
+    (20, "status w", "format 2\ncommands 23\nchanges 13\nfacts 4\nmembers product 2 store 1 customer 2"),
 ]
 
 

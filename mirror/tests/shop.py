@@ -1,5 +1,5 @@
 """A shop whose nights hold what a mirror has to follow: new and late records, sales with and without a card, migrations
-under which each type from 0 to 7 occurs, and where the program knows the words an upgrade and voids.
+under which each type from 0 to 7 occurs, an upgrade and voids.
 
 The warehouse is made by the program `wh`, whose dumps and reports are what a mirror is compared with.
 """
@@ -94,12 +94,6 @@ def wh(*words: str) -> str:
     return done.stdout
 
 
-def knows(word: str) -> bool:
-    """Whether the program has a word."""
-    done = subprocess.run([PROGRAM, "--help"], capture_output=True, text=True)
-    return any(line.split()[:1] == [word] for line in (done.stdout + done.stderr).splitlines())
-
-
 class Shop:
     """A warehouse in a folder, to which nights can be added."""
 
@@ -131,15 +125,21 @@ class Shop:
             self._policy = (self._policy + 1) % 4
             self._is_migrated = True
             wh("migrate", self.path, self._id(), self._written(self._policy_text()))
-        if self._night == 20 and knows("upgrade"):
-            wh("upgrade", self.path, self._id())
-            self._is_upgraded = True
+        if self._night == 20:
+            self.upgrade()
         if self._night % 3:
             for dimension in ("product", "store", "customer"):
                 self.load(dimension, self._records(dimension))
         self.load("sales", self._sales())
-        if self._is_upgraded and knows("void"):
-            self.load("void", "ticket,line\n" + f"{self._tickets.pop()},1\n")
+        if self._is_upgraded:
+            # a line of this night, and one of a night before
+            chosen = [self._tickets.pop(), self._tickets.pop(self._chance.randrange(len(self._tickets)))]
+            self.load("void", "ticket,line\n" + "".join(f"{ticket},1\n" for ticket in chosen))
+
+    def upgrade(self) -> None:
+        """Makes it a warehouse of format 2."""
+        wh("upgrade", self.path, self._id())
+        self._is_upgraded = True
 
     def load(self, kind: str, batch: str) -> None:
         """Loads a batch."""

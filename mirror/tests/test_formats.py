@@ -1,7 +1,7 @@
 """Files of format 2, which `fact2` and `void` belong to.
 
-They are made by hand here, so the mirror is compared with what SQLite reads of them. Where the program knows the words
-`upgrade` and `void`, the nights have them too.
+They are made by hand here, so the mirror is compared with what SQLite reads of them. The nights have an upgrade and voids of
+the program too.
 """
 
 import sqlite3

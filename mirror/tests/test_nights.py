@@ -62,6 +62,27 @@ class Nights(MirrorTest):
             "mirrored: 4 commands\n",
         )
 
+    def test_void(self) -> None:
+        """A void takes a sale away, and is told so."""
+        shop, dsn = Shop(self.folder), new_database()
+        shop.load(
+            "sales",
+            "ticket,line,day,store,product,customer,quantity,amount,cost\n"
+            "T1,1,2024-01-31,S1,P1,,1,2.00,1.00\nT1,2,2024-03-01,S1,P1,,1,2.00,1.00\n",
+        )
+        shop.upgrade()
+        self.mirrors(shop.path, dsn)
+        shop.load("void", "ticket,line\nT1,2\n")
+        self.assertEqual(
+            self.mirrors(shop.path, dsn),
+            "command: 1 put, 0 changed, 0 removed\n"
+            "fact2: 0 put, 0 changed, 1 removed\n"
+            "void: 1 put, 0 changed, 0 removed\n"
+            "mirrored: 4 commands\n",
+        )
+        self.assert_same_tables(shop, dsn)
+        self.assert_same_reports(shop, dsn)
+
     def test_promises(self) -> None:
         """Keys are declared, tables and columns say what they are, and months are read by themselves."""
         shop, dsn = self.shop_after_a_night(), new_database()

@@ -5,13 +5,12 @@ import pty
 import sqlite3
 import stat
 import subprocess
-import unittest
 from contextlib import closing
 from pathlib import Path
 
 import psycopg
 from databases import MIRROR, MirrorTest, ask, everything_in, new_database, run, run_mirror
-from shop import PROGRAM, Shop, knows
+from shop import PROGRAM, Shop
 
 NO_SERVER = "host=/nonexistent dbname=none"
 
@@ -283,7 +282,6 @@ class Words(MirrorTest):
         self.mirrors(shop.path, dsn, "--check", self.checker('[ "$1" = check ] && [ -f "$2" ]'))
         self.refuses(3, "failed: /nonexistent: No such file or directory", shop.path, dsn, "--check", "/nonexistent")
 
-    @unittest.skipUnless(knows("check"), "the program doesn't know the word check")
     def test_check_by_the_program(self) -> None:
         shop, dsn = self.shop_after_a_night(), new_database()
         self.mirrors(shop.path, dsn, "--check", PROGRAM)

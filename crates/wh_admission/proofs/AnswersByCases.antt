@@ -5,23 +5,22 @@ use Rattle.std.specs.List.{AllByRecursion, IsDistinct}
 use Rattle.std.proofs.lemmas.Bool.{leb-true, leb-false, ltb-true, ltb-false}
 use Rattle.std.proofs.lemmas.Bool.Decides.{nat_tests}
 use Rattle.std.proofs.lemmas.Slice.Eq.{bytes_eq-Decides}
-use Rattle.wh_policy.specs.declared.record.SaleRecord.{SaleRecord}
 use Rattle.wh_batch.specs.Kind.{command_word}
-use Rattle.wh_history.specs.Accepted.{Accepted, Content, sold, sold_by, format_of}
+use Rattle.wh_history.specs.Accepted.{Accepted, Content, sold, sold_by, standing, withdrawn_by, format_of}
 use Rattle.wh_history.specs.Keys.{place, after_one, at_place}
 use Rattle.wh_history.specs.Tables.{Limits}
 use Rattle.wh_history.proofs.Basics.{some_is, both_true, find_passes}
 use Rattle.wh_model.specs.Sound.{changes_kept}
 use Rattle.wh_rows.specs.Types.{is_key}
-use Rattle.wh_admission.specs.Admission.{upgrades_again, bytes_kept, content_of, current_policy, receipt_of, changes_in, first_line_there, number_past_lines, number_for, answer_with, when_read, already as told_already, by_id, answer}
-use Rattle.wh_admission.specs.Answers.{HasIdOf, IsAlike, IsNew, Says, MayBeCounted, FitsFormat, is_sold, BringsNewLines, KeepsToChanges, IsFirstSold, IsAnswer, AnswerIsByCases, AnswersAreOne}
+use Rattle.wh_admission.specs.Admission.{upgrades_again, bytes_kept, content_of, current_policy, receipt_of, changes_in, first_number, first_line_there, first_line_missing, number_past_lines, number_past_voids, number_for, answer_with, when_read, already as told_already, by_id, answer}
+use Rattle.wh_admission.specs.Answers.{HasIdOf, IsAlike, IsNew, Says, MayBeCounted, FitsFormat, is_missing, WithdrawsStanding, is_sold, BringsNewLines, KeepsToChanges, IsFirst, IsAnswer, AnswerIsByCases, AnswersAreOne}
 use Rattle.wh_admission.specs.declared.command.Command.{Command}
 use Rattle.wh_admission.specs.declared.command.Reply.{Reply}
 use Rattle.wh_admission.specs.declared.command.Refused.{Refused}
 use Rattle.wh_admission.specs.declared.command.Refused.TheVariants.{BadId, Reused, Upgraded, Full}
 use Rattle.wh_admission.specs.declared.command.Limit.TheVariants.{Commands, Changes, Facts}
 use Rattle.wh_admission.proofs.Repeats.{first_or}
-use Rattle.wh_admission.proofs.StaysAccepted.{all_new}
+use Rattle.wh_admission.proofs.StaysAccepted.{none_first_passes}
 
 -- ---- the command of an id
 
@@ -84,65 +83,65 @@ none_found id (b ∷ commands) others =
       | false ↦ λ _. none_found id commands others.1
     ] refl
 
--- ---- the lines of sales
+-- ---- the first that passes
 
-module _ (commands : List Accepted) where
-  -- the first whose line is there, where numbers count on from one
-  record IsFirstFrom (sales : List SaleRecord) (from number : ℕ) : Type 0 where
+module _ {X : Type 0} (test : X → Bool) where
+  -- where numbers count on from one
+  record IsFirstFrom (xs : List X) (from number : ℕ) : Type 0 where
     passed : ℕ
     number_is : number ≡ suc (from + passed)
-    sale : SaleRecord
-    here : slice_get sales passed ≡ Some sale
-    line_there : is_sold commands sale ≡ true
-    before : AllByRecursion (λ s. is_sold commands s ≡ false) (take passed sales)
+    one : X
+    here : slice_get xs passed ≡ Some one
+    passes : test one ≡ true
+    before : AllByRecursion (λ x. test x ≡ false) (take passed xs)
 
-  first_from : (from number : ℕ) (sales : List SaleRecord) → first_line_there (sold commands) (suc from) sales ≡ Some number → IsFirstFrom sales from number
+  first_from : (from number : ℕ) (xs : List X) → first_number test (suc from) xs ≡ Some number → IsFirstFrom xs from number
   first_from from number [] is = absurd cc
-  first_from from number (s ∷ sales) is =
-      elim (is_sold commands s) as (λ b. (is_sold commands s ≡ b) → cond b (Some (suc from)) (first_line_there (sold commands) (suc (suc from)) sales) ≡ Some number → IsFirstFrom (s ∷ sales) from number) [
-        | true ↦ λ there first. let same = some_is (suc from) number first in record { passed = 0; number_is = omega (arith, same); sale = s; here = refl; line_there = there; before = tt }
+  first_from from number (x ∷ xs) is =
+      elim (test x) as (λ b. (test x ≡ b) → cond b (Some (suc from)) (first_number test (suc (suc from)) xs) ≡ Some number → IsFirstFrom (x ∷ xs) from number) [
+        | true ↦ λ there first. let same = some_is (suc from) number first in record { passed = 0; number_is = omega (arith, same); one = x; here = refl; passes = there; before = tt }
         | false ↦ λ new later.
-            let rest = first_from (suc from) number sales later in
+            let rest = first_from (suc from) number xs later in
             let number_is = rest.number_is in
-            record { passed = suc rest.passed; number_is = omega (arith, number_is); sale = rest.sale; here = rest.here; line_there = rest.line_there; before = (new, rest.before) }
+            record { passed = suc rest.passed; number_is = omega (arith, number_is); one = rest.one; here = rest.here; passes = rest.passes; before = (new, rest.before) }
       ] refl is
 
-  first_sold : (number : ℕ) (sales : List SaleRecord) → first_line_there (sold commands) 1 sales ≡ Some number → IsFirstSold commands sales number
-  first_sold number sales is =
-      let first = first_from 0 number sales is in
+  first_is : (number : ℕ) (xs : List X) → first_number test 1 xs ≡ Some number → IsFirst test xs number
+  first_is number xs is =
+      let first = first_from 0 number xs is in
       let number_is = first.number_is in
-      let one : suc first.passed ≡ number = omega (arith, number_is) in
+      let at : suc first.passed ≡ number = omega (arith, number_is) in
       let less : suc first.passed - 1 ≡ first.passed = omega arith in
-      subst (IsFirstSold commands sales) one (record {
-        sale = first.sale;
+      subst (IsFirst test xs) at (record {
+        one = first.one;
         here = first.here;
-        line_there = first.line_there;
-        before = subst (λ n. AllByRecursion (λ s. is_sold commands s ≡ false) (take n sales)) (sym less) first.before;
+        passes = first.passes;
+        before = subst (λ n. AllByRecursion (λ x. test x ≡ false) (take n xs)) (sym less) first.before;
       })
 
-  counted : (from passed : ℕ) (sales : List SaleRecord) (sale : SaleRecord) → slice_get sales passed ≡ Some sale → is_sold commands sale ≡ true → AllByRecursion (λ s. is_sold commands s ≡ false) (take passed sales)
-      → first_line_there (sold commands) (suc from) sales ≡ Some (suc (from + passed))
-  counted from passed [] sale here there before = absurd cc
-  counted from zero (s ∷ sales) sale here there before =
-      let same = some_is s sale here in
-      let sold_too : is_sold commands s ≡ true = rw same there in
+  counted : (from passed : ℕ) (xs : List X) (one : X) → slice_get xs passed ≡ Some one → test one ≡ true → AllByRecursion (λ x. test x ≡ false) (take passed xs)
+      → first_number test (suc from) xs ≡ Some (suc (from + passed))
+  counted from passed [] one here there before = absurd cc
+  counted from zero (x ∷ xs) one here there before =
+      let same = some_is x one here in
+      let passes_too : test x ≡ true = rw same there in
       let none : suc (from + 0) ≡ suc from = omega arith in
-      rw (sold_too, none) refl
-  counted from (suc passed) (s ∷ sales) sale here there before =
+      rw (passes_too, none) refl
+  counted from (suc passed) (x ∷ xs) one here there before =
       let new = before.0 in
       let more : suc (from + suc passed) ≡ suc (suc from + passed) = omega arith in
-      rw (new, more) (counted (suc from) passed sales sale here there before.1)
+      rw (new, more) (counted (suc from) passed xs one here there before.1)
 
-  sold_first : (number : ℕ) (sales : List SaleRecord) → IsFirstSold commands sales number → first_line_there (sold commands) 1 sales ≡ Some number
-  sold_first zero sales first = absurd (let here = first.here in cc)
-  sold_first (suc passed) sales first =
+  is_first : (number : ℕ) (xs : List X) → IsFirst test xs number → first_number test 1 xs ≡ Some number
+  is_first zero xs first = absurd (let here = first.here in cc)
+  is_first (suc passed) xs first =
       let less : suc passed - 1 ≡ passed = omega arith in
-      let one : suc (0 + passed) ≡ suc passed = omega arith in
-      counted 0 passed sales first.sale first.here first.line_there (subst (λ n. AllByRecursion (λ s. is_sold commands s ≡ false) (take n sales)) less first.before) ∙ ap Some one
+      let at : suc (0 + passed) ≡ suc passed = omega arith in
+      counted 0 passed xs first.one first.here first.passes (subst (λ n. AllByRecursion (λ x. test x ≡ false) (take n xs)) less first.before) ∙ ap Some at
 
-  none_sold : (from : ℕ) (sales : List SaleRecord) → AllByRecursion (λ s. is_sold commands s ≡ false) sales → first_line_there (sold commands) from sales ≡ None
-  none_sold from [] new = refl
-  none_sold from (s ∷ sales) new = let first = new.0 in rw first (none_sold (suc from) sales new.1)
+  none_passes : (from : ℕ) (xs : List X) → AllByRecursion (λ x. test x ≡ false) xs → first_number test from xs ≡ None
+  none_passes from [] new = refl
+  none_passes from (x ∷ xs) new = let first = new.0 in rw first (none_passes (suc from) xs new.1)
 
 -- ---- the cases
 
@@ -174,17 +173,21 @@ module _ (limits : Limits) (commands : List Accepted) (c : Command) where
     changes true over brings = IsAnswer.changes_full content brings (ltb-true _ _ over)
     changes false within brings = facts (nat_lt limits.facts (length (sold commands) + length (sold_by content))) refl (record { lines = brings; changes_left = ltb-false _ _ within })
 
-    lines : (o : Option ℕ) → first_line_there (sold commands) 1 (sold_by content) ≡ o → FitsFormat limits commands c content → Is (answer_with commands c content (number_past_lines limits commands content o))
-    lines (Some number) is may = IsAnswer.line_there content number may (first_sold commands number (sold_by content) is)
-    lines None is may = changes (nat_lt limits.changes (changes_kept commands + changes_in content)) refl (record { fits = may; lines_new = all_new (sold commands) 1 (sold_by content) is })
+    lines : (o : Option ℕ) → first_line_there (sold commands) 1 (sold_by content) ≡ o → WithdrawsStanding limits commands c content → Is (answer_with commands c content (number_past_lines limits commands content o))
+    lines (Some number) is may = IsAnswer.line_there content number may (first_is (is_sold commands) number (sold_by content) is)
+    lines None is may = changes (nat_lt limits.changes (changes_kept commands + changes_in content)) refl (record { withdraws = may; lines_new = none_first_passes (is_sold commands) 1 (sold_by content) is })
+
+    voids : (o : Option ℕ) → first_line_missing (standing commands) 1 (withdrawn_by content) ≡ o → FitsFormat limits commands c content → Is (answer_with commands c content (number_past_voids limits commands content o))
+    voids (Some number) is may = IsAnswer.no_line content number may (first_is (is_missing commands) number (withdrawn_by content) is)
+    voids None is may = lines (first_line_there (sold commands) 1 (sold_by content)) refl (record { fits = may; lines_stand = none_first_passes (is_missing commands) 1 (withdrawn_by content) is })
 
     once : (b : Bool) → upgrades_again commands content ≡ b → MayBeCounted limits commands c content
-        → Is (answer_with commands c content (cond b (Err Upgraded) (number_past_lines limits commands content (first_line_there (sold commands) 1 (sold_by content)))))
+        → Is (answer_with commands c content (cond b (Err Upgraded) (number_past_voids limits commands content (first_line_missing (standing commands) 1 (withdrawn_by content)))))
     once true again may = IsAnswer.upgraded content may again
-    once false first may = lines (first_line_there (sold commands) 1 (sold_by content)) refl (record { counted = may; upgrades_once = first })
+    once false first may = voids (first_line_missing (standing commands) 1 (withdrawn_by content)) refl (record { counted = may; upgrades_once = first })
 
     room : (b : Bool) → nat_le limits.commands (length commands) ≡ b → Says commands c content
-        → Is (answer_with commands c content (cond b (Err (Full Commands)) (cond (upgrades_again commands content) (Err Upgraded) (number_past_lines limits commands content (first_line_there (sold commands) 1 (sold_by content))))))
+        → Is (answer_with commands c content (cond b (Err (Full Commands)) (cond (upgrades_again commands content) (Err Upgraded) (number_past_voids limits commands content (first_line_missing (standing commands) 1 (withdrawn_by content))))))
     room true full says = IsAnswer.commands_full content says (leb-true _ _ full)
     room false left says = once (upgrades_again commands content) refl (record { says = says; commands_left = leb-false _ _ left })
 
@@ -213,10 +216,10 @@ module _ (limits : Limits) (commands : List Accepted) (c : Command) where
   by_says content says = by_new says.new ∙ ap (when_read limits commands c) says.read
 
   abbrev past_count : Content → Bool → Result ℕ Refused
-  past_count content b = cond b (Err (Full Commands)) (cond (upgrades_again commands content) (Err Upgraded) (number_past_lines limits commands content (first_line_there (sold commands) 1 (sold_by content))))
+  past_count content b = cond b (Err (Full Commands)) (cond (upgrades_again commands content) (Err Upgraded) (number_past_voids limits commands content (first_line_missing (standing commands) 1 (withdrawn_by content))))
 
   abbrev past_format : Content → Bool → Result ℕ Refused
-  past_format content b = cond b (Err Upgraded) (number_past_lines limits commands content (first_line_there (sold commands) 1 (sold_by content)))
+  past_format content b = cond b (Err Upgraded) (number_past_voids limits commands content (first_line_missing (standing commands) 1 (withdrawn_by content)))
 
   by_count : (content : Content) → MayBeCounted limits commands c content → answer limits commands c ≡ answer_with commands c content (past_format content (upgrades_again commands content))
   by_count content may =
@@ -224,11 +227,14 @@ module _ (limits : Limits) (commands : List Accepted) (c : Command) where
       let no : nat_le limits.commands (length commands) ≡ false = grind (arith, nat_tests) in
       by_says content may.says ∙ ap (λ b. answer_with commands c content (past_count content b)) no
 
-  by_format : (content : Content) → FitsFormat limits commands c content → answer limits commands c ≡ answer_with commands c content (number_past_lines limits commands content (first_line_there (sold commands) 1 (sold_by content)))
+  by_format : (content : Content) → FitsFormat limits commands c content → answer limits commands c ≡ answer_with commands c content (number_past_voids limits commands content (first_line_missing (standing commands) 1 (withdrawn_by content)))
   by_format content fits = by_count content fits.counted ∙ ap (λ b. answer_with commands c content (past_format content b)) fits.upgrades_once
 
+  by_voids : (content : Content) → WithdrawsStanding limits commands c content → answer limits commands c ≡ answer_with commands c content (number_past_lines limits commands content (first_line_there (sold commands) 1 (sold_by content)))
+  by_voids content withdraws = by_format content withdraws.fits ∙ ap (λ o. answer_with commands c content (number_past_voids limits commands content o)) (none_passes (is_missing commands) 1 (withdrawn_by content) withdraws.lines_stand)
+
   by_lines : (content : Content) → BringsNewLines limits commands c content → answer limits commands c ≡ answer_with commands c content (number_past_lines limits commands content None)
-  by_lines content brings = by_format content brings.fits ∙ ap (λ o. answer_with commands c content (number_past_lines limits commands content o)) (none_sold commands 1 (sold_by content) brings.lines_new)
+  by_lines content brings = by_voids content brings.withdraws ∙ ap (λ o. answer_with commands c content (number_past_lines limits commands content o)) (none_passes (is_sold commands) 1 (sold_by content) brings.lines_new)
 
   by_changes : (content : Content) → KeepsToChanges limits commands c content
       → answer limits commands c ≡ answer_with commands c content (cond (nat_lt limits.facts (length (sold commands) + length (sold_by content))) (Err (Full Facts)) (Ok (suc (length commands))))
@@ -267,7 +273,8 @@ module _ (limits : Limits) (commands : List Accepted) (c : Command) where
         let yes : nat_le limits.commands (length commands) ≡ true = grind (arith, nat_tests) in
         sym (by_says content says ∙ ap (λ b. answer_with commands c content (past_count content b)) yes)
     only _ (IsAnswer.upgraded content may again) = sym (by_count content may ∙ ap (λ b. answer_with commands c content (past_format content b)) again)
-    only _ (IsAnswer.line_there content number may first) = sym (by_format content may ∙ ap (λ o. answer_with commands c content (number_past_lines limits commands content o)) (sold_first commands number (sold_by content) first))
+    only _ (IsAnswer.no_line content number may first) = sym (by_format content may ∙ ap (λ o. answer_with commands c content (number_past_voids limits commands content o)) (is_first (is_missing commands) number (withdrawn_by content) first))
+    only _ (IsAnswer.line_there content number may first) = sym (by_voids content may ∙ ap (λ o. answer_with commands c content (number_past_lines limits commands content o)) (is_first (is_sold commands) number (sold_by content) first))
     only _ (IsAnswer.changes_full content brings over) =
         let yes : nat_lt limits.changes (changes_kept commands + changes_in content) ≡ true = grind (arith, nat_tests) in
         sym (by_lines content brings ∙ ap (λ b. answer_with commands c content (cond b (Err (Full Changes)) (cond (nat_lt limits.facts (length (sold commands) + length (sold_by content))) (Err (Full Facts)) (Ok (suc (length commands)))))) yes)

@@ -7,7 +7,7 @@ use Rattle.wh_policy.specs.declared.policy.Policy.{Policy}
 use Rattle.wh_policy.specs.declared.fault.PolicyFault.{PolicyFault}
 use Rattle.wh_policy.specs.Policy.{policy_at}
 use Rattle.wh_batch.specs.Kind.{command_word, command_kind_of}
-use Rattle.wh_batch.specs.declared.kind.Kind.TheVariants.{Dimension, Sales}
+use Rattle.wh_batch.specs.declared.kind.Kind.TheVariants.{Dimension, Sales, Voids}
 use Rattle.wh_batch.specs.declared.kind.CommandKind.{CommandKind}
 use Rattle.wh_batch.specs.declared.kind.CommandKind.TheVariants.{Batch, Migration, Upgrade}
 use Rattle.wh_history.specs.Accepted.{Accepted, Content, records_by, placeholders_by, format_of}
@@ -92,6 +92,7 @@ kind_again (Batch (Dimension Products)) = refl
 kind_again (Batch (Dimension Stores)) = refl
 kind_again (Batch (Dimension Customers)) = refl
 kind_again (Batch Sales) = refl
+kind_again (Batch Voids) = refl
 kind_again Migration = refl
 kind_again Upgrade = refl
 

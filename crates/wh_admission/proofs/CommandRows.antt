@@ -6,10 +6,10 @@ use Rattle.wh_policy.specs.Words.{word_of, dim_of_word}
 use Rattle.wh_policy.specs.declared.attribute.Dim.{Dim}
 use Rattle.wh_policy.specs.declared.attribute.Dim.TheVariants.{Product, Store, Customer}
 use Rattle.wh_batch.specs.Kind.{command_word, command_kind_of, kind_of_word}
-use Rattle.wh_batch.specs.declared.kind.Kind.TheVariants.{Dimension, Sales}
+use Rattle.wh_batch.specs.declared.kind.Kind.TheVariants.{Dimension, Sales, Voids}
 use Rattle.wh_batch.specs.declared.kind.CommandKind.TheVariants.{Batch, Migration, Upgrade}
 use Rattle.wh_batch.specs.declared.kind.CommandKind.{CommandKind}
-use Rattle.wh_history.specs.Accepted.{Accepted, Content, Governs, Describes, Sells, Upgrades, records_by, members_after, placeholders_by}
+use Rattle.wh_history.specs.Accepted.{Accepted, Content, Governs, Describes, Sells, Upgrades, Withdraws, records_by, members_after, placeholders_by}
 use Rattle.wh_history.specs.Tables as history
 use Rattle.wh_history.proofs.Basics.{some_is}
 use Rattle.wh_model.specs.Defined.{command_at}
@@ -51,6 +51,7 @@ module _ (commands : List Accepted) (a : Accepted) (more : List Accepted) where
   same_count (Governs policy) = refl
   same_count (Describes dim records) = refl
   same_count Upgrades = refl
+  same_count (Withdraws lines) = refl
   same_count (Sells sales) =
       let upto : take (suc (length commands)) whole ≡ take (suc (length commands)) (commands ++ a ∷ []) = take_one commands a more ∙ sym (take_one commands a []) in
       let before : take (suc (length commands) - 1) whole ≡ take (suc (length commands) - 1) (commands ++ a ∷ []) = ap (λ n. take n whole) one_before ∙ take_front commands (a ∷ more) ∙ sym (take_front commands (a ∷ [])) ∙ ap (λ n. take n (commands ++ a ∷ [])) (sym one_before) in
@@ -79,9 +80,13 @@ word_is word kind h = first (bytes_eq word (codes "migrate")) refl h
     dims None is back = absurd cc
     dims (Some dim) is back = find_dim word (bytes_eq word (codes "product")) (bytes_eq word (codes "store")) (bytes_eq word (codes "customer")) dim refl refl refl is ∙ ap command_word (some_is (Batch (Dimension dim)) kind back)
 
-    second : (s : Bool) → bytes_eq word (codes "sales") ≡ s → option_map Batch (cond s (Some Sales) (option_map Dimension (dim_of_word word))) ≡ Some kind → word ≡ command_word kind
+    third : (v : Bool) → bytes_eq word (codes "void") ≡ v → option_map Batch (cond v (Some Voids) (option_map Dimension (dim_of_word word))) ≡ Some kind → word ≡ command_word kind
+    third true is back = (bytes_eq-Decides word (codes "void")).0 is ∙ ap command_word (some_is (Batch Voids) kind back)
+    third false is back = dims (dim_of_word word) refl back
+
+    second : (s : Bool) → bytes_eq word (codes "sales") ≡ s → option_map Batch (cond s (Some Sales) (cond (bytes_eq word (codes "void")) (Some Voids) (option_map Dimension (dim_of_word word)))) ≡ Some kind → word ≡ command_word kind
     second true is back = (bytes_eq-Decides word (codes "sales")).0 is ∙ ap command_word (some_is (Batch Sales) kind back)
-    second false is back = dims (dim_of_word word) refl back
+    second false is back = third (bytes_eq word (codes "void")) refl back
 
     upgrade : (u : Bool) → bytes_eq word (codes "upgrade") ≡ u → cond u (Some Upgrade) (option_map Batch (kind_of_word word)) ≡ Some kind → word ≡ command_word kind
     upgrade true is back = (bytes_eq-Decides word (codes "upgrade")).0 is ∙ ap command_word (some_is Upgrade kind back)

@@ -1,8 +1,8 @@
 -- What is kept of the bytes of a command says the same.
-use Rattle.std.proofs.Common.{◌≡◌, ℕ, List, Result, refl}
+use Rattle.std.proofs.Common.{◌≡◌, ℕ, List, refl}
 use Rattle.wh_policy.specs.declared.format.Format.{Format}
 use Rattle.wh_policy.specs.declared.policy.Policy.{Policy}
-use Rattle.wh_batch.specs.declared.kind.Kind.TheVariants.{Dimension, Sales}
+use Rattle.wh_batch.specs.declared.kind.Kind.TheVariants.{Dimension, Sales, Voids}
 use Rattle.wh_batch.specs.declared.kind.CommandKind.{CommandKind}
 use Rattle.wh_batch.specs.declared.kind.CommandKind.TheVariants.{Batch, Migration, Upgrade}
 use Rattle.wh_admission.specs.Admission.{bytes_kept, content_of}
@@ -15,5 +15,6 @@ kept_again Upgrade bytes = refl
 pub kept_says : (kind : CommandKind) (format : Format) (policy : Policy) (bytes : List ℕ) → content_of kind format policy (bytes_kept kind bytes) ≡ content_of kind format policy bytes
 kept_says (Batch (Dimension dim)) format policy bytes = refl
 kept_says (Batch Sales) format policy bytes = refl
+kept_says (Batch Voids) format policy bytes = refl
 kept_says Migration format policy bytes = refl
 kept_says Upgrade format policy bytes = refl

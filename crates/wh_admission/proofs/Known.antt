@@ -3,7 +3,7 @@ use Rattle.std.proofs.Common.{◌≡◌, ℕ, zero, suc, ◌-◌, ◌<◌, ◌�
 use Rattle.std.specs.Prelude.{find, bytes_eq, IsOk}
 use Rattle.std.proofs.lemmas.List.{map-append, take-append-le}
 use Rattle.std.proofs.lemmas.Slice.Eq.{bytes_eq-Decides}
-use Rattle.wh_history.specs.Accepted.{Accepted, Content, Governs, Describes, Sells, Upgrades, records_by, placeholders_by, format_of}
+use Rattle.wh_history.specs.Accepted.{Accepted, Content, Governs, Describes, Sells, Upgrades, Withdraws, records_by, placeholders_by, format_of}
 use Rattle.wh_history.specs.Keys.{place, after_one}
 use Rattle.wh_history.specs.Tables.{Limits}
 use Rattle.wh_history.proofs.Numbers.{place-append_front}
@@ -148,6 +148,7 @@ brought : (commands more : List Accepted) (number : ℕ) (content : Content) →
 brought commands more number (Governs policy) few = refl
 brought commands more number (Describes dim records) few = refl
 brought commands more number Upgrades few = refl
+brought commands more number (Withdraws lines) few = refl
 brought commands more number (Sells sales) few =
     let with : take number (commands ++ more) ≡ take number commands = take-append-le number commands more few in
     let without : take (number - 1) (commands ++ more) ≡ take (number - 1) commands = take-append-le (number - 1) commands more (omega (arith, few)) in

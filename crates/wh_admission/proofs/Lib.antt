@@ -3,6 +3,7 @@ pub mod Known
 pub mod GoodRecords
 pub mod SameLines
 pub mod GoodSales
+pub mod GoodVoids
 pub mod Migrated
 pub mod StaysAccepted
 pub mod Admitted

@@ -12,7 +12,7 @@ use Rattle.wh_policy.specs.declared.fault.PolicyFault.{PolicyFault}
 use Rattle.wh_policy.specs.declared.policy.Policy.{Policy}
 use Rattle.wh_policy.proofs.FileLaws.{policies_are_sound}
 use Rattle.wh_batch.proofs.GoodLemmas.{bind_ok}
-use Rattle.wh_history.specs.Accepted.{Accepted, Content, Governs, Describes, Sells, Upgrades, governed, policy_after}
+use Rattle.wh_history.specs.Accepted.{Accepted, Content, Governs, Describes, Sells, Upgrades, Withdraws, governed, policy_after}
 use Rattle.wh_admission.specs.Admission.{of_file, policy_told}
 use Rattle.wh_admission.specs.declared.command.Refused.{Refused}
 use Rattle.wh_admission.specs.declared.command.Refused.TheVariants.{Unfit}
@@ -50,6 +50,7 @@ still_governed o (Governs policy) some = refl
 still_governed o (Describes dim records) some = some
 still_governed o (Sells sales) some = some
 still_governed o Upgrades some = some
+still_governed o (Withdraws lines) some = some
 
 -- up to six attributes of a dimension
 abbrev pub HasSix : Dim → Option Policy → Type 0
@@ -62,6 +63,7 @@ still_six dim o kind bytes (Governs policy) gives six =
 still_six dim o kind bytes (Describes dimension records) gives six = six
 still_six dim o kind bytes (Sells sales) gives six = six
 still_six dim o kind bytes Upgrades gives six = six
+still_six dim o kind bytes (Withdraws lines) gives six = six
 
 -- the policy, if there is one, is sound
 abbrev pub IsSoundIf : Option Policy → Type 0
@@ -73,6 +75,7 @@ sound_given o kind bytes (Governs policy) sound gives = policies_are_sound bytes
 sound_given o kind bytes (Describes dim records) sound gives = sound
 sound_given o kind bytes (Sells sales) sound gives = sound
 sound_given o kind bytes Upgrades sound gives = sound
+sound_given o kind bytes (Withdraws lines) sound gives = sound
 
 pub sound_after : (before : Option Policy) (commands : List Accepted) → IsSoundIf before → AllByRecursion (λ c. GivesPolicy c.kind c.bytes c.content) commands → IsSoundIf (policy_after before commands)
 sound_after before [] sound all = sound
@@ -84,3 +87,4 @@ newer_in_force o (Governs policy) other = refl
 newer_in_force o (Describes dim records) other = refl
 newer_in_force o (Sells sales) other = refl
 newer_in_force o Upgrades other = refl
+newer_in_force o (Withdraws lines) other = refl

@@ -1,5 +1,5 @@
 -- The answer to a command, and the list of those that are accepted.
-use Rattle.std.specs.Prelude.{◌≡◌, ⊤, Bool, true, false, ℕ, suc, ◌+◌, ◌&&◌, nat_le, nat_lt, if◌then◌else◌, List, [], ◌∷◌, ◌++◌, length, map, find, Option, Some, None, unwrap_or, bytes_eq, Result, Ok, Err}
+use Rattle.std.specs.Prelude.{◌≡◌, ⊤, Bool, true, false, not, ℕ, suc, ◌+◌, ◌&&◌, nat_le, nat_lt, if◌then◌else◌, List, [], ◌∷◌, ◌++◌, length, map, find, Option, Some, None, unwrap_or, bytes_eq, Result, Ok, Err}
 use Rattle.std.specs.List.{list_any}
 use Rattle.wh_day.specs.Reading.{◌>>=◌}
 use Rattle.wh_policy.specs.Names.{fits}
@@ -9,20 +9,21 @@ use Rattle.wh_policy.specs.declared.fault.PolicyFault.{PolicyFault}
 use Rattle.wh_policy.specs.declared.policy.Policy.{Policy}
 use Rattle.wh_policy.specs.declared.record.DimensionRecord.{DimensionRecord}
 use Rattle.wh_policy.specs.declared.record.SaleRecord.{SaleRecord}
+use Rattle.wh_policy.specs.declared.record.VoidRecord.{VoidRecord}
 use Rattle.wh_batch.specs.Kind.{command_word}
-use Rattle.wh_batch.specs.Layouts.{dimension_records, sale_records}
-use Rattle.wh_batch.specs.declared.kind.Kind.TheVariants.{Dimension, Sales}
+use Rattle.wh_batch.specs.Layouts.{dimension_records, sale_records, void_records}
+use Rattle.wh_batch.specs.declared.kind.Kind.TheVariants.{Dimension, Sales, Voids}
 use Rattle.wh_policy.specs.declared.format.Format.{Format}
 use Rattle.wh_policy.specs.declared.format.Format.TheVariants.{Two}
 use Rattle.wh_policy.specs.Formats.{is_two}
 use Rattle.wh_batch.specs.declared.fault.BatchFault.{BatchFault}
 use Rattle.wh_history.specs.Keys.{place}
-use Rattle.wh_history.specs.Accepted.{Accepted, Content, Governs, Describes, Sells, Upgrades, policy_after, format_of, sold, sold_by, records_by, placeholders_by}
+use Rattle.wh_history.specs.Accepted.{Accepted, Content, Governs, Describes, Sells, Upgrades, Withdraws, policy_after, format_of, sold, sold_by, standing, withdrawn_by, records_by, placeholders_by}
 use Rattle.wh_history.specs.Tables.{Limits}
 use Rattle.wh_rows.specs.Types.{is_key}
 use Rattle.wh_rows.specs.Limits.{are_limits}
 use Rattle.wh_model.specs.Sound.{making_of}
-use Rattle.wh_model.specs.Sound.{IsAccepted, changes_kept, same_line}
+use Rattle.wh_model.specs.Sound.{IsAccepted, changes_kept, same_line, is_sold_line}
 use Rattle.wh_admission.specs.declared.command.Command.{Command}
 use Rattle.wh_batch.specs.declared.kind.CommandKind.{CommandKind}
 use Rattle.wh_batch.specs.declared.kind.CommandKind.TheVariants.{Batch, Migration, Upgrade}
@@ -30,7 +31,7 @@ use Rattle.wh_admission.specs.declared.command.Receipt.{Receipt}
 use Rattle.wh_admission.specs.declared.command.Reply.{Reply}
 use Rattle.wh_admission.specs.declared.command.Reply.TheVariants.{Accepted as Accepts, Already}
 use Rattle.wh_admission.specs.declared.command.Refused.{Refused}
-use Rattle.wh_admission.specs.declared.command.Refused.TheVariants.{BadId, Reused, Batch as BadBatch, Policy as BadPolicy, Unfit, Upgraded, LineThere, Full}
+use Rattle.wh_admission.specs.declared.command.Refused.TheVariants.{BadId, Reused, Batch as BadBatch, Policy as BadPolicy, Unfit, Upgraded, LineThere, NoLine, Full}
 use Rattle.wh_admission.specs.declared.command.Limit.TheVariants.{Commands, Changes, Facts}
 
 -- the policy in force; a list of accepted commands begins with a making, so it has one
@@ -48,6 +49,9 @@ records_told dim policy bytes = of_batch (dimension_records dim policy bytes)
 abbrev pub sales_told : Format → Policy → List ℕ → Result (List SaleRecord) Refused
 sales_told format policy bytes = of_batch (sale_records policy format bytes)
 
+abbrev pub voids_told : Format → List ℕ → Result (List VoidRecord) Refused
+voids_told format bytes = of_batch (void_records format bytes)
+
 -- what was read of a policy file, or its first fault
 abbrev pub of_file : Result Policy PolicyFault → Result Policy Refused
 of_file (Ok policy) = Ok policy
@@ -61,6 +65,7 @@ policy_told older bytes = of_file (policy_at bytes) >>= λ newer. if fits older 
 abbrev pub content_of : CommandKind → Format → Policy → List ℕ → Result Content Refused
 content_of (Batch (Dimension dim)) format policy bytes = records_told dim policy bytes >>= λ records. Ok (Describes dim records)
 content_of (Batch Sales) format policy bytes = sales_told format policy bytes >>= λ sales. Ok (Sells sales)
+content_of (Batch Voids) format policy bytes = voids_told format bytes >>= λ lines. Ok (Withdraws lines)
 content_of Migration format policy bytes = policy_told policy bytes >>= λ newer. Ok (Governs newer)
 content_of Upgrade format policy bytes = Ok Upgrades
 
@@ -90,11 +95,18 @@ accepted_as c content = record { id = c.id; kind = command_word c.kind; bytes = 
 abbrev pub receipt_of : List Accepted → ℕ → Content → Receipt
 receipt_of commands number content = record { number = number; records = records_by content; placeholders = placeholders_by commands number content }
 
--- the first sale whose ticket and line are those of a sale before
+-- the number of the first that passes, where the first of all has this number
+abbrev pub first_number : {X : Type 0} → (X → Bool) → ℕ → List X → Option ℕ
+first_number test number [] = None
+first_number test number (x ∷ xs) = if test x then Some number else first_number test (suc number) xs
+
+-- the first sale whose ticket and line are those of a sale before, withdrawn or not
 abbrev pub first_line_there : List SaleRecord → ℕ → List SaleRecord → Option ℕ
-first_line_there before number [] = None
-first_line_there before number (s ∷ sales) =
-    if list_any (λ t. same_line t s) before then Some number else first_line_there before (suc number) sales
+first_line_there before number sales = first_number (λ s. list_any (λ t. same_line t s) before) number sales
+
+-- the first void whose ticket and line no sale has that stands
+abbrev pub first_line_missing : List SaleRecord → ℕ → List VoidRecord → Option ℕ
+first_line_missing stand number voids = first_number (λ v. not (is_sold_line stand v)) number voids
 
 -- how many dimension records a content holds
 abbrev pub changes_in : Content → ℕ
@@ -102,6 +114,7 @@ changes_in (Governs policy) = 0
 changes_in (Describes dim records) = length records
 changes_in (Sells sales) = 0
 changes_in Upgrades = 0
+changes_in (Withdraws lines) = 0
 
 -- the number of the next command where this content has no line that is there
 abbrev pub number_past_lines : Limits → List Accepted → Content → Option ℕ → Result ℕ Refused
@@ -111,19 +124,25 @@ number_past_lines limits commands content None =
     else if nat_lt limits.facts (length (sold commands) + length (sold_by content)) then Err (Full Facts)
     else Ok (suc (length commands))
 
+-- where each line that it withdraws stands
+abbrev pub number_past_voids : Limits → List Accepted → Content → Option ℕ → Result ℕ Refused
+number_past_voids limits commands content (Some number) = Err (NoLine number)
+number_past_voids limits commands content None = number_past_lines limits commands content (first_line_there (sold commands) 1 (sold_by content))
+
 -- it makes the second format of commands that have it
 abbrev pub upgrades_again : List Accepted → Content → Bool
 upgrades_again commands (Governs policy) = false
 upgrades_again commands (Describes dim records) = false
 upgrades_again commands (Sells sales) = false
 upgrades_again commands Upgrades = is_two (format_of commands)
+upgrades_again commands (Withdraws lines) = false
 
--- the number of the next command where there is room for it and for this content, it is no second upgrade, and no line of it is there
+-- the number of the next command where there is room for it and for this content, it is no second upgrade, each line that it withdraws stands, and no line that it sells is there
 abbrev pub number_for : Limits → List Accepted → Content → Result ℕ Refused
 number_for limits commands content =
     if nat_le limits.commands (length commands) then Err (Full Commands)
     else if upgrades_again commands content then Err Upgraded
-    else number_past_lines limits commands content (first_line_there (sold commands) 1 (sold_by content))
+    else number_past_voids limits commands content (first_line_missing (standing commands) 1 (withdrawn_by content))
 
 -- the answer with its number, or why there is none
 abbrev pub answer_with : List Accepted → Command → Content → Result ℕ Refused → Result Reply Refused

@@ -1,19 +1,20 @@
 -- Admission, case by case: the first case that applies gives the answer.
-use Rattle.std.specs.Prelude.{◌≡◌, ◌≢◌, ◌<◌, ◌≤◌, ℕ, suc, ◌+◌, ◌-◌, Bool, true, false, List, [], ◌∷◌, ◌++◌, length, map, take, Some, bytes_eq, Result, Ok, Err}
+use Rattle.std.specs.Prelude.{◌≡◌, ◌≢◌, ◌<◌, ◌≤◌, ℕ, suc, ◌+◌, ◌-◌, Bool, true, false, not, List, [], ◌∷◌, ◌++◌, length, map, take, Some, bytes_eq, Result, Ok, Err}
 use Rattle.std.specs.List.{list_any, AllByRecursion, IsDistinct}
 use Rattle.wh_policy.specs.declared.record.SaleRecord.{SaleRecord}
+use Rattle.wh_policy.specs.declared.record.VoidRecord.{VoidRecord}
 use Rattle.wh_batch.specs.Kind.{command_word}
-use Rattle.wh_history.specs.Accepted.{Accepted, Content, sold, sold_by, format_of}
+use Rattle.wh_history.specs.Accepted.{Accepted, Content, sold, sold_by, standing, withdrawn_by, format_of}
 use Rattle.wh_history.specs.Keys.{at_place}
 use Rattle.wh_history.specs.Tables.{Limits}
-use Rattle.wh_model.specs.Sound.{changes_kept, same_line}
+use Rattle.wh_model.specs.Sound.{changes_kept, same_line, is_sold_line}
 use Rattle.wh_rows.specs.Types.{is_key}
 use Rattle.wh_admission.specs.Admission.{current_policy, content_of, accepted_as, receipt_of, changes_in, answer, bytes_kept, upgrades_again}
 use Rattle.wh_admission.specs.declared.command.Command.{Command}
 use Rattle.wh_admission.specs.declared.command.Reply.{Reply}
 use Rattle.wh_admission.specs.declared.command.Reply.TheVariants.{Accepted as Accepts, Already}
 use Rattle.wh_admission.specs.declared.command.Refused.{Refused}
-use Rattle.wh_admission.specs.declared.command.Refused.TheVariants.{BadId, Reused, Upgraded, LineThere, Full}
+use Rattle.wh_admission.specs.declared.command.Refused.TheVariants.{BadId, Reused, Upgraded, LineThere, NoLine, Full}
 use Rattle.wh_admission.specs.declared.command.Limit.TheVariants.{Commands, Changes, Facts}
 
 -- the id is a good one, and an accepted command with this number has it
@@ -47,13 +48,22 @@ pub record FitsFormat (limits : Limits) (commands : List Accepted) (c : Command)
   pub counted : MayBeCounted limits commands c content
   pub upgrades_once : upgrades_again commands content ≡ false
 
--- a sale's ticket and line are those of a sale that was accepted
+-- no sale that stands has a void's ticket and line
+abbrev pub is_missing : List Accepted → VoidRecord → Bool
+is_missing commands v = not (is_sold_line (standing commands) v)
+
+-- and each line that it withdraws stands
+pub record WithdrawsStanding (limits : Limits) (commands : List Accepted) (c : Command) (content : Content) : Type 0 where
+  pub fits : FitsFormat limits commands c content
+  pub lines_stand : AllByRecursion (λ v. is_missing commands v ≡ false) (withdrawn_by content)
+
+-- a sale's ticket and line are those of a sale that was accepted, withdrawn or not
 abbrev pub is_sold : List Accepted → SaleRecord → Bool
 is_sold commands s = list_any (λ t. same_line t s) (sold commands)
 
--- and none of its lines is there
+-- and no line that it sells is there
 pub record BringsNewLines (limits : Limits) (commands : List Accepted) (c : Command) (content : Content) : Type 0 where
-  pub fits : FitsFormat limits commands c content
+  pub withdraws : WithdrawsStanding limits commands c content
   pub lines_new : AllByRecursion (λ s. is_sold commands s ≡ false) (sold_by content)
 
 -- and the limit of changes isn't passed
@@ -61,12 +71,12 @@ pub record KeepsToChanges (limits : Limits) (commands : List Accepted) (c : Comm
   pub lines : BringsNewLines limits commands c content
   pub changes_left : changes_kept commands + changes_in content ≤ limits.changes
 
--- of these sales the one with this number is the first whose line is there
-pub record IsFirstSold (commands : List Accepted) (sales : List SaleRecord) (number : ℕ) : Type 0 where
-  pub sale : SaleRecord
-  pub here : at_place number sales ≡ Some sale
-  pub line_there : is_sold commands sale ≡ true
-  pub before : AllByRecursion (λ s. is_sold commands s ≡ false) (take (number - 1) sales)
+-- of these the one with this number is the first that passes
+pub record IsFirst {X : Type 0} (test : X → Bool) (xs : List X) (number : ℕ) : Type 0 where
+  pub one : X
+  pub here : at_place number xs ≡ Some one
+  pub passes : test one ≡ true
+  pub before : AllByRecursion (λ x. test x ≡ false) (take (number - 1) xs)
 
 -- The answer to a command after these.
 pub data IsAnswer (limits : Limits) (commands : List Accepted) (c : Command) : Result Reply Refused → Type 0 where
@@ -76,7 +86,8 @@ pub data IsAnswer (limits : Limits) (commands : List Accepted) (c : Command) : R
   faulty : (why : Refused) → IsNew commands c → content_of c.kind (format_of commands) (current_policy commands) c.bytes ≡ Err why → IsAnswer limits commands c (Err why)
   commands_full : (content : Content) → Says commands c content → limits.commands ≤ length commands → IsAnswer limits commands c (Err (Full Commands))
   upgraded : (content : Content) → MayBeCounted limits commands c content → upgrades_again commands content ≡ true → IsAnswer limits commands c (Err Upgraded)
-  line_there : (content : Content) (number : ℕ) → FitsFormat limits commands c content → IsFirstSold commands (sold_by content) number → IsAnswer limits commands c (Err (LineThere number))
+  no_line : (content : Content) (number : ℕ) → FitsFormat limits commands c content → IsFirst (is_missing commands) (withdrawn_by content) number → IsAnswer limits commands c (Err (NoLine number))
+  line_there : (content : Content) (number : ℕ) → WithdrawsStanding limits commands c content → IsFirst (is_sold commands) (sold_by content) number → IsAnswer limits commands c (Err (LineThere number))
   changes_full : (content : Content) → BringsNewLines limits commands c content → limits.changes < changes_kept commands + changes_in content → IsAnswer limits commands c (Err (Full Changes))
   facts_full : (content : Content) → KeepsToChanges limits commands c content → limits.facts < length (sold commands) + length (sold_by content) → IsAnswer limits commands c (Err (Full Facts))
   accepted : (content : Content) → KeepsToChanges limits commands c content → length (sold commands) + length (sold_by content) ≤ limits.facts

@@ -8,7 +8,7 @@ use Rattle.wh_policy.specs.declared.attribute.Dim.TheVariants.{Product as Produc
 use Rattle.wh_policy.specs.declared.format.Format.TheVariants.{One, Two}
 use Rattle.wh_history.specs.Accepted.{Accepted, format_of}
 use Rattle.wh_history.specs.Tables.{Limits, dimension_row}
-use Rattle.wh_model.specs.Defined.{meta_at, command_at, member_at, change_at, profile_at, calendar_at, fact_in}
+use Rattle.wh_model.specs.Defined.{meta_at, command_at, member_at, change_at, profile_at, calendar_at, fact_in, void_at}
 use Rattle.wh_rows.specs.Holds.{Layout}
 use Rattle.wh_rows.specs.Limits.{are_limits}
 use Rattle.wh_rows.specs.Raw.{Stored, HasDamageIn}
@@ -24,7 +24,7 @@ pub record AreRowsAt {K V : Type 0} (layout : Layout K V) (row_at : K → Option
   pub valid : IsTrue (list_all layout.is_valid (values rows))
   pub same : IsPermutation stored (map layout.encode (values rows))
 
--- What is stored in a table is what limits and accepted commands define. No command withdraws a line.
+-- What is stored in a table is what limits and accepted commands define.
 abbrev pub IsDefined : Limits → List Accepted → Stored → Table → Type 0
 IsDefined limits commands stored Meta = AreRowsAt row.meta (meta_at (format_of commands) limits) (stored.rows Meta)
 IsDefined limits commands stored Command = AreRowsAt row.command (command_at commands) (stored.rows Command)
@@ -37,7 +37,7 @@ IsDefined limits commands stored Profile = AreRowsAt row.profile (profile_at com
 IsDefined limits commands stored Calendar = AreRowsAt row.calendar (calendar_at commands) (stored.rows Calendar)
 IsDefined limits commands stored Fact = AreRowsAt row.fact (fact_in One commands) (stored.rows Fact)
 IsDefined limits commands stored Fact2 = AreRowsAt row.fact2 (fact_in Two commands) (stored.rows Fact2)
-IsDefined limits commands stored Void = AreRowsAt row.void (λ _. None) (stored.rows Void)
+IsDefined limits commands stored Void = AreRowsAt row.void (void_at commands) (stored.rows Void)
 
 -- What is stored is sound: it is that of a list of commands that were admitted, one after the other, under good limits, in tables of the format that they make.
 pub record IsSoundStored (stored : Stored) : Type 0 where

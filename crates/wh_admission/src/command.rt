@@ -81,9 +81,12 @@ pub enum Refused {
     /// A table, an index or a view of somebody else's has a name that the second format needs. No list of commands says so: it is found in the file.
     #[error("a name of the second format is taken")]
     NameTaken,
-    /// The first sale, from 1, whose ticket and line are those of a stored fact.
+    /// The first sale, from 1, whose ticket and line are those of a stored fact, or were withdrawn.
     #[error("a fact of the ticket and line is there")]
     LineThere(u64),
+    /// The first void, from 1, whose ticket and line no stored fact has.
+    #[error("no fact of the ticket and line is there")]
+    NoLine(u64),
     /// A limit of the warehouse is reached, or would be passed.
     #[error("a limit of the warehouse is reached")]
     Full(Limit),

@@ -7,16 +7,16 @@ use Rattle.wh_day.proofs.KeyBytes.{key_is_text}
 use Rattle.wh_policy.specs.Policy.{trial_policy}
 use Rattle.wh_policy.specs.declared.attribute.Dim.TheVariants.{Product}
 use Rattle.wh_policy.specs.declared.record.SaleRecord.{SaleRecord}
-use Rattle.wh_batch.specs.declared.fault.FaultKind.TheVariants.{WrongHeader, WrongLength, BadKey, BadDay, BadValue, BadNumber, TwiceInBatch, OutsideCalendar}
+use Rattle.wh_batch.specs.declared.fault.FaultKind.TheVariants.{WrongHeader, WrongLength, BadKey, BadDay, BadValue, BadNumber, TwiceInBatch, OutsideCalendar, NotInFormat}
 use Rattle.wh_batch.specs.declared.kind.CommandKind.{CommandKind}
 use Rattle.wh_batch.specs.declared.kind.CommandKind.TheVariants.{Batch, Migration, Upgrade}
 use Rattle.wh_policy.specs.declared.format.Format.TheVariants.{One, Two}
-use Rattle.wh_batch.specs.declared.kind.Kind.TheVariants.{Dimension, Sales}
+use Rattle.wh_batch.specs.declared.kind.Kind.TheVariants.{Dimension, Sales, Voids}
 use Rattle.wh_batch.specs.declared.manifest.ManifestEntry.{ManifestEntry}
 use Rattle.wh_batch.specs.Batch.{at, records_after}
 use Rattle.wh_batch.specs.Fields.{key_at, customer_at, day_at, effective_day_at, value_at}
 use Rattle.wh_batch.specs.Numbers.{read_line, read_quantity, read_amount}
-use Rattle.wh_batch.specs.Layouts.{dimension_record, dimension_records, sale_record, sale_records, sales_layout}
+use Rattle.wh_batch.specs.Layouts.{dimension_record, dimension_records, sale_record, sale_records, sales_layout, void_record, void_records}
 use Rattle.wh_batch.specs.Kind.{command_word, command_kind_of}
 use Rattle.wh_batch.specs.Manifest.{entry_of, manifest_of}
 use Rattle.wh_batch.proofs.OnLiterals.{batch_on_literals}
@@ -179,9 +179,35 @@ header_with_discount : sale_records trial_policy One (codes "ticket,line,day,sto
 unfolding batch_on_literals
 header_with_discount = refl
 
+-- voids
+line_of_a_ticket : void_record (codes "T5" ∷ codes "0001" ∷ []) ≡ Ok (record { ticket = codes "T5"; line = 1 })
+unfolding batch_on_literals
+line_of_a_ticket = refl
+
+bad_voids : (void_record (codes "T 5" ∷ codes "0" ∷ []) ≡ Err BadKey) × (void_record (codes "T5" ∷ codes "0" ∷ []) ≡ Err BadNumber) × (void_record (codes "T5" ∷ codes "1" ∷ [] ∷ []) ≡ Err WrongLength)
+unfolding batch_on_literals
+bad_voids = (refl, refl, refl)
+
+two_voids : void_records Two (codes "ticket,line" ++ 10 ∷ codes "T5,1" ++ 10 ∷ codes "T5,2") ≡ Ok (record { ticket = codes "T5"; line = 1 } ∷ record { ticket = codes "T5"; line = 2 } ∷ [])
+unfolding batch_on_literals
+two_voids = refl
+
+voided_twice : void_records Two (codes "ticket,line" ++ 10 ∷ codes "T5,1" ++ 10 ∷ codes "T5,01") ≡ Err (at 2 TwiceInBatch)
+unfolding batch_on_literals
+voided_twice = refl
+
+header_of_sales : void_records Two (two_sales (10 ∷ [])) ≡ Err (at 0 WrongHeader)
+unfolding batch_on_literals
+header_of_sales = refl
+
+-- the first format has none, whatever the bytes are
+none_in_the_first_format : (bytes : List ℕ) → void_records One bytes ≡ Err (at 0 NotInFormat)
+unfolding batch_on_literals
+none_in_the_first_format bytes = refl
+
 -- the words of commands
-words : (command_kind_of (codes "sales") ≡ Some (Batch Sales)) × (command_kind_of (codes "migrate") ≡ Some Migration) × (command_kind_of (codes "upgrade") ≡ Some Upgrade) × (command_kind_of (codes "init") ≡ None) × (command_word (Batch (Dimension Product)) ≡ codes "product")
-words = (refl, refl, refl, refl, refl)
+words : (command_kind_of (codes "sales") ≡ Some (Batch Sales)) × (command_kind_of (codes "void") ≡ Some (Batch Voids)) × (command_kind_of (codes "migrate") ≡ Some Migration) × (command_kind_of (codes "upgrade") ≡ Some Upgrade) × (command_kind_of (codes "init") ≡ None) × (command_word (Batch (Dimension Product)) ≡ codes "product")
+words = (refl, refl, refl, refl, refl, refl)
 
 -- manifests, with the line end given
 abbrev night : List ℕ → List ℕ

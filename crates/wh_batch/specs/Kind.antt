@@ -2,7 +2,7 @@
 use Rattle.std.specs.Prelude.{ℕ, codes, List, Option, Some, option_map, if◌then◌else◌, bytes_eq}
 use Rattle.wh_policy.specs.Words.{word_of, dim_of_word}
 use Rattle.wh_batch.specs.declared.kind.Kind.{Kind}
-use Rattle.wh_batch.specs.declared.kind.Kind.TheVariants.{Dimension, Sales}
+use Rattle.wh_batch.specs.declared.kind.Kind.TheVariants.{Dimension, Sales, Voids}
 use Rattle.wh_batch.specs.declared.kind.CommandKind.{CommandKind}
 use Rattle.wh_batch.specs.declared.kind.CommandKind.TheVariants.{Batch, Migration, Upgrade}
 
@@ -10,10 +10,11 @@ use Rattle.wh_batch.specs.declared.kind.CommandKind.TheVariants.{Batch, Migratio
 abbrev pub kind_word : Kind → List ℕ
 kind_word (Dimension dim) = word_of dim
 kind_word Sales = codes "sales"
+kind_word Voids = codes "void"
 
 -- the kind of a word, if it is the word for one
 abbrev pub kind_of_word : List ℕ → Option Kind
-kind_of_word word = if bytes_eq word (codes "sales") then Some Sales else option_map Dimension (dim_of_word word)
+kind_of_word word = if bytes_eq word (codes "sales") then Some Sales else if bytes_eq word (codes "void") then Some Voids else option_map Dimension (dim_of_word word)
 
 -- the word for what a command is
 abbrev pub command_word : CommandKind → List ℕ

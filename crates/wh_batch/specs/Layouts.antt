@@ -10,8 +10,9 @@ use Rattle.wh_policy.specs.declared.policy.Policy.{Policy}
 use Rattle.wh_policy.specs.declared.policy.Years.{Years}
 use Rattle.wh_policy.specs.declared.record.DimensionRecord.{DimensionRecord}
 use Rattle.wh_policy.specs.declared.record.SaleRecord.{SaleRecord}
+use Rattle.wh_policy.specs.declared.record.VoidRecord.{VoidRecord}
 use Rattle.wh_batch.specs.declared.fault.FaultKind.{FaultKind}
-use Rattle.wh_batch.specs.declared.fault.FaultKind.TheVariants.{WrongLength}
+use Rattle.wh_batch.specs.declared.fault.FaultKind.TheVariants.{WrongLength, NotInFormat}
 use Rattle.wh_batch.specs.declared.fault.BatchFault.{BatchFault}
 use Rattle.wh_batch.specs.declared.kind.Kind.{Kind}
 use Rattle.wh_batch.specs.declared.kind.Kind.TheVariants as kinds
@@ -21,7 +22,7 @@ use Rattle.wh_batch.specs.declared.records.Records.{Records}
 use Rattle.wh_batch.specs.declared.records.Records.TheVariants as of_kind
 use Rattle.wh_batch.specs.Fields.{key_at, customer_at, day_at, effective_day_at, values_at}
 use Rattle.wh_batch.specs.Numbers.{line_at, quantity_at, amount_at, discount_at}
-use Rattle.wh_batch.specs.Batch.{Key, Layout, batch_of}
+use Rattle.wh_batch.specs.Batch.{Key, Layout, at, batch_of}
 
 -- an id, a day, and a value for each attribute
 unfoldable pub dimension_record : ℕ → List (List ℕ) → Result DimensionRecord FaultKind
@@ -115,7 +116,38 @@ sales_layout format years = record {
 unfoldable pub sale_records : Policy → Format → List ℕ → Result (List SaleRecord) BatchFault
 sale_records policy format bytes = batch_of (sales_layout format policy.years) bytes
 
+-- a ticket and a line
+unfoldable pub void_record : List (List ℕ) → Result VoidRecord FaultKind
+void_record (ticket ∷ line ∷ []) = do
+  ticket ← key_at 20 ticket
+  line ← line_at line
+  Ok (record { ticket = ticket; line = line })
+void_record _ = Err WrongLength
+
+-- the ticket and the line
+abbrev pub void_key : VoidRecord → Key
+void_key r = record { text = r.ticket; number = r.line }
+
+-- the names of the fields of a void
+abbrev pub void_header : List (List ℕ)
+void_header = codes "ticket" ∷ codes "line" ∷ []
+
+-- voids, which have no day
+abbrev pub voids_layout : Layout VoidRecord
+voids_layout = record {
+  header = void_header;
+  read = void_record;
+  key = void_key;
+  is_within = λ r. true;
+}
+
+-- the records of a batch of voids, or its first fault: the first format has none
+unfoldable pub void_records : Format → List ℕ → Result (List VoidRecord) BatchFault
+void_records One bytes = Err (at 0 NotInFormat)
+void_records Two bytes = batch_of voids_layout bytes
+
 -- the records of a batch of this kind, or its first fault
 unfoldable pub records_of : Kind → Policy → Format → List ℕ → Result Records BatchFault
 records_of (kinds.Dimension dim) policy format bytes = dimension_records dim policy bytes >>= λ rs. Ok (of_kind.Dimension rs)
 records_of kinds.Sales policy format bytes = sale_records policy format bytes >>= λ rs. Ok (of_kind.Sales rs)
+records_of kinds.Voids policy format bytes = void_records format bytes >>= λ rs. Ok (of_kind.Voids rs)

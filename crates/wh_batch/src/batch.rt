@@ -93,7 +93,8 @@ fn next_record<L: RecordLayout>(
     Ok(record)
 }
 
-fn fault(number: u32, kind: FaultKind) -> ParseError<BatchFault>
+/// The fault of this kind at the record with this number.
+pub(crate) fn fault(number: u32, kind: FaultKind) -> ParseError<BatchFault>
     ensures { result ≡ ParseError.Fault (record { kind = kind; number = number }) }
 {
     ParseError::Fault(BatchFault { kind, number })

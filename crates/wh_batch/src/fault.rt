@@ -2,7 +2,8 @@
 
 use thiserror::Error;
 
-/// What is wrong with a batch or one of its records, in the order in which it is looked for.
+/// What is wrong with a batch or one of its records, in the order in which it is looked for; but the last is looked for before
+/// all others.
 #[derive(Clone, Copy, Debug, PartialEq, Eq, Error)]
 pub enum FaultKind {
     /// Over 1,000,000 bytes, or over 5,000 records.
@@ -32,6 +33,9 @@ pub enum FaultKind {
     /// A sale on a day outside the years of the policy.
     #[error("a sale on a day outside the years of the policy")]
     OutsideCalendar,
+    /// The first format has no such batch.
+    #[error("not in this format")]
+    NotInFormat,
 }
 
 /// The first fault of a batch.

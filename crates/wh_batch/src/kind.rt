@@ -10,16 +10,19 @@ use wh_policy::Dim;
 pub enum Kind {
     Dimension(Dim),
     Sales,
+    /// Lines of tickets that are withdrawn.
+    Voids,
 }
 
 impl Kind {
-    /// The word for it, in commands: that of the dimension, or `sales`.
+    /// The word for it, in commands: that of the dimension, `sales` or `void`.
     pub fn word(self) -> &'static str
         ensures { result.now ≡ kind_word self }
     {
         match self {
             Kind::Dimension(dim) => dim.word(),
             Kind::Sales => "sales",
+            Kind::Voids => "void",
         }
     }
 
@@ -29,6 +32,9 @@ impl Kind {
     {
         if word == "sales" {
             return Some(Kind::Sales);
+        }
+        if word == "void" {
+            return Some(Kind::Voids);
         }
         match Dim::from_word(word) {
             Some(dim) => Some(Kind::Dimension(dim)),

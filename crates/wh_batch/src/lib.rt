@@ -16,7 +16,7 @@ mod reader;
 mod records;
 mod rows;
 mod sale;
-mod sales;
+mod void;
 
 pub use batch::{BATCH_LIMIT, MOST_RECORDS};
 pub use dimension::dimension_records;
@@ -25,6 +25,6 @@ pub use kind::{CommandKind, Kind};
 pub use manifest::{BadManifest, Manifest, ManifestEntry};
 pub use path::FilePath;
 pub use reader::read;
-pub use records::{DimensionRecords, Records};
+pub use records::{DimensionRecords, Records, SaleRecords, VoidRecords};
 pub use sale::sale_records;
-pub use sales::SaleRecords;
+pub use void::void_records;

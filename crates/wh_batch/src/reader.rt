@@ -1,4 +1,4 @@
-//! Reading a batch of either kind.
+//! Reading a batch of any kind.
 
 ghost use Rattle.std.specs.Prelude.{◌≡◌};
 ghost use Rattle.wh_day.specs.Reading.{Gives};
@@ -9,6 +9,7 @@ use crate::fault::BatchFault;
 use crate::kind::Kind;
 use crate::records::Records;
 use crate::sale::sale_records;
+use crate::void::void_records;
 use std::alloc::Global;
 use wh_day::ParseError;
 use wh_policy::{Format, Policy};
@@ -30,5 +31,6 @@ pub fn read(
             alloc, dim, policy, bytes,
         )?)),
         Kind::Sales => Ok(Records::Sales(sale_records(alloc, policy, format, bytes)?)),
+        Kind::Voids => Ok(Records::Voids(void_records(alloc, format, bytes)?)),
     }
 }

@@ -1,51 +1,58 @@
-//! The records of a batch for a dimension, and of either kind.
+//! The records of a batch.
 
 ghost use Rattle.std.specs.Prelude.{◌≡◌, ◌++◌, ◌∷◌, [], OnOk, OnErr};
 
-use crate::sales::SaleRecords;
 use std::alloc::{AllocError, Global};
 use std::marker::Model;
-use wh_policy::DimensionRecord;
+use wh_policy::{DimensionRecord, SaleRecord, VoidRecord};
 
-/// The records of a batch for a dimension, in its order. A contract sees the list.
+/// The records of a batch, in its order. A contract sees the list.
 #[derive(Debug, Drop)]
-pub struct DimensionRecords {
-    list: Vec<DimensionRecord>,
+pub struct RecordList<R: Drop> {
+    list: Vec<R>,
 }
 
-impl Model for DimensionRecords {
-    ghost use Rattle.std.specs.Prelude.{List};
-    ghost use Rattle.wh_policy.specs.declared.record.DimensionRecord.{DimensionRecord};
+/// The records of a batch for a dimension.
+pub type DimensionRecords = RecordList<DimensionRecord>;
 
-    ghost Value = { List DimensionRecord };
+/// The records of a batch of sales.
+pub type SaleRecords = RecordList<SaleRecord>;
+
+/// The records of a batch of voids.
+pub type VoidRecords = RecordList<VoidRecord>;
+
+impl<R: Drop> Model for RecordList<R> {
+    ghost use Rattle.std.specs.Prelude.{List};
+
+    ghost Value = { List R };
 
     ghost view = { λ r. r.list.items };
 }
 
-impl DimensionRecords {
-    pub fn new(alloc: Global) -> DimensionRecords
+impl<R: Drop> RecordList<R> {
+    pub fn new(alloc: Global) -> RecordList<R>
         ensures { result ≡ [] }
     {
-        DimensionRecords {
+        RecordList {
             list: Vec::new(alloc),
         }
     }
 
-    pub(crate) fn of(list: Vec<DimensionRecord>) -> DimensionRecords
+    pub(crate) fn of(list: Vec<R>) -> RecordList<R>
         ensures { result ≡ list.items }
     {
-        DimensionRecords { list }
+        RecordList { list }
     }
 
     /// The records in the order of the batch.
-    pub fn as_slice(&self) -> &[DimensionRecord]
+    pub fn as_slice(&self) -> &[R]
         ensures { result.now ≡ self.now }
     {
         self.list.as_slice()
     }
 
     /// Adds a record at the end. After an `Err` the records are those before.
-    pub fn push(&mut self, record: DimensionRecord) -> Result<(), AllocError>
+    pub fn push(&mut self, record: R) -> Result<(), AllocError>
         ensures ok { OnOk result (self.new ≡ self.old ++ «record» ∷ []) }
         ensures err { OnErr result (self.new ≡ self.old) }
     {
@@ -54,9 +61,10 @@ impl DimensionRecords {
     }
 }
 
-/// The records of a batch of either kind.
+/// The records of a batch of any kind.
 #[derive(Debug, Drop)]
 pub enum Records {
     Dimension(DimensionRecords),
     Sales(SaleRecords),
+    Voids(VoidRecords),
 }

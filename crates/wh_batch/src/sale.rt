@@ -11,7 +11,7 @@ use crate::fields::{are_same, customer_of, day_of, key_of};
 use crate::keys::RecordKey;
 use crate::layout::RecordLayout;
 use crate::numbers::{amount_of, discount_of, line_of, quantity_of};
-use crate::sales::SaleRecords;
+use crate::records::SaleRecords;
 use csv::ByteRecord;
 use std::alloc::Global;
 use wh_day::ParseError;

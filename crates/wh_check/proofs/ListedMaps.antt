@@ -7,8 +7,7 @@ use Rattle.std.specs.declared.cmp.Ordering.TheVariants.{Equal, Greater}
 use Rattle.std.specs.FinMap.{FinMap, entries, values, get, find, is_sorted, entries_sorted, get-entries}
 use Rattle.std.specs.FinMap.Entries.{below_all}
 use Rattle.std.specs.List.{AllByRecursion, list_all}
-use Rattle.wh_rows.specs.Holds.{Layout, Holds}
-use Rattle.sqlite.specs.Tree.{Trees}
+use Rattle.wh_rows.specs.Holds.{Layout}
 use Rattle.sqlite.specs.Order.{Row}
 use Rattle.std.specs.Cmp.{IsTotalOrder}
 use Rattle.std.specs.FinMap.{IsAntisymmetric}

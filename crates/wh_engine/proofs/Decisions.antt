@@ -1,5 +1,6 @@
 -- What the rows of the tables say of the answer to a command.
-use Rattle.std.proofs.Common.{◌≡◌, ℕ, suc, ◌+◌, ◌-◌, ◌<◌, ◌≤◌, Bool, true, false, leb, List, [], ◌∷◌, ◌++◌, length, Option, Some, None, Result, Ok, Err, refl, sym, ap, subst, ◌∙◌, arith, length-append}
+use Rattle.std.specs.List.{AllByRecursion}
+use Rattle.std.proofs.Common.{not, ◌≡◌, ℕ, suc, ◌+◌, ◌-◌, ◌<◌, ◌≤◌, Bool, true, false, leb, List, [], ◌∷◌, ◌++◌, length, Option, Some, None, Result, Ok, Err, refl, sym, ap, subst, ◌∙◌, arith, length-append}
 use Rattle.std.proofs.lemmas.Bool.{le-leb, lt-leb, le-ltb, lt-ltb, leb-true, leb-false}
 use Rattle.std.specs.Prelude.{find, bytes_eq, option_map, IsSome, unwrap_or}
 use Rattle.wh_day.specs.Reading.{◌>>=◌}
@@ -10,21 +11,22 @@ use Rattle.wh_policy.specs.declared.attribute.Dim.TheVariants.{Product}
 use Rattle.wh_policy.specs.declared.policy.Policy.{Policy}
 use Rattle.wh_policy.specs.declared.record.DimensionRecord.{DimensionRecord}
 use Rattle.wh_policy.specs.declared.record.SaleRecord.{SaleRecord}
+use Rattle.wh_policy.specs.declared.record.VoidRecord.{VoidRecord}
 use Rattle.wh_policy.specs.Written.{IsSound}
-use Rattle.wh_batch.specs.declared.kind.Kind.TheVariants.{Dimension, Sales}
+use Rattle.wh_batch.specs.declared.kind.Kind.TheVariants.{Dimension, Sales, Voids}
 use Rattle.wh_history.specs.Keys.{at_place}
-use Rattle.wh_history.specs.Accepted.{Accepted, Content, Governs, Describes, Sells, Upgrades, policy_after, format_of, sold, sold_by, records_by, placeholders_by}
+use Rattle.wh_history.specs.Accepted.{Accepted, Content, Governs, Describes, Sells, Upgrades, policy_after, format_of, sold, sold_by, records_by, placeholders_by, Withdraws, standing, withdrawn_by}
 use Rattle.wh_history.specs.Tables.{Limits}
 use Rattle.wh_history.proofs.Basics.{some_is}
 use Rattle.wh_rows.specs.declared.rows.CommandRow.{CommandRow}
 use Rattle.wh_rows.specs.Types.{is_key}
 use Rattle.wh_batch.specs.Kind.{command_word}
-use Rattle.wh_admission.specs.Admission.{records_told, sales_told, policy_told, content_of, bytes_kept, current_policy, accepted_as, receipt_of, changes_in, upgrades_again, first_line_there, number_past_lines, number_for, answer_with, when_read, by_id, answer, with_content, after_answer, accepted_after}
+use Rattle.wh_admission.specs.Admission.{records_told, sales_told, voids_told, policy_told, content_of, bytes_kept, current_policy, accepted_as, receipt_of, changes_in, upgrades_again, first_line_there, first_line_missing, number_past_lines, number_past_voids, number_for, answer_with, when_read, by_id, answer, with_content, after_answer, accepted_after}
 use Rattle.wh_engine.specs.Decided.{reply_to_known, IsNew}
 use Rattle.wh_model.specs.Defined.{command_at}
 use Rattle.wh_engine.specs.Faults.{Judges}
 use Rattle.wh_plan.specs.Reading.{number_by_id, command_with}
-use Rattle.wh_model.specs.Sound.{changes_kept, IsAccepted}
+use Rattle.wh_model.specs.Sound.{is_sold_line, changes_kept, IsAccepted}
 use Rattle.wh_admission.specs.declared.command.Command.{Command}
 use Rattle.wh_batch.specs.declared.kind.CommandKind.TheVariants.{Batch, Migration, Upgrade}
 use Rattle.wh_engine.specs.declared.fault.Fault.{Fault}
@@ -32,12 +34,12 @@ use Rattle.wh_engine.specs.declared.fault.Fault.TheVariants as faults
 use Rattle.wh_admission.specs.declared.command.Receipt.{Receipt}
 use Rattle.wh_admission.specs.declared.command.Reply.TheVariants.{Accepted as Accepts, Already}
 use Rattle.wh_admission.specs.declared.command.Refused.{Refused}
-use Rattle.wh_admission.specs.declared.command.Refused.TheVariants.{BadId, Upgraded, LineThere, Full}
+use Rattle.wh_admission.specs.declared.command.Refused.TheVariants.{BadId, Upgraded, LineThere, NoLine, Full}
 use Rattle.wh_admission.specs.declared.command.Limit.TheVariants.{Commands, Changes, Facts}
 use Rattle.wh_plan.proofs.FoundCommands.{stored, told, find_numbered}
 use Rattle.wh_model.proofs.GrownKeys.{at_last}
 use Rattle.wh_admission.proofs.Migrated.{IsSoundIf, sound_after}
-use Rattle.wh_admission.proofs.StaysAccepted.{stays_accepted, had_number}
+use Rattle.wh_admission.proofs.StaysAccepted.{stays_accepted, had_number, all_stand_there, none_first_passes}
 
 -- ---- the room that there is
 
@@ -46,26 +48,33 @@ module _ (limits : Limits) (commands : List Accepted) (content : Content) where
   no_room full = rw (le-leb limits.commands (length commands) full) refl
 
   module _ (room : length commands < limits.commands) (once : upgrades_again commands content ≡ false) where
-    past_commands : number_for limits commands content ≡ number_past_lines limits commands content (first_line_there (sold commands) 1 (sold_by content))
+    past_commands : number_for limits commands content ≡ number_past_voids limits commands content (first_line_missing (standing commands) 1 (withdrawn_by content))
     past_commands = rw (lt-leb limits.commands (length commands) room, once) refl
 
-    pub line_is_there : (number : ℕ) → first_line_there (sold commands) 1 (sold_by content) ≡ Some number → number_for limits commands content ≡ Err (LineThere number)
-    line_is_there number there = past_commands ∙ ap (number_past_lines limits commands content) there
+    pub line_is_missing : (number : ℕ) → first_line_missing (standing commands) 1 (withdrawn_by content) ≡ Some number → number_for limits commands content ≡ Err (NoLine number)
+    line_is_missing number missing = past_commands ∙ ap (number_past_voids limits commands content) missing
 
-    module _ (new : first_line_there (sold commands) 1 (sold_by content) ≡ None) where
-      past_lines : number_for limits commands content ≡ number_past_lines limits commands content None
-      past_lines = past_commands ∙ ap (number_past_lines limits commands content) new
+    module _ (stand : first_line_missing (standing commands) 1 (withdrawn_by content) ≡ None) where
+      past_voids : number_for limits commands content ≡ number_past_lines limits commands content (first_line_there (sold commands) 1 (sold_by content))
+      past_voids = past_commands ∙ ap (number_past_voids limits commands content) stand
 
-      pub too_many_changes : limits.changes < changes_kept commands + changes_in content → number_for limits commands content ≡ Err (Full Changes)
-      too_many_changes many = past_lines ∙ rw (lt-ltb limits.changes (changes_kept commands + changes_in content) many) refl
+      pub line_is_there : (number : ℕ) → first_line_there (sold commands) 1 (sold_by content) ≡ Some number → number_for limits commands content ≡ Err (LineThere number)
+      line_is_there number there = past_voids ∙ ap (number_past_lines limits commands content) there
 
-      pub too_many_facts : changes_kept commands + changes_in content ≤ limits.changes → limits.facts < length (sold commands) + length (sold_by content) → number_for limits commands content ≡ Err (Full Facts)
-      too_many_facts few many =
-          past_lines ∙ rw (le-ltb limits.changes (changes_kept commands + changes_in content) few, lt-ltb limits.facts (length (sold commands) + length (sold_by content)) many) refl
+      module _ (new : first_line_there (sold commands) 1 (sold_by content) ≡ None) where
+        past_lines : number_for limits commands content ≡ number_past_lines limits commands content None
+        past_lines = past_voids ∙ ap (number_past_lines limits commands content) new
 
-      pub has_room : changes_kept commands + changes_in content ≤ limits.changes → length (sold commands) + length (sold_by content) ≤ limits.facts → number_for limits commands content ≡ Ok (suc (length commands))
-      has_room few fewer =
-          past_lines ∙ rw (le-ltb limits.changes (changes_kept commands + changes_in content) few, le-ltb limits.facts (length (sold commands) + length (sold_by content)) fewer) refl
+        pub too_many_changes : limits.changes < changes_kept commands + changes_in content → number_for limits commands content ≡ Err (Full Changes)
+        too_many_changes many = past_lines ∙ rw (lt-ltb limits.changes (changes_kept commands + changes_in content) many) refl
+
+        pub too_many_facts : changes_kept commands + changes_in content ≤ limits.changes → limits.facts < length (sold commands) + length (sold_by content) → number_for limits commands content ≡ Err (Full Facts)
+        too_many_facts few many =
+            past_lines ∙ rw (le-ltb limits.changes (changes_kept commands + changes_in content) few, lt-ltb limits.facts (length (sold commands) + length (sold_by content)) many) refl
+
+        pub has_room : changes_kept commands + changes_in content ≤ limits.changes → length (sold commands) + length (sold_by content) ≤ limits.facts → number_for limits commands content ≡ Ok (suc (length commands))
+        has_room few fewer =
+            past_lines ∙ rw (le-ltb limits.changes (changes_kept commands + changes_in content) few, le-ltb limits.facts (length (sold commands) + length (sold_by content)) fewer) refl
 
 pub is_none : {X : Type 0} (o : Option X) → ((x : X) → o ≡ Some x → ⊥) → o ≡ None
 is_none None other = refl
@@ -74,6 +83,10 @@ is_none (Some x) other = absurd (other x refl)
 -- a content without sales has no line that is there
 pub no_line : (commands : List Accepted) (content : Content) → sold_by content ≡ [] → first_line_there (sold commands) 1 (sold_by content) ≡ None
 no_line commands content none = ap (first_line_there (sold commands) 1) none
+
+-- and one without voids has none that is missing
+pub none_missing : (commands : List Accepted) (content : Content) → withdrawn_by content ≡ [] → first_line_missing (standing commands) 1 (withdrawn_by content) ≡ None
+none_missing commands content none = ap (first_line_missing (standing commands) 1) none
 
 -- ---- the room for an upgrade is that for a batch of no records
 
@@ -89,10 +102,10 @@ module _ (limits : Limits) (commands : List Accepted) (accepted : IsAccepted lim
 
   module _ (room : length commands < limits.commands) where
     room_for_none : number_for limits commands no_records ≡ Ok (suc (length commands))
-    room_for_none = has_room limits commands no_records room refl refl few_changes few_facts
+    room_for_none = has_room limits commands no_records room refl refl refl few_changes few_facts
 
     room_for_upgrade : is_two (format_of commands) ≡ false → number_for limits commands Upgrades ≡ Ok (suc (length commands))
-    room_for_upgrade first = has_room limits commands Upgrades room first refl few_changes few_facts
+    room_for_upgrade first = has_room limits commands Upgrades room first refl refl few_changes few_facts
 
     upgraded_before : is_two (format_of commands) ≡ true → number_for limits commands Upgrades ≡ Err Upgraded
     upgraded_before second = rw (lt-leb limits.commands (length commands) room, second) refl
@@ -123,6 +136,12 @@ module _ (limits : Limits) (commands : List Accepted) (accepted : IsAccepted lim
         by_limit (number_for limits commands Upgrades ≡ Ok number)
         (λ room. room_for_upgrade room first ∙ sym (room_for_none room) ∙ some)
         (λ full. let never = sym (no_room limits commands no_records full) ∙ some in absurd (cc))
+
+-- ---- the lines of voids that have a number
+
+module _ (limits : Limits) (commands : List Accepted) (voids : List VoidRecord) (next : ℕ) (numbered : number_for limits commands (Withdraws voids) ≡ Ok next) where
+  pub voids_stand : AllByRecursion (λ v. is_sold_line (standing commands) v ≡ true) voids
+  voids_stand = all_stand_there (standing commands) voids (none_first_passes (λ v. not (is_sold_line (standing commands) v)) 1 voids (had_number limits commands (Withdraws voids) next numbered).0.lines_stand)
 
 -- what is left below a limit
 below-limit : (b : Bool) (kept more limit left : ℕ) → left ≡ limit - kept → kept ≤ limit → leb (kept + more) limit ≡ b → leb more left ≡ b
@@ -209,7 +228,7 @@ module _ (limits : Limits) (commands : List Accepted) (c : Command) where
           ∙ ap (λ (o : Option Accepted). option_map (stored (suc (length commands))) (option_map (told (after content) (suc (length commands))) o)) (at_last commands (accepted_as c content))
           ∙ ap (λ (n : ℕ). Some (record { number = n; id = c.id; kind = command_word c.kind; bytes = bytes_kept c.kind c.bytes; records = records_by content; placeholders = placeholders_by (after content) n content })) (sym next_number)
 
-    -- a batch of records, one of sales, and a migration
+    -- a batch of records, one of sales, one of voids, and a migration
 
     module _ (dim : Dim) (kind : c.kind ≡ Batch (Dimension dim)) where
       pub records_content : (records : List DimensionRecord) → records_told dim (current_policy commands) c.bytes ≡ Ok records → content_of c.kind (format_of commands) (current_policy commands) c.bytes ≡ Ok (Describes dim records)
@@ -224,6 +243,13 @@ module _ (limits : Limits) (commands : List Accepted) (c : Command) where
 
       pub sales_refused : (why : Refused) → sales_told (format_of commands) (current_policy commands) c.bytes ≡ Err why → answer limits commands c ≡ Err why
       sales_refused why read = content_refused why (ap (λ k. content_of k (format_of commands) (current_policy commands) c.bytes) kind ∙ ap (λ o. o >>= λ sales. Ok (Sells sales)) read)
+
+    module _ (kind : c.kind ≡ Batch Voids) where
+      pub voids_content : (voids : List VoidRecord) → voids_told (format_of commands) c.bytes ≡ Ok voids → content_of c.kind (format_of commands) (current_policy commands) c.bytes ≡ Ok (Withdraws voids)
+      voids_content voids read = ap (λ k. content_of k (format_of commands) (current_policy commands) c.bytes) kind ∙ ap (λ o. o >>= λ voids. Ok (Withdraws voids)) read
+
+      pub voids_refused : (why : Refused) → voids_told (format_of commands) c.bytes ≡ Err why → answer limits commands c ≡ Err why
+      voids_refused why read = content_refused why (ap (λ k. content_of k (format_of commands) (current_policy commands) c.bytes) kind ∙ ap (λ o. o >>= λ voids. Ok (Withdraws voids)) read)
 
     module _ (kind : c.kind ≡ Migration) where
       pub policy_content : (newer : Policy) → policy_told (current_policy commands) c.bytes ≡ Ok newer → content_of c.kind (format_of commands) (current_policy commands) c.bytes ≡ Ok (Governs newer)

@@ -19,15 +19,15 @@ use Rattle.wh_engine.specs.declared.counts.Counts.{Counts}
 use Rattle.wh_engine.specs.declared.fault.Fault.{Fault}
 use Rattle.wh_engine.specs.declared.session.Session.{Session}
 use Rattle.wh_plan.proofs.FoundCommands.{commands_counted}
-use Rattle.wh_engine.proofs.FoundFacts.{facts_counted}
 use Rattle.wh_engine.proofs.Outcomes.{anywhere, fault_due, read_and_noted}
+use Rattle.wh_model.proofs.CountedLines.{facts_counted}
 use Rattle.wh_model.proofs.ListedChanges.{changes_counted}
 
 pub counts_are : (limits : Limits) (commands : List Accepted) (t : Tables) → AreOf limits commands t → IsAccepted limits commands → (format : Format) → format ≡ format_of commands → (held changes facts products stores customers : ℕ)
     → held ≡ len t.command → changes ≡ len t.change → facts ≡ len (facts_in format t) → products ≡ length (members Product commands) → stores ≡ length (members Store commands) → customers ≡ length (members Customer commands)
     → record { format = format_number format; commands = held; changes = changes; facts = facts; products = products; stores = stores; customers = customers } ≡ counts_of commands
 counts_are limits commands t are accepted format same held changes facts products stores customers held-is changes-are facts-are products-are stores-are customers-are =
-    rw (same, held-is ∙ commands_counted limits commands t are, changes-are ∙ changes_counted limits commands t are, facts-are ∙ facts_counted commands limits t are format same accepted.lines, products-are, stores-are, customers-are) refl
+    rw (same, held-is ∙ commands_counted limits commands t are, changes-are ∙ changes_counted limits commands t are, facts-are ∙ facts_counted limits commands t are accepted format same, products-are, stores-are, customers-are) refl
 
 -- ---- a count that was answered, or refused
 

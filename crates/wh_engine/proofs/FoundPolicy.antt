@@ -5,7 +5,7 @@ use Rattle.std.specs.List.{AllByRecursion, range_with_len}
 use Rattle.std.proofs.lemmas.Grind.{reverse_onto}
 use Rattle.wh_policy.specs.Policy.{policy_at}
 use Rattle.wh_policy.specs.declared.policy.Policy.{Policy}
-use Rattle.wh_history.specs.Accepted.{Accepted, Content, Governs, Describes, Sells, Upgrades, governed, policy_after}
+use Rattle.wh_history.specs.Accepted.{Accepted, Content, Governs, Describes, Sells, Upgrades, Withdraws, governed, policy_after}
 use Rattle.wh_history.specs.Keys.{at_place}
 use Rattle.wh_rows.specs.Questions.{gives_policy}
 use Rattle.wh_rows.specs.declared.rows.CommandRow.{CommandRow}
@@ -44,6 +44,7 @@ one_more first rows (Governs policy) before after given (inl none) = inr (first,
 one_more first rows (Describes dim records) before after given (inl none) = inl (rw (given, none.0) refl, none.1)
 one_more first rows (Sells sales) before after given (inl none) = inl (rw (given, none.0) refl, none.1)
 one_more first rows Upgrades before after given (inl none) = inl (rw (given, none.0) refl, none.1)
+one_more first rows (Withdraws lines) before after given (inl none) = inl (rw (given, none.0) refl, none.1)
 
 module _ (commands : List Accepted) where
   last_from : (front back : List Accepted) (key : ℕ) (before : Option Policy) → front ++ back ≡ commands → key ≡ suc (length front) → AllByRecursion (λ c. GivesPolicy c.kind c.bytes c.content) back

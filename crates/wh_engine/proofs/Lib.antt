@@ -9,7 +9,7 @@ pub mod Decisions
 pub mod Performing
 pub mod OpenedTables
 pub mod OpenedStored
-pub mod FoundFacts
+pub mod FoundLines
 pub mod FoundPolicy
 pub mod FoundCounts
 pub mod Reopened

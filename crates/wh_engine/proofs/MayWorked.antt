@@ -83,4 +83,7 @@ accepted written = record {
   sales = tt;
   lines = tt;
   undiscounted = λ _. tt;
+  withdrawn_sold = tt;
+  withdrawn_once = tt;
+  unwithdrawn = λ _. refl;
 }

@@ -9,13 +9,13 @@ use Rattle.wh_policy.specs.declared.format.Format.TheVariants.{One}
 use Rattle.wh_policy.specs.declared.policy.Policy.{Policy}
 use Rattle.wh_batch.specs.declared.kind.CommandKind.{CommandKind}
 use Rattle.wh_batch.specs.declared.kind.CommandKind.TheVariants.{Batch, Migration, Upgrade}
-use Rattle.wh_batch.specs.declared.kind.Kind.TheVariants.{Dimension, Sales}
+use Rattle.wh_batch.specs.declared.kind.Kind.TheVariants.{Dimension, Sales, Voids}
 use Rattle.wh_batch.proofs.GoodLemmas.{bind_ok}
-use Rattle.wh_history.specs.Accepted.{Accepted, Content, Governs, Describes, Sells, Upgrades, format_of, formatted, policy_after}
+use Rattle.wh_history.specs.Accepted.{Accepted, Content, Governs, Describes, Sells, Upgrades, Withdraws, format_of, formatted, policy_after}
 use Rattle.wh_history.specs.Tables.{Limits}
 use Rattle.wh_rows.specs.AtRest.{AreTrees, IsAtRest, Leaves}
 use Rattle.wh_rows.specs.Tables.{Tables}
-use Rattle.wh_admission.specs.Admission.{records_told, sales_told, policy_told, content_of, format_brought, accepted_as, answer, accepted_after, current_policy, AreAdmitted}
+use Rattle.wh_admission.specs.Admission.{records_told, sales_told, voids_told, policy_told, content_of, format_brought, accepted_as, answer, accepted_after, current_policy, AreAdmitted}
 use Rattle.wh_engine.specs.Answered.{AreTreesOf, LeavesOneOf, IsReady, IsPerformed, IsPlanOf, IsWritten, IsForeseen}
 use Rattle.wh_engine.specs.Decided.{IsHeld, IsEffectOf, Decides}
 use Rattle.wh_model.specs.Defined.{AreOf}
@@ -50,6 +50,10 @@ makes_format (Batch (Dimension dim)) format policy bytes content told before =
 makes_format (Batch Sales) format policy bytes content told before =
     let (sales, given, last) = bind_ok (sales_told format policy bytes) (λ sales. Ok (Sells sales)) content told in
     let e : Sells sales ≡ content = cc in
+    rw (← e) refl
+makes_format (Batch Voids) format policy bytes content told before =
+    let (voids, given, last) = bind_ok (voids_told format bytes) (λ voids. Ok (Withdraws voids)) content told in
+    let e : Withdraws voids ≡ content = cc in
     rw (← e) refl
 makes_format Migration format policy bytes content told before =
     let (newer, given, last) = bind_ok (policy_told policy bytes) (λ newer. Ok (Governs newer)) content told in

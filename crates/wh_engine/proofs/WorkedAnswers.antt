@@ -7,11 +7,11 @@ use Rattle.wh_policy.specs.Policy.{trial_policy}
 use Rattle.wh_policy.specs.declared.attribute.Dim.TheVariants.{Product, Store}
 use Rattle.wh_policy.specs.declared.record.SaleRecord.{SaleRecord}
 use Rattle.wh_batch.specs.declared.kind.Kind.{Kind}
-use Rattle.wh_batch.specs.declared.kind.Kind.TheVariants.{Dimension, Sales}
-use Rattle.wh_batch.specs.declared.fault.FaultKind.TheVariants.{WrongHeader}
+use Rattle.wh_batch.specs.declared.kind.Kind.TheVariants.{Dimension, Sales, Voids}
+use Rattle.wh_batch.specs.declared.fault.FaultKind.TheVariants.{NotInFormat, WrongHeader}
 use Rattle.wh_batch.specs.Batch.{at}
 use Rattle.wh_batch.proofs.OnLiterals.{batch_on_literals}
-use Rattle.wh_history.specs.Accepted.{Accepted, Governs, Describes, Sells, Upgrades}
+use Rattle.wh_history.specs.Accepted.{Accepted, Governs, Describes, Sells, Upgrades, Withdraws}
 use Rattle.wh_history.specs.Tables.{Limits}
 use Rattle.wh_admission.specs.Admission.{answer, accepted_after}
 use Rattle.wh_engine.specs.Delivered.{answers_to}
@@ -20,7 +20,7 @@ use Rattle.wh_admission.specs.declared.command.Command.{Command}
 use Rattle.wh_batch.specs.declared.kind.CommandKind.TheVariants.{Batch, Upgrade}
 use Rattle.wh_admission.specs.declared.command.Receipt.{Receipt}
 use Rattle.wh_admission.specs.declared.command.Reply.TheVariants.{Accepted as Accepts, Already}
-use Rattle.wh_admission.specs.declared.command.Refused.TheVariants.{BadId, Reused, Batch as BadBatch, Upgraded, LineThere, Full}
+use Rattle.wh_admission.specs.declared.command.Refused.TheVariants.{BadId, Reused, Batch as BadBatch, Upgraded, LineThere, NoLine, Full}
 use Rattle.wh_admission.specs.declared.command.Limit.TheVariants.{Commands, Changes}
 
 abbrev limits : ℕ → ℕ → ℕ → Limits
@@ -140,6 +140,48 @@ second_upgrade = refl
 
 no_room_for_an_upgrade : answer (limits 2 9 9) upgraded (upgrade (codes "u2") []) ≡ Err (Full Commands)
 no_room_for_an_upgrade = refl
+
+-- ---- voids: none in the first format, of a line that stands once, of one that was never sold; and a voided line is not sold again
+
+abbrev void_bytes : List ℕ
+void_bytes = codes "ticket,line" ++ 10 ∷ codes "T1,1"
+
+abbrev sold_once : List Accepted
+sold_once = upgraded ++ record { id = codes "s1"; kind = codes "sales"; bytes = sale_bytes; content = Sells (sale ∷ []) } ∷ []
+
+abbrev voided : List Accepted
+voided = sold_once ++ record { id = codes "v1"; kind = codes "void"; bytes = void_bytes; content = Withdraws (record { ticket = codes "T1"; line = 1 } ∷ []) } ∷ []
+
+abbrev sale_again : List ℕ
+sale_again = codes "ticket,line,day,store,product,customer,quantity,amount,cost,discount" ++ 10 ∷ codes "T1,1,2024-02-05,S1,P1,,2,5.00,3.20,0"
+
+void_in_the_first : answer (limits 9 9 9) making (sent (codes "v1") Voids []) ≡ Err (BadBatch (record { kind = NotInFormat; number = 0 }))
+unfolding batch_on_literals
+void_in_the_first = refl
+
+void_accepted : answer (limits 9 9 9) sold_once (sent (codes "v1") Voids void_bytes) ≡ Ok (Accepts (receipt 4 1 0))
+unfolding batch_on_literals
+void_accepted = refl
+
+void_at_the_limit : answer (limits 9 9 1) sold_once (sent (codes "v1") Voids void_bytes) ≡ Ok (Accepts (receipt 4 1 0))
+unfolding batch_on_literals
+void_at_the_limit = refl
+
+void_of_no_line : answer (limits 9 9 9) upgraded (sent (codes "v1") Voids void_bytes) ≡ Err (NoLine 1)
+unfolding batch_on_literals
+void_of_no_line = refl
+
+voided_again : answer (limits 9 9 9) voided (sent (codes "v2") Voids void_bytes) ≡ Err (NoLine 1)
+unfolding batch_on_literals
+voided_again = refl
+
+void_comes_again : answer (limits 9 9 9) voided (sent (codes "v1") Voids void_bytes) ≡ Ok (Already (receipt 4 1 0))
+unfolding batch_on_literals
+void_comes_again = refl
+
+voided_line_there : answer (limits 9 9 9) voided (sent (codes "s2") Sales sale_again) ≡ Err (LineThere 1)
+unfolding batch_on_literals
+voided_line_there = refl
 
 -- ---- a delivery: p0, a command without an id, and p0 again
 

@@ -6,7 +6,7 @@ use Rattle.wh_policy.specs.Formats.{format_number}
 use Rattle.wh_policy.specs.declared.attribute.Dim.TheVariants.{Product, Store as Stores, Customer}
 use Rattle.wh_policy.specs.declared.format.Format.{Format}
 use Rattle.wh_policy.specs.declared.policy.Policy.{Policy}
-use Rattle.wh_history.specs.Accepted.{Accepted, format_of, sold, members}
+use Rattle.wh_history.specs.Accepted.{Accepted, format_of, standing, members}
 use Rattle.wh_history.specs.Tables.{Limits}
 use Rattle.wh_rows.specs.AtRest.{AreTrees, IsAtRest}
 use Rattle.wh_rows.specs.Tables.{Tables}
@@ -140,7 +140,7 @@ counts_of commands = record {
   format = format_number (format_of commands);
   commands = length commands;
   changes = changes_kept commands;
-  facts = length (sold commands);
+  facts = length (standing commands);
   products = length (members Product commands);
   stores = length (members Stores commands);
   customers = length (members Customer commands);

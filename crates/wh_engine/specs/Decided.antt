@@ -1,10 +1,14 @@
 -- What is decided about a command, by what is read of the tables.
-use Rattle.std.specs.Prelude.{◌≡◌, ℕ, List, [], ◌∷◌, ◌++◌, length, filter, find, Option, None, unwrap_or, bytes_eq, true, Result, Ok, ⊤}
+use Rattle.std.specs.Prelude.{◌≡◌, ℕ, ◌+◌, List, [], ◌∷◌, ◌++◌, length, filter, find, Option, None, unwrap_or, bytes_eq, true, Result, Ok, ⊤}
+use Rattle.std.specs.FinMap.{len}
+use Rattle.wh_policy.specs.declared.format.Format.{Format}
+use Rattle.wh_policy.specs.declared.format.Format.TheVariants.{One, Two}
 use Rattle.wh_policy.specs.declared.policy.Policy.{Policy}
 use Rattle.wh_history.specs.Accepted.{Accepted, Content, format_of, governed}
 use Rattle.wh_rows.specs.declared.rows.CommandRow.{CommandRow}
 use Rattle.wh_batch.specs.Kind.{command_word}
 use Rattle.wh_admission.specs.Admission.{answer, bytes_kept, content_of, accepted_as, current_policy, policy_brought, receipt_again, already}
+use Rattle.wh_rows.specs.Facts.{facts_in}
 use Rattle.wh_rows.specs.Tables.{Tables}
 use Rattle.wh_model.specs.Defined.{AreOf}
 use Rattle.wh_plan.specs.Edits.{Edits, AreEdits}
@@ -81,6 +85,11 @@ WritesItsRow (Accept receipt edits newer) = length edits.commands ≡ 1
 abbrev pub RepeatsKept : Stored → Command → Decision → Type 0
 RepeatsKept stored c (Repeat receipt) = IsKept stored c receipt
 RepeatsKept stored c (Accept receipt edits newer) = length edits.commands ≡ 1
+
+-- how many lines of tickets the tables of a format keep: those of its facts, and in the second those that were withdrawn
+abbrev pub lines_in : Format → Tables → ℕ
+lines_in One t = len (facts_in One t)
+lines_in Two t = len (facts_in Two t) + len t.void
 
 -- no row stands under the number among the stored commands
 abbrev pub HasNoCommand : Stored → ℕ → Type 0

@@ -1,15 +1,15 @@
 //! Whether a command is accepted, as far as the tables say.
 
-ghost use Rattle.std.specs.Prelude.{◌≡◌, ◌+◌, ◌-◌, ◌*◌, ◌<◌, ◌≤◌, nat_le, [], length, false, is_some, IfOk};
+ghost use Rattle.std.specs.Prelude.{◌≡◌, ◌+◌, ◌-◌, ◌*◌, ◌<◌, ◌≤◌, nat_le, [], length, false, not, is_some, IfOk};
 ghost use Rattle.std.specs.FinMap.{len};
 ghost use Rattle.std.specs.List.{list_any};
-ghost use Rattle.wh_history.specs.Accepted.{Content, Sells, format_of, sold, sold_by};
-ghost use Rattle.wh_rows.specs.Facts.{facts_in};
-ghost use Rattle.wh_admission.specs.Admission.{changes_in, first_line_there, number_for, upgrades_again};
-ghost use Rattle.wh_engine.specs.Decided.{HasNoCommand, receipt_of_known};
-ghost use Rattle.wh_model.specs.Defined.{command_at};
+ghost use Rattle.wh_history.specs.Accepted.{Content, Sells, Withdraws, format_of, sold, sold_by, standing, withdrawn_by};
+ghost use Rattle.wh_policy.specs.declared.format.Format.TheVariants.{Two};
+ghost use Rattle.wh_admission.specs.Admission.{changes_in, first_line_missing, first_line_there, number_for, upgrades_again};
+ghost use Rattle.wh_engine.specs.Decided.{HasNoCommand, lines_in, receipt_of_known};
+ghost use Rattle.wh_model.specs.Defined.{command_at, void_at};
 ghost use Rattle.wh_engine.specs.Faults.{Judges};
-ghost use Rattle.wh_model.specs.Sound.{same_line};
+ghost use Rattle.wh_model.specs.Sound.{IsAccepted, is_sold_line, same_line};
 ghost use Rattle.wh_engine.specs.Scanned.{Reads, ReadsOnlyIn, WhenAccepted, WhenAtRest, WhenOfCommands, WhenStored};
 
 use crate::fault::Fault;
@@ -18,7 +18,7 @@ use std::alloc::Global;
 use wh_admission::{Command, Limit, Receipt, Refused};
 use wh_batch::MOST_RECORDS;
 use wh_day::Value;
-use wh_policy::{Format, SaleRecord};
+use wh_policy::{Format, SaleRecord, VoidRecord};
 use wh_rows::{Cause, CommandRow, Limits, LineKey, tables};
 use wh_store::{KeyedTable, ReadFault, Tables};
 
@@ -63,8 +63,30 @@ fn has_room_for<T: KeyedTable, S: Alter>(
     Ok(has_room_left(limit, kept, records))
 }
 
-/// The same of the facts of a format.
-fn has_room_for_facts<S: Alter>(
+/// How many lines of tickets were sold: those of the stored facts, and those that were withdrawn.
+fn count_lines<S: Alter>(
+    tables: &mut Tables<S>,
+    alloc: Global,
+    format: Format,
+) -> Result<u64, ReadFault>
+    ensures reads { ReadsOnlyIn S.Store tables.old tables.new result }
+    ensures count { WhenAtRest S.Store tables.old tables.new (λ t. IfOk result (λ count. count ≡ lines_in format t)) }
+{
+    let facts = tables.count_facts(alloc, format)?;
+    match format {
+        Format::One => Ok(facts),
+        Format::Two => {
+            let voids = tables.count::<tables::Void>(alloc)?;
+            match facts.checked_add(voids) {
+                Some(lines) => Ok(lines),
+                None => Err(ReadFault::Store(Cause::Size)),
+            }
+        }
+    }
+}
+
+/// The same of the lines of tickets.
+fn has_room_for_lines<S: Alter>(
     tables: &mut Tables<S>,
     alloc: Global,
     format: Format,
@@ -73,17 +95,36 @@ fn has_room_for_facts<S: Alter>(
     records: u64,
 ) -> Result<bool, ReadFault>
     ensures reads { ReadsOnlyIn S.Store tables.old tables.new result }
-    ensures room { WhenAtRest S.Store tables.old tables.new (λ t. IfOk result (λ room. len (facts_in format t) ≤ commands * 5000 → len (facts_in format t) ≤ limit → room ≡ nat_le (len (facts_in format t) + records) limit)) }
+    ensures room { WhenAtRest S.Store tables.old tables.new (λ t. IfOk result (λ room. lines_in format t ≤ commands * 5000 → lines_in format t ≤ limit → room ≡ nat_le (lines_in format t + records) limit)) }
 {
     let most = commands.saturating_mul(u64::from(MOST_RECORDS));
     if has_room_left(limit, most, records) {
         return Ok(true);
     }
-    let kept = tables.count_facts(alloc, format)?;
+    let kept = count_lines(tables, alloc, format)?;
     Ok(has_room_left(limit, kept, records))
 }
 
-/// Whether a fact with a sale's ticket and line is stored.
+/// Whether a line of a ticket was withdrawn. In the first format none is.
+fn is_withdrawn<S: Alter>(
+    tables: &mut Tables<S>,
+    alloc: Global,
+    format: Format,
+    line: &LineKey,
+) -> Result<bool, ReadFault>
+    ensures reads { ReadsOnlyIn S.Store tables.old tables.new result }
+    ensures withdrawn { WhenOfCommands S.Store tables.old tables.new (λ limits commands. format ≡ format_of commands → IsAccepted limits commands → IfOk result (λ withdrawn. withdrawn ≡ is_some (void_at commands line.now))) }
+{
+    match format {
+        Format::One => Ok(false),
+        Format::Two => {
+            let row = tables.get::<tables::Void>(alloc, line)?;
+            Ok(row.is_some())
+        }
+    }
+}
+
+/// Whether a fact with a sale's ticket and line is stored, or was withdrawn.
 fn is_line_there<S: Alter>(
     tables: &mut Tables<S>,
     alloc: Global,
@@ -91,17 +132,20 @@ fn is_line_there<S: Alter>(
     sale: &SaleRecord,
 ) -> Result<bool, ReadFault>
     ensures reads { ReadsOnlyIn S.Store tables.old tables.new result }
-    ensures there { WhenOfCommands S.Store tables.old tables.new (λ _ commands. format ≡ format_of commands → IfOk result (λ there. there ≡ list_any (λ s. same_line s sale.now) (sold commands))) }
+    ensures there { WhenOfCommands S.Store tables.old tables.new (λ limits commands. format ≡ format_of commands → IsAccepted limits commands → IfOk result (λ there. there ≡ list_any (λ s. same_line s sale.now) (sold commands))) }
 {
     let key = LineKey {
         ticket: Value::new(alloc, sale.ticket.as_str())?,
         line: sale.line,
     };
     let fact = tables.fact(alloc, format, &key)?;
-    Ok(fact.is_some())
+    if fact.is_some() {
+        return Ok(true);
+    }
+    is_withdrawn(tables, alloc, format, &key)
 }
 
-/// The first sale, from 1, whose ticket and line are those of a stored fact.
+/// The first sale, from 1, whose ticket and line are those of a stored fact, or were withdrawn.
 fn first_line_there<S: Alter>(
     tables: &mut Tables<S>,
     alloc: Global,
@@ -109,10 +153,44 @@ fn first_line_there<S: Alter>(
     sales: &[SaleRecord],
 ) -> Result<Option<u64>, ReadFault>
     ensures reads { ReadsOnlyIn S.Store tables.old tables.new result }
-    ensures there { WhenOfCommands S.Store tables.old tables.new (λ _ commands. format ≡ format_of commands → IfOk result (λ there. there ≡ first_line_there (sold commands) 1 sales.now)) }
+    ensures there { WhenOfCommands S.Store tables.old tables.new (λ limits commands. format ≡ format_of commands → IsAccepted limits commands → IfOk result (λ there. there ≡ first_line_there (sold commands) 1 sales.now)) }
 {
     for (place, sale) in sales.iter().enumerate() {
         if is_line_there(tables, alloc, format, sale)? {
+            return Ok(Some(place as u64 + 1));
+        }
+    }
+    Ok(None)
+}
+
+/// Whether no fact with a void's ticket and line is stored.
+fn is_line_missing<S: Alter>(
+    tables: &mut Tables<S>,
+    alloc: Global,
+    void: &VoidRecord,
+) -> Result<bool, ReadFault>
+    ensures reads { ReadsOnlyIn S.Store tables.old tables.new result }
+    ensures missing { WhenOfCommands S.Store tables.old tables.new (λ _ commands. format_of commands ≡ Two → IfOk result (λ missing. missing ≡ not (is_sold_line (standing commands) void.now))) }
+{
+    let key = LineKey {
+        ticket: Value::new(alloc, void.ticket.as_str())?,
+        line: void.line,
+    };
+    let fact = tables.fact(alloc, Format::Two, &key)?;
+    Ok(fact.is_none())
+}
+
+/// The first void, from 1, whose ticket and line no stored fact has.
+fn first_line_missing<S: Alter>(
+    tables: &mut Tables<S>,
+    alloc: Global,
+    voids: &[VoidRecord],
+) -> Result<Option<u64>, ReadFault>
+    ensures reads { ReadsOnlyIn S.Store tables.old tables.new result }
+    ensures missing { WhenOfCommands S.Store tables.old tables.new (λ _ commands. format_of commands ≡ Two → IfOk result (λ missing. missing ≡ first_line_missing (standing commands) 1 voids.now)) }
+{
+    for (place, void) in voids.iter().enumerate() {
+        if is_line_missing(tables, alloc, void)? {
             return Ok(Some(place as u64 + 1));
         }
     }
@@ -154,7 +232,7 @@ pub(crate) fn number_for_records<S: Alter>(
     ensures reads { Reads S.Store tables.old tables.new result }
     // Under the number that is given no command is stored, whoever wrote the rows.
     ensures free { WhenStored S.Store tables.old tables.new (λ stored. IfOk result (HasNoCommand stored)) }
-    ensures number { WhenAccepted S.Store tables.old tables.new limits (λ commands. (content : Content) → sold_by content ≡ [] → changes_in content ≡ records → upgrades_again commands content ≡ false → Judges (λ number next. number ≡ next) result (number_for limits commands content)) }
+    ensures number { WhenAccepted S.Store tables.old tables.new limits (λ commands. (content : Content) → sold_by content ≡ [] → withdrawn_by content ≡ [] → changes_in content ≡ records → upgrades_again commands content ≡ false → Judges (λ number next. number ≡ next) result (number_for limits commands content)) }
 {
     let commands = tables.count::<tables::Command>(alloc)?;
     if limits.commands() <= commands {
@@ -188,8 +266,31 @@ pub(crate) fn number_for_sales<S: Alter>(
         return Err(Fault::Refused(Refused::LineThere(number)));
     }
     let count = sales.len() as u64;
-    if !has_room_for_facts(tables, alloc, format, limits.facts(), commands, count)? {
+    if !has_room_for_lines(tables, alloc, format, limits.facts(), commands, count)? {
         return Err(Fault::Refused(Refused::Full(Limit::Facts)));
+    }
+    let number = free_number(tables, alloc, commands + 1)?;
+    Ok(number)
+}
+
+/// The number of the next command, where there is room for it and each of these lines has a stored fact. A void needs no room for facts.
+pub(crate) fn number_for_voids<S: Alter>(
+    tables: &mut Tables<S>,
+    alloc: Global,
+    limits: Limits,
+    voids: &[VoidRecord],
+) -> Result<u64, Fault>
+    ensures reads { Reads S.Store tables.old tables.new result }
+    // Under the number that is given no command is stored, whoever wrote the rows.
+    ensures free { WhenStored S.Store tables.old tables.new (λ stored. IfOk result (HasNoCommand stored)) }
+    ensures number { WhenAccepted S.Store tables.old tables.new limits (λ commands. format_of commands ≡ Two → Judges (λ number next. number ≡ next) result (number_for limits commands (Withdraws voids.now))) }
+{
+    let commands = tables.count::<tables::Command>(alloc)?;
+    if limits.commands() <= commands {
+        return Err(Fault::Refused(Refused::Full(Limit::Commands)));
+    }
+    if let Some(number) = first_line_missing(tables, alloc, voids)? {
+        return Err(Fault::Refused(Refused::NoLine(number)));
     }
     let number = free_number(tables, alloc, commands + 1)?;
     Ok(number)

@@ -1,31 +1,34 @@
 //! What is to be done about a command: the reads, and nothing written.
 
 ghost use Rattle.std.specs.Prelude.{◌≡◌, Bool, true, List, None, Some, Ok, IfOk};
-ghost use Rattle.wh_batch.specs.declared.kind.Kind.TheVariants.{Dimension, Sales};
+ghost use Rattle.wh_batch.specs.declared.kind.Kind.TheVariants.{Dimension, Sales, Voids};
 ghost use Rattle.wh_policy.specs.declared.policy.Policy.{Policy};
-ghost use Rattle.wh_history.specs.Accepted.{Accepted, Sells, format_of};
+ghost use Rattle.wh_history.specs.Accepted.{Accepted, Sells, Withdraws, format_of};
 ghost use Rattle.wh_rows.specs.Raw.{Stored};
 ghost use Rattle.wh_rows.specs.Types.{is_key};
-ghost use Rattle.wh_admission.specs.Admission.{content_of, current_policy, policy_told, records_told, sales_told};
+ghost use Rattle.wh_admission.specs.Admission.{content_of, current_policy, policy_told, records_told, sales_told, voids_told};
 ghost use Rattle.wh_engine.specs.Decided.{row_of_command, IsNew, IsDecided, IsDecidedNew, reply_to_known, Brings, Decides, RepeatsKept, WritesItsRow};
 ghost use Rattle.wh_batch.specs.declared.kind.CommandKind.TheVariants.{Batch, Migration, Upgrade};
 ghost use Rattle.wh_engine.specs.Faults.{BlamesDamage, IsWorkedOut, Judges, TellsTaken};
 ghost use Rattle.wh_engine.specs.Scanned.{Reads, WhenStored};
 ghost use Rattle.wh_engine.specs.Serving.{Works};
 
-use crate::admission::{number_for_records, number_for_sales, receipt_of_known};
+use crate::admission::{number_for_records, number_for_sales, number_for_voids, receipt_of_known};
 use crate::fault::Fault;
 use crate::session::Session;
 use sqlite::Alter;
 use sqlite_value::value::Bytes;
 use std::alloc::{AllocError, Global};
 use wh_admission::{Command, Receipt, Refused};
-use wh_batch::{CommandKind, DimensionRecords, Kind, SaleRecords, dimension_records, sale_records};
+use wh_batch::{
+    CommandKind, DimensionRecords, Kind, SaleRecords, VoidRecords, dimension_records, sale_records,
+    void_records,
+};
 use wh_day::{ParseError, Value, is_key};
 use wh_migration::{plan_migration, plan_upgrade};
 use wh_plan::reading::command_of;
-use wh_plan::{Edits, Terms, plan_batch, plan_sales};
-use wh_policy::{Dim, Format, Policy, SaleRecord};
+use wh_plan::{Edits, Terms, plan_batch, plan_sales, plan_voids};
+use wh_policy::{Dim, Format, Policy, SaleRecord, VoidRecord};
 use wh_rows::CommandRow;
 use wh_store::Tables;
 
@@ -71,6 +74,20 @@ fn sales_of(
 {
     match sale_records(alloc, policy, format, bytes) {
         Ok(sales) => Ok(sales),
+        Err(ParseError::Fault(fault)) => Err(Fault::Refused(Refused::Batch(fault))),
+        Err(ParseError::Memory) => Err(Fault::Memory),
+    }
+}
+
+/// The lines of a batch of voids.
+fn voids_of(alloc: Global, format: Format, bytes: &[u8]) -> Result<VoidRecords, Fault>
+    ensures read { Judges (λ voids told. voids ≡ told) result (voids_told format bytes.now) }
+    ensures blames { (stored : Stored) → BlamesDamage stored result }
+    ensures taken { (taken : Bool) → TellsTaken taken result }
+    ensures work { IsWorkedOut result }
+{
+    match void_records(alloc, format, bytes) {
+        Ok(voids) => Ok(voids),
         Err(ParseError::Fault(fault)) => Err(Fault::Refused(Refused::Batch(fault))),
         Err(ParseError::Memory) => Err(Fault::Memory),
     }
@@ -200,6 +217,52 @@ fn decide_sales<S: Alter>(
     decide_sold(tables, alloc, session, command, sales.as_slice())
 }
 
+/// What is to be done about voids whose batch has a new id.
+fn decide_withdrawn<S: Alter>(
+    tables: &mut Tables<S>,
+    alloc: Global,
+    session: &Session,
+    command: &Command,
+    voids: &[VoidRecord],
+) -> Result<Decision, Fault>
+    ensures reads { Reads S.Store tables.old tables.new result }
+    ensures decided { Works S.Store tables.old tables.new session.now (λ commands. is_key 40 command.now.id ≡ true → IsNew commands command.now
+        → content_of command.now.kind (format_of commands) (current_policy commands) command.now.bytes ≡ Ok (Withdraws voids.now)
+        → IsDecided session.now command.now result commands) }
+    ensures brings { command.now.kind ≡ Batch Voids → IfOk result (Brings session.now.policy command.now) }
+    ensures own { IfOk result WritesItsRow }
+{
+    let number = match number_for_voids(tables, alloc, session.limits, voids) {
+        Ok(number) => number,
+        Err(fault) => return Err(fault),
+    };
+    let lines = voids.len() as u64;
+    let row = command_row(alloc, command, number, lines)?;
+    let edits = plan_voids(alloc, row, voids)?;
+    let receipt = Receipt {
+        number,
+        records: lines,
+        placeholders: 0,
+    };
+    Ok(Decision::Accept(receipt, edits, None))
+}
+
+/// What is to be done about a batch of voids whose id is new.
+fn decide_voids<S: Alter>(
+    tables: &mut Tables<S>,
+    alloc: Global,
+    session: &Session,
+    command: &Command,
+) -> Result<Decision, Fault>
+    ensures reads { Reads S.Store tables.old tables.new result }
+    ensures decided { Works S.Store tables.old tables.new session.now (λ commands. command.now.kind ≡ Batch Voids → IsDecidedNew session.now command.now result commands) }
+    ensures brings { command.now.kind ≡ Batch Voids → IfOk result (Brings session.now.policy command.now) }
+    ensures own { IfOk result WritesItsRow }
+{
+    let voids = voids_of(alloc, session.format, command.bytes.as_slice())?;
+    decide_withdrawn(tables, alloc, session, command, voids.as_slice())
+}
+
 /// What is to be done about a migration whose id is new.
 fn decide_migration<S: Alter>(
     tables: &mut Tables<S>,
@@ -280,6 +343,7 @@ fn decide_new<S: Alter>(
             decide_records(tables, alloc, session, dim, command)
         }
         CommandKind::Batch(Kind::Sales) => decide_sales(tables, alloc, session, command),
+        CommandKind::Batch(Kind::Voids) => decide_voids(tables, alloc, session, command),
         CommandKind::Migration => decide_migration(tables, alloc, session, command),
         CommandKind::Upgrade => decide_upgrade(tables, alloc, session, command),
     }

@@ -1,6 +1,7 @@
 //! Writing the edits of a command, inside a transaction.
 
 ghost use Rattle.std.specs.Prelude.{◌≡◌, ◌+◌, ◌≤◌, length, map, Option, Some, OnOk, IfOk, IsTrue, ⊤};
+ghost use Rattle.std.specs.FinMap.{empty};
 ghost use Rattle.sqlite.specs.State.{HasCleanDisk};
 ghost use Rattle.wh_policy.specs.declared.format.Format.TheVariants.{One};
 ghost use Rattle.wh_history.specs.declared.plan.Edit.TheVariants.{Put};
@@ -9,7 +10,7 @@ ghost use Rattle.wh_rows.specs.Tables.{Tables as TypedTables};
 ghost use Rattle.wh_store.specs.Reads.{state_of};
 ghost use Rattle.wh_engine.specs.Scanned.{WasClean, WhenAtRest};
 ghost use Rattle.wh_engine.specs.Writing.{WritesIn, MakesIn, AreValidFactEdits, with_one_fact, with_fact_edits, with_rows_edited, LeavesEither};
-ghost use Rattle.wh_plan.specs.Edits.{with_format, with_commands, with_dimensions, with_facts, with_all_edits, count_commands, count_dimensions, count_facts, edit_count};
+ghost use Rattle.wh_plan.specs.Edits.{with_format, with_commands, with_dimensions, with_first_facts, with_facts, with_all_edits, count_commands, count_dimensions, count_facts, edit_count};
 ghost use Rattle.wh_plan.specs.declared.edits.FactEdit.TheVariants.{Row};
 ghost use Rattle.wh_plan.specs.Writable.{AreValidCommands, AreValidDimensions, AreValidFacts, IsValidFactEdit, MayBeWritten};
 
@@ -160,7 +161,38 @@ fn edit_all_facts<S: Alter>(
     Ok(())
 }
 
-/// Makes the edits of profile, calendar and the facts of each format.
+/// Takes out all facts of the first format, of which there are to be so many.
+fn clear_facts<S: Alter>(writing: &mut Writing<'_, S>, count: u64) -> Result<(), Cause>
+    ensures same_reference { writing.new.tables.ghost_name ≡ writing.old.tables.ghost_name }
+    ensures writes { WritesIn S.Store writing.old writing.new ⊤ }
+    ensures edited { MakesIn S.Store writing.old writing.new result ⊤ (λ made. record made { fact = empty }) }
+    ensures counted { OnOk result (writing.new.writes ≡ writing.old.writes + count) }
+{
+    let cleared = writing.clear_facts()?;
+    if cleared != count {
+        return Err(Cause::Disk);
+    }
+    Ok(())
+}
+
+/// Makes the edits of the facts of the first format. Those of an upgrade take all out, and one statement does.
+fn edit_first_facts<S: Alter>(
+    writing: &mut Writing<'_, S>,
+    alloc: Global,
+    edits: &Edits,
+) -> Result<(), Cause>
+    ensures same_reference { writing.new.tables.ghost_name ≡ writing.old.tables.ghost_name }
+    ensures writes { WritesIn S.Store writing.old writing.new (AreValidFactEdits One edits.now.facts) }
+    ensures edited { MakesIn S.Store writing.old writing.new result (AreValidFactEdits One edits.now.facts) (λ made. record made { fact = with_first_facts edits.now made.fact }) }
+    ensures counted { OnOk result (writing.new.writes ≡ writing.old.writes + length edits.now.facts) }
+{
+    if edits.upgrades {
+        return clear_facts(writing, edits.facts.len() as u64);
+    }
+    edit_all_facts(writing, alloc, Format::One, &edits.facts)
+}
+
+/// Makes the edits of profile, calendar, the facts of each format and the lines that are withdrawn.
 fn edit_facts<S: Alter>(
     writing: &mut Writing<'_, S>,
     alloc: Global,
@@ -173,8 +205,9 @@ fn edit_facts<S: Alter>(
 {
     writing.edit_all::<tables::Profile>(alloc, &edits.profiles)?;
     writing.edit_all::<tables::Calendar>(alloc, &edits.calendar)?;
-    edit_all_facts(writing, alloc, Format::One, &edits.facts)?;
-    edit_all_facts(writing, alloc, Format::Two, &edits.facts2)
+    edit_first_facts(writing, alloc, edits)?;
+    edit_all_facts(writing, alloc, Format::Two, &edits.facts2)?;
+    writing.edit_all::<tables::Void>(alloc, &edits.voids)
 }
 
 /// Writes the edits of the rows of a command, in the format that the tables have.

@@ -12,6 +12,7 @@ pub mod Joins
 pub mod Effective
 pub mod Combinations
 pub mod Stays
+pub mod Standing
 pub mod Knowing
 pub mod Members
 pub mod Shown

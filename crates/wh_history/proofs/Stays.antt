@@ -11,7 +11,7 @@ use Rattle.wh_history.specs.Slots.{columns_from, picked, picks, padded, are_same
 use Rattle.wh_history.specs.Dated.{at, dated, newest}
 use Rattle.wh_history.specs.Rows.{row, rows, spans, starts}
 use Rattle.wh_history.specs.Profiles.{after_unknown, profile_number, current_profile, profile_now}
-use Rattle.wh_history.specs.Accepted.{Accepted, Content, Governs, Describes, Sells, Upgrades, governed, policy_after, types_in, described, described_by, change_of, changes_of, member_of, profiles_of}
+use Rattle.wh_history.specs.Accepted.{Accepted, Content, Governs, Describes, Sells, Upgrades, Withdraws, governed, policy_after, types_in, described, described_by, change_of, changes_of, member_of, profiles_of}
 use Rattle.wh_policy.specs.declared.record.DimensionRecord.{DimensionRecord}
 use Rattle.wh_history.specs.Tables.{member_rows}
 use Rattle.wh_history.specs.Laws.{mentions_member, governs}
@@ -32,6 +32,7 @@ governed_same before (Governs policy) h = cc
 governed_same before (Describes dim records) h = refl
 governed_same before (Sells sales) h = refl
 governed_same before Upgrades h = refl
+governed_same before (Withdraws lines) h = refl
 
 pub policy_last : (before : Option Policy) (commands : List Accepted) (c : Accepted) → governs c.content ≡ false → policy_after before (commands ++ c ∷ []) ≡ policy_after before commands
 policy_last before [] c h = governed_same before c.content h

@@ -1,5 +1,5 @@
 -- The definitions on a small history: each lemma computes.
-use Rattle.std.proofs.Common.{◌≡◌, ℕ, Bool, true, false, List, [], ◌∷◌, Option, Some, None, refl}
+use Rattle.std.proofs.Common.{◌≡◌, ℕ, Bool, true, false, List, [], ◌∷◌, ◌++◌, Option, Some, None, refl}
 use Rattle.std.specs.Prelude.{codes, pos, take}
 use Rattle.wh_day.specs.Day.{day_before}
 use Rattle.wh_day.specs.Value.{none_text, unknown_text, no_card_text}
@@ -10,8 +10,8 @@ use Rattle.wh_policy.specs.declared.attribute.AttributeType.{AttributeType}
 use Rattle.wh_policy.specs.declared.attribute.AttributeType.TheVariants.{RetainOriginal, Overwrite, NewRow, NewAttribute, MiniDimension, MiniDimensionOutrigger, NewRowAndOverwrite, DualKeys}
 use Rattle.wh_policy.specs.declared.record.DimensionRecord.{DimensionRecord}
 use Rattle.wh_policy.specs.declared.record.SaleRecord.{SaleRecord}
-use Rattle.wh_history.specs.Accepted.{Accepted, Content, Governs, Describes, Sells}
-use Rattle.wh_history.specs.Tables.{dimension_row, member_row, change_row, profile_row, fact_row, command_row, dimension_table, trial_commands}
+use Rattle.wh_history.specs.Accepted.{Accepted, Content, Governs, Describes, Sells, Withdraws}
+use Rattle.wh_history.specs.Tables.{dimension_row, member_row, change_row, profile_row, fact_row, void_row, command_row, dimension_table, trial_commands}
 use Rattle.wh_history.specs.declared.rows.DimRow.{DimRow}
 use Rattle.wh_history.specs.declared.facts.Fact.{Fact}
 
@@ -312,6 +312,30 @@ row-51 = refl
 row-52 : fact_row (take 22 commands) (codes "T2") 1 ≡ Some (fact (codes "T2") 20240610 (1, 9, 1) (1, 2, 1) 2 1 1000 700)
 unfolding none_text unknown_text no_card_text day_before
 row-52 = refl
+
+-- a line that is withdrawn has no fact, and the row of the command that withdrew it; the other facts and all members stay
+abbrev voided : List Accepted
+voided = take 22 commands ++ accepted (codes "v1") (codes "void") (Withdraws (record { ticket = codes "T1"; line = 1 } ∷ [])) ∷ []
+
+void-1 : fact_row voided (codes "T1") 1 ≡ None
+unfolding none_text unknown_text no_card_text day_before
+void-1 = refl
+
+void-2 : void_row voided (codes "T1") 1 ≡ Some 23
+unfolding none_text unknown_text no_card_text day_before
+void-2 = refl
+
+void-3 : fact_row voided (codes "T0") 1 ≡ fact_row (take 22 commands) (codes "T0") 1
+unfolding none_text unknown_text no_card_text day_before
+void-3 = refl
+
+void-4 : void_row voided (codes "T0") 1 ≡ None
+unfolding none_text unknown_text no_card_text day_before
+void-4 = refl
+
+void-5 : dimension_row voided Product 1 ≡ dimension_row (take 22 commands) Product 1
+unfolding none_text unknown_text no_card_text day_before
+void-5 = refl
 
 -- trials under the policy of a trial that names none
 row-53 : dimension_table (trial_commands trial_policy Product (told (codes "P1") 20240110 (codes "Cola 1l" ∷ codes "Acme" ∷ []) ∷ told (codes "P1") 20240201 (codes "Cola 1.0l" ∷ codes "Bolt" ∷ []) ∷ [])) Product ≡ dim_row 1 1 (codes "P1") 19000101 20240131 false (codes "Cola 1.0l" ∷ codes "Acme" ∷ [] ∷ [] ∷ [] ∷ [] ∷ []) ([] ∷ [] ∷ [] ∷ [] ∷ [] ∷ [] ∷ []) 0 ∷ dim_row 3 1 (codes "P1") 20240201 99991231 true (codes "Cola 1.0l" ∷ codes "Bolt" ∷ [] ∷ [] ∷ [] ∷ [] ∷ []) ([] ∷ [] ∷ [] ∷ [] ∷ [] ∷ [] ∷ []) 0 ∷ []

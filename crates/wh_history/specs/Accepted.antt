@@ -1,5 +1,6 @@
 -- The accepted commands, and what they say of members.
-use Rattle.std.specs.Prelude.{ℕ, ◌+◌, ◌-◌, Bool, true, false, if◌then◌else◌, ◌&&◌, List, [], ◌∷◌, ◌++◌, map, flat_map, filter, length, take, Option, Some, None, option_map, option_to_list, unwrap_or, bytes_eq, nat_eq}
+use Rattle.std.specs.Prelude.{ℕ, ◌+◌, ◌-◌, Bool, true, false, if◌then◌else◌, ◌==◌, ◌&&◌, not, List, [], ◌∷◌, ◌++◌, map, flat_map, filter, length, take, Option, Some, None, option_map, option_to_list, unwrap_or, bytes_eq, nat_eq}
+use Rattle.std.specs.List.{list_any}
 use Rattle.wh_day.specs.Value.{none_text}
 use Rattle.wh_policy.specs.Policy.{types_of}
 use Rattle.wh_policy.specs.declared.format.Format.{Format}
@@ -10,18 +11,20 @@ use Rattle.wh_policy.specs.declared.attribute.Dim.TheVariants.{Product, Store, C
 use Rattle.wh_policy.specs.declared.attribute.AttributeType.{AttributeType}
 use Rattle.wh_policy.specs.declared.record.DimensionRecord.{DimensionRecord}
 use Rattle.wh_policy.specs.declared.record.SaleRecord.{SaleRecord}
+use Rattle.wh_policy.specs.declared.record.VoidRecord.{VoidRecord}
 use Rattle.wh_history.specs.Keys.{distinct, place}
 use Rattle.wh_history.specs.Slots.{padded}
 use Rattle.wh_history.specs.Profiles.{combinations_of}
 use Rattle.wh_history.specs.declared.member.Change.{Change}
 use Rattle.wh_history.specs.declared.member.Member.{Member}
 
--- what a command holds: a making or a migration gives a policy, and an upgrade the second format
+-- what a command holds: a making or a migration gives a policy, an upgrade the second format, and a batch of voids the lines that it withdraws
 pub data Content : Type 0 where
   Governs : (policy : Policy) → Content
   Describes : (dim : Dim) (records : List DimensionRecord) → Content
   Sells : (sales : List SaleRecord) → Content
   Upgrades : Content
+  Withdraws : (lines : List VoidRecord) → Content
 
 -- an accepted command; its number is its place in the list, from 1
 pub record Accepted : Type 0 where
@@ -47,6 +50,7 @@ governed before (Governs policy) = Some policy
 governed before (Describes dim records) = before
 governed before (Sells sales) = before
 governed before Upgrades = before
+governed before (Withdraws lines) = before
 
 -- the policy that commands leave in force
 abbrev pub policy_after : Option Policy → List Accepted → Option Policy
@@ -59,6 +63,7 @@ formatted before (Governs policy) = before
 formatted before (Describes dim records) = before
 formatted before (Sells sales) = before
 formatted before Upgrades = Two
+formatted before (Withdraws lines) = before
 
 abbrev pub format_after : Format → List Accepted → Format
 format_after before [] = before
@@ -77,6 +82,7 @@ described_by dim (Governs policy) = []
 described_by dim (Describes other records) = if same_dim dim other then records else []
 described_by dim (Sells sales) = []
 described_by dim Upgrades = []
+described_by dim (Withdraws lines) = []
 
 -- all records of a dimension, in order of acceptance
 abbrev pub described : Dim → List Accepted → List DimensionRecord
@@ -88,10 +94,34 @@ sold_by (Governs policy) = []
 sold_by (Describes dim records) = []
 sold_by (Sells sales) = sales
 sold_by Upgrades = []
+sold_by (Withdraws lines) = []
 
 -- all sales, in order of acceptance
 abbrev pub sold : List Accepted → List SaleRecord
 sold commands = flat_map (λ c. sold_by c.content) commands
+
+-- the lines of tickets that a command withdraws
+abbrev pub withdrawn_by : Content → List VoidRecord
+withdrawn_by (Governs policy) = []
+withdrawn_by (Describes dim records) = []
+withdrawn_by (Sells sales) = []
+withdrawn_by Upgrades = []
+withdrawn_by (Withdraws lines) = lines
+
+-- all withdrawn lines, in order of acceptance
+abbrev pub withdrawn : List Accepted → List VoidRecord
+withdrawn commands = flat_map (λ c. withdrawn_by c.content) commands
+
+-- a ticket's line is withdrawn by these voids
+abbrev pub withdraws_line : List ℕ → ℕ → List VoidRecord → Bool
+withdraws_line ticket line voids = list_any (λ v. bytes_eq v.ticket ticket && (v.line == line)) voids
+
+-- the sales that stand: those whose lines no void withdraws
+abbrev pub standing_but : List VoidRecord → List SaleRecord → List SaleRecord
+standing_but voids sales = filter (λ s. not (withdraws_line s.ticket s.line voids)) sales
+
+abbrev pub standing : List Accepted → List SaleRecord
+standing commands = standing_but (withdrawn commands) (sold commands)
 
 -- the member of a dimension that a sale mentions, if it does
 abbrev pub member_of_sale : Dim → SaleRecord → Option (List ℕ)
@@ -177,6 +207,7 @@ placeholders_by commands number (Governs policy) = 0
 placeholders_by commands number (Describes dim records) = 0
 placeholders_by commands number (Sells sales) = members_after (take number commands) - members_after (take (number - 1) commands)
 placeholders_by commands number Upgrades = 0
+placeholders_by commands number (Withdraws lines) = 0
 
 -- how many records a command holds
 abbrev pub records_by : Content → ℕ
@@ -184,3 +215,4 @@ records_by (Governs policy) = 0
 records_by (Describes dim records) = length records
 records_by (Sells sales) = length sales
 records_by Upgrades = 0
+records_by (Withdraws lines) = length lines

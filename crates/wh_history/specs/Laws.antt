@@ -7,7 +7,7 @@ use Rattle.wh_policy.specs.declared.attribute.Dim.{Dim}
 use Rattle.wh_policy.specs.declared.attribute.AttributeType.{AttributeType}
 use Rattle.wh_history.specs.Dated.{dated, at, value_at}
 use Rattle.wh_history.specs.Rows.{holds, rows}
-use Rattle.wh_history.specs.Accepted.{Accepted, Content, Governs, Describes, Sells, Upgrades, anchors_by, described, mentions, same_anchor, opening_of}
+use Rattle.wh_history.specs.Accepted.{Accepted, Content, Governs, Describes, Sells, Upgrades, Withdraws, anchors_by, described, mentions, same_anchor, opening_of}
 use Rattle.wh_history.specs.Tables.{dimension_row}
 use Rattle.wh_history.specs.declared.member.Change.{Change}
 use Rattle.wh_history.specs.declared.member.Member.{Member}
@@ -114,3 +114,4 @@ governs (Governs policy) = true
 governs (Describes dim records) = false
 governs (Sells sales) = false
 governs Upgrades = false
+governs (Withdraws lines) = false

@@ -12,7 +12,7 @@ use Rattle.wh_day.specs.Day.{first_day, last_day}
 use Rattle.wh_history.specs.Rows.{rows}
 use Rattle.wh_history.specs.Profiles.{current_profile}
 use Rattle.wh_history.specs.Facts.{key_in}
-use Rattle.wh_history.specs.Accepted.{Accepted, Content, Governs, Describes, Sells, Upgrades, opening_of, day_of, types_in, sold, anchors, members, durable_key, surrogate_key, member_of, profiles_of, records_by, placeholders_by}
+use Rattle.wh_history.specs.Accepted.{Accepted, Content, Governs, Describes, Sells, Upgrades, Withdraws, opening_of, day_of, types_in, standing, withdrawn_by, withdraws_line, anchors, members, durable_key, surrogate_key, member_of, profiles_of, records_by, placeholders_by}
 use Rattle.wh_policy.specs.Formats.{format_number}
 use Rattle.wh_policy.specs.declared.format.Format.{Format}
 use Rattle.wh_policy.specs.declared.policy.Policy.{Policy}
@@ -66,6 +66,7 @@ change_row_in commands place (Governs policy) = None
 change_row_in commands place (Describes dim records) = option_map (change_row_of commands dim) (at_place place records)
 change_row_in commands place (Sells sales) = None
 change_row_in commands place Upgrades = None
+change_row_in commands place (Withdraws lines) = None
 
 abbrev pub change_row : List Accepted → ℕ → ℕ → Option ChangeRow
 change_row commands number place = option_and_then (λ c. change_row_in commands place c.content) (at_place number commands)
@@ -136,7 +137,7 @@ key_at commands dim day natural = key_in (member_rows commands dim natural) day
 abbrev pub profile_at : List Accepted → ℕ → List ℕ → ℕ
 profile_at commands day natural = current_profile (types_in Customer commands) (profiles_of commands) (at day (dated (member_of Customer commands natural).changes))
 
--- fact; without a card the customer's numbers are 0
+-- fact, of the sales that stand; without a card the customer's numbers are 0
 abbrev pub fact_of : List Accepted → SaleRecord → Fact
 fact_of commands s = record {
   ticket = s.ticket;
@@ -158,7 +159,15 @@ fact_of commands s = record {
 }
 
 abbrev pub fact_row : List Accepted → List ℕ → ℕ → Option Fact
-fact_row commands ticket line = option_map (fact_of commands) (find (λ s. bytes_eq s.ticket ticket && (s.line == line)) (sold commands))
+fact_row commands ticket line = option_map (fact_of commands) (find (λ s. bytes_eq s.ticket ticket && (s.line == line)) (standing commands))
+
+-- void: the number of the command that withdrew the line, where commands are numbered from this number on
+abbrev pub withdrawn_from : ℕ → List Accepted → List ℕ → ℕ → Option ℕ
+withdrawn_from number [] ticket line = None
+withdrawn_from number (c ∷ commands) ticket line = if withdraws_line ticket line (withdrawn_by c.content) then Some number else withdrawn_from (suc number) commands ticket line
+
+abbrev pub void_row : List Accepted → List ℕ → ℕ → Option ℕ
+void_row commands ticket line = withdrawn_from 1 commands ticket line
 
 -- meta, by the format and the three limits that were chosen at the making
 pub record Limits : Type 0 where

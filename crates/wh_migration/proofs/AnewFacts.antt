@@ -8,7 +8,7 @@ use Rattle.std.proofs.lemmas.Slice.Eq.{bytes_eq-Decides}
 use Rattle.wh_policy.specs.declared.attribute.Dim.{Dim}
 use Rattle.wh_policy.specs.declared.attribute.Dim.TheVariants.{Product, Store, Customer}
 use Rattle.wh_policy.specs.declared.record.SaleRecord.{SaleRecord}
-use Rattle.wh_history.specs.Accepted.{Accepted, Anchor, opening_of, member_of_sale, mentions, sold, members, durable_key, member_of, types_in, profiles_of}
+use Rattle.wh_history.specs.Accepted.{Accepted, Content, Governs, Describes, Sells, Upgrades, Withdraws, Anchor, opening_of, member_of_sale, mentions, sold, withdrawn_by, withdrawn, standing, members, durable_key, member_of, types_in, profiles_of}
 use Rattle.wh_history.specs.Facts.{key_in, keys_on, of_customer, rekeyed_to}
 use Rattle.wh_history.specs.Keys.{at_place}
 use Rattle.wh_history.specs.Dated.{at, dated}
@@ -28,6 +28,7 @@ use Rattle.wh_history.specs.declared.rows.DimRow.{DimRow}
 use Rattle.wh_history.proofs.Joins.{all_weaker}
 use Rattle.wh_history.proofs.Knowing.{number_all, day_known, all_changes_known}
 use Rattle.wh_history.proofs.Places.{at_place-place, place-distinct_given}
+use Rattle.wh_history.proofs.Standing.{stands_sold, standing-kept}
 use Rattle.wh_rows.specs.Facts.{facts_of}
 use Rattle.wh_rows.specs.Rows as row
 use Rattle.wh_rows.specs.Tables.{Tables}
@@ -48,9 +49,18 @@ use Rattle.wh_plan.proofs.GrownFacts.{own_line, Once, found_each}
 use Rattle.wh_model.proofs.GrownKeys.{all_at}
 use Rattle.wh_plan.proofs.MovedFacts.{on_line, facts_of_line}
 use Rattle.wh_model.proofs.MovedKeys.{with_keys, moved_gives, moved_has, moved_is_other, at_found}
+use Rattle.wh_model.proofs.QuietLists.{policy_quiet}
 use Rattle.wh_plan.proofs.MovedLists.{find_by_filter, distinct_by_filter, filter_moves, moves_of_one}
 use Rattle.wh_migration.proofs.AllRows.{row_shown}
 use Rattle.wh_plan.proofs.SaleBatches.SalesKeys.{fact_keyed}
+
+-- a command that gives a policy withdraws nothing
+none_withdrawn : (content : Content) → governs content ≡ true → withdrawn_by content ≡ []
+none_withdrawn (Governs policy) is = refl
+none_withdrawn (Describes dim records) is = absurd cc
+none_withdrawn (Sells sales) is = absurd cc
+none_withdrawn Upgrades is = absurd cc
+none_withdrawn (Withdraws lines) is = absurd cc
 
 -- ---- facts that get the keys that a function gives them
 
@@ -83,11 +93,11 @@ module _ (limits : Limits) (commands : List Accepted) (c : Accepted) (t : Tables
   moves_lead : (key : LineKey) → option_or (find (has_line key) moves) (fact_at commands key) ≡ fact_at after key
   moves_lead key =
       ap (λ o. option_or o (fact_at commands key)) (found_move key)
-      ∙ elim (find (on_line key) (sold commands)) as (λ o. (find (on_line key) (sold commands) ≡ o) → option_or (option_and_then move (option_map (fact_of commands) o)) (option_map (fact_of commands) o) ≡ option_map (fact_of after) o) [
+      ∙ elim (find (on_line key) (standing commands)) as (λ o. (find (on_line key) (standing commands) ≡ o) → option_or (option_and_then move (option_map (fact_of commands) o)) (option_map (fact_of commands) o) ≡ option_map (fact_of after) o) [
         | None ↦ λ _. refl
-        | Some s ↦ λ found. let there = at_found (on_line key) (sold commands) s found in moved_gives (fact_of commands s) (keys (fact_of commands s)) ∙ ap Some (gives there.0 s there.1)
+        | Some s ↦ λ found. let there = at_found (on_line key) (sold commands) s (stands_sold (withdrawn commands) key.ticket key.line (sold commands) s found).0 in moved_gives (fact_of commands s) (keys (fact_of commands s)) ∙ ap Some (gives there.0 s there.1)
       ] refl
-      ∙ sym (ap (λ ss. option_map (fact_of after) (find (on_line key) ss)) (sold_governed commands c is))
+      ∙ sym (ap (λ ss. option_map (fact_of after) (find (on_line key) ss)) (standing-kept commands c (none_withdrawn c.content is) (policy_quiet c.content is).no_sale))
 
   moved_needed : (f : Fact) → find (has_line (row.fact.key f)) moves ≡ Some f → fact_at commands (row.fact.key f) ≢ Some f
   moved_needed f found there = moved_is_other f (keys f) (sym (ap (option_and_then move) there) ∙ sym (found_move (row.fact.key f)) ∙ found)

@@ -1,14 +1,12 @@
 -- The edits of a command that gives a policy.
-use Rattle.std.proofs.Common.{◌≡◌, inl, inr, ℕ, suc, false, List, [], ◌∷◌, ◌++◌, length, map, Option, Some, None, sym, ap, subst, arith}
-use Rattle.std.specs.FinMap.{nat_cmp-IsAntisymmetric}
+use Rattle.std.proofs.Common.{◌≡◌, inl, inr, ℕ, suc, false, List, [], ◌∷◌, ◌++◌, length, Option, Some, None, sym, ap, subst, arith}
 use Rattle.std.specs.Option.{option_and_then}
-use Rattle.std.proofs.lemmas.Cmp.{nat_cmp_total}
 use Rattle.wh_policy.specs.declared.attribute.Dim.{Dim}
 use Rattle.wh_policy.specs.declared.attribute.Dim.TheVariants.{Product, Store, Customer}
 use Rattle.wh_policy.specs.declared.policy.Policy.{Policy}
 use Rattle.wh_policy.specs.declared.format.Format.{Format}
 use Rattle.wh_policy.specs.declared.format.Format.TheVariants.{One, Two}
-use Rattle.wh_history.specs.Accepted.{Accepted, Governs, format_of, formatted, members, policy_after}
+use Rattle.wh_history.specs.Accepted.{Accepted, Governs, format_of, formatted, members, policy_after, withdrawn_by}
 use Rattle.wh_history.specs.Laws.{governs}
 use Rattle.wh_history.specs.Plan.{IsRowPlan}
 use Rattle.wh_history.specs.Tables.{dimension_row}
@@ -28,12 +26,10 @@ use Rattle.wh_migration.specs.declared.migrated.MigratedTables.{MigratedTables}
 use Rattle.wh_model.proofs.Formatted.{format_stays}
 use Rattle.wh_model.proofs.GovernedLists.{members_governed, policy_governed}
 use Rattle.wh_model.proofs.GrownChanges.{changes_grow}
-use Rattle.wh_model.proofs.GrownCommands.{command_keyed, command_grows}
-use Rattle.wh_model.proofs.GrownCommands as command
 use Rattle.wh_model.proofs.GrownMembers as member
 use Rattle.wh_plan.proofs.OwnRow.{own_row_plan}
 use Rattle.wh_plan.proofs.Plans.{empty_plan}
-use Rattle.wh_plan.proofs.BatchPlans.{meta_stays}
+use Rattle.wh_plan.proofs.BatchPlans.{meta_stays, voids_stay}
 use Rattle.wh_plan.proofs.FactPlans.{plan_in_table}
 
 -- a plan between the same rows
@@ -63,9 +59,9 @@ module _ (commands : List Accepted) (c : Accepted) (policy : Policy) (is : c.con
       → ArePlannedAnew commands (commands ++ c ∷ []) migrated
       → IsTablePlan row.profile (profile_at commands) (profile_at (commands ++ c ∷ [])) edits.profiles
       → IsTablePlan row.calendar (day_at older) (day_at policy) edits.calendar
-      → edits.upgrades ≡ false → edits.meta ≡ [] → edits.commands ≡ Put own ∷ [] → edits.members ≡ [] → edits.changes ≡ [] → edits.products ≡ migrated.products.items → edits.stores ≡ migrated.stores.items → edits.customers ≡ migrated.customers.items → edits.facts ≡ edits_in One format migrated.facts.items → edits.facts2 ≡ edits_in Two format migrated.facts.items
+      → edits.upgrades ≡ false → edits.meta ≡ [] → edits.commands ≡ Put own ∷ [] → edits.members ≡ [] → edits.changes ≡ [] → edits.products ≡ migrated.products.items → edits.stores ≡ migrated.stores.items → edits.customers ≡ migrated.customers.items → edits.facts ≡ edits_in One format migrated.facts.items → edits.facts2 ≡ edits_in Two format migrated.facts.items → edits.voids ≡ []
       → AreEdits commands (commands ++ c ∷ []) edits
-  migration_edits older own migrated edits format same governed stands planned profiles days no_upgrade no_meta command_is no_members no_changes products_are stores_are customers_are facts_are facts2_are = record {
+  migration_edits older own migrated edits format same governed stands planned profiles days no_upgrade no_meta command_is no_members no_changes products_are stores_are customers_are facts_are facts2_are no_voids = record {
     upgrades = subst (λ b. UpgradesTo b (format_of commands) (format_of after)) (sym no_upgrade) stays;
     meta = λ limits. rw no_meta (meta_stays commands after stays limits);
     commands = rw command_is (own_row_plan commands c own stands);
@@ -77,6 +73,7 @@ module _ (commands : List Accepted) (c : Accepted) (policy : Policy) (is : c.con
         (λ day. sym (ap (option_and_then (λ p. day_at p day)) governed)) (λ day. sym (ap (option_and_then (λ p. day_at p day)) (policy_governed None commands c policy is))) days;
     facts = rw facts_are (plan_in_table commands after One format migrated.facts.items same stays planned.facts);
     facts2 = rw facts2_are (plan_in_table commands after Two format migrated.facts.items same stays planned.facts);
+    voids = rw no_voids (voids_stay commands c (ap withdrawn_by is));
   }
     where
       stays : format_of after ≡ format_of commands

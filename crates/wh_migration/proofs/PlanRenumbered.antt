@@ -7,7 +7,7 @@ use Rattle.wh_policy.specs.declared.attribute.AttributeType.{AttributeType}
 use Rattle.wh_policy.specs.declared.attribute.Dim.{Dim}
 use Rattle.wh_policy.specs.declared.attribute.Dim.TheVariants.{Customer}
 use Rattle.wh_policy.specs.declared.record.DimensionRecord.{DimensionRecord}
-use Rattle.wh_history.specs.Accepted.{Accepted, Content, Governs, Describes, Sells, Upgrades, described, described_by, types_in, profiles_of}
+use Rattle.wh_history.specs.Accepted.{Accepted, Content, Governs, Describes, Sells, Upgrades, Withdraws, described, described_by, types_in, profiles_of}
 use Rattle.wh_history.specs.Known.{numbered_from}
 use Rattle.wh_history.specs.Laws.{governs}
 use Rattle.wh_history.specs.Plan.{Needs, edit_between}
@@ -126,6 +126,7 @@ none_described dim (Governs policy) gives = refl
 none_described dim (Describes other records) gives = absurd cc
 none_described dim (Sells sales) gives = absurd cc
 none_described dim Upgrades gives = absurd cc
+none_described dim (Withdraws lines) gives = absurd cc
 
 module _ (commands : List Accepted) (c : Accepted) (gives : governs c.content ≡ true) (kinds : List AttributeType) (typed : AreTypes (commands ++ c ∷ []) Customer kinds) where
   kinds_are : kinds ≡ types_in Customer (commands ++ c ∷ [])

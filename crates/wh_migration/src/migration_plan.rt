@@ -59,7 +59,7 @@ fn with_own_row(
     profiles: RenumberedProfiles,
     calendar: Vec<Edit<DateRow, Day>>,
 ) -> Result<Edits, AllocError>
-    ensures { IfOk result (λ e. e ≡ record { upgrades = false; meta = []; commands = Put command ∷ []; members = []; changes = []; products = migrated.products.items; stores = migrated.stores.items; customers = migrated.customers.items; profiles = profiles.edits.items; calendar = calendar.items; facts = edits_in One format migrated.facts.items; facts2 = edits_in Two format migrated.facts.items }) }
+    ensures { IfOk result (λ e. e ≡ record { upgrades = false; meta = []; commands = Put command ∷ []; members = []; changes = []; products = migrated.products.items; stores = migrated.stores.items; customers = migrated.customers.items; profiles = profiles.edits.items; calendar = calendar.items; facts = edits_in One format migrated.facts.items; facts2 = edits_in Two format migrated.facts.items; voids = [] }) }
 {
     let mut commands = Vec::new(alloc);
     commands.push(Edit::Put(command))?;
@@ -77,6 +77,7 @@ fn with_own_row(
         calendar,
         facts: facts.one,
         facts2: facts.two,
+        voids: Vec::new(alloc),
     })
 }
 

@@ -21,7 +21,7 @@ use wh_store::{ReadFault, Tables};
 
 /// The edits of an upgrade that carries these facts, with its own row. All other tables stay.
 fn upgrade_edits(alloc: Global, command: CommandRow, facts: FactTables) -> Result<Edits, AllocError>
-    ensures { IfOk result (λ e. e ≡ record { upgrades = true; meta = Put (record { name = codes "format"; value = pos 2 }) ∷ []; commands = Put command ∷ []; members = []; changes = []; products = []; stores = []; customers = []; profiles = []; calendar = []; facts = facts.one.items; facts2 = facts.two.items }) }
+    ensures { IfOk result (λ e. e ≡ record { upgrades = true; meta = Put (record { name = codes "format"; value = pos 2 }) ∷ []; commands = Put command ∷ []; members = []; changes = []; products = []; stores = []; customers = []; profiles = []; calendar = []; facts = facts.one.items; facts2 = facts.two.items; voids = [] }) }
 {
     let mut edits = Edits::none(alloc);
     edits.upgrades = true;

@@ -6,10 +6,11 @@ use Rattle.std.proofs.lemmas.Slice.Eq.{bytes_eq-Decides}
 use Rattle.wh_policy.specs.declared.attribute.Dim.{Dim}
 use Rattle.wh_policy.specs.declared.attribute.Dim.TheVariants.{Product, Store, Customer}
 use Rattle.wh_policy.specs.declared.record.SaleRecord.{SaleRecord}
-use Rattle.wh_history.specs.Accepted.{Accepted, durable_key, member_of_sale, sold}
+use Rattle.wh_history.specs.Accepted.{Accepted, durable_key, member_of_sale, sold, withdrawn, standing}
 use Rattle.wh_history.specs.Tables.{Limits, key_at, profile_at, fact_of}
 use Rattle.wh_history.proofs.Basics.{find_passes}
 use Rattle.wh_history.proofs.Effective.{effective}
+use Rattle.wh_history.proofs.Standing.{stands_sold}
 use Rattle.wh_model.specs.Laws.{NamesMember, NamesCustomer, NamesItsMembers, IsSoldAt, FactsAreEffective}
 use Rattle.wh_model.specs.Sound.{IsGoodSale, IsAccepted}
 use Rattle.wh_model.proofs.Following.{Named, owned, all_named}
@@ -52,16 +53,18 @@ module _ (limits : Limits) (commands : List Accepted) (ok : IsAccepted limits co
 pub facts_are_effective : FactsAreEffective
 facts_are_effective limits commands key f ok is =
     let on = λ (t : SaleRecord). bytes_eq t.ticket key.ticket && (t.line == key.line) in
-    let made = made_of (fact_of commands) (find on (sold commands)) f is in
+    let made = made_of (fact_of commands) (find on (standing commands)) f is in
     let s : SaleRecord = made.0 in
-    let good = found_is IsGoodSale on (sold commands) s ok.sales made.1 in
-    let named = found_is (Named commands) on (sold commands) s (all_named commands) made.1 in
-    let at = at_found on (sold commands) s made.1 in
-    let same = and_parts (bytes_eq s.ticket key.ticket) (s.line == key.line) (find_passes on s (sold commands) made.1) in
+    let stands = stands_sold (withdrawn commands) key.ticket key.line (sold commands) s made.1 in
+    let good = found_is IsGoodSale on (sold commands) s ok.sales stands.0 in
+    let named = found_is (Named commands) on (sold commands) s (all_named commands) stands.0 in
+    let at = at_found on (sold commands) s stands.0 in
+    let same = and_parts (bytes_eq s.ticket key.ticket) (s.line == key.line) (find_passes on s (sold commands) stands.0) in
     let sale : IsSoldAt commands key s = record {
       number = at.0;
       there = at.1;
       ticket = (bytes_eq-Decides s.ticket key.ticket).0 same.0;
       line = eqb-true s.line key.line same.1;
+      stands = stands.1;
     } in
     (s, sale, subst (NamesItsMembers commands s) (sym made.2) (members_named limits commands ok s good named))

@@ -4,7 +4,7 @@ use Rattle.std.specs.FinMap.{get}
 use Rattle.wh_policy.specs.Formats.{same_format}
 use Rattle.wh_policy.specs.declared.format.Format.{Format}
 use Rattle.wh_policy.specs.declared.format.Format.TheVariants.{One, Two}
-use Rattle.wh_history.specs.Accepted.{Accepted, Content, Governs, Describes, Sells, Upgrades, formatted, format_after, format_of}
+use Rattle.wh_history.specs.Accepted.{Accepted, Content, Governs, Describes, Sells, Upgrades, Withdraws, formatted, format_after, format_of}
 use Rattle.wh_history.specs.Tables.{Limits}
 use Rattle.wh_history.specs.declared.facts.Fact.{Fact}
 use Rattle.wh_rows.specs.Facts.{facts_in, facts_of}
@@ -24,6 +24,7 @@ left_as_it_was (Governs policy) leaves format = refl
 left_as_it_was (Describes dim records) leaves format = refl
 left_as_it_was (Sells sales) leaves format = refl
 left_as_it_was Upgrades leaves format = absurd (cc)
+left_as_it_was (Withdraws lines) leaves format = refl
 
 pub format_stays : (commands : List Accepted) (c : Accepted) → formatted One c.content ≡ One → format_of (commands ++ c ∷ []) ≡ format_of commands
 format_stays commands c leaves = format_with One commands c ∙ left_as_it_was c.content leaves (format_of commands)
@@ -34,6 +35,7 @@ first_before (Governs policy) format first = first
 first_before (Describes dim records) format first = first
 first_before (Sells sales) format first = first
 first_before Upgrades format first = absurd (cc)
+first_before (Withdraws lines) format first = first
 
 pub format_before : (commands : List Accepted) (c : Accepted) → format_of (commands ++ c ∷ []) ≡ One → format_of commands ≡ One
 format_before commands c first = first_before c.content (format_of commands) (sym (format_with One commands c) ∙ first)

@@ -8,7 +8,7 @@ use Rattle.std.proofs.lemmas.Slice.Eq.{bytes_eq-Decides}
 use Rattle.wh_policy.specs.declared.attribute.Dim.{Dim}
 use Rattle.wh_policy.specs.declared.record.DimensionRecord.{DimensionRecord}
 use Rattle.wh_history.specs.Keys.{at_place}
-use Rattle.wh_history.specs.Accepted.{Accepted, Content, Governs, Describes, Sells, Upgrades, Anchor, same_anchor, same_day, day_of, described_by, mentions, durable_key, surrogate_key, records_by}
+use Rattle.wh_history.specs.Accepted.{Accepted, Content, Governs, Describes, Sells, Upgrades, Withdraws, Anchor, same_anchor, same_day, day_of, described_by, mentions, durable_key, surrogate_key, records_by}
 use Rattle.wh_history.specs.Tables.{change_row, change_row_of, change_row_in}
 use Rattle.wh_history.specs.Tables as history
 use Rattle.wh_history.proofs.Batches.{same_dimension}
@@ -69,6 +69,7 @@ module _ (commands : List Accepted) (c : Accepted) where
       map_same (change_row_of after dim) (change_row_of commands dim) (at_place place rs) (λ r there. row_stays dim r (all_at (Told (mentions dim commands)) place rs r all there))
   content_stays (Sells sales) told place = refl
   content_stays Upgrades told place = refl
+  content_stays (Withdraws lines) told place = refl
 
   abbrev row_in : List Accepted → ℕ → Accepted → Option history.ChangeRow
   row_in list place d = change_row_in list place d.content
@@ -121,7 +122,7 @@ module _ (commands : List Accepted) (c : Accepted) where
         ]
 
   -- a command without records brings no change
-  brings_none : (content : Content) → c.content ≡ content → ((place : ℕ) → change_row_in after place content ≡ None) → (key : ChangeKey) → change_at after key ≡ change_at commands key
+  pub brings_none : (content : Content) → c.content ≡ content → ((place : ℕ) → change_row_in after place content ≡ None) → (key : ChangeKey) → change_at after key ≡ change_at commands key
   brings_none content is without key =
       elim (cases_lt (length commands) key.command) [
         | inr older ↦ ap (option_map (keyed_row key)) (older_stay key.command key.place older)
@@ -140,3 +141,4 @@ module _ (commands : List Accepted) (c : Accepted) where
   changes_grow (Describes dim rs) is key = change_grows dim rs is key
   changes_grow (Sells sales) is key = inl (record { same = brings_none (Sells sales) is (λ _. refl) key })
   changes_grow Upgrades is key = inl (record { same = brings_none Upgrades is (λ _. refl) key })
+  changes_grow (Withdraws lines) is key = inl (record { same = brings_none (Withdraws lines) is (λ _. refl) key })

@@ -3,7 +3,7 @@ use Rattle.std.proofs.Common.{◌≡◌, ℕ, ◌-◌, ◌<◌, ◌≤◌, List,
 use Rattle.std.specs.Prelude.{option_map}
 use Rattle.std.proofs.lemmas.List.{take-append-le}
 use Rattle.wh_history.specs.Keys.{at_place}
-use Rattle.wh_history.specs.Accepted.{Accepted, Content, Governs, Describes, Sells, Upgrades, placeholders_by, records_by}
+use Rattle.wh_history.specs.Accepted.{Accepted, Content, Governs, Describes, Sells, Upgrades, Withdraws, placeholders_by, records_by}
 use Rattle.wh_history.specs.Tables.{command_row}
 use Rattle.wh_history.specs.Tables as history
 use Rattle.wh_rows.specs.declared.rows.CommandRow.{CommandRow}
@@ -24,6 +24,7 @@ module _ (commands : List Accepted) (c : Accepted) where
   placeholders_stay n (Governs policy) h = refl
   placeholders_stay n (Describes dim records) h = refl
   placeholders_stay n Upgrades h = refl
+  placeholders_stay n (Withdraws lines) h = refl
   placeholders_stay n (Sells sales) h =
       let here = take-append-le n commands (c ∷ []) h in
       let before = take-append-le (n - 1) commands (c ∷ []) (omega arith) in

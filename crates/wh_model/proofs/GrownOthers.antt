@@ -9,7 +9,7 @@ use Rattle.wh_policy.specs.declared.attribute.Dim.TheVariants.{Product, Store, C
 use Rattle.wh_policy.specs.declared.record.DimensionRecord.{DimensionRecord}
 use Rattle.wh_policy.specs.declared.record.SaleRecord.{SaleRecord}
 use Rattle.wh_history.specs.Keys.{at_place, distinct}
-use Rattle.wh_history.specs.Accepted.{Accepted, Describes, Anchor, same_anchor, same_dim, anchors_by, described_by, mentions, described, anchors, types_in, profiles_of, member_of, sold, sold_by}
+use Rattle.wh_history.specs.Accepted.{Accepted, Describes, Anchor, same_anchor, same_dim, anchors_by, described_by, mentions, described, anchors, types_in, profiles_of, member_of, sold, sold_by, withdrawn, standing_but, standing}
 use Rattle.wh_history.specs.Laws.{governs, mentions_member}
 use Rattle.wh_history.specs.Profiles.{combinations_of}
 use Rattle.wh_history.specs.Rows.{rows}
@@ -103,8 +103,11 @@ module _ (dim : Dim) (commands : List Accepted) (c : Accepted) (rs : List Dimens
       ∙ ap (λ ss. ss ++ (sold_by c.content ++ [])) none
       ∙ ap (λ content. sold_by content ++ []) is
 
+  stands_nothing : (list : List Accepted) → sold list ≡ [] → standing list ≡ []
+  stands_nothing list none = ap (standing_but (withdrawn list)) none
+
   abbrev fact_among : List Accepted → List SaleRecord → LineKey → Option Fact
   fact_among list sales key = option_map (fact_of list) (find (λ s. bytes_eq s.ticket key.ticket && (s.line == key.line)) sales)
 
   pub no_fact : sold commands ≡ [] → (key : LineKey) → fact_at after key ≡ fact_at commands key
-  no_fact none key = ap (λ ss. fact_among after ss key) (sold_nothing none) ∙ sym (ap (λ ss. fact_among commands ss key) none)
+  no_fact none key = ap (λ ss. fact_among after ss key) (stands_nothing after (sold_nothing none)) ∙ sym (ap (λ ss. fact_among commands ss key) (stands_nothing commands none))

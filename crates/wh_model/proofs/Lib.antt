@@ -25,4 +25,10 @@ pub mod GovernedLists
 pub mod Formatted
 pub mod MovedKeys
 pub mod SameLines
+pub mod QuietRows
+pub mod StandingFacts
 pub mod UpgradedRows
+pub mod WithdrawnRows
+pub mod CountedSales
+pub mod ValidVoids
+pub mod CountedLines

@@ -11,7 +11,7 @@ use Rattle.wh_policy.specs.declared.attribute.Dim.{Dim}
 use Rattle.wh_policy.specs.declared.attribute.Dim.TheVariants.{Product, Store, Customer}
 use Rattle.wh_policy.specs.declared.record.DimensionRecord.{DimensionRecord}
 use Rattle.wh_history.specs.Keys.{at_place}
-use Rattle.wh_history.specs.Accepted.{Accepted, Content, Governs, Describes, Sells, Upgrades, described, described_by}
+use Rattle.wh_history.specs.Accepted.{Accepted, Content, Governs, Describes, Sells, Upgrades, Withdraws, described, described_by}
 use Rattle.wh_history.specs.Tables.{Limits, change_row_of, change_row_in, ChangeRow as Told}
 use Rattle.wh_history.proofs.Basics.{some_is, or_true}
 use Rattle.wh_history.proofs.Joins.{all_append, all_weaker}
@@ -77,6 +77,7 @@ module _ (commands : List Accepted) where
   content_rows number (Describes dim records) = record_rows number 1 dim records
   content_rows number (Sells sales) = []
   content_rows number Upgrades = []
+  content_rows number (Withdraws lines) = []
 
   abbrev pub change_rows : ℕ → List Accepted → List ChangeRow
   change_rows number [] = []
@@ -93,6 +94,7 @@ module _ (commands : List Accepted) where
   all_content P number each (Describes dim records) = all_records P number dim (λ place r. each place dim r) 1 records
   all_content P number each (Sells sales) = tt
   all_content P number each Upgrades = tt
+  all_content P number each (Withdraws lines) = tt
 
   below_changes : (k : ChangeKey) (number : ℕ) (cs : List Accepted) → k.command < number → Below change_cmp key_in k (change_rows number cs)
   below_changes k number [] less = tt
@@ -114,6 +116,7 @@ module _ (commands : List Accepted) where
   ascends_content number (Describes dim records) = ascends_records number 1 dim records
   ascends_content number (Sells sales) = tt
   ascends_content number Upgrades = tt
+  ascends_content number (Withdraws lines) = tt
 
   ascends_changes : (number : ℕ) (cs : List Accepted) → Ascends change_cmp key_in (change_rows number cs)
   ascends_changes number [] = tt
@@ -142,6 +145,7 @@ module _ (commands : List Accepted) where
   content_stands number c at (Describes dim records) is = records_stand number c dim records at is 1 records (behind_all records)
   content_stands number c at (Sells sales) is = tt
   content_stands number c at Upgrades is = tt
+  content_stands number c at (Withdraws lines) is = tt
 
   changes_stand : (number : ℕ) (cs : List Accepted) → Behind number cs commands → AllByRecursion Stands (change_rows number cs)
   changes_stand number [] behind = tt
@@ -196,6 +200,7 @@ module _ (commands : List Accepted) where
   source_content k v c at (Describes dim records) is h = source_record k v c dim records at is (at_place k.place records) refl h
   source_content k v c at (Sells sales) is h = absurd (cc)
   source_content k v c at Upgrades is h = absurd (cc)
+  source_content k v c at (Withdraws lines) is h = absurd (cc)
 
   source_command : (k : ChangeKey) (v : ChangeRow) (o : Option Accepted) → at_place k.command commands ≡ o → option_map (stored k) (option_and_then (λ (c : Accepted). change_row_in commands k.place c.content) o) ≡ Some v → Source k v
   source_command k v None at h = absurd (cc)
@@ -229,6 +234,7 @@ module _ (commands : List Accepted) where
   length_content number (Describes Customer records) = length_records number 1 Customer records ∙ omega arith
   length_content number (Sells sales) = refl
   length_content number Upgrades = refl
+  length_content number (Withdraws lines) = refl
 
   pub length_changes : (number : ℕ) (cs : List Accepted) → length (change_rows number cs) ≡ length (described Product cs) + length (described Store cs) + length (described Customer cs)
   length_changes number [] = refl

@@ -1,12 +1,15 @@
 -- A command that describes nothing, mentions nothing and sells nothing leaves what the list says of members and sales.
-use Rattle.std.proofs.Common.{◌≡◌, ℕ, true, List, [], ◌∷◌, ◌++◌, map, refl, ◌∙◌, ap, append-nil}
-use Rattle.std.specs.Prelude.{bytes_eq, filter}
+use Rattle.std.proofs.Common.{◌≡◌, ℕ, true, zero, suc, List, [], ◌∷◌, ◌++◌, map, Option, None, refl, sym, ◌∙◌, ap, append-nil}
+use Rattle.std.specs.Prelude.{bytes_eq, filter, option_map}
 use Rattle.std.proofs.lemmas.Grind.{flat_map-append}
 use Rattle.wh_policy.specs.declared.attribute.Dim.{Dim}
 use Rattle.wh_policy.specs.declared.record.DimensionRecord.{DimensionRecord}
-use Rattle.wh_history.specs.Keys.{distinct, place}
-use Rattle.wh_history.specs.Accepted.{Accepted, Anchor, Content, Governs, Describes, Sells, Upgrades, same_anchor, anchors_by, described_by, described, sold_by, sold, mentions, anchors, members, opening_of, day_of, durable_key, surrogate_key, change_of, changes_of, member_of}
+use Rattle.wh_policy.specs.declared.record.VoidRecord.{VoidRecord}
+use Rattle.wh_history.specs.Keys.{distinct, place, at_place}
+use Rattle.wh_history.specs.Accepted.{Accepted, Anchor, Content, Governs, Describes, Sells, Upgrades, Withdraws, same_anchor, anchors_by, described_by, described, sold_by, sold, mentions, anchors, members, opening_of, day_of, durable_key, surrogate_key, change_of, changes_of, member_of}
 use Rattle.wh_history.specs.Laws.{governs}
+use Rattle.wh_history.specs.Tables.{change_row_of, change_row_in}
+use Rattle.wh_history.proofs.Batches.{same_dimension}
 use Rattle.wh_history.proofs.Untouched.{mentions-last, described-last}
 
 pub record IsQuiet (content : Content) : Type 0 where
@@ -19,11 +22,30 @@ policy_quiet (Governs policy) is = record { no_mention = λ dim. refl; no_record
 policy_quiet (Describes dim records) is = absurd cc
 policy_quiet (Sells sales) is = absurd cc
 policy_quiet Upgrades is = absurd cc
+policy_quiet (Withdraws lines) is = absurd cc
 
 pub upgrade_quiet : IsQuiet Upgrades
 upgrade_quiet = record { no_mention = λ dim. refl; no_record = λ dim. refl; no_sale = refl }
 
+pub void_quiet : (lines : List VoidRecord) → IsQuiet (Withdraws lines)
+void_quiet lines = record { no_mention = λ dim. refl; no_record = λ dim. refl; no_sale = refl }
+
+unchanged_by : (list : List Accepted) (content : Content) → IsQuiet content → (place : ℕ) → change_row_in list place content ≡ None
+unchanged_by list (Governs policy) is place = refl
+unchanged_by list (Describes dim records) is place = ap (λ rs. option_map (change_row_of list dim) (at_place place rs)) (sym (same_dimension dim records) ∙ is.no_record dim) ∙ nothing_at place
+  where
+    nothing_at : (n : ℕ) → option_map (change_row_of list dim) (at_place n []) ≡ None
+    nothing_at zero = refl
+    nothing_at (suc n) = refl
+unchanged_by list (Sells sales) is place = refl
+unchanged_by list Upgrades is place = refl
+unchanged_by list (Withdraws lines) is place = refl
+
 module _ (commands : List Accepted) (c : Accepted) (is : IsQuiet c.content) where
+  -- it brings no change
+  pub unchanged : (place : ℕ) → change_row_in (commands ++ c ∷ []) place c.content ≡ None
+  unchanged place = unchanged_by (commands ++ c ∷ []) c.content is place
+
   abbrev after : List Accepted
   after = commands ++ c ∷ []
 

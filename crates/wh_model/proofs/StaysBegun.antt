@@ -39,4 +39,7 @@ accepted_lists_begin limits policy bytes limited written =
       sales = tt;
       lines = tt;
       undiscounted = λ _. tt;
+      withdrawn_sold = tt;
+      withdrawn_once = tt;
+      unwithdrawn = λ _. refl;
     }

@@ -1,157 +1,35 @@
 -- An upgrade leaves every row but its own and those of meta, and every fact.
-use Rattle.std.proofs.Common.{◌≡◌, inl, inr, ℕ, zero, suc, false, List, [], ◌∷◌, ◌++◌, length, Option, None, Some, refl, ap, sym, ◌∙◌, arith, ◌==◌, ◌&&◌}
-use Rattle.std.specs.Prelude.{option_map, find, bytes_eq, unwrap_or}
-use Rattle.std.specs.Option.{option_and_then}
-use Rattle.wh_policy.specs.declared.attribute.Dim.{Dim}
-use Rattle.wh_policy.specs.declared.attribute.Dim.TheVariants.{Product, Store, Customer}
-use Rattle.wh_policy.specs.declared.attribute.AttributeType.{AttributeType}
+use Rattle.std.proofs.Common.{◌≡◌, false, List, [], ◌∷◌, ◌++◌, Option, None, Some, refl, ap, ◌∙◌, ◌==◌, ◌&&◌}
+use Rattle.std.specs.Prelude.{option_map, find, bytes_eq}
 use Rattle.wh_policy.specs.declared.format.Format.TheVariants.{One, Two}
 use Rattle.wh_policy.specs.declared.record.SaleRecord.{SaleRecord}
-use Rattle.wh_history.specs.Accepted.{Accepted, Anchor, Upgrades, formatted, format_of, types_in, anchors, members, profiles_of, sold, durable_key}
-use Rattle.wh_history.specs.Dated.{at, dated}
-use Rattle.wh_history.specs.Facts.{key_in}
-use Rattle.wh_history.specs.Keys.{at_place}
+use Rattle.wh_history.specs.Accepted.{Accepted, Upgrades, formatted, format_of, withdrawn_by, standing}
 use Rattle.wh_history.specs.Laws.{governs}
-use Rattle.wh_history.specs.Profiles.{current_profile}
-use Rattle.wh_history.specs.Rows.{rows}
-use Rattle.wh_history.specs.Tables.{member_rows, no_card_row, numbered_row, dimension_row, fact_of, key_at}
-use Rattle.wh_history.specs.Tables as history
-use Rattle.wh_history.specs.declared.facts.Fact.{Fact}
-use Rattle.wh_history.specs.declared.rows.DimRow.{DimRow}
-use Rattle.wh_history.proofs.Stays.{policy_last, types-last}
-use Rattle.wh_rows.specs.declared.key.ChangeKey.{ChangeKey}
+use Rattle.wh_history.specs.Tables.{fact_of}
+use Rattle.wh_history.proofs.Standing.{standing-kept, void-kept}
 use Rattle.wh_rows.specs.declared.key.LineKey.{LineKey}
-use Rattle.wh_rows.specs.declared.key.MemberKey.{MemberKey}
-use Rattle.wh_model.specs.Defined.{member_at, change_at, profile_at, calendar_at, day_at, fact_at}
+use Rattle.wh_model.specs.Defined.{fact_at, void_at}
 use Rattle.wh_model.proofs.Formatted.{format_with}
-use Rattle.wh_model.proofs.GrownChanges.{changes_grow}
-use Rattle.wh_model.proofs.GrownMembers as member
-use Rattle.wh_model.proofs.QuietLists.{IsQuiet, upgrade_quiet, sold_quiet, described_quiet, anchors_quiet, members_quiet, durable_quiet, member_quiet}
+use Rattle.wh_model.proofs.QuietLists.{IsQuiet, upgrade_quiet}
+use Rattle.wh_model.proofs.QuietRows.{fact_of_same}
+use Rattle.wh_model.proofs.StandingFacts.{fact_kept, void_at_kept}
 
 module _ (commands : List Accepted) (c : Accepted) (is : c.content ≡ Upgrades) where
-  abbrev after : List Accepted
-  after = commands ++ c ∷ []
-
-  quiet : IsQuiet c.content
+  pub quiet : IsQuiet c.content
   quiet = rw is upgrade_quiet
 
-  no_policy : governs c.content ≡ false
+  pub no_policy : governs c.content ≡ false
   no_policy = rw is refl
+
+  unvoided : withdrawn_by c.content ≡ []
+  unvoided = rw is refl
 
   -- the second format is made
   pub upgraded : format_of (commands ++ c ∷ []) ≡ Two
   upgraded = format_with One commands c ∙ ap (formatted (format_of commands)) is
 
-  types_same : (dim : Dim) → types_in dim after ≡ types_in dim commands
-  types_same dim = types-last dim commands c no_policy
-
-  profiles_same : profiles_of after ≡ profiles_of commands
-  profiles_same = rw (types_same Customer, described_quiet commands c quiet Customer) refl
-
-  rows_same : (dim : Dim) (natural : List ℕ) → member_rows after dim natural ≡ member_rows commands dim natural
-  rows_same dim natural = λ i. rows (types_same dim i) (profiles_same i) (member_quiet commands c quiet dim natural i)
-
-  numbered_same : (dim : Dim) (key : ℕ) → numbered_row after dim key ≡ numbered_row commands dim key
-  numbered_same dim key =
-      ap (λ (as' : List Anchor). option_and_then (λ a. find (λ r. r.surrogate == key) (member_rows after dim a.natural)) (at_place key as')) (anchors_quiet commands c quiet dim)
-      ∙ by_anchor (at_place key (anchors dim commands))
-    where
-      by_anchor : (o : Option Anchor) → option_and_then (λ a. find (λ r. r.surrogate == key) (member_rows after dim a.natural)) o ≡ option_and_then (λ a. find (λ r. r.surrogate == key) (member_rows commands dim a.natural)) o
-      by_anchor None = refl
-      by_anchor (Some a) = ap (find (λ (r : DimRow). r.surrogate == key)) (rows_same dim a.natural)
-
-  pub dimension_same : (dim : Dim) (key : ℕ) → dimension_row (commands ++ c ∷ []) dim key ≡ dimension_row commands dim key
-  dimension_same Product key = numbered_same Product key
-  dimension_same Store key = numbered_same Store key
-  dimension_same Customer zero = ap (λ (kinds : List AttributeType). Some (no_card_row kinds)) (types_same Customer)
-  dimension_same Customer (suc n) = numbered_same Customer (suc n)
-
-  pub member_same : (key : MemberKey) → member_at (commands ++ c ∷ []) key ≡ member_at commands key
-  member_same key =
-      let as_many : length (members key.dim after) ≡ length (members key.dim commands) = ap length (members_quiet commands c quiet key.dim) in
-      elim (member.of_dimension key.dim commands c key.durable) [
-        | inl kept ↦ kept.same
-        | inr added ↦ let above = added.above in let within = added.within in absurd (omega (arith, as_many))
-      ]
-
-  pub change_same : (key : ChangeKey) → change_at (commands ++ c ∷ []) key ≡ change_at commands key
-  change_same key = elim (changes_grow commands c Upgrades is key) [
-    | inl kept ↦ kept.same
-    | inr added ↦ let above = added.above in let within = added.within in absurd (omega arith)
-  ]
-
-  pub profile_same : (number : ℕ) → profile_at (commands ++ c ∷ []) number ≡ profile_at commands number
-  profile_same zero = rw (types_same Customer) refl
-  profile_same (suc zero) = rw (types_same Customer) refl
-  profile_same (suc (suc n)) = rw profiles_same refl
-
-  pub calendar_same : (day : ℕ) → calendar_at (commands ++ c ∷ []) day ≡ calendar_at commands day
-  calendar_same day = ap (option_and_then (λ policy. day_at policy day)) (policy_last None commands c no_policy)
-
-  -- the fact of a sale with this customer
-  abbrev sold_to : List Accepted → SaleRecord → Option (List ℕ) → Fact
-  sold_to list s o = record {
-    ticket = s.ticket;
-    line = s.line;
-    day = s.day;
-    keys = record {
-      store_key = key_at list Store s.day s.store;
-      product_key = key_at list Product s.day s.product;
-      customer_key = unwrap_or (option_map (key_at list Customer s.day) o) 0;
-      profile = unwrap_or (option_map (history.profile_at list s.day) o) 0;
-    };
-    store_durable = durable_key Store list s.store;
-    product_durable = durable_key Product list s.product;
-    customer_durable = unwrap_or (option_map (durable_key Customer list) o) 0;
-    quantity = s.quantity;
-    amount = s.amount;
-    cost = s.cost;
-    discount = s.discount;
-  }
-
-  sale_same : (s : SaleRecord) (o : Option (List ℕ)) → sold_to after s o ≡ sold_to commands s o
-  sale_same s None = λ i. record {
-    ticket = s.ticket;
-    line = s.line;
-    day = s.day;
-    keys = record {
-      store_key = key_in (rows_same Store s.store i) s.day;
-      product_key = key_in (rows_same Product s.product i) s.day;
-      customer_key = 0;
-      profile = 0;
-    };
-    store_durable = durable_quiet commands c quiet Store s.store i;
-    product_durable = durable_quiet commands c quiet Product s.product i;
-    customer_durable = 0;
-    quantity = s.quantity;
-    amount = s.amount;
-    cost = s.cost;
-    discount = s.discount;
-  }
-  sale_same s (Some natural) = λ i. record {
-    ticket = s.ticket;
-    line = s.line;
-    day = s.day;
-    keys = record {
-      store_key = key_in (rows_same Store s.store i) s.day;
-      product_key = key_in (rows_same Product s.product i) s.day;
-      customer_key = key_in (rows_same Customer natural i) s.day;
-      profile = current_profile (types_same Customer i) (profiles_same i) (at s.day (dated (member_quiet commands c quiet Customer natural i).changes));
-    };
-    store_durable = durable_quiet commands c quiet Store s.store i;
-    product_durable = durable_quiet commands c quiet Product s.product i;
-    customer_durable = durable_quiet commands c quiet Customer natural i;
-    quantity = s.quantity;
-    amount = s.amount;
-    cost = s.cost;
-    discount = s.discount;
-  }
-
   pub fact_same : (key : LineKey) → fact_at (commands ++ c ∷ []) key ≡ fact_at commands key
-  fact_same key =
-      ap (λ (ss : List SaleRecord). option_map (fact_of after) (find (λ s. bytes_eq s.ticket key.ticket && (s.line == key.line)) ss)) (sold_quiet commands c quiet)
-      ∙ by_sale (find (λ (s : SaleRecord). bytes_eq s.ticket key.ticket && (s.line == key.line)) (sold commands))
-    where
-      by_sale : (o : Option SaleRecord) → option_map (fact_of after) o ≡ option_map (fact_of commands) o
-      by_sale None = refl
-      by_sale (Some s) = ap Some (sale_same s s.customer)
+  fact_same = fact_kept commands c (λ s. fact_of_same commands c quiet no_policy s) unvoided (quiet.no_sale)
+
+  pub void_same : (key : LineKey) → void_at (commands ++ c ∷ []) key ≡ void_at commands key
+  void_same = void_at_kept commands c unvoided

@@ -18,7 +18,7 @@ use Rattle.wh_policy.specs.declared.policy.Policy.{Policy}
 use Rattle.wh_policy.specs.declared.policy.Years.{Years}
 use Rattle.wh_policy.proofs.FileLaws.{ok_is}
 use Rattle.wh_policy.proofs.HolidayLaws.{IsHoliday, HolidaysAre}
-use Rattle.wh_history.specs.Accepted.{Accepted, Content, Governs, Describes, Sells, Upgrades, governed, policy_after}
+use Rattle.wh_history.specs.Accepted.{Accepted, Content, Governs, Describes, Sells, Upgrades, Withdraws, governed, policy_after}
 use Rattle.wh_history.specs.Tables.{Limits}
 use Rattle.wh_history.proofs.Basics.{some_is}
 use Rattle.wh_rows.specs.Rows.{is_date}
@@ -121,6 +121,7 @@ read_by before c (Governs given) gives earlier policy is = let same : given ≡ 
 read_by before c (Describes dim records) gives earlier policy is = earlier policy is
 read_by before c (Sells sales) gives earlier policy is = earlier policy is
 read_by before c Upgrades gives earlier policy is = earlier policy is
+read_by before c (Withdraws lines) gives earlier policy is = earlier policy is
 
 read_after : (before : Option Policy) (commands : List Accepted) → AllByRecursion (λ c. GivesPolicy c.kind c.bytes c.content) commands → ((policy : Policy) → before ≡ Some policy → WasRead policy) → (policy : Policy) → policy_after before commands ≡ Some policy → WasRead policy
 read_after before [] all earlier = earlier

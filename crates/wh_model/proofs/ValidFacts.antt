@@ -7,7 +7,7 @@ use Rattle.wh_policy.specs.declared.attribute.Dim.TheVariants.{Product, Store, C
 use Rattle.wh_policy.specs.declared.format.Format.{Format}
 use Rattle.wh_policy.specs.declared.format.Format.TheVariants.{One, Two}
 use Rattle.wh_policy.specs.declared.record.SaleRecord.{SaleRecord}
-use Rattle.wh_history.specs.Accepted.{Accepted, Anchor, format_of, anchors, member_of, durable_key, sold, types_in, profiles_of}
+use Rattle.wh_history.specs.Accepted.{Accepted, Anchor, format_of, anchors, member_of, durable_key, sold, standing, withdrawn, types_in, profiles_of}
 use Rattle.wh_history.specs.Dated.{at, dated}
 use Rattle.wh_history.specs.Keys.{at_place}
 use Rattle.wh_history.specs.Laws.{RecordsHaveDays, IsMember}
@@ -16,6 +16,7 @@ use Rattle.wh_history.specs.declared.facts.Fact.{Fact}
 use Rattle.wh_history.specs.declared.rows.DimRow.{DimRow}
 use Rattle.wh_history.proofs.Effective.{found_row}
 use Rattle.wh_history.proofs.Joins.{all_weaker}
+use Rattle.wh_history.proofs.Standing.{stands_sold}
 use Rattle.wh_rows.specs.Facts.{fact_layout}
 use Rattle.wh_rows.specs.Rows.{has_good_columns}
 use Rattle.wh_rows.specs.Types.{is_number, is_discount}
@@ -84,9 +85,10 @@ module _ (limits : Limits) (commands : List Accepted) (ok : IsAccepted limits co
   pub fact_valid : (key : LineKey) (f : Fact) → fact_at commands key ≡ Some f → (fact_layout (format_of commands)).is_valid f ≡ true
   fact_valid key f is =
       let on_line = λ (s : SaleRecord). bytes_eq s.ticket key.ticket && (s.line == key.line) in
-      let made = made_of (fact_of commands) (find on_line (sold commands)) f is in
+      let made = made_of (fact_of commands) (find on_line (standing commands)) f is in
       let s : SaleRecord = made.0 in
-      let good = found_is IsGoodSale on_line (sold commands) s ok.sales made.1 in
-      let named = found_is (Named commands) on_line (sold commands) s (all_named commands) made.1 in
-      let none = λ (first : format_of commands ≡ One). found_is (λ (t : SaleRecord). t.discount ≡ 0) on_line (sold commands) s (ok.undiscounted first) made.1 in
+      let sold_at = (stands_sold (withdrawn commands) key.ticket key.line (sold commands) s made.1).0 in
+      let good = found_is IsGoodSale on_line (sold commands) s ok.sales sold_at in
+      let named = found_is (Named commands) on_line (sold commands) s (all_named commands) sold_at in
+      let none = λ (first : format_of commands ≡ One). found_is (λ (t : SaleRecord). t.discount ≡ 0) on_line (sold commands) s (ok.undiscounted first) sold_at in
       ap (fact_layout (format_of commands)).is_valid made.2 ∙ valid_in (format_of commands) (fact_of commands s) (good_fact s good named) good.discount none

@@ -8,7 +8,7 @@ use Rattle.wh_day.specs.declared.calendar.DateRow.{DateRow}
 use Rattle.wh_policy.specs.declared.attribute.Dim.TheVariants.{Product, Store, Customer}
 use Rattle.wh_policy.specs.declared.policy.Policy.{Policy}
 use Rattle.wh_history.specs.Accepted.{Accepted, policy_after, format_of}
-use Rattle.wh_history.specs.Tables.{Limits, meta_value, command_row, member_row, change_row, dimension_row, profile_row, fact_row}
+use Rattle.wh_history.specs.Tables.{Limits, meta_value, command_row, member_row, change_row, dimension_row, profile_row, fact_row, void_row}
 use Rattle.wh_history.specs.declared.facts.Fact.{Fact}
 use Rattle.wh_policy.specs.Formats.{same_format}
 use Rattle.wh_policy.specs.declared.format.Format.{Format}
@@ -18,6 +18,7 @@ use Rattle.wh_rows.specs.declared.rows.CommandRow.{CommandRow}
 use Rattle.wh_rows.specs.declared.rows.MemberRow.{MemberRow}
 use Rattle.wh_rows.specs.declared.rows.ChangeRow.{ChangeRow}
 use Rattle.wh_rows.specs.declared.rows.ProfileRow.{ProfileRow}
+use Rattle.wh_rows.specs.declared.rows.VoidRow.{VoidRow}
 use Rattle.wh_rows.specs.declared.key.MemberKey.{MemberKey}
 use Rattle.wh_rows.specs.declared.key.ChangeKey.{ChangeKey}
 use Rattle.wh_rows.specs.declared.key.LineKey.{LineKey}
@@ -50,6 +51,10 @@ calendar_at commands day = option_and_then (λ policy. day_at policy day) (polic
 abbrev pub fact_at : List Accepted → LineKey → Option Fact
 fact_at commands key = fact_row commands key.ticket key.line
 
+-- a line that was withdrawn, with the command that did
+abbrev pub void_at : List Accepted → LineKey → Option VoidRow
+void_at commands key = option_map (λ number. record { ticket = key.ticket; line = key.line; command = number }) (void_row commands key.ticket key.line)
+
 -- The facts stand in the table of the format: in the other one there is none.
 abbrev pub fact_in : Format → List Accepted → LineKey → Option Fact
 fact_in format commands key = if same_format format (format_of commands) then fact_at commands key else None
@@ -68,4 +73,4 @@ pub record AreOf (limits : Limits) (commands : List Accepted) (tables : Tables) 
   pub calendar : (day : ℕ) → get tables.calendar day ≡ calendar_at commands day
   pub fact : (key : LineKey) → get tables.fact key ≡ fact_in One commands key
   pub fact2 : (key : LineKey) → get tables.fact2 key ≡ fact_in Two commands key
-  pub void : (key : LineKey) → get tables.void key ≡ None
+  pub void : (key : LineKey) → get tables.void key ≡ void_at commands key

@@ -1,5 +1,5 @@
 -- What holds of the tables that accepted commands define.
-use Rattle.std.specs.Prelude.{◌≡◌, ◌≢◌, ◌↔◌, ◌<◌, ℕ, true, false, List, [], ◌∷◌, ◌++◌, Option, Some, None, Ok, option_map, unwrap_or}
+use Rattle.std.specs.Prelude.{◌≡◌, ◌≢◌, ◌↔◌, ◌<◌, ℕ, true, false, if◌then◌else◌, List, [], ◌∷◌, ◌++◌, Option, Some, None, Ok, option_map, unwrap_or}
 use Rattle.std.specs.List.{list_any}
 use Rattle.wh_policy.specs.Policy.{policy_at}
 use Rattle.wh_policy.specs.Types.{is_outrigger}
@@ -9,7 +9,8 @@ use Rattle.wh_policy.specs.declared.attribute.Dim.{Dim}
 use Rattle.wh_policy.specs.declared.attribute.Dim.TheVariants.{Product, Store, Customer}
 use Rattle.wh_policy.specs.declared.record.DimensionRecord.{DimensionRecord}
 use Rattle.wh_policy.specs.declared.record.SaleRecord.{SaleRecord}
-use Rattle.wh_history.specs.Accepted.{Accepted, Describes, policy_after, types_in, durable_key, member_of, member_of_sale, sold}
+use Rattle.wh_policy.specs.declared.record.VoidRecord.{VoidRecord}
+use Rattle.wh_history.specs.Accepted.{Accepted, Describes, Withdraws, policy_after, types_in, durable_key, member_of, member_of_sale, sold, withdrawn, withdraws_line}
 use Rattle.wh_history.specs.Facts.{new_keys}
 use Rattle.wh_history.specs.Shapes.{shape_after, rendered_in}
 use Rattle.wh_history.specs.Keys.{at_place}
@@ -18,13 +19,14 @@ use Rattle.wh_history.specs.Tables.{Limits, dimension_row, profile_at, fact_of}
 use Rattle.wh_history.specs.declared.facts.Fact.{Fact}
 use Rattle.wh_history.specs.declared.rows.DimRow.{DimRow}
 use Rattle.std.specs.FinMap.{get}
+use Rattle.wh_rows.specs.declared.key.ChangeKey.{ChangeKey}
 use Rattle.wh_rows.specs.declared.key.LineKey.{LineKey}
 use Rattle.wh_rows.specs.declared.key.MemberKey.{MemberKey}
 use Rattle.wh_rows.specs.declared.rows.CommandRow.{CommandRow}
 use Rattle.wh_rows.specs.declared.rows.MemberRow.{MemberRow}
 use Rattle.wh_rows.specs.Limits.{are_limits}
 use Rattle.wh_rows.specs.Tables.{Tables}
-use Rattle.wh_model.specs.Defined.{fact_at, AreOf}
+use Rattle.wh_model.specs.Defined.{member_at, change_at, profile_at as profile_row_at, fact_at, AreOf}
 use Rattle.wh_model.specs.Sound.{making_of, IsAccepted}
 
 -- the rows of a dimension show no profile
@@ -55,6 +57,18 @@ abbrev pub SecondKeysAreApart : Type 0
 SecondKeysAreApart = (limits : Limits) (commands : List Accepted) (t : Tables) → IsAccepted limits commands → AreOf limits commands t
     → ((a b : ℕ) (v w : CommandRow) → get t.command a ≡ Some v → get t.command b ≡ Some w → v.id ≡ w.id → a ≡ b)
     × ((a b : MemberKey) (v w : MemberRow) → get t.member a ≡ Some v → get t.member b ≡ Some w → a.dim ≡ b.dim → v.natural ≡ w.natural → a.durable ≡ b.durable)
+
+-- what holds of the tables after a batch of voids: all rows of members, records and profiles are those before it, and of the facts those of its lines are gone
+pub record TakesOutFacts (before after : List Accepted) (lines : List VoidRecord) : Type 0 where
+  pub rows : (dim : Dim) (key : ℕ) → dimension_row after dim key ≡ dimension_row before dim key
+  pub members : (key : MemberKey) → member_at after key ≡ member_at before key
+  pub changes : (key : ChangeKey) → change_at after key ≡ change_at before key
+  pub profiles : (number : ℕ) → profile_row_at after number ≡ profile_row_at before number
+  pub facts : (key : LineKey) → fact_at after key ≡ if withdraws_line key.ticket key.line lines then None else fact_at before key
+
+-- A batch of voids changes no member and no number: members that only its sales mentioned stay.
+abbrev pub VoidsTakeOutFacts : Type 0
+VoidsTakeOutFacts = (commands : List Accepted) (c : Accepted) (lines : List VoidRecord) → c.content ≡ Withdraws lines → TakesOutFacts commands (commands ++ c ∷ []) lines
 
 -- a fact with the keys that its member's rows of a dimension give it, and the profile of its day where that is customer; a sale without a card keeps its zeros
 abbrev pub followed : List Accepted → Dim → SaleRecord → Fact → Fact
@@ -87,14 +101,15 @@ pub record NamesItsMembers (commands : List Accepted) (s : SaleRecord) (f : Fact
   pub store : NamesMember commands Store s.store f.day f.store_durable f.keys.store_key
   pub customer : NamesCustomer commands s.customer f
 
--- the sale was accepted, and is the one of this ticket and line
+-- the sale was accepted, is the one of this ticket and line, and was not withdrawn
 pub record IsSoldAt (commands : List Accepted) (key : LineKey) (s : SaleRecord) : Type 0 where
   pub number : ℕ
   pub there : at_place number (sold commands) ≡ Some s
   pub ticket : s.ticket ≡ key.ticket
   pub line : s.line ≡ key.line
+  pub stands : withdraws_line key.ticket key.line (withdrawn commands) ≡ false
 
--- Each fact is that of an accepted sale of its line, and names in each dimension the one row of the sale's member that holds the sale's day; without a card it names the customer row 0.
+-- Each fact is that of an accepted sale of its line that was not withdrawn, and names in each dimension the one row of the sale's member that holds the sale's day; without a card it names the customer row 0.
 abbrev pub FactsAreEffective : Type 0
 FactsAreEffective = (limits : Limits) (commands : List Accepted) (key : LineKey) (f : Fact)
     → IsAccepted limits commands

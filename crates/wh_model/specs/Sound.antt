@@ -1,6 +1,6 @@
 -- What holds of every list of accepted commands, as far as batches go.
 use Rattle.std.specs.Prelude.{◌≡◌, ◌≢◌, ℕ, ◌+◌, ◌*◌, ◌≤◌, ◌==◌, ◌&&◌, Bool, true, false, Some, None, Ok, List, [], ◌∷◌, length, map, IsSome, bytes_eq, codes}
-use Rattle.std.specs.List.{AllByRecursion, IsDistinct}
+use Rattle.std.specs.List.{AllByRecursion, IsDistinct, list_any}
 use Rattle.wh_day.specs.Day.{is_day}
 use Rattle.wh_policy.specs.declared.attribute.Dim.{Dim}
 use Rattle.wh_policy.specs.declared.attribute.Dim.TheVariants.{Product, Store, Customer}
@@ -8,10 +8,11 @@ use Rattle.wh_policy.specs.declared.format.Format.TheVariants.{One}
 use Rattle.wh_policy.specs.declared.policy.Policy.{Policy}
 use Rattle.wh_policy.specs.declared.record.DimensionRecord.{DimensionRecord}
 use Rattle.wh_policy.specs.declared.record.SaleRecord.{SaleRecord}
+use Rattle.wh_policy.specs.declared.record.VoidRecord.{VoidRecord}
 use Rattle.wh_policy.specs.Policy.{policy_at, types_of}
 use Rattle.wh_policy.specs.Written.{IsSound}
 use Rattle.wh_policy.specs.declared.attribute.AttributeType.{AttributeType}
-use Rattle.wh_history.specs.Accepted.{Accepted, Content, Governs, Describes, Sells, Upgrades, policy_after, format_of, types_in, described, member_of_sale, sold}
+use Rattle.wh_history.specs.Accepted.{Accepted, Content, Governs, Describes, Sells, Upgrades, Withdraws, policy_after, format_of, types_in, described, member_of_sale, sold, withdrawn}
 use Rattle.wh_history.specs.Tables.{Limits}
 use Rattle.wh_rows.specs.Limits.{are_limits}
 use Rattle.wh_rows.specs.Questions.{gives_policy}
@@ -50,6 +51,14 @@ pub record IsGoodSale (s : SaleRecord) : Type 0 where
 abbrev pub same_line : SaleRecord → SaleRecord → Bool
 same_line a b = bytes_eq b.ticket a.ticket && (b.line == a.line)
 
+-- two voids name one line of one ticket
+abbrev pub same_void : VoidRecord → VoidRecord → Bool
+same_void a b = bytes_eq b.ticket a.ticket && (b.line == a.line)
+
+-- one of the sales has the line that a void names
+abbrev pub is_sold_line : List SaleRecord → VoidRecord → Bool
+is_sold_line sales v = list_any (λ s. bytes_eq s.ticket v.ticket && (s.line == v.line)) sales
+
 -- how many dimension records were accepted
 abbrev pub changes_kept : List Accepted → ℕ
 changes_kept commands = length (described Product commands) + length (described Store commands) + length (described Customer commands)
@@ -72,9 +81,10 @@ GivesPolicy kind bytes (Governs policy) = (gives_policy kind ≡ true) × (polic
 GivesPolicy kind bytes (Describes dim records) = gives_policy kind ≡ false
 GivesPolicy kind bytes (Sells sales) = gives_policy kind ≡ false
 GivesPolicy kind bytes Upgrades = gives_policy kind ≡ false
+GivesPolicy kind bytes (Withdraws lines) = gives_policy kind ≡ false
 
 -- The list is one that a warehouse with these limits can have accepted: it begins with a making, and makings and migrations give the policies of their bytes, with up to six attributes a dimension; ids and kinds are well
--- formed, no two commands share an id; its records and sales are good, no two sales have one line, none has a discount in the first format, and no batch has more than 5,000; the limits aren't passed.
+-- formed, no two commands share an id; its records and sales are good, no two sales have one line, none has a discount in the first format, and no batch has more than 5,000; what was withdrawn had been sold, once each, and nothing in the first format; the limits aren't passed.
 pub record IsAccepted (limits : Limits) (commands : List Accepted) : Type 0 where
   pub limited : are_limits limits ≡ true
   pub commands_within : length commands ≤ limits.commands
@@ -93,3 +103,6 @@ pub record IsAccepted (limits : Limits) (commands : List Accepted) : Type 0 wher
   pub sales : AllByRecursion IsGoodSale (sold commands)
   pub lines : IsDistinct same_line (sold commands)
   pub undiscounted : format_of commands ≡ One → AllByRecursion (λ s. s.discount ≡ 0) (sold commands)
+  pub withdrawn_sold : AllByRecursion (λ v. is_sold_line (sold commands) v ≡ true) (withdrawn commands)
+  pub withdrawn_once : IsDistinct same_void (withdrawn commands)
+  pub unwithdrawn : format_of commands ≡ One → withdrawn commands ≡ []

@@ -1,6 +1,6 @@
 //! Laws of the tables that accepted commands define. They speak of the definitions alone and do nothing.
 
-ghost use Rattle.wh_model.specs.Laws.{AcceptedListsBegin, FactsAreEffective, LateRecordsMoveFacts, SecondKeysAreApart, SoundPoliciesShowNone, UntouchedMembersKeep};
+ghost use Rattle.wh_model.specs.Laws.{AcceptedListsBegin, FactsAreEffective, LateRecordsMoveFacts, SecondKeysAreApart, SoundPoliciesShowNone, UntouchedMembersKeep, VoidsTakeOutFacts};
 
 /// Under a sound policy no row of a product or a store shows a profile, as a batch of customers asks.
 pub fn sound_policies_show_none()
@@ -33,4 +33,10 @@ pub fn late_records_move_facts()
 /// and its one row that holds the sale's day, whatever came late; without a card it names the customer row 0.
 pub fn facts_are_effective()
     ensures { FactsAreEffective }
+{}
+
+/// A batch of voids takes out the facts of its lines and no others. It changes no member, no number and no key: members
+/// that only the withdrawn sales mentioned stay.
+pub fn voids_take_out_facts()
+    ensures { VoidsTakeOutFacts }
 {}

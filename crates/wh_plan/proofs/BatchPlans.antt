@@ -13,7 +13,7 @@ use Rattle.wh_policy.specs.declared.attribute.Dim.{Dim}
 use Rattle.wh_policy.specs.declared.attribute.Dim.TheVariants.{Product, Store, Customer}
 use Rattle.wh_policy.specs.declared.format.Format.{Format}
 use Rattle.wh_policy.specs.declared.format.Format.TheVariants.{One, Two}
-use Rattle.wh_history.specs.Accepted.{Accepted, format_of, members, profiles_of, records_by}
+use Rattle.wh_history.specs.Accepted.{Accepted, format_of, members, profiles_of, records_by, withdrawn_by}
 use Rattle.wh_history.specs.Laws.{governs}
 use Rattle.wh_history.specs.Tables.{Limits, dimension_row}
 use Rattle.wh_history.specs.Plan.{IsRowPlan}
@@ -21,11 +21,11 @@ use Rattle.wh_history.specs.declared.plan.Edit.{Edit}
 use Rattle.wh_history.specs.declared.plan.Edit.TheVariants.{Put}
 use Rattle.wh_history.proofs.Joins.{all_append}
 use Rattle.wh_history.proofs.Stays.{policy_last}
-use Rattle.wh_rows.proofs.Orders.{member_cmp_total, member_cmp-IsAntisymmetric, change_cmp_total, change_cmp-IsAntisymmetric}
+use Rattle.wh_rows.proofs.Orders.{member_cmp_total, member_cmp-IsAntisymmetric, change_cmp_total, change_cmp-IsAntisymmetric, line_cmp_total}
 use Rattle.wh_rows.specs.Rows as row
 use Rattle.wh_rows.specs.declared.rows.MemberRow.{MemberRow}
 use Rattle.wh_rows.specs.declared.key.MemberKey.{MemberKey}
-use Rattle.wh_model.specs.Defined.{meta_at, command_at, member_at, change_at, profile_at, calendar_at, day_at}
+use Rattle.wh_model.specs.Defined.{meta_at, member_at, change_at, profile_at, calendar_at, day_at, void_at}
 use Rattle.wh_plan.specs.BatchRows.{BatchRows, AreBatchRows, numbers_after, members_behind, new_members}
 use Rattle.wh_plan.specs.Edits.{Edits, AreEdits, IsTablePlan, UpgradesTo, rows_of_dimension}
 use Rattle.wh_plan.specs.FactEdits.{edits_in}
@@ -33,18 +33,21 @@ use Rattle.wh_model.proofs.Growing.{AmongKeys, among_front, among_back, among_ma
 use Rattle.wh_plan.proofs.FactPlans.{plan_in_table}
 use Rattle.wh_plan.proofs.Plans.{added_plan, grown_plan, one_plan, empty_plan, AboveKey, AscendKeys, keys_ascend, all_in_range}
 use Rattle.wh_plan.proofs.OwnRow.{less, own_row_plan}
-use Rattle.wh_model.proofs.GrownCommands.{command_keyed, command_grows}
-use Rattle.wh_model.proofs.GrownCommands as command
 use Rattle.wh_model.proofs.GrownMembers.{member_keyed}
 use Rattle.wh_model.proofs.GrownMembers as member
 use Rattle.wh_model.proofs.GrownChanges.{change_keyed, changes_grow}
 use Rattle.wh_model.proofs.GrownChanges as change
 use Rattle.wh_model.proofs.GrownProfiles.{profile_keyed, profile_grows}
 use Rattle.wh_model.proofs.GrownProfiles as profile
+use Rattle.wh_model.proofs.StandingFacts.{void_at_kept}
 
 -- where the format stays, so does meta
 pub meta_stays : (before after : List Accepted) → format_of after ≡ format_of before → (limits : Limits) → IsTablePlan row.meta (meta_at (format_of before) limits) (meta_at (format_of after) limits) []
 meta_stays before after stays limits = empty_plan row.meta nat_list_cmp_total (meta_at (format_of before) limits) (meta_at (format_of after) limits) (λ name. ap (λ (f : Format). meta_at f limits name) stays)
+
+-- a command that withdraws nothing leaves the rows of withdrawn lines
+pub voids_stay : (commands : List Accepted) (c : Accepted) → withdrawn_by c.content ≡ [] → IsTablePlan row.void (void_at commands) (void_at (commands ++ c ∷ [])) []
+voids_stay commands c unvoided = empty_plan row.void line_cmp_total (void_at commands) (void_at (commands ++ c ∷ [])) (void_at_kept commands c unvoided)
 
 -- ---- the keys of the members of three dimensions
 
@@ -126,7 +129,7 @@ module _ (commands : List Accepted) (c : Accepted) where
 
   -- ---- the tables
 
-  module _ (batch : governs c.content ≡ false) (brought : BatchRows) (are : AreBatchRows commands c brought) where
+  module _ (batch : governs c.content ≡ false) (unvoided : withdrawn_by c.content ≡ []) (brought : BatchRows) (are : AreBatchRows commands c brought) where
     member_plan : IsTablePlan row.member (member_at commands) (member_at after) (map Put brought.members)
     member_plan =
         subst (λ rows. IsTablePlan row.member (member_at commands) (member_at after) (map Put rows)) (sym are.members)
@@ -153,8 +156,8 @@ module _ (commands : List Accepted) (c : Accepted) where
     pub brought_as_edits : (edits : Edits) (format : Format) → format ≡ format_of commands → format_of (commands ++ c ∷ []) ≡ format_of commands
         → edits.upgrades ≡ false → edits.meta ≡ [] → edits.commands ≡ Put brought.command ∷ [] → edits.members ≡ map Put brought.members → edits.changes ≡ map Put brought.changes
         → edits.products ≡ brought.products → edits.stores ≡ brought.stores → edits.customers ≡ brought.customers
-        → edits.profiles ≡ map Put brought.profiles → edits.calendar ≡ [] → edits.facts ≡ edits_in One format brought.facts → edits.facts2 ≡ edits_in Two format brought.facts → AreEdits commands (commands ++ c ∷ []) edits
-    brought_as_edits edits format same stays no_upgrade no_meta command_is members_are changes_are products_are stores_are customers_are profiles_are no_days facts_are facts2_are = record {
+        → edits.profiles ≡ map Put brought.profiles → edits.calendar ≡ [] → edits.facts ≡ edits_in One format brought.facts → edits.facts2 ≡ edits_in Two format brought.facts → edits.voids ≡ [] → AreEdits commands (commands ++ c ∷ []) edits
+    brought_as_edits edits format same stays no_upgrade no_meta command_is members_are changes_are products_are stores_are customers_are profiles_are no_days facts_are facts2_are no_voids = record {
       upgrades = subst (λ b. UpgradesTo b (format_of commands) (format_of after)) (sym no_upgrade) stays;
       meta = λ limits. rw no_meta (meta_stays commands after stays limits);
       commands = rw command_is (own_row_plan commands c brought.command are.command);
@@ -165,6 +168,7 @@ module _ (commands : List Accepted) (c : Accepted) where
       calendar = rw no_days calendar_plan;
       facts = rw facts_are (plan_in_table commands after One format brought.facts same stays are.facts);
       facts2 = rw facts2_are (plan_in_table commands after Two format brought.facts same stays are.facts);
+      voids = rw no_voids (voids_stay commands c unvoided);
     }
       where
         of_dimension : (dim : Dim) → IsRowPlan (dimension_row commands dim) (dimension_row after dim) (rows_of_dimension dim edits)

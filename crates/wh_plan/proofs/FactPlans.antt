@@ -1,21 +1,15 @@
 -- Exact edits of facts.
-use Rattle.std.proofs.Common.{◌≡◌, inl, inr, suc, ◌+◌, Bool, true, false, cond, List, [], ◌∷◌, map, Option, Some, None, refl, sym, ◌∙◌, ap, subst, arith}
-use Rattle.std.specs.Prelude.{◌≢◌, find, option_map, slice_index_or}
-use Rattle.std.specs.Cmp.{eq_by_cmp_equiv, Equal-is}
+use Rattle.std.proofs.Common.{◌≡◌, inl, inr, Bool, true, false, cond, List, [], ◌∷◌, map, Option, Some, None, refl, sym, ◌∙◌, ap, subst}
+use Rattle.std.specs.Prelude.{◌≢◌, find, option_map}
+use Rattle.std.specs.Cmp.{Equal-is}
 use Rattle.std.specs.FinMap.{FinMap, get, get-insert}
-use Rattle.std.specs.List.{AllByRecursion, IsDistinct}
+use Rattle.std.specs.List.{AllByRecursion}
 use Rattle.std.specs.List.Sorted.{IsPermutation, IsSorted}
 use Rattle.std.specs.Option.{option_or}
-use Rattle.std.specs.Ordering.{eq_by_cmp, is_eq, is_lt, ordering_reverse}
-use Rattle.std.specs.declared.cmp.Ordering.{Ordering}
-use Rattle.std.specs.declared.cmp.Ordering.TheVariants.{Less, Equal, Greater}
-use Rattle.std.proofs.lemmas.List.Elements.{All-from_recursion, recursion_from_All}
-use Rattle.std.proofs.lemmas.List.Sorted.{All-permutation, IsPermutation-sym}
-use Rattle.std.proofs.lemmas.Map.Keys.{IsDistinct-IsPermutation}
+use Rattle.std.specs.Ordering.{eq_by_cmp}
 use Rattle.wh_policy.specs.Formats.{same_format}
 use Rattle.wh_policy.specs.declared.format.Format.{Format}
 use Rattle.wh_history.specs.Accepted.{Accepted, format_of}
-use Rattle.wh_history.specs.Plan.{Above, Ascends}
 use Rattle.wh_history.specs.declared.facts.Fact.{Fact}
 use Rattle.wh_history.proofs.Basics.{find_passes, some_is}
 use Rattle.wh_rows.proofs.Orders.{line_cmp_total, line_cmp-IsAntisymmetric}
@@ -31,74 +25,14 @@ use Rattle.wh_plan.specs.FactEdits.{by_line, edits_in, put_of, remove_of, rekey_
 use Rattle.wh_plan.specs.declared.edits.FactEdit.{FactEdit}
 use Rattle.wh_plan.specs.declared.edits.FactEdit.TheVariants.{Row, Rekey}
 use Rattle.wh_plan.proofs.Exact as exact
-use Rattle.wh_plan.proofs.GrownFacts.{line_is, line_tied, Once, found_each}
+use Rattle.wh_plan.proofs.GrownFacts.{line_is}
+use Rattle.wh_plan.proofs.Lines.{edits_ascend, edit_of_line}
 use Rattle.wh_plan.proofs.MovedLists.{found_has}
 use Rattle.wh_plan.proofs.Plans as plans
 
--- ---- facts whose lines differ, in another order
-
-all_permuted : {X : Type 0} (P : X → Type 0) (xs ys : List X) → IsPermutation xs ys → AllByRecursion P xs → AllByRecursion P ys
-all_permuted P xs ys moved all = recursion_from_All P ys (All-permutation P xs ys moved (All-from_recursion P xs all))
-
-flips : (f g : Fact) → has_line (row.fact.key f) g ≡ has_line (row.fact.key g) f
-flips f g = sym (line_tied (row.fact.key f) g) ∙ (eq_by_cmp_equiv line_cmp_total).symm (row.fact.key f) (row.fact.key g) ∙ line_tied (row.fact.key g) f
-
-none_passes : (p : Fact → Bool) (fs : List Fact) → find p fs ≡ None → AllByRecursion (λ f. p f ≡ false) fs
-none_passes p [] none = tt
-none_passes p (f ∷ fs) none =
-    elim (p f) as (λ b. (p f ≡ b) → cond b (Some f) (find p fs) ≡ None → AllByRecursion (λ g. p g ≡ false) (f ∷ fs)) [
-      | true ↦ λ _ found. absurd cc
-      | false ↦ λ other rest. (other, none_passes p fs rest)
-    ] refl none
-
-none_found : (p : Fact → Bool) (fs : List Fact) → AllByRecursion (λ f. p f ≡ false) fs → find p fs ≡ None
-none_found p [] all = refl
-none_found p (f ∷ fs) all = rw all.0 (none_found p fs all.1)
-
-once_permuted : (fs gs : List Fact) → IsPermutation fs gs → Once fs → Once gs
-once_permuted fs gs moved once = IsDistinct-IsPermutation (λ f g. has_line (row.fact.key f) g) flips fs gs moved once
-
-find_permuted : (fs gs : List Fact) → IsPermutation fs gs → Once fs → (line : LineKey) → find (has_line line) gs ≡ find (has_line line) fs
-find_permuted fs gs moved once line =
-    elim (find (has_line line) fs) as (λ o. (find (has_line line) fs ≡ o) → find (has_line line) gs ≡ o) [
-      | None ↦ λ none. none_found (has_line line) gs (all_permuted (λ f. has_line line f ≡ false) fs gs moved (none_passes (has_line line) fs none))
-      | Some f ↦ λ some.
-          let P = λ (g : Fact). find (has_line (row.fact.key g)) gs ≡ Some g in
-          let each = all_permuted P gs fs (IsPermutation-sym fs gs moved) (found_each gs (once_permuted fs gs moved once)) in
-          let here : row.fact.key f ≡ line = line_is line f (find_passes (has_line line) f fs some) in
-          subst (λ k. find (has_line k) gs ≡ Some f) here (found_has P (has_line line) fs f each some)
-    ] refl
-
--- ---- in order
-
-abbrev Rises : List Fact → Type 0
-Rises [] = Unit {0}
-Rises (f ∷ []) = Unit {0}
-Rises (f ∷ g ∷ fs) = (is_lt (by_line g f) ≡ false) × Rises (g ∷ fs)
-
-rises_sorted : (fs : List Fact) → IsSorted by_line fs → Rises fs
-rises_sorted [] sorted = tt
-rises_sorted (f ∷ []) sorted = tt
-rises_sorted (f ∷ g ∷ fs) sorted = (sorted 0 f (omega arith) (omega arith), rises_sorted (g ∷ fs) later)
-  where
-    later : IsSorted by_line (g ∷ fs)
-    later k d low lt =
-        let next : suc k + 1 ≡ suc (k + 1) = omega arith in
-        subst (λ n. is_lt (by_line (slice_index_or (f ∷ g ∷ fs) n d) (slice_index_or (g ∷ fs) k d)) ≡ false) next (sorted (suc k) d (omega arith) (omega arith))
-
--- not after it and not on its line: before it
-less_is : (o : Ordering) → is_lt (ordering_reverse o) ≡ false → is_eq o ≡ false → o ≡ Less
-less_is Less after tied = refl
-less_is Equal after tied = absurd cc
-less_is Greater after tied = absurd cc
-
-before_next : (f g : Fact) → is_lt (by_line g f) ≡ false → has_line (row.fact.key f) g ≡ false → row.line_cmp (row.fact.key f) (row.fact.key g) ≡ Less
-before_next f g later apart =
-    less_is (row.line_cmp (row.fact.key f) (row.fact.key g)) (ap is_lt (sym (line_cmp_total.antisymm (row.fact.key g) (row.fact.key f))) ∙ later) (line_tied (row.fact.key f) g ∙ apart)
-
 -- ---- a fact that stays needs no edit
 
-none_needed : (line : LineKey) (old new : Option Fact) → new ≡ old → NeedsFact line old new None
+pub none_needed : (line : LineKey) (old new : Option Fact) → new ≡ old → NeedsFact line old new None
 none_needed line None None is = refl
 none_needed line None (Some new) is = absurd cc
 none_needed line (Some old) None is = absurd cc
@@ -117,46 +51,21 @@ plan_in_table before after table format es same stays plan =
     (subst (λ (f : Format). IsFactPlan (fact_in table before) (kept (same_format table (format_of before)) (fact_at after)) (edits_in table f es)) (sym same)
     (elim (same_format table (format_of before)) as (λ b. IsFactPlan (kept b (fact_at before)) (kept b (fact_at after)) (cond b es [])) [ true ↦ plan | false ↦ no_facts (λ _. None) ]))
 
-module _ (edit : Fact → FactEdit) (own : (f : Fact) → edited_line (edit f) ≡ row.fact.key f) where
-  above_next : (f : Fact) (fs : List Fact) → Rises (f ∷ fs) → Once (f ∷ fs) → Above row.fact.order edited_line (row.fact.key f) (map edit fs)
-  unfolding IsDistinct
-  above_next f [] up once = tt
-  above_next f (g ∷ gs) up once = rw (own g) (before_next f g up.0 once.0.0, above_next g gs up.1 once.1)
+module _ (edit : Fact → FactEdit) (own : (f : Fact) → edited_line (edit f) ≡ row.fact.key f) (before after : LineKey → Option Fact) where
+  abbrev Needed : Fact → Type 0
+  Needed f = NeedsFact (row.fact.key f) (before (row.fact.key f)) (Some f) (Some (edit f))
 
-  ascends : (fs : List Fact) → Rises fs → Once fs → Ascends row.fact.order edited_line (map edit fs)
-  ascends [] up once = tt
-  ascends (f ∷ fs) up once = rw (own f) (above_next f fs up once)
-
-  -- the edit of a line
-  edit_found : (line : LineKey) (fs : List Fact) → find (λ e. eq_by_cmp row.fact.order (edited_line e) line) (map edit fs) ≡ option_map edit (find (has_line line) fs)
-  edit_found line [] = refl
-  edit_found line (f ∷ fs) =
-      let tied : eq_by_cmp row.fact.order (edited_line (edit f)) line ≡ has_line line f =
-      ap (λ k. eq_by_cmp row.line_cmp k line) (own f) ∙ (eq_by_cmp_equiv line_cmp_total).symm (row.fact.key f) line ∙ line_tied line f in
-      let rest = edit_found line fs in
-      rw tied (elim (has_line line f) as (λ b. cond b (Some (edit f)) (find (λ e. eq_by_cmp row.fact.order (edited_line e) line) (map edit fs)) ≡ option_map edit (cond b (Some f) (find (has_line line) fs))) [ true ↦ refl | false ↦ rest ])
-
-  module _ (before after : LineKey → Option Fact) where
-    abbrev Needed : Fact → Type 0
-    Needed f = NeedsFact (row.fact.key f) (before (row.fact.key f)) (Some f) (Some (edit f))
-
-    plan_in_order : (fs : List Fact) → Rises fs → Once fs → ((line : LineKey) → option_or (find (has_line line) fs) (before line) ≡ after line) → AllByRecursion Needed fs → IsFactPlan before after (map edit fs)
-    plan_in_order fs up once lead each = record {
-      ordered = ascends fs up once;
-      exact = λ line. rw (edit_found line fs) (elim (find (has_line line) fs) as (λ o. (find (has_line line) fs ≡ o) → NeedsFact line (before line) (after line) (option_map edit o)) [
-        | None ↦ λ none. none_needed line (before line) (after line) (sym (lead line) ∙ ap (λ o. option_or o (before line)) none)
-        | Some f ↦ λ some.
-            let here : row.fact.key f ≡ line = line_is line f (find_passes (has_line line) f fs some) in
-            let stands : after line ≡ Some f = sym (lead line) ∙ ap (λ o. option_or o (before line)) some in
-            rw stands (subst (λ k. NeedsFact k (before k) (Some f) (Some (edit f))) here (found_has Needed (has_line line) fs f each some))
-      ] refl);
-    }
-
-    pub plan_sorted : (facts fs : List Fact) → AreFacts before after facts → IsPermutation facts fs → IsSorted by_line fs → AllByRecursion Needed facts → IsFactPlan before after (map edit fs)
-    plan_sorted facts fs are moved sorted each =
-        plan_in_order fs (rises_sorted fs sorted) (once_permuted facts fs moved are.once)
-        (λ line. ap (λ o. option_or o (before line)) (find_permuted facts fs moved are.once line) ∙ are.lead line)
-        (all_permuted Needed facts fs moved each)
+  pub plan_sorted : (facts fs : List Fact) → AreFacts before after facts → IsPermutation facts fs → IsSorted by_line fs → AllByRecursion Needed facts → IsFactPlan before after (map edit fs)
+  plan_sorted facts fs are moved sorted each = record {
+    ordered = edits_ascend row.fact.key edited_line edit own facts fs are.once moved sorted;
+    exact = λ line. rw (edit_of_line row.fact.key edited_line edit own facts fs are.once moved line) (elim (find (has_line line) facts) as (λ o. (find (has_line line) facts ≡ o) → NeedsFact line (before line) (after line) (option_map edit o)) [
+      | None ↦ λ none. none_needed line (before line) (after line) (sym (are.lead line) ∙ ap (λ o. option_or o (before line)) none)
+      | Some f ↦ λ some.
+          let here : row.fact.key f ≡ line = line_is line f (find_passes (has_line line) f facts some) in
+          let stands : after line ≡ Some f = sym (are.lead line) ∙ ap (λ o. option_or o (before line)) some in
+          rw stands (subst (λ k. NeedsFact k (before k) (Some f) (Some (edit f))) here (found_has Needed (has_line line) facts f each some))
+    ] refl);
+  }
 
 -- ---- new facts, and facts with other keys
 
@@ -182,13 +91,12 @@ rekeys_plan before after facts fs are stood moved sorted = plan_sorted rekey_of 
 
 pub removes_plan : (kept : LineKey → Option Fact) (facts fs : List Fact) → AreFacts (λ _. None) kept facts → IsPermutation facts fs → IsSorted by_line fs → IsFactPlan kept (λ _. None) (map remove_of fs)
 removes_plan kept facts fs are moved sorted = record {
-  ordered = ascends remove_of (λ f. refl) fs (rises_sorted fs sorted) (once_permuted facts fs moved are.once);
+  ordered = edits_ascend row.fact.key edited_line remove_of (λ f. refl) facts fs are.once moved sorted;
   exact = λ line.
-      let stands : option_or (find (has_line line) fs) None ≡ kept line = ap (λ o. option_or o None) (find_permuted facts fs moved are.once line) ∙ are.lead line in
-      rw (edit_found remove_of (λ f. refl) line fs) (elim (find (has_line line) fs) as (λ o. (find (has_line line) fs ≡ o) → option_or o None ≡ kept line → NeedsFact line (kept line) None (option_map remove_of o)) [
+      rw (edit_of_line row.fact.key edited_line remove_of (λ f. refl) facts fs are.once moved line) (elim (find (has_line line) facts) as (λ o. (find (has_line line) facts ≡ o) → option_or o None ≡ kept line → NeedsFact line (kept line) None (option_map remove_of o)) [
         | None ↦ λ none at. rw (← at) refl
-        | Some f ↦ λ some at. let here : row.fact.key f ≡ line = line_is line f (find_passes (has_line line) f fs some) in rw (← at, here) refl
-      ] refl stands);
+        | Some f ↦ λ some at. let here : row.fact.key f ≡ line = line_is line f (find_passes (has_line line) f facts some) in rw (← at, here) refl
+      ] refl (are.lead line));
 }
 
 none_stood : (fs : List Fact) → AllByRecursion (λ f. ◌≡◌ {A = Option Fact} None None) fs

@@ -12,7 +12,7 @@ use Rattle.wh_policy.specs.declared.attribute.Dim.{Dim}
 use Rattle.wh_policy.specs.declared.attribute.Dim.TheVariants.{Product, Store, Customer}
 use Rattle.wh_policy.specs.declared.record.DimensionRecord.{DimensionRecord}
 use Rattle.wh_history.specs.Slots.{padded}
-use Rattle.wh_history.specs.Accepted.{Accepted, Content, Governs, Describes, Sells, Upgrades, described, described_by, members, durable_key, surrogate_key, day_of, change_of, changes_of}
+use Rattle.wh_history.specs.Accepted.{Accepted, Content, Governs, Describes, Sells, Upgrades, Withdraws, described, described_by, members, durable_key, surrogate_key, day_of, change_of, changes_of}
 use Rattle.wh_history.specs.Accepted as accepted
 use Rattle.wh_history.specs.Tables.{Limits}
 use Rattle.wh_history.specs.declared.member.Change.{Change}
@@ -114,6 +114,7 @@ module _ {X : Type 0} (dim : Dim) (commands : List Accepted) (read : ChangeRow �
       ] refl told
   content_told number (Sells sales) told = refl
   content_told number Upgrades told = refl
+  content_told number (Withdraws lines) told = refl
 
   changes_told : (number : ℕ) (cs : List Accepted) → AllByRecursion Tells (described dim cs) → read_all (change_rows commands number cs) ≡ tell_all (described dim cs)
   changes_told number [] told = refl

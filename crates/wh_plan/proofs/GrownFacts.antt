@@ -1,48 +1,32 @@
 -- Facts and their lines.
 use Rattle.std.proofs.Common.{◌≡◌, ◌==◌, ◌&&◌, true, false, cond, List, [], ◌∷◌, map, Option, Some, None, refl, ◌∙◌, ap, subst}
 use Rattle.std.specs.Prelude.{find, bytes_eq, option_map}
-use Rattle.std.specs.Cmp.{eq_by_cmp_equiv, Equal-is}
 use Rattle.std.specs.FinMap.{FinMap, get, insert, get-insert}
 use Rattle.std.specs.List.{AllByRecursion, IsDistinct}
 use Rattle.std.specs.Option.{option_or}
 use Rattle.std.specs.Ordering.{eq_by_cmp}
-use Rattle.std.proofs.lemmas.Bool.{and_parts, eqb-true, eq-eqb}
-use Rattle.std.proofs.lemmas.Slice.Eq.{bytes_eq-Decides}
 use Rattle.wh_policy.specs.declared.record.SaleRecord.{SaleRecord}
 use Rattle.wh_history.specs.Accepted.{Accepted}
 use Rattle.wh_history.specs.Tables.{fact_of}
 use Rattle.wh_history.specs.declared.facts.Fact.{Fact}
-use Rattle.wh_rows.proofs.Orders.{line_cmp_total, line_cmp-IsAntisymmetric}
+use Rattle.wh_rows.proofs.Orders.{line_cmp_total}
 use Rattle.wh_rows.specs.Rows as row
 use Rattle.wh_rows.specs.declared.key.LineKey.{LineKey}
 use Rattle.wh_plan.specs.BatchRows.{has_line}
 use Rattle.wh_model.specs.Sound.{same_line}
 use Rattle.wh_rows.specs.Steps.{with_rows}
+use Rattle.wh_plan.proofs.Lines as lines
 
 -- ---- the key of a fact
 
 pub own_line : (f : Fact) → has_line (row.fact.key f) f ≡ true
-own_line f = rw ((bytes_eq-Decides f.ticket f.ticket).1 refl, eq-eqb f.line f.line refl) refl
+own_line = lines.own_line row.fact.key
 
 pub line_is : (key : LineKey) (f : Fact) → has_line key f ≡ true → row.fact.key f ≡ key
-line_is key f h =
-    let parts = and_parts (bytes_eq f.ticket key.ticket) (f.line == key.line) h in
-    let ticket : f.ticket ≡ key.ticket = (bytes_eq-Decides f.ticket key.ticket).0 parts.0 in
-    let line : f.line ≡ key.line = eqb-true f.line key.line parts.1 in
-    rw (ticket, line) refl
+line_is = lines.line_is row.fact.key
 
 pub line_tied : (key : LineKey) (f : Fact) → eq_by_cmp row.line_cmp key (row.fact.key f) ≡ has_line key f
-line_tied key f =
-    elim (has_line key f) as (λ b. (has_line key f ≡ b) → eq_by_cmp row.line_cmp key (row.fact.key f) ≡ b) [
-      | true ↦ λ has. ap (eq_by_cmp row.line_cmp key) (line_is key f has) ∙ (eq_by_cmp_equiv line_cmp_total).refl key
-      | false ↦ λ other. elim (eq_by_cmp row.line_cmp key (row.fact.key f)) as (λ b. (eq_by_cmp row.line_cmp key (row.fact.key f) ≡ b) → b ≡ false) [
-        | true ↦ λ tied.
-            let same : key ≡ row.fact.key f = line_cmp-IsAntisymmetric key (row.fact.key f) ((Equal-is (row.line_cmp key (row.fact.key f))).0 tied) in
-            let own : has_line key f ≡ true = ap (λ k. has_line k f) same ∙ own_line f in
-            absurd cc
-        | false ↦ λ _. refl
-      ] refl
-    ] refl
+line_tied = lines.line_tied row.fact.key
 
 -- ---- facts of which no two have one key
 
@@ -69,25 +53,8 @@ facts_put (f ∷ fs) m key once =
     ] refl
 
 -- each is found under its own key
-behind_other : (f g : Fact) (fs : List Fact) → has_line (row.fact.key f) g ≡ false → find (has_line (row.fact.key g)) fs ≡ Some g → find (has_line (row.fact.key g)) (f ∷ fs) ≡ Some g
-behind_other f g fs apart found =
-    elim (has_line (row.fact.key g) f) as (λ b. (has_line (row.fact.key g) f ≡ b) → cond b (Some f) (find (has_line (row.fact.key g)) fs) ≡ Some g) [
-      | true ↦ λ same.
-          let key = line_is (row.fact.key g) f same in
-          let own : has_line (row.fact.key f) g ≡ true = ap (λ k. has_line k g) key ∙ own_line g in
-          absurd cc
-      | false ↦ λ _. found
-    ] refl
-
-all_behind : (f : Fact) (gs fs : List Fact) → AllByRecursion (λ g. has_line (row.fact.key f) g ≡ false) gs → AllByRecursion (λ g. find (has_line (row.fact.key g)) fs ≡ Some g) gs
-    → AllByRecursion (λ g. find (has_line (row.fact.key g)) (f ∷ fs) ≡ Some g) gs
-all_behind f [] fs apart found = tt
-all_behind f (g ∷ gs) fs apart found = (behind_other f g fs apart.0 found.0, all_behind f gs fs apart.1 found.1)
-
 pub found_each : (facts : List Fact) → Once facts → AllByRecursion (λ g. find (has_line (row.fact.key g)) facts ≡ Some g) facts
-unfolding IsDistinct
-found_each [] once = tt
-found_each (f ∷ fs) once = (rw (own_line f) refl, all_behind f fs fs once.0 (found_each fs once.1))
+found_each = lines.found_each row.fact.key
 
 -- ---- the facts of sales
 

@@ -2,6 +2,7 @@ pub mod WrittenRows
 pub mod Exact
 pub mod Plans
 pub mod OneDimension
+pub mod Lines
 pub mod GrownFacts
 pub mod PlanEdits
 pub mod OwnRow
@@ -31,6 +32,7 @@ pub mod MayBeWritten
 pub mod SaleBatches
 pub mod MovedLists
 pub mod FactPlans
+pub mod VoidPlans
 pub mod WrittenEdits
 pub mod MovedFacts
 pub mod MovedBetween

@@ -14,7 +14,8 @@ use Rattle.wh_policy.specs.declared.format.Format.{Format}
 use Rattle.wh_policy.specs.declared.format.Format.TheVariants.{One, Two}
 use Rattle.wh_policy.specs.declared.record.DimensionRecord.{DimensionRecord}
 use Rattle.wh_policy.specs.declared.record.SaleRecord.{SaleRecord}
-use Rattle.wh_history.specs.Accepted.{Accepted, Content, Governs, Describes, Sells, Upgrades, format_of, described, described_by, sold, members_after, records_by, placeholders_by}
+use Rattle.wh_policy.specs.declared.record.VoidRecord.{VoidRecord}
+use Rattle.wh_history.specs.Accepted.{Accepted, Content, Governs, Describes, Sells, Upgrades, Withdraws, format_of, described, described_by, sold, withdrawn, withdrawn_by, members_after, records_by, placeholders_by}
 use Rattle.wh_history.specs.Tables.{Limits, meta_value, change_row, change_row_in, change_row_of, dimension_row}
 use Rattle.wh_history.specs.Tables as history
 use Rattle.wh_history.specs.declared.facts.Fact.{Fact}
@@ -22,6 +23,7 @@ use Rattle.wh_history.specs.declared.plan.Edit.TheVariants.{Put, Remove}
 use Rattle.wh_history.specs.declared.rows.DimRow.{DimRow}
 use Rattle.wh_history.proofs.Basics.{both_true, some_is}
 use Rattle.wh_history.proofs.Batches.{same_dimension}
+use Rattle.wh_history.proofs.Standing.{withdrawn-last}
 use Rattle.wh_history.proofs.Untouched.{described-last}
 use Rattle.wh_rows.specs.declared.rows.MetaRow.{MetaRow}
 use Rattle.wh_rows.specs.declared.rows.CommandRow.{CommandRow}
@@ -35,7 +37,7 @@ use Rattle.wh_rows.specs.Facts.{fact_layout}
 use Rattle.wh_rows.specs.Rows.{is_command, is_change, is_dimension, has_good_columns}
 use Rattle.wh_rows.specs.Rows as row
 use Rattle.wh_rows.specs.Tables.{Tables}
-use Rattle.wh_model.specs.Defined.{meta_at, command_at, member_at, change_at, profile_at, calendar_at, fact_at, fact_in, AreOf}
+use Rattle.wh_model.specs.Defined.{meta_at, command_at, member_at, change_at, profile_at, calendar_at, fact_at, fact_in, void_at, AreOf}
 use Rattle.wh_plan.specs.Laws.{CommandsMayBeWritten}
 use Rattle.wh_plan.specs.Edits.{Edits, AreEdits, NeedsFact, rows_of_dimension, edited_line}
 use Rattle.wh_model.specs.Sound.{IsGoodRecord, IsAccepted}
@@ -45,6 +47,7 @@ use Rattle.wh_plan.specs.declared.edits.FactEdit.{FactEdit}
 use Rattle.wh_plan.specs.declared.edits.FactEdit.TheVariants.{Row, Rekey}
 use Rattle.wh_plan.proofs.Exact.{exact_all}
 use Rattle.wh_plan.proofs.Plans.{plan_puts}
+use Rattle.wh_model.proofs.CountedSales.{standing_counted}
 use Rattle.wh_model.proofs.GrownCommands.{command_grows}
 use Rattle.wh_model.proofs.GrownKeys.{at_last, all_at}
 use Rattle.wh_model.proofs.GrownChanges.{all_apart, new_row, changes_grow}
@@ -53,6 +56,7 @@ use Rattle.wh_model.proofs.SmallNumbers.{is_small, commands_few, described_few, 
 use Rattle.wh_model.proofs.ValidTables.{made_of, dimension_valid, member_valid, change_made, profile_valid}
 use Rattle.wh_model.proofs.ValidCalendar.{calendar_valid}
 use Rattle.wh_model.proofs.ValidFacts.{fact_valid}
+use Rattle.wh_model.proofs.ValidVoids.{void_valid}
 use Rattle.wh_plan.proofs.SaleBatches.Selling.{sold_more}
 
 take_all : {X : Type 0} (xs : List X) → take (length xs) xs ≡ xs
@@ -139,6 +143,13 @@ module _ (limits : Limits) (commands : List Accepted) (c : Accepted) (t : Tables
       let both = ap length (sold_more commands c sales is) ∙ length-append (sold commands) sales in
       omega arith
 
+  few_voids : (lines : List VoidRecord) → c.content ≡ Withdraws lines → length lines ≤ 1000000
+  few_voids lines is =
+      let all = sold_few limits after ok in
+      let counted = standing_counted limits after ok in
+      let both = ap (λ (vs : List VoidRecord). length vs) (withdrawn-last commands c ∙ ap (λ content. withdrawn commands ++ withdrawn_by content) is) ∙ length-append (withdrawn commands) lines in
+      omega arith
+
   -- ---- the command
 
   few_by : (content : Content) → c.content ≡ content → records_by content ≤ 1000000
@@ -146,11 +157,13 @@ module _ (limits : Limits) (commands : List Accepted) (c : Accepted) (t : Tables
   few_by (Describes dim records) is = few_records dim records is
   few_by (Sells sales) is = few_sales sales is
   few_by Upgrades is = omega arith
+  few_by (Withdraws lines) is = few_voids lines is
 
   few_placeholders : (content : Content) → placeholders_by after (length after) content ≤ 9999999
   few_placeholders (Governs policy) = omega arith
   few_placeholders (Describes dim records) = omega arith
   few_placeholders Upgrades = omega arith
+  few_placeholders (Withdraws lines) = omega arith
   few_placeholders (Sells sales) =
       let whole : members_after (take (length after) after) ≡ members_after after = ap members_after (take_all after) in
       let products = members_few limits after ok Product in
@@ -207,6 +220,7 @@ module _ (limits : Limits) (commands : List Accepted) (c : Accepted) (t : Tables
       ap is_change made.2 ∙ change_made limits after ok dim records (good_records dim records is) (few_records dim records is) (length after) n made.0 (omega arith) (sym (new_row commands c dim records is n) ∙ made.1)
   valid_change (Sells sales) is n v here = no_change n v (ap (change_row_in after n) is) here
   valid_change Upgrades is n v here = no_change n v (ap (change_row_in after n) is) here
+  valid_change (Withdraws lines) is n v here = no_change n v (ap (change_row_in after n) is) here
 
   valid_change_put : (v : ChangeRow) → (change_at commands (row.change.key v) ≡ Some v → ⊥) → change_at after (row.change.key v) ≡ Some v → is_change v ≡ true
   valid_change_put v new is = elim (changes_grow commands c c.content refl (row.change.key v)) [
@@ -271,6 +285,7 @@ module _ (limits : Limits) (commands : List Accepted) (c : Accepted) (t : Tables
       calendar = plan_puts row.calendar nat_cmp_total (IsValid row.calendar) (calendar_at commands) (calendar_at after) edits.calendar are.calendar (λ r _ is. calendar_valid limits after ok r.date_key r is);
       facts = exact_all row.fact.order line_cmp_total edited_line NeedsFact (IsValidFactEdit One) (fact_in One commands) (fact_in One after) edits.facts are.facts (valid_fact_edit One);
       facts2 = exact_all row.fact.order line_cmp_total edited_line NeedsFact (IsValidFactEdit Two) (fact_in Two commands) (fact_in Two after) edits.facts2 are.facts2 (valid_fact_edit Two);
+      voids = plan_puts row.void line_cmp_total (IsValid row.void) (void_at commands) (void_at after) edits.voids are.voids (λ v _ is. void_valid limits after ok (row.void.key v) v is);
     };
   }
 

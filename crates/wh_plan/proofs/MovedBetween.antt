@@ -18,7 +18,7 @@ use Rattle.wh_policy.specs.declared.attribute.Dim.{Dim}
 use Rattle.wh_policy.specs.declared.attribute.Dim.TheVariants.{Product, Store, Customer}
 use Rattle.wh_policy.specs.declared.record.DimensionRecord.{DimensionRecord}
 use Rattle.wh_policy.specs.declared.record.SaleRecord.{SaleRecord}
-use Rattle.wh_history.specs.Accepted.{Accepted, Content, Describes, described, described_by, sold, member_of_sale, members, durable_key, surrogate_key, opening_of, member_of, types_in, profiles_of, change_of, changes_of}
+use Rattle.wh_history.specs.Accepted.{Accepted, Content, Describes, described, described_by, sold, withdrawn, standing, member_of_sale, members, durable_key, surrogate_key, opening_of, member_of, types_in, profiles_of, change_of, changes_of}
 use Rattle.wh_history.specs.Dated.{at, dated}
 use Rattle.wh_history.specs.Facts.{key_in, rekeyed_to}
 use Rattle.wh_history.specs.Shapes.{RenderedMember, shape_after, rendered_in}
@@ -39,6 +39,7 @@ use Rattle.wh_history.proofs.Places.{at_place-place}
 use Rattle.wh_history.proofs.Records.{changes_stay}
 use Rattle.wh_history.proofs.Since.{at_stays, key_stays}
 use Rattle.wh_history.proofs.Until.{found_among, at_later_stays, key_later_stays}
+use Rattle.wh_history.proofs.Standing.{all_standing}
 use Rattle.wh_history.proofs.Stays.{types-last, profile_of_day_stays}
 use Rattle.wh_history.proofs.Untouched.{described-last}
 use Rattle.wh_rows.proofs.Orders.{line_cmp_total, line_cmp-IsAntisymmetric}
@@ -251,13 +252,16 @@ module _ (limits : Limits) (commands : List Accepted) (c : Accepted) (rs : List 
     good_sales : AllByRecursion IsGoodSale (sold commands)
     good_sales = subst (AllByRecursion IsGoodSale) (sold_same commands c rs dim is) ok.sales
 
+    good_standing : AllByRecursion IsGoodSale (standing commands)
+    good_standing = all_standing IsGoodSale (withdrawn commands) (sold commands) good_sales
+
     -- a stored fact is that of a sale
     sale_of : (key : LineKey) (f : Fact) → fact_at commands key ≡ Some f → (s : SaleRecord) × (fact_of commands s ≡ f) × (is_day s.day ≡ true)
-    sale_of key f there = by_sale (find (on_line key) (sold commands)) refl there
+    sale_of key f there = by_sale (find (on_line key) (standing commands)) refl there
       where
-        by_sale : (o : Option SaleRecord) → find (on_line key) (sold commands) ≡ o → option_map (fact_of commands) o ≡ Some f → (s : SaleRecord) × (fact_of commands s ≡ f) × (is_day s.day ≡ true)
+        by_sale : (o : Option SaleRecord) → find (on_line key) (standing commands) ≡ o → option_map (fact_of commands) o ≡ Some f → (s : SaleRecord) × (fact_of commands s ≡ f) × (is_day s.day ≡ true)
         by_sale None found h = absurd cc
-        by_sale (Some s) found h = (s, some_is (fact_of commands s) f h, (found_has IsGoodSale (on_line key) (sold commands) s good_sales found).day)
+        by_sale (Some s) found h = (s, some_is (fact_of commands s) f h, (found_has IsGoodSale (on_line key) (standing commands) s good_standing found).day)
 
     module _ (natural : List ℕ) (given : 0 < durable_key dim commands natural) where
       abbrev since : ℕ

@@ -10,7 +10,7 @@ use Rattle.wh_policy.specs.declared.attribute.Dim.{Dim}
 use Rattle.wh_policy.specs.declared.attribute.Dim.TheVariants.{Product, Store, Customer}
 use Rattle.wh_policy.specs.declared.record.DimensionRecord.{DimensionRecord}
 use Rattle.wh_policy.specs.declared.record.SaleRecord.{SaleRecord}
-use Rattle.wh_history.specs.Accepted.{Accepted, Anchor, Describes, opening_of, member_of_sale, mentions, sold, members, durable_key}
+use Rattle.wh_history.specs.Accepted.{Accepted, Anchor, Describes, opening_of, member_of_sale, mentions, sold_by, sold, withdrawn_by, withdrawn, standing, members, durable_key}
 use Rattle.wh_history.specs.Keys.{at_place}
 use Rattle.wh_history.specs.Tables.{Limits, fact_of}
 use Rattle.wh_history.specs.declared.facts.Fact.{Fact}
@@ -18,6 +18,7 @@ use Rattle.wh_history.proofs.Basics.{find_passes, some_is}
 use Rattle.wh_history.proofs.Joins.{all_weaker}
 use Rattle.wh_history.proofs.Once.{IsOnce, among_distinct, once_distinct, once_filtered}
 use Rattle.wh_history.proofs.Places.{one_place, place-distinct_given}
+use Rattle.wh_history.proofs.Standing.{stands_sold, standing-kept}
 use Rattle.wh_rows.proofs.Orders.{line_cmp_total, line_cmp-IsAntisymmetric}
 use Rattle.wh_rows.specs.Facts.{facts_of}
 use Rattle.wh_rows.specs.Rows as row
@@ -36,7 +37,7 @@ use Rattle.wh_model.proofs.GrownChanges.{natural_among}
 use Rattle.wh_plan.proofs.GrownFacts.{own_line, line_is, Once, found_each}
 use Rattle.wh_model.proofs.GrownKeys.{all_at}
 use Rattle.wh_model.proofs.Listed.{passes_at}
-use Rattle.wh_model.proofs.MovedKeys.{with_keys, keys_for, moved_gives, moved_has, moved_is_other, sold_same, follows_member, follows_none, follows_unmentioned, owner_is, durable_is, at_found}
+use Rattle.wh_model.proofs.MovedKeys.{with_keys, keys_for, moved_gives, moved_has, moved_is_other, follows_member, follows_none, follows_unmentioned, owner_is, durable_is, at_found}
 use Rattle.wh_plan.proofs.MovedLists.{find_by_filter, distinct_by_filter, filter_flat, flat_none, filter_moves, moves_of_some, moves_of_one, owner_gives, found_has, not_found}
 use Rattle.wh_plan.proofs.PlanningMembers.{naturals}
 use Rattle.wh_plan.proofs.PlanningOwners.{any_kept, above_none, none_above}
@@ -47,13 +48,13 @@ on_line key s = bytes_eq s.ticket key.ticket && (s.line == key.line)
 
 -- a sale's fact stands on its line
 fact_keyed : (commands : List Accepted) (key : LineKey) (f : Fact) → fact_at commands key ≡ Some f → row.fact.key f ≡ key
-fact_keyed commands key f is = by_sale (find (on_line key) (sold commands)) refl is
+fact_keyed commands key f is = by_sale (find (on_line key) (standing commands)) refl is
   where
-    by_sale : (o : Option SaleRecord) → find (on_line key) (sold commands) ≡ o → option_map (fact_of commands) o ≡ Some f → row.fact.key f ≡ key
+    by_sale : (o : Option SaleRecord) → find (on_line key) (standing commands) ≡ o → option_map (fact_of commands) o ≡ Some f → row.fact.key f ≡ key
     by_sale None found h = absurd cc
     by_sale (Some s) found h =
         let one = some_is (fact_of commands s) f h in
-        let on : has_line key (fact_of commands s) ≡ true = find_passes (on_line key) s (sold commands) found in
+        let on : has_line key (fact_of commands s) ≡ true = find_passes (on_line key) s (standing commands) found in
         line_is key f (ap (has_line key) (sym one) ∙ on)
 
 -- the facts of a line are up to one
@@ -183,11 +184,11 @@ module _ (limits : Limits) (commands : List Accepted) (c : Accepted) (dim : Dim)
   moves_lead : (key : LineKey) → option_or (find (has_line key) moves) (fact_at commands key) ≡ fact_at after key
   moves_lead key =
       ap (λ o. option_or o (fact_at commands key)) (find_by_filter (has_line key) moves (option_and_then move_of (fact_at commands key)) (moves_of_line key))
-      ∙ elim (find (on_line key) (sold commands)) as (λ o. (find (on_line key) (sold commands) ≡ o) → option_or (option_and_then move_of (option_map (fact_of commands) o)) (option_map (fact_of commands) o) ≡ option_map (fact_of after) o) [
+      ∙ elim (find (on_line key) (standing commands)) as (λ o. (find (on_line key) (standing commands) ≡ o) → option_or (option_and_then move_of (option_map (fact_of commands) o)) (option_map (fact_of commands) o) ≡ option_map (fact_of after) o) [
         | None ↦ λ _. refl
-        | Some s ↦ λ found. let there = at_found (on_line key) (sold commands) s found in stored_leads there.0 s there.1
+        | Some s ↦ λ found. let there = at_found (on_line key) (sold commands) s (stands_sold (withdrawn commands) key.ticket key.line (sold commands) s found).0 in stored_leads there.0 s there.1
       ] refl
-      ∙ sym (ap (λ ss. option_map (fact_of after) (find (on_line key) ss)) (sold_same commands c rs dim is))
+      ∙ sym (ap (λ ss. option_map (fact_of after) (find (on_line key) ss)) (standing-kept commands c (ap withdrawn_by is) (ap sold_by is)))
 
   -- each differs from what stood there
   moved_needed : (f : Fact) → find (has_line (row.fact.key f)) moves ≡ Some f → fact_at commands (row.fact.key f) ≢ Some f

@@ -11,6 +11,10 @@ use Rattle.wh_history.proofs.Once.{IsOnce}
 
 -- ---- one or none
 
+pub is_absent : {X : Type 0} (o : Option X) → is_some o ≡ false → o ≡ None
+is_absent None h = refl
+is_absent (Some x) h = absurd cc
+
 one_is : {X : Type 0} (x : X) (xs : List X) (o : Option X) → x ∷ xs ≡ option_to_list o → Some x ≡ o
 one_is x xs None h = cc
 one_is x xs (Some y) h = cc

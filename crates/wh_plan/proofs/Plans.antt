@@ -28,7 +28,7 @@ none_needed key None (Some new) is = absurd cc
 none_needed key (Some old) None is = absurd cc
 none_needed key (Some old) (Some new) is = inl (sym (some_is new old is), refl)
 
-put_needed : {Key Row : Type 0} (key : Key) (new : Option Row) → Needs key None new (option_map Put new)
+pub put_needed : {Key Row : Type 0} (key : Key) (new : Option Row) → Needs key None new (option_map Put new)
 put_needed key None = refl
 put_needed key (Some r) = refl
 

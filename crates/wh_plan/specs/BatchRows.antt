@@ -1,9 +1,10 @@
 -- The rows that a batch brings, before they are the edits of the tables.
-use Rattle.std.specs.Prelude.{◌≡◌, ℕ, suc, ◌-◌, List, [], ◌∷◌, ◌++◌, length, map, filter_map, find, if◌then◌else◌, bytes_eq, ◌≢◌, ◌==◌, ◌&&◌, Bool, Option, Some}
+use Rattle.std.specs.Prelude.{◌≡◌, ℕ, suc, ◌-◌, List, [], ◌∷◌, ◌++◌, length, map, filter_map, find, if◌then◌else◌, bytes_eq, ◌≢◌, ◌==◌, ◌&&◌, Bool, Option, Some, None}
 use Rattle.std.specs.List.{range_with_len, AllByRecursion, IsDistinct}
 use Rattle.std.specs.Option.{option_or}
 use Rattle.wh_policy.specs.declared.attribute.Dim.{Dim}
 use Rattle.wh_policy.specs.declared.attribute.Dim.TheVariants.{Product, Store, Customer}
+use Rattle.wh_policy.specs.declared.record.SaleRecord.{SaleRecord}
 use Rattle.wh_history.specs.Accepted.{Accepted, same_dim, members, profiles_of, records_by}
 use Rattle.wh_history.specs.Tables.{dimension_row}
 use Rattle.wh_history.specs.Plan.{IsRowPlan}
@@ -18,7 +19,7 @@ use Rattle.wh_rows.specs.declared.key.MemberKey.{MemberKey}
 use Rattle.wh_rows.specs.declared.key.LineKey.{LineKey}
 use Rattle.wh_rows.specs.Rows as row
 use Rattle.wh_plan.specs.declared.edits.FactEdit.{FactEdit}
-use Rattle.wh_model.specs.Defined.{command_at, member_at, change_at, profile_at, fact_at}
+use Rattle.wh_model.specs.Defined.{command_at, member_at, change_at, profile_at, fact_at, void_at}
 use Rattle.wh_plan.specs.Edits.{IsFactPlan}
 
 -- its own row, those of the members that it is the first to mention, of its records and of new profiles, the edits of facts, and those of the rows of the three dimensions
@@ -53,6 +54,10 @@ members_behind before after dim = map (λ n. record { dim = dim; durable = n }) 
 -- those of all dimensions
 abbrev pub new_members : List Accepted → List Accepted → List MemberKey
 new_members before after = members_behind before after Product ++ members_behind before after Store ++ members_behind before after Customer
+
+-- a sale's line is new: no fact stands at it, and none was withdrawn from it
+abbrev pub IsNewLine : List Accepted → SaleRecord → Type 0
+IsNewLine commands s = (fact_at commands (record { ticket = s.ticket; line = s.line }) ≡ None) × (void_at commands (record { ticket = s.ticket; line = s.line }) ≡ None)
 
 -- a fact has this key
 abbrev pub has_line : LineKey → Fact → Bool

@@ -1,6 +1,6 @@
 -- What a command writes: for each table the edits of its rows, in order of their keys.
 use Rattle.std.specs.Prelude.{◌≡◌, ◌≢◌, ◌⊎◌, ℕ, ◌+◌, Bool, true, false, if◌then◌else◌, List, [], length, Option, Some, None}
-use Rattle.std.specs.FinMap.{FinMap}
+use Rattle.std.specs.FinMap.{FinMap, empty}
 use Rattle.wh_day.specs.declared.calendar.DateRow.{DateRow}
 use Rattle.wh_policy.specs.declared.attribute.Dim.{Dim}
 use Rattle.wh_policy.specs.declared.attribute.Dim.TheVariants.{Product, Store, Customer}
@@ -18,6 +18,7 @@ use Rattle.wh_rows.specs.declared.rows.CommandRow.{CommandRow}
 use Rattle.wh_rows.specs.declared.rows.MemberRow.{MemberRow}
 use Rattle.wh_rows.specs.declared.rows.ChangeRow.{ChangeRow}
 use Rattle.wh_rows.specs.declared.rows.ProfileRow.{ProfileRow}
+use Rattle.wh_rows.specs.declared.rows.VoidRow.{VoidRow}
 use Rattle.wh_rows.specs.declared.key.MemberKey.{MemberKey}
 use Rattle.wh_rows.specs.declared.key.ChangeKey.{ChangeKey}
 use Rattle.wh_rows.specs.declared.key.LineKey.{LineKey}
@@ -26,12 +27,12 @@ use Rattle.wh_rows.specs.Rekey.{rekeyed}
 use Rattle.wh_rows.specs.Rows as row
 use Rattle.wh_rows.specs.Tables.{Tables}
 use Rattle.wh_store.specs.Edits.{with_edit}
-use Rattle.wh_model.specs.Defined.{meta_at, command_at, member_at, change_at, profile_at, calendar_at, fact_in}
+use Rattle.wh_model.specs.Defined.{meta_at, command_at, member_at, change_at, profile_at, calendar_at, fact_in, void_at}
 use Rattle.wh_rows.specs.Steps.{after_all}
 use Rattle.wh_plan.specs.declared.edits.FactEdit.{FactEdit}
 use Rattle.wh_plan.specs.declared.edits.FactEdit.TheVariants.{Row, Rekey}
 
--- whether the tables of the second format are made first, and the edits of each table
+-- whether the tables of the second format are made first and no fact of the first stays, and the edits of each table
 pub record Edits : Type 0 where
   pub upgrades : Bool
   pub meta : List (Edit MetaRow (List ℕ))
@@ -45,10 +46,11 @@ pub record Edits : Type 0 where
   pub calendar : List (Edit DateRow ℕ)
   pub facts : List FactEdit
   pub facts2 : List FactEdit
+  pub voids : List (Edit VoidRow LineKey)
 
 -- none
 abbrev pub no_edits : Edits
-no_edits = record { upgrades = false; meta = []; commands = []; members = []; changes = []; products = []; stores = []; customers = []; profiles = []; calendar = []; facts = []; facts2 = [] }
+no_edits = record { upgrades = false; meta = []; commands = []; members = []; changes = []; products = []; stores = []; customers = []; profiles = []; calendar = []; facts = []; facts2 = []; voids = [] }
 
 -- those of the rows of a dimension
 abbrev pub rows_of_dimension : Dim → Edits → List (Edit DimRow ℕ)
@@ -64,7 +66,7 @@ abbrev pub count_dimensions : Edits → ℕ
 count_dimensions edits = length edits.products + length edits.stores + length edits.customers
 
 abbrev pub count_facts : Edits → ℕ
-count_facts edits = length edits.profiles + length edits.calendar + length edits.facts + length edits.facts2
+count_facts edits = length edits.profiles + length edits.calendar + length edits.facts + length edits.facts2 + length edits.voids
 
 abbrev pub edit_count : Edits → ℕ
 edit_count edits = count_commands edits + count_dimensions edits + count_facts edits
@@ -79,6 +81,10 @@ with_edits layout = after_all (with_edit layout)
 abbrev pub with_fact_edit : FactEdit → FinMap row.fact.order Fact → FinMap row.fact.order Fact
 with_fact_edit (Row edit) facts = with_edit row.fact edit facts
 with_fact_edit (Rekey line keys) facts = rekeyed (line, keys) facts
+
+-- the facts of the first format with their edits; those of an upgrade leave none
+abbrev pub with_first_facts : Edits → FinMap row.fact.order Fact → FinMap row.fact.order Fact
+with_first_facts edits facts = if edits.upgrades then empty else after_all with_fact_edit edits.facts facts
 
 -- the tables in the format that they get
 abbrev pub with_format : Edits → Tables → Tables
@@ -101,13 +107,14 @@ with_dimensions edits t = record t {
   customer = with_edits row.customer edits.customers t.customer;
 }
 
--- and with those of profile, calendar and the facts of each format
+-- and with those of profile, calendar, the facts of each format and void
 abbrev pub with_facts : Edits → Tables → Tables
 with_facts edits t = record t {
   profile = with_edits row.profile edits.profiles t.profile;
   calendar = with_edits row.calendar edits.calendar t.calendar;
-  fact = after_all with_fact_edit edits.facts t.fact;
+  fact = with_first_facts edits t.fact;
   fact2 = after_all with_fact_edit edits.facts2 t.fact2;
+  void = with_edits row.void edits.voids t.void;
 }
 
 -- the tables with the edits of a command
@@ -158,3 +165,4 @@ pub record AreEdits (before after : List Accepted) (edits : Edits) : Type 0 wher
   pub calendar : IsTablePlan row.calendar (calendar_at before) (calendar_at after) edits.calendar
   pub facts : IsFactPlan (fact_in One before) (fact_in One after) edits.facts
   pub facts2 : IsFactPlan (fact_in Two before) (fact_in Two after) edits.facts2
+  pub voids : IsTablePlan row.void (void_at before) (void_at after) edits.voids

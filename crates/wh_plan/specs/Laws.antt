@@ -1,5 +1,5 @@
 -- What holds of every batch.
-use Rattle.std.specs.Prelude.{◌≡◌, ◌≢◌, ℕ, List, [], ◌∷◌, ◌++◌, None, map, filter_map, length}
+use Rattle.std.specs.Prelude.{◌≡◌, ◌≢◌, ℕ, List, [], ◌∷◌, ◌++◌, map, filter_map, length}
 use Rattle.std.specs.List.{AllByRecursion, IsDistinct}
 use Rattle.wh_policy.specs.declared.attribute.Dim.{Dim}
 use Rattle.wh_policy.specs.declared.attribute.Dim.TheVariants.{Customer}
@@ -15,7 +15,7 @@ use Rattle.wh_history.specs.declared.rows.DimRow.{DimRow}
 use Rattle.wh_rows.specs.Tables.{Tables}
 use Rattle.wh_model.specs.Defined.{fact_at, AreOf}
 use Rattle.wh_plan.specs.Edits.{Edits, no_edits, with_all_edits, AreEdits}
-use Rattle.wh_plan.specs.BatchRows.{numbers_after, AreFacts}
+use Rattle.wh_plan.specs.BatchRows.{numbers_after, AreFacts, IsNewLine}
 use Rattle.wh_model.specs.Sound.{IsAccepted, same_line}
 use Rattle.wh_plan.specs.Writable.{MayBeWritten}
 use Rattle.wh_plan.specs.NewRows.{of_members, naturals_told, durables_touched, rows_of_members, members_among}
@@ -73,7 +73,7 @@ TouchedRowsAfter = (commands : List Accepted) (c : Accepted) (dim : Dim) (record
 abbrev pub SalesAreFacts : Type 0
 SalesAreFacts = (commands : List Accepted) (c : Accepted) (sales : List SaleRecord)
     → c.content ≡ Sells sales
-    → AllByRecursion (λ s. fact_at commands (record { ticket = s.ticket; line = s.line }) ≡ None) sales
+    → AllByRecursion (IsNewLine commands) sales
     → IsDistinct same_line sales
     → AreFacts (fact_at commands) (fact_at (commands ++ c ∷ [])) (map (fact_of (commands ++ c ∷ [])) sales)
 

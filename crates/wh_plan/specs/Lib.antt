@@ -11,3 +11,4 @@ pub mod Profiles
 pub mod Laws
 pub mod MovedFacts
 pub mod SoldMembers
+pub mod VoidEdits

@@ -35,12 +35,13 @@ pub record AreValidDimensions (edits : Edits) : Type 0 where
   pub stores : PutsValid row.store edits.stores
   pub customers : PutsValid row.customer edits.customers
 
--- and of those of profile, calendar and the facts of each format
+-- and of those of profile, calendar, the facts of each format and void
 pub record AreValidFacts (edits : Edits) : Type 0 where
   pub profiles : PutsValid row.profile edits.profiles
   pub calendar : PutsValid row.calendar edits.calendar
   pub facts : AllByRecursion (IsValidFactEdit One) edits.facts
   pub facts2 : AllByRecursion (IsValidFactEdit Two) edits.facts2
+  pub voids : PutsValid row.void edits.voids
 
 pub record MayBeWritten (edits : Edits) : Type 0 where
   pub commands : AreValidCommands edits

@@ -1,7 +1,7 @@
 //! The rows that a batch brings, and the edits that they are.
 
 ghost use Rattle.std.specs.Prelude.{◌≡◌, ◌++◌, ◌∷◌, [], false, List, map, length, IfOk};
-ghost use Rattle.wh_history.specs.Accepted.{Accepted, format_of};
+ghost use Rattle.wh_history.specs.Accepted.{Accepted, format_of, withdrawn_by};
 ghost use Rattle.wh_history.specs.Laws.{governs};
 ghost use Rattle.wh_history.specs.declared.plan.Edit.TheVariants.{Put};
 ghost use Rattle.wh_plan.specs.BatchRows.{AreBatchRows};
@@ -47,7 +47,7 @@ impl Model for BatchRows {
 }
 
 /// Rows as edits that put them.
-fn puts<Row: Drop, Key: Drop>(
+pub(crate) fn puts<Row: Drop, Key: Drop>(
     alloc: Global,
     rows: Vec<Row>,
 ) -> Result<Vec<Edit<Row, Key>>, AllocError>
@@ -66,7 +66,7 @@ pub(crate) fn edits_of_batch(
     format: Format,
     rows: BatchRows,
 ) -> Result<Edits, AllocError>
-    ensures exact { (commands : List Accepted) (c : Accepted) → format ≡ format_of commands → format_of (commands ++ c ∷ []) ≡ format_of commands → governs c.content ≡ false
+    ensures exact { (commands : List Accepted) (c : Accepted) → format ≡ format_of commands → format_of (commands ++ c ∷ []) ≡ format_of commands → governs c.content ≡ false → withdrawn_by c.content ≡ []
         → AreBatchRows commands c rows → IfOk result (AreEdits commands (commands ++ c ∷ [])) }
     ensures own { IfOk result (λ edits. length edits.commands ≡ 1) }
 {
@@ -86,5 +86,6 @@ pub(crate) fn edits_of_batch(
         calendar: Vec::new(alloc),
         facts: facts.one,
         facts2: facts.two,
+        voids: Vec::new(alloc),
     })
 }

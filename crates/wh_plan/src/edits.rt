@@ -8,7 +8,7 @@ use std::marker::Model;
 use wh_day::{DateRow, Day, Value};
 use wh_history::{DimRow, Edit, Fact, FactKeys};
 use wh_rows::{
-    ChangeKey, ChangeRow, CommandRow, LineKey, MemberKey, MemberRow, MetaRow, ProfileRow,
+    ChangeKey, ChangeRow, CommandRow, LineKey, MemberKey, MemberRow, MetaRow, ProfileRow, VoidRow,
 };
 
 /// A change of one fact.
@@ -23,7 +23,7 @@ pub enum FactEdit {
 /// What a command writes: for each table the edits of its rows, in order of their keys. A key whose row stays the same has none.
 #[derive(Debug, Drop)]
 pub struct Edits {
-    /// The tables of the second format are made first.
+    /// The tables of the second format are made first, and no fact of the first format stays.
     pub upgrades: bool,
     pub meta: Vec<Edit<MetaRow, Value>>,
     pub commands: Vec<Edit<CommandRow, u64>>,
@@ -38,6 +38,8 @@ pub struct Edits {
     pub facts: Vec<FactEdit>,
     /// Of those of the second.
     pub facts2: Vec<FactEdit>,
+    /// Of the lines that were withdrawn.
+    pub voids: Vec<Edit<VoidRow, LineKey>>,
 }
 
 impl Edits {
@@ -58,6 +60,7 @@ impl Edits {
             calendar: Vec::new(alloc),
             facts: Vec::new(alloc),
             facts2: Vec::new(alloc),
+            voids: Vec::new(alloc),
         }
     }
 }
@@ -80,5 +83,6 @@ impl Model for Edits {
       calendar = e.calendar.items;
       facts = e.facts.items;
       facts2 = e.facts2.items;
+      voids = e.voids.items;
     } };
 }

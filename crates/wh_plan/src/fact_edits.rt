@@ -3,27 +3,34 @@
 ghost use Rattle.std.specs.Prelude.{◌≡◌, map, IfOk, None};
 ghost use Rattle.std.specs.List.{AllByRecursion};
 ghost use Rattle.std.specs.List.Sorted.{IsPermutation, IsSorted};
-ghost use Rattle.wh_rows.specs.Rows.{fact as layout};
+ghost use Rattle.wh_rows.specs.Rows.{fact as layout, line_cmp};
 ghost use Rattle.wh_plan.specs.BatchRows.{AreFacts, AreRekeyed};
 ghost use Rattle.wh_plan.specs.Edits.{IsFactPlan};
 ghost use Rattle.wh_plan.specs.FactEdits.{Facts, by_line, edits_in, put_of, remove_of, rekey_of};
 ghost use Rattle.wh_policy.specs.declared.format.Format.TheVariants.{One, Two};
+ghost use Rattle.wh_history.specs.declared.plan.Edit.TheVariants.{Remove};
+ghost use Rattle.wh_plan.specs.declared.edits.FactEdit.TheVariants.{Row};
 
 use crate::edits::FactEdit;
 use std::alloc::{AllocError, Global};
 use std::cmp::Ordering;
+use wh_day::Value;
 use wh_history::{Edit, Fact};
 use wh_policy::Format;
 use wh_rows::LineKey;
 
-/// How the lines of two facts stand to each other: by the bytes of their tickets, and then by number.
+/// How two lines stand to each other: by the bytes of their tickets, and then by number.
+pub(crate) fn line_order(ticket: &Value, line: u32, other: &Value, another: u32) -> Ordering
+    ensures { result ≡ line_cmp (record { ticket = ticket.now; line = line }) (record { ticket = other.now; line = another }) }
+{
+    ticket.as_str().cmp(other.as_str()).then(line.cmp(&another))
+}
+
+/// How the lines of two facts stand to each other.
 fn by_line(a: &Fact, b: &Fact) -> Ordering
     ensures { result ≡ by_line a.now b.now }
 {
-    a.ticket
-        .as_str()
-        .cmp(b.ticket.as_str())
-        .then(a.line.cmp(&b.line))
+    line_order(&a.ticket, a.line, &b.ticket, b.line)
 }
 
 /// Puts facts in order of their lines.
@@ -76,13 +83,13 @@ fn each_rekeyed(alloc: Global, facts: Vec<Fact>) -> Result<Vec<FactEdit>, AllocE
     Ok(edits)
 }
 
-/// The edit that takes a fact out.
-fn remove_of(fact: &Fact) -> Result<FactEdit, AllocError>
-    ensures { IfOk result (λ edit. edit ≡ remove_of fact.now) }
+/// The edit that takes out the fact of a line.
+pub(crate) fn remove_at(ticket: &Value, line: u32) -> Result<FactEdit, AllocError>
+    ensures { IfOk result (λ edit. edit ≡ Row (Remove (record { ticket = ticket.now; line = line }))) }
 {
     let line = LineKey {
-        ticket: fact.ticket.copy()?,
-        line: fact.line,
+        ticket: ticket.copy()?,
+        line,
     };
     Ok(FactEdit::Row(Edit::Remove(line)))
 }
@@ -93,7 +100,7 @@ fn each_removed(alloc: Global, facts: &[Fact]) -> Result<Vec<FactEdit>, AllocErr
 {
     let mut edits = Vec::new(alloc);
     for fact in facts {
-        edits.push(remove_of(fact)?)?;
+        edits.push(remove_at(&fact.ticket, fact.line)?)?;
     }
     Ok(edits)
 }

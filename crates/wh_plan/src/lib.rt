@@ -15,8 +15,10 @@ pub mod reading;
 mod records;
 pub mod sales;
 mod terms;
+mod voids;
 
 pub use edits::{Edits, FactEdit};
 pub use records::record_plan::plan_batch;
 pub use sales::sale_plan::plan_sales;
 pub use terms::Terms;
+pub use voids::plan_voids;

@@ -19,4 +19,4 @@ pub use document::POLICY_LIMIT;
 pub use fault::PolicyFault;
 pub use format::Format;
 pub use policy::{Policy, Years};
-pub use record::{DimensionRecord, SaleRecord};
+pub use record::{DimensionRecord, SaleRecord, VoidRecord};

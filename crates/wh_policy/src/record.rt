@@ -31,3 +31,11 @@ pub struct SaleRecord {
     /// In hundredths; 0 in the first format.
     pub discount: u64,
 }
+
+/// A line of a ticket that a source withdraws.
+#[derive(Debug, Drop)]
+pub struct VoidRecord {
+    pub ticket: NaturalKey,
+    /// The line's number on the ticket, 1 to 9999.
+    pub line: u32,
+}

@@ -9,10 +9,11 @@ use Rattle.wh_policy.specs.Policy.{attributes_of, policy_at}
 use Rattle.wh_policy.specs.declared.attribute.Dim.{Dim}
 use Rattle.wh_policy.specs.declared.policy.Policy.{Policy}
 use Rattle.wh_batch.specs.Batch.{Layout, batch_of}
-use Rattle.wh_batch.specs.Layouts.{dimension_layout, dimension_records, sales_layout, sale_records}
+use Rattle.wh_batch.specs.Layouts.{dimension_layout, dimension_records, sales_layout, sale_records, voids_layout, void_records}
 use Rattle.wh_batch.specs.declared.kind.CommandKind.TheVariants.{Batch, Migration, Upgrade}
-use Rattle.wh_batch.specs.declared.kind.Kind.TheVariants.{Dimension, Sales}
+use Rattle.wh_batch.specs.declared.kind.Kind.TheVariants.{Dimension, Sales, Voids}
 use Rattle.wh_policy.specs.declared.format.Format.{Format}
+use Rattle.wh_policy.specs.declared.format.Format.TheVariants.{One, Two}
 use Rattle.wh_program.specs.Answer.{answer_under, AnswersTrial}
 use Rattle.wh_program.specs.Inputs.{Files, up_to, batch_limit, policy_limit, manifest_limit, manifest_part}
 use Rattle.wh_program.specs.Warehouse.{Told}
@@ -72,11 +73,17 @@ sales_so : (format : Format) (policy : Policy) (bytes : List ℕ) → sale_recor
 unfolding sale_records
 sales_so format policy bytes = batch_so (sales_layout format policy.years) bytes
 
+voids_so : (format : Format) (bytes : List ℕ) → void_records format (take (suc batch_limit) bytes) ≡ void_records format bytes
+unfolding void_records
+voids_so One bytes = refl
+voids_so Two bytes = batch_so voids_layout bytes
+
 pub trials_so : TrialsAreReadSo
 trials_so dim policy bytes = rw (dimension_so dim policy bytes) refl
 
 pub commands_so : CommandsAreReadSo
 commands_so (Batch (Dimension dim)) format policy bytes = rw (dimension_so dim policy bytes) refl
 commands_so (Batch Sales) format policy bytes = rw (sales_so format policy bytes) refl
+commands_so (Batch Voids) format policy bytes = rw (voids_so format bytes) refl
 commands_so Migration format policy bytes = rw (policies_so bytes) refl
 commands_so Upgrade format policy bytes = refl

@@ -10,7 +10,7 @@ use Rattle.wh_policy.specs.declared.fault.PolicyFault.TheVariants.{NotToml, Miss
 use Rattle.wh_batch.specs.Layouts.{dimension_records}
 use Rattle.wh_batch.specs.declared.fault.BatchFault.{BatchFault}
 use Rattle.wh_batch.specs.declared.fault.FaultKind.{FaultKind}
-use Rattle.wh_batch.specs.declared.fault.FaultKind.TheVariants.{TooLarge, WrongHeader, WrongLength, BadKey, BadDay, BadValue, BadNumber, TwiceInBatch, OutsideCalendar}
+use Rattle.wh_batch.specs.declared.fault.FaultKind.TheVariants.{TooLarge, WrongHeader, WrongLength, BadKey, BadDay, BadValue, BadNumber, TwiceInBatch, OutsideCalendar, NotInFormat}
 use Rattle.wh_history.specs.Tables.{dimension_table, trial_commands}
 use Rattle.wh_history.specs.declared.rows.DimRow.{DimRow}
 use Rattle.wh_report.specs.Dump.{dimension_text}
@@ -53,6 +53,7 @@ batch_fault_name BadValue = codes "B6 bad value"
 batch_fault_name BadNumber = codes "B7 bad number"
 batch_fault_name TwiceInBatch = codes "B8 twice in batch"
 batch_fault_name OutsideCalendar = codes "B9 outside calendar"
+batch_fault_name NotInFormat = codes "B10 not in format"
 
 abbrev pub batch_line : BatchFault → List ℕ
 batch_line fault = line (codes "refused: E3 batch, " ++ batch_fault_name fault.kind ++ codes ", record " ++ decimal fault.number)
@@ -88,10 +89,10 @@ abbrev pub no_dimension_line : List ℕ
 no_dimension_line = line (codes "error: DIMENSION is none of product, store and customer")
 
 abbrev pub no_kind_line : List ℕ
-no_kind_line = line (codes "error: KIND is none of product, store, customer and sales")
+no_kind_line = line (codes "error: KIND is none of product, store, customer, sales and void")
 
 abbrev pub no_command_kind_line : List ℕ
-no_command_kind_line = line (codes "error: KIND is none of product, store, customer, sales, migrate and upgrade")
+no_command_kind_line = line (codes "error: KIND is none of product, store, customer, sales, void, migrate and upgrade")
 
 abbrev pub no_mode_line : List ℕ
 no_mode_line = line (codes "error: MODE is none of was, is and prior")

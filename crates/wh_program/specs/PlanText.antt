@@ -11,7 +11,7 @@ use Rattle.wh_rows.specs.declared.key.MemberKey.{MemberKey}
 use Rattle.wh_rows.specs.declared.key.ChangeKey.{ChangeKey}
 use Rattle.wh_rows.specs.declared.key.LineKey.{LineKey}
 use Rattle.wh_rows.specs.declared.table.Table.{Table}
-use Rattle.wh_rows.specs.declared.table.Table.TheVariants.{Meta, Command, Member, Change, Product, Store, Customer, Profile, Calendar, Fact, Fact2}
+use Rattle.wh_rows.specs.declared.table.Table.TheVariants.{Meta, Command, Member, Change, Product, Store, Customer, Profile, Calendar, Fact, Fact2, Void}
 use Rattle.wh_plan.specs.Edits.{Edits, edit_count}
 use Rattle.wh_plan.specs.declared.edits.FactEdit.{FactEdit}
 use Rattle.wh_plan.specs.declared.edits.FactEdit.TheVariants.{Row, Rekey}
@@ -62,6 +62,7 @@ dimensions_text edits =
 abbrev pub facts_text : Edits → List ℕ
 facts_text edits =
     edit_lines Profile row.profile decimal edits.profiles ++ edit_lines Calendar row.calendar decimal edits.calendar ++ flat_map (fact_line Fact) edits.facts ++ flat_map (fact_line Fact2) edits.facts2
+    ++ edit_lines Void row.void line_words edits.voids
 
 abbrev pub count_line : Edits → List ℕ
 count_line edits = line (codes "edits " ++ decimal (edit_count edits))

@@ -55,6 +55,9 @@ full_line limit = line (codes "refused: E6 full, " ++ limit_name limit)
 abbrev pub sale_there_line : ℕ → List ℕ
 sale_there_line number = line (codes "refused: E6 line there, record " ++ decimal number)
 
+abbrev pub no_sale_line : ℕ → List ℕ
+no_sale_line number = line (codes "refused: E6 no line, record " ++ decimal number)
+
 abbrev pub refused_line : Refused → List ℕ
 refused_line refusal.BadId = line (codes "refused: E1 bad id")
 refused_line refusal.Reused = line (codes "refused: E2 id reused")
@@ -64,6 +67,7 @@ refused_line refusal.Unfit = line (codes "refused: E5 policy does not fit")
 refused_line refusal.Upgraded = line (codes "refused: E6 format, 2")
 refused_line refusal.NameTaken = line (codes "refused: E11 not empty")
 refused_line (refusal.LineThere number) = sale_there_line number
+refused_line (refusal.NoLine number) = no_sale_line number
 refused_line (refusal.Full limit) = full_line limit
 
 abbrev pub damaged_line : Table → List ℕ

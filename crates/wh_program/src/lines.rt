@@ -10,7 +10,7 @@ ghost use Rattle.std.specs.Fmt.{decimal};
 ghost use Rattle.wh_program.specs.Answer.{status_code, done, refused, failed, line, no_file_line, batch_line, batch_fault_name, policy_line, policy_fault_name};
 ghost use Rattle.wh_program.specs.Delivery.{manifest_line};
 ghost use Rattle.wh_program.specs.Room.{Fits, TellsIn, longest_line, longest_answer, longest_delivery};
-ghost use Rattle.wh_program.specs.Reply.{receipt_line, reply_answer, limit_name, full_line, sale_there_line, refused_line, damaged_line, cause_name, store_line, fault_answer, sent_answer, plan_answer, wrong_line, verdict_answer, made_line, making_answer, opening_answer, members_line, totals_text, counts_text, status_answer};
+ghost use Rattle.wh_program.specs.Reply.{receipt_line, reply_answer, limit_name, full_line, sale_there_line, no_sale_line, refused_line, damaged_line, cause_name, store_line, fault_answer, sent_answer, plan_answer, wrong_line, verdict_answer, made_line, making_answer, opening_answer, members_line, totals_text, counts_text, status_answer};
 
 use crate::lines::answer::{Answer, Status};
 use crate::lines::plan_text::{plan_text, push_number};
@@ -34,11 +34,11 @@ pub const WRITE_LINE: &[u8] = b"failed: G4 write\n";
 pub const NO_DIMENSION_LINE: &str = "error: DIMENSION is none of product, store and customer\n";
 
 /// What is wrong with the words of a load.
-pub const NO_KIND_LINE: &str = "error: KIND is none of product, store, customer and sales\n";
+pub const NO_KIND_LINE: &str = "error: KIND is none of product, store, customer, sales and void\n";
 
 /// What is wrong with the words of a plan.
 pub const NO_COMMAND_KIND_LINE: &str =
-    "error: KIND is none of product, store, customer, sales, migrate and upgrade\n";
+    "error: KIND is none of product, store, customer, sales, void, migrate and upgrade\n";
 
 /// What is wrong with the words of a report.
 pub const NO_MODE_LINE: &str = "error: MODE is none of was, is and prior\n";
@@ -100,6 +100,7 @@ fn batch_fault_name(kind: FaultKind) -> &'static str
         FaultKind::BadNumber => "B7 bad number",
         FaultKind::TwiceInBatch => "B8 twice in batch",
         FaultKind::OutsideCalendar => "B9 outside calendar",
+        FaultKind::NotInFormat => "B10 not in format",
     }
 }
 
@@ -285,6 +286,13 @@ fn push_sale_there_line(text: &mut Vec<u8>, number: u64) -> Result<(), AllocErro
     push_numbered_line(text, "refused: E6 line there, record ", number)
 }
 
+fn push_no_sale_line(text: &mut Vec<u8>, number: u64) -> Result<(), AllocError>
+    ensures added { OnOk result (text.new.items ≡ text.old.items ++ no_sale_line number) }
+    ensures fits { Fits longest_line result text.old text.new }
+{
+    push_numbered_line(text, "refused: E6 no line, record ", number)
+}
+
 /// The line of a command that isn't accepted.
 pub fn push_refused(text: &mut Vec<u8>, why: &Refused) -> Result<(), AllocError>
     ensures added { OnOk result (text.new.items ≡ text.old.items ++ refused_line why.now) }
@@ -299,6 +307,7 @@ pub fn push_refused(text: &mut Vec<u8>, why: &Refused) -> Result<(), AllocError>
         Refused::Upgraded => text.extend_from_slice(b"refused: E6 format, 2\n"),
         Refused::NameTaken => text.extend_from_slice(b"refused: E11 not empty\n"),
         Refused::LineThere(number) => push_sale_there_line(text, *number),
+        Refused::NoLine(number) => push_no_sale_line(text, *number),
         Refused::Full(limit) => push_full_line(text, *limit),
     }
 }

@@ -43,7 +43,12 @@ const SUBCOMMANDS: &[Subcommand<'static>] = &[
         name: "load",
         about: "Loads a batch into a warehouse",
         example: "Example: wh load shop.wh product p1 examples/late.csv",
-        operands: &[FILE, ("KIND", "product, store, customer or sales"), ID, CSV],
+        operands: &[
+            FILE,
+            ("KIND", "product, store, customer, sales or void"),
+            ID,
+            CSV,
+        ],
     },
     Subcommand {
         name: "migrate",
@@ -81,7 +86,7 @@ const SUBCOMMANDS: &[Subcommand<'static>] = &[
             FILE,
             (
                 "KIND",
-                "product, store, customer, sales, migrate or upgrade",
+                "product, store, customer, sales, void, migrate or upgrade",
             ),
             ID,
             (

@@ -1,11 +1,12 @@
 //! Batches under the policy of a trial: the records that are read of them, or their fault.
 //!
-//! KIND is `product`, `store`, `customer` or `sales`. In BYTES `\n`, `\r` and `\x` with two hexadecimal digits are bytes that
-//! a line can't have. A batch's answer is its records, one a line, or the number and the fault. The verbs:
+//! KIND is `product`, `store`, `customer`, `sales`; `discounted`, sales in the second format; `void`, voids in the second format; or
+//! `early`, voids in the first, which has none. In BYTES `\n`, `\r` and `\x` with two hexadecimal digits are bytes that a line
+//! can't have. A batch's answer is its records, one a line, or the number and the fault. The verbs:
 //!
 //! - `batch KIND BYTES`: the answer to a batch of these bytes.
 //! - `rows KIND BYTES`: to one of the kind's header, the end of that line and these bytes.
-//! - `either KIND BYTES`: to the same, read as a batch of either kind; of its records the number alone.
+//! - `any KIND BYTES`: to the same, read as a batch of any kind; of its records the number alone.
 //! - `cuts BYTES`: to each beginning of a batch of customers. An answer is written once, after the length from which it holds.
 //! - `many KIND NUMBER TEXT`: to a batch of so many records and this text; of its records the number alone.
 //! - `long KIND LENGTH BYTES`: the answer to these bytes with line ends after them, in all so many bytes.
@@ -15,6 +16,7 @@
 mod dimensions;
 mod manifests;
 mod sales;
+mod voids;
 
 use crate::check::check;
 use crate::words::{dim, number, push_next, push_number, push_values};
@@ -22,11 +24,11 @@ use std::alloc::{AllocError, Global};
 use std::fmt::Write;
 use std::test::Fail;
 use wh_batch::{
-    BatchFault, DimensionRecords, Kind, Manifest, ManifestEntry, Records, SaleRecords,
-    dimension_records, read, sale_records,
+    BatchFault, DimensionRecords, Kind, Manifest, ManifestEntry, Records, SaleRecords, VoidRecords,
+    dimension_records, read, sale_records, void_records,
 };
 use wh_day::{Day, NaturalKey, ParseError, Values};
-use wh_policy::{DimensionRecord, Format, Policy, SaleRecord};
+use wh_policy::{DimensionRecord, Format, Policy, SaleRecord, VoidRecord};
 use wh_scenarios::{Driver, NotMade, Step, bytes_of, parted};
 
 #[derive(Drop)]
@@ -40,6 +42,11 @@ fn batches_for_dimensions(rt: HostRuntime) -> Result<(), Fail> {
 #[test]
 fn batches_of_sales(rt: HostRuntime) -> Result<(), Fail> {
     check(&rt, rt.alloc(), BatchDriver, sales::SCENARIO)
+}
+
+#[test]
+fn batches_of_voids(rt: HostRuntime) -> Result<(), Fail> {
+    check(&rt, rt.alloc(), BatchDriver, voids::SCENARIO)
 }
 
 #[test]
@@ -65,7 +72,7 @@ fn batch_step(alloc: Global, words: &str, answer: &mut String) -> Result<(), All
     match verb {
         "batch" => push_batch(alloc, answer, word, &bytes_of(alloc, text)?),
         "rows" => push_batch(alloc, answer, word, &with_header(alloc, word, text)?),
-        "either" => push_either(alloc, answer, word, &with_header(alloc, word, text)?),
+        "any" => push_any(alloc, answer, word, &with_header(alloc, word, text)?),
         "cuts" => push_cuts(alloc, answer, &bytes_of(alloc, rest)?),
         "many" => push_many(alloc, answer, word, text),
         "long" => push_long(alloc, answer, word, text),
@@ -79,14 +86,15 @@ fn batch_step(alloc: Global, words: &str, answer: &mut String) -> Result<(), All
 fn kind(word: &str) -> Kind {
     match word {
         "sales" | "discounted" => Kind::Sales,
+        "void" | "early" => Kind::Voids,
         _ => Kind::Dimension(dim(word)),
     }
 }
 
-/// The format that a batch is written in: `discounted` are sales in the second.
+/// The format that a batch is written in.
 fn format_of(word: &str) -> Format {
     match word {
-        "discounted" => Format::Two,
+        "discounted" | "void" => Format::Two,
         _ => Format::One,
     }
 }
@@ -97,6 +105,7 @@ fn header(word: &str) -> &'static str {
         "store" => "id,day,city\n",
         "customer" => "id,day,tier\n",
         "discounted" => { "ticket,line,day,store,product,customer,quantity,amount,cost,discount\n" }
+        "void" | "early" => "ticket,line\n",
         _ => "ticket,line,day,store,product,customer,quantity,amount,cost\n",
     }
 }
@@ -136,21 +145,21 @@ fn push_batch(
             Ok(records) => push_sales(answer, &records),
             Err(e) => push_fault(answer, e),
         },
+        Kind::Voids => match void_records(alloc, format_of(word), text) {
+            Ok(records) => push_voids(answer, &records),
+            Err(e) => push_fault(answer, e),
+        },
     }
 }
 
-fn push_either(
-    alloc: Global,
-    answer: &mut String,
-    word: &str,
-    text: &[u8],
-) -> Result<(), AllocError> {
+fn push_any(alloc: Global, answer: &mut String, word: &str, text: &[u8]) -> Result<(), AllocError> {
     let policy = Policy::trial(alloc)?;
     match read(alloc, kind(word), &policy, format_of(word), text) {
         Ok(Records::Dimension(records)) => {
             push_count(answer, "of a dimension", records.as_slice().len())
         }
         Ok(Records::Sales(records)) => push_count(answer, "of sales", records.as_slice().len()),
+        Ok(Records::Voids(records)) => push_count(answer, "of voids", records.as_slice().len()),
         Err(e) => push_fault(answer, e),
     }
 }
@@ -207,6 +216,22 @@ fn push_sale(answer: &mut String, sale: &SaleRecord) -> Result<(), AllocError> {
     answer.push_str("\n")
 }
 
+fn push_voids(answer: &mut String, records: &VoidRecords) -> Result<(), AllocError> {
+    if records.as_slice().is_empty() {
+        return answer.push_str("no record");
+    }
+    for void in records.as_slice() {
+        push_void(answer, void)?;
+    }
+    Ok(())
+}
+
+fn push_void(answer: &mut String, void: &VoidRecord) -> Result<(), AllocError> {
+    answer.push_str(void.ticket.as_str())?;
+    push_next(answer, void.line as i128)?;
+    answer.push_str("\n")
+}
+
 fn push_key(answer: &mut String, key: &NaturalKey) -> Result<(), AllocError> {
     answer.push_str(" ")?;
     answer.push_str(key.as_str())
@@ -232,6 +257,7 @@ fn push_cuts(alloc: Global, answer: &mut String, text: &[u8]) -> Result<(), Allo
 fn push_row(text: &mut String, word: &str, number: u64) -> Result<(), AllocError> {
     match word {
         "sales" => write!(text, "T{number},1,2024-01-05,S1,P1,,1,1,1\n"),
+        "void" => write!(text, "T{number},1\n"),
         _ => write!(text, "C{number},2024-07-01,Gold\n"),
     }
 }
@@ -243,7 +269,7 @@ fn push_many(alloc: Global, answer: &mut String, word: &str, rest: &str) -> Resu
         push_row(&mut text, word, at)?;
     }
     text.push_str(after)?;
-    push_either(alloc, answer, word, text.as_str().as_bytes())
+    push_any(alloc, answer, word, text.as_str().as_bytes())
 }
 
 fn push_long(alloc: Global, answer: &mut String, word: &str, rest: &str) -> Result<(), AllocError> {
@@ -275,6 +301,7 @@ fn push_made(alloc: Global, answer: &mut String, word: &str) -> Result<(), Alloc
             push_members(answer, &records)
         }
         Kind::Sales => push_made_sale(alloc, answer),
+        Kind::Voids => push_made_void(alloc, answer),
     }
 }
 
@@ -295,6 +322,14 @@ fn push_made_sale(alloc: Global, answer: &mut String) -> Result<(), AllocError> 
         })?;
     }
     push_sales(answer, &records)
+}
+
+fn push_made_void(alloc: Global, answer: &mut String) -> Result<(), AllocError> {
+    let mut records = VoidRecords::new(alloc);
+    if let Some(ticket) = key("T1") {
+        records.push(VoidRecord { ticket, line: 9999 })?;
+    }
+    push_voids(answer, &records)
 }
 
 fn push_manifest(alloc: Global, answer: &mut String, text: &[u8]) -> Result<(), AllocError> {

@@ -17,18 +17,19 @@ use Rattle.wh_policy.specs.declared.policy.Policy.{Policy}
 use Rattle.wh_policy.specs.declared.policy.Years.{Years}
 use Rattle.wh_policy.specs.declared.record.DimensionRecord.{DimensionRecord}
 use Rattle.wh_policy.specs.declared.record.SaleRecord.{SaleRecord}
+use Rattle.wh_policy.specs.declared.record.VoidRecord.{VoidRecord}
 use Rattle.wh_batch.specs.Layouts.{sales_layout, sale_records}
 use Rattle.wh_batch.specs.declared.fault.BatchFault.{BatchFault}
 use Rattle.wh_policy.specs.declared.format.Format.{Format}
-use Rattle.wh_batch.specs.declared.kind.Kind.TheVariants.{Dimension, Sales}
+use Rattle.wh_batch.specs.declared.kind.Kind.TheVariants.{Dimension, Sales, Voids}
 use Rattle.wh_batch.proofs.GoodLemmas.{reads_batches}
-use Rattle.wh_history.specs.Accepted.{Accepted, Content, Governs, Describes, Sells, Upgrades, format_of, governed, policy_after, sold, sold_by}
+use Rattle.wh_history.specs.Accepted.{Accepted, Content, Governs, Describes, Sells, Upgrades, Withdraws, format_of, governed, policy_after, sold, sold_by}
 use Rattle.wh_history.specs.Tables.{Limits}
 use Rattle.wh_history.proofs.Joins.{all_append, all_weaker}
 use Rattle.wh_model.specs.Defined.{calendar_at, day_at}
 use Rattle.wh_model.specs.Sound.{making_of}
 use Rattle.wh_model.specs.Sound.{IsGoodSale}
-use Rattle.wh_admission.specs.Admission.{current_policy, of_batch, of_file, records_told, content_of, accepted_as, answer, with_content, after_answer, accepted_after, accepted_after_all}
+use Rattle.wh_admission.specs.Admission.{current_policy, of_batch, of_file, records_told, voids_told, content_of, accepted_as, answer, with_content, after_answer, accepted_after, accepted_after_all}
 use Rattle.wh_admission.specs.declared.command.Command.{Command}
 use Rattle.wh_batch.specs.declared.kind.CommandKind.{CommandKind}
 use Rattle.wh_batch.specs.declared.kind.CommandKind.TheVariants.{Batch, Migration, Upgrade}
@@ -105,6 +106,10 @@ module _ (commands : List Accepted) (c : Command) (within : IsWithinAll commands
   of_sales (Ok sales) content is e = subst (λ x. IsWithinAll (with_it x)) (ok_is _ _ e) (same_policy (Sells sales) refl (read_within (current_policy commands) (format_of commands) c.bytes sales is))
   of_sales (Err fault) content is e = absurd cc
 
+  of_voids : (r : Result (List VoidRecord) Refused) (content : Content) → (r >>= λ voids. Ok (Withdraws voids)) ≡ Ok content → IsWithinAll (with_it content)
+  of_voids (Ok voids) content e = subst (λ x. IsWithinAll (with_it x)) (ok_is _ _ e) (same_policy (Withdraws voids) refl tt)
+  of_voids (Err why) content e = absurd cc
+
   of_records : (dim : Dim) (r : Result (List DimensionRecord) Refused) (content : Content) → (r >>= λ records. Ok (Describes dim records)) ≡ Ok content → IsWithinAll (with_it content)
   of_records dim (Ok records) content e = subst (λ x. IsWithinAll (with_it x)) (ok_is _ _ e) (same_policy (Describes dim records) refl tt)
   of_records dim (Err why) content e = absurd cc
@@ -120,6 +125,7 @@ module _ (commands : List Accepted) (c : Command) (within : IsWithinAll commands
   of_kind : (kind : CommandKind) (content : Content) → content_of kind (format_of commands) (current_policy commands) c.bytes ≡ Ok content → IsWithinAll (with_it content)
   of_kind (Batch (Dimension dim)) content e = of_records dim (records_told dim (current_policy commands) c.bytes) content e
   of_kind (Batch Sales) content e = of_sales (sale_records (current_policy commands) (format_of commands) c.bytes) content refl e
+  of_kind (Batch Voids) content e = of_voids (voids_told (format_of commands) c.bytes) content e
   of_kind Migration content e = of_policy (policy_at c.bytes) content e
   of_kind Upgrade content e = subst (λ x. IsWithinAll (with_it x)) (ok_is _ _ e) (same_policy Upgrades refl tt)
 

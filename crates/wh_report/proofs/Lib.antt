@@ -26,3 +26,4 @@ pub mod SummedFacts
 pub mod ReadReports
 pub mod MappedRows
 pub mod ReportedHistory
+pub mod VoidedReports

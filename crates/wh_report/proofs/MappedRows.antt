@@ -9,7 +9,7 @@ use Rattle.std.specs.Option.{option_or}
 use Rattle.std.specs.Ordering.{eq_by_cmp, is_eq, nat_cmp}
 use Rattle.std.proofs.lemmas.Cmp.{nat_cmp_total}
 use Rattle.std.proofs.lemmas.List.Elements.{filter_map-append}
-use Rattle.wh_history.specs.Accepted.{Accepted, sold, format_of}
+use Rattle.wh_history.specs.Accepted.{Accepted, standing, format_of}
 use Rattle.wh_history.specs.Tables.{Limits, fact_of}
 use Rattle.wh_history.specs.declared.facts.Fact.{Fact}
 use Rattle.wh_history.proofs.Basics.{some_is}
@@ -162,15 +162,15 @@ module _ (counts : Fact → Option Sold) where
   none_of_empty [] none = refl
   none_of_empty (v ∷ vs) none = absurd (omega arith)
 
-  -- the facts of a table are those of the sales, in another order
-  pub sums_of_sales : (limits : Limits) (commands : List Accepted) (t : Tables) → AreOf limits commands t → IsDistinct same_line (sold commands) → summed (sums (values (facts_in (format_of commands) t))) ≡ summed (sums (map (fact_of commands) (sold commands)))
+  -- the facts of a table are those of the sales that stand, in another order
+  pub sums_of_sales : (limits : Limits) (commands : List Accepted) (t : Tables) → AreOf limits commands t → IsDistinct same_line (standing commands) → summed (sums (values (facts_in (format_of commands) t))) ≡ summed (sums (map (fact_of commands) (standing commands)))
   sums_of_sales limits commands t are once =
-      let facts = map (fact_of commands) (sold commands) in
-      let each = facts_once commands (sold commands) once in
+      let facts = map (fact_of commands) (standing commands) in
+      let each = facts_once commands (standing commands) once in
       let no_facts : FinMap row.line_cmp Fact = empty in
       let made = with_rows row.fact facts no_facts in
       let shows : (key : LineKey) → get (facts_in (format_of commands) t) key ≡ get made key = λ key.
-      facts_in_are limits commands t are (format_of commands) refl key ∙ sym (found_mapped commands key (sold commands)) ∙ sym (facts_put facts no_facts key each ∙ ap (option_or (find_first (has_line key) facts)) (get-empty row.line_cmp key) ∙ or_none (find_first (has_line key) facts)) in
+      facts_in_are limits commands t are (format_of commands) refl key ∙ sym (found_mapped commands key (standing commands)) ∙ sym (facts_put facts no_facts key each ∙ ap (option_or (find_first (has_line key) facts)) (get-empty row.line_cmp key) ∙ or_none (find_first (has_line key) facts)) in
       let none : values no_facts ≡ [] = none_of_empty (values no_facts) (sym (len-values row.line_cmp no_facts) ∙ len-empty row.line_cmp Fact) in
       ap (λ m. summed (sums (values m))) (same_map line_cmp_total line_cmp-IsAntisymmetric (facts_in (format_of commands) t) made shows)
       ∙ sums_put facts no_facts each (none_in_empty facts)

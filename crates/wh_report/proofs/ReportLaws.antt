@@ -16,7 +16,7 @@ use Rattle.wh_policy.specs.declared.attribute.Dim.{Dim}
 use Rattle.wh_policy.specs.declared.attribute.Dim.TheVariants.{Product, Store, Customer}
 use Rattle.wh_policy.specs.declared.policy.Policy.{Policy}
 use Rattle.wh_policy.specs.declared.record.SaleRecord.{SaleRecord}
-use Rattle.wh_history.specs.Accepted.{Accepted, policy_after, sold, types_in}
+use Rattle.wh_history.specs.Accepted.{Accepted, policy_after, sold, types_in, standing, withdrawn}
 use Rattle.wh_history.specs.Tables.{Limits, fact_of}
 use Rattle.wh_history.proofs.Basics.{some_is}
 use Rattle.wh_history.proofs.Joins.{all_weaker}
@@ -25,6 +25,7 @@ use Rattle.wh_model.specs.Sound.{IsAccepted, IsGoodSale}
 use Rattle.wh_model.proofs.Following.{Named, all_named}
 use Rattle.wh_plan.proofs.PlanProfiles.{types_are}
 use Rattle.wh_model.proofs.ValidFacts.{days}
+use Rattle.wh_history.proofs.Standing.{all_standing}
 use Rattle.wh_report.specs.Asked.{Asked}
 use Rattle.wh_report.specs.Counting.{counted}
 use Rattle.wh_report.specs.Defined.{AreDefined}
@@ -55,7 +56,7 @@ measures_are commands subject which (s ∷ sales) = ap (λ (ms : List Measured).
 
 pub totals_agree : TotalsAgree
 totals_agree commands subject which r =
-    subst (λ (ms : List Measured). EndsWith (report commands subject which r) (total_line ms)) (measures_are commands subject which (filter (λ (s : SaleRecord). is_asked_of r s.day) (sold commands)))
+    subst (λ (ms : List Measured). EndsWith (report commands subject which r) (total_line ms)) (measures_are commands subject which (filter (λ (s : SaleRecord). is_asked_of r s.day) (standing commands)))
     (ends_with_total r.words (mode_word r.mode) (day_text r.from) (day_text r.to) (sold_as_asked commands subject which r))
 
 -- ---- the labels
@@ -139,7 +140,7 @@ sales_labelled limits commands words mode subject which t ok dated reads are =
 
 pub facts_are_counted : FactsAreCounted
 facts_are_counted limits commands subject which r t labels ok dated reads are holds =
-    counted_as commands subject which r (text_of labels) (sold commands)
+    counted_as commands subject which r (text_of labels) (standing commands)
     (all_weaker (λ s. first_text (fact_key (column_of subject which) (fact_of commands s)) (labels_in (column_of subject which) t) ≡ Some (label commands subject which s)) (λ s. text_of labels (fact_key (column_of subject which) (fact_of commands s)) ≡ Some (label commands subject which s))
     (λ s has. holds.found (fact_key (column_of subject which) (fact_of commands s)) ∙ has)
-    (sold commands) (sales_labelled limits commands r.words r.mode subject which t ok dated reads are))
+    (standing commands) (all_standing (λ s. first_text (fact_key (column_of subject which) (fact_of commands s)) (labels_in (column_of subject which) t) ≡ Some (label commands subject which s)) (withdrawn commands) (sold commands) (sales_labelled limits commands r.words r.mode subject which t ok dated reads are)))

@@ -15,7 +15,7 @@ use Rattle.wh_policy.specs.declared.attribute.Dim.{Dim}
 use Rattle.wh_policy.specs.declared.attribute.Dim.TheVariants.{Product, Store, Customer}
 use Rattle.wh_policy.specs.declared.policy.Policy.{Policy}
 use Rattle.wh_policy.specs.declared.record.SaleRecord.{SaleRecord}
-use Rattle.wh_history.specs.Accepted.{Accepted, policy_after, sold, format_of}
+use Rattle.wh_history.specs.Accepted.{Accepted, policy_after, sold, format_of, standing, withdrawn}
 use Rattle.wh_history.specs.Tables.{Limits, dimension_row, fact_of}
 use Rattle.wh_history.specs.declared.facts.Fact.{Fact}
 use Rattle.wh_history.specs.declared.rows.DimRow.{DimRow}
@@ -46,7 +46,9 @@ use Rattle.wh_engine.specs.declared.fault.Fault.TheVariants as faults
 use Rattle.wh_engine.specs.declared.session.Session.{Session}
 use Rattle.wh_admission.proofs.Admitted.{admitted_sound}
 use Rattle.wh_engine.proofs.Decisions.{policy_in_force, sound_in_force}
-use Rattle.wh_engine.proofs.FoundFacts.{facts_counted}
+use Rattle.wh_history.proofs.Standing.{all_standing}
+use Rattle.wh_model.proofs.CountedLines.{facts_counted}
+use Rattle.wh_model.proofs.CountedSales.{standing_once, standing_counted}
 use Rattle.wh_report.specs.Asked.{Asked}
 use Rattle.wh_report.specs.Counting.{counted, sales_of, HasNoLabel}
 use Rattle.wh_report.specs.Defined.{AreRowsOf, AreDefined}
@@ -118,11 +120,11 @@ few_facts limits within =
     grind (arith, nat_tests)
 
 fact_keyed : (commands : List Accepted) (key : LineKey) (f : Fact) → fact_at commands key ≡ Some f → row.fact.key f ≡ key
-fact_keyed commands key f is = by_sale (find (on_line key) (sold commands)) refl is
+fact_keyed commands key f is = by_sale (find (on_line key) (standing commands)) refl is
   where
-    by_sale : (o : Option SaleRecord) → find (on_line key) (sold commands) ≡ o → option_map (fact_of commands) o ≡ Some f → row.fact.key f ≡ key
+    by_sale : (o : Option SaleRecord) → find (on_line key) (standing commands) ≡ o → option_map (fact_of commands) o ≡ Some f → row.fact.key f ≡ key
     by_sale None found is = absurd cc
-    by_sale (Some s) found is = ap row.fact.key (sym (some_is (fact_of commands s) f is)) ∙ line_is key (fact_of commands s) (find_passes (on_line key) s (sold commands) found)
+    by_sale (Some s) found is = ap row.fact.key (sym (some_is (fact_of commands s) f is)) ∙ line_is key (fact_of commands s) (find_passes (on_line key) s (standing commands) found)
 
 module _ (limits : Limits) (commands : List Accepted) (admitted : AreAdmitted limits commands) (t : Tables) (are : AreOf limits commands t) (r : Asked) (subject : Subject) (which : Reading) (names : subject_in (current_policy commands) r.words ≡ Some subject) (shows : reading_of subject r.mode ≡ Some which) where
   abbrev column : LabelColumn
@@ -137,13 +139,13 @@ module _ (limits : Limits) (commands : List Accepted) (admitted : AreAdmitted li
   abbrev IsLabelled : SaleRecord → Type 0
   IsLabelled s = text_at column t (fact_key column (fact_of commands s)) ≡ Some (label commands subject which s)
 
-  each_labelled : AllByRecursion IsLabelled (sold commands)
-  each_labelled = sales_labelled limits commands r.words r.mode subject which (label_rows column t) ok (admitted_sales_are_dated limits commands admitted) reads (defined limits commands t are column)
+  each_labelled : AllByRecursion IsLabelled (standing commands)
+  each_labelled = all_standing IsLabelled (withdrawn commands) (sold commands) (sales_labelled limits commands r.words r.mode subject which (label_rows column t) ok (admitted_sales_are_dated limits commands admitted) reads (defined limits commands t are column))
 
   told : text_asked r (sold_by_keys (format_of commands) r column t) ≡ report commands subject which r
   told =
-      same_text r (sold_by_keys (format_of commands) r column t) (filter_map (counted r column (text_at column t)) (map (fact_of commands) (sold commands))) (sums_of_sales (counted r column (text_at column t)) limits commands t are ok.lines)
-      ∙ ap (text_asked r) (counted_as commands subject which r (text_at column t) (sold commands) each_labelled)
+      same_text r (sold_by_keys (format_of commands) r column t) (filter_map (counted r column (text_at column t)) (map (fact_of commands) (standing commands))) (sums_of_sales (counted r column (text_at column t)) limits commands t are (standing_once limits commands ok))
+      ∙ ap (text_asked r) (counted_as commands subject which r (text_at column t) (standing commands) each_labelled)
 
   is_report : report_of commands r ≡ report commands subject which r
   is_report =
@@ -158,8 +160,8 @@ module _ (limits : Limits) (commands : List Accepted) (admitted : AreAdmitted li
       let each = each_under_key row.line_cmp line_cmp_total row.fact.key (fact_at commands) (fact_keyed commands) (facts_in (format_of commands) t) (facts_in_are limits commands t are (format_of commands) refl) in
       let stands = each_of (λ (f : Fact). fact_at commands (row.fact.key f) ≡ Some f) (values (facts_in (format_of commands) t)) f each from.there in
       let key : LineKey = row.fact.key f in
-      let made = made_of (fact_of commands) (find (on_line key) (sold commands)) f stands in
-      let has : IsLabelled made.0 = found_is IsLabelled (on_line key) (sold commands) made.0 each_labelled made.1 in
+      let made = made_of (fact_of commands) (find (on_line key) (standing commands)) f stands in
+      let has : IsLabelled made.0 = found_is IsLabelled (on_line key) (standing commands) made.0 each_labelled made.1 in
       let labelled : text_at column t (fact_key column f) ≡ Some (label commands subject which made.0) = ap (λ (f : Fact). text_at column t (fact_key column f)) made.2 ∙ has in
       let none : text_at column t (fact_key column f) ≡ None = subst (λ (s : KeyedSale). text_at column t s.key ≡ None) from.is lacks.none in
       cc
@@ -167,7 +169,8 @@ module _ (limits : Limits) (commands : List Accepted) (admitted : AreAdmitted li
   -- nor are there too many
   few : 4_294_967_295 ≤ length (values (facts_in (format_of commands) t)) → ⊥
   few many =
-      let counts = facts_counted commands limits t are (format_of commands) refl ok.lines in
+      let counts = facts_counted limits commands t are ok (format_of commands) refl in
+      let all = standing_counted limits commands ok in
       let same = len-values row.line_cmp (facts_in (format_of commands) t) in
       let most = few_facts limits ok.limited in
       let within = ok.facts_within in

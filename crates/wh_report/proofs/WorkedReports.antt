@@ -8,7 +8,7 @@ use Rattle.wh_policy.specs.declared.attribute.Dim.TheVariants.{Product, Store, C
 use Rattle.wh_policy.specs.declared.record.DimensionRecord.{DimensionRecord}
 use Rattle.wh_policy.specs.declared.record.SaleRecord.{SaleRecord}
 use Rattle.wh_policy.proofs.OnLiterals.{policy_on_literals}
-use Rattle.wh_history.specs.Accepted.{Accepted, Content, Governs, Describes, Sells}
+use Rattle.wh_history.specs.Accepted.{Accepted, Content, Governs, Describes, Sells, Withdraws}
 use Rattle.wh_report.specs.Asked.{Asked}
 use Rattle.wh_report.specs.Label.{report}
 use Rattle.wh_report.specs.Summary.{summed}
@@ -62,6 +62,10 @@ commands =
 abbrev later : List Accepted
 later = commands ++ accepted (codes "s4") (Sells (sale (codes "T4") 20240229 (codes "P1") None (pos 1) (pos 250) (pos 160) ∷ [])) ∷ []
 
+-- the line of a ticket is withdrawn
+abbrev withdrawn : List Accepted
+withdrawn = later ++ accepted (codes "v1") (Withdraws (record { ticket = codes "T1"; line = 1 } ∷ [])) ∷ []
+
 -- ---- what is asked for
 
 abbrev of_four_years : List ℕ → Mode → Asked
@@ -101,6 +105,15 @@ by_category_then : report later category AtSaleDay (of_four_years (codes "produc
     ++ codes "       4          5          20.00          13.40           6.60  total\n"
 unfolding policy_on_literals report_text heading summed summed_text line_text money hundredths aligned digits
 by_category_then = refl
+
+by_month_without_the_line : report withdrawn Month AtSaleDay (of_four_years (codes "date.month") Was)
+    ≡ codes "report date.month was 2023-01-01 2026-12-31\n" ++ titles
+    ++ codes "       1          1           2.50           1.60           0.90  2023-12\n"
+    ++ codes "       1          1           2.50           1.60           0.90  2024-02\n"
+    ++ codes "       1          1          10.00           7.00           3.00  2024-06\n"
+    ++ codes "       3          3          15.00          10.20           4.80  total\n"
+unfolding policy_on_literals report_text heading summed summed_text line_text money hundredths aligned digits
+by_month_without_the_line = refl
 
 by_category_now : report later category Latest (of_four_years (codes "product.category") Is)
     ≡ codes "report product.category is 2023-01-01 2026-12-31\n" ++ titles

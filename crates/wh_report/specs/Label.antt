@@ -6,7 +6,7 @@ use Rattle.wh_day.specs.Value.{no_card_text}
 use Rattle.wh_day.specs.declared.holiday.Holiday.{Holiday}
 use Rattle.wh_policy.specs.declared.attribute.Dim.{Dim}
 use Rattle.wh_policy.specs.declared.record.SaleRecord.{SaleRecord}
-use Rattle.wh_history.specs.Accepted.{Accepted, member_of, member_of_sale, policy_after, sold}
+use Rattle.wh_history.specs.Accepted.{Accepted, member_of, member_of_sale, policy_after, standing}
 use Rattle.wh_history.specs.Dated.{value_at, latest, original, prior}
 use Rattle.wh_history.specs.declared.member.Change.{Change}
 use Rattle.wh_report.specs.Asked.{Asked}
@@ -45,10 +45,14 @@ label commands (Attribute a) which s = member_label commands a.dim a.place s.day
 label commands Month which s = month_text s.day
 label commands HolidayOfSale which s = holiday_text (holidays_in commands) s.day
 
--- the sales that a report counts, in order of acceptance, with their labels
+-- those of some sales that are asked for, with their labels
+abbrev pub labelled : List Accepted → Subject → Reading → Asked → List SaleRecord → List Sold
+labelled commands subject which r sales =
+    map (λ s. record { label = label commands subject which s; measures = record { quantity = s.quantity; amount = s.amount; cost = s.cost } }) (filter (λ s. is_asked_of r s.day) sales)
+
+-- the sales that a report counts: those that stand, in order of acceptance
 abbrev pub sold_as_asked : List Accepted → Subject → Reading → Asked → List Sold
-sold_as_asked commands subject which r =
-    map (λ s. record { label = label commands subject which s; measures = record { quantity = s.quantity; amount = s.amount; cost = s.cost } }) (filter (λ s. is_asked_of r s.day) (sold commands))
+sold_as_asked commands subject which r = labelled commands subject which r (standing commands)
 
 -- the text that tells what some sales come to, in the words of the request
 abbrev pub text_asked : Asked → List Sold → List ℕ

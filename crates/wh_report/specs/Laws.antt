@@ -5,7 +5,8 @@ use Rattle.std.specs.declared.cmp.Ordering.TheVariants.{Less}
 use Rattle.wh_policy.specs.Written.{IsSound}
 use Rattle.wh_policy.specs.declared.policy.Policy.{Policy}
 use Rattle.wh_policy.specs.declared.record.SaleRecord.{SaleRecord}
-use Rattle.wh_history.specs.Accepted.{Accepted, policy_after, sold}
+use Rattle.wh_policy.specs.declared.record.VoidRecord.{VoidRecord}
+use Rattle.wh_history.specs.Accepted.{Accepted, Withdraws, policy_after, sold, standing, standing_but}
 use Rattle.wh_history.specs.Tables.{Limits, fact_of}
 use Rattle.wh_model.specs.Defined.{calendar_at}
 use Rattle.wh_model.specs.Sound.{IsAccepted}
@@ -14,7 +15,7 @@ use Rattle.wh_report.specs.Asked.{Asked}
 use Rattle.wh_report.specs.Counting.{counted}
 use Rattle.wh_report.specs.Defined.{AreDefined}
 use Rattle.wh_report.specs.Joined.{column_of, fact_key}
-use Rattle.wh_report.specs.Label.{label, sold_as_asked, report}
+use Rattle.wh_report.specs.Label.{label, labelled, sold_as_asked, report}
 use Rattle.wh_report.specs.Labels.{LabelRows, labels_in, first_text, text_of, AreLabels}
 use Rattle.wh_report.specs.Request.{is_asked_of}
 use Rattle.wh_report.specs.Subject.{subject_in, reading_of}
@@ -47,9 +48,9 @@ pub record EndsWith (text line : List ℕ) : Type 0 where
   pub front : List ℕ
   pub is : text ≡ front ++ line
 
--- the measures of the sales from one day to another
+-- the measures of the sales that stand, from one day to another
 abbrev pub measures_in : List Accepted → Asked → List Measured
-measures_in commands r = map (λ s. record { quantity = s.quantity; amount = s.amount; cost = s.cost }) (filter (λ s. is_asked_of r s.day) (sold commands))
+measures_in commands r = map (λ s. record { quantity = s.quantity; amount = s.amount; cost = s.cost }) (filter (λ s. is_asked_of r s.day) (standing commands))
 
 -- A report ends with the line that those come to: it is the same for every subject and reading.
 abbrev pub TotalsAgree : Type 0
@@ -77,7 +78,7 @@ LabelsByKeys = (limits : Limits) (commands : List Accepted) (words : List ℕ) (
 abbrev pub SalesAreDated : List Accepted → Type 0
 SalesAreDated commands = AllByRecursion (λ s. IsSome (calendar_at commands s.day)) (sold commands)
 
--- So what is counted of the facts are the sales that the history gives, each under its label.
+-- So what is counted of the facts are the sales that the history gives and that stand, each under its label.
 abbrev pub FactsAreCounted : Type 0
 FactsAreCounted = (limits : Limits) (commands : List Accepted) (subject : Subject) (which : Reading) (r : Asked) (t : LabelRows) (labels : List (ℕ × List ℕ))
     → IsAccepted limits commands
@@ -85,8 +86,14 @@ FactsAreCounted = (limits : Limits) (commands : List Accepted) (subject : Subjec
     → Reads commands r.words r.mode subject which
     → AreDefined commands (column_of subject which) t
     → AreLabels labels (labels_in (column_of subject which) t)
-    → filter_map (counted r (column_of subject which) (text_of labels)) (map (fact_of commands) (sold commands)) ≡ sold_as_asked commands subject which r
+    → filter_map (counted r (column_of subject which) (text_of labels)) (map (fact_of commands) (standing commands)) ≡ sold_as_asked commands subject which r
 
 -- And so it is of each list of commands that came about by admission: a batch of sales is read within the years of the policy in force, and no later policy loses a year.
 abbrev pub AdmittedSalesAreDated : Type 0
 AdmittedSalesAreDated = (limits : Limits) (commands : List Accepted) → AreAdmitted limits commands → SalesAreDated commands
+
+-- What reports no longer count after a batch of voids are the sales of its lines, and no others; the others keep their labels.
+abbrev pub VoidsTakeTheirSales : Type 0
+VoidsTakeTheirSales = (commands : List Accepted) (c : Accepted) (lines : List VoidRecord) (subject : Subject) (which : Reading) (r : Asked)
+    → c.content ≡ Withdraws lines
+    → sold_as_asked (commands ++ c ∷ []) subject which r ≡ labelled commands subject which r (standing_but lines (standing commands))

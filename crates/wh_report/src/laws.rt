@@ -4,7 +4,7 @@ ghost use Rattle.std.specs.Prelude.{◌≡◌, ℕ, List, bytes_eq};
 ghost use Rattle.std.specs.List.{list_any};
 ghost use Rattle.std.specs.List.Sorted.{IsPermutation};
 ghost use Rattle.wh_report.specs.Summary.{Sold, labels, summed};
-ghost use Rattle.wh_report.specs.Laws.{Rise, TotalsAgree, LabelsByKeys, FactsAreCounted, AdmittedSalesAreDated};
+ghost use Rattle.wh_report.specs.Laws.{Rise, TotalsAgree, LabelsByKeys, FactsAreCounted, AdmittedSalesAreDated, VoidsTakeTheirSales};
 
 /// Over one range the line of the total is the same for every attribute and mode: it is made from the measures of the
 /// range's sales alone.
@@ -33,4 +33,10 @@ pub fn labels_by_keys()
 /// The calendar has the day of each sale of a list of commands that came about by admission.
 pub fn sales_are_dated()
     ensures { AdmittedSalesAreDated }
+{}
+
+/// After a batch of voids a report counts the sales that it counted before, without those of the withdrawn lines; each
+/// other keeps its label.
+pub fn voids_take_their_sales()
+    ensures { VoidsTakeTheirSales }
 {}

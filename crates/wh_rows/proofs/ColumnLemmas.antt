@@ -230,7 +230,7 @@ any_text text [] all h = absurd (cc)
 any_text text (t ∷ ts) all h = elim (either (bytes_eq text t) _ h) [ inl same ↦ ap is_utf8 (same_bytes text t same) ∙ ascii_text t all.0 | inr later ↦ any_text text ts all.1 later ]
 
 pub kind_text : (text : List ℕ) → is_kind text ≡ true → is_utf8 text ≡ true
-kind_text text h = any_text text kinds (refl, (refl, (refl, (refl, (refl, (refl, (refl, tt))))))) h
+kind_text text h = any_text text kinds (refl, (refl, (refl, (refl, (refl, (refl, (refl, (refl, tt)))))))) h
 
 pub natural_text : (dim : Dim) (surrogate : ℕ) (text : List ℕ) → is_natural dim surrogate text ≡ true → is_utf8 text ≡ true
 unfolding no_card_text

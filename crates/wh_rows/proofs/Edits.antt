@@ -1,10 +1,11 @@
 -- What a statement that writes makes of a table.
-use Rattle.std.proofs.Common.{◌≡◌, ◌≢◌, ◌⊎◌, inl, inr, ℕ, ℤ, List, [], ◌∷◌, filter, slice_get, Bool, true, false, not, cond, ◌&&◌, ◌||◌, None, Some, Ok, Err, Option, Result, refl, sym, ap, subst, subst₂, ◌∙◌, Equal}
+use Rattle.std.proofs.Common.{◌≡◌, ◌≢◌, ◌⊎◌, inl, inr, ℕ, ℤ, List, [], ◌∷◌, filter, length, slice_get, Bool, true, false, not, cond, ◌&&◌, ◌||◌, None, Some, Ok, Err, Option, Result, refl, sym, ap, subst, subst₂, ◌∙◌, Equal}
 use Rattle.std.specs.List.{AllByRecursion, list_any}
 use Rattle.std.specs.List.Sorted.{IsPermutation}
 use Rattle.std.specs.Ordering.{is_eq}
 use Rattle.std.proofs.lemmas.Bool.{cases_Bool, both_ways}
-use Rattle.std.proofs.lemmas.List.Sorted.{list_any-IsPermutation, IsPermutation-map}
+use Rattle.std.proofs.lemmas.List.{length-map}
+use Rattle.std.proofs.lemmas.List.Sorted.{list_any-IsPermutation, IsPermutation-map, length_permutation}
 use Rattle.sqlite_value.specs.Order.{Row, value_cmp}
 use Rattle.sqlite_value.specs.declared.value.Value.TheVariants.{Int}
 use Rattle.sqlite_value.proofs.OrderLemmas.{value_cmp_total}
@@ -12,11 +13,12 @@ use Rattle.std.proofs.lemmas.Cmp.{tied_itself}
 use Rattle.sqlite_trees.specs.Tree.{Trees, rowid, has_rowid, without_rowid}
 use Rattle.sqlite.specs.Term.{Term, col}
 use Rattle.sqlite.specs.Query.{Output}
+use Rattle.sqlite.specs.Program.{IsProgramAnswer}
 use Rattle.sqlite.specs.Table.{Table}
 use Rattle.sqlite.specs.Command.TheVariants.{Delete}
 use Rattle.sqlite_schema.specs.declared.program.Program.{Program}
 use Rattle.sqlite_rules.specs.Lists.{Has}
-use Rattle.sqlite_rules.specs.Edit.{id_in, without_all, edit_of, taken_by}
+use Rattle.sqlite_rules.specs.Edit.{id_in, without_all, edit_of, row_at, taken_by}
 use Rattle.sqlite_rules.specs.Calls.{ids_of}
 use Rattle.sqlite_rules.specs.Action.{works}
 use Rattle.sqlite_rules.specs.declared.error.Rowids.TheVariants.{Given}
@@ -120,6 +122,10 @@ task_for limit mode params db table = record { limit = limit; keys = mode.keys; 
 pub concluded : (task : Task) (mode : Mode) (w : Written) (tally : Tally) (after : Database) → Concludes task mode None w (Ok (tally, after)) → after ≡ record { schema = task.schema; trees = w.trees }
 concluded task mode w tally after h = ap (λ (p : Tally × Database). p.1) (same_value (went (went h).2).2)
 
+-- as many rows changed as it wrote
+many_concluded : (task : Task) (mode : Mode) (w : Written) (tally : Tally) (after : Database) → Concludes task mode None w (Ok (tally, after)) → tally.rows ≡ Some (length w.rows)
+many_concluded task mode w tally after h = ap (λ (p : Tally × Database). p.0.rows) (same_value (went (went h).2).2)
+
 -- ---- DELETE
 
 -- nothing but the rows of this table differs
@@ -132,6 +138,13 @@ module _ (limit : Option ℕ) (mode : Mode) (params : Row) (db : Database) (text
   abbrev task : Task
   task = task_for limit mode params db table
 
+  -- the rowids that are taken are those of the rows that pass
+  gone : (tests : List Term) (rows : List Row) → IsProgramAnswer [] (reading table.tree tests (col 1 0 ∷ []) []) db.trees params rows → IsPermutation (ids_of (filter (passes params tests) (db.trees table.tree))) (ids_of rows)
+  gone tests rows shown =
+      let answer = is_read db.trees params table.tree tests (col 1 0 ∷ []) [] rows shown in
+      let id : Output → ℤ = λ o. id_in (rowid o.1) in
+      subst₂ IsPermutation (map-map id _ _) (sym (map-map (λ r. id_in (rowid r)) _ answer.ordered) ∙ ap ids_of (sym answer.shown)) (IsPermutation-map id _ answer.ordered answer.same)
+
   deletes : (tests : List Term) (w : Written) → IsRising (db.trees table.tree)
       → Deletes task (record { lets = []; body = reading table.tree tests (col 1 0 ∷ []) [] }) db.trees (Ok w)
       → ChangesOnly table db (record { schema = db.schema; trees = w.trees }) × (w.trees table.tree ≡ filter (λ r. not (passes params tests r)) (db.trees table.tree))
@@ -140,13 +153,9 @@ module _ (limit : Option ℕ) (mode : Mode) (params : Row) (db : Database) (text
       let edit = edit_of db.trees table (ids_of read.0) Given 0 [] in
       let next = went read.2 in
       let made = one_step db.schema mode.keys db.trees next.0 edit (idle (taken_by db.trees edit) []) next.1 in
-      let answer = is_read db.trees params table.tree tests (col 1 0 ∷ []) [] read.0 read.1.answer in
-      let is : w.trees ≡ next.0 = ap (λ (w : Written). w.trees) (same_value next.2) in
-      let id : Output → ℤ = λ o. id_in (rowid o.1) in
-      let ids : IsPermutation (ids_of (filter (passes params tests) (db.trees table.tree))) (ids_of read.0) =
-      subst₂ IsPermutation (map-map id _ _) (sym (map-map (λ r. id_in (rowid r)) _ answer.ordered) ∙ ap ids_of (sym answer.shown)) (IsPermutation-map id _ answer.ordered answer.same) in (
+      let is : w.trees ≡ next.0 = ap (λ (w : Written). w.trees) (same_value next.2) in (
         record { schema = refl; others = subst (λ (trees : Trees). AllByRecursion (λ t. t.tree ≢ table.tree → trees t.tree ≡ db.trees t.tree) db.schema.tables) (sym is) made.tables },
-        ap (λ (trees : Trees). trees table.tree) is ∙ made.rows ∙ without_passing (passes params tests) (db.trees table.tree) (ids_of read.0) rising ids,
+        ap (λ (trees : Trees). trees table.tree) is ∙ made.rows ∙ without_passing (passes params tests) (db.trees table.tree) (ids_of read.0) rising (gone tests read.0 read.1.answer),
       )
 
   pub deleted : (tests : List Term) → IsRising (db.trees table.tree)
@@ -158,3 +167,18 @@ module _ (limit : Option ℕ) (mode : Mode) (params : Row) (db : Database) (text
       let left = concluded task mode wrote.0 tally after wrote.2 in
       let done = deletes tests wrote.0 rising wrote.1 in
       subst (λ (d : Database). ChangesOnly table db d × (d.trees table.tree ≡ filter (λ r. not (passes params tests r)) (db.trees table.tree))) (sym left) done
+
+  taken : (tests : List Term) (w : Written) → Deletes task (record { lets = []; body = reading table.tree tests (col 1 0 ∷ []) [] }) db.trees (Ok w)
+      → length w.rows ≡ length (filter (passes params tests) (db.trees table.tree))
+  taken tests w h =
+      let read = went h in
+      let next = went read.2 in
+      ap (λ (w : Written). length w.rows) (same_value next.2) ∙ length-map (ids_of read.0) (row_at (db.trees table.tree)) ∙ length_permutation _ _ (gone tests read.0 read.1.answer) ∙ length-map (filter (passes params tests) (db.trees table.tree)) (λ r. id_in (rowid r))
+
+  -- it answers how many rows passed
+  pub deleted_many : (tests : List Term) → Does limit mode params db text None (Delete at (record { lets = []; body = reading table.tree tests (col 1 0 ∷ []) [] })) (Ok (tally, after))
+      → tally.rows ≡ Some (length (filter (passes params tests) (db.trees table.tree)))
+  deleted_many tests h =
+      let program : Program = record { lets = []; body = reading table.tree tests (col 1 0 ∷ []) [] } in
+      let wrote = went (subst (λ place. AtPlace (λ table. OnRows (task_for limit mode params db table) mode None (Delete at program) db.trees) place (Ok (tally, after))) has h) in
+      many_concluded task mode wrote.0 tally after wrote.2 ∙ ap Some (taken tests wrote.0 wrote.1)

@@ -6,6 +6,7 @@ pub mod Typed
 pub mod Maps
 pub mod Puts
 pub mod Removes
+pub mod Clears
 pub mod Selects
 pub mod Raw
 pub mod RawTables

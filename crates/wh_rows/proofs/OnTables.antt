@@ -4,7 +4,7 @@ use Rattle.std.specs.Prelude.{IsTrue}
 use Rattle.std.specs.List.{list_all, AllByRecursion, take-map}
 use Rattle.std.specs.Ordering.{eq_by_cmp}
 use Rattle.std.specs.Option.{option_to_list}
-use Rattle.std.specs.FinMap.{FinMap, entries, values, get, insert, remove, len}
+use Rattle.std.specs.FinMap.{FinMap, empty, entries, values, get, insert, remove, len}
 use Rattle.sqlite.specs.Order.{Row}
 use Rattle.sqlite.specs.State.{State, Executes, IsUnchanged, Survives, Shown, CommitsShowing, ExecutesIn, IsNotRun, IsRolledBack, shows_rows}
 use Rattle.sqlite_rules.specs.Lists.{Has}
@@ -33,11 +33,13 @@ use Rattle.wh_rows.proofs.Puts.{holds_put, was_free, is_moved}
 use Rattle.wh_rows.specs.Rows as row
 use Rattle.wh_policy.specs.Formats.{is_two}
 use Rattle.wh_rows.specs.Rekey.{Rekey, rekey_text, bind_rekey, are_keys, with_keys, rekeyed, rekey2_text}
-use Rattle.wh_rows.proofs.EachTable.Facts.{rekey, valid_rekeyed}
+use Rattle.wh_rows.specs.Texts.{clear_facts}
+use Rattle.wh_rows.proofs.EachTable.Facts.{rekey, clear, valid_rekeyed}
 use Rattle.wh_rows.proofs.EachTable.Facts2.{valid_rekeyed2}
 use Rattle.wh_rows.proofs.Places as places
 use Rattle.wh_rows.proofs.Puts
 use Rattle.wh_rows.proofs.Removes
+use Rattle.wh_rows.proofs.Clears
 
 -- a statement that is refused leaves all as it was, unless the store failed, and then the transaction is undone
 pub stays_or_undone : (text : List ℕ) (params : Row) (old new : State) (e : Error) → Executes text params old new (Err e) → IsUnchanged old new ⊎ IsRolledBack old new
@@ -216,3 +218,12 @@ pub fact2_rekeyed : (old new : State) (t : Tables) → Stores old.now t → is_t
 fact2_rekeyed old new t stored there moves r keys count ran =
     row_moved row.fact2 (λ t. t.fact2) (λ m t. record t { fact2 = m }) places.fact2 rekey2_text old new t stored there bind_rekey (λ r. r.0) with_keys moves r
     (λ f is. valid_rekeyed2 r f keys (valid_at row.fact2 (λ t. t.fact2) (λ m t. record t { fact2 = m }) places.fact2 old t stored r.0 f is)) count ran
+
+-- no fact of the first format is left, and the answer is how many there were
+pub facts_cleared : (old new : State) (t : Tables) → Stores old.now t → (count : ℕ) → Executes clear_facts [] old new (Ok count) → (count ≡ len t.fact) × Stores new.now (record t { fact = empty })
+facts_cleared old new t stored count ran =
+    let rise = places.fact.rising old.now t stored refl in
+    let gone = Clears.leaves row.fact clear_facts (clear t.format) old new count stored.schema rise ran in (
+      Clears.counts_cleared row.fact clear_facts (clear t.format) old new count stored.schema rise ran t.fact stored.fact,
+      places.fact.changed old.now new.now t empty refl gone (Clears.holds_cleared row.fact clear_facts (clear t.format) old new count stored.schema rise ran) stored,
+    )

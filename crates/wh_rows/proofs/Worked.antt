@@ -189,6 +189,10 @@ upgrade : is_kind (codes "upgrade") ≡ true
 unfolding rows_on_literals
 upgrade = refl
 
+voids : is_kind (codes "void") ≡ true
+unfolding rows_on_literals
+voids = refl
+
 no_kind : is_kind (codes "fact") ≡ false
 unfolding rows_on_literals
 no_kind = refl
@@ -272,7 +276,7 @@ id_of_forty : command_of (Int (pos 5) ∷ Text (replicate 41 65) ∷ Text (codes
 unfolding rows_on_literals
 id_of_forty = refl
 
-kind_of_none : command_of (Int (pos 5) ∷ Text (codes "s1") ∷ Text (codes "void") ∷ Blob (codes "x") ∷ Int (pos 2) ∷ Int (pos 1) ∷ []) ≡ damaged
+kind_of_none : command_of (Int (pos 5) ∷ Text (codes "s1") ∷ Text (codes "voids") ∷ Blob (codes "x") ∷ Int (pos 2) ∷ Int (pos 1) ∷ []) ≡ damaged
 unfolding rows_on_literals
 kind_of_none = refl
 

@@ -122,6 +122,13 @@ pub record RemovesOne {K V : Type 0} (under : Schema) (layout : Layout K V) (bin
   pub hits : (k : K) (r : Row) → passes (bind k) tests r ≡ test k (values_of layout.table r)
   pub agree : (k : K) (w : V) → test k (layout.encode w) ≡ eq_by_cmp layout.order k (layout.key w)
 
+-- what a text has to mean, to take out all rows
+pub record RemovesAll {K V : Type 0} (under : Schema) (layout : Layout K V) (text : List ℕ) : Type 0 where
+  pub at : ℕ
+  pub table : IsPlainTable under at layout.table
+  pub command : command_of (understood under text) ≡ Delete at (record { lets = []; body = reading layout.table.tree [] (col 1 0 ∷ []) [] })
+  pub plain : IsPlain (understood under text)
+
 -- what a text has to mean, to change the row of a key, if it has one, to what the parameters make of it
 pub record MovesOne {K V P : Type 0} (under : Schema) (layout : Layout K V) (bind : P → Row) (key : P → K) (moved : P → V → V) (text : List ℕ) : Type 0 where
   pub at : ℕ

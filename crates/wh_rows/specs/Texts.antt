@@ -121,6 +121,12 @@ void = record {
   count = codes "SELECT count(*) FROM void";
 }
 
+-- ---- what else is written
+
+-- no fact of the first format stays
+abbrev pub clear_facts : List ℕ
+clear_facts = codes "DELETE FROM fact"
+
 -- ---- what else is asked
 
 -- the last command that gives a policy

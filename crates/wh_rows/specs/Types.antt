@@ -25,9 +25,9 @@ is_measure most n = nat_le (unsigned_abs n) most
 abbrev pub is_discount : ℕ → Bool
 is_discount n = nat_le n 999999999
 
--- what a command can be: the making of the warehouse, a new policy, an upgrade, or a batch of sales or for a dimension
+-- what a command can be: the making of the warehouse, a new policy, an upgrade, or a batch of sales, of voids or for a dimension
 abbrev pub kinds : List (List ℕ)
-kinds = codes "init" ∷ codes "migrate" ∷ codes "upgrade" ∷ codes "sales" ∷ map word_of every_dim
+kinds = codes "init" ∷ codes "migrate" ∷ codes "upgrade" ∷ codes "sales" ∷ codes "void" ∷ map word_of every_dim
 
 abbrev pub is_kind : List ℕ → Bool
 is_kind text = list_any (bytes_eq text) kinds

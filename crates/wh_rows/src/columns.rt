@@ -181,7 +181,8 @@ pub(crate) fn key(
 fn is_kind(text: &str) -> bool
     ensures { result ≡ is_kind text.now }
 {
-    matches!(text, "init" | "migrate" | "upgrade" | "sales") || Dim::from_word(text).is_some()
+    matches!(text, "init" | "migrate" | "upgrade" | "sales" | "void")
+        || Dim::from_word(text).is_some()
 }
 
 /// What a command is.

@@ -23,7 +23,7 @@ pub struct CommandRow {
     pub number: u64,
     /// What the sender calls it, which no two commands share.
     pub id: Value,
-    /// `init`, `migrate`, `product`, `store`, `customer` or `sales`.
+    /// `init`, `migrate`, `upgrade`, `product`, `store`, `customer`, `sales` or `void`.
     pub kind: Value,
     /// The policy or the batch, as it came.
     pub bytes: Bytes,

@@ -14,4 +14,5 @@ pub mod restarts;
 pub mod sales;
 pub mod stops;
 pub mod upgrades;
+pub mod voids;
 pub mod worked;

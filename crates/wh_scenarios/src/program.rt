@@ -7,4 +7,5 @@ pub mod deliveries;
 pub mod reports;
 pub mod trials;
 pub mod upgrades;
+pub mod voids;
 pub mod warehouses;

@@ -1,6 +1,6 @@
 -- What putting a row and taking one out make of a transaction.
 use Rattle.std.proofs.Common.{◌≡◌, ◌≢◌, ◌⊎◌, inl, inr, Bool, ℕ, List, [], ◌∷◌, length, true, false, Some, Ok, Err, Result, IfOk, IfErr, Option, refl, sym, subst, ◌∙◌}
-use Rattle.std.specs.FinMap.{FinMap, insert, remove}
+use Rattle.std.specs.FinMap.{FinMap, empty, insert, len, remove}
 use Rattle.sqlite.specs.Order.{Row}
 use Rattle.std.specs.List.{AllByRecursion, list_all}
 use Rattle.std.proofs.lemmas.Bool.{both_ways}
@@ -26,12 +26,13 @@ use Rattle.wh_rows.specs.Rekey.{Rekey, rekey_text, bind_rekey, are_keys, rekeyed
 use Rattle.wh_history.specs.declared.facts.Fact.{Fact}
 use Rattle.wh_rows.specs.Rows as row
 use Rattle.wh_rows.specs.Inserting.{facts_at_once, insert_text, bind_facts, insert2_text, bind_facts2, BreaksRule}
-use Rattle.wh_rows.proofs.EachTable.Facts.{rekey}
+use Rattle.wh_rows.specs.Texts.{clear_facts}
+use Rattle.wh_rows.proofs.EachTable.Facts.{rekey, clear}
 use Rattle.wh_rows.proofs.EachTable.Facts2.{rekey2_in}
 use Rattle.wh_rows.proofs.FactBatches.InsertedFacts2.{inserts_in, facts2_inserted}
 use Rattle.wh_rows.proofs.Formats.{second_is}
 use Rattle.wh_rows.proofs.FactBatches.InsertedFacts.{inserts, facts_inserted, refused_stays}
-use Rattle.wh_rows.proofs.OnTables.{row_put, key_removed, fact_rekeyed, fact2_rekeyed}
+use Rattle.wh_rows.proofs.OnTables.{row_put, key_removed, fact_rekeyed, fact2_rekeyed, facts_cleared}
 use Rattle.wh_rows.specs.Steps.{with_rows}
 use Rattle.wh_sql.specs.Facts.{rekeying, with_rekeyed, HasRun, IsNotPut}
 use Rattle.wh_sql.proofs.Inside.{leaves_inside, stays_inside, writes_on, has_tables}
@@ -81,6 +82,16 @@ module _ (params : Row) (old new : State) (before : Option Tables) (t : Tables) 
   -- the transaction has given the fact of a line other keys
   pub rekeys_on : (count : ℕ) → Executes rekey_text params old new (Ok count) → (r : Rekey) → params ≡ bind_rekey r → IsTrue (are_keys r.1) → IsWriting before (Some (record t { fact = rekeyed r t.fact })) new
   rekeys_on count ran r is keys = makes rekey_text params old new before t at clean survives _ (rekey t.format).command (rekey t.format).plain tt count ran _ (fact_rekeyed old new t at.now.tables r keys count (rw is at ran))
+
+module _ (old new : State) (before : Option Tables) (t : Tables) (at : IsWriting before (Some t) old) (clean : HasCleanDisk new) (survives : Survives old new (CommitsBy clear_facts [] old)) where
+  pub clear_leaves : Leaves before new
+  clear_leaves = leaves clear_facts [] old new before t at clean survives _ (clear t.format).command (clear t.format).plain tt
+
+  -- the transaction has taken out all facts of the first format, of which there were so many
+  pub clears_on : (count : ℕ) → Executes clear_facts [] old new (Ok count) → (count ≡ len t.fact) × IsWriting before (Some (record t { fact = empty })) new
+  clears_on count ran =
+      let cleared = facts_cleared old new t at.now.tables count ran in
+      (cleared.0, makes clear_facts [] old new before t at clean survives _ (clear t.format).command (clear t.format).plain tt count ran _ cleared.1)
 
 module _ (params : Row) (old new : State) (before : Option Tables) (t : Tables) (at : IsWriting before (Some t) old) (clean : HasCleanDisk new) (survives : Survives old new (CommitsBy insert_text params old)) where
   pub insert_leaves : Leaves before new

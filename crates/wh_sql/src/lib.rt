@@ -32,4 +32,4 @@ pub use read::{all, count, get};
 pub use scanned::{PagedTable, PartStatements};
 pub use schema::{add_second, create, has_second, has_second_name, has_tables, has_taken_name};
 pub use tally::{FactAggregate, tally_facts};
-pub use write::{put, rekey, remove};
+pub use write::{clear_facts, put, rekey, remove};

@@ -1,12 +1,13 @@
 //! Writing one row of a table, inside a transaction.
 
-ghost use Rattle.std.specs.Prelude.{◌≡◌, ◌≢◌, ◌≤◌, false, Option, Some, Err, IsTrue, IfErr, OnOk};
-ghost use Rattle.std.specs.FinMap.{insert, remove};
+ghost use Rattle.std.specs.Prelude.{◌≡◌, ◌≢◌, ◌≤◌, [], false, Option, Some, Err, IsTrue, IfOk, IfErr, OnOk};
+ghost use Rattle.std.specs.FinMap.{empty, insert, len, remove};
 ghost use Rattle.sqlite.specs.Held.{state};
 ghost use Rattle.sqlite.specs.State.{HasCleanDisk};
 ghost use Rattle.wh_rows.specs.declared.cause.Cause.TheVariants.{Memory, Disk};
 ghost use Rattle.wh_rows.specs.Tables.{Tables};
 ghost use Rattle.wh_rows.specs.Rekey.{bind_rekey, are_keys};
+ghost use Rattle.wh_rows.specs.Texts as texts;
 ghost use Rattle.wh_rows.specs.AtRest.{IsWriting, Leaves, IsCauseOf};
 ghost use Rattle.wh_sql.specs.Facts.{rekeying, with_rekeyed};
 
@@ -102,4 +103,22 @@ pub fn rekey<S: Alter>(
     let values = line_and_keys(alloc, line, keys)?;
     conn.execute(rekeying(format), &values)?;
     Ok(())
+}
+
+/// Takes out all facts of the first format, and answers how many there were. Outside a transaction it is refused.
+pub fn clear_facts<S: Alter>(conn: &mut Connection<S>) -> Result<u64, Cause>
+    ensures clean { HasCleanDisk (state S.Store conn.new) → HasCleanDisk (state S.Store conn.old) }
+    ensures counts { (state S.Store conn.old).faults ≤ (state S.Store conn.new).faults }
+    ensures cleared { HasCleanDisk (state S.Store conn.new) → (before : Option Tables) (made : Tables) → IsWriting before (Some made) (state S.Store conn.old)
+        → IfOk result (λ count. (count ≡ len made.fact) × IsWriting before (Some (record made { fact = empty })) (state S.Store conn.new)) }
+    ensures left { HasCleanDisk (state S.Store conn.new) → (before : Option Tables) (made : Tables) → IsWriting before (Some made) (state S.Store conn.old) → Leaves before (state S.Store conn.new) }
+    ensures cause { HasCleanDisk (state S.Store conn.new) → IsTrue (state S.Store conn.old).in_transaction
+        → IfErr result (IsCauseOf texts.clear_facts [] (state S.Store conn.old) (state S.Store conn.new)) }
+    ensures late { conn.old.in_transaction ≡ false → (result ≡ Err Disk) × (conn.new ≡ conn.old) }
+{
+    if conn.is_autocommit() {
+        return Err(Cause::Disk);
+    }
+    let count = conn.execute("DELETE FROM fact", &[])?;
+    Ok(count as u64)
 }

@@ -8,6 +8,5 @@ pub mod ScanningStored
 pub mod InMemory
 pub mod Faithful
 pub mod Absent
-pub mod Upgraded
 pub mod FormatFacts
 mod FormatFaults

@@ -1,7 +1,7 @@
 //! Edits that are kept together, or not at all.
 
 ghost use Rattle.std.specs.Prelude.{◌≡◌, ◌≢◌, ◌⊎◌, ◌+◌, ◌<◌, ◌≤◌, [], pos, codes, map, Option, None, Some, IsTrue, IfOk, IfErr, OnOk, length, ⊤, false, Err, if◌then◌else◌};
-ghost use Rattle.std.specs.FinMap.{insert, remove};
+ghost use Rattle.std.specs.FinMap.{empty, insert, len, remove};
 ghost use Rattle.std.specs.List.{AllByRecursion};
 ghost use Rattle.sqlite.specs.Held.{state};
 ghost use Rattle.sqlite.specs.State.{HasCleanDisk, Survives};
@@ -37,7 +37,9 @@ use wh_history::{Edit, Fact, FactKeys};
 use wh_policy::Format;
 use wh_rows::tables::Meta;
 use wh_rows::{Cause, Limits, LineKey};
-use wh_sql::{KeyedTable, add_second, create, insert_facts, insert_facts2, put, rekey, remove};
+use wh_sql::{
+    KeyedTable, add_second, clear_facts, create, insert_facts, insert_facts2, put, rekey, remove,
+};
 
 /// Puts facts of a format in that aren't there yet, sixteen in one statement, or none of them.
 fn insert<S: Alter>(
@@ -168,6 +170,24 @@ impl<'t, S: Alter> Writing<'t, S> {
         self.writes = writes;
         self.refused = refused;
         Ok(())
+    }
+
+    /// Takes out all facts of the first format, and answers how many there were.
+    pub fn clear_facts(&mut self) -> Result<u64, Cause>
+        ensures same_reference { self.new.tables.ghost_name ≡ self.old.tables.ghost_name }
+        ensures writes { WritesOnly (state_of S.Store self.old.tables.now) (state_of S.Store self.new.tables.now) ⊤ }
+        ensures cleared { HasCleanDisk (state_of S.Store self.new.tables.now) → (before : Option TypedTables) (made : TypedTables) → IsWriting before (Some made) (state_of S.Store self.old.tables.now)
+            → IfOk result (λ count. (count ≡ len made.fact) × IsWriting before (Some (record made { fact = empty })) (state_of S.Store self.new.tables.now)) }
+        ensures cause { HasCleanDisk (state_of S.Store self.new.tables.now) → (before : Option TypedTables) (made : TypedTables) → IsWriting before (Some made) (state_of S.Store self.old.tables.now) → self.old.writes + len made.fact ≤ u64.MAX
+            → IfErr result (IsCauseOf texts.clear_facts [] (state_of S.Store self.old.tables.now) (state_of S.Store self.new.tables.now)) }
+        ensures counted { IfOk result (λ count. self.new.writes ≡ self.old.writes + count) }
+        ensures noted { NotesRefusals self.old.refused self.new.refused result }
+    {
+        let refused = replace(&mut self.refused, true);
+        let count = clear_facts(&mut self.tables.conn)?;
+        self.writes = self.and(count)?;
+        self.refused = refused;
+        Ok(count)
     }
 
     /// Puts facts in that aren't there yet, sixteen in one statement. Where there are not sixteen of them, or one of their lines is taken, also by

@@ -43,7 +43,7 @@ ticket good 'a'; 'abcdefghijklmnop-_.9'; 'AZ09'
 ticket bad ''; 'abcdefghijklmnop-_.99'; 'T 1'; 'é'; '(none)'; CAST(x'ff' AS TEXT); x'54'
 ticket other 5; 1.5; NULL; x'41'
 kind good 'init'; 'migrate'; 'product'; 'store'; 'customer'; 'sales'
-kind bad ''; 'sale'; 'Sales'; 'sales '; 'void'; CAST(x'ff' AS TEXT); x'73616c6573'
+kind bad ''; 'sale'; 'Sales'; 'sales '; 'voids'; CAST(x'ff' AS TEXT); x'73616c6573'
 kind other 5; 1.5; NULL; x'41'
 bytes good x''; x'00'; x'ff0a'
 bytes bad 'text'; ''; 5; 1.5

@@ -2,7 +2,7 @@
 
 use crate::held::Writes;
 use crate::questions::answer;
-use crate::rows::{columns_of, edit_table, push_number_line, rekey};
+use crate::rows::{clear, columns_of, edit_table, push_number_line, rekey};
 use crate::trouble::Trouble;
 use crate::words::{Step, push_answer, push_number};
 use crate::writing::put_past;
@@ -27,6 +27,7 @@ pub fn on_database<S: Alter>(
         "status" => status(conn, out),
         "past" => put_past(alloc, conn, out),
         "rekey" => rekey(alloc, conn, Format::One, step.rest),
+        "clear" => clear(conn, out),
         "put" | "row" | "remove" => edit_table(alloc, conn, step),
         _ => answer(alloc, conn, step, out),
     }

@@ -15,12 +15,13 @@
 //! - `sql SQL` runs it, `bound SQL` runs it with the values that it is handed as its parameters, `number SQL` tells the number that it answers.
 //! - `create` makes the ten tables. `status` tells whether they are there, and whether a transaction is under way.
 //! - `put ROW`, `remove TABLE KEY`; `row TABLE KEY TEXT` puts the only row of a member, and `past` a row whose key is too big;
-//!   `rekey TICKET LINE STORE PRODUCT CUSTOMER PROFILE` gives a fact these keys.
+//!   `rekey TICKET LINE STORE PRODUCT CUSTOMER PROFILE` gives a fact these keys; `clear` takes out all facts of the first format, and
+//!   tells how many there were.
 //! - `make` and `open` take it for a new warehouse, and for one that is there. A warehouse is handed back by `close`.
 //!
 //! On a warehouse:
 //! - `write` makes the edits that it is handed in one transaction, and keeps them if the last one is `commit`. Edits are `put`, `row`, `remove`,
-//!   `past` and `rekey`, as above; `rekey2`, the same of the second format, and `insert2 COUNT TICKET VALUES`, so many facts of it at
+//!   `past`, `rekey` and `clear`, as above; `rekey2`, the same of the second format, and `insert2 COUNT TICKET VALUES`, so many facts of it at
 //!   once, on the lines 1, 2 and so on, with these values for the other columns, which tells whether they went in;
 //!   `make COMMANDS CHANGES FACTS`, which makes the tables for these limits; `rows 1 Cola, 2 Tea`,
 //!   `edit 1 Cola` and `edits 1 Cola, 2` for products, of which those with no text go; `days FIRST PAST` for the days of a calendar;

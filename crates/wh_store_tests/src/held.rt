@@ -109,6 +109,8 @@ pub trait Writes {
         line: &LineKey,
         keys: &FactKeys,
     ) -> Result<(), Cause>;
+
+    fn clear_facts(&mut self) -> Result<u64, Cause>;
 }
 
 impl<S: Alter> Writes for Connection<S> {
@@ -129,6 +131,10 @@ impl<S: Alter> Writes for Connection<S> {
     ) -> Result<(), Cause> {
         wh_sql::rekey(alloc, self, format, line, keys)
     }
+
+    fn clear_facts(&mut self) -> Result<u64, Cause> {
+        wh_sql::clear_facts(self)
+    }
 }
 
 impl<S: Alter> Writes for Writing<'_, S> {
@@ -148,5 +154,9 @@ impl<S: Alter> Writes for Writing<'_, S> {
         keys: &FactKeys,
     ) -> Result<(), Cause> {
         Writing::rekey_fact(self, alloc, format, line, keys)
+    }
+
+    fn clear_facts(&mut self) -> Result<u64, Cause> {
+        Writing::clear_facts(self)
     }
 }

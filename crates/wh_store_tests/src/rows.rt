@@ -221,6 +221,11 @@ pub fn rekey<W: Writes>(
     Ok(writes.rekey_fact(alloc, format, &line, &keys)?)
 }
 
+/// Takes out all facts of the first format, and tells how many there were.
+pub fn clear<W: Writes>(writes: &mut W, out: &mut String) -> Result<(), Trouble> {
+    push_number_line(out, writes.clear_facts()?)
+}
+
 fn fact_keys(words: &str) -> Result<FactKeys, Trouble> {
     let (store, words) = parted(words, ' ');
     let (product, words) = parted(words, ' ');

@@ -8,7 +8,7 @@ use sqlite::Alter;
 use std::alloc::{AllocError, Global};
 use wh_day::Value;
 use wh_history::{Edit, Fact};
-use wh_rows::{FactColumn, KeyedSale, LineKey, MetaRow, tables};
+use wh_rows::{FactColumn, KeyedSale, MetaRow, tables};
 use wh_scenarios::parted;
 use wh_store::{FactAggregate, Format, Tables, Writing};
 
@@ -21,16 +21,14 @@ fn put_format<S: Alter>(alloc: Global, writing: &mut Writing<'_, S>) -> Result<(
     Ok(writing.put::<tables::Meta>(alloc, &row)?)
 }
 
-/// Takes facts out of the first format and puts them, with no discount, into the second.
+/// Takes all facts out of the first format and puts them, with no discount, into the second.
 fn carry<S: Alter>(
     alloc: Global,
     writing: &mut Writing<'_, S>,
     facts: Vec<Fact>,
 ) -> Result<(), Trouble> {
+    writing.clear_facts()?;
     for fact in facts {
-        let ticket = fact.ticket.copy()?;
-        let line = fact.line;
-        writing.edit_fact(alloc, Format::One, &Edit::Remove(LineKey { ticket, line }))?;
         writing.edit_fact(alloc, Format::Two, &Edit::Put(fact))?;
     }
     Ok(())

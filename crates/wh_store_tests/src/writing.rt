@@ -4,7 +4,7 @@ use crate::calendar::put_days;
 use crate::facts::edit as edit_fact;
 use crate::held::Writes;
 use crate::opening::limits_of;
-use crate::rows::{edit_table, member_values, rekey, row_of};
+use crate::rows::{clear, edit_table, member_values, rekey, row_of};
 use crate::second::insert;
 use crate::trouble::Trouble;
 use crate::words::{Step, number, push_count, push_trouble};
@@ -90,6 +90,7 @@ fn make_edit<S: Alter>(
         "past" => put_past(alloc, writing, out),
         "rekey" => rekey(alloc, writing, Format::One, rest),
         "rekey2" => rekey(alloc, writing, Format::Two, rest),
+        "clear" => clear(writing, out),
         "insert2" => insert(alloc, writing, rest, out),
         "fact" => edit_fact(alloc, writing, rest),
         "commit" | "drop" => Ok(()),

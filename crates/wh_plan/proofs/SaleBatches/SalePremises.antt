@@ -1,5 +1,5 @@
 -- What holds of a batch of sales, where the list with it is one that can have been accepted.
-use Rattle.std.proofs.Common.{◌≡◌, suc, ◌≤◌, ◌||◌, Bool, false, List, [], ◌∷◌, ◌++◌, length, Option, Some, None, refl, sym, ap, ◌∙◌, subst, arith}
+use Rattle.std.proofs.Common.{◌≡◌, suc, ◌≤◌, ◌||◌, Bool, false, List, [], ◌∷◌, ◌++◌, length, refl, sym, ap, ◌∙◌, subst, arith}
 use Rattle.std.specs.Prelude.{is_some, filter_map}
 use Rattle.std.specs.List.{AllByRecursion, IsDistinct, list_any}
 use Rattle.std.proofs.lemmas.List.{length-map}
@@ -8,13 +8,16 @@ use Rattle.wh_policy.specs.declared.record.SaleRecord.{SaleRecord}
 use Rattle.wh_history.specs.declared.plan.Edit.TheVariants.{Put}
 use Rattle.wh_history.specs.Accepted.{Accepted, Sells, anchors, members, placeholders_by, sold}
 use Rattle.wh_history.specs.Tables.{Limits}
-use Rattle.wh_plan.specs.BatchRows.{new_members}
-use Rattle.wh_model.specs.Defined.{fact_at, member_at}
+use Rattle.wh_history.proofs.Basics.{or_none}
+use Rattle.wh_rows.specs.declared.key.LineKey.{LineKey}
+use Rattle.wh_plan.specs.BatchRows.{IsNewLine, new_members}
+use Rattle.wh_model.specs.Defined.{fact_at, member_at, void_at}
 use Rattle.wh_plan.specs.Edits.{Edits, AreEdits}
 use Rattle.wh_model.specs.Sound.{same_line, IsAccepted}
 use Rattle.wh_plan.proofs.BatchPlans.{members_are}
+use Rattle.wh_plan.proofs.MovedLists.{is_absent}
 use Rattle.wh_plan.proofs.SaleBatches.SalesEdits.{members_joined, all_counted}
-use Rattle.wh_model.proofs.SameLines.{line_stored}
+use Rattle.wh_model.proofs.SameLines.{line_known}
 use Rattle.wh_plan.proofs.SaleBatches.Selling.{sold_more}
 use Rattle.wh_model.proofs.SmallNumbers.{anchors_few, members_few}
 
@@ -43,16 +46,14 @@ unfolding IsDistinct
 none_before same [] ys once = none_of_none same ys
 none_before same (x ∷ xs) ys once = none_of_more same x xs ys (all_after (λ y. same x y ≡ false) xs ys once.0) (none_before same xs ys once.1)
 
--- ---- a line that no sale has stands in no fact
+-- ---- a line that was not sold is new
 
-is_absent : {X : Type 0} (o : Option X) → is_some o ≡ false → o ≡ None
-is_absent None h = refl
-is_absent (Some x) h = absurd cc
-
-each_absent : (commands : List Accepted) (sales : List SaleRecord) → AllByRecursion (λ s. list_any (λ t. same_line t s) (sold commands) ≡ false) sales
-    → AllByRecursion (λ s. fact_at commands (record { ticket = s.ticket; line = s.line }) ≡ None) sales
-each_absent commands [] new = tt
-each_absent commands (s ∷ sales) new = (is_absent (fact_at commands (record { ticket = s.ticket; line = s.line })) (line_stored commands s ∙ new.0), each_absent commands sales new.1)
+each_new : (limits : Limits) (commands : List Accepted) → IsAccepted limits commands → (sales : List SaleRecord) → AllByRecursion (λ s. list_any (λ t. same_line t s) (sold commands) ≡ false) sales → AllByRecursion (IsNewLine commands) sales
+each_new limits commands before [] new = tt
+each_new limits commands before (s ∷ sales) new =
+    let line : LineKey = record { ticket = s.ticket; line = s.line } in
+    let neither = or_none (is_some (fact_at commands line)) (is_some (void_at commands line)) (sym (line_known commands s limits before) ∙ new.0) in
+    ((is_absent (fact_at commands line) neither.0, is_absent (void_at commands line) neither.1), each_new limits commands before sales new.1)
 
 module _ (limits : Limits) (commands : List Accepted) (c : Accepted) (ok : IsAccepted limits (commands ++ c ∷ [])) where
   all_distinct : (sales : List SaleRecord) → c.content ≡ Sells sales → IsDistinct same_line (sold commands ++ sales)
@@ -61,8 +62,8 @@ module _ (limits : Limits) (commands : List Accepted) (c : Accepted) (ok : IsAcc
   pub lines_distinct : (sales : List SaleRecord) → c.content ≡ Sells sales → IsDistinct same_line sales
   lines_distinct sales is = distinct_after same_line (sold commands) sales (all_distinct sales is)
 
-  pub lines_absent : (sales : List SaleRecord) → c.content ≡ Sells sales → AllByRecursion (λ s. fact_at commands (record { ticket = s.ticket; line = s.line }) ≡ None) sales
-  lines_absent sales is = each_absent commands sales (none_before same_line (sold commands) sales (all_distinct sales is))
+  pub lines_new : IsAccepted limits commands → (sales : List SaleRecord) → c.content ≡ Sells sales → AllByRecursion (IsNewLine commands) sales
+  lines_new before sales is = each_new limits commands before sales (none_before same_line (sold commands) sales (all_distinct sales is))
 
   pub numbers_small : (dim : Dim) → (length (members dim (commands ++ c ∷ [])) ≤ 9999999) × (length (anchors dim (commands ++ c ∷ [])) ≤ 9999999)
   numbers_small dim = (let few = members_few limits (commands ++ c ∷ []) ok dim in omega arith, let few = anchors_few limits (commands ++ c ∷ []) ok dim in omega arith)

@@ -1,6 +1,6 @@
 -- What a batch of sales leaves as it was, and the facts that it brings.
 use Rattle.std.proofs.Common.{◌≡◌, ℕ, ◌<◌, ◌==◌, Bool, true, false, cond, ◌&&◌, List, [], ◌∷◌, ◌++◌, map, Some, None, refl, sym, ◌∙◌, ap, subst, append-nil}
-use Rattle.std.specs.Prelude.{◌≢◌, bytes_eq, find, filter, option_map}
+use Rattle.std.specs.Prelude.{◌≢◌, bytes_eq, find, filter, is_some, option_map}
 use Rattle.std.specs.List.{AllByRecursion, list_any}
 use Rattle.std.specs.Option.{option_or}
 use Rattle.std.proofs.lemmas.Bool.{and_parts, eqb-true}
@@ -11,7 +11,7 @@ use Rattle.wh_policy.specs.declared.attribute.Dim.{Dim}
 use Rattle.wh_policy.specs.declared.attribute.Dim.TheVariants.{Product, Store, Customer}
 use Rattle.wh_policy.specs.declared.record.DimensionRecord.{DimensionRecord}
 use Rattle.wh_policy.specs.declared.record.SaleRecord.{SaleRecord}
-use Rattle.wh_history.specs.Accepted.{Accepted, Anchor, Sells, same_anchor, opening_of, day_of, described_by, described, sold_by, sold, mentions, durable_key, surrogate_key, change_of, changes_of, member_of, types_in, profiles_of}
+use Rattle.wh_history.specs.Accepted.{Accepted, Anchor, Sells, same_anchor, opening_of, day_of, described_by, described, sold_by, sold, withdrawn_by, withdrawn, withdraws_line, standing_but, standing, mentions, durable_key, surrogate_key, change_of, changes_of, member_of, types_in, profiles_of}
 use Rattle.wh_history.specs.Dated.{at, dated}
 use Rattle.wh_history.specs.Facts.{key_in}
 use Rattle.wh_history.specs.Laws.{governs}
@@ -21,17 +21,19 @@ use Rattle.wh_history.specs.Tables.{member_rows, key_at, profile_at, fact_of}
 use Rattle.wh_history.proofs.Growth.{durable_stays, surrogate_stays}
 use Rattle.wh_history.proofs.Joins.{Told, told_in_all}
 use Rattle.wh_history.proofs.Places.{place-distinct_given, anchors_decide}
+use Rattle.wh_history.proofs.Standing.{all_stand, all_standing, standing-last}
 use Rattle.wh_history.proofs.Stays.{types-last}
 use Rattle.wh_history.proofs.Untouched.{described-last}
 use Rattle.wh_rows.specs.Rows as row
 use Rattle.wh_rows.specs.declared.key.LineKey.{LineKey}
 use Rattle.wh_model.specs.Defined.{fact_at}
 use Rattle.wh_plan.specs.Laws.{SalesAreFacts}
-use Rattle.wh_plan.specs.BatchRows.{has_line}
+use Rattle.wh_plan.specs.BatchRows.{IsNewLine, has_line}
 use Rattle.wh_model.proofs.Following.{Named, all_named, durable_kept, customer_kept}
 use Rattle.wh_model.proofs.GrownChanges.{natural_among}
 use Rattle.wh_plan.proofs.GrownFacts.{found_mapped, facts_once, or_none}
 use Rattle.wh_model.proofs.GrownKeys.{found_is, map_same}
+use Rattle.wh_model.proofs.SameLines.{void_stored}
 
 module _ (commands : List Accepted) (c : Accepted) (sales : List SaleRecord) (is : c.content ≡ Sells sales) where
   abbrev after : List Accepted
@@ -45,6 +47,9 @@ module _ (commands : List Accepted) (c : Accepted) (sales : List SaleRecord) (is
       flat_map-append (λ (d : Accepted). sold_by d.content) commands (c ∷ [])
       ∙ ap (λ ss. sold commands ++ ss) (append-nil (sold_by c.content))
       ∙ ap (λ content. sold commands ++ sold_by content) is
+
+  unvoided : withdrawn_by c.content ≡ []
+  unvoided = ap withdrawn_by is
 
   described_kept : (dim : Dim) → described dim after ≡ described dim commands
   described_kept dim = described-last dim commands c ∙ ap (λ content. described dim commands ++ described_by dim content) is ∙ append-nil (described dim commands)
@@ -121,37 +126,49 @@ module _ (commands : List Accepted) (c : Accepted) (sales : List SaleRecord) (is
       let parts = and_parts (bytes_eq s.ticket key.ticket) (s.line == key.line) h in
       rw ((bytes_eq-Decides s.ticket key.ticket).0 parts.0, eqb-true s.line key.line parts.1) refl
 
-  none_new : (key : LineKey) (old : SaleRecord) (ss : List SaleRecord) → find (on_line key) (sold commands) ≡ Some old → AllByRecursion (λ s. fact_at commands (line_of s) ≡ None) ss → find (on_line key) ss ≡ None
+  none_new : (key : LineKey) (old : SaleRecord) (ss : List SaleRecord) → find (on_line key) (standing commands) ≡ Some old → AllByRecursion (IsNewLine commands) ss → find (on_line key) ss ≡ None
   none_new key old [] found new = refl
   none_new key old (s ∷ ss) found new =
       elim (on_line key s) as (λ b. (on_line key s ≡ b) → cond b (Some s) (find (on_line key) ss) ≡ None) [
         | true ↦ λ h.
-            let none : fact_at commands key ≡ None = subst (λ k. fact_at commands k ≡ None) (line_is key s h) new.0 in
+            let none : fact_at commands key ≡ None = subst (λ k. fact_at commands k ≡ None) (line_is key s h) new.0.0 in
             let some : fact_at commands key ≡ Some (fact_of commands old) = ap (option_map (fact_of commands)) found in
             absurd cc
         | false ↦ λ _. none_new key old ss found new.1
       ] refl
 
-  facts_lead : AllByRecursion (λ s. fact_at commands (line_of s) ≡ None) sales → (key : LineKey) → option_or (find (has_line key) (map (fact_of after) sales)) (fact_at commands key) ≡ fact_at after key
+  -- a line that is new was not withdrawn
+  each_stands : (ss : List SaleRecord) → AllByRecursion (IsNewLine commands) ss → AllByRecursion (λ s. withdraws_line s.ticket s.line (withdrawn commands) ≡ false) ss
+  each_stands [] new = tt
+  each_stands (s ∷ ss) new = (sym (void_stored commands (line_of s)) ∙ ap is_some new.0.1, each_stands ss new.1)
+
+  standing_more : AllByRecursion (IsNewLine commands) sales → standing after ≡ standing commands ++ sales
+  standing_more new =
+      standing-last commands c unvoided
+      ∙ ap (λ content. standing commands ++ standing_but (withdrawn commands) (sold_by content)) is
+      ∙ ap (λ ss. standing commands ++ ss) (all_stand (withdrawn commands) sales (each_stands sales new))
+
+  facts_lead : AllByRecursion (IsNewLine commands) sales → (key : LineKey) → option_or (find (has_line key) (map (fact_of after) sales)) (fact_at commands key) ≡ fact_at after key
   facts_lead new key =
-      let whole : fact_at after key ≡ option_map (fact_of after) (option_or (find (on_line key) (sold commands)) (find (on_line key) sales)) =
-      ap (λ ss. option_map (fact_of after) (find (on_line key) ss)) sold_more ∙ ap (option_map (fact_of after)) (find-append (on_line key) (sold commands) sales) in
+      let whole : fact_at after key ≡ option_map (fact_of after) (option_or (find (on_line key) (standing commands)) (find (on_line key) sales)) =
+      ap (λ ss. option_map (fact_of after) (find (on_line key) ss)) (standing_more new) ∙ ap (option_map (fact_of after)) (find-append (on_line key) (standing commands) sales) in
       ap (λ o. option_or o (fact_at commands key)) (found_mapped after key sales)
-      ∙ elim (find (on_line key) (sold commands)) as (λ o. (find (on_line key) (sold commands) ≡ o) → option_or (option_map (fact_of after) (find (on_line key) sales)) (option_map (fact_of commands) o) ≡ option_map (fact_of after) (option_or o (find (on_line key) sales))) [
+      ∙ elim (find (on_line key) (standing commands)) as (λ o. (find (on_line key) (standing commands) ≡ o) → option_or (option_map (fact_of after) (find (on_line key) sales)) (option_map (fact_of commands) o) ≡ option_map (fact_of after) (option_or o (find (on_line key) sales))) [
         | None ↦ λ none. or_none (option_map (fact_of after) (find (on_line key) sales))
         | Some old ↦ λ some.
-            let kept = fact_kept old (found_is (Named commands) (on_line key) (sold commands) old (all_named commands) some) in
+            let named = all_standing (Named commands) (withdrawn commands) (sold commands) (all_named commands) in
+            let kept = fact_kept old (found_is (Named commands) (on_line key) (standing commands) old named some) in
             ap (λ o. option_or (option_map (fact_of after) o) (Some (fact_of commands old))) (none_new key old sales some new) ∙ ap Some (sym kept)
       ] refl
       ∙ sym whole
 
-  pub facts_new : (ss : List SaleRecord) → AllByRecursion (λ s. fact_at commands (record { ticket = s.ticket; line = s.line }) ≡ None) ss → AllByRecursion (λ f. fact_at commands (row.fact.key f) ≡ None) (map (fact_of (commands ++ c ∷ [])) ss)
+  pub facts_new : (ss : List SaleRecord) → AllByRecursion (IsNewLine commands) ss → AllByRecursion (λ f. fact_at commands (row.fact.key f) ≡ None) (map (fact_of (commands ++ c ∷ [])) ss)
   facts_new [] new = tt
-  facts_new (s ∷ ss) new = (new.0, facts_new ss new.1)
+  facts_new (s ∷ ss) new = (new.0.0, facts_new ss new.1)
 
-  facts_needed : (ss : List SaleRecord) → AllByRecursion (λ s. fact_at commands (line_of s) ≡ None) ss → AllByRecursion (λ f. fact_at commands (row.fact.key f) ≢ Some f) (map (fact_of after) ss)
+  facts_needed : (ss : List SaleRecord) → AllByRecursion (IsNewLine commands) ss → AllByRecursion (λ f. fact_at commands (row.fact.key f) ≢ Some f) (map (fact_of after) ss)
   facts_needed [] new = tt
-  facts_needed (s ∷ ss) new = (λ there. let none : fact_at commands (line_of s) ≡ None = new.0 in absurd cc, facts_needed ss new.1)
+  facts_needed (s ∷ ss) new = (λ there. let none : fact_at commands (line_of s) ≡ None = new.0.0 in absurd cc, facts_needed ss new.1)
 
 pub sales_are_facts : SalesAreFacts
 sales_are_facts commands c sales is new distinct = record {

@@ -5,10 +5,10 @@ ghost use Rattle.std.specs.List.{AllByRecursion, IsDistinct};
 ghost use Rattle.wh_policy.specs.Written.{IsSound};
 ghost use Rattle.wh_policy.specs.declared.attribute.Dim.TheVariants.{Product, Store, Customer};
 ghost use Rattle.wh_history.specs.Accepted.{Accepted, Sells, format_of, placeholders_by, policy_after};
-ghost use Rattle.wh_model.specs.Defined.{command_at, fact_at};
+ghost use Rattle.wh_model.specs.Defined.{command_at};
 ghost use Rattle.wh_model.specs.Sound.{IsAccepted, same_line};
 ghost use Rattle.wh_plan.specs.SoldMembers.{IsSoldDimension};
-ghost use Rattle.wh_plan.specs.BatchRows.{AreBatchRows};
+ghost use Rattle.wh_plan.specs.BatchRows.{AreBatchRows, IsNewLine};
 ghost use Rattle.wh_plan.specs.Edits.{AreEdits};
 ghost use Rattle.wh_store.specs.Reads.{ReadsOnly, state_of};
 ghost use Rattle.wh_plan.specs.Reads.{Finds};
@@ -39,7 +39,7 @@ fn rows_of_sales(
     requires customers { length customers.keys.items ≡ length sales.now }
     ensures { (commands : List Accepted) (c : Accepted) → c.content ≡ Sells sales.now
         → IsSoldDimension Product commands (commands ++ c ∷ []) sales.now products → IsSoldDimension Store commands (commands ++ c ∷ []) sales.now stores → IsSoldDimension Customer commands (commands ++ c ∷ []) sales.now customers
-        → AllByRecursion (λ s. fact_at commands (record { ticket = s.ticket; line = s.line }) ≡ None) sales.now → IsDistinct same_line sales.now
+        → AllByRecursion (IsNewLine commands) sales.now → IsDistinct same_line sales.now
         → command_at (commands ++ c ∷ []) (suc (length commands)) ≡ Some (record command { placeholders = placeholders_by (commands ++ c ∷ []) (suc (length commands)) c.content })
         → IfOk result (AreBatchRows commands c) }
 {
@@ -74,7 +74,7 @@ pub fn plan_sales<S: Alter>(
     sales: &[SaleRecord],
 ) -> Result<Edits, ReadFault>
     ensures reads { ReadsOnly (state_of S.Store tables.old) (state_of S.Store tables.new) result }
-    ensures edits { Finds (state_of S.Store tables.old) (state_of S.Store tables.new) (λ limits commands. terms.now.format ≡ format_of commands → (c : Accepted) → IsAccepted limits (commands ++ c ∷ []) → c.content ≡ Sells sales.now → policy_after None commands ≡ Some terms.now.policy.now → IsSound terms.now.policy.now
+    ensures edits { Finds (state_of S.Store tables.old) (state_of S.Store tables.new) (λ limits commands. IsAccepted limits commands → terms.now.format ≡ format_of commands → (c : Accepted) → IsAccepted limits (commands ++ c ∷ []) → c.content ≡ Sells sales.now → policy_after None commands ≡ Some terms.now.policy.now → IsSound terms.now.policy.now
         → command_at (commands ++ c ∷ []) (suc (length commands)) ≡ Some (record command { placeholders = placeholders_by (commands ++ c ∷ []) (suc (length commands)) c.content }) → IfOk result (AreEdits commands (commands ++ c ∷ []))) }
     // Whatever is stored, a command that is planned writes its own row.
     ensures own { IfOk result (λ edits. length edits.commands ≡ 1) }

@@ -13,7 +13,7 @@ use wh_history::{DimRow, Edit, Fact};
 use wh_plan::{Edits, FactEdit};
 use wh_rows::{
     ChangeKey, ChangeRow, CommandRow, LineKey, MemberKey, MemberRow, MetaRow, ProfileRow, Table,
-    dim_number,
+    VoidRow, dim_number,
 };
 
 pub fn push_number(text: &mut Vec<u8>, number: u64) -> Result<(), AllocError>
@@ -176,6 +176,16 @@ impl Keyed for Fact {
     }
 }
 
+impl Keyed for VoidRow {
+    ghost use Rattle.wh_rows.specs.Rows.{void};
+
+    ghost words = { λ r. line_words (void.key r) };
+
+    fn push_key(&self, text: &mut Vec<u8>) -> Result<(), AllocError> {
+        push_line_key(text, &self.ticket, self.line)
+    }
+}
+
 /// A line: what is done, the table, and the key of the row.
 fn push_line<K: Keyed>(
     text: &mut Vec<u8>,
@@ -260,14 +270,15 @@ fn push_dimensions(text: &mut Vec<u8>, edits: &Edits) -> Result<(), AllocError>
     push_edits(text, Table::Customer, &edits.customers)
 }
 
-/// The lines of profile, calendar, fact and fact2.
+/// The lines of profile, calendar, fact, fact2 and void.
 fn push_facts(text: &mut Vec<u8>, edits: &Edits) -> Result<(), AllocError>
     ensures { OnOk result (text.new.items ≡ text.old.items ++ facts_text edits.now) }
 {
     push_edits(text, Table::Profile, &edits.profiles)?;
     push_edits(text, Table::Calendar, &edits.calendar)?;
     push_fact_edits(text, Table::Fact, &edits.facts)?;
-    push_fact_edits(text, Table::Fact2, &edits.facts2)
+    push_fact_edits(text, Table::Fact2, &edits.facts2)?;
+    push_edits(text, Table::Void, &edits.voids)
 }
 
 /// How many edits there are, in all tables.
@@ -285,6 +296,7 @@ fn count(edits: &Edits) -> u128
         + edits.calendar.len() as u128
         + edits.facts.len() as u128
         + edits.facts2.len() as u128
+        + edits.voids.len() as u128
 }
 
 /// The line of how many edits there are.

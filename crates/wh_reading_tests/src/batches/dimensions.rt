@@ -100,7 +100,7 @@ long customer 1000000 \xEF\xBB\xBFid,day,tier
 long customer 1000001 \xEF\xBB\xBFid,day,tier
 = 0 TooLarge
 
-either store S1,2024-01-05,Oslo\n
+any store S1,2024-01-05,Oslo\n
 = of a dimension 1
 made customer
 = C9 19000101|

@@ -14,6 +14,10 @@ manifest \xEF\xBB\xBFproduct,p1,p1.csv\r\n\r\nsales,s1,s1.csv\r\n
 = sales s1 s1.csv
 manifest \n\nproduct,p1,p1.csv\n\n
 = product p1 p1.csv
+manifest sales,s1,s1.csv\nvoid,v1,v1.csv\nstore,o1,o1.csv
+= sales s1 s1.csv
+= void v1 v1.csv
+= store o1 o1.csv
 
 # Quotes, blanks, and an id and a path that are anything.
 manifest "product","p ""1""","first, one.csv"\nsales, s1,s 1.csv\nstore,,o1.csv
@@ -45,6 +49,10 @@ manifest product,p1,p1.csv\n\n\nsales,s1,s1.csv\n""
 manifest Product,p1,p1.csv
 = 1 is none
 manifest product ,p1,p1.csv
+= 1 is none
+manifest void,v1,v1.csv\nvoids,v2,v2.csv
+= 2 is none
+manifest Void,v1,v1.csv
 = 1 is none
 manifest product,p1,p1.csv\n\ninit,i1,i1.toml
 = 2 is none

@@ -134,10 +134,10 @@ batch discounted ticket,line,day,store,product,customer,quantity,amount,cost,dis
 = no record
 batch sales ticket,line,day,store,product,customer,quantity,amount,cost,discount
 = 0 WrongHeader
-either discounted T5,1,2024-07-05,S1,P1,C9,2,5.00,3.20,0.5
+any discounted T5,1,2024-07-05,S1,P1,C9,2,5.00,3.20,0.5
 = of sales 1
 
-either sales T1,1,2024-01-05,S1,P1,,1,1,1
+any sales T1,1,2024-01-05,S1,P1,,1,1,1
 = of sales 1
 many sales 4999 T4999,1,2024-01-05,S1,P1,,1,1,1
 = of sales 5000

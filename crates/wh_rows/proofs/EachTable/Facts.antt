@@ -36,7 +36,7 @@ use Rattle.wh_rows.specs.Keys.{bind_line, stands_at_line}
 use Rattle.wh_rows.specs.Questions.{at_least, at_most, durable_of, is_sale_between}
 use Rattle.wh_policy.specs.declared.attribute.Dim.{Dim}
 use Rattle.wh_policy.specs.declared.attribute.Dim.TheVariants.{Product, Store, Customer}
-use Rattle.wh_rows.specs.Meaning.{command_of, same_rowid, PutsOne, MovesOne, RemovesOne, ReadsSome, CountsAll}
+use Rattle.wh_rows.specs.Meaning.{command_of, same_rowid, PutsOne, MovesOne, RemovesOne, RemovesAll, ReadsSome, CountsAll}
 use Rattle.wh_rows.specs.Raw.{ReadsStored}
 use Rattle.wh_rows.specs.Rekey.{Rekey, rekey_text, bind_rekey, are_keys, with_keys}
 use Rattle.wh_rows.proofs.Cast.{cast_row_own}
@@ -156,6 +156,15 @@ remove format = record {
   test = λ k r. equal Binary (column r 0) (Text k.ticket) && (equal Binary (column r 1) (Int (pos k.line)) && true);
   hits = λ k r. refl;
   agree = λ k w. ap₂ ◌&&◌ (equal-Text w.ticket k.ticket) (and-true _ ∙ equal-Nat w.line k.line) ∙ sym (then_eq (slice_cmp nat_cmp k.ticket w.ticket) (nat_cmp k.line w.line));
+}
+
+pub clear : (format : Format) → RemovesAll (schema_in format) row.fact texts.clear_facts
+unfolding understood everything
+clear format = record {
+  at = 9;
+  table = record { has = refl; uncounted = refl; unstamped = refl; idle = nothing_works format _ };
+  command = refl;
+  plain = (refl, refl);
 }
 
 -- ---- read, in order of key

@@ -25,6 +25,12 @@ load p1 BadDay 1
 load p1 LineThere 2
 = refused: E6 line there, record 2
 = status 2
+load v1 NoLine 3
+= refused: E6 no line, record 3
+= status 2
+load v1 NotInFormat 0
+= refused: E3 batch, B10 not in format, record 0
+= status 2
 
 # Full warehouses.
 load p1 Full Commands

@@ -10,7 +10,7 @@ read command 5, 's1', 'sales', x'00ff', 2, 1
 = command 5, 's1', 'sales', x'00ff', 2, 1
 read command 5, 's 1', 'sales', x'00', 2, 1
 = damaged command
-read command 5, 's1', 'void', x'00', 2, 1
+read command 5, 's1', 'voids', x'00', 2, 1
 = damaged command
 read member 3, 1, 'C9', 1
 = member 3, 1, 'C9', 1

@@ -1,4 +1,4 @@
-//! The second format: made of the first, and its facts.
+//! The second format: made of the first, and its facts; and the facts of the first taken out.
 
 pub const UPGRADED: &str = "
 # All facts go into the second format, and all else stays.
@@ -170,6 +170,12 @@ write
 = refused disk
 = 0 written
 = refused disk
+write
+> fact 1 remove T1 1
+> commit
+= 1 written
+facts 1 count
+= 0
 
 # Where one of its names is taken there is no upgrade, and all stays.
 opens CREATE TABLE void (x)
@@ -186,6 +192,41 @@ count fact
 = 1
 get meta format
 = meta 'format', 1
+";
+
+pub const CLEARED: &str = "
+# All facts of the first format go at once, and are so many keys written; rows of other tables stay, and a fact can be put again.
+warehouse
+write
+> row store 1 Bern
+> put fact 'T1', 1, 20240610, 1, 1, 0, 1, 1, 0, 0, 2, 300, 200
+> put fact 'T1', 2, 20240611, 1, 1, 0, 1, 1, 0, 0, -1, -150, -100
+> put fact 'T2', 1, 20240611, 1, 1, 0, 1, 1, 0, 0, 1, 150, 100
+> commit
+= 4 written
+write
+> clear
+> drop
+= 3
+= 3 written
+count fact
+= 3
+write
+> clear
+> put fact 'T1', 2, 20240612, 1, 1, 0, 1, 1, 0, 0, 1, 150, 100
+> clear
+> clear
+> put fact 'T2', 1, 20240612, 1, 1, 0, 1, 1, 0, 0, 1, 150, 100
+> commit
+= 3
+= 1
+= 0
+= 6 written
+all fact
+= fact 'T2', 1, 20240612, 1, 1, 0, 1, 1, 0, 0, 1, 150, 100
+sales store 1 20240610 20240611
+get store 1
+= store 1, 1, 'M1', 19000101, 99991231, 1, 'Bern', '', '', '', '', '', '', '', '', '', '', '', 0
 ";
 
 pub const STOPS: &str = "

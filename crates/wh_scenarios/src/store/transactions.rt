@@ -33,6 +33,16 @@ rekey T-1 9999 11 12 13 14
 get fact T-1 9999
 = fact 'T-1', 9999, 20240610, 1, 9, 0, 4, 5, 0, 3, -9999, -999999999, 999999999
 
+# No facts are taken out.
+empty BEGIN
+create
+put fact 'T-1', 9999, 20240610, 1, 9, 0, 4, 5, 0, 3, -9999, -999999999, 999999999
+sql COMMIT
+clear
+= refused disk
+count fact
+= 1
+
 # Nothing is made.
 empty
 create
@@ -85,4 +95,12 @@ rekey T-1 9999 21 22 23 24
 rekey T-1 1 31 32 33 34
 all fact
 = fact 'T-1', 9999, 20240610, 21, 22, 23, 4, 5, 0, 24, -9999, -999999999, 999999999
+
+# All facts are taken out, and then there is none.
+put fact 'T-1', 1, 20240610, 1, 9, 0, 4, 5, 0, 3, 1, 150, 100
+clear
+= 2
+clear
+= 0
+all fact
 ";

@@ -15,6 +15,11 @@ fn what_the_first_format_refuses(rt: HostRuntime) -> Result<(), Fail> {
 }
 
 #[test]
+fn all_facts_of_the_first_format_taken_out(rt: HostRuntime) -> Result<(), Fail> {
+    check_store(&rt, rt.alloc(), second::CLEARED)
+}
+
+#[test]
 fn an_upgrade_over_files_that_stop(rt: HostRuntime) -> Result<(), Fail> {
     check_store(&rt, rt.alloc(), second::STOPS)
 }

@@ -42,6 +42,7 @@ fn kind_of(word: &str) -> Result<CommandKind, Trouble> {
         "store" => Ok(CommandKind::Batch(Kind::Dimension(Dim::Store))),
         "customer" => Ok(CommandKind::Batch(Kind::Dimension(Dim::Customer))),
         "sales" => Ok(CommandKind::Batch(Kind::Sales)),
+        "void" => Ok(CommandKind::Batch(Kind::Voids)),
         _ => Err(Trouble),
     }
 }

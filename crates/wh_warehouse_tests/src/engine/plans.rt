@@ -10,7 +10,16 @@ use wh_day::{DateRow, Day, Value};
 use wh_engine::Engine;
 use wh_history::{DimRow, Edit};
 use wh_plan::{Edits, FactEdit};
-use wh_rows::{ChangeKey, ChangeRow, CommandRow, MemberKey, MemberRow, MetaRow, ProfileRow};
+use wh_rows::{
+    ChangeKey, ChangeRow, CommandRow, LineKey, MemberKey, MemberRow, MetaRow, ProfileRow, VoidRow,
+};
+
+/// A ticket and the number of one of its lines.
+fn push_line(out: &mut String, ticket: &Value, line: u32) -> Result<(), AllocError> {
+    out.push_str(ticket.as_str())?;
+    out.push_str(" ")?;
+    push_number(out, u64::from(line))
+}
 
 /// A row that has a key, or a key.
 trait Keyed {
@@ -80,6 +89,18 @@ impl Keyed for ChangeRow {
             place: self.place,
         };
         key.push_key(out)
+    }
+}
+
+impl Keyed for LineKey {
+    fn push_key(&self, out: &mut String) -> Result<(), AllocError> {
+        push_line(out, &self.ticket, self.line)
+    }
+}
+
+impl Keyed for VoidRow {
+    fn push_key(&self, out: &mut String) -> Result<(), AllocError> {
+        push_line(out, &self.ticket, self.line)
     }
 }
 
@@ -155,7 +176,8 @@ fn push_edits(out: &mut String, edits: &Edits) -> Result<(), AllocError> {
     push_table(out, "profile ", &edits.profiles)?;
     push_table(out, "calendar ", &edits.calendar)?;
     push_facts(out, "fact", &edits.facts)?;
-    push_facts(out, "fact2", &edits.facts2)
+    push_facts(out, "fact2", &edits.facts2)?;
+    push_table(out, "void ", &edits.voids)
 }
 
 /// `KIND ID`: what a command of these bytes would write.

@@ -13,6 +13,7 @@ mod restarts;
 mod sales;
 mod stops;
 mod upgrades;
+mod voids;
 mod worked;
 
 use crate::check::check;

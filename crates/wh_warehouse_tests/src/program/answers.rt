@@ -135,6 +135,11 @@ fn refused(word: &str, rest: &str) -> Result<Refused, Trouble> {
         "Upgraded" => Ok(Refused::Upgraded),
         "NameTaken" => Ok(Refused::NameTaken),
         "LineThere" => Ok(Refused::LineThere(number(rest)?)),
+        "NoLine" => Ok(Refused::NoLine(number(rest)?)),
+        "NotInFormat" => Ok(Refused::Batch(BatchFault {
+            kind: FaultKind::NotInFormat,
+            number: record(rest)?,
+        })),
         "Full" => Ok(Refused::Full(limit(rest)?)),
         _ => Err(Trouble),
     }

@@ -6,6 +6,7 @@ mod deliveries;
 mod reports;
 mod trials;
 mod upgrades;
+mod voids;
 mod warehouses;
 
 use crate::check::check;

@@ -1,5 +1,5 @@
 use Rattle.wh_policy.specs.Policy.{attributes_of}
-use Rattle.wh_batch.specs.Layouts.{dimension_layout, sales_layout, dimension_records, sale_records}
+use Rattle.wh_batch.specs.Layouts.{dimension_layout, sales_layout, voids_layout, dimension_records, sale_records, void_records}
 use Rattle.wh_batch.proofs.GoodLemmas.{reads_batches}
 use Rattle.wh_batch.proofs.laws.good_batches.Goals as goal
 
@@ -10,3 +10,7 @@ returns-clause-dimensions c = λ dim policy. reads_batches (dimension_layout (at
 pub returns-clause-sales : goal.returns-clause-sales
 unfolding sale_records
 returns-clause-sales c = λ policy format. reads_batches (sales_layout format policy.years)
+
+pub returns-clause-voids : goal.returns-clause-voids
+unfolding void_records
+returns-clause-voids c = reads_batches voids_layout

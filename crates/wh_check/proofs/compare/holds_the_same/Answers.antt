@@ -1,4 +1,4 @@
-use Rattle.std.proofs.Common.{◌≡◌, Bool, true, false, List, [], ◌∷◌, Option, sym, subst, ◌∙◌, refl}
+use Rattle.std.proofs.Common.{◌≡◌, Bool, true, false, List, [], ◌∷◌, Option, subst, ◌∙◌, refl}
 use Rattle.std.specs.Prelude.{IsTrue, IfSome}
 use Rattle.std.specs.FinMap.{values, get}
 use Rattle.sqlite.specs.Order.{Row}

@@ -6,14 +6,14 @@ use Rattle.wh_admission.proofs.SameLines.{none_first, this_first}
 use Rattle.wh_engine.proofs.admission.first_line_there.Goals as goal
 
 pub returns-then-branch-clause-there : goal.returns-then-branch-clause-there
-returns-then-branch-clause-there g c clean limits commands t are rests same =
+returns-then-branch-clause-there g c clean limits commands t are rests same accepted =
     let before = c.in_ok-is_line_there.ensures.reads.clean clean in
     let i = c.loop-place.place in
     let s = c.index-sales-place.result in
     let left = drop (i + 1) c.args.sales.now in
-    let there = sym (c.in_ok-is_line_there.ensures.there clean limits commands t are (c.loop-place.invariant.reads.same before t rests tt) same) ∙ c.if-branch.true in
+    let there = sym (c.in_ok-is_line_there.ensures.there clean limits commands t are (c.loop-place.invariant.reads.same before t rests tt) same accepted) ∙ c.if-branch.true in
     sym (at_drop_more (first_line_there (sold commands) (i + 1)) c.args.sales.now i s c.loop-place-test.true ∙ ap (λ q. first_line_there (sold commands) (i + 1) (q ∷ left)) (sym c.index-sales-place.is) ∙ this_first (sold commands) (i + 1) s left there)
-    ∙ c.loop-place.invariant.passed before limits commands t are rests same
+    ∙ c.loop-place.invariant.passed before limits commands t are rests same accepted
 
 pub loop-place-preserved : goal.loop-place-preserved
 loop-place-preserved g c =
@@ -32,13 +32,13 @@ loop-place-preserved g c =
         leaves = λ clean stored rests. read.reads.leaves clean stored (kept.reads.rests (read.reads.clean clean) stored rests tt);
         named = λ clean stored rests. tt;
       };
-      passed = λ clean limits commands t are rests same.
+      passed = λ clean limits commands t are rests same accepted.
           let before = read.reads.clean clean in
-          let other = sym (read.there clean limits commands t are (kept.reads.same before t rests tt) same) ∙ c.if-branch.false in
+          let other = sym (read.there clean limits commands t are (kept.reads.same before t rests tt) same accepted) ∙ c.if-branch.false in
           sym (at_drop_more (first_line_there (sold commands) (i + 1)) c.args.sales.now i s c.loop-place-test.true ∙ ap (λ q. first_line_there (sold commands) (i + 1) (q ∷ left)) (sym c.index-sales-place.is) ∙ none_first (sold commands) (i + 1) s left other)
-          ∙ kept.passed before limits commands t are rests same;
+          ∙ kept.passed before limits commands t are rests same accepted;
     }
 
 pub returns-clause-there : goal.returns-clause-there
-returns-clause-there g c clean limits commands t are rests same =
-    sym (at_drop_all (first_line_there (sold commands) (c.loop-place.place + 1)) c.args.sales.now c.loop-place.place c.loop-place-test.false) ∙ c.loop-place.invariant.passed clean limits commands t are rests same
+returns-clause-there g c clean limits commands t are rests same accepted =
+    sym (at_drop_all (first_line_there (sold commands) (c.loop-place.place + 1)) c.args.sales.now c.loop-place.place c.loop-place-test.false) ∙ c.loop-place.invariant.passed clean limits commands t are rests same accepted

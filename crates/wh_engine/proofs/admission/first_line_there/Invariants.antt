@@ -3,6 +3,7 @@ use Rattle.wh_history.specs.Accepted.{format_of, sold}
 use Rattle.wh_store.specs.Reads.{ReadsOnly, state_of}
 use Rattle.wh_plan.specs.Reads.{Finds}
 use Rattle.wh_admission.specs.Admission.{first_line_there}
+use Rattle.wh_model.specs.Sound.{IsAccepted}
 use Rattle.wh_engine.proofs.admission.first_line_there.Given as goal
 
 -- the first line among the sales that are left, counted on, is the first among all
@@ -12,5 +13,5 @@ invariant-loop-place g l =
     let now = state_of g.S.Store l.tables in
     record {
       reads : ReadsOnly old now (Ok l.place);
-      passed : Finds old now (λ _ commands. l.format ≡ format_of commands → first_line_there (sold commands) (l.place + 1) (drop l.place l.sales) ≡ first_line_there (sold commands) 1 l.sales);
+      passed : Finds old now (λ limits commands. l.format ≡ format_of commands → IsAccepted limits commands → first_line_there (sold commands) (l.place + 1) (drop l.place l.sales) ≡ first_line_there (sold commands) 1 l.sales);
     }

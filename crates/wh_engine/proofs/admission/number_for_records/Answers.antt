@@ -6,16 +6,16 @@ use Rattle.wh_admission.specs.Admission.{changes_in}
 use Rattle.wh_model.specs.Sound.{changes_kept}
 use Rattle.wh_plan.proofs.FoundCommands.{commands_counted}
 use Rattle.wh_model.proofs.ListedChanges.{changes_counted}
-use Rattle.wh_engine.proofs.Decisions.{no_room, too_many_changes, has_room, no_line}
+use Rattle.wh_engine.proofs.Decisions.{no_room, too_many_changes, has_room, no_line, none_missing}
 use Rattle.wh_engine.proofs.admission.number_for_records.Goals as goal
 
 pub returns-then-commands-clause-number : goal.returns-then-commands-clause-number
-returns-then-commands-clause-number g c clean t rests commands are accepted content unsold changes once =
+returns-then-commands-clause-number g c clean t rests commands are accepted content unsold unvoided changes once =
     let number = c.in_ok-commands.ensures.count clean t rests ∙ commands_counted c.args.limits commands t are in
     no_room c.args.limits commands content (omega (arith, number, c.commands.ensures, c.if-commands.true))
 
 pub returns-then-not-branch-clause-number : goal.returns-then-not-branch-clause-number
-returns-then-not-branch-clause-number g c clean t rests commands are accepted content unsold changes once =
+returns-then-not-branch-clause-number g c clean t rests commands are accepted content unsold unvoided changes once =
     let before = c.has_room_for.ensures.reads.clean clean in
     let still = c.in_ok-commands.ensures.reads.same before t rests tt in
     let number = c.in_ok-commands.ensures.count before t rests ∙ commands_counted c.args.limits commands t are in
@@ -24,10 +24,10 @@ returns-then-not-branch-clause-number g c clean t rests commands are accepted co
     let few : len t.change ≤ c.in_ok-commands.commands * 5000 = omega (arith, counted, number, accepted.few_a_batch) in
     let within : len t.change ≤ c.changes.result = omega (arith, counted, c.changes.ensures, accepted.changes_within) in
     let none : leb (len t.change + c.args.records) c.changes.result ≡ false = sym (c.in_ok-has_room_for.ensures.room clean t still few within) ∙ c.if-not-branch.true in
-    too_many_changes c.args.limits commands content room once (no_line commands content unsold) (omega (arith, counted, changes, c.changes.ensures, leb-false (len t.change + c.args.records) c.changes.result none))
+    too_many_changes c.args.limits commands content room once (none_missing commands content unvoided) (no_line commands content unsold) (omega (arith, counted, changes, c.changes.ensures, leb-false (len t.change + c.args.records) c.changes.result none))
 
 pub returns-clause-number : goal.returns-clause-number
-returns-clause-number g c clean t rests commands are accepted content unsold changes once =
+returns-clause-number g c clean t rests commands are accepted content unsold unvoided changes once =
     let asked = c.in_ok-number.ensures.reads.clean clean in
     let before = c.has_room_for.ensures.reads.clean asked in
     let still = c.in_ok-commands.ensures.reads.same before t rests tt in
@@ -41,4 +41,4 @@ returns-clause-number g c clean t rests commands are accepted content unsold cha
     let left : changes_kept commands + changes_in content ≤ c.args.limits.changes = omega (arith, counted, changes, c.changes.ensures, leb-true (len t.change + c.args.records) c.changes.result some) in
     let none_sold : length (sold_by content) ≡ 0 = ap length unsold in
     let next : c.in_ok-number.number ≡ c.in_ok-commands.commands + 1 = c.in_ok-number.ensures.next clean c.args.limits commands t are passed (omega (arith, number)) in
-    rw (has_room c.args.limits commands content room once (no_line commands content unsold) left (omega (arith, none_sold, accepted.facts_within))) (omega (arith, number, next))
+    rw (has_room c.args.limits commands content room once (none_missing commands content unvoided) (no_line commands content unsold) left (omega (arith, none_sold, accepted.facts_within))) (omega (arith, number, next))

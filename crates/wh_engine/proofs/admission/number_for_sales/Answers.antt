@@ -1,12 +1,11 @@
 use Rattle.std.proofs.Common.{◌≡◌, ◌∙◌, ◌<◌, ◌≤◌, ◌+◌, ◌*◌, true, false, leb, length, None, sym, arith, refl}
-use Rattle.std.specs.FinMap.{len}
 use Rattle.std.proofs.lemmas.Bool.{leb-true, leb-false}
 use Rattle.wh_history.specs.Accepted.{Sells, sold}
-use Rattle.wh_rows.specs.Facts.{facts_in}
 use Rattle.wh_admission.specs.Admission.{first_line_there}
 use Rattle.wh_model.specs.Sound.{changes_kept}
+use Rattle.wh_engine.specs.Decided.{lines_in}
+use Rattle.wh_engine.proofs.FoundLines.{lines_kept}
 use Rattle.wh_plan.proofs.FoundCommands.{commands_counted}
-use Rattle.wh_engine.proofs.FoundFacts.{facts_counted}
 use Rattle.wh_engine.proofs.Decisions.{no_room, line_is_there, too_many_facts, has_room, is_none}
 use Rattle.wh_engine.proofs.admission.number_for_sales.Goals as goal
 
@@ -21,45 +20,43 @@ returns-in-Some-clause-number g c clean t rests commands are accepted same =
     let still = c.in_ok-commands.ensures.reads.same before t rests tt in
     let number = c.in_ok-commands.ensures.count before t rests ∙ commands_counted c.args.limits commands t are in
     let room : length commands < c.args.limits.commands = omega (arith, number, c.commands.ensures, c.if-commands.false) in
-    line_is_there c.args.limits commands (Sells c.args.sales.now) room refl c.in-Some.number (sym (c.in_ok-number.ensures.there clean c.args.limits commands t are still same) ∙ c.in-Some.is)
+    line_is_there c.args.limits commands (Sells c.args.sales.now) room refl refl c.in-Some.number (sym (c.in_ok-number.ensures.there clean c.args.limits commands t are still same accepted) ∙ c.in-Some.is)
 
 pub returns-then-not-branch-clause-number : goal.returns-then-not-branch-clause-number
 returns-then-not-branch-clause-number g c clean t rests commands are accepted same =
-    let asked = c.in_ok-has_room_for_facts.ensures.reads.clean clean in
+    let asked = c.in_ok-has_room_for_lines.ensures.reads.clean clean in
     let before = c.in_ok-number.ensures.reads.clean asked in
     let still = c.in_ok-commands.ensures.reads.same before t rests tt in
     let passed = c.in_ok-number.ensures.reads.same asked t still tt in
     let number = c.in_ok-commands.ensures.count before t rests ∙ commands_counted c.args.limits commands t are in
     let room : length commands < c.args.limits.commands = omega (arith, number, c.commands.ensures, c.if-commands.false) in
     let none = is_none _ (λ n. c.in_default.not-Some n) in
-    let new : first_line_there (sold commands) 1 c.args.sales.now ≡ None = sym (c.in_ok-number.ensures.there asked c.args.limits commands t are still same) ∙ none in
-    let facts = facts_in c.args.format t in
-    let counted = facts_counted commands c.args.limits t are c.args.format same accepted.lines in
-    let few : len facts ≤ c.in_ok-commands.commands * 5000 = omega (arith, counted, number, accepted.few_sales_a_batch) in
-    let within : len facts ≤ c.facts.result = omega (arith, counted, c.facts.ensures, accepted.facts_within) in
-    let full : leb (len facts + length c.args.sales.now) c.facts.result ≡ false = sym (c.in_ok-has_room_for_facts.ensures.room clean t passed few within) ∙ c.if-not-branch.true in
-    let over : c.args.limits.facts < length (sold commands) + length c.args.sales.now = omega (arith, counted, c.facts.ensures, leb-false (len facts + length c.args.sales.now) c.facts.result full) in
+    let new : first_line_there (sold commands) 1 c.args.sales.now ≡ None = sym (c.in_ok-number.ensures.there asked c.args.limits commands t are still same accepted) ∙ none in
+    let counted = lines_kept c.args.limits commands t are accepted c.args.format same in
+    let few : lines_in c.args.format t ≤ c.in_ok-commands.commands * 5000 = omega (arith, counted, number, accepted.few_sales_a_batch) in
+    let within : lines_in c.args.format t ≤ c.facts.result = omega (arith, counted, c.facts.ensures, accepted.facts_within) in
+    let full : leb (lines_in c.args.format t + length c.args.sales.now) c.facts.result ≡ false = sym (c.in_ok-has_room_for_lines.ensures.room clean t passed few within) ∙ c.if-not-branch.true in
+    let over : c.args.limits.facts < length (sold commands) + length c.args.sales.now = omega (arith, counted, c.facts.ensures, leb-false (lines_in c.args.format t + length c.args.sales.now) c.facts.result full) in
     let changes : changes_kept commands + 0 ≤ c.args.limits.changes = omega (arith, accepted.changes_within) in
-    too_many_facts c.args.limits commands (Sells c.args.sales.now) room refl new changes over
+    too_many_facts c.args.limits commands (Sells c.args.sales.now) room refl refl new changes over
 
 pub returns-clause-number : goal.returns-clause-number
 returns-clause-number g c clean t rests commands are accepted same =
     let looked = c.in_ok-number-2.ensures.reads.clean clean in
-    let asked = c.in_ok-has_room_for_facts.ensures.reads.clean looked in
+    let asked = c.in_ok-has_room_for_lines.ensures.reads.clean looked in
     let before = c.in_ok-number.ensures.reads.clean asked in
     let still = c.in_ok-commands.ensures.reads.same before t rests tt in
     let passed = c.in_ok-number.ensures.reads.same asked t still tt in
-    let there = c.in_ok-has_room_for_facts.ensures.reads.same looked t passed tt in
+    let there = c.in_ok-has_room_for_lines.ensures.reads.same looked t passed tt in
     let number = c.in_ok-commands.ensures.count before t rests ∙ commands_counted c.args.limits commands t are in
     let room : length commands < c.args.limits.commands = omega (arith, number, c.commands.ensures, c.if-commands.false) in
     let none = is_none _ (λ n. c.in_default.not-Some n) in
-    let new : first_line_there (sold commands) 1 c.args.sales.now ≡ None = sym (c.in_ok-number.ensures.there asked c.args.limits commands t are still same) ∙ none in
-    let facts = facts_in c.args.format t in
-    let counted = facts_counted commands c.args.limits t are c.args.format same accepted.lines in
-    let few : len facts ≤ c.in_ok-commands.commands * 5000 = omega (arith, counted, number, accepted.few_sales_a_batch) in
-    let within : len facts ≤ c.facts.result = omega (arith, counted, c.facts.ensures, accepted.facts_within) in
-    let some : leb (len facts + length c.args.sales.now) c.facts.result ≡ true = sym (c.in_ok-has_room_for_facts.ensures.room looked t passed few within) ∙ c.if-not-branch.false in
-    let left : length (sold commands) + length c.args.sales.now ≤ c.args.limits.facts = omega (arith, counted, c.facts.ensures, leb-true (len facts + length c.args.sales.now) c.facts.result some) in
+    let new : first_line_there (sold commands) 1 c.args.sales.now ≡ None = sym (c.in_ok-number.ensures.there asked c.args.limits commands t are still same accepted) ∙ none in
+    let counted = lines_kept c.args.limits commands t are accepted c.args.format same in
+    let few : lines_in c.args.format t ≤ c.in_ok-commands.commands * 5000 = omega (arith, counted, number, accepted.few_sales_a_batch) in
+    let within : lines_in c.args.format t ≤ c.facts.result = omega (arith, counted, c.facts.ensures, accepted.facts_within) in
+    let some : leb (lines_in c.args.format t + length c.args.sales.now) c.facts.result ≡ true = sym (c.in_ok-has_room_for_lines.ensures.room looked t passed few within) ∙ c.if-not-branch.false in
+    let left : length (sold commands) + length c.args.sales.now ≤ c.args.limits.facts = omega (arith, counted, c.facts.ensures, leb-true (lines_in c.args.format t + length c.args.sales.now) c.facts.result some) in
     let changes : changes_kept commands + 0 ≤ c.args.limits.changes = omega (arith, accepted.changes_within) in
     let next : c.in_ok-number-2.number ≡ c.in_ok-commands.commands + 1 = c.in_ok-number-2.ensures.next clean c.args.limits commands t are there (omega (arith, number)) in
-    rw (has_room c.args.limits commands (Sells c.args.sales.now) room refl new changes left) (omega (arith, number, next))
+    rw (has_room c.args.limits commands (Sells c.args.sales.now) room refl refl new changes left) (omega (arith, number, next))

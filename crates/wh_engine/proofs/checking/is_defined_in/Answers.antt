@@ -5,7 +5,7 @@ use Rattle.wh_policy.specs.declared.attribute.Dim.TheVariants.{Product as Produc
 use Rattle.wh_policy.specs.declared.format.Format.TheVariants.{One, Two}
 use Rattle.wh_history.specs.Accepted.{format_of}
 use Rattle.wh_history.specs.Tables.{dimension_row}
-use Rattle.wh_model.specs.Defined.{meta_at, command_at, member_at, change_at, profile_at, calendar_at, fact_in}
+use Rattle.wh_model.specs.Defined.{meta_at, command_at, member_at, change_at, profile_at, calendar_at, fact_in, void_at}
 use Rattle.wh_rows.specs.Names.{is_there}
 use Rattle.wh_rows.specs.Rows as row
 use Rattle.wh_rows.specs.declared.table.Table.TheVariants.{Meta, Command, Member, Change, Product, Store, Customer, Profile, Calendar, Fact, Fact2, Void}
@@ -73,4 +73,4 @@ returns-in-Fact2-clause-defined g c clean stored rests same limits commands of h
 pub returns-in-Void-clause-defined : goal.returns-in-Void-clause-defined
 returns-in-Void-clause-defined g c clean stored rests same limits commands of holds =
     subst (λ table. IfOk c.holds_the_same-in-Void.result (IsDefinedIn limits commands stored table)) (sym c.in-Void.is)
-    (told_so row.void (get holds.1.tables.void) (λ _. None) (stored.rows Void) c.holds_the_same-in-Void.result holds.1.are.void (c.holds_the_same-in-Void.ensures.same clean stored rests (ap (is_there Void) same) holds.1.tables (ap (is_there Void) (holds.1.are.format ∙ sym of)) (holds.0, holds.1.rests)))
+    (told_so row.void (get holds.1.tables.void) (void_at commands) (stored.rows Void) c.holds_the_same-in-Void.result holds.1.are.void (c.holds_the_same-in-Void.ensures.same clean stored rests (ap (is_there Void) same) holds.1.tables (ap (is_there Void) (holds.1.are.format ∙ sym of)) (holds.0, holds.1.rests)))

@@ -20,7 +20,7 @@ returns-clause-decided g c clean commands t held rests kind good new =
     let told : policy_told (current_policy commands) command.bytes ≡ Ok newer = found.1 ∙ ap Ok (sym found.2) in
     let taken = policy_taken (current_policy commands) command.bytes newer told in
     let read = policy_content limits commands command good new kind newer told in
-    let numbered = judged_ok (λ number next. number ≡ next) number (number_for limits commands content) (c.in-Ok.ensures.number before t rests commands held.are held.accepted content refl refl refl) in
+    let numbered = judged_ok (λ number next. number ≡ next) number (number_for limits commands content) (c.in-Ok.ensures.number before t rests commands held.are held.accepted content refl refl refl refl) in
     let room : number_for limits commands content ≡ Ok number = numbered.1 ∙ ap Ok (sym numbered.2) in
     let still = c.in-Ok.ensures.reads.spares.same before t rests tt in
     let stored = own_row limits commands command good new content read number room ∙ ap Some (sym c.in_ok-row.ensures) in
@@ -37,7 +37,7 @@ returns-in-Err-clause-decided g c clean commands t held rests kind good new =
     let found = judged_ok (λ newer told. newer ≡ told) newer (policy_told (current_policy commands) command.bytes) (rw (held.policy, c.as_slice.ensures) at c.in_ok-newer.ensures.read) in
     let told : policy_told (current_policy commands) command.bytes ≡ Ok newer = found.1 ∙ ap Ok (sym found.2) in
     let read = policy_content limits commands command good new kind newer told in
-    let judged = c.in-Err.ensures.number clean t rests commands held.are held.accepted content refl refl refl in
+    let judged = c.in-Err.ensures.number clean t rests commands held.are held.accepted content refl refl refl refl in
     judged_err (λ (number next : ℕ). number ≡ next) (Decides commands command) c.in-Err.fault (number_for limits commands content) (answer limits commands command) judged
     (λ why none. number_refused limits commands command good new content why read none)
 

@@ -19,7 +19,7 @@ returns-clause-decided g c clean commands t held rests kind good new =
     let told : records_told dim (current_policy commands) command.bytes ≡ Ok records = found.1 ∙ ap Ok (sym found.2) in
     let read = records_content limits commands command good new dim kind records told in
     let count : length c.as_slice-2.result.now ≡ length records = ap length c.as_slice-2.ensures in
-    let numbered = judged_ok (λ number next. number ≡ next) number (number_for limits commands content) (c.in-Ok.ensures.number before t rests commands held.are held.accepted content refl (sym count) refl) in
+    let numbered = judged_ok (λ number next. number ≡ next) number (number_for limits commands content) (c.in-Ok.ensures.number before t rests commands held.are held.accepted content refl refl (sym count) refl) in
     let room : number_for limits commands content ≡ Ok number = numbered.1 ∙ ap Ok (sym numbered.2) in
     let still = c.in-Ok.ensures.reads.spares.same before t rests tt in
     let stored = own_row limits commands command good new content read number room ∙ ap Some (sym (c.in_ok-row.ensures ∙ ap (row_of_command command number) count)) in
@@ -38,6 +38,6 @@ returns-in-Err-clause-decided g c clean commands t held rests kind good new =
     let told : records_told dim (current_policy commands) command.bytes ≡ Ok records = found.1 ∙ ap Ok (sym found.2) in
     let read = records_content limits commands command good new dim kind records told in
     let count : length c.as_slice-2.result.now ≡ length records = ap length c.as_slice-2.ensures in
-    let judged = c.in-Err.ensures.number clean t rests commands held.are held.accepted content refl (sym count) refl in
+    let judged = c.in-Err.ensures.number clean t rests commands held.are held.accepted content refl refl (sym count) refl in
     judged_err (λ (number next : ℕ). number ≡ next) (Decides commands command) c.in-Err.fault (number_for limits commands content) (answer limits commands command) judged
     (λ why none. number_refused limits commands command good new content why read none)

@@ -27,7 +27,7 @@ returns-clause-decided g c clean commands t held rests good new read =
     let stored = own_row limits commands command good new content read number room
     ∙ ap (λ (n : ℕ). Some (record (row_of_command command number (length c.args.sales.now)) { placeholders = placeholders_by after n content })) next
     ∙ ap (λ (r : CommandRow). Some (record r { placeholders = placeholders_by after (suc (length commands)) content })) (sym row) in
-    let edits = c.in_ok-edits.ensures.edits clean limits commands t held.are still held.format (accepted_as command content) accepted refl (policy_in_force commands held.accepted.governed ∙ ap Some (sym held.policy))
+    let edits = c.in_ok-edits.ensures.edits clean limits commands t held.are still held.accepted held.format (accepted_as command content) accepted refl (policy_in_force commands held.accepted.governed ∙ ap Some (sym held.policy))
     (subst IsSound (sym held.policy) (sound_in_force limits commands held.accepted)) stored in
     let shown = ap (λ (e : Edits). length e.members) c.edits.view_is in
     let as_many = members_counted commands (accepted_as command content) c.args.sales.now c.in_ok-edits.edits refl edits in

@@ -25,7 +25,7 @@ pub returns-in-Err-clause-decided : goal.returns-in-Err-clause-decided
 returns-in-Err-clause-decided g c clean commands t held rests kind good new =
     let limits = c.args.session.now.limits in
     let command = c.args.command.now in
-    let judged = c.in-Err.ensures.number clean t rests commands held.are held.accepted no_records refl refl refl in
+    let judged = c.in-Err.ensures.number clean t rests commands held.are held.accepted no_records refl refl refl refl in
     judged_err (λ (number next : ℕ). number ≡ next) (Decides commands command) c.in-Err.fault (number_for limits commands no_records) (answer limits commands command) judged
     (λ why none. number_refused limits commands command good new Upgrades why (upgrade_content limits commands command kind) (upgrade_refused limits commands held.accepted why none))
 
@@ -34,7 +34,7 @@ returns-then-eq-clause-decided g c clean commands t held rests kind good new =
     let limits = c.args.session.now.limits in
     let command = c.args.command.now in
     let number = c.in-Ok.number in
-    let numbered = judged_ok (λ number next. number ≡ next) number (number_for limits commands no_records) (c.in-Ok.ensures.number clean t rests commands held.are held.accepted no_records refl refl refl) in
+    let numbered = judged_ok (λ number next. number ≡ next) number (number_for limits commands no_records) (c.in-Ok.ensures.number clean t rests commands held.are held.accepted no_records refl refl refl refl) in
     let two : c.args.session.now.format ≡ Two = search rules in
     let second : is_two (format_of commands) ≡ true = ap is_two (sym held.format ∙ two) in
     let why = upgrade_again limits commands held.accepted numbered.0 numbered.1 second in
@@ -56,7 +56,7 @@ returns-clause-decided g c clean commands t held rests kind good new =
     let number = c.in-Ok.number in
     let before = c.plan_upgrade.ensures.reads.clean clean in
     let read = upgrade_content limits commands command kind in
-    let numbered = judged_ok (λ number next. number ≡ next) number (number_for limits commands no_records) (c.in-Ok.ensures.number before t rests commands held.are held.accepted no_records refl refl refl) in
+    let numbered = judged_ok (λ number next. number ≡ next) number (number_for limits commands no_records) (c.in-Ok.ensures.number before t rests commands held.are held.accepted no_records refl refl refl refl) in
     let one : c.args.session.now.format ≢ Two = search rules in
     let first = first_of (format_of commands) (λ two. one (held.format ∙ two)) in
     let room : number_for limits commands Upgrades ≡ Ok number = upgrade_numbered limits commands held.accepted number (numbered.1 ∙ ap Ok (sym numbered.2)) (ap is_two first) in

@@ -12,4 +12,4 @@ returns-clause-edits g c clean limits commands t are at format d ok is governed 
     let anew = c.in_ok-anew.ensures.shown before limits commands t are at d ok is sound in
     let migrated = c.in_ok-migrated.ensures.edits clean limits commands t are still format d ok (ap governs is) anew.members anew.profiles.known in
     subst (AreEdits commands (commands ++ d ∷ [])) (sym c.in_ok-with_own_row.ensures)
-    (migration_edits commands d newer is c.args.terms.now.policy.now c.args.command c.in_ok-migrated.migrated _ c.args.terms.now.format format governed stands migrated anew.profiles.edits (c.in_ok-calendar.ensures fit) refl refl refl refl refl refl refl refl refl refl)
+    (migration_edits commands d newer is c.args.terms.now.policy.now c.args.command c.in_ok-migrated.migrated _ c.args.terms.now.format format governed stands migrated anew.profiles.edits (c.in_ok-calendar.ensures fit) refl refl refl refl refl refl refl refl refl refl refl)

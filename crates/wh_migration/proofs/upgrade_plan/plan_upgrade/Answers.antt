@@ -1,5 +1,4 @@
 use Rattle.std.proofs.Common.{[], ◌∷◌, ◌++◌, None, sym, subst}
-use Rattle.std.specs.List.{AllByRecursion}
 use Rattle.wh_model.specs.Defined.{fact_at}
 use Rattle.wh_plan.specs.BatchRows.{AreFacts}
 use Rattle.wh_plan.specs.Edits.{AreEdits}

@@ -2,7 +2,7 @@ use Rattle.std.proofs.Common.{List, ◌++◌, ◌∷◌, [], sym, ◌∙◌, ap,
 use Rattle.std.specs.List.{AllByRecursion}
 use Rattle.wh_policy.specs.declared.attribute.AttributeType.{AttributeType}
 use Rattle.wh_policy.specs.declared.format.Format.TheVariants.{One}
-use Rattle.wh_history.specs.Accepted.{formatted, profiles_of}
+use Rattle.wh_history.specs.Accepted.{formatted, profiles_of, withdrawn_by}
 use Rattle.wh_history.specs.Known.{number_in, KnowsEnough}
 use Rattle.wh_history.specs.Laws.{governs}
 use Rattle.wh_model.specs.Sound.{AreTypes}
@@ -28,4 +28,4 @@ returns-clause-edits g c clean limits commands t are at format sent accepted is 
     let facts = c.in_ok-facts.ensures.moved clean limits commands t are at_second format sent c.args.records.now accepted is typed_now (c.deref-4.ensures.value ∙ found.members_read) list enough in
     let rows = c.in_ok-rows.ensures commands sent is typed_now (days_before limits commands sent accepted) (days_after limits commands sent accepted) command_is
     (record { found = found; touched = list; enough = enough; profiles = learned.fresh; facts = facts.0; rekeyed = facts.1 }) in
-    c.in_ok-edits_of_batch.ensures.exact commands sent format (format_stays commands sent (ap (formatted One) is)) (ap governs is) rows
+    c.in_ok-edits_of_batch.ensures.exact commands sent format (format_stays commands sent (ap (formatted One) is)) (ap governs is) (ap withdrawn_by is) rows
