@@ -82,7 +82,7 @@ pub enum Refused {
     #[error("a name of the second format is taken")]
     NameTaken,
     /// The first sale, from 1, whose ticket and line are those of a stored fact, or were withdrawn.
-    #[error("a fact of the ticket and line is there")]
+    #[error("the line of the ticket was sold before")]
     LineThere(u64),
     /// The first void, from 1, whose ticket and line no stored fact has.
     #[error("no fact of the ticket and line is there")]

@@ -12,6 +12,7 @@ use Rattle.wh_history.proofs.Records.{or_false}
 use Rattle.wh_history.proofs.Standing.{found_standing, withdrawn_found}
 use Rattle.wh_rows.specs.declared.key.LineKey.{LineKey}
 use Rattle.wh_model.specs.Defined.{fact_at, void_at}
+use Rattle.wh_model.specs.Laws.{WithdrawnLinesStaySold}
 use Rattle.wh_model.specs.Sound.{IsAccepted, same_line, is_sold_line}
 
 -- one line of one ticket
@@ -80,7 +81,7 @@ module _ (commands : List Accepted) (s : SaleRecord) where
   line_stored = some_mapped (fact_of commands) (find on (standing commands)) ∙ among (standing commands)
 
   -- a line that is withdrawn was sold
-  once_sold : (voids : List VoidRecord) → AllByRecursion (λ v. is_sold_line (sold commands) v ≡ true) voids → withdraws_line s.ticket s.line voids ≡ true → list_any (λ t. same_line t s) (sold commands) ≡ true
+  pub once_sold : (voids : List VoidRecord) → AllByRecursion (λ v. is_sold_line (sold commands) v ≡ true) voids → withdraws_line s.ticket s.line voids ≡ true → list_any (λ t. same_line t s) (sold commands) ≡ true
   once_sold [] all is = absurd cc
   once_sold (v ∷ voids) all is =
       elim (bytes_eq v.ticket s.ticket && (v.line == s.line)) as (λ b. ((bytes_eq v.ticket s.ticket && (v.line == s.line)) ≡ b) → (b || withdraws_line s.ticket s.line voids) ≡ true → list_any (λ t. same_line t s) (sold commands) ≡ true) [
@@ -105,3 +106,6 @@ module _ (commands : List Accepted) (s : SaleRecord) where
         | false ↦ λ _. sym (among (sold commands)) ∙ sym (or_false (is_some (find on (sold commands))))
       ] refl
       ∙ sym (ap (λ b. b || is_some (void_at commands (record { ticket = s.ticket; line = s.line }))) shown ∙ ap (λ b. is_some (cond gone None (find on (sold commands))) || b) voided)
+
+pub withdrawn_lines_stay_sold : WithdrawnLinesStaySold
+withdrawn_lines_stay_sold limits commands s ok is = once_sold commands s (withdrawn commands) ok.withdrawn_sold is

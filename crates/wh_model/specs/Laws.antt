@@ -27,7 +27,7 @@ use Rattle.wh_rows.specs.declared.rows.MemberRow.{MemberRow}
 use Rattle.wh_rows.specs.Limits.{are_limits}
 use Rattle.wh_rows.specs.Tables.{Tables}
 use Rattle.wh_model.specs.Defined.{member_at, change_at, profile_at as profile_row_at, fact_at, AreOf}
-use Rattle.wh_model.specs.Sound.{making_of, IsAccepted}
+use Rattle.wh_model.specs.Sound.{making_of, same_line, IsAccepted}
 
 -- the rows of a dimension show no profile
 abbrev pub ShowsNoProfile : List Accepted → Dim → Type 0
@@ -69,6 +69,10 @@ pub record TakesOutFacts (before after : List Accepted) (lines : List VoidRecord
 -- A batch of voids changes no member and no number: members that only its sales mentioned stay.
 abbrev pub VoidsTakeOutFacts : Type 0
 VoidsTakeOutFacts = (commands : List Accepted) (c : Accepted) (lines : List VoidRecord) → c.content ≡ Withdraws lines → TakesOutFacts commands (commands ++ c ∷ []) lines
+
+-- A line that was withdrawn stays one that was sold, so that no batch sells it again.
+abbrev pub WithdrawnLinesStaySold : Type 0
+WithdrawnLinesStaySold = (limits : Limits) (commands : List Accepted) (s : SaleRecord) → IsAccepted limits commands → withdraws_line s.ticket s.line (withdrawn commands) ≡ true → list_any (λ t. same_line t s) (sold commands) ≡ true
 
 -- a fact with the keys that its member's rows of a dimension give it, and the profile of its day where that is customer; a sale without a card keeps its zeros
 abbrev pub followed : List Accepted → Dim → SaleRecord → Fact → Fact

@@ -84,7 +84,7 @@ GivesPolicy kind bytes Upgrades = gives_policy kind ≡ false
 GivesPolicy kind bytes (Withdraws lines) = gives_policy kind ≡ false
 
 -- The list is one that a warehouse with these limits can have accepted: it begins with a making, and makings and migrations give the policies of their bytes, with up to six attributes a dimension; ids and kinds are well
--- formed, no two commands share an id; its records and sales are good, no two sales have one line, none has a discount in the first format, and no batch has more than 5,000; what was withdrawn had been sold, once each, and nothing in the first format; the limits aren't passed.
+-- formed, no two commands share an id; its records and sales are good, no two sales have one line, none has a discount in the first format, and no batch has more than 5,000; what was withdrawn are lines of its sales, once each, and none in the first format; the limits aren't passed.
 pub record IsAccepted (limits : Limits) (commands : List Accepted) : Type 0 where
   pub limited : are_limits limits ≡ true
   pub commands_within : length commands ≤ limits.commands

@@ -1,6 +1,6 @@
 //! Laws of the tables that accepted commands define. They speak of the definitions alone and do nothing.
 
-ghost use Rattle.wh_model.specs.Laws.{AcceptedListsBegin, FactsAreEffective, LateRecordsMoveFacts, SecondKeysAreApart, SoundPoliciesShowNone, UntouchedMembersKeep, VoidsTakeOutFacts};
+ghost use Rattle.wh_model.specs.Laws.{AcceptedListsBegin, FactsAreEffective, LateRecordsMoveFacts, SecondKeysAreApart, SoundPoliciesShowNone, UntouchedMembersKeep, VoidsTakeOutFacts, WithdrawnLinesStaySold};
 
 /// Under a sound policy no row of a product or a store shows a profile, as a batch of customers asks.
 pub fn sound_policies_show_none()
@@ -39,4 +39,9 @@ pub fn facts_are_effective()
 /// that only the withdrawn sales mentioned stay.
 pub fn voids_take_out_facts()
     ensures { VoidsTakeOutFacts }
+{}
+
+/// A line that was withdrawn stays one that was sold. Admission asks whether a sale's line was sold, so no batch sells it again.
+pub fn withdrawn_lines_stay_sold()
+    ensures { WithdrawnLinesStaySold }
 {}
