@@ -66,8 +66,8 @@ SparesIn g old new calm = Spares (state_of g old) (state_of g new) calm
 abbrev pub ReadsOnlyIn : {S A : Type 0} → Ghosts S → Tables S → Tables S → Result A ReadFault → Type 0
 ReadsOnlyIn g old new result = ReadsOnly (state_of g old) (state_of g new) result
 
--- What a reading leaves of the tables: they are as they were unless the store refused a call, and a crash leaves them. A table that is named as damaged is, and so is a name
--- that is told as taken. It isn't answered that the warehouse has to be opened again.
+-- What a reading leaves of the tables: they are as they were unless the store refused a call, and a crash leaves them. A table that it names as damaged is damaged, and a name
+-- that it calls taken is taken. It never asks for the warehouse to be opened again.
 pub record Reads {S A : Type 0} (g : Ghosts S) (old new : Tables S) (result : Result A Fault) : Type 0 where
   pub spares : Spares (state_of g old) (state_of g new) (IsServed result)
   pub blames : WhenStored g old new (λ stored. BlamesDamage stored result)
