@@ -11,6 +11,7 @@ use Rattle.std.proofs.lemmas.Slice.Eq.{bytes_eq-Decides}
 use Rattle.wh_day.specs.Reading.{◌>>=◌}
 use Rattle.wh_batch.specs.declared.fault.FaultKind.{FaultKind}
 use Rattle.wh_batch.specs.declared.fault.FaultKind.TheVariants.{WrongHeader, TwiceInBatch, OutsideCalendar}
+use Rattle.wh_batch.specs.Columns.{names}
 use Rattle.wh_batch.specs.Rows.{Table}
 use Rattle.wh_batch.specs.Batch.{Key, Layout, at, is_same_key, admitted, numbered, next_record, records_after, below_header, batch_of}
 use Rattle.wh_batch.specs.Laws.{IsBatch, ReadsBatches}
@@ -22,7 +23,7 @@ key_at text number = record { text = text; number = number }
 key_at-same : (text other : List ℕ) (number place : ℕ) → text ≡ other → number ≡ place → key_at text number ≡ key_at other place
 key_at-same text other number place e f = rw (e, f) refl
 
-is_same_key-Decides : (a b : Key) → Decides (is_same_key a b) (a ≡ b)
+pub is_same_key-Decides : (a b : Key) → Decides (is_same_key a b) (a ≡ b)
 is_same_key-Decides a b = (to, from)
   where
     to : is_same_key a b ≡ true → a ≡ b
@@ -81,8 +82,8 @@ numbered_ok number (Ok y) x h = let e : y ≡ x = cc in rw e refl
 numbered_ok number (Err kind) x h = absurd cc
 
 -- a row whose record was taken
-record IsTaken {R : Type 0} (layout : Layout R) (earlier : List Key) (fields : List (List ℕ)) (entry : R) : Type 0 where
-  read : layout.read fields ≡ Ok entry
+pub record IsTaken {R : Type 0} (layout : Layout R) (earlier : List Key) (fields : List (List ℕ)) (entry : R) : Type 0 where
+  pub read : layout.read fields ≡ Ok entry
   new : list_any (is_same_key (layout.key entry)) earlier ≡ false
   within : layout.is_within entry ≡ true
 
@@ -95,7 +96,7 @@ admitted_ok layout earlier fields x entry false true read new calendar h =
     let e : x ≡ entry = cc in
     rw (← e) (record { read = read; new = sym new; within = sym calendar })
 
-taken : {R : Type 0} (layout : Layout R) (earlier : List Key) (fields : List (List ℕ)) (entry : R) → next_record layout earlier fields ≡ Ok entry → IsTaken layout earlier fields entry
+pub taken : {R : Type 0} (layout : Layout R) (earlier : List Key) (fields : List (List ℕ)) (entry : R) → next_record layout earlier fields ≡ Ok entry → IsTaken layout earlier fields entry
 unfolding next_record
 taken layout earlier fields entry h =
     let (x, read, last) = bind_ok (layout.read fields) (admitted layout earlier) entry h in
@@ -154,22 +155,22 @@ read_all {R} layout earlier number (fields ∷ rows) (entry ∷ entries) a =
 -- the rows below the header
 record BelowHeader {R : Type 0} (layout : Layout R) (table : Table) (entries : List R) : Type 0 where
   rows : Table
-  split : table ≡ layout.header ∷ rows
+  split : table ≡ names layout.columns ∷ rows
   read : records_after layout [] 1 rows ≡ Ok entries
 
-is_header : {R : Type 0} (layout : Layout R) (header : List (List ℕ)) (rows : Table) (entries : List R) (b : Bool) → b ≡ pointwise bytes_eq header layout.header
+is_header : {R : Type 0} (layout : Layout R) (header : List (List ℕ)) (rows : Table) (entries : List R) (b : Bool) → b ≡ pointwise bytes_eq header (names layout.columns)
     → cond b (records_after layout [] 1 rows) (Err (at 0 WrongHeader)) ≡ Ok entries → BelowHeader layout (header ∷ rows) entries
-is_header layout header rows entries true same h = record { rows = rows; split = ap (λ (x : List (List ℕ)). x ∷ rows) ((pointwise_decides bytes_eq-Decides header layout.header).0 (sym same)); read = h }
+is_header layout header rows entries true same h = record { rows = rows; split = ap (λ (x : List (List ℕ)). x ∷ rows) ((pointwise_decides bytes_eq-Decides header (names layout.columns)).0 (sym same)); read = h }
 is_header layout header rows entries false same h = absurd cc
 
 below : {R : Type 0} (layout : Layout R) (table : Table) (entries : List R) → below_header layout table ≡ Ok entries → BelowHeader layout table entries
 unfolding below_header
 below layout [] entries h = absurd cc
-below layout (header ∷ rows) entries h = is_header layout header rows entries (pointwise bytes_eq header layout.header) refl h
+below layout (header ∷ rows) entries h = is_header layout header rows entries (pointwise bytes_eq header (names layout.columns)) refl h
 
-below_all : {R : Type 0} (layout : Layout R) (rows : Table) → below_header layout (layout.header ∷ rows) ≡ records_after layout [] 1 rows
+below_all : {R : Type 0} (layout : Layout R) (rows : Table) → below_header layout (names layout.columns ∷ rows) ≡ records_after layout [] 1 rows
 unfolding below_header
-below_all layout rows = rw ((pointwise_decides bytes_eq-Decides layout.header layout.header).1 refl) refl
+below_all layout rows = rw ((pointwise_decides bytes_eq-Decides (names layout.columns) (names layout.columns)).1 refl) refl
 
 good : {R : Type 0} (layout : Layout R) (bytes : List ℕ) (entries : List R) → batch_of layout bytes ≡ Ok entries → IsBatch layout bytes entries
 unfolding batch_of

@@ -13,12 +13,14 @@ use Rattle.wh_batch.specs.declared.kind.CommandKind.TheVariants.{Batch, Migratio
 use Rattle.wh_policy.specs.declared.format.Format.TheVariants.{One, Two}
 use Rattle.wh_batch.specs.declared.kind.Kind.TheVariants.{Dimension, Sales, Voids}
 use Rattle.wh_batch.specs.declared.manifest.ManifestEntry.{ManifestEntry}
+use Rattle.wh_batch.specs.declared.report_list.ListedReport.{ListedReport}
 use Rattle.wh_batch.specs.Batch.{at, records_after}
 use Rattle.wh_batch.specs.Fields.{key_at, customer_at, day_at, effective_day_at, value_at}
 use Rattle.wh_batch.specs.Numbers.{read_line, read_quantity, read_amount}
 use Rattle.wh_batch.specs.Layouts.{dimension_record, dimension_records, sale_record, sale_records, sales_layout, void_record, void_records}
 use Rattle.wh_batch.specs.Kind.{command_word, command_kind_of}
 use Rattle.wh_batch.specs.Manifest.{entry_of, manifest_of}
+use Rattle.wh_batch.specs.ReportList.{listed_report, reports_of}
 use Rattle.wh_batch.proofs.OnLiterals.{batch_on_literals}
 
 -- amounts of money
@@ -248,3 +250,39 @@ no_kind = refl
 no_text : entry_of (codes "sales" ∷ (115 ∷ 195 ∷ []) ∷ codes "s1.csv" ∷ []) ≡ None
 unfolding batch_on_literals is_utf8 chars encode
 no_text = refl
+
+-- lists of reports, with the line end given; a mode or a day that is none stands in them all the same
+abbrev reports : List ℕ → List ℕ
+reports end = codes "product.brand,was,2024-01-01,2024-12-31" ++ end ++ end ++ codes "\"date.month\",once,,2024"
+
+abbrev listed : List ℕ → List ℕ → List ℕ → List ℕ → ListedReport
+listed attribute mode from to = record { attribute = attribute; mode = mode; from = from; to = to }
+
+abbrev two_reports : List ListedReport
+two_reports = listed (codes "product.brand") (codes "was") (codes "2024-01-01") (codes "2024-12-31") ∷ listed (codes "date.month") (codes "once") [] (codes "2024") ∷ []
+
+report_lines : reports_of (reports (10 ∷ [])) ≡ Ok two_reports
+unfolding batch_on_literals is_utf8 chars encode
+report_lines = refl
+
+report_mark : reports_of (239 ∷ 187 ∷ 191 ∷ reports (13 ∷ 10 ∷ [])) ≡ Ok two_reports
+unfolding batch_on_literals is_utf8 chars encode
+report_mark = refl
+
+no_reports : (reports_of [] ≡ Ok []) × (reports_of (10 ∷ 13 ∷ 10 ∷ []) ≡ Ok [])
+unfolding batch_on_literals
+no_reports = (refl, refl)
+
+-- three fields behind a report, and five
+three_of_a_report : reports_of (codes "a,was,b,c" ++ 10 ∷ codes "a,was,b" ++ 10 ∷ codes "a") ≡ Err (record { number = 2 })
+unfolding batch_on_literals is_utf8 chars encode
+three_of_a_report = refl
+
+five_of_a_report : reports_of (codes "a,was,b,c,") ≡ Err (record { number = 1 })
+unfolding batch_on_literals
+five_of_a_report = refl
+
+-- a byte that is no text
+no_text_of_a_report : listed_report (codes "a" ∷ codes "was" ∷ (50 ∷ 195 ∷ []) ∷ codes "c" ∷ []) ≡ None
+unfolding batch_on_literals is_utf8 chars encode
+no_text_of_a_report = refl

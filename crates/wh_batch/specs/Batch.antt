@@ -6,6 +6,7 @@ use Rattle.std.specs.Cmp.Lexicographic.{pointwise}
 use Rattle.csv.specs.Reading.{records, default_config, strip_bom}
 use Rattle.wh_day.specs.Reading.{◌>>=◌}
 use Rattle.wh_batch.specs.Rows.{Table}
+use Rattle.wh_batch.specs.Columns.{Column, names}
 use Rattle.wh_batch.specs.declared.fault.FaultKind.{FaultKind}
 use Rattle.wh_batch.specs.declared.fault.FaultKind.TheVariants.{TooLarge, WrongHeader, TwiceInBatch, OutsideCalendar}
 use Rattle.wh_batch.specs.declared.fault.BatchFault.{BatchFault}
@@ -19,10 +20,10 @@ pub record Key : Type 0 where
 abbrev pub is_same_key : Key → Key → Bool
 is_same_key a b = bytes_eq a.text b.text && (a.number == b.number)
 
--- how the records of a kind are laid out: the names of their fields, the record that fields write, its key, and
--- whether it lies in the calendar
+-- how the records of a kind are laid out: their columns, the record that fields write, its key, and whether it lies in
+-- the calendar
 pub record Layout (R : Type 0) : Type 0 where
-  pub header : List (List ℕ)
+  pub columns : List Column
   pub read : List (List ℕ) → Result R FaultKind
   pub key : R → Key
   pub is_within : R → Bool
@@ -58,7 +59,7 @@ records_after layout earlier number (fields ∷ rows) = if nat_lt 5000 number th
 -- the records below the header, which is the first row
 unfoldable pub below_header : {R : Type 0} → Layout R → Table → Result (List R) BatchFault
 below_header layout [] = Err (at 0 WrongHeader)
-below_header layout (header ∷ rows) = if pointwise bytes_eq header layout.header then records_after layout [] 1 rows else Err (at 0 WrongHeader)
+below_header layout (header ∷ rows) = if pointwise bytes_eq header (names layout.columns) then records_after layout [] 1 rows else Err (at 0 WrongHeader)
 
 -- the records of a batch, or its first fault
 unfoldable pub batch_of : {R : Type 0} → Layout R → List ℕ → Result (List R) BatchFault

@@ -14,12 +14,15 @@ use Rattle.wh_policy.specs.declared.record.VoidRecord.{VoidRecord}
 use Rattle.wh_batch.specs.declared.fault.FaultKind.{FaultKind}
 use Rattle.wh_batch.specs.declared.fault.FaultKind.TheVariants.{WrongLength, NotInFormat}
 use Rattle.wh_batch.specs.declared.fault.BatchFault.{BatchFault}
+use Rattle.wh_batch.specs.declared.holds.Holds.{Holds}
+use Rattle.wh_batch.specs.declared.holds.Holds.TheVariants as holds
 use Rattle.wh_batch.specs.declared.kind.Kind.{Kind}
 use Rattle.wh_batch.specs.declared.kind.Kind.TheVariants as kinds
 use Rattle.wh_policy.specs.declared.format.Format.{Format}
 use Rattle.wh_policy.specs.declared.format.Format.TheVariants.{One, Two}
 use Rattle.wh_batch.specs.declared.records.Records.{Records}
 use Rattle.wh_batch.specs.declared.records.Records.TheVariants as of_kind
+use Rattle.wh_batch.specs.Columns.{Column}
 use Rattle.wh_batch.specs.Fields.{key_at, customer_at, day_at, effective_day_at, values_at}
 use Rattle.wh_batch.specs.Numbers.{line_at, quantity_at, amount_at, discount_at}
 use Rattle.wh_batch.specs.Batch.{Key, Layout, at, batch_of}
@@ -38,14 +41,18 @@ dimension_record attributes (id ∷ day ∷ fields) = if not (length fields == a
 abbrev pub dimension_key : DimensionRecord → Key
 dimension_key r = record { text = r.natural; number = r.day }
 
--- `id`, `day` and the names of the attributes
-abbrev pub dimension_header : List Attribute → List (List ℕ)
-dimension_header attributes = codes "id" ∷ codes "day" ∷ map (λ a. a.name) attributes
+-- a column by its name and what it holds
+abbrev pub column : List ℕ → Holds → Column
+column name holds = record { name = name; holds = holds }
+
+-- `id`, `day` and the attributes
+abbrev pub dimension_columns : List Attribute → List Column
+dimension_columns attributes = column (codes "id") holds.Key ∷ column (codes "day") holds.EffectiveDay ∷ map (λ a. column a.name holds.Value) attributes
 
 -- the records of a dimension with these attributes, on any day
 abbrev pub dimension_layout : List Attribute → Layout DimensionRecord
 dimension_layout attributes = record {
-  header = dimension_header attributes;
+  columns = dimension_columns attributes;
   read = dimension_record (length attributes);
   key = dimension_key;
   is_within = λ r. true;
@@ -95,18 +102,22 @@ sale_record format fields = if not (length fields == fields_of_a_sale format) th
 abbrev pub sale_key : SaleRecord → Key
 sale_key r = record { text = r.ticket; number = r.line }
 
--- the names of the fields of a sale
-abbrev pub undiscounted_header : List (List ℕ)
-undiscounted_header = codes "ticket" ∷ codes "line" ∷ codes "day" ∷ codes "store" ∷ codes "product" ∷ codes "customer" ∷ codes "quantity" ∷ codes "amount" ∷ codes "cost" ∷ []
+-- the columns of a sale in the first format
+abbrev pub undiscounted_columns : List Column
+undiscounted_columns =
+    column (codes "ticket") holds.Ticket ∷ column (codes "line") holds.Line ∷ column (codes "day") holds.Day
+    ∷ column (codes "store") holds.Key ∷ column (codes "product") holds.Key ∷ column (codes "customer") holds.CustomerKey
+    ∷ column (codes "quantity") holds.Quantity ∷ column (codes "amount") holds.Amount ∷ column (codes "cost") holds.Amount ∷ []
 
-abbrev pub sales_header : Format → List (List ℕ)
-sales_header One = undiscounted_header
-sales_header Two = undiscounted_header ++ codes "discount" ∷ []
+-- in the second format a discount stands behind them
+abbrev pub sales_columns : Format → List Column
+sales_columns One = undiscounted_columns
+sales_columns Two = undiscounted_columns ++ column (codes "discount") holds.Discount ∷ []
 
 -- sales in these years
 abbrev pub sales_layout : Format → Years → Layout SaleRecord
 sales_layout format years = record {
-  header = sales_header format;
+  columns = sales_columns format;
   read = sale_record format;
   key = sale_key;
   is_within = λ r. is_within years r.day;
@@ -128,14 +139,14 @@ void_record _ = Err WrongLength
 abbrev pub void_key : VoidRecord → Key
 void_key r = record { text = r.ticket; number = r.line }
 
--- the names of the fields of a void
-abbrev pub void_header : List (List ℕ)
-void_header = codes "ticket" ∷ codes "line" ∷ []
+-- the columns of a void
+abbrev pub void_columns : List Column
+void_columns = column (codes "ticket") holds.Ticket ∷ column (codes "line") holds.Line ∷ []
 
 -- voids, which have no day
 abbrev pub voids_layout : Layout VoidRecord
 voids_layout = record {
-  header = void_header;
+  columns = void_columns;
   read = void_record;
   key = void_key;
   is_within = λ r. true;
@@ -151,3 +162,9 @@ unfoldable pub records_of : Kind → Policy → Format → List ℕ → Result R
 records_of (kinds.Dimension dim) policy format bytes = dimension_records dim policy bytes >>= λ rs. Ok (of_kind.Dimension rs)
 records_of kinds.Sales policy format bytes = sale_records policy format bytes >>= λ rs. Ok (of_kind.Sales rs)
 records_of kinds.Voids policy format bytes = void_records format bytes >>= λ rs. Ok (of_kind.Voids rs)
+
+-- the columns of a batch of this kind
+abbrev pub columns_of : Kind → Policy → Format → List Column
+columns_of (kinds.Dimension dim) policy format = dimension_columns (attributes_of policy dim)
+columns_of kinds.Sales policy format = sales_columns format
+columns_of kinds.Voids policy format = void_columns

@@ -1,4 +1,7 @@
 pub mod Batch
+pub mod Entries
+pub mod Columns
+pub mod Faults
 pub mod Fields
 pub mod Grammar
 pub mod Keys
@@ -7,4 +10,5 @@ pub mod Laws
 pub mod Layouts
 pub mod Manifest
 pub mod Numbers
+pub mod ReportList
 pub mod Rows

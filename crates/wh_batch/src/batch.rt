@@ -4,7 +4,10 @@ ghost use Rattle.std.specs.Prelude.{◌≡◌, ◌++◌, ◌∷◌, [], IfOk};
 ghost use Rattle.csv.specs.Records.{fields_of};
 ghost use Rattle.wh_day.specs.Reading.{Gives};
 ghost use Rattle.wh_batch.specs.Batch.{next_record, records_after, batch_of};
+ghost use Rattle.wh_batch.specs.Faults.{key_of_row};
+ghost use Rattle.wh_batch.specs.Keys.{AreSameKeys, UnlessMemory};
 
+use crate::column::is_header;
 use crate::fault::{BatchFault, FaultKind};
 use crate::fields::fields_of;
 use crate::keys::Keys;
@@ -38,7 +41,8 @@ pub(crate) fn batch_of<L: RecordLayout>(
         return Err(fault(0, FaultKind::WrongHeader));
     }
     let header = fields_of(alloc, &row)?;
-    if !layout.is_header(&header) {
+    let columns = layout.columns(alloc)?;
+    if !is_header(&columns, &header) {
         return Err(fault(0, FaultKind::WrongHeader));
     }
     // A record seldom has fewer than 32 bytes.
@@ -73,14 +77,16 @@ fn records_below<L: RecordLayout>(
     Ok(records)
 }
 
+/// The record of a row. Its key counts also where an earlier one has it, and outside the calendar.
 #[tactic(auto, unfolding(crate::specs::Batch::next_record))]
-fn next_record<L: RecordLayout>(
+pub(crate) fn next_record<L: RecordLayout>(
     alloc: Global,
     layout: &L,
     keys: &mut Keys,
     row: &ByteRecord,
 ) -> Result<L::Record, ParseError<FaultKind>>
     ensures reads { Gives (λ r. r) result (next_record (L.layout layout.now) keys.old (fields_of row.now)) }
+    ensures counts { UnlessMemory result (AreSameKeys keys.new (keys.old ++ key_of_row (L.layout layout.now) (fields_of row.now))) }
     ensures keeps { IfOk result (λ r. keys.new ≡ keys.old ++ (L.layout layout.now).key r ∷ []) }
 {
     let record = layout.read(alloc, row)?;

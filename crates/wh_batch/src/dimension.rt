@@ -1,19 +1,19 @@
 //! Batches for dimensions.
 
-ghost use Rattle.std.specs.Prelude.{◌≡◌, map, length};
-ghost use Rattle.std.specs.Str.{bytes_eq};
-ghost use Rattle.std.specs.Cmp.Lexicographic.{pointwise};
+ghost use Rattle.std.specs.Prelude.{◌≡◌, map, IfOk};
 ghost use Rattle.wh_day.specs.Reading.{Gives};
-ghost use Rattle.wh_batch.specs.Layouts.{dimension_record, dimension_records};
+ghost use Rattle.wh_batch.specs.Layouts.{dimension_columns, dimension_record, dimension_records};
 
 use crate::batch::batch_of;
+use crate::column::Column;
 use crate::fault::{BatchFault, FaultKind};
 use crate::fields::{effective_day_of, fields_of, key_of, values_of};
+use crate::holds::Holds;
 use crate::keys::RecordKey;
 use crate::layout::RecordLayout;
 use crate::records::DimensionRecords;
 use csv::ByteRecord;
-use std::alloc::Global;
+use std::alloc::{AllocError, Global};
 use wh_day::ParseError;
 use wh_policy::{Attribute, Dim, DimensionRecord, Policy};
 
@@ -34,10 +34,26 @@ pub fn dimension_records(
     Ok(DimensionRecords::of(batch_of(alloc, &layout, bytes)?))
 }
 
+/// `id`, `day` and the attributes.
+pub(crate) fn dimension_columns(
+    alloc: Global,
+    attributes: &[Attribute],
+) -> Result<Vec<Column<'_>>, AllocError>
+    ensures { IfOk result (λ columns. columns.items ≡ dimension_columns attributes.now) }
+{
+    let mut columns = Vec::with_capacity(alloc, attributes.len())?;
+    columns.push(Column::new("id", Holds::Key))?;
+    columns.push(Column::new("day", Holds::EffectiveDay))?;
+    for attribute in attributes {
+        columns.push(Column::new(attribute.name.as_str(), Holds::Value))?;
+    }
+    Ok(columns)
+}
+
 /// A record has an id, a day, and a value for each attribute.
 #[derive(Drop)]
-struct DimensionLayout<'a> {
-    attributes: &'a [Attribute],
+pub(crate) struct DimensionLayout<'a> {
+    pub(crate) attributes: &'a [Attribute],
 }
 
 impl<'a> RecordLayout for DimensionLayout<'a> {
@@ -47,11 +63,8 @@ impl<'a> RecordLayout for DimensionLayout<'a> {
 
     ghost layout = { λ d. dimension_layout d.attributes.now };
 
-    fn is_header(&self, fields: &[&[u8]]) -> bool {
-        let [id, day, fields @ ..] = fields else {
-            return false;
-        };
-        *id == b"id".as_slice() && *day == b"day".as_slice() && are_names(self.attributes, fields)
+    fn columns(&self, alloc: Global) -> Result<Vec<Column<'_>>, AllocError> {
+        dimension_columns(alloc, self.attributes)
     }
 
     fn read(
@@ -94,16 +107,4 @@ fn dimension_record(
         day,
         values,
     })
-}
-
-fn are_names(attributes: &[Attribute], fields: &[&[u8]]) -> bool
-    ensures { result ≡ pointwise bytes_eq (map (λ f. f.now) fields.now) (map (λ a. a.name) attributes.now) }
-{
-    match (fields, attributes) {
-        ([], []) => true,
-        ([field, fields @ ..], [attribute, attributes @ ..]) => {
-            *field == attribute.name.as_str().as_bytes() && are_names(attributes, fields)
-        }
-        _ => false,
-    }
 }

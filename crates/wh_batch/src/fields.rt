@@ -1,8 +1,7 @@
 //! Reading the fields of a record.
 
-ghost use Rattle.std.specs.Prelude.{◌≡◌, ◌≤◌, map, IfOk, ok_or};
-ghost use Rattle.std.specs.Str.{bytes_eq};
-ghost use Rattle.std.specs.Cmp.Lexicographic.{pointwise};
+ghost use Rattle.std.specs.Prelude.{◌≡◌, ◌≤◌, map, IfOk, ok_or, Some, None, option_map, if◌then◌else◌};
+ghost use Rattle.std.specs.Str.{is_utf8};
 ghost use Rattle.csv.specs.Records.{fields_of};
 ghost use Rattle.wh_day.specs.Reading.{Gives};
 ghost use Rattle.wh_batch.specs.Fields.{key_at, customer_at, day_at, effective_day_at, value_at, values_at};
@@ -25,11 +24,14 @@ pub(crate) fn fields_of(alloc: Global, row: &ByteRecord) -> Result<Vec<&[u8]>, A
     Ok(fields)
 }
 
-/// Whether the fields are those, each by its bytes.
-pub(crate) fn are_same(fields: &[&[u8]], others: &[&[u8]]) -> bool
-    ensures { result ≡ pointwise bytes_eq (map (λ f. f.now) fields.now) (map (λ f. f.now) others.now) }
+/// The text that a field is, if it is one.
+pub(crate) fn text_of(field: &[u8]) -> Option<&str>
+    ensures { option_map (λ text. text.now) result ≡ (if is_utf8 field.now then Some field.now else None) }
 {
-    fields == others
+    match std::str::from_utf8(field) {
+        Ok(text) => Some(text),
+        Err(_) => None,
+    }
 }
 
 /// What was read, or this fault.
@@ -85,7 +87,7 @@ pub(crate) fn effective_day_of(field: &[u8]) -> Result<Day, ParseError<FaultKind
 }
 
 #[tactic(auto, unfolding(crate::specs::Fields::value_at))]
-fn value_of(alloc: Global, field: &[u8]) -> Result<Value, ParseError<FaultKind>>
+pub(crate) fn value_of(alloc: Global, field: &[u8]) -> Result<Value, ParseError<FaultKind>>
     ensures { Gives (λ value. value) result (value_at field.now) }
 {
     or_fault(Value::read(alloc, field)?, FaultKind::BadValue)

@@ -8,10 +8,12 @@ ghost use Rattle.wh_policy.specs.declared.policy.Policy.{Policy};
 ghost use Rattle.wh_policy.specs.declared.policy.Years.{Years};
 ghost use Rattle.wh_policy.specs.declared.format.Format.{Format};
 ghost use Rattle.wh_policy.specs.declared.format.Format.TheVariants.{Two};
-ghost use Rattle.wh_batch.specs.Layouts.{dimension_layout, sales_layout, voids_layout, dimension_records, sale_records, void_records};
+ghost use Rattle.wh_batch.specs.Layouts.{dimension_layout, sales_layout, voids_layout, dimension_records, sale_records, void_records, records_of};
+ghost use Rattle.wh_batch.specs.Faults.{faults_of_kind};
+ghost use Rattle.wh_batch.specs.declared.kind.Kind.{Kind};
 ghost use Rattle.wh_batch.specs.Numbers.{read_hundredths, read_line, read_quantity, read_amount};
 ghost use Rattle.wh_batch.specs.Grammar.{WritesHundredths, WritesLine, WritesQuantity, WritesAmount, Reads};
-ghost use Rattle.wh_batch.specs.Laws.{OneRecordMore, ReadsBatches};
+ghost use Rattle.wh_batch.specs.Laws.{OneRecordMore, ReadsBatches, FaultsByColumns, PointsAtField, FirstIsRead, ListsEachRow, ListsInOrder};
 
 /// A batch with one row more has the fault of those before it, else the last one's, else all records.
 pub fn one_record_more()
@@ -34,4 +36,39 @@ pub fn numbers()
     ensures quantities { Reads read_quantity WritesQuantity }
     ensures amounts { Reads read_amount WritesAmount }
     ensures discounts { Reads read_hundredths WritesHundredths }
+{}
+
+/// A batch has no fault exactly where it is read, and else the first fault that is listed is the one that `read` answers.
+pub fn first_fault_is_read()
+    ensures { (kind : Kind) (policy : Policy) (format : Format) → FirstIsRead (faults_of_kind kind policy format) (records_of kind policy format) }
+{}
+
+/// Of each of the first 5,000 rows just the fault is listed that reading it gives after the keys of the rows before it, if it gives
+/// one, and of all rows behind them that they are too many.
+pub fn each_row_is_listed()
+    ensures dimensions { (attributes : List Attribute) → ListsEachRow (dimension_layout attributes) }
+    ensures sales { (format : Format) (years : Years) → ListsEachRow (sales_layout format years) }
+    ensures voids { ListsEachRow voids_layout }
+{}
+
+/// Faults are listed in the order of the rows, no two of one row.
+pub fn faults_in_order()
+    ensures dimensions { (attributes : List Attribute) → ListsInOrder (dimension_layout attributes) }
+    ensures sales { (format : Format) (years : Years) → ListsInOrder (sales_layout format years) }
+    ensures voids { ListsInOrder voids_layout }
+{}
+
+/// Fields write a record exactly where they are as many as the columns, and each writes what its column holds. Else the fault is
+/// their number, or that of the first field that doesn't.
+pub fn faults_by_columns()
+    ensures dimensions { (attributes : List Attribute) → FaultsByColumns (dimension_layout attributes) }
+    ensures sales { (format : Format) (years : Years) → FaultsByColumns (sales_layout format years) }
+    ensures voids { FaultsByColumns voids_layout }
+{}
+
+/// A fault of a field is told with the place of that field: what stands there is at fault in its column, by just that fault.
+pub fn faults_of_fields()
+    ensures dimensions { (attributes : List Attribute) → PointsAtField (dimension_layout attributes) }
+    ensures sales { (format : Format) (years : Years) → PointsAtField (sales_layout format years) }
+    ensures voids { PointsAtField voids_layout }
 {}

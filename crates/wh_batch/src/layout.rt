@@ -1,17 +1,16 @@
 //! How the records of a kind are laid out.
 
-ghost use Rattle.std.specs.Prelude.{◌≡◌, map};
-ghost use Rattle.std.specs.Str.{bytes_eq};
-ghost use Rattle.std.specs.Cmp.Lexicographic.{pointwise};
+ghost use Rattle.std.specs.Prelude.{◌≡◌, IfOk};
 ghost use Rattle.csv.specs.Records.{fields_of};
 ghost use Rattle.wh_day.specs.Reading.{Gives};
 ghost use Rattle.wh_batch.specs.Batch.{Layout};
 ghost use Rattle.wh_batch.specs.Keys.{key_of};
 
+use crate::column::Column;
 use crate::fault::FaultKind;
 use crate::keys::RecordKey;
 use csv::ByteRecord;
-use std::alloc::Global;
+use std::alloc::{AllocError, Global};
 use wh_day::ParseError;
 
 /// How the records of a kind are laid out.
@@ -20,8 +19,8 @@ pub(crate) trait RecordLayout {
 
     ghost layout: { Self → Layout Self.Record };
 
-    fn is_header(&self, fields: &[&[u8]]) -> bool
-        ensures { result ≡ pointwise bytes_eq (map (λ f. f.now) fields.now) (layout self.now).header };
+    fn columns(&self, alloc: Global) -> Result<Vec<Column<'_>>, AllocError>
+        ensures { IfOk result (λ columns. columns.items ≡ (layout self.now).columns) };
 
     /// The record of a row.
     fn read(&self, alloc: Global, row: &ByteRecord) -> Result<Self::Record, ParseError<FaultKind>>

@@ -1,16 +1,17 @@
-//! Reading a batch of any kind.
+//! Batches of any kind.
 
-ghost use Rattle.std.specs.Prelude.{◌≡◌};
+ghost use Rattle.std.specs.Prelude.{◌≡◌, IfOk};
 ghost use Rattle.wh_day.specs.Reading.{Gives};
-ghost use Rattle.wh_batch.specs.Layouts.{records_of};
+ghost use Rattle.wh_batch.specs.Layouts.{columns_of, records_of};
 
-use crate::dimension::dimension_records;
+use crate::column::Column;
+use crate::dimension::{dimension_columns, dimension_records};
 use crate::fault::BatchFault;
 use crate::kind::Kind;
 use crate::records::Records;
-use crate::sale::sale_records;
-use crate::void::void_records;
-use std::alloc::Global;
+use crate::sale::{sale_columns, sale_records};
+use crate::void::{void_columns, void_records};
+use std::alloc::{AllocError, Global};
 use wh_day::ParseError;
 use wh_policy::{Format, Policy};
 
@@ -32,5 +33,22 @@ pub fn read(
         )?)),
         Kind::Sales => Ok(Records::Sales(sale_records(alloc, policy, format, bytes)?)),
         Kind::Voids => Ok(Records::Voids(void_records(alloc, format, bytes)?)),
+    }
+}
+
+/// The columns of a batch of this kind, in order: its header has their names, and each of its records a field for each. Voids
+/// have theirs in the first format too, which takes none.
+pub fn columns<'a>(
+    alloc: Global,
+    kind: Kind,
+    policy: &'a Policy,
+    format: Format,
+) -> Result<Vec<Column<'a>>, AllocError>
+    ensures { IfOk result (λ columns. columns.items ≡ columns_of kind policy.now format) }
+{
+    match kind {
+        Kind::Dimension(dim) => dimension_columns(alloc, policy.attributes(dim)),
+        Kind::Sales => sale_columns(alloc, format),
+        Kind::Voids => void_columns(alloc),
     }
 }

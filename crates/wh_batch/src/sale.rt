@@ -1,19 +1,21 @@
 //! Batches of sales.
 
-ghost use Rattle.std.specs.Prelude.{◌≡◌, ◌≤◌, map, length, take};
+ghost use Rattle.std.specs.Prelude.{◌≡◌, ◌≤◌, map, length, take, IfOk};
 ghost use Rattle.csv.specs.Records.{fields_of};
 ghost use Rattle.wh_day.specs.Reading.{Gives};
-ghost use Rattle.wh_batch.specs.Layouts.{fields_of_a_sale, undiscounted, discount_in, sale_record, sale_records};
+ghost use Rattle.wh_batch.specs.Layouts.{sales_columns, fields_of_a_sale, undiscounted, discount_in, sale_record, sale_records};
 
 use crate::batch::batch_of;
+use crate::column::Column;
 use crate::fault::{BatchFault, FaultKind};
-use crate::fields::{are_same, customer_of, day_of, key_of};
+use crate::fields::{customer_of, day_of, key_of};
+use crate::holds::Holds;
 use crate::keys::RecordKey;
 use crate::layout::RecordLayout;
 use crate::numbers::{amount_of, discount_of, line_of, quantity_of};
 use crate::records::SaleRecords;
 use csv::ByteRecord;
-use std::alloc::Global;
+use std::alloc::{AllocError, Global};
 use wh_day::ParseError;
 use wh_policy::{Format, Policy, SaleRecord, Years};
 
@@ -34,12 +36,33 @@ pub fn sale_records(
     Ok(SaleRecords::of(batch_of(alloc, &layout, bytes)?))
 }
 
+/// The columns of a sale, of which the first format has nine.
+pub(crate) fn sale_columns<'a>(alloc: Global, format: Format) -> Result<Vec<Column<'a>>, AllocError>
+    ensures { IfOk result (λ columns. columns.items ≡ sales_columns format) }
+{
+    let all = [
+        Column::new("ticket", Holds::Ticket),
+        Column::new("line", Holds::Line),
+        Column::new("day", Holds::Day),
+        Column::new("store", Holds::Key),
+        Column::new("product", Holds::Key),
+        Column::new("customer", Holds::CustomerKey),
+        Column::new("quantity", Holds::Quantity),
+        Column::new("amount", Holds::Amount),
+        Column::new("cost", Holds::Amount),
+        Column::new("discount", Holds::Discount),
+    ];
+    let mut columns = Vec::from_array(alloc, all)?;
+    columns.truncate(fields_of_a_sale(format));
+    Ok(columns)
+}
+
 /// A record has a ticket and a line, a day, a store, a product and perhaps a customer, a quantity, an amount and a cost; in the second
 /// format a discount too.
 #[derive(Drop)]
-struct SalesLayout {
-    format: Format,
-    years: Years,
+pub(crate) struct SalesLayout {
+    pub(crate) format: Format,
+    pub(crate) years: Years,
 }
 
 impl RecordLayout for SalesLayout {
@@ -49,23 +72,8 @@ impl RecordLayout for SalesLayout {
 
     ghost layout = { λ s. sales_layout s.format s.years };
 
-    fn is_header(&self, fields: &[&[u8]]) -> bool {
-        let names: [&[u8]; 10] = [
-            b"ticket",
-            b"line",
-            b"day",
-            b"store",
-            b"product",
-            b"customer",
-            b"quantity",
-            b"amount",
-            b"cost",
-            b"discount",
-        ];
-        match self.format {
-            Format::One => are_same(fields, &names[..9]),
-            Format::Two => are_same(fields, &names),
-        }
+    fn columns(&self, alloc: Global) -> Result<Vec<Column<'_>>, AllocError> {
+        sale_columns(alloc, self.format)
     }
 
     fn read(&self, _alloc: Global, row: &ByteRecord) -> Result<SaleRecord, ParseError<FaultKind>> {

@@ -1,18 +1,20 @@
 //! Batches of voids.
 
-ghost use Rattle.std.specs.Prelude.{map};
+ghost use Rattle.std.specs.Prelude.{◌≡◌, map, IfOk};
 ghost use Rattle.wh_day.specs.Reading.{Gives};
-ghost use Rattle.wh_batch.specs.Layouts.{void_record, void_records};
+ghost use Rattle.wh_batch.specs.Layouts.{void_columns, void_record, void_records};
 
 use crate::batch::{batch_of, fault};
+use crate::column::Column;
 use crate::fault::{BatchFault, FaultKind};
-use crate::fields::{are_same, fields_of, key_of};
+use crate::fields::{fields_of, key_of};
+use crate::holds::Holds;
 use crate::keys::RecordKey;
 use crate::layout::RecordLayout;
 use crate::numbers::line_of;
 use crate::records::VoidRecords;
 use csv::ByteRecord;
-use std::alloc::Global;
+use std::alloc::{AllocError, Global};
 use wh_day::ParseError;
 use wh_policy::{Format, VoidRecord};
 
@@ -32,9 +34,20 @@ pub fn void_records(
     }
 }
 
+/// The columns of a void.
+pub(crate) fn void_columns<'a>(alloc: Global) -> Result<Vec<Column<'a>>, AllocError>
+    ensures { IfOk result (λ columns. columns.items ≡ void_columns) }
+{
+    let columns = [
+        Column::new("ticket", Holds::Ticket),
+        Column::new("line", Holds::Line),
+    ];
+    Ok(Vec::from_array(alloc, columns)?)
+}
+
 /// A record has a ticket and a line.
 #[derive(Drop)]
-struct VoidsLayout;
+pub(crate) struct VoidsLayout;
 
 impl RecordLayout for VoidsLayout {
     ghost use Rattle.wh_batch.specs.Layouts.{voids_layout};
@@ -43,9 +56,8 @@ impl RecordLayout for VoidsLayout {
 
     ghost layout = { λ v. voids_layout };
 
-    fn is_header(&self, fields: &[&[u8]]) -> bool {
-        let names: [&[u8]; 2] = [b"ticket", b"line"];
-        are_same(fields, &names)
+    fn columns(&self, alloc: Global) -> Result<Vec<Column<'_>>, AllocError> {
+        void_columns(alloc)
     }
 
     fn read(&self, alloc: Global, row: &ByteRecord) -> Result<VoidRecord, ParseError<FaultKind>> {

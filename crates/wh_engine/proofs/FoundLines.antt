@@ -1,6 +1,5 @@
 -- How many lines of tickets the tables of accepted commands keep.
-use Rattle.std.proofs.Common.{◌≡◌, ◌+◌, List, [], length, ap, sym, ◌∙◌, arith}
-use Rattle.std.specs.FinMap.{len}
+use Rattle.std.proofs.Common.{◌≡◌, List, length, ap, sym, arith}
 use Rattle.wh_policy.specs.declared.format.Format.{Format}
 use Rattle.wh_policy.specs.declared.format.Format.TheVariants.{One, Two}
 use Rattle.wh_policy.specs.declared.record.VoidRecord.{VoidRecord}

@@ -31,3 +31,4 @@ pub mod DeliveredNights
 pub mod Repeating
 pub mod Keeping
 pub mod Outcomes
+pub mod Previewing

@@ -13,7 +13,7 @@ use Rattle.wh_rows.specs.Tables.{Tables}
 use Rattle.wh_rows.proofs.Places as places
 use Rattle.wh_store.specs.Edits.{IsValid}
 use Rattle.wh_store.proofs.Looping as looping
-use Rattle.wh_store.proofs.Looping.{IsOnTheWay}
+use Rattle.wh_store.proofs.Looping.{IsOnTheWay, in_parts}
 use Rattle.wh_plan.specs.Edits.{with_fact_edit}
 use Rattle.wh_plan.specs.Writable.{IsValidFactEdit}
 use Rattle.wh_plan.specs.declared.edits.FactEdit.{FactEdit}
@@ -61,16 +61,7 @@ pub put_none : (format : Format) (t : Tables) → with_fact_edits format [] t �
 put_none One t = refl
 put_none Two t = refl
 
--- a part, and then the rest
-pub in_parts : {E M : Type 0} (step : E → M → M) (part rest : List E) (m : M) → after_all step (part ++ rest) m ≡ after_all step rest (after_all step part m)
-in_parts step [] rest m = refl
-in_parts step (e ∷ part) rest m = in_parts step part rest (step e m)
-
--- so it is of the facts of a format
+-- a part of the edits, and then the rest
 pub parts_put : (format : Format) (part rest : List FactEdit) (t : Tables) → with_fact_edits format (part ++ rest) t ≡ with_fact_edits format rest (with_fact_edits format part t)
 parts_put One part rest t = ap (λ facts. with_facts_in One facts t) (in_parts with_fact_edit part rest t.fact)
 parts_put Two part rest t = ap (λ facts. with_facts_in Two facts t) (in_parts with_fact_edit part rest t.fact2)
-
-pub all_parts : {E : Type 0} (may : E → Type 0) (part rest : List E) → AllByRecursion may (part ++ rest) → AllByRecursion may part × AllByRecursion may rest
-all_parts may [] rest all = (tt, all)
-all_parts may (e ∷ part) rest all = let both = all_parts may part rest all.1 in ((all.0, both.0), both.1)

@@ -16,3 +16,4 @@ pub mod Handed
 pub mod Outcome
 pub mod Writing
 pub mod Tallied
+pub mod Previewed

@@ -327,7 +327,7 @@ fn decide_upgrade<S: Alter>(
 }
 
 /// What is to be done about a command whose id is new.
-fn decide_new<S: Alter>(
+pub(crate) fn decide_new<S: Alter>(
     tables: &mut Tables<S>,
     alloc: Global,
     session: &Session,

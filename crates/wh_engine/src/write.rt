@@ -20,7 +20,7 @@ use wh_history::{Edit, Fact};
 use wh_plan::{Edits, FactEdit};
 use wh_policy::Format;
 use wh_rows::{Cause, tables};
-use wh_store::{FACTS_AT_ONCE, Tables, Writing};
+use wh_store::{ROWS_AT_ONCE, Tables, Writing};
 
 /// Makes the tables of the second format, where the edits are those of an upgrade.
 fn edit_format<S: Alter>(writing: &mut Writing<'_, S>, edits: &Edits) -> Result<(), Cause>
@@ -52,8 +52,8 @@ fn edit_commands<S: Alter>(
 {
     writing.edit_all::<tables::Meta>(alloc, &edits.meta)?;
     writing.edit_all::<tables::Command>(alloc, &edits.commands)?;
-    writing.edit_all::<tables::Member>(alloc, &edits.members)?;
-    writing.edit_all::<tables::Change>(alloc, &edits.changes)
+    writing.edit_in_parts::<tables::Member>(alloc, &edits.members)?;
+    writing.edit_in_parts::<tables::Change>(alloc, &edits.changes)
 }
 
 /// Makes the edits of product, store and customer.
@@ -67,9 +67,9 @@ fn edit_dimensions<S: Alter>(
     ensures edited { MakesIn S.Store writing.old writing.new result (AreValidDimensions edits.now) (with_dimensions edits.now) }
     ensures counted { OnOk result (writing.new.writes ≡ writing.old.writes + count_dimensions edits.now) }
 {
-    writing.edit_all::<tables::Product>(alloc, &edits.products)?;
-    writing.edit_all::<tables::Store>(alloc, &edits.stores)?;
-    writing.edit_all::<tables::Customer>(alloc, &edits.customers)
+    writing.edit_in_parts::<tables::Product>(alloc, &edits.products)?;
+    writing.edit_in_parts::<tables::Store>(alloc, &edits.stores)?;
+    writing.edit_in_parts::<tables::Customer>(alloc, &edits.customers)
 }
 
 /// Makes one edit of a fact of a format.
@@ -155,7 +155,7 @@ fn edit_all_facts<S: Alter>(
     ensures edited { MakesIn S.Store writing.old writing.new result (AreValidFactEdits format edits.now) (with_fact_edits format edits.now) }
     ensures counted { OnOk result (writing.new.writes ≡ writing.old.writes + length edits.now) }
 {
-    for part in edits.chunks(FACTS_AT_ONCE) {
+    for part in edits.chunks(ROWS_AT_ONCE) {
         edit_facts_at_once(writing, alloc, format, part)?;
     }
     Ok(())
@@ -207,7 +207,7 @@ fn edit_facts<S: Alter>(
     writing.edit_all::<tables::Calendar>(alloc, &edits.calendar)?;
     edit_first_facts(writing, alloc, edits)?;
     edit_all_facts(writing, alloc, Format::Two, &edits.facts2)?;
-    writing.edit_all::<tables::Void>(alloc, &edits.voids)
+    writing.edit_in_parts::<tables::Void>(alloc, &edits.voids)
 }
 
 /// Writes the edits of the rows of a command, in the format that the tables have.

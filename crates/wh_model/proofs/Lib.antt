@@ -24,6 +24,7 @@ pub mod QuietLists
 pub mod GovernedLists
 pub mod Formatted
 pub mod MovedKeys
+pub mod StandingMoves
 pub mod SameLines
 pub mod QuietRows
 pub mod StandingFacts

@@ -1,5 +1,5 @@
 -- What holds of the tables that accepted commands define.
-use Rattle.std.specs.Prelude.{◌≡◌, ◌≢◌, ◌↔◌, ◌<◌, ℕ, true, false, if◌then◌else◌, List, [], ◌∷◌, ◌++◌, Option, Some, None, Ok, option_map, unwrap_or}
+use Rattle.std.specs.Prelude.{◌≡◌, ◌≢◌, ◌↔◌, ◌<◌, ℕ, ◌==◌, ◌&&◌, true, false, if◌then◌else◌, List, [], ◌∷◌, ◌++◌, Option, Some, None, Ok, option_map, unwrap_or, find, bytes_eq}
 use Rattle.std.specs.List.{list_any}
 use Rattle.wh_policy.specs.Policy.{policy_at}
 use Rattle.wh_policy.specs.Types.{is_outrigger}
@@ -10,7 +10,7 @@ use Rattle.wh_policy.specs.declared.attribute.Dim.TheVariants.{Product, Store, C
 use Rattle.wh_policy.specs.declared.record.DimensionRecord.{DimensionRecord}
 use Rattle.wh_policy.specs.declared.record.SaleRecord.{SaleRecord}
 use Rattle.wh_policy.specs.declared.record.VoidRecord.{VoidRecord}
-use Rattle.wh_history.specs.Accepted.{Accepted, Describes, Withdraws, policy_after, types_in, durable_key, member_of, member_of_sale, sold, withdrawn, withdraws_line}
+use Rattle.wh_history.specs.Accepted.{Accepted, Describes, Withdraws, policy_after, types_in, durable_key, member_of, member_of_sale, sold, standing, withdrawn, withdraws_line}
 use Rattle.wh_history.specs.Facts.{new_keys}
 use Rattle.wh_history.specs.Shapes.{shape_after, rendered_in}
 use Rattle.wh_history.specs.Keys.{at_place}
@@ -86,6 +86,23 @@ LateRecordsMoveFacts = (commands : List Accepted) (c : Accepted) (dim : Dim) (re
     → (dim ≡ Customer → ShowsNoProfile commands Product × ShowsNoProfile commands Store)
     → at_place number (sold commands) ≡ Some s
     → fact_of (commands ++ c ∷ []) s ≡ followed (commands ++ c ∷ []) dim s (fact_of commands s)
+
+-- the sale that stands in a line: the one that was sold there, where it was not withdrawn
+abbrev pub standing_at : List Accepted → LineKey → Option SaleRecord
+standing_at commands key = find (λ s. bytes_eq s.ticket key.ticket && (s.line == key.line)) (standing commands)
+
+-- what holds of a line after a batch of records: the fact of the sale that stands there moved, and where there was no fact there is none
+pub record MovesStandingFact (before after : List Accepted) (dim : Dim) (key : LineKey) : Type 0 where
+  pub stood : fact_at before key ≡ option_map (fact_of before) (standing_at before key)
+  pub moved : fact_at after key ≡ option_map (λ s. followed after dim s (fact_of before s)) (standing_at before key)
+  pub none : fact_at before key ≡ None → fact_at after key ≡ None
+
+-- A batch of records moves facts of sales that stand and no others: no line gets a fact by it, be it one that was never sold or one that was withdrawn.
+abbrev pub LateRecordsMoveStandingFacts : Type 0
+LateRecordsMoveStandingFacts = (commands : List Accepted) (c : Accepted) (dim : Dim) (records : List DimensionRecord) (key : LineKey)
+    → c.content ≡ Describes dim records
+    → (dim ≡ Customer → ShowsNoProfile commands Product × ShowsNoProfile commands Store)
+    → MovesStandingFact commands (commands ++ c ∷ []) dim key
 
 -- what a fact names of a member: its durable key, which is not 0, and its one row that holds the day
 pub record NamesMember (commands : List Accepted) (dim : Dim) (natural : List ℕ) (day durable key : ℕ) : Type 0 where

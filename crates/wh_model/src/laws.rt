@@ -1,6 +1,6 @@
 //! Laws of the tables that accepted commands define. They speak of the definitions alone and do nothing.
 
-ghost use Rattle.wh_model.specs.Laws.{AcceptedListsBegin, FactsAreEffective, LateRecordsMoveFacts, SecondKeysAreApart, SoundPoliciesShowNone, UntouchedMembersKeep, VoidsTakeOutFacts, WithdrawnLinesStaySold};
+ghost use Rattle.wh_model.specs.Laws.{AcceptedListsBegin, FactsAreEffective, LateRecordsMoveFacts, LateRecordsMoveStandingFacts, SecondKeysAreApart, SoundPoliciesShowNone, UntouchedMembersKeep, VoidsTakeOutFacts, WithdrawnLinesStaySold};
 
 /// Under a sound policy no row of a product or a store shows a profile, as a batch of customers asks.
 pub fn sound_policies_show_none()
@@ -27,6 +27,12 @@ pub fn second_keys_are_apart()
 /// other keys as they were. A late record moves facts of its own member alone.
 pub fn late_records_move_facts()
     ensures { LateRecordsMoveFacts }
+{}
+
+/// A batch of records moves facts of sales that stand and no others. A line that has no fact gets none by it, be it one that
+/// was never sold or one that was withdrawn.
+pub fn late_records_move_standing_facts()
+    ensures { LateRecordsMoveStandingFacts }
 {}
 
 /// Each fact of the table is that of an accepted sale of its line, and names, in each dimension, the member that this sale names

@@ -76,7 +76,7 @@ fn add(
 }
 
 impl Policy {
-    /// The policy that the bytes of a file write: a TOML text of at most [`POLICY_LIMIT`](crate::POLICY_LIMIT) bytes, as docs/formats.md says.
+    /// The policy that the bytes of a file write: a TOML text of at most [`POLICY_LIMIT`](crate::POLICY_LIMIT) bytes, as docs/policies.md says.
     ///
     /// The fault is the first one in the order that stands there; [`ParseError::Memory`] where memory ran out.
     #[tactic(auto, unfolding(crate::specs::Policy::policy_at))]

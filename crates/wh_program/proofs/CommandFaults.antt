@@ -5,7 +5,7 @@ use Rattle.clap.specs.Words.{Kinds, Text, subcommand_of}
 use Rattle.clap.specs.declared.error.kind.ErrorKind.{ErrorKind}
 use Rattle.clap.specs.declared.error.kind.ErrorKind.TheVariants.{MissingSubcommand}
 use Rattle.clap.proofs.OnLiterals.{clap_on_literals}
-use Rattle.wh_program.specs.CommandLine.{CommandLine, Trial, Init, Load, Migrate, Upgrade, Deliver, Plan, Report, Dump, Check, Status, program_app, words_of, is_operand, has_operands, named, Says}
+use Rattle.wh_program.specs.CommandLine.{CommandLine, Trial, Init, Load, Migrate, Upgrade, Deliver, Plan, Explain, Report, Reports, Dump, Check, Status, program_app, words_of, is_operand, has_operands, named, Says}
 use Rattle.wh_program.specs.Task.{task_of, no_line, when_none, faults_in, asked_by}
 use Rattle.wh_program.proofs.CommandLineLemmas.{IsPlain, plain, both, found}
 
@@ -43,11 +43,23 @@ plan_faultless : (f k i p : Text) → IsPlain f → IsPlain k → IsPlain i → 
 unfolding faults_in clap_on_literals
 plan_faultless f k i p f-is k-is i-is p-is = rw (f-is.no_end, f-is.no_long, f-is.no_short, k-is.no_end, k-is.no_long, k-is.no_short, i-is.no_end, i-is.no_long, i-is.no_short, p-is.no_end, p-is.no_long, p-is.no_short) refl
 
+explain_faultless : (f k : Text) → IsPlain f → IsPlain k → faults_in (words_of (Explain f k None)) ≡ []
+unfolding faults_in clap_on_literals
+explain_faultless f k f-is k-is = rw (f-is.no_end, f-is.no_long, f-is.no_short, k-is.no_end, k-is.no_long, k-is.no_short) refl
+
+explain_input_faultless : (f k i : Text) → IsPlain f → IsPlain k → IsPlain i → faults_in (words_of (Explain f k (Some i))) ≡ []
+unfolding faults_in clap_on_literals
+explain_input_faultless f k i f-is k-is i-is = rw (f-is.no_end, f-is.no_long, f-is.no_short, k-is.no_end, k-is.no_long, k-is.no_short, i-is.no_end, i-is.no_long, i-is.no_short) refl
+
 report_faultless : (f a m d t : Text) → IsPlain f → IsPlain a → IsPlain m → IsPlain d → IsPlain t → faults_in (words_of (Report f a m d t)) ≡ []
 unfolding faults_in clap_on_literals
 report_faultless f a m d t f-is a-is m-is d-is t-is = rw (f-is.no_end, f-is.no_long, f-is.no_short, a-is.no_end, a-is.no_long, a-is.no_short)
     (rw (m-is.no_end, m-is.no_long, m-is.no_short, d-is.no_end, d-is.no_long, d-is.no_short)
     (rw (t-is.no_end, t-is.no_long, t-is.no_short) refl))
+
+reports_faultless : (f l : Text) → IsPlain f → IsPlain l → faults_in (words_of (Reports f l)) ≡ []
+unfolding faults_in clap_on_literals
+reports_faultless f l f-is l-is = rw (f-is.no_end, f-is.no_long, f-is.no_short, l-is.no_end, l-is.no_long, l-is.no_short) refl
 
 dump_faultless : (f t : Text) → IsPlain f → IsPlain t → faults_in (words_of (Dump f t)) ≡ []
 unfolding faults_in clap_on_literals
@@ -87,12 +99,21 @@ faultless (Plan f k i p) is =
     let k-is = both (is_operand k) _ f-is.1 in
     let i-is = both (is_operand i) _ k-is.1 in
     plan_faultless f k i p (plain f f-is.0) (plain k k-is.0) (plain i i-is.0) (plain p i-is.1)
+faultless (Explain f k None) is =
+    let f-is = both (is_operand f) _ is in
+    let k-is = both (is_operand k) _ f-is.1 in
+    explain_faultless f k (plain f f-is.0) (plain k k-is.0)
+faultless (Explain f k (Some i)) is =
+    let f-is = both (is_operand f) _ is in
+    let k-is = both (is_operand k) _ f-is.1 in
+    explain_input_faultless f k i (plain f f-is.0) (plain k k-is.0) (plain i k-is.1)
 faultless (Report f a m d t) is =
     let f-is = both (is_operand f) _ is in
     let a-is = both (is_operand a) _ f-is.1 in
     let m-is = both (is_operand m) _ a-is.1 in
     let d-is = both (is_operand d) _ m-is.1 in
     report_faultless f a m d t (plain f f-is.0) (plain a a-is.0) (plain m m-is.0) (plain d d-is.0) (plain t d-is.1)
+faultless (Reports f l) is = let f-is = both (is_operand f) _ is in reports_faultless f l (plain f f-is.0) (plain l f-is.1)
 faultless (Dump f t) is = let f-is = both (is_operand f) _ is in dump_faultless f t (plain f f-is.0) (plain t f-is.1)
 faultless (Check f) is = check_faultless f (plain f is)
 faultless (Status f) is = status_faultless f (plain f is)

@@ -3,7 +3,7 @@ use Rattle.std.proofs.Common.{◌≡◌, [], ◌∷◌, refl, sym, true, false, 
 use Rattle.clap.specs.Words.{is_simple, takes, subcommand_of, Text}
 use Rattle.clap.specs.Lexer.{long_of, short_of}
 use Rattle.clap.proofs.OnLiterals.{clap_on_literals}
-use Rattle.wh_program.specs.CommandLine.{CommandLine, Trial, Init, Load, Migrate, Upgrade, Deliver, Plan, Report, Dump, Check, Status, program_app, words_of, is_operand, has_operands, named}
+use Rattle.wh_program.specs.CommandLine.{CommandLine, Trial, Init, Load, Migrate, Upgrade, Deliver, Plan, Explain, Report, Reports, Dump, Check, Status, program_app, words_of, is_operand, has_operands, named}
 
 not-true : (b : Bool) → not b ≡ true → b ≡ false
 not-true true h = cc
@@ -93,6 +93,22 @@ plan_named : (f k i p : Text) → IsPlain f → IsPlain k → IsPlain i → IsPl
 unfolding clap_on_literals
 plan_named f k i p f-is k-is i-is p-is = rw (f-is.no_end, f-is.no_long, f-is.no_short, k-is.no_end, k-is.no_long, k-is.no_short, i-is.no_end, i-is.no_long, i-is.no_short, p-is.no_end, p-is.no_long, p-is.no_short) (refl {a = Some (Plan f k i p)})
 
+explain_taken : (f k : Text) → IsPlain f → IsPlain k → takes program_app (words_of (Explain f k None)) ≡ true
+unfolding clap_on_literals
+explain_taken f k f-is k-is = rw (f-is.no_end, f-is.no_long, f-is.no_short, k-is.no_end, k-is.no_long, k-is.no_short) refl
+
+explain_named : (f k : Text) → IsPlain f → IsPlain k → named (subcommand_of program_app (words_of (Explain f k None))) ≡ Some (Explain f k None)
+unfolding clap_on_literals
+explain_named f k f-is k-is = rw (f-is.no_end, f-is.no_long, f-is.no_short, k-is.no_end, k-is.no_long, k-is.no_short) (refl {a = Some (Explain f k None)})
+
+explain_input_taken : (f k i : Text) → IsPlain f → IsPlain k → IsPlain i → takes program_app (words_of (Explain f k (Some i))) ≡ true
+unfolding clap_on_literals
+explain_input_taken f k i f-is k-is i-is = rw (f-is.no_end, f-is.no_long, f-is.no_short, k-is.no_end, k-is.no_long, k-is.no_short, i-is.no_end, i-is.no_long, i-is.no_short) refl
+
+explain_input_named : (f k i : Text) → IsPlain f → IsPlain k → IsPlain i → named (subcommand_of program_app (words_of (Explain f k (Some i)))) ≡ Some (Explain f k (Some i))
+unfolding clap_on_literals
+explain_input_named f k i f-is k-is i-is = rw (f-is.no_end, f-is.no_long, f-is.no_short, k-is.no_end, k-is.no_long, k-is.no_short, i-is.no_end, i-is.no_long, i-is.no_short) (refl {a = Some (Explain f k (Some i))})
+
 report_taken : (f a m d t : Text) → IsPlain f → IsPlain a → IsPlain m → IsPlain d → IsPlain t → takes program_app (words_of (Report f a m d t)) ≡ true
 unfolding clap_on_literals
 report_taken f a m d t f-is a-is m-is d-is t-is = rw (f-is.no_end, f-is.no_long, f-is.no_short, a-is.no_end, a-is.no_long, a-is.no_short)
@@ -104,6 +120,14 @@ unfolding clap_on_literals
 report_named f a m d t f-is a-is m-is d-is t-is = rw (f-is.no_end, f-is.no_long, f-is.no_short, a-is.no_end, a-is.no_long, a-is.no_short)
     (rw (m-is.no_end, m-is.no_long, m-is.no_short, d-is.no_end, d-is.no_long, d-is.no_short)
     (rw (t-is.no_end, t-is.no_long, t-is.no_short) (refl {a = Some (Report f a m d t)})))
+
+reports_taken : (f l : Text) → IsPlain f → IsPlain l → takes program_app (words_of (Reports f l)) ≡ true
+unfolding clap_on_literals
+reports_taken f l f-is l-is = rw (f-is.no_end, f-is.no_long, f-is.no_short, l-is.no_end, l-is.no_long, l-is.no_short) refl
+
+reports_named : (f l : Text) → IsPlain f → IsPlain l → named (subcommand_of program_app (words_of (Reports f l))) ≡ Some (Reports f l)
+unfolding clap_on_literals
+reports_named f l f-is l-is = rw (f-is.no_end, f-is.no_long, f-is.no_short, l-is.no_end, l-is.no_long, l-is.no_short) refl
 
 dump_taken : (f t : Text) → IsPlain f → IsPlain t → takes program_app (words_of (Dump f t)) ≡ true
 unfolding clap_on_literals
@@ -156,12 +180,21 @@ taken (Plan f k i p) is =
     let k-is = both (is_operand k) _ f-is.1 in
     let i-is = both (is_operand i) _ k-is.1 in
     plan_taken f k i p (plain f f-is.0) (plain k k-is.0) (plain i i-is.0) (plain p i-is.1)
+taken (Explain f k None) is =
+    let f-is = both (is_operand f) _ is in
+    let k-is = both (is_operand k) _ f-is.1 in
+    explain_taken f k (plain f f-is.0) (plain k k-is.0)
+taken (Explain f k (Some i)) is =
+    let f-is = both (is_operand f) _ is in
+    let k-is = both (is_operand k) _ f-is.1 in
+    explain_input_taken f k i (plain f f-is.0) (plain k k-is.0) (plain i k-is.1)
 taken (Report f a m d t) is =
     let f-is = both (is_operand f) _ is in
     let a-is = both (is_operand a) _ f-is.1 in
     let m-is = both (is_operand m) _ a-is.1 in
     let d-is = both (is_operand d) _ m-is.1 in
     report_taken f a m d t (plain f f-is.0) (plain a a-is.0) (plain m m-is.0) (plain d d-is.0) (plain t d-is.1)
+taken (Reports f l) is = let f-is = both (is_operand f) _ is in reports_taken f l (plain f f-is.0) (plain l f-is.1)
 taken (Dump f t) is = let f-is = both (is_operand f) _ is in dump_taken f t (plain f f-is.0) (plain t f-is.1)
 taken (Check f) is = check_taken f (plain f is)
 taken (Status f) is = status_taken f (plain f is)
@@ -193,12 +226,21 @@ found (Plan f k i p) is =
     let k-is = both (is_operand k) _ f-is.1 in
     let i-is = both (is_operand i) _ k-is.1 in
     plan_named f k i p (plain f f-is.0) (plain k k-is.0) (plain i i-is.0) (plain p i-is.1)
+found (Explain f k None) is =
+    let f-is = both (is_operand f) _ is in
+    let k-is = both (is_operand k) _ f-is.1 in
+    explain_named f k (plain f f-is.0) (plain k k-is.0)
+found (Explain f k (Some i)) is =
+    let f-is = both (is_operand f) _ is in
+    let k-is = both (is_operand k) _ f-is.1 in
+    explain_input_named f k i (plain f f-is.0) (plain k k-is.0) (plain i k-is.1)
 found (Report f a m d t) is =
     let f-is = both (is_operand f) _ is in
     let a-is = both (is_operand a) _ f-is.1 in
     let m-is = both (is_operand m) _ a-is.1 in
     let d-is = both (is_operand d) _ m-is.1 in
     report_named f a m d t (plain f f-is.0) (plain a a-is.0) (plain m m-is.0) (plain d d-is.0) (plain t d-is.1)
+found (Reports f l) is = let f-is = both (is_operand f) _ is in reports_named f l (plain f f-is.0) (plain l f-is.1)
 found (Dump f t) is = let f-is = both (is_operand f) _ is in dump_named f t (plain f f-is.0) (plain t f-is.1)
 found (Check f) is = check_named f (plain f is)
 found (Status f) is = status_named f (plain f is)

@@ -8,7 +8,9 @@ pub mod RoomLemmas
 pub mod InputLemmas
 pub mod OutputLemmas
 pub mod ReadingLemmas
+pub mod ReportListLemmas
 pub mod WarehouseLemmas
+pub mod ExplainLemmas
 pub mod CheckLemmas
 pub mod DeliveryLemmas
 pub mod ManifestLemmas

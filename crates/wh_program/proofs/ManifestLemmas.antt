@@ -1,4 +1,4 @@
--- A manifest that ends in a byte that is in no text is a bad one.
+-- A list of entries that are texts is a bad one where it ends in a byte that is in no text.
 use Rattle.std.proofs.Common.{◌≡◌, ◌⊎◌, inl, inr, refl, sym, subst, ap, arith, Bool, true, false, ℕ, zero, suc, ◌+◌, ◌<◌, ◌≤◌, List, [], ◌∷◌, ◌++◌, length, take, encode_utf8, encode_utf8_all, Some, None, Err}
 use Rattle.std.specs.Prelude.{◌&&◌, ◌||◌, ◌==◌, ⊤, if◌then◌else◌, nat_lt}
 use Rattle.std.specs.Str.{is_utf8, IsUtf8, IsCharBoundary}
@@ -14,10 +14,12 @@ use Rattle.csv.specs.declared.parser.State.{State}
 use Rattle.csv.specs.declared.parser.State.TheVariants as st
 use Rattle.csv.specs.Machine.{step, in_field, start_field, start_record, ends_with, is_end, fields_after, field_after, next_record}
 use Rattle.csv.specs.Reading.{default_config, records, records_from, strip_bom, is_bom}
-use Rattle.wh_batch.specs.Manifest.{entry_of, entries_from, manifest_of}
+use Rattle.wh_batch.specs.Entries.{Writes, entries_from, list_of}
+use Rattle.wh_batch.specs.Manifest.{entry_of}
+use Rattle.wh_batch.specs.ReportList.{listed_report}
 use Rattle.wh_batch.specs.declared.manifest.BadManifest.{BadManifest}
 use Rattle.wh_program.specs.Inputs.{manifest_limit, manifest_part}
-use Rattle.wh_program.specs.Laws.{LongManifestsAreBad}
+use Rattle.wh_program.specs.Laws.{LongListsAreBad}
 
 -- ---- the byte is in no text
 
@@ -133,13 +135,61 @@ next s fields field (c ∷ rest) plain =
 
 -- ---- the entries
 
+-- no record whose last field ends in the byte is an entry
+abbrev pub RefusesCut : {E : Type 0} → Writes E → Type 0
+RefusesCut entry = (before : List (List ℕ)) (cut : List ℕ) → entry (before ++ (cut ++ 255 ∷ []) ∷ []) ≡ None
+
+module _ {E : Type 0} (entry : Writes E) (refuses : RefusesCut entry) where
+  abbrev IsBad : ℕ → List (List (List ℕ)) → Type 0
+  IsBad number rows = (bad : BadManifest) × (entries_from entry number rows ≡ Err bad)
+
+  bad_here : (number : ℕ) (fields : List (List ℕ)) (rows : List (List (List ℕ))) → entry fields ≡ None → IsBad number (fields ∷ rows)
+  unfolding entries_from
+  bad_here number fields rows none = (record { number = number }, rw none refl)
+
+  bad_later : (number : ℕ) (fields : List (List ℕ)) (rows : List (List (List ℕ))) → IsBad (number + 1) rows → IsBad number (fields ∷ rows)
+  unfolding entries_from
+  bad_later number fields rows (bad, is) = elim (entry fields) as (λ e. entry fields ≡ e → IsBad number (fields ∷ rows)) [
+    | Some first ↦ λ some. (bad, rw (some, is) refl)
+    | None ↦ λ none. bad_here number fields rows none
+  ] refl
+
+  bad_from : (turns : ℕ) (s : State) (bytes : List ℕ) (number : ℕ) → NoComment s → length bytes < turns → IsBad number (records_from default_config turns s (bytes ++ 255 ∷ []))
+  unfolding records_from
+  bad_from zero s bytes number plain few = absurd (omega arith)
+  bad_from (suc turns) s bytes number plain few = elim (next s [] [] bytes plain) [
+    | inl e ↦ rw e.is (bad_here number (e.before ++ (e.cut ++ 255 ∷ []) ∷ []) _ (refuses e.before e.cut))
+    | inr g ↦ rw g.is (bad_later number g.first _ (bad_from turns g.then_in g.left (number + 1) g.plain (omega (arith, g.shorter))))
+  ]
+
+  whole_is_bad : (bytes : List ℕ) → IsBad 1 (records default_config (bytes ++ 255 ∷ []))
+  whole_is_bad bytes = bad_from (length (bytes ++ 255 ∷ []) + 1) st.StartRecord bytes 1 tt (omega (arith, length-append bytes (255 ∷ [])))
+
+  cut_is_bad : (bytes : List ℕ) → 3 ≤ length bytes → (bad : BadManifest) × (list_of entry (bytes ++ 255 ∷ []) ≡ Err bad)
+  unfolding list_of strip_bom
+  cut_is_bad [] long = absurd (omega arith)
+  cut_is_bad (a ∷ []) long = absurd (omega arith)
+  cut_is_bad (a ∷ b ∷ []) long = absurd (omega arith)
+  cut_is_bad (a ∷ b ∷ c ∷ rest) long = elim (is_bom a b c) as (λ t. IsBad 1 (records default_config (if t then rest ++ 255 ∷ [] else a ∷ b ∷ c ∷ (rest ++ 255 ∷ [])))) [
+    | true ↦ whole_is_bad rest
+    | false ↦ whole_is_bad (a ∷ b ∷ c ∷ rest)
+  ]
+
+  -- so is what counts of a list that is longer than the limit
+  pub long_lists : LongListsAreBad (list_of entry)
+  unfolding manifest_part
+  long_lists bytes longer =
+      let past : nat_lt manifest_limit (length bytes) ≡ true = lt-ltb manifest_limit (length bytes) longer in
+      rw past (cut_is_bad (take manifest_limit bytes) (omega (arith, length-take manifest_limit bytes)))
+
+-- ---- the entries of a manifest, and the reports of a list
+
 never : (a b : Bool) → (a && b && false) ≡ false
 never true true = refl
 never true false = refl
 never false b = refl
 
--- a record whose last field ends in the byte
-cut_entry : (before : List (List ℕ)) (cut : List ℕ) → entry_of (before ++ (cut ++ 255 ∷ []) ∷ []) ≡ None
+pub cut_entry : RefusesCut entry_of
 unfolding entry_of
 cut_entry [] cut = refl
 cut_entry (a ∷ []) cut = refl
@@ -147,44 +197,17 @@ cut_entry (a ∷ b ∷ []) cut = rw (no_text cut, never (is_utf8 a) (is_utf8 b))
 cut_entry (a ∷ b ∷ c ∷ []) cut = refl
 cut_entry (a ∷ b ∷ c ∷ d ∷ rest) cut = refl
 
-abbrev IsBad : ℕ → List (List (List ℕ)) → Type 0
-IsBad number rows = (bad : BadManifest) × (entries_from number rows ≡ Err bad)
+never_either : (a b c : Bool) → (a && b && c && false) ≡ false
+never_either true true true = refl
+never_either true true false = refl
+never_either true false c = refl
+never_either false b c = refl
 
-bad_here : (number : ℕ) (fields : List (List ℕ)) (rows : List (List (List ℕ))) → entry_of fields ≡ None → IsBad number (fields ∷ rows)
-unfolding entries_from
-bad_here number fields rows none = (record { number = number }, rw none refl)
-
-bad_later : (number : ℕ) (fields : List (List ℕ)) (rows : List (List (List ℕ))) → IsBad (number + 1) rows → IsBad number (fields ∷ rows)
-unfolding entries_from
-bad_later number fields rows (bad, is) = elim (entry_of fields) as (λ e. entry_of fields ≡ e → IsBad number (fields ∷ rows)) [
-  | Some entry ↦ λ some. (bad, rw (some, is) refl)
-  | None ↦ λ none. bad_here number fields rows none
-] refl
-
-bad_from : (turns : ℕ) (s : State) (bytes : List ℕ) (number : ℕ) → NoComment s → length bytes < turns → IsBad number (records_from default_config turns s (bytes ++ 255 ∷ []))
-unfolding records_from
-bad_from zero s bytes number plain few = absurd (omega arith)
-bad_from (suc turns) s bytes number plain few = elim (next s [] [] bytes plain) [
-  | inl e ↦ rw e.is (bad_here number (e.before ++ (e.cut ++ 255 ∷ []) ∷ []) _ (cut_entry e.before e.cut))
-  | inr g ↦ rw g.is (bad_later number g.first _ (bad_from turns g.then_in g.left (number + 1) g.plain (omega (arith, g.shorter))))
-]
-
-whole_is_bad : (bytes : List ℕ) → IsBad 1 (records default_config (bytes ++ 255 ∷ []))
-whole_is_bad bytes = bad_from (length (bytes ++ 255 ∷ []) + 1) st.StartRecord bytes 1 tt (omega (arith, length-append bytes (255 ∷ [])))
-
-cut_is_bad : (bytes : List ℕ) → 3 ≤ length bytes → (bad : BadManifest) × (manifest_of (bytes ++ 255 ∷ []) ≡ Err bad)
-unfolding manifest_of strip_bom
-cut_is_bad [] long = absurd (omega arith)
-cut_is_bad (a ∷ []) long = absurd (omega arith)
-cut_is_bad (a ∷ b ∷ []) long = absurd (omega arith)
-cut_is_bad (a ∷ b ∷ c ∷ rest) long = elim (is_bom a b c) as (λ t. IsBad 1 (records default_config (if t then rest ++ 255 ∷ [] else a ∷ b ∷ c ∷ (rest ++ 255 ∷ [])))) [
-  | true ↦ whole_is_bad rest
-  | false ↦ whole_is_bad (a ∷ b ∷ c ∷ rest)
-]
-
--- so is what counts of one that is longer than the limit
-pub long_manifests : LongManifestsAreBad
-unfolding manifest_part
-long_manifests bytes longer =
-    let past : nat_lt manifest_limit (length bytes) ≡ true = lt-ltb manifest_limit (length bytes) longer in
-    rw past (cut_is_bad (take manifest_limit bytes) (omega (arith, length-take manifest_limit bytes)))
+pub cut_report : RefusesCut listed_report
+unfolding listed_report
+cut_report [] cut = refl
+cut_report (a ∷ []) cut = refl
+cut_report (a ∷ b ∷ []) cut = refl
+cut_report (a ∷ b ∷ c ∷ []) cut = rw (no_text cut, never_either (is_utf8 a) (is_utf8 b) (is_utf8 c)) refl
+cut_report (a ∷ b ∷ c ∷ d ∷ []) cut = refl
+cut_report (a ∷ b ∷ c ∷ d ∷ e ∷ rest) cut = refl

@@ -14,7 +14,7 @@ use Rattle.clap.specs.declared.error.kind.ErrorKind.TheVariants.{DisplayHelp, In
 use Rattle.clap.proofs.FaultLemmas.{stopped_fault}
 use Rattle.clap.proofs.OnLiterals.{clap_on_literals}
 use Rattle.clap.proofs.WalkLemmas.{walk_stopped}
-use Rattle.wh_program.specs.CommandLine.{CommandLine, Trial, Init, Load, Migrate, Upgrade, Deliver, Plan, Report, Dump, Check, Status, program_app, is_operand, Says}
+use Rattle.wh_program.specs.CommandLine.{CommandLine, Trial, Init, Load, Migrate, Upgrade, Deliver, Plan, Explain, Report, Reports, Dump, Check, Status, program_app, is_operand, Says}
 use Rattle.wh_program.specs.Task.{faults_in, asked_by}
 use Rattle.wh_program.proofs.CommandLineLemmas.{IsPlain, plain, both}
 use Rattle.wh_program.proofs.CommandFaults.{not_asked, no_words}
@@ -343,6 +343,45 @@ plan_fits (f ∷ k ∷ i ∷ p ∷ x ∷ more) is =
     let x-is = both (is_operand x) _ p-is.1 in
     inr (plan_into (f ∷ k ∷ i ∷ p ∷ x ∷ more) UnknownArgument [] (stray (leaf (codes "plan")) (f ∷ k ∷ i ∷ p ∷ x ∷ more) UnknownArgument [] (plan_and_more f k i p x more (plain f f-is.0) (plain k k-is.0) (plain i i-is.0) (plain p p-is.0) (plain x x-is.0))))
 
+-- ---- explain
+
+explain_into : (rest : List Text) (k : ErrorKind) (ks : Kinds) → level_fault (leaf (codes "explain")) [] nothing_held rest false [] ≡ k ∷ ks → asked_by (codes "explain" ∷ rest) ≡ None
+unfolding faults_in clap_on_literals
+explain_into rest k ks level = not_asked (codes "explain" ∷ rest) k ks (into (built program_app) (codes "explain") rest (leaf (codes "explain")) k ks refl refl refl level)
+
+explain_lacks_0 : level_fault (leaf (codes "explain")) [] nothing_held ([]) false [] ≡ MissingRequiredArgument ∷ []
+unfolding clap_on_literals
+explain_lacks_0 = refl
+
+explain_lacks_1 : (f : Text) → IsPlain f → level_fault (leaf (codes "explain")) [] nothing_held (f ∷ []) false [] ≡ MissingRequiredArgument ∷ []
+unfolding clap_on_literals
+explain_lacks_1 f f-is = rw (f-is.no_end, f-is.no_long, f-is.no_short) refl
+
+explain_and_more : (f k i x : Text) (more : List Text) → IsPlain f → IsPlain k → IsPlain i → IsPlain x → walk_fault (leaf (codes "explain")) [] (walk_from nothing_held) (f ∷ k ∷ i ∷ x ∷ more) ≡ UnknownArgument ∷ []
+unfolding clap_on_literals
+explain_and_more f k i x more f-is k-is i-is x-is = rw (f-is.no_end, f-is.no_long, f-is.no_short, k-is.no_end, k-is.no_long, k-is.no_short) (rw (i-is.no_end, i-is.no_long, i-is.no_short, x-is.no_end, x-is.no_long, x-is.no_short) refl)
+
+explain_fits : (rest : List Text) → list_all is_operand rest ≡ true → Fits (codes "explain" ∷ rest)
+explain_fits [] is = inr (explain_into ([]) MissingRequiredArgument [] explain_lacks_0)
+explain_fits (f ∷ []) is =
+    let f-is = both (is_operand f) _ is in
+    inr (explain_into (f ∷ []) MissingRequiredArgument [] (explain_lacks_1 f (plain f f-is.0)))
+explain_fits (f ∷ k ∷ []) is =
+    let f-is = both (is_operand f) _ is in
+    let k-is = both (is_operand k) _ f-is.1 in
+    inl (Explain f k None, record { words_are = refl; operands = both_are f-is.0 (both_are k-is.0 refl) })
+explain_fits (f ∷ k ∷ i ∷ []) is =
+    let f-is = both (is_operand f) _ is in
+    let k-is = both (is_operand k) _ f-is.1 in
+    let i-is = both (is_operand i) _ k-is.1 in
+    inl (Explain f k (Some i), record { words_are = refl; operands = both_are f-is.0 (both_are k-is.0 i-is.0) })
+explain_fits (f ∷ k ∷ i ∷ x ∷ more) is =
+    let f-is = both (is_operand f) _ is in
+    let k-is = both (is_operand k) _ f-is.1 in
+    let i-is = both (is_operand i) _ k-is.1 in
+    let x-is = both (is_operand x) _ i-is.1 in
+    inr (explain_into (f ∷ k ∷ i ∷ x ∷ more) UnknownArgument [] (stray (leaf (codes "explain")) (f ∷ k ∷ i ∷ x ∷ more) UnknownArgument [] (explain_and_more f k i x more (plain f f-is.0) (plain k k-is.0) (plain i i-is.0) (plain x x-is.0))))
+
 -- ---- report
 
 report_into : (rest : List Text) (k : ErrorKind) (ks : Kinds) → level_fault (leaf (codes "report")) [] nothing_held rest false [] ≡ k ∷ ks → asked_by (codes "report" ∷ rest) ≡ None
@@ -408,6 +447,39 @@ report_fits (f ∷ a ∷ m ∷ d ∷ t ∷ x ∷ more) is =
     let t-is = both (is_operand t) _ d-is.1 in
     let x-is = both (is_operand x) _ t-is.1 in
     inr (report_into (f ∷ a ∷ m ∷ d ∷ t ∷ x ∷ more) UnknownArgument [] (stray (leaf (codes "report")) (f ∷ a ∷ m ∷ d ∷ t ∷ x ∷ more) UnknownArgument [] (report_and_more f a m d t x more (plain f f-is.0) (plain a a-is.0) (plain m m-is.0) (plain d d-is.0) (plain t t-is.0) (plain x x-is.0))))
+
+-- ---- reports
+
+reports_into : (rest : List Text) (k : ErrorKind) (ks : Kinds) → level_fault (leaf (codes "reports")) [] nothing_held rest false [] ≡ k ∷ ks → asked_by (codes "reports" ∷ rest) ≡ None
+unfolding faults_in clap_on_literals
+reports_into rest k ks level = not_asked (codes "reports" ∷ rest) k ks (into (built program_app) (codes "reports") rest (leaf (codes "reports")) k ks refl refl refl level)
+
+reports_lacks_0 : level_fault (leaf (codes "reports")) [] nothing_held ([]) false [] ≡ MissingRequiredArgument ∷ []
+unfolding clap_on_literals
+reports_lacks_0 = refl
+
+reports_lacks_1 : (f : Text) → IsPlain f → level_fault (leaf (codes "reports")) [] nothing_held (f ∷ []) false [] ≡ MissingRequiredArgument ∷ []
+unfolding clap_on_literals
+reports_lacks_1 f f-is = rw (f-is.no_end, f-is.no_long, f-is.no_short) refl
+
+reports_and_more : (f l x : Text) (more : List Text) → IsPlain f → IsPlain l → IsPlain x → walk_fault (leaf (codes "reports")) [] (walk_from nothing_held) (f ∷ l ∷ x ∷ more) ≡ UnknownArgument ∷ []
+unfolding clap_on_literals
+reports_and_more f l x more f-is l-is x-is = rw (f-is.no_end, f-is.no_long, f-is.no_short, l-is.no_end, l-is.no_long, l-is.no_short) (rw (x-is.no_end, x-is.no_long, x-is.no_short) refl)
+
+reports_fits : (rest : List Text) → list_all is_operand rest ≡ true → Fits (codes "reports" ∷ rest)
+reports_fits [] is = inr (reports_into ([]) MissingRequiredArgument [] reports_lacks_0)
+reports_fits (f ∷ []) is =
+    let f-is = both (is_operand f) _ is in
+    inr (reports_into (f ∷ []) MissingRequiredArgument [] (reports_lacks_1 f (plain f f-is.0)))
+reports_fits (f ∷ l ∷ []) is =
+    let f-is = both (is_operand f) _ is in
+    let l-is = both (is_operand l) _ f-is.1 in
+    inl (Reports f l, record { words_are = refl; operands = both_are f-is.0 l-is.0 })
+reports_fits (f ∷ l ∷ x ∷ more) is =
+    let f-is = both (is_operand f) _ is in
+    let l-is = both (is_operand l) _ f-is.1 in
+    let x-is = both (is_operand x) _ l-is.1 in
+    inr (reports_into (f ∷ l ∷ x ∷ more) UnknownArgument [] (stray (leaf (codes "reports")) (f ∷ l ∷ x ∷ more) UnknownArgument [] (reports_and_more f l x more (plain f f-is.0) (plain l l-is.0) (plain x x-is.0))))
 
 -- ---- dump
 
@@ -500,18 +572,20 @@ record IsNoName (w : Text) : Type 0 where
   upgrade : bytes_eq (codes "upgrade") w ≡ false
   deliver : bytes_eq (codes "deliver") w ≡ false
   plan : bytes_eq (codes "plan") w ≡ false
+  explain : bytes_eq (codes "explain") w ≡ false
   report : bytes_eq (codes "report") w ≡ false
+  reports : bytes_eq (codes "reports") w ≡ false
   dump : bytes_eq (codes "dump") w ≡ false
   check : bytes_eq (codes "check") w ≡ false
   status : bytes_eq (codes "status") w ≡ false
 
 unknown_word : (w : Text) (rest : List Text) → IsNoName w → IsPlain w → bytes_eq (codes "help") w ≡ false → faults_in (w ∷ rest) ≡ UnknownArgument ∷ InvalidSubcommand ∷ []
 unfolding faults_in clap_on_literals
-unknown_word w rest unnamed is other = rw (unnamed.trial, unnamed.init, unnamed.load, unnamed.migrate, unnamed.upgrade, unnamed.deliver, unnamed.plan, unnamed.report, unnamed.dump, unnamed.check, unnamed.status, other, is.no_end, is.no_long, is.no_short) refl
+unknown_word w rest unnamed is other = rw (unnamed.trial, unnamed.init, unnamed.load, unnamed.migrate, unnamed.upgrade, unnamed.deliver, unnamed.plan, unnamed.explain, unnamed.report, unnamed.reports, unnamed.dump, unnamed.check, unnamed.status, other, is.no_end, is.no_long, is.no_short) refl
 
 help_word : (w : Text) (rest : List Text) → IsNoName w → bytes_eq (codes "help") w ≡ true → faults_in (w ∷ rest) ≡ DisplayHelp ∷ InvalidSubcommand ∷ []
 unfolding faults_in clap_on_literals
-help_word w rest unnamed is = rw (unnamed.trial, unnamed.init, unnamed.load, unnamed.migrate, unnamed.upgrade, unnamed.deliver, unnamed.plan, unnamed.report, unnamed.dump, unnamed.check, unnamed.status, is) refl
+help_word w rest unnamed is = rw (unnamed.trial, unnamed.init, unnamed.load, unnamed.migrate, unnamed.upgrade, unnamed.deliver, unnamed.plan, unnamed.explain, unnamed.report, unnamed.reports, unnamed.dump, unnamed.check, unnamed.status, is) refl
 
 unknown_or_help : (w : Text) (rest : List Text) → IsNoName w → IsPlain w → (b : Bool) → bytes_eq (codes "help") w ≡ b → asked_by (w ∷ rest) ≡ None
 unknown_or_help w rest unnamed is true e = not_asked (w ∷ rest) DisplayHelp (InvalidSubcommand ∷ []) (help_word w rest unnamed e)
@@ -542,14 +616,18 @@ fits_behind w rest is others =
     (λ (deliver-is : bytes_eq (codes "deliver") w ≡ false).
     ⊎_elim (λ (e : w ≡ codes "plan"). subst (λ (v : Text). Fits (v ∷ rest)) (sym e) (plan_fits rest others))
     (λ (plan-is : bytes_eq (codes "plan") w ≡ false).
+    ⊎_elim (λ (e : w ≡ codes "explain"). subst (λ (v : Text). Fits (v ∷ rest)) (sym e) (explain_fits rest others))
+    (λ (explain-is : bytes_eq (codes "explain") w ≡ false).
     ⊎_elim (λ (e : w ≡ codes "report"). subst (λ (v : Text). Fits (v ∷ rest)) (sym e) (report_fits rest others))
     (λ (report-is : bytes_eq (codes "report") w ≡ false).
+    ⊎_elim (λ (e : w ≡ codes "reports"). subst (λ (v : Text). Fits (v ∷ rest)) (sym e) (reports_fits rest others))
+    (λ (reports-is : bytes_eq (codes "reports") w ≡ false).
     ⊎_elim (λ (e : w ≡ codes "dump"). subst (λ (v : Text). Fits (v ∷ rest)) (sym e) (dump_fits rest others))
     (λ (dump-is : bytes_eq (codes "dump") w ≡ false).
     ⊎_elim (λ (e : w ≡ codes "check"). subst (λ (v : Text). Fits (v ∷ rest)) (sym e) (check_fits rest others))
     (λ (check-is : bytes_eq (codes "check") w ≡ false).
     ⊎_elim (λ (e : w ≡ codes "status"). subst (λ (v : Text). Fits (v ∷ rest)) (sym e) (status_fits rest others))
-    (λ (status-is : bytes_eq (codes "status") w ≡ false). inr (unknown_or_help w rest (record { trial = trial-is; init = init-is; load = load-is; migrate = migrate-is; upgrade = upgrade-is; deliver = deliver-is; plan = plan-is; report = report-is; dump = dump-is; check = check-is; status = status-is }) (plain w is) (bytes_eq (codes "help") w) refl)) (named_or_not (codes "status") w)) (named_or_not (codes "check") w)) (named_or_not (codes "dump") w)) (named_or_not (codes "report") w)) (named_or_not (codes "plan") w)) (named_or_not (codes "deliver") w)) (named_or_not (codes "upgrade") w)) (named_or_not (codes "migrate") w)) (named_or_not (codes "load") w)) (named_or_not (codes "init") w)) (named_or_not (codes "trial") w)
+    (λ (status-is : bytes_eq (codes "status") w ≡ false). inr (unknown_or_help w rest (record { trial = trial-is; init = init-is; load = load-is; migrate = migrate-is; upgrade = upgrade-is; deliver = deliver-is; plan = plan-is; explain = explain-is; report = report-is; reports = reports-is; dump = dump-is; check = check-is; status = status-is }) (plain w is) (bytes_eq (codes "help") w) refl)) (named_or_not (codes "status") w)) (named_or_not (codes "check") w)) (named_or_not (codes "dump") w)) (named_or_not (codes "reports") w)) (named_or_not (codes "report") w)) (named_or_not (codes "explain") w)) (named_or_not (codes "plan") w)) (named_or_not (codes "deliver") w)) (named_or_not (codes "upgrade") w)) (named_or_not (codes "migrate") w)) (named_or_not (codes "load") w)) (named_or_not (codes "init") w)) (named_or_not (codes "trial") w)
 
 pub fits : (words : List Text) → list_all is_operand words ≡ true → Fits words
 fits [] is = inr (not_asked [] MissingSubcommand [] no_words)

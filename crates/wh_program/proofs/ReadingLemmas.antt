@@ -34,9 +34,10 @@ use Rattle.wh_report.specs.declared.output.ReportFault.TheVariants as report
 use Rattle.wh_report.specs.declared.request.RequestFault.{RequestFault}
 use Rattle.wh_report.specs.declared.request.RequestFault.TheVariants.{NoAttribute, BadRange}
 use Rattle.wh_report.specs.declared.subject.Subject.{Subject}
-use Rattle.wh_program.specs.Answer.{done, refused}
+use Rattle.wh_program.specs.Answer.{Printed, done, refused}
 use Rattle.wh_program.specs.Reply.{request_line, report_answer}
 use Rattle.wh_program.specs.Readings.{LeavesRead, asked_under, asked_answer, IsReported, answer_after, TellsText, SaysStop}
+use Rattle.wh_program.specs.ReportsRead.{IsReadFor}
 use Rattle.wh_program.specs.Run.{Prints}
 use Rattle.wh_program.specs.Standing.{DatabaseContent, Nothing, Holds, Keeps, IsOfCommands, Standing, Unknown, Rests, IsAt, Stands}
 use Rattle.wh_program.specs.Task.{ReportWords}
@@ -101,28 +102,30 @@ given-reads policy words mode from to request is =
 -- ---- report
 
 module _ (words : ReportWords) (limits : Limits) (commands : List Accepted) (told : Told) (session : Session) (s : State) where
-  -- a report that was worked out
+  -- the warehouse was read for the words of a report
+  abbrev IsAsked : Type 0
+  IsAsked = IsReadFor (asked_answer commands (asked_under (current_policy commands) words)) told limits commands session s
+
+  -- it was worked out
   pub reported : (request : Asked) (worked : Result (Vec ℕ Global) ReportFault) → asked_under (current_policy commands) words ≡ Ok request → Reports commands request worked
-      → IfOk told (λ a. a ≡ report_answer worked) → IsServing limits commands (of_warehouse worked) session s
-      → (after : Standing) × IsReported words limits commands told after × Stands after s
-  reported request (Ok text) is reports tells serving =
-      let l = left limits commands (Ok tt) session s serving in
-      (l.0, record { read = Ok tt; leaves = l.1; tells = IfOk-weaker told _ _ (λ a e. e ∙ ap done reports ∙ sym (ap (asked_answer commands) is)) tells }, l.2)
+      → IfOk told (λ a. a ≡ report_answer worked) → IsServing limits commands (of_warehouse worked) session s → IsAsked
+  reported request (Ok text) is reports tells serving = record { read = Ok tt; serves = serving; tells = IfOk-weaker told _ _ (λ a e. e ∙ ap done reports ∙ sym (ap (asked_answer commands) is)) tells }
   reported request (Err report.Write) is none tells serving = absurd none
-  reported request (Err (report.Warehouse why)) is wanting tells serving = let l = left limits commands (Err why) session s serving in (l.0, record { read = Err why; leaves = l.1; tells = tells }, l.2)
+  reported request (Err (report.Warehouse why)) is wanting tells serving = record { read = Err why; serves = serving; tells = tells }
   reported request (Err (report.Unwritten why)) is none tells serving = absurd none
   reported request (Err (report.Inconsistent table)) is none tells serving = absurd none
 
-  -- or one that can't be asked for
-  pub not_asked : (why : RequestFault) → asked_under (current_policy commands) words ≡ Err why → IfOk told (λ a. a ≡ refused (request_line why)) → IsReady limits commands session s
-      → (after : Standing) × IsReported words limits commands told after × Stands after s
-  not_asked why is tells ready =
-      (Rests (Holds limits commands), record { read = Ok tt; leaves = (refl, refl); tells = IfOk-weaker told _ _ (λ a e. e ∙ sym (ap (asked_answer commands) is)) tells }, (ready.admitted, ready.rests))
+  -- or it can't be asked for
+  pub not_asked : (why : RequestFault) → asked_under (current_policy commands) words ≡ Err why → IfOk told (λ a. a ≡ refused (request_line why)) → IsReady limits commands session s → IsAsked
+  not_asked why is tells ready = record { read = Ok tt; serves = (refl, ready); tells = IfOk-weaker told _ _ (λ a e. e ∙ sym (ap (asked_answer commands) is)) tells }
+
+  -- what stands then
+  pub report_stands : IsAsked → (after : Standing) × IsReported words limits commands told after × Stands after s
+  report_stands asks = let l = left limits commands asks.read session s asks.serves in (l.0, record { read = asks.read; leaves = l.1; tells = asks.tells }, l.2)
 
 -- no memory for what is asked
-pub not_read : (words : ReportWords) (limits : Limits) (commands : List Accepted) (e : AllocError) (session : Session) (s : State) → IsReady limits commands session s
-    → (after : Standing) × IsReported words limits commands (Err e) after × Stands after s
-not_read words limits commands e session s ready = (Rests (Holds limits commands), record { read = Ok tt; leaves = (refl, refl); tells = tt }, (ready.admitted, ready.rests))
+pub not_read : (answer : Printed) (e : AllocError) (limits : Limits) (commands : List Accepted) (session : Session) (s : State) → IsReady limits commands session s → IsReadFor answer (Err e) limits commands session s
+not_read answer e limits commands session s ready = record { read = Ok tt; serves = (refl, ready); tells = tt }
 
 -- ---- dump
 

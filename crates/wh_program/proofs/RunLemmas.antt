@@ -1,5 +1,5 @@
 -- What goes out of a run, and how it ends.
-use Rattle.std.proofs.Common.{◌≡◌, ◌≢◌, ◌∙◌, inl, inr, ℕ, ◌+◌, List, ◌∷◌, ◌++◌, length, take, append_assoc, Option, Err, subst, sym, ap, arith}
+use Rattle.std.proofs.Common.{◌≡◌, ◌≢◌, ◌∙◌, inl, inr, ℕ, ◌+◌, List, ◌∷◌, ◌++◌, length, take, append_assoc, Option, Some, None, Err, subst, sym, ap, arith}
 use Rattle.std.specs.Io.KnownBytes.{Appends}
 use Rattle.std.specs.declared.alloc.AllocError.{AllocError}
 use Rattle.std.proofs.KnownBytes.{Appends-trans}
@@ -8,10 +8,10 @@ use Rattle.std.proofs.lemmas.List.{length-append}
 use Rattle.wh_program.specs.Answer.{Printed, done, status_code, write_line}
 use Rattle.wh_program.specs.Inputs.{Files, Refusals}
 use Rattle.wh_program.specs.Readings.{answer_after}
-use Rattle.wh_program.specs.Run.{Prints}
-use Rattle.wh_program.specs.Task.{Task, Trial, Init, Load, Migrate, Upgrade, Deliver, Plan, Report, Dump, Check, Status}
+use Rattle.wh_program.specs.Run.{GoesOut, IsCutOff, Prints}
+use Rattle.wh_program.specs.Task.{Task, Trial, Init, Load, Migrate, Upgrade, Deliver, Plan, Explain, Report, Reports, Dump, Check, Status}
 use Rattle.wh_program.specs.Tasks.{Stores, Runs}
-use Rattle.wh_program.specs.Warehouse.{Told}
+use Rattle.wh_program.specs.Warehouse.{Told, PrintsAnswer, printed}
 use Rattle.wh_program.specs.declared.lines.answer.Status.{Status as Ending}
 use Rattle.wh_program.specs.declared.lines.answer.Status.TheVariants.{Done, Refused, Failed}
 
@@ -21,20 +21,32 @@ is_no_usage Done = λ e. absurd (omega arith)
 is_no_usage Refused = λ e. absurd (omega arith)
 is_no_usage Failed = λ e. absurd (omega arith)
 
--- what is printed after a part of it
-pub prints-answer_after : (old mid new : Option (List ℕ)) (code : ℕ) (part : List ℕ) (a : Printed) → Appends old mid part → Prints mid new code a → Prints old new code (answer_after part a)
-prints-answer_after old mid new code part a went (inl whole) = inl (record { status = whole.status; text = Appends-trans old mid new part a.text went whole.text })
-prints-answer_after old mid new code part a went (inr cut) =
+-- by how much of it an answer is printed
+pub parted : (old new : Option (List ℕ)) (code : ℕ) (a : Printed) → Prints old new code a → (cut : Option ℕ) × GoesOut cut old new code a
+parted old new code a (inl whole) = (None, whole)
+parted old new code a (inr (kept, cut)) = (Some kept, cut)
+
+-- one that is the answer wherever it is cut off
+pub printed_so : (answers : Option ℕ → Told → Type 0) (old new : Option (List ℕ)) (code : ℕ) (told : Told) → ((cut : Option ℕ) → answers cut told) → Prints old new code (printed told) → PrintsAnswer answers old new code
+printed_so answers old new code told are prints = let out = parted old new code (printed told) prints in (out.0, told, are out.0, out.1)
+
+-- an answer that is cut off after a part of it
+pub cut-answer_after : (old mid new : Option (List ℕ)) (code kept : ℕ) (part : List ℕ) (a : Printed) → Appends old mid part → IsCutOff kept mid new code a → IsCutOff (length part + kept) old new code (answer_after part a)
+cut-answer_after old mid new code kept part a went cut =
     let line = take cut.told write_line in
-    let same : part ++ (take cut.kept a.text ++ line) ≡ take (length part + cut.kept) (part ++ a.text) ++ line =
-    sym (append_assoc part (take cut.kept a.text) line) ∙ ap (λ (t : List ℕ). t ++ line) (sym (take-append-add part a.text cut.kept)) in
-    inr (record {
-      kept = length part + cut.kept;
+    let same : part ++ (take kept a.text ++ line) ≡ take (length part + kept) (part ++ a.text) ++ line =
+    sym (append_assoc part (take kept a.text) line) ∙ ap (λ (t : List ℕ). t ++ line) (sym (take-append-add part a.text kept)) in
+    record {
       told = cut.told;
       cut = omega (arith, length-append part a.text, cut.cut);
       status = cut.status;
-      text = subst (Appends old new) same (Appends-trans old mid new part (take cut.kept a.text ++ line) went cut.text);
-    })
+      text = subst (Appends old new) same (Appends-trans old mid new part (take kept a.text ++ line) went cut.text);
+    }
+
+-- what is printed after a part of it
+pub prints-answer_after : (old mid new : Option (List ℕ)) (code : ℕ) (part : List ℕ) (a : Printed) → Appends old mid part → Prints mid new code a → Prints old new code (answer_after part a)
+prints-answer_after old mid new code part a went (inl whole) = inl (record { status = whole.status; text = Appends-trans old mid new part a.text went whole.text })
+prints-answer_after old mid new code part a went (inr (kept, cut)) = inr (length part + kept, cut-answer_after old mid new code kept part a went cut)
 
 -- the writer failed after a part of a text that wants at least a byte
 pub prints-cut : (old mid new : Option (List ℕ)) (code : ℕ) (text part : List ℕ) (byte : ℕ) (rest : List ℕ) (told : ℕ) → text ≡ part ++ byte ∷ rest → Appends old mid part
@@ -43,24 +55,30 @@ prints-cut old mid new code text part byte rest told whole went failed said =
     let line = take told write_line in
     let same : part ++ line ≡ take (length part) text ++ line = ap (λ (t : List ℕ). t ++ line) (sym (ap (take (length part)) whole ∙ take-append_seam part (byte ∷ rest))) in
     let longer : length text ≡ length part + length (byte ∷ rest) = ap length whole ∙ length-append part (byte ∷ rest) in
-    inr (record {
-      kept = length part;
-      told = told;
-      cut = omega arith;
-      status = failed;
-      text = subst (Appends old new) same (Appends-trans old mid new part line went said);
-    })
+    inr (
+      length part,
+      record {
+        told = told;
+        cut = omega arith;
+        status = failed;
+        text = subst (Appends old new) same (Appends-trans old mid new part line went said);
+      },
+    )
 
 -- memory ran out before anything was done
-pub not_run : (holds : Files) (refuses : Refusals) (before : Stores) (same : Type 0) (prints : Told → Type 0) (e : AllocError) (task : Task) → same → prints (Err e) → Runs holds refuses before before same prints task
-not_run holds refuses before same prints e (Trial dim path policy) is p = (Err e, tt, p)
-not_run holds refuses before same prints e (Init file policy) is p = ((λ content stood. (Err e, inr (record { same = stood; tells = tt }), p)), (Err e, inr (is, tt), p))
-not_run holds refuses before same prints e (Load file kind id path) is p = λ content stood. (Err e, inr (record { same = stood; tells = tt }), p)
-not_run holds refuses before same prints e (Migrate file id policy) is p = λ content stood. (Err e, inr (record { same = stood; tells = tt }), p)
-not_run holds refuses before same prints e (Upgrade file id) is p = λ content stood. (Err e, inr (record { same = stood; tells = tt }), p)
-not_run holds refuses before same prints e (Deliver file manifest) is p = λ content stood. (Err e, inr (record { same = stood; tells = tt }), p)
-not_run holds refuses before same prints e (Plan file kind id path) is p = λ content stood. (Err e, inr (record { same = stood; tells = tt }), p)
-not_run holds refuses before same prints e (Report file words) is p = λ content stood. (Err e, inr (record { same = stood; tells = tt }), p)
-not_run holds refuses before same prints e (Dump file table) is p = λ content of_commands stood. (Err e, inr (record { same = stood; tells = tt }), p)
-not_run holds refuses before same prints e (Check file) is p = λ content stood. (Err e, inr (record { same = stood; tells = tt }), p)
-not_run holds refuses before same prints e (Status file) is p = λ content stood. (Err e, inr (record { same = stood; tells = tt }), p)
+pub not_run : (holds : Files) (refuses : Refusals) (before : Stores) (same : Type 0) (prints : Told → Type 0) (goes_out : Option ℕ → Told → Type 0) (e : AllocError) (task : Task)
+    → same → prints (Err e) → (cut : Option ℕ) × goes_out cut (Err e) → Runs holds refuses before before same prints goes_out task
+not_run holds refuses before same prints goes_out e (Trial dim path policy) is p went = (Err e, tt, p)
+not_run holds refuses before same prints goes_out e (Init file policy) is p went = ((λ content stood. (Err e, inr (record { same = stood; tells = tt }), p)), (Err e, inr (is, tt), p))
+not_run holds refuses before same prints goes_out e (Load file kind id path) is p went = λ content stood. (Err e, inr (record { same = stood; tells = tt }), p)
+not_run holds refuses before same prints goes_out e (Migrate file id policy) is p went = λ content stood. (Err e, inr (record { same = stood; tells = tt }), p)
+not_run holds refuses before same prints goes_out e (Upgrade file id) is p went = λ content stood. (Err e, inr (record { same = stood; tells = tt }), p)
+not_run holds refuses before same prints goes_out e (Deliver file manifest) is p went = λ content stood. (went.0, Err e, inr (record { same = stood; tells = tt }), went.1)
+not_run holds refuses before same prints goes_out e (Plan file kind id path) is p went = λ content stood. (Err e, inr (record { same = stood; tells = tt }), p)
+not_run holds refuses before same prints goes_out e (Explain file kind None) is p went = λ content stood. (Err e, inr (record { same = stood; tells = tt }), p)
+not_run holds refuses before same prints goes_out e (Explain file kind (Some path)) is p went = λ content stood. (Err e, inr (record { same = stood; tells = tt }), p)
+not_run holds refuses before same prints goes_out e (Report file words) is p went = λ content stood. (Err e, inr (record { same = stood; tells = tt }), p)
+not_run holds refuses before same prints goes_out e (Reports file list) is p went = λ content stood. (Err e, inr (record { same = stood; tells = tt }), p)
+not_run holds refuses before same prints goes_out e (Dump file table) is p went = λ content of_commands stood. (Err e, inr (record { same = stood; tells = tt }), p)
+not_run holds refuses before same prints goes_out e (Check file) is p went = λ content stood. (Err e, inr (record { same = stood; tells = tt }), p)
+not_run holds refuses before same prints goes_out e (Status file) is p went = λ content stood. (Err e, inr (record { same = stood; tells = tt }), p)

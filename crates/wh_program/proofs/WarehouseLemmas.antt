@@ -37,8 +37,12 @@ use Rattle.wh_policy.specs.declared.format.Format.{Format}
 use Rattle.wh_policy.specs.declared.format.Format.TheVariants.{One, Two}
 use Rattle.wh_store.specs.declared.fault.OpenFault.{OpenFault}
 use Rattle.wh_store.specs.declared.fault.OpenFault.TheVariants as opening
+use Rattle.wh_engine.specs.Previewed.{IsPreviewOf, IsPreviewed}
+use Rattle.wh_engine.specs.declared.preview.Preview.{Preview}
 use Rattle.wh_engine.specs.declared.session.Session.{Session}
+use Rattle.wh_batch.specs.declared.kind.CommandKind.{CommandKind}
 use Rattle.wh_program.specs.Answer.{Printed, done, refused, failed, no_file_line, policy_line}
+use Rattle.wh_program.specs.Explained.{Begins, IsDescribed, IsExplained, first_of_kind, preview_answer}
 use Rattle.wh_program.specs.Inputs.{Files, Refusals}
 use Rattle.wh_program.specs.Reply.{sent_answer, plan_answer, opening_answer, status_answer, making_answer, made_line}
 use Rattle.wh_program.specs.Standing.{DatabaseContent, Nothing, Holds, Keeps, Standing, Unknown, Rests, LeftAt, left_standing, IsAt, Stands}
@@ -145,6 +149,24 @@ pub foretold : (c : Command) (limits : Limits) (commands : List Accepted) (told 
 foretold c limits commands told edits session s tells is =
     let l = left (IsPlanOf limits commands c) commands commands limits edits session s is in
     (l.0, record { edits = edits; leaves = l.1; tells = tells }, l.2)
+
+-- a preview
+pub explained : (kind : CommandKind) (bytes : List ℕ) (limits : Limits) (commands : List Accepted) (told : Told) (preview : Result Preview Fault) (session : Session) (s : State)
+    → IfOk told (Begins (preview_answer preview)) → IsPreviewed limits commands kind bytes preview session s
+    → (after : Standing) × IsExplained kind bytes limits commands told after × Stands after s
+explained kind bytes limits commands told preview session s tells is =
+    let l = left (IsPreviewOf limits commands kind bytes) commands commands limits preview session s is in
+    (l.0, record { preview = preview; leaves = l.1; tells = tells }, l.2)
+
+-- what a kind takes, by the policy in force and the format
+pub described : (kind : CommandKind) (limits : Limits) (commands : List Accepted) (told : Told) (session : Session) (s : State)
+    → IfOk told (Begins (done (first_of_kind kind session.policy session.format))) → IsReady limits commands session s
+    → (after : Standing) × IsDescribed kind limits commands told after × Stands after s
+described kind limits commands told session s tells ready = (
+  Rests (Holds limits commands),
+  record { same = refl; tells = subst (λ (x : Session). IfOk told (Begins (done (first_of_kind kind x.policy x.format)))) ready.session_is tells },
+  (ready.admitted, ready.rests),
+)
 
 -- a count
 pub counted : (limits : Limits) (commands : List Accepted) (told : Told) (counts : Result Counts Fault) (session : Session) (s : State)

@@ -5,11 +5,11 @@ use Rattle.std.specs.Option.{option_and_then}
 use Rattle.clap.specs.Words.{HasKind, IsAmong, Kinds, is_simple_and_free, kind_of, subcommand_of}
 use Rattle.clap.specs.declared.error.Error.{Error}
 use Rattle.clap.specs.declared.error.kind.ErrorKind.{ErrorKind}
-use Rattle.clap.specs.declared.error.kind.ErrorKind.TheVariants.{DisplayHelp, OutOfMemory}
+use Rattle.clap.specs.declared.error.kind.ErrorKind.TheVariants.{DisplayHelp, DisplayVersion, OutOfMemory}
 use Rattle.clap.proofs.OnLiterals.{clap_on_literals}
 use Rattle.wh_program.specs.CommandLine.{CommandLine, program_app, named}
 use Rattle.wh_program.specs.Request.{asked_in, IsDeclined, IsReadAs}
-use Rattle.wh_program.specs.Task.{Task, task_of, no_line, when_none, faults_in, asked_by}
+use Rattle.wh_program.specs.Task.{Task, task_of, no_line, when_none, faults_in, asked_by, MayAskForHelp, MayBeWrong}
 use Rattle.wh_program.specs.declared.words.command.Request.{Request}
 use Rattle.wh_program.specs.declared.words.command.Request.TheVariants as request
 
@@ -18,19 +18,27 @@ pub free : is_simple_and_free program_app ≡ true
 unfolding clap_on_literals
 free = refl
 
--- ---- help, or a mistake
+-- ---- help, the version, or a mistake
 
-pub help_among : (faults : Kinds) (e : Error) → kind_of e ≡ DisplayHelp → HasKind faults e → IsAmong DisplayHelp faults
+pub help_among : (faults : Kinds) (e : Error) → kind_of e ≡ DisplayHelp → HasKind faults e → MayAskForHelp faults
 help_among faults e is (inl memory) = absurd (cc (is, memory))
-help_among faults e is (inr among) = subst (λ k. IsAmong k faults) is among
+help_among faults e is (inr among) = inl (subst (λ k. IsAmong k faults) is among)
 
-alone : (k : ErrorKind) → k ≢ DisplayHelp → IsAmong k (DisplayHelp ∷ []) → ⊥
-alone k other (inl is) = other is
-alone k other (inr none) = none
+pub version_among : (faults : Kinds) (e : Error) → kind_of e ≡ DisplayVersion → HasKind faults e → MayAskForHelp faults
+version_among faults e is (inl memory) = absurd (cc (is, memory))
+version_among faults e is (inr among) = inr (subst (λ k. IsAmong k faults) is among)
 
-pub mistake_among : (faults : Kinds) (e : Error) → kind_of e ≢ OutOfMemory → kind_of e ≢ DisplayHelp → HasKind faults e → faults ≢ DisplayHelp ∷ []
-mistake_among faults e had other (inl memory) = absurd (had memory)
-mistake_among faults e had other (inr among) = λ is. alone (kind_of e) other (subst (IsAmong (kind_of e)) is among)
+-- an error of another kind isn't among this one alone
+alone : (k wanted : ErrorKind) → k ≢ wanted → IsAmong k (wanted ∷ []) → ⊥
+alone k wanted other (inl is) = other is
+alone k wanted other (inr none) = none
+
+pub mistake_among : (faults : Kinds) (e : Error) → kind_of e ≢ OutOfMemory → kind_of e ≢ DisplayHelp → kind_of e ≢ DisplayVersion → HasKind faults e → MayBeWrong faults
+mistake_among faults e had no_help no_version (inl memory) = absurd (had memory)
+mistake_among faults e had no_help no_version (inr among) = (
+  (λ is. alone (kind_of e) DisplayHelp no_help (subst (IsAmong (kind_of e)) is among)),
+  (λ is. alone (kind_of e) DisplayVersion no_version (subst (IsAmong (kind_of e)) is among)),
+)
 
 -- ---- a command
 
@@ -39,7 +47,7 @@ read_as : (found : Result Task (List ℕ)) (r : Request) → asked_in r ≡ Some
 read_as (Ok task) r is = is
 read_as (Err line) (request.Task t) is = absurd (cc is)
 read_as (Err line) (request.Help text) is = absurd (cc is)
-read_as (Err line) (request.Usage text) is = λ e. absurd (cc e)
+read_as (Err line) (request.Usage text) is = ((λ e. absurd (cc e)), (λ e. absurd (cc e)))
 
 -- where clap takes the words and finds a command
 pub read_found : (words : List (List ℕ)) (line : CommandLine) (r : Request) → faults_in words ≡ [] → named (subcommand_of program_app words) ≡ Some line → asked_in r ≡ Some (task_of line)

@@ -26,6 +26,9 @@ use Rattle.wh_plan.specs.Edits.{Edits, no_edits}
 use Rattle.wh_plan.specs.declared.edits.FactEdit.TheVariants.{Row, Rekey}
 use Rattle.wh_program.specs.Answer.{done, refused, failed}
 use Rattle.wh_program.specs.Delivery.{delivery_answer, manifest_line}
+use Rattle.wh_program.specs.ReportLists.{listed_answer, answers_until, whole_answer}
+use Rattle.wh_batch.specs.declared.report_list.ListedReport.{ListedReport}
+use Rattle.wh_history.specs.Accepted.{Accepted as AcceptedCommand}
 use Rattle.wh_program.specs.PlanText.{plan_text}
 use Rattle.wh_program.specs.Reply.{refused_line}
 
@@ -187,3 +190,26 @@ text_of_no_command = refl
 line_of_a_bad_manifest : manifest_line (record { number = 12 }) ≡ codes "refused: M1 bad manifest, record 12\n"
 unfolding digits
 line_of_a_bad_manifest = refl
+
+-- ---- lists of reports
+
+-- an empty line between two, and the status of what was refused
+text_of_reports : whole_answer (done (codes "report a\n") ∷ refused (codes "refused: G1 no attribute\n") ∷ done (codes "report b\n") ∷ []) ≡ refused (codes "report a\n\nrefused: G1 no attribute\n\nreport b\n")
+text_of_reports = refl
+
+text_of_stopped_reports : whole_answer (refused (codes "refused: G3 bad range\n") ∷ failed (codes "failed: E7 damaged, product\n") ∷ []) ≡ failed (codes "refused: G3 bad range\n\nfailed: E7 damaged, product\n")
+text_of_stopped_reports = refl
+
+text_of_one_report : whole_answer (done (codes "report a\n") ∷ []) ≡ done (codes "report a\n")
+text_of_one_report = refl
+
+text_of_no_reports : whole_answer [] ≡ done []
+text_of_no_reports = refl
+
+-- a mode that is none is refused in its place, whatever the commands
+no_such_mode : (commands : List AcceptedCommand) → listed_answer commands (record { attribute = codes "date.month"; mode = codes "once"; from = []; to = [] }) ≡ refused (codes "error: MODE is 'once', and none of was, is and prior\n")
+no_such_mode commands = refl
+
+-- a fault stops a list in the place of the report behind the first one
+stopped_in_its_place : (commands : List AcceptedCommand) (listed : ListedReport) → answers_until commands (listed ∷ listed ∷ listed ∷ []) 1 (Err Memory) ≡ listed_answer commands listed ∷ failed (codes "failed: E8 memory\n") ∷ []
+stopped_in_its_place commands listed = refl

@@ -85,23 +85,27 @@ write_line = line (codes "failed: G4 write")
 
 -- ---- words that are wrong
 
-abbrev pub no_dimension_line : List ℕ
-no_dimension_line = line (codes "error: DIMENSION is none of product, store and customer")
+-- the word that was given for an operand is none of those that are possible
+abbrev pub wrong_word_line : (operand word possible : List ℕ) → List ℕ
+wrong_word_line operand word possible = line (codes "error: " ++ operand ++ codes " is '" ++ word ++ codes "', and none of " ++ possible)
 
-abbrev pub no_kind_line : List ℕ
-no_kind_line = line (codes "error: KIND is none of product, store, customer, sales and void")
+abbrev pub no_dimension_line : List ℕ → List ℕ
+no_dimension_line word = wrong_word_line (codes "DIMENSION") word (codes "product, store and customer")
 
-abbrev pub no_command_kind_line : List ℕ
-no_command_kind_line = line (codes "error: KIND is none of product, store, customer, sales, void, migrate and upgrade")
+abbrev pub no_kind_line : List ℕ → List ℕ
+no_kind_line word = wrong_word_line (codes "KIND") word (codes "product, store, customer, sales and void")
 
-abbrev pub no_mode_line : List ℕ
-no_mode_line = line (codes "error: MODE is none of was, is and prior")
+abbrev pub no_command_kind_line : List ℕ → List ℕ
+no_command_kind_line word = wrong_word_line (codes "KIND") word (codes "product, store, customer, sales, void, migrate and upgrade")
 
-abbrev pub no_table_line : List ℕ
-no_table_line = line (codes "error: TABLE is none of meta, command, member, change, product, store, customer, profile, calendar, fact, fact2 and void")
+abbrev pub no_mode_line : List ℕ → List ℕ
+no_mode_line word = wrong_word_line (codes "MODE") word (codes "was, is and prior")
+
+abbrev pub no_table_line : List ℕ → List ℕ
+no_table_line word = wrong_word_line (codes "TABLE") word (codes "meta, command, member, change, product, store, customer, profile, calendar, fact, fact2 and void")
 
 abbrev pub no_text_line : List ℕ
-no_text_line = line (codes "error: an argument is no text")
+no_text_line = line (codes "error: an argument is not valid UTF-8")
 
 -- ---- trials
 

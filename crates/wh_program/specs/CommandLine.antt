@@ -7,6 +7,10 @@ use Rattle.clap.specs.Words.{App, Row, Rule, Text, first_of, new_app, new_rule, 
 abbrev pub operand : List ℕ → Rule
 operand name = record (new_rule name) { required = true }
 
+-- one that may be left out
+abbrev pub optional_operand : List ℕ → Rule
+optional_operand name = new_rule name
+
 -- an option that takes a value
 abbrev pub option_of : List ℕ → List ℕ → Rule
 option_of name long = record (new_rule name) { long = Some long }
@@ -26,6 +30,9 @@ subcommand_app s = command_app s.name.now (map (λ o. o.0.now) s.operands.now)
 
 abbrev pub trial_app : App
 trial_app = with_rule (command_app (codes "trial") (codes "DIMENSION" ∷ codes "CSV" ∷ [])) (option_of (codes "POLICY") (codes "policy"))
+
+abbrev pub explain_app : App
+explain_app = with_rule (command_app (codes "explain") (codes "FILE" ∷ codes "KIND" ∷ [])) (optional_operand (codes "INPUT"))
 
 abbrev pub init_app : App
 init_app = command_app (codes "init") (codes "FILE" ∷ codes "POLICY" ∷ [])
@@ -48,6 +55,9 @@ plan_app = command_app (codes "plan") (codes "FILE" ∷ codes "KIND" ∷ codes "
 abbrev pub report_app : App
 report_app = command_app (codes "report") (codes "FILE" ∷ codes "ATTRIBUTE" ∷ codes "MODE" ∷ codes "FROM" ∷ codes "TO" ∷ [])
 
+abbrev pub reports_app : App
+reports_app = command_app (codes "reports") (codes "FILE" ∷ codes "LIST" ∷ [])
+
 abbrev pub dump_app : App
 dump_app = command_app (codes "dump") (codes "FILE" ∷ codes "TABLE" ∷ [])
 
@@ -57,9 +67,9 @@ check_app = command_app (codes "check") (codes "FILE" ∷ [])
 abbrev pub status_app : App
 status_app = command_app (codes "status") (codes "FILE" ∷ [])
 
--- the program before it has commands
+-- the program before it has commands: it says its version, and wants a command
 abbrev pub top_app : App
-top_app = record (new_app (codes "wh")) { top = record (new_app (codes "wh")).top { no_binary_name = true; subcommand_required = true } }
+top_app = record (new_app (codes "wh")) { top = record (new_app (codes "wh")).top { no_binary_name = true; subcommand_required = true; has_version = true } }
 
 -- an app with commands more, in that order
 abbrev pub with_commands : App → List App → App
@@ -68,12 +78,17 @@ with_commands app (command ∷ rest) = with_commands (with_subcommand app comman
 
 -- the whole program
 abbrev pub program_app : App
-program_app = with_commands top_app (trial_app ∷ init_app ∷ load_app ∷ migrate_app ∷ upgrade_app ∷ deliver_app ∷ plan_app ∷ report_app ∷ dump_app ∷ check_app ∷ status_app ∷ [])
+program_app = with_commands top_app (trial_app ∷ explain_app ∷ init_app ∷ load_app ∷ migrate_app ∷ upgrade_app ∷ deliver_app ∷ report_app ∷ reports_app ∷ dump_app ∷ status_app ∷ plan_app ∷ check_app ∷ [])
 
 -- the words of a trial, under its own policy or the one in a file
 abbrev pub trial_words : List ℕ → List ℕ → Option (List ℕ) → List (List ℕ)
 trial_words dimension path None = codes "trial" ∷ dimension ∷ path ∷ []
 trial_words dimension path (Some policy) = codes "trial" ∷ dimension ∷ path ∷ codes "--policy" ∷ policy ∷ []
+
+-- the words of an explanation, of a file or of what a kind takes
+abbrev pub explain_words : List ℕ → List ℕ → Option (List ℕ) → List (List ℕ)
+explain_words file kind None = codes "explain" ∷ file ∷ kind ∷ []
+explain_words file kind (Some path) = codes "explain" ∷ file ∷ kind ∷ path ∷ []
 
 -- the word does not begin with a hyphen, so it is no option
 abbrev pub is_operand : List ℕ → Bool
@@ -93,7 +108,9 @@ pub data CommandLine : Type 0 where
   Upgrade : (file id : List ℕ) → CommandLine
   Deliver : (file manifest : List ℕ) → CommandLine
   Plan : (file kind id path : List ℕ) → CommandLine
+  Explain : (file kind : List ℕ) → (path : Option (List ℕ)) → CommandLine
   Report : (file attribute mode from to : List ℕ) → CommandLine
+  Reports : (file list : List ℕ) → CommandLine
   Dump : (file table : List ℕ) → CommandLine
   Check : (file : List ℕ) → CommandLine
   Status : (file : List ℕ) → CommandLine
@@ -107,7 +124,9 @@ words_of (Migrate file id policy) = codes "migrate" ∷ file ∷ id ∷ policy �
 words_of (Upgrade file id) = codes "upgrade" ∷ file ∷ id ∷ []
 words_of (Deliver file manifest) = codes "deliver" ∷ file ∷ manifest ∷ []
 words_of (Plan file kind id path) = codes "plan" ∷ file ∷ kind ∷ id ∷ path ∷ []
+words_of (Explain file kind path) = explain_words file kind path
 words_of (Report file attribute mode from to) = codes "report" ∷ file ∷ attribute ∷ mode ∷ from ∷ to ∷ []
+words_of (Reports file list) = codes "reports" ∷ file ∷ list ∷ []
 words_of (Dump file table) = codes "dump" ∷ file ∷ table ∷ []
 words_of (Check file) = codes "check" ∷ file ∷ []
 words_of (Status file) = codes "status" ∷ file ∷ []
@@ -121,7 +140,9 @@ has_operands (Migrate file id policy) = is_operand file && (is_operand id && is_
 has_operands (Upgrade file id) = is_operand file && is_operand id
 has_operands (Deliver file manifest) = is_operand file && is_operand manifest
 has_operands (Plan file kind id path) = is_operand file && (is_operand kind && (is_operand id && is_operand path))
+has_operands (Explain file kind path) = is_operand file && (is_operand kind && is_operand_or_none path)
 has_operands (Report file attribute mode from to) = is_operand file && (is_operand attribute && (is_operand mode && (is_operand from && is_operand to)))
+has_operands (Reports file list) = is_operand file && is_operand list
 has_operands (Dump file table) = is_operand file && is_operand table
 has_operands (Check file) = is_operand file
 has_operands (Status file) = is_operand file
@@ -134,6 +155,9 @@ pub record Says (words : List (List ℕ)) (line : CommandLine) : Type 0 where
 -- what the rows of a subcommand name
 abbrev pub named_trial : List Row → Option CommandLine
 named_trial rows = option_and_then (λ d. option_map (λ p. Trial d p (first_of (codes "POLICY") rows)) (first_of (codes "CSV") rows)) (first_of (codes "DIMENSION") rows)
+
+abbrev pub named_explain : List Row → Option CommandLine
+named_explain rows = option_and_then (λ f. option_map (λ k. Explain f k (first_of (codes "INPUT") rows)) (first_of (codes "KIND") rows)) (first_of (codes "FILE") rows)
 
 abbrev pub named_init : List Row → Option CommandLine
 named_init rows = option_and_then (λ f. option_map (λ p. Init f p) (first_of (codes "POLICY") rows)) (first_of (codes "FILE") rows)
@@ -173,6 +197,9 @@ named_days file attribute mode rows = option_and_then (λ from. option_map (λ t
 abbrev pub named_report : List Row → Option CommandLine
 named_report rows = option_and_then (λ f. option_and_then (λ a. option_and_then (λ m. named_days f a m rows) (first_of (codes "MODE") rows)) (first_of (codes "ATTRIBUTE") rows)) (first_of (codes "FILE") rows)
 
+abbrev pub named_reports : List Row → Option CommandLine
+named_reports rows = option_and_then (λ f. option_map (λ l. Reports f l) (first_of (codes "LIST") rows)) (first_of (codes "FILE") rows)
+
 abbrev pub named_dump : List Row → Option CommandLine
 named_dump rows = option_and_then (λ f. option_map (λ t. Dump f t) (first_of (codes "TABLE") rows)) (first_of (codes "FILE") rows)
 
@@ -186,6 +213,7 @@ named_status rows = option_map (λ f. Status f) (first_of (codes "FILE") rows)
 abbrev pub named_by : Text → List Row → Option CommandLine
 named_by name rows =
     if bytes_eq name (codes "trial") then named_trial rows
+    else if bytes_eq name (codes "explain") then named_explain rows
     else if bytes_eq name (codes "init") then named_init rows
     else if bytes_eq name (codes "load") then named_load rows
     else if bytes_eq name (codes "migrate") then named_migrate rows
@@ -193,6 +221,7 @@ named_by name rows =
     else if bytes_eq name (codes "deliver") then named_deliver rows
     else if bytes_eq name (codes "plan") then named_plan rows
     else if bytes_eq name (codes "report") then named_report rows
+    else if bytes_eq name (codes "reports") then named_reports rows
     else if bytes_eq name (codes "dump") then named_dump rows
     else if bytes_eq name (codes "check") then named_check rows
     else if bytes_eq name (codes "status") then named_status rows

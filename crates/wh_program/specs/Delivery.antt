@@ -1,5 +1,5 @@
 -- What a delivery answers and leaves.
-use Rattle.std.specs.Prelude.{◌≡◌, ◌⊎◌, ⊤, ℕ, suc, ◌<◌, List, [], ◌∷◌, ◌++◌, length, take, flat_map, codes, if◌then◌else◌, Option, Some, None, Result, Ok, Err, IfOk, is_err}
+use Rattle.std.specs.Prelude.{◌≡◌, ◌⊎◌, ⊤, ℕ, suc, ◌<◌, ◌≤◌, List, [], ◌∷◌, ◌++◌, length, take, flat_map, codes, if◌then◌else◌, Option, Some, None, Result, Ok, Err, IfOk, is_err}
 use Rattle.std.specs.Borrow.{Bor}
 use Rattle.std.specs.Fmt.{decimal}
 use Rattle.std.specs.List.{AllZip, list_any, zip}
@@ -19,9 +19,10 @@ use Rattle.wh_engine.specs.declared.fault.Fault.{Fault}
 use Rattle.wh_engine.specs.declared.fault.Fault.TheVariants as fault
 use Rattle.wh_program.specs.Answer.{Printed, refused, failed, line, no_file_line, status_code}
 use Rattle.wh_program.specs.Inputs.{Files, Refusals, as_input, as_manifest}
-use Rattle.wh_program.specs.Reply.{reply_answer, refused_line, fault_answer}
+use Rattle.wh_program.specs.Readings.{answer_after}
+use Rattle.wh_program.specs.Reply.{reply_answer, refused_line, fault_answer, sent_answer}
 use Rattle.wh_program.specs.Standing.{DatabaseContent, Holds, Standing, Rests, LeftAt}
-use Rattle.wh_program.specs.Warehouse.{Told, printed, IsCommandOf, AnswersWork}
+use Rattle.wh_program.specs.Warehouse.{Told, printed, LeavesReplied, IsCommandOf, AnswersWork}
 use Rattle.wh_program.specs.declared.lines.answer.Status.{Status}
 use Rattle.wh_program.specs.declared.lines.answer.Status.TheVariants.{Done, Refused, Failed}
 
@@ -69,12 +70,33 @@ LeavesDelivered limits commands sent answers (Some (fault.Store cause)) after =
     × (after ≡ LeftAt (Holds limits (accepted_after_all limits commands (take (length answers) sent))) (Holds limits (accepted_after_all limits commands (take (suc (length answers)) sent))))
 LeavesDelivered limits commands sent answers (Some why) after = ⊥
 
--- the engine answered the commands, from the first on, and just that is printed
+-- the engine answered the commands, from the first on, and just that is told
 pub record IsDelivered (sent : List Command) (limits : Limits) (commands : List Accepted) (told : Told) (after : Standing) : Type 0 where
   pub answers : List (Result Reply Refusal)
   pub stop : Option Fault
   pub leaves : LeavesDelivered limits commands sent answers stop after
   pub tells : printed told ≡ delivery_answer sent answers stop
+
+-- the lines of the answers that are due to commands
+abbrev pub due_lines : Limits → List Accepted → List Command → List ℕ
+due_lines limits commands sent = answered_lines sent (answers_to limits commands sent)
+
+-- The writer failed at the line of the reply to a command, after so many bytes: the commands before it have their answers, whose lines went out whole, it has its reply, and those behind it
+-- were not begun.
+pub record IsBrokenOff (kept : ℕ) (sent : List Command) (limits : Limits) (commands : List Accepted) (told : Told) (after : Standing) : Type 0 where
+  pub before : List Command
+  pub c : Command
+  pub behind : List Command
+  pub parts : sent ≡ before ++ c ∷ behind
+  pub reply : Result Reply Fault
+  pub leaves : LeavesReplied limits (accepted_after_all limits commands before) c reply after
+  pub whole : length (due_lines limits commands before) ≤ kept
+  pub tells : told ≡ Ok (answer_after (due_lines limits commands before) (sent_answer c.id reply))
+
+-- a delivery of these commands, by how much of what is told went out
+abbrev pub Delivers : (cut : Option ℕ) → List Command → Limits → List Accepted → Told → Standing → Type 0
+Delivers None = IsDelivered
+Delivers (Some kept) = IsBrokenOff kept
 
 -- ---- the manifest and its inputs
 
@@ -100,22 +122,22 @@ pub record IsNotSent (stands : Standing → Type 0) (content : DatabaseContent) 
   pub tells : IfOk told Tells
 
 -- these commands were sent to the warehouse in a file, or the host refuses its name
-abbrev pub AnswersSent : Refusals → (Standing → Type 0) → DatabaseContent → (file : List ℕ) → List Command → Told → Type 0
-AnswersSent refuses stands content file sent told = AnswersWork refuses stands (IsDelivered sent) content file told
+abbrev pub AnswersSent : Refusals → (Standing → Type 0) → (cut : Option ℕ) → DatabaseContent → (file : List ℕ) → List Command → Told → Type 0
+AnswersSent refuses stands cut content file sent told = AnswersWork refuses stands (Delivers cut sent) content file told
 
 -- all commands of these entries were, or an input isn't there
-abbrev pub AnswersListed : Files → Refusals → (Standing → Type 0) → DatabaseContent → (file : List ℕ) → List ManifestEntry → Told → Type 0
-AnswersListed holds refuses stands content file entries told =
-    ((sent : List Command) × AreCommandsOf holds entries sent × AnswersSent refuses stands content file sent told)
+abbrev pub AnswersListed : Files → Refusals → (Standing → Type 0) → (cut : Option ℕ) → DatabaseContent → (file : List ℕ) → List ManifestEntry → Told → Type 0
+AnswersListed holds refuses stands cut content file entries told =
+    ((sent : List Command) × AreCommandsOf holds entries sent × AnswersSent refuses stands cut content file sent told)
     ⊎ IsNotSent stands content told (λ a. (path : List ℕ) × IsFirstMissing holds entries path × (a ≡ failed (no_file_line path)))
 
 -- those of a manifest that was read, or it is a bad one
-abbrev pub AnswersRead : Files → Refusals → (Standing → Type 0) → DatabaseContent → (file : List ℕ) → Result (List ManifestEntry) BadManifest → Told → Type 0
-AnswersRead holds refuses stands content file (Ok entries) told = AnswersListed holds refuses stands content file entries told
-AnswersRead holds refuses stands content file (Err bad) told = IsNotSent stands content told (λ a. a ≡ refused (manifest_line bad))
+abbrev pub AnswersRead : Files → Refusals → (Standing → Type 0) → (cut : Option ℕ) → DatabaseContent → (file : List ℕ) → Result (List ManifestEntry) BadManifest → Told → Type 0
+AnswersRead holds refuses stands cut content file (Ok entries) told = AnswersListed holds refuses stands cut content file entries told
+AnswersRead holds refuses stands cut content file (Err bad) told = IsNotSent stands content told (λ a. a ≡ refused (manifest_line bad))
 
 -- A delivery of the commands that the manifest in a file lists, as far as it counts. It is read first, then its inputs in order, and then the warehouse is opened.
-abbrev pub AnswersDelivery : Files → Refusals → (Standing → Type 0) → DatabaseContent → (file manifest : List ℕ) → Told → Type 0
-AnswersDelivery holds refuses stands content file manifest told =
-    ((bytes : List ℕ) × as_manifest holds manifest (Some bytes) × AnswersRead holds refuses stands content file (manifest_of bytes) told)
+abbrev pub AnswersDelivery : Files → Refusals → (Standing → Type 0) → (cut : Option ℕ) → DatabaseContent → (file manifest : List ℕ) → Told → Type 0
+AnswersDelivery holds refuses stands cut content file manifest told =
+    ((bytes : List ℕ) × as_manifest holds manifest (Some bytes) × AnswersRead holds refuses stands cut content file (manifest_of bytes) told)
     ⊎ IsNotSent stands content told (λ a. holds manifest None × (a ≡ failed (no_file_line manifest)))

@@ -1,11 +1,10 @@
--- Nothing is lost where an input is read to its limit and a byte, and a longer manifest is refused; and which words are those of a command.
-use Rattle.std.specs.Prelude.{◌≡◌, ◌⊎◌, ◌<◌, ℕ, suc, List, length, take, true, None, Err}
+-- Nothing is lost where an input is read to its limit and a byte, and a longer manifest, or list of reports, is refused; and which words are those of a command.
+use Rattle.std.specs.Prelude.{◌≡◌, ◌⊎◌, ◌<◌, ℕ, suc, List, length, take, true, None, Result, Err}
 use Rattle.std.specs.List.{list_all}
 use Rattle.wh_policy.specs.Policy.{policy_at}
 use Rattle.wh_policy.specs.declared.format.Format.{Format}
 use Rattle.wh_policy.specs.declared.attribute.Dim.{Dim}
 use Rattle.wh_policy.specs.declared.policy.Policy.{Policy}
-use Rattle.wh_batch.specs.Manifest.{manifest_of}
 use Rattle.wh_batch.specs.declared.kind.CommandKind.{CommandKind}
 use Rattle.wh_batch.specs.declared.manifest.BadManifest.{BadManifest}
 use Rattle.wh_admission.specs.Admission.{content_of}
@@ -26,9 +25,9 @@ TrialsAreReadSo = (dim : Dim) (policy : Policy) (bytes : List ℕ) → trial_row
 abbrev pub CommandsAreReadSo : Type 0
 CommandsAreReadSo = (kind : CommandKind) (format : Format) (policy : Policy) (bytes : List ℕ) → content_of kind format policy (read_within (input_limit kind) bytes) ≡ content_of kind format policy bytes
 
--- a manifest of more bytes than the limit is a bad one
-abbrev pub LongManifestsAreBad : Type 0
-LongManifestsAreBad = (bytes : List ℕ) → manifest_limit < length bytes → (bad : BadManifest) × (manifest_of (manifest_part bytes) ≡ Err bad)
+-- a list of more bytes than a manifest may have is a bad one
+abbrev pub LongListsAreBad : {E : Type 0} → (List ℕ → Result (List E) BadManifest) → Type 0
+LongListsAreBad read = (bytes : List ℕ) → manifest_limit < length bytes → (bad : BadManifest) × (read (manifest_part bytes) ≡ Err bad)
 
 -- ---- words
 

@@ -9,9 +9,12 @@ pub mod Run
 pub mod Standing
 pub mod Warehouse
 pub mod Check
+pub mod Explained
 pub mod Room
-pub mod Delivery
 pub mod Readings
+pub mod Delivery
+pub mod ReportLists
+pub mod ReportsRead
 pub mod Tasks
 pub mod Laws
 pub mod Named

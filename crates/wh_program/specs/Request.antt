@@ -1,11 +1,10 @@
 -- What the words of the command line ask for.
-use Rattle.std.specs.Prelude.{◌≡◌, ◌≢◌, ℕ, List, [], ◌∷◌, Option, Some, None, option_map, Result, Ok, Err, string_bytes}
+use Rattle.std.specs.Prelude.{◌≡◌, ℕ, List, Option, Some, None, option_map, Result, Ok, Err, string_bytes}
 use Rattle.std.specs.Borrow.{Bor}
-use Rattle.clap.specs.Words.{IsAmong, Kinds}
-use Rattle.clap.specs.declared.error.kind.ErrorKind.TheVariants.{DisplayHelp}
+use Rattle.clap.specs.Words.{Kinds}
 use Rattle.wh_program.specs.CommandLine.{CommandLine, Sent}
 use Rattle.wh_program.specs.CommandLine as line
-use Rattle.wh_program.specs.Task.{Task, ReportWords, task_of}
+use Rattle.wh_program.specs.Task.{Task, ReportWords, task_of, MayAskForHelp, MayBeWrong}
 use Rattle.wh_program.specs.Task as task
 use Rattle.wh_program.specs.declared.words.command.AskedReport.{AskedReport}
 use Rattle.wh_program.specs.declared.words.command.Operands.{Operands}
@@ -33,7 +32,9 @@ line_of (operands.Migrate file id policy) = line.Migrate file.now id.now policy.
 line_of (operands.Upgrade file id) = line.Upgrade file.now id.now
 line_of (operands.Deliver file manifest) = line.Deliver file.now manifest.now
 line_of (operands.Plan s) = line.Plan s.file.now s.kind.now s.id.now s.path.now
+line_of (operands.Explain file kind path) = line.Explain file.now kind.now (text_of path)
 line_of (operands.Report r) = line.Report r.file.now r.attribute.now r.mode.now r.from.now r.to.now
+line_of (operands.Reports file list) = line.Reports file.now list.now
 line_of (operands.Dump file table) = line.Dump file.now table.now
 line_of (operands.Check file) = line.Check file.now
 line_of (operands.Status file) = line.Status file.now
@@ -50,12 +51,14 @@ task_in (found.Migrate file id policy) = task.Migrate file.now id.now policy.now
 task_in (found.Upgrade file id) = task.Upgrade file.now id.now
 task_in (found.Deliver file manifest) = task.Deliver file.now manifest.now
 task_in (found.Plan file kind id path) = task.Plan file.now kind id.now path.now
+task_in (found.Explain file kind path) = task.Explain file.now kind (text_of path)
 task_in (found.Report file asked) = task.Report file.now (report_words asked)
+task_in (found.Reports file list) = task.Reports file.now list.now
 task_in (found.Dump file table) = task.Dump file.now table
 task_in (found.Check file) = task.Check file.now
 task_in (found.Status file) = task.Status file.now
 
--- what a request asks for, or the line that says what is wrong; help is neither
+-- what a request asks for, or the line that says what is wrong; help, and the version, are neither
 abbrev pub asked_in : Request → Option (Result Task (List ℕ))
 asked_in (request.Task t) = Some (Ok (task_in t))
 asked_in (request.Usage text) = Some (Err (string_bytes text))
@@ -65,11 +68,11 @@ asked_in (request.Help text) = None
 abbrev pub Asks : CommandLine → Request → Type 0
 Asks line request = asked_in request ≡ Some (task_of line)
 
--- the words are no command: help is what they asked for, or what is wrong with them is told
+-- the words are no command: help, or the version, is what they asked for, or what is wrong with them is told
 abbrev pub IsDeclined : Kinds → Request → Type 0
 IsDeclined faults (request.Task t) = ⊥
-IsDeclined faults (request.Help text) = IsAmong DisplayHelp faults
-IsDeclined faults (request.Usage text) = faults ≢ DisplayHelp ∷ []
+IsDeclined faults (request.Help text) = MayAskForHelp faults
+IsDeclined faults (request.Usage text) = MayBeWrong faults
 
 -- the request is what the words ask for, or they ask for nothing
 abbrev pub IsReadAs : Option Task → Kinds → Request → Type 0

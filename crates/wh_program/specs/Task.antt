@@ -1,5 +1,5 @@
 -- What the words of a command are to do.
-use Rattle.std.specs.Prelude.{ℕ, List, [], ◌∷◌, Option, Some, None, option_map, Result, Ok, Err, ok_or}
+use Rattle.std.specs.Prelude.{◌≢◌, ◌⊎◌, ℕ, List, [], ◌∷◌, Option, Some, None, option_map, Result, Ok, Err, ok_or}
 use Rattle.wh_policy.specs.declared.attribute.Dim.{Dim}
 use Rattle.wh_policy.specs.Words.{dim_of_word}
 use Rattle.wh_batch.specs.declared.kind.Kind.{Kind}
@@ -8,7 +8,8 @@ use Rattle.wh_batch.specs.Kind.{kind_of_word, command_kind_of}
 use Rattle.wh_report.specs.declared.mode.Mode.{Mode}
 use Rattle.wh_report.specs.Words.{mode_of_word}
 use Rattle.std.specs.Option.{option_and_then}
-use Rattle.clap.specs.Words.{Kinds, fault_of, subcommand_of}
+use Rattle.clap.specs.Words.{IsAmong, Kinds, fault_of, subcommand_of}
+use Rattle.clap.specs.declared.error.kind.ErrorKind.TheVariants.{DisplayHelp, DisplayVersion}
 use Rattle.wh_rows.specs.declared.table.Table.{Table}
 use Rattle.wh_rows.specs.Names.{table_named}
 use Rattle.wh_program.specs.Answer.{no_dimension_line, no_kind_line, no_command_kind_line, no_mode_line, no_table_line}
@@ -30,25 +31,30 @@ pub data Task : Type 0 where
   Upgrade : (file id : List ℕ) → Task
   Deliver : (file manifest : List ℕ) → Task
   Plan : (file : List ℕ) → CommandKind → (id path : List ℕ) → Task
+  Explain : (file : List ℕ) → CommandKind → (path : Option (List ℕ)) → Task
   Report : (file : List ℕ) → ReportWords → Task
+  Reports : (file list : List ℕ) → Task
   Dump : (file : List ℕ) → Table → Task
   Check : (file : List ℕ) → Task
   Status : (file : List ℕ) → Task
 
 abbrev pub trial_asked : (dimension path : List ℕ) → (policy : Option (List ℕ)) → Result Task (List ℕ)
-trial_asked dimension path policy = ok_or (option_map (λ dim. Trial dim path policy) (dim_of_word dimension)) no_dimension_line
+trial_asked dimension path policy = ok_or (option_map (λ dim. Trial dim path policy) (dim_of_word dimension)) (no_dimension_line dimension)
 
 abbrev pub load_asked : (file kind id path : List ℕ) → Result Task (List ℕ)
-load_asked file kind id path = ok_or (option_map (λ k. Load file k id path) (kind_of_word kind)) no_kind_line
+load_asked file kind id path = ok_or (option_map (λ k. Load file k id path) (kind_of_word kind)) (no_kind_line kind)
 
 abbrev pub plan_asked : (file kind id path : List ℕ) → Result Task (List ℕ)
-plan_asked file kind id path = ok_or (option_map (λ k. Plan file k id path) (command_kind_of kind)) no_command_kind_line
+plan_asked file kind id path = ok_or (option_map (λ k. Plan file k id path) (command_kind_of kind)) (no_command_kind_line kind)
+
+abbrev pub explain_asked : (file kind : List ℕ) → (path : Option (List ℕ)) → Result Task (List ℕ)
+explain_asked file kind path = ok_or (option_map (λ k. Explain file k path) (command_kind_of kind)) (no_command_kind_line kind)
 
 abbrev pub report_asked : (file attribute mode from to : List ℕ) → Result Task (List ℕ)
-report_asked file attribute mode from to = ok_or (option_map (λ m. Report file (record { attribute = attribute; mode = m; from = from; to = to })) (mode_of_word mode)) no_mode_line
+report_asked file attribute mode from to = ok_or (option_map (λ m. Report file (record { attribute = attribute; mode = m; from = from; to = to })) (mode_of_word mode)) (no_mode_line mode)
 
 abbrev pub dump_asked : (file table : List ℕ) → Result Task (List ℕ)
-dump_asked file table = ok_or (option_map (λ t. Dump file t) (table_named table)) no_table_line
+dump_asked file table = ok_or (option_map (λ t. Dump file t) (table_named table)) (no_table_line table)
 
 -- what the words of a command ask for, or the line that says which of them is none of those that are listed
 abbrev pub task_of : CommandLine → Result Task (List ℕ)
@@ -59,16 +65,26 @@ task_of (line.Migrate file id policy) = Ok (Migrate file id policy)
 task_of (line.Upgrade file id) = Ok (Upgrade file id)
 task_of (line.Deliver file manifest) = Ok (Deliver file manifest)
 task_of (line.Plan file kind id path) = plan_asked file kind id path
+task_of (line.Explain file kind path) = explain_asked file kind path
 task_of (line.Report file attribute mode from to) = report_asked file attribute mode from to
+task_of (line.Reports file list) = Ok (Reports file list)
 task_of (line.Dump file table) = dump_asked file table
 task_of (line.Check file) = Ok (Check file)
 task_of (line.Status file) = Ok (Status file)
 
 -- ---- any words
 
--- what clap finds wrong with words, a call for help among it; nothing, where it takes them
+-- what clap finds wrong with words, a call for help or for the version among it; nothing, where it takes them
 unfoldable pub faults_in : List (List ℕ) → Kinds
 faults_in words = fault_of program_app words
+
+-- they may ask for help, or for the version
+abbrev pub MayAskForHelp : Kinds → Type 0
+MayAskForHelp faults = IsAmong DisplayHelp faults ⊎ IsAmong DisplayVersion faults
+
+-- they are no call for help alone, and none for the version
+abbrev pub MayBeWrong : Kinds → Type 0
+MayBeWrong faults = (faults ≢ DisplayHelp ∷ []) × (faults ≢ DisplayVersion ∷ [])
 
 abbrev pub when_none : Kinds → Option Task → Option Task
 when_none [] task = task

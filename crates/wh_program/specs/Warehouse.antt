@@ -28,7 +28,7 @@ use Rattle.wh_store.specs.declared.fault.OpenFault.TheVariants as opening
 use Rattle.wh_program.specs.Answer.{Printed, done, refused, failed, no_file_line, policy_line}
 use Rattle.wh_program.specs.Inputs.{Files, Refusals, as_input}
 use Rattle.wh_program.specs.Reply.{sent_answer, plan_answer, opening_answer, status_answer, making_answer, made_line}
-use Rattle.wh_program.specs.Run.{out_of_memory}
+use Rattle.wh_program.specs.Run.{GoesOut, out_of_memory}
 use Rattle.wh_program.specs.Standing.{DatabaseContent, Nothing, Holds, Keeps, Standing, Unknown, Rests, LeftAt, left_standing}
 
 -- an answer, where there is memory for one
@@ -39,6 +39,10 @@ Told = Result Printed AllocError
 abbrev pub printed : Told → Printed
 printed (Ok a) = a
 printed (Err e) = out_of_memory
+
+-- an answer of this kind is printed, by how much of it goes out
+abbrev pub PrintsAnswer : (answers : (cut : Option ℕ) → Told → Type 0) → Option (List ℕ) → Option (List ℕ) → ℕ → Type 0
+PrintsAnswer answers old new code = (cut : Option ℕ) × (told : Told) × answers cut told × GoesOut cut old new code (printed told)
 
 -- ---- a warehouse that is opened
 

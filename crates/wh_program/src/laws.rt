@@ -1,6 +1,8 @@
 //! Laws of the inputs and the words of a run. They speak of the definitions alone and do nothing.
 
-ghost use Rattle.wh_program.specs.Laws.{PoliciesAreReadSo, TrialsAreReadSo, CommandsAreReadSo, LongManifestsAreBad, WordsAreRead, OtherWordsAreNone};
+ghost use Rattle.wh_batch.specs.Manifest.{manifest_of};
+ghost use Rattle.wh_batch.specs.ReportList.{reports_of};
+ghost use Rattle.wh_program.specs.Laws.{PoliciesAreReadSo, TrialsAreReadSo, CommandsAreReadSo, LongListsAreBad, WordsAreRead, OtherWordsAreNone};
 
 /// Nothing is lost where an input is read to its limit and a byte: a policy, a trial's batch and a command are what the whole file makes
 /// them.
@@ -10,9 +12,11 @@ pub fn inputs_are_told_by_their_beginnings()
     ensures commands { CommandsAreReadSo }
 {}
 
-/// No manifest of more than 64 MB is delivered: what counts of it has a bad record, whatever it lists.
+/// No manifest of more than 64 MB is delivered, and no such list of reports answered: what counts of it has a bad record, whatever it
+/// lists.
 pub fn long_manifests_are_bad()
-    ensures { LongManifestsAreBad }
+    ensures manifests { LongListsAreBad manifest_of }
+    ensures reports { LongListsAreBad reports_of }
 {}
 
 /// The words of a command ask for what it is to do. Of words none of which begins with a hyphen all others ask for nothing.

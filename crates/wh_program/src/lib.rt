@@ -14,7 +14,6 @@ mod words;
 
 pub use host::{Host, HostError, Visitor, beginning_of};
 pub use lines::answer::Answer;
-pub use lines::delivery_text::delivery_answer;
 pub use lines::{
     made, making_answer, opening_answer, plan_answer, room_for_line, room_for_receipt, sent_answer,
     status_answer,

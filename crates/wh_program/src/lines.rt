@@ -1,25 +1,28 @@
 //! The lines that a run can answer.
 
 pub(crate) mod answer;
-pub(crate) mod delivery_text;
+pub(crate) mod explaining;
 pub(crate) mod plan_text;
 pub(crate) mod reporting;
+pub(crate) mod reports_text;
 
-ghost use Rattle.std.specs.Prelude.{◌≡◌, ◌+◌, ◌≤◌, ◌++◌, IfOk, OnOk, codes, length, string_bytes, vec_capacity};
+ghost use Rattle.std.specs.Prelude.{◌≡◌, ◌+◌, ◌≤◌, ◌++◌, ℕ, List, IfOk, OnOk, codes, length, string_bytes, vec_capacity};
 ghost use Rattle.std.specs.Fmt.{decimal};
-ghost use Rattle.wh_program.specs.Answer.{status_code, done, refused, failed, line, no_file_line, batch_line, batch_fault_name, policy_line, policy_fault_name};
+ghost use Rattle.wh_explain.specs.Added.{Fits};
+ghost use Rattle.wh_program.specs.Answer.{status_code, done, refused, failed, line, no_file_line, batch_line, batch_fault_name, policy_line, policy_fault_name, wrong_word_line};
 ghost use Rattle.wh_program.specs.Delivery.{manifest_line};
-ghost use Rattle.wh_program.specs.Room.{Fits, TellsIn, longest_line, longest_answer, longest_delivery};
+ghost use Rattle.wh_program.specs.Room.{TellsIn, longest_line, longest_answer, longest_reply};
 ghost use Rattle.wh_program.specs.Reply.{receipt_line, reply_answer, limit_name, full_line, sale_there_line, no_sale_line, refused_line, damaged_line, cause_name, store_line, fault_answer, sent_answer, plan_answer, wrong_line, verdict_answer, made_line, making_answer, opening_answer, members_line, totals_text, counts_text, status_answer};
 
 use crate::lines::answer::{Answer, Status};
-use crate::lines::plan_text::{plan_text, push_number};
+use crate::lines::plan_text::plan_text;
 use itoa::Buffer;
 use std::alloc::{AllocError, Global};
 use wh_batch::{BadManifest, BatchFault, FaultKind};
 use wh_engine::{
     Command, Counts, Fault, InitFault, Limit, OpenFault, Receipt, Refused, Reply, Verdict,
 };
+use wh_explain::push_number;
 use wh_plan::Edits;
 use wh_policy::PolicyFault;
 use wh_rows::{Cause, Table};
@@ -30,28 +33,27 @@ pub const MEMORY_LINE: &[u8] = b"failed: E8 memory\n";
 /// The line where the output could not be written.
 pub const WRITE_LINE: &[u8] = b"failed: G4 write\n";
 
-/// What is wrong with the words of a trial.
-pub const NO_DIMENSION_LINE: &str = "error: DIMENSION is none of product, store and customer\n";
+/// What DIMENSION can be.
+pub const DIMENSIONS: &str = "product, store and customer";
 
-/// What is wrong with the words of a load.
-pub const NO_KIND_LINE: &str = "error: KIND is none of product, store, customer, sales and void\n";
+/// What KIND can be for a load.
+pub const KINDS: &str = "product, store, customer, sales and void";
 
-/// What is wrong with the words of a plan.
-pub const NO_COMMAND_KIND_LINE: &str =
-    "error: KIND is none of product, store, customer, sales, void, migrate and upgrade\n";
+/// What KIND can be for a plan.
+pub const COMMAND_KINDS: &str = "product, store, customer, sales, void, migrate and upgrade";
 
-/// What is wrong with the words of a report.
-pub const NO_MODE_LINE: &str = "error: MODE is none of was, is and prior\n";
+/// What MODE can be.
+pub const MODES: &str = "was, is and prior";
 
-/// What is wrong with the words of a dump.
-pub const NO_TABLE_LINE: &str =
-    "error: TABLE is none of meta, command, member, change, product, store, customer, profile, calendar, fact, fact2 and void\n";
+/// What TABLE can be.
+pub const TABLES: &str =
+    "meta, command, member, change, product, store, customer, profile, calendar, fact, fact2 and void";
 
 /// What is wrong with words of which none names a command.
 pub const NO_COMMAND_LINE: &str = "error: no command was given\n";
 
 /// What is wrong with words of which one is no text.
-pub const NO_TEXT_LINE: &[u8] = b"error: an argument is no text\n";
+pub const NO_TEXT_LINE: &[u8] = b"error: an argument is not valid UTF-8\n";
 
 /// A line of two texts.
 fn push_named_line(text: &mut Vec<u8>, what: &str, name: &str) -> Result<(), AllocError>
@@ -178,6 +180,18 @@ pub fn no_file(alloc: Global, path: &str) -> Result<Answer, AllocError>
     Ok(Answer::new(Status::Failed, line.into_bytes()))
 }
 
+/// The line where the word that was given for an operand is none of those that are possible.
+pub fn wrong_word_line(
+    alloc: Global,
+    operand: &str,
+    word: &str,
+    possible: &str,
+) -> Result<String, AllocError>
+    ensures { IfOk result (λ text. string_bytes text ≡ wrong_word_line operand.now word.now possible.now) }
+{
+    format!(in alloc; "error: {operand} is '{word}', and none of {possible}\n")
+}
+
 /// A line that is the same each time.
 pub fn fixed_line(alloc: Global, status: Status, line: &str) -> Result<Answer, AllocError>
     ensures { IfOk result (λ answer. answer ≡ record { status = status_code status; text = line.now }) }
@@ -204,18 +218,15 @@ pub fn room_for_receipt(alloc: Global, id: &str) -> Result<Vec<u8>, AllocError>
     Vec::with_capacity(alloc, id.len() + LONGEST_LINE)
 }
 
-/// Room for the line of any answer to each of the commands, and of what may stop their delivery, taken before the first is sent.
+/// Room for the line of the reply to any of the commands, one at a time, taken before the first is sent.
 pub fn room_for_delivery(alloc: Global, commands: &[Command]) -> Result<Vec<u8>, AllocError>
-    ensures { IfOk result (λ room. longest_delivery commands.now ≤ vec_capacity room) }
+    ensures { IfOk result (λ room. longest_reply commands.now ≤ vec_capacity room) }
 {
-    let mut bytes = LONGEST_LINE;
+    let mut longest = 0;
     for command in commands {
-        match bytes.checked_add(command.id.as_str().len() + LONGEST_LINE) {
-            Some(more) => bytes = more,
-            None => return Err(AllocError),
-        }
+        longest = longest.max(command.id.as_str().len() + LONGEST_LINE);
     }
-    Vec::with_capacity(alloc, bytes)
+    Vec::with_capacity(alloc, longest)
 }
 
 /// What an accepted command is answered, after the word for how it was taken.
@@ -242,7 +253,7 @@ fn push_receipt(
 }
 
 /// The line of a command that is kept.
-pub fn push_reply(text: &mut Vec<u8>, id: &str, reply: &Reply) -> Result<(), AllocError>
+fn push_reply(text: &mut Vec<u8>, id: &str, reply: &Reply) -> Result<(), AllocError>
     ensures added { OnOk result (text.new.items ≡ text.old.items ++ (reply_answer id.now reply.now).text) }
     ensures fits { Fits (longest_answer id.now) result text.old text.new }
 {
@@ -250,15 +261,6 @@ pub fn push_reply(text: &mut Vec<u8>, id: &str, reply: &Reply) -> Result<(), All
         Reply::Accepted(receipt) => push_receipt(text, "accepted", id, receipt),
         Reply::Already(receipt) => push_receipt(text, "already", id, receipt),
     }
-}
-
-/// The answer to a command that is kept, in room that was taken for it.
-fn reply_answer(mut room: Vec<u8>, id: &str, reply: &Reply) -> Result<Answer, AllocError>
-    ensures { TellsIn (longest_answer id.now) room result (reply_answer id.now reply.now) }
-{
-    room.clear();
-    push_reply(&mut room, id, reply)?;
-    Ok(Answer::new(Status::Done, room))
 }
 
 fn limit_name(limit: Limit) -> &'static str
@@ -355,7 +357,7 @@ fn store_failed(alloc: Global, cause: Cause) -> Result<Answer, AllocError>
 }
 
 /// The line of a fault.
-pub fn push_fault(text: &mut Vec<u8>, fault: &Fault) -> Result<(), AllocError>
+fn push_fault(text: &mut Vec<u8>, fault: &Fault) -> Result<(), AllocError>
     ensures added { OnOk result (text.new.items ≡ text.old.items ++ (fault_answer fault.now).text) }
     ensures fits { Fits longest_line result text.old text.new }
 {
@@ -394,18 +396,42 @@ pub fn fault_answer(alloc: Global, fault: Fault) -> Result<Answer, AllocError>
     fault_answer_in(Vec::new(alloc), &fault)
 }
 
+/// The line of the reply to a command that is sent under an id.
+pub fn push_sent(
+    text: &mut Vec<u8>,
+    id: &str,
+    reply: &Result<Reply, Fault>,
+) -> Result<(), AllocError>
+    ensures added { OnOk result (text.new.items ≡ text.old.items ++ (sent_answer id.now reply.now).text) }
+    ensures fits { Fits (longest_answer id.now) result text.old text.new }
+{
+    match reply {
+        Ok(reply) => push_reply(text, id, reply),
+        Err(fault) => push_fault(text, fault),
+    }
+}
+
+/// How a run ends that was replied so.
+pub fn sent_status(reply: &Result<Reply, Fault>) -> Status
+    ensures { (id : List ℕ) → status_code result ≡ (sent_answer id reply.now).status }
+{
+    match reply {
+        Ok(_) => Status::Done,
+        Err(fault) => fault_status(fault),
+    }
+}
+
 /// The answer to a command that is sent under an id, in room that was taken for it.
 pub fn sent_answer(
-    room: Vec<u8>,
+    mut room: Vec<u8>,
     id: &str,
     reply: &Result<Reply, Fault>,
 ) -> Result<Answer, AllocError>
     ensures { TellsIn (longest_answer id.now) room result (sent_answer id.now reply.now) }
 {
-    match reply {
-        Ok(reply) => reply_answer(room, id, reply),
-        Err(fault) => fault_answer_in(room, fault),
-    }
+    room.clear();
+    push_sent(&mut room, id, reply)?;
+    Ok(Answer::new(sent_status(reply), room))
 }
 
 /// The answer to what a command would write.

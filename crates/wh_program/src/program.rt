@@ -5,7 +5,7 @@ ghost use Rattle.clap.specs.Words.{Kinds};
 ghost use Rattle.wh_program.specs.Answer.{Printed, status_code, wrong_words, no_text_line};
 ghost use Rattle.wh_program.specs.CommandLine.{CommandLine, Says};
 ghost use Rattle.wh_program.specs.Request.{IsDeclined, asked_in, task_in};
-ghost use Rattle.wh_program.specs.Run.{Declines, Prints, out_of_memory};
+ghost use Rattle.wh_program.specs.Run.{Declines, GoesOut, Prints, out_of_memory};
 ghost use Rattle.wh_program.specs.Task.{Task as TaskAsked, asked_by, faults_in, task_of};
 ghost use Rattle.wh_program.specs.Tasks.{Runs};
 ghost use Rattle.wh_program.specs.Warehouse.{printed};
@@ -16,7 +16,9 @@ use crate::lines::{MEMORY_LINE, NO_TEXT_LINE};
 use crate::output::{print, print_answer, print_usage};
 use crate::visits::delivery::deliver;
 use crate::visits::dump::print_dump;
+use crate::visits::explain::explain;
 use crate::visits::report::report_answer;
+use crate::visits::reports::reports;
 use crate::visits::trial::trial;
 use crate::visits::verdict::check;
 use crate::visits::warehouse::{init, plan, send, status, upgrade};
@@ -29,7 +31,7 @@ use wh_batch::CommandKind;
 
 /// Does what the words of a command ask for, and prints the answer.
 fn run_task<H: Host, W: Write>(alloc: Global, task: Task, host: &mut H, out: &mut W) -> Status
-    ensures { Runs (H.holds host.old) (H.refuses host.old) (H.stores host.old) (H.stores host.new) (host.new ≡ host.old) (λ told. Prints (W.contents out.old) (W.contents out.new) (status_code result) (printed told)) (task_in task.entry) }
+    ensures { Runs (H.holds host.old) (H.refuses host.old) (H.stores host.old) (H.stores host.new) (host.new ≡ host.old) (λ told. Prints (W.contents out.old) (W.contents out.new) (status_code result) (printed told)) (λ cut told. GoesOut cut (W.contents out.old) (W.contents out.new) (status_code result) (printed told)) (task_in task.entry) }
 {
     match task {
         Task::Trial { dim, path, policy } => {
@@ -50,14 +52,18 @@ fn run_task<H: Host, W: Write>(alloc: Global, task: Task, host: &mut H, out: &mu
             print_answer(out, send(alloc, file, kind, id, policy, host))
         }
         Task::Upgrade { file, id } => print_answer(out, upgrade(alloc, file, id, host)),
-        Task::Deliver { file, manifest } => print_answer(out, deliver(alloc, file, manifest, host)),
+        Task::Deliver { file, manifest } => deliver(alloc, file, manifest, host, out),
         Task::Plan {
             file,
             kind,
             id,
             path,
         } => print_answer(out, plan(alloc, file, kind, id, path, host)),
+        Task::Explain { file, kind, path } => {
+            print_answer(out, explain(alloc, file, kind, path, host))
+        }
         Task::Report { file, asked } => print_answer(out, report_answer(alloc, file, asked, host)),
+        Task::Reports { file, list } => print_answer(out, reports(alloc, file, list, host)),
         Task::Dump { file, table } => print_dump(alloc, file, table, host, out),
         Task::Check { file } => print_answer(out, check(alloc, file, host)),
         Task::Status { file } => print_answer(out, status(alloc, file, host)),
@@ -67,7 +73,7 @@ fn run_task<H: Host, W: Write>(alloc: Global, task: Task, host: &mut H, out: &mu
 /// Answers a request.
 fn run_request<H: Host, W: Write>(alloc: Global, request: Request, host: &mut H, out: &mut W) -> u8
     ensures runs { (task : TaskAsked) → asked_in request.entry ≡ Some (Ok task)
-        → Runs (H.holds host.old) (H.refuses host.old) (H.stores host.old) (H.stores host.new) (host.new ≡ host.old) (λ told. Prints (W.contents out.old) (W.contents out.new) result (printed told)) task }
+        → Runs (H.holds host.old) (H.refuses host.old) (H.stores host.old) (H.stores host.new) (host.new ≡ host.old) (λ told. Prints (W.contents out.old) (W.contents out.new) result (printed told)) (λ cut told. GoesOut cut (W.contents out.old) (W.contents out.new) result (printed told)) task }
     ensures right_words { (task : TaskAsked) → asked_in request.entry ≡ Some (Ok task) → result ≢ 4 }
     ensures wrong_words { (line : List ℕ) → asked_in request.entry ≡ Some (Err line) → (host.new ≡ host.old) × Prints (W.contents out.old) (W.contents out.new) result (wrong_words line) }
     ensures declined { (faults : Kinds) → IsDeclined faults request.entry → (host.new ≡ host.old) × ((answer : Printed) × Declines faults answer × Prints (W.contents out.old) (W.contents out.new) result answer) }
@@ -83,7 +89,7 @@ fn run_request<H: Host, W: Write>(alloc: Global, request: Request, host: &mut H,
 pub fn run<S: AsStr, H: Host, W: Write>(alloc: Global, words: &[S], host: &mut H, out: &mut W) -> u8
     // What each command prints, with its status, and what it leaves under the name of a warehouse.
     ensures runs { (line : CommandLine) (task : TaskAsked) → Says (map S.text words.now) line → task_of line ≡ Ok task
-        → Runs (H.holds host.old) (H.refuses host.old) (H.stores host.old) (H.stores host.new) (host.new ≡ host.old) (λ told. Prints (W.contents out.old) (W.contents out.new) result (printed told)) task }
+        → Runs (H.holds host.old) (H.refuses host.old) (H.stores host.old) (H.stores host.new) (host.new ≡ host.old) (λ told. Prints (W.contents out.old) (W.contents out.new) result (printed told)) (λ cut told. GoesOut cut (W.contents out.old) (W.contents out.new) result (printed told)) task }
     // Its words are right, and no run of it ends as wrong words do.
     ensures right_words { (line : CommandLine) (task : TaskAsked) → Says (map S.text words.now) line → task_of line ≡ Ok task → result ≢ 4 }
     // Where one of its words is none of those that are listed, the line that says so is printed, and the host is as it was.
@@ -91,8 +97,8 @@ pub fn run<S: AsStr, H: Host, W: Write>(alloc: Global, words: &[S], host: &mut H
         × (Prints (W.contents out.old) (W.contents out.new) result (wrong_words wrong) ⊎ Prints (W.contents out.old) (W.contents out.new) result out_of_memory) }
     // Any words in which clap reads a command are run as that command.
     ensures reads { (task : TaskAsked) → asked_by (map S.text words.now) ≡ Some task
-        → Runs (H.holds host.old) (H.refuses host.old) (H.stores host.old) (H.stores host.new) (host.new ≡ host.old) (λ told. Prints (W.contents out.old) (W.contents out.new) result (printed told)) task × (result ≢ 4) }
-    // All other words leave the host as it was: the answer is help, where they ask for it, and else what is wrong with them.
+        → Runs (H.holds host.old) (H.refuses host.old) (H.stores host.old) (H.stores host.new) (host.new ≡ host.old) (λ told. Prints (W.contents out.old) (W.contents out.new) result (printed told)) (λ cut told. GoesOut cut (W.contents out.old) (W.contents out.new) result (printed told)) task × (result ≢ 4) }
+    // All other words leave the host as it was: the answer is help, or the version, where they ask for it, and else what is wrong with them.
     ensures declines { asked_by (map S.text words.now) ≡ None → (host.new ≡ host.old)
         × (((answer : Printed) × Declines (faults_in (map S.text words.now)) answer × Prints (W.contents out.old) (W.contents out.new) result answer)
         ⊎ Prints (W.contents out.old) (W.contents out.new) result out_of_memory) }

@@ -2,8 +2,10 @@
 
 pub(crate) mod delivery;
 pub(crate) mod dump;
+pub(crate) mod explain;
 pub(crate) mod opened;
 pub(crate) mod report;
+pub(crate) mod reports;
 pub(crate) mod trial;
 pub(crate) mod verdict;
 pub(crate) mod warehouse;

@@ -5,7 +5,7 @@ pub(crate) mod command;
 ghost use Rattle.std.specs.Prelude.{◌≡◌, IfOk, false, map};
 ghost use Rattle.clap.specs.Words.{app_of, with_rule};
 ghost use Rattle.clap.specs.declared.builder.command.Command.TheViews.{out-Command};
-ghost use Rattle.wh_program.specs.CommandLine.{operand, subcommand_app, with_commands, trial_app, top_app, program_app};
+ghost use Rattle.wh_program.specs.CommandLine.{operand, subcommand_app, with_commands, trial_app, explain_app, top_app, program_app};
 
 use clap::{Arg, Command};
 use std::alloc::{AllocError, Global};
@@ -18,11 +18,56 @@ struct Subcommand<'a> {
     operands: &'a [(&'a str, &'a str)],
 }
 
+/// The help of the program, in which its words stand in groups.
+const HELP: &str = "\
+wh keeps what a shop sells in one SQLite file: a star schema with slowly changing dimensions.
+Batches of products, stores, customers and sales may come late, twice or broken; the file always
+holds just the tables that the accepted ones define.
+
+Usage: wh <COMMAND>
+
+Make and load:
+  init     Makes a warehouse
+  load     Loads a batch into a warehouse
+  migrate  Puts a newer policy in force
+  upgrade  Makes a warehouse one of the second format, in which sales have a discount
+  deliver  Sends the commands of a manifest, in order
+
+Look:
+  report   Prints what was sold, by an attribute
+  reports  Prints the reports of a list, over one open of the warehouse
+  dump     Prints a table of a warehouse as CSV
+  status   Prints how much a warehouse holds
+
+Check:
+  explain  Tells whether an input would be accepted, and where and why it would not
+  plan     Prints what a load, a migration or an upgrade would write, and writes nothing
+  trial    Prints a dimension's table as one batch makes it
+  check    Tells whether a warehouse is exactly what its commands define
+
+Options:
+  -h, --help     Print help; `wh help COMMAND` prints that of a command
+  -V, --version  Print version
+
+Example:
+  wh init shop.wh examples/shop/policy.toml
+  wh load shop.wh product p1 examples/shop/products-1.csv
+  wh load shop.wh sales s1 examples/shop/sales-1.csv
+  wh report shop.wh product.brand was 2024-01-01 2024-12-31
+  wh check shop.wh
+";
+
+/// The version, with the formats that it reads.
+const VERSION: &str = "1.0, for warehouses of the formats 1 and 2";
+
 const FILE: (&str, &str) = ("FILE", "the warehouse's file");
 
-const ID: (&str, &str) = ("ID", "what the command is called, once");
+const ID: (&str, &str) = (
+    "ID",
+    "an id of your choice, unique in this warehouse: 1 to 40 letters, digits, -, _ or .",
+);
 
-const CSV: (&str, &str) = ("CSV", "the batch's file");
+const CSV: (&str, &str) = ("CSV", "the batch's file, a CSV with a header");
 
 const TRIAL: Subcommand<'static> = Subcommand {
     name: "trial",
@@ -31,13 +76,32 @@ const TRIAL: Subcommand<'static> = Subcommand {
     operands: &[("DIMENSION", "product, store or customer"), CSV],
 };
 
-/// All the others, in the order in which the help lists them.
+const EXPLAIN: Subcommand<'static> = Subcommand {
+    name: "explain",
+    about: "Tells whether an input would be accepted, and where and why it would not",
+    example: "Example: wh explain shop.wh product examples/late.csv",
+    operands: &[
+        FILE,
+        (
+            "KIND",
+            "product, store, customer, sales, void, migrate or upgrade",
+        ),
+    ],
+};
+
+/// All the others, in the groups of the help.
 const SUBCOMMANDS: &[Subcommand<'static>] = &[
     Subcommand {
         name: "init",
         about: "Makes a warehouse",
         example: "Example: wh init shop.wh examples/flat.toml",
-        operands: &[FILE, ("POLICY", "the policy's file")],
+        operands: &[
+            (
+                "FILE",
+                "the file to make; one that is there must be no warehouse",
+            ),
+            ("POLICY", "the policy's file, in TOML"),
+        ],
     },
     Subcommand {
         name: "load",
@@ -56,15 +120,18 @@ const SUBCOMMANDS: &[Subcommand<'static>] = &[
         example: "Example: wh migrate shop.wh m1 newer.toml",
         operands: &[
             FILE,
-            ("ID", "what the migration is called, once"),
-            ("POLICY", "the newer policy's file"),
+            ID,
+            (
+                "POLICY",
+                "the newer policy's file, in TOML, which keeps each name and year",
+            ),
         ],
     },
     Subcommand {
         name: "upgrade",
         about: "Makes a warehouse one of the second format, in which sales have a discount",
         example: "Example: wh upgrade shop.wh u1",
-        operands: &[FILE, ("ID", "what the upgrade is called, once")],
+        operands: &[FILE, ID],
     },
     Subcommand {
         name: "deliver",
@@ -74,24 +141,7 @@ const SUBCOMMANDS: &[Subcommand<'static>] = &[
             FILE,
             (
                 "MANIFEST",
-                "the manifest's file: a line KIND,ID,INPUT a command",
-            ),
-        ],
-    },
-    Subcommand {
-        name: "plan",
-        about: "Prints what a load, a migration or an upgrade would write, and writes nothing",
-        example: "Example: wh plan shop.wh product p1 examples/late.csv",
-        operands: &[
-            FILE,
-            (
-                "KIND",
-                "product, store, customer, sales, void, migrate or upgrade",
-            ),
-            ID,
-            (
-                "INPUT",
-                "the batch's file, or the newer policy's; for an upgrade none is read",
+                "the manifest's file, a CSV without a header: a line KIND,ID,INPUT a command",
             ),
         ],
     },
@@ -109,8 +159,20 @@ const SUBCOMMANDS: &[Subcommand<'static>] = &[
                 "MODE",
                 "was: as things were on the day of sale; is: as they are now; prior: as they were before",
             ),
-            ("FROM", "the first day of sale, YYYY-MM-DD"),
-            ("TO", "the last day of sale"),
+            ("FROM", "the first day of sale, as 2024-01-31"),
+            ("TO", "the last day of sale, likewise"),
+        ],
+    },
+    Subcommand {
+        name: "reports",
+        about: "Prints the reports of a list, over one open of the warehouse",
+        example: "Example: wh reports shop.wh examples/reports.csv",
+        operands: &[
+            FILE,
+            (
+                "LIST",
+                "the list's file, a CSV without a header: a line ATTRIBUTE,MODE,FROM,TO a report",
+            ),
         ],
     },
     Subcommand {
@@ -126,15 +188,32 @@ const SUBCOMMANDS: &[Subcommand<'static>] = &[
         ],
     },
     Subcommand {
-        name: "check",
-        about: "Tells whether a warehouse is exactly what its commands define",
-        example: "Example: wh check shop.wh",
-        operands: &[FILE],
-    },
-    Subcommand {
         name: "status",
         about: "Prints how much a warehouse holds",
         example: "Example: wh status shop.wh",
+        operands: &[FILE],
+    },
+    Subcommand {
+        name: "plan",
+        about: "Prints what a load, a migration or an upgrade would write, and writes nothing",
+        example: "Example: wh plan shop.wh product p1 examples/late.csv",
+        operands: &[
+            FILE,
+            (
+                "KIND",
+                "product, store, customer, sales, void, migrate or upgrade",
+            ),
+            ID,
+            (
+                "INPUT",
+                "the batch's file, or the newer policy's; for an upgrade any word, and no file is read",
+            ),
+        ],
+    },
+    Subcommand {
+        name: "check",
+        about: "Tells whether a warehouse is exactly what its commands define",
+        example: "Example: wh check shop.wh",
         operands: &[FILE],
     },
 ];
@@ -178,12 +257,24 @@ fn trial_command<'a>(alloc: Global) -> Result<Command<'a>, AllocError>
     subcommand_of(alloc, &TRIAL)?.arg(policy)
 }
 
+/// An explanation, the one command of which an operand can be left out.
+fn explain_command<'a>(alloc: Global) -> Result<Command<'a>, AllocError>
+    ensures app { IfOk result (λ c. app_of c ≡ explain_app) }
+    ensures local { IfOk result (λ c. (out-Command c).has_globals ≡ false) }
+{
+    let input = Arg::new(alloc, "INPUT").help(
+        "the batch's file, or the newer policy's; without it the header that is wanted is printed, and what each column may hold",
+    );
+    subcommand_of(alloc, &EXPLAIN)?.arg(input)
+}
+
 /// The program before it has commands.
 fn top_command<'a>(alloc: Global) -> Result<Command<'a>, AllocError>
     ensures app { IfOk result (λ c. app_of c ≡ top_app) }
     ensures local { IfOk result (λ c. (out-Command c).has_globals ≡ false) }
 {
     let top = Command::new(alloc, "wh").bin_name("wh")?;
+    let top = top.override_help(HELP).version(VERSION);
     Ok(top.no_binary_name(true).subcommand_required(true))
 }
 
@@ -210,6 +301,7 @@ pub fn program_command<'a>(alloc: Global) -> Result<Command<'a>, AllocError>
     ensures { IfOk result (λ c. app_of c ≡ program_app) }
 {
     let trial = trial_command(alloc)?;
-    let program = top_command(alloc)?.subcommand(trial)?;
+    let explain = explain_command(alloc)?;
+    let program = top_command(alloc)?.subcommand(trial)?.subcommand(explain)?;
     with_subcommands(alloc, program, SUBCOMMANDS)
 }

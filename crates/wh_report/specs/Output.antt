@@ -2,6 +2,8 @@
 use Rattle.std.specs.Prelude.{◌≡◌, ℕ, List, ◌∷◌, ◌++◌, Option, Result, Ok, Err, ⊤}
 use Rattle.std.specs.Io.KnownBytes.{Appends}
 use Rattle.std.specs.List.{concat}
+use Rattle.std.specs.declared.alloc.Global.{Global}
+use Rattle.std.specs.declared.vec.Vec.{Vec}
 use Rattle.wh_engine.specs.declared.fault.Fault.{Fault}
 use Rattle.wh_engine.specs.declared.fault.Fault.TheVariants.{Memory, Reopen}
 use Rattle.wh_report.specs.declared.output.ReportFault.{ReportFault}
@@ -22,6 +24,17 @@ abbrev pub IsOutWhole : Result (Unit {0}) ReportFault → Option (List ℕ) → 
 IsOutWhole (Ok done) old new text = Appends old new text
 IsOutWhole (Err Write) old new text = IsCut old new text
 IsOutWhole (Err fault) old new text = ⊥
+
+-- a text that was worked out goes out; where there is none, nothing does, and its fault is the answer
+abbrev pub GoesOut : Result (Vec ℕ Global) ReportFault → Result (Unit {0}) ReportFault → Option (List ℕ) → Option (List ℕ) → Type 0
+GoesOut (Ok text) result old new = IsOutWhole result old new text.items
+GoesOut (Err fault) result old new = (result ≡ Err fault) × (new ≡ old)
+
+-- what is due was worked out, and went out
+pub record IsWorkedOut (IsDue : Result (Vec ℕ Global) ReportFault → Type 0) (result : Result (Unit {0}) ReportFault) (old new : Option (List ℕ)) : Type 0 where
+  pub worked : Result (Vec ℕ Global) ReportFault
+  pub due : IsDue worked
+  pub out : GoesOut worked result old new
 
 -- it went out before a fault of the warehouse was answered, or the writer failed as well
 abbrev pub IsOutBefore : Fault → ReportFault → Option (List ℕ) → Option (List ℕ) → List ℕ → Type 0

@@ -27,7 +27,7 @@ pub use labels::Labels;
 pub use mode::Mode;
 pub use output::{ReportFault, WriteFailed, write_whole};
 pub use request::{Request, RequestFault};
-pub use sales_report::report;
+pub use sales_report::{report, write};
 pub use subject::{Reading, SlotAttribute, Subject, reading_of, subject_in};
 pub use summary::{AddError, Summary};
 pub use table_texts::{DumpedTable, dimension_text, header_line, row_line, table_text};

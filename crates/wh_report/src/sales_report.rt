@@ -8,7 +8,7 @@ ghost use Rattle.wh_engine.specs.Answered.{IsReady};
 ghost use Rattle.wh_engine.specs.Scanned.{ReadsThrough};
 ghost use Rattle.wh_store.specs.Reads.{SaysAtRest, SaysAsStored, state_of};
 ghost use Rattle.wh_report.specs.Joined.{column_of};
-ghost use Rattle.wh_report.specs.Output.{IsOfTables, of_warehouse};
+ghost use Rattle.wh_report.specs.Output.{GoesOut, IsWorkedOut, IsOfTables, of_warehouse};
 ghost use Rattle.wh_report.specs.Reported.{ReportsTables, ReportsStored, Reports, column_asked};
 ghost use Rattle.wh_report.specs.Request.{has_reading};
 ghost use Rattle.wh_report.specs.Subject.{subject_in, reading_of};
@@ -20,11 +20,12 @@ ghost use Rattle.wh_report.specs.declared.subject.Subject.{Subject};
 use crate::column::{LabelColumn, column_of};
 use crate::column_labels::labels_of;
 use crate::fact_sums::summary_of;
-use crate::output::ReportFault;
+use crate::output::{ReportFault, write_whole};
 use crate::request::Request;
 use crate::subject::{reading_of, subject_in};
 use sqlite::Alter;
 use std::alloc::Global;
+use std::io::Write;
 use wh_engine::{Engine, Fault};
 use wh_policy::Policy;
 
@@ -90,4 +91,39 @@ pub fn report<S: Alter>(
         Some(column) => report_over(alloc, engine, request, column),
         None => unreachable!(),
     }
+}
+
+/// Writes a text out that was worked out.
+fn write_worked<W: Write>(
+    worked: Result<Vec<u8>, ReportFault>,
+    out: &mut W,
+) -> Result<(), ReportFault>
+    ensures out { GoesOut worked result (W.contents out.old) (W.contents out.new) }
+    ensures same { of_warehouse result ≡ of_warehouse worked }
+    ensures only { result ≡ Err (report.Warehouse faults.Reopen) → worked ≡ Err (report.Warehouse faults.Reopen) }
+{
+    let text = worked?;
+    write_whole(out, &text)?;
+    Ok(())
+}
+
+/// Writes the report that is asked for, as `report` makes it. Where the writer failed a beginning of it went out; after any other
+/// fault nothing did.
+pub fn write<S: Alter, W: Write>(
+    alloc: Global,
+    engine: &mut Engine<S>,
+    request: &Request,
+    out: &mut W,
+) -> Result<(), ReportFault>
+    requires { has_reading engine.old.session.policy request.now ≡ true }
+    ensures reads { ReadsThrough engine.old.session engine.new.session (state_of S.Store engine.old.tables) (state_of S.Store engine.new.tables) (of_warehouse result) }
+    ensures writes { engine.new.writes ≡ engine.old.writes }
+    ensures stored { SaysAsStored (state_of S.Store engine.old.tables) (state_of S.Store engine.new.tables) (λ stored. (subject : Subject) (which : Reading)
+        → subject_in engine.old.session.policy request.now.words ≡ Some subject → reading_of subject request.now.mode ≡ Some which → IsWorkedOut (ReportsStored engine.old.session.format request.now (column_of subject which) stored) result (W.contents out.old) (W.contents out.new)) }
+    ensures reported { HasCleanDisk (state_of S.Store engine.new.tables) → (limits : Limits) (commands : List Accepted) → IsReady limits commands engine.old.session (state_of S.Store engine.old.tables)
+        → IsWorkedOut (Reports commands request.now) result (W.contents out.old) (W.contents out.new) }
+    ensures only { result ≡ Err (report.Warehouse faults.Reopen) → IsTrue engine.old.session.must_reopen }
+{
+    let worked = report(alloc, engine, request);
+    write_worked(worked, out)
 }

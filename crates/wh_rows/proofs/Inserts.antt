@@ -1,5 +1,5 @@
 -- Putting in rows by one plain INSERT.
-use Rattle.std.proofs.Common.{◌≡◌, inl, inr, ℕ, zero, suc, ◌≤◌, ℤ, List, [], ◌∷◌, ◌++◌, map, filter, drop, length, ◌/◌, append-nil, Bool, true, false, not, ◌&&◌, None, Ok, Option, refl, sym, ap, ap₂, subst, subst₂, ◌∙◌, arith}
+use Rattle.std.proofs.Common.{◌≡◌, inl, inr, ℕ, zero, suc, ◌≤◌, ℤ, List, [], ◌∷◌, ◌++◌, map, filter, drop, length, ◌/◌, append-nil, Bool, true, not, None, Ok, Option, refl, sym, ap, ap₂, subst, subst₂, ◌∙◌, arith}
 use Rattle.std.specs.Prelude.{IsTrue, flat_map}
 use Rattle.std.specs.List.{AllByRecursion}
 use Rattle.std.specs.List.Sorted.{IsPermutation}
@@ -11,20 +11,15 @@ use Rattle.std.proofs.lemmas.Cmp.{tied_itself}
 use Rattle.std.proofs.lemmas.List.{length-map, map-append}
 use Rattle.std.proofs.lemmas.List.Sorted.{IsPermutation-refl, IsPermutation-sym, IsPermutation-trans, IsPermutation-map, IsPermutation-append, IsPermutation-middle, length_permutation}
 use Rattle.sqlite_value.specs.Order.{Row}
-use Rattle.sqlite_trees.specs.Tree.{Trees, rowid, put_row}
-use Rattle.sqlite_trees.proofs.ListLemmas.{filter_all, all-slice_get, IsPermutation-filter}
+use Rattle.sqlite_trees.specs.Tree.{Trees, put_row}
+use Rattle.sqlite_trees.proofs.ListLemmas.{filter_all, filter-map, IsPermutation-filter}
 use Rattle.sqlite_trees.proofs.TreeLemmas.{IsShaped-put_row}
-use Rattle.sqlite_schema.specs.Rules.{agree, differ, clashes, guards}
-use Rattle.sqlite_schema.specs.Rules as rules
-use Rattle.sqlite_schema.specs.declared.schema.Constraint.TheVariants.{Unique}
 use Rattle.sqlite_rules.specs.Lists.{Has}
 use Rattle.sqlite_rules.specs.Cast.{cast_row}
 use Rattle.sqlite_rules.specs.Edit.{Edit, Applies, edit_of, taken_by, numbered, with_rowid, put_all, are_fresh, have_rowids}
 use Rattle.sqlite_rules.specs.declared.error.Rowids.{Rowids}
 use Rattle.sqlite_rules.specs.declared.error.Rowids.TheVariants.{Chosen}
-use Rattle.sqlite_rules.proofs.ListLemmas.{all_has, all_from, test_has, has_kept, has_right}
-use Rattle.sqlite_rules.proofs.ProbeLemmas.{has_mapped, mapped_has}
-use Rattle.sqlite_catalog.specs.Listing.{IsSound}
+use Rattle.sqlite_rules.proofs.ListLemmas.{all_from, has_kept, has_right}
 use Rattle.sqlite.specs.Term.{Term}
 use Rattle.sqlite.specs.Table.{Table}
 use Rattle.sqlite.specs.Source.TheVariants.{Values}
@@ -39,15 +34,11 @@ use Rattle.sqlite.proofs.Callers.{statement_of, runs_as, one_step}
 use Rattle.sqlite.specs.Schema.{Schema}
 use Rattle.wh_rows.specs.Holds.{Layout, values_of, HasRows, Holds, IsRising}
 use Rattle.wh_rows.specs.OneTable.{LeavesOthers}
-use Rattle.wh_rows.specs.Meaning.{IsPlainTable, InsertsEach, KeepsApart}
+use Rattle.wh_rows.specs.Meaning.{IsPlainTable, InsertsEach}
 use Rattle.wh_rows.proofs.Edits.{went, same_value, task_for, concluded}
-use Rattle.wh_rows.proofs.Keys.{equal_is}
 use Rattle.wh_rows.proofs.Maps.{values-insert, other_rows, keyed-insert, all-insert}
-use Rattle.wh_rows.proofs.RawKeys.{at_most_one, ids_differ, none_clashes}
-use Rattle.wh_rows.proofs.Typed.{holds_filtered, put_is_more}
-use Rattle.wh_rows.proofs.ColumnLemmas.{both}
+use Rattle.wh_rows.proofs.Typed.{put_is_more}
 use Rattle.wh_rows.specs.Steps.{with_rows}
-use Rattle.wh_rows.proofs.Puts.{has_permuted}
 
 -- ---- a list that is written out
 
@@ -171,7 +162,7 @@ module _ {K V : Type 0} (layout : Layout K V) (total : IsTotalOrder layout.order
       IsPermutation-trans _ _ _ (IsPermutation-append vs vs _ _ (IsPermutation-refl vs) (one_more v vs m apart keyed)) (IsPermutation-middle vs v (values m)) in
       IsPermutation-trans _ _ _ (each_put vs after (apart_permuted _ _ more apart) (keyed-insert layout.order same layout.key total m v keyed)) more
 
-  module _ {under : Schema} (many : ℕ) (text : List ℕ) (it : InsertsEach under layout many text) (own : KeepsApart under layout same_key) (old new : State) (vs : List V) (count : ℕ)
+  module _ {under : Schema} (many : ℕ) (text : List ℕ) (it : InsertsEach under layout many text) (old new : State) (vs : List V) (count : ℕ)
       (is : old.now.schema ≡ under) (rising : IsRising (old.now.trees layout.table.tree)) (m : FinMap layout.order V) (held : Holds layout old.now.trees m)
       (so_many : length vs ≡ many) (ran : Executes text (flat_map layout.encode vs) old new (Ok count)) where
     abbrev there : List Row
@@ -206,47 +197,26 @@ module _ {K V : Type 0} (layout : Layout K V) (total : IsTotalOrder layout.order
         (sym (map-append layout.encode vs (values m)))
         (IsPermutation-append (map layout.encode vs) (map layout.encode vs) _ _ (IsPermutation-refl _) held.rows_are))
 
-    rises : IsRising after
-    rises = subst IsRising (sym step.0.rows) (put_all_rises put.news there step.0.keyed rising)
-
-    sound : IsSound under new.now.trees
-    sound = subst (λ s. IsSound s new.now.trees) step.1 (runs_as text (flat_map layout.encode vs) old new under is _ it.command it.plain count ran).sound
-
-    -- a row of the table is one of them
-    shown : (r : Row) → Has after r → (w : V) × (values_of layout.table r ≡ layout.encode w)
-    shown r here =
-        let from = has_mapped layout.encode (vs ++ values m) _ (has_permuted bag (values_of layout.table r) (mapped_has (values_of layout.table) after r here)) in
-        (from.0, from.2)
-
-    -- no two rows of the table have one key
-    far : (v : V) (x y : Row) → Has after x → Has after y → own.meets (values_of layout.table x) (layout.encode v) ≡ true → own.meets (values_of layout.table y) (layout.encode v) ≡ true → agree own.index.order own.index.columns y own.index.columns x ≡ true
-    far v x y hx hy px py =
-        let a = shown x hx in
-        let b = shown y hy in
-        let first : layout.key v ≡ layout.key a.0 = same _ _ (equal_is _ (sym (own.same v a.0) ∙ ap (λ r. own.meets r (layout.encode v)) (sym a.1) ∙ px)) in
-        let second : layout.key v ≡ layout.key b.0 = same _ _ (equal_is _ (sym (own.same v b.0) ∙ ap (λ r. own.meets r (layout.encode v)) (sym b.1) ∙ py)) in
-        own.agrees y x ∙ ap₂ own.meets b.1 a.1 ∙ own.same a.0 b.0 ∙ ap₂ (eq_by_cmp layout.order) (sym first) (sym second) ∙ own_key v
-
-    apart : AreApart (vs ++ values m)
-    apart v =
-        let pass : Row → Bool = λ r. own.meets (values_of layout.table r) (layout.encode v) in
-        let kept = holds_filtered layout (λ r. own.meets r (layout.encode v)) (same_key v) pass after (vs ++ values m) (λ w here. own.same v w) (λ r here. refl) bag in
-        let long : length (filter pass after) ≡ length (filter (same_key v) (vs ++ values m)) =
-        sym (length-map (filter pass after) (values_of layout.table)) ∙ sym (length_permutation _ _ kept) ∙ length-map (filter (same_key v) (vs ++ values m)) layout.encode in
-        let each = all-slice_get (λ t. AllByRecursion (λ row. rules.passes Unique under new.now.trees t row ≡ true) (new.now.trees t.tree)) under.tables it.at layout.table it.table.has (sound.obeys.rules Unique) in
-        let once : length (filter pass after) ≤ 1 = at_most_one after pass rises.0 (λ x y hx hy px py less.
-        let free = test_has (λ i. not (guards i layout.table && clashes i.order i.columns after x)) under.indexes own.index (all_has (λ row. rules.passes Unique under new.now.trees layout.table row ≡ true) after x each hx) own.among in
-        let none : clashes own.index.order own.index.columns after x ≡ false = not-true (clashes own.index.order own.index.columns after x) (ap (λ b. not (b && clashes own.index.order own.index.columns after x)) (sym own.guards) ∙ free) in
-        none_clashes (λ other. agree own.index.order own.index.columns other own.index.columns x && differ (rowid other) (rowid x)) after y none hy
-        (both (far v x y hx hy px py) (ids_differ (rowid x) (rowid y) (all_has _ after x rises.1 hx) (all_has _ after y rises.1 hy) less))) in
-        subst (λ n. n ≤ 1) long once
-
-    pub holds_inserted : AllByRecursion (λ v. IsTrue (layout.is_valid v)) vs → Holds layout new.now.trees (with_rows layout vs m)
-    holds_inserted valid = record {
-      rows_are = IsPermutation-trans _ _ _ bag (IsPermutation-map layout.encode _ _ (IsPermutation-sym _ _ (each_put vs m apart held.keyed)));
-      keyed = each_keyed vs m held.keyed;
-      valid = each_valid vs m valid held.valid;
+    pub leaves : LeavesOthers under layout.table old.now new.now
+    leaves = record {
+      schema = step.1;
+      sound = (runs_as text (flat_map layout.encode vs) old new under is _ it.command it.plain count ran).sound;
+      rising = subst IsRising (sym step.0.rows) (put_all_rises put.news there step.0.keyed rising);
+      others = step.0.tables;
     }
 
-    pub leaves : LeavesOthers under layout.table old.now new.now
-    leaves = record { schema = step.1; sound = (runs_as text (flat_map layout.encode vs) old new under is _ it.command it.plain count ran).sound; rising = rises; others = step.0.tables }
+    module _ (stands : K → Row → Bool) (agree : (k : K) (w : V) → stands k (layout.encode w) ≡ eq_by_cmp layout.order k (layout.key w)) (once : (k : K) → length (filter (stands k) (map (values_of layout.table) after)) ≤ 1) where
+      -- at the key of a row no other stands, since at most one row is stored there
+      apart : AreApart (vs ++ values m)
+      apart v =
+          let k = layout.key v in
+          let long : length (filter (stands k) (map layout.encode (vs ++ values m))) ≡ length (filter (same_key v) (vs ++ values m)) =
+          ap length (filter-map (stands k) layout.encode (vs ++ values m)) ∙ length-map (filter (λ w. stands k (layout.encode w)) (vs ++ values m)) layout.encode ∙ ap (λ (p : V → Bool). length (filter p (vs ++ values m))) (λ i w. agree k w i) in
+          subst (λ n. n ≤ 1) (sym (length_permutation _ _ (IsPermutation-filter (stands k) _ _ bag)) ∙ long) (once k)
+
+      pub holds_inserted : AllByRecursion (λ v. IsTrue (layout.is_valid v)) vs → Holds layout new.now.trees (with_rows layout vs m)
+      holds_inserted valid = record {
+        rows_are = IsPermutation-trans _ _ _ bag (IsPermutation-map layout.encode _ _ (IsPermutation-sym _ _ (each_put vs m apart held.keyed)));
+        keyed = each_keyed vs m held.keyed;
+        valid = each_valid vs m valid held.valid;
+      }

@@ -38,4 +38,5 @@ pub mod Behind
 pub mod Once
 pub mod BehindStored
 pub mod Inserts
-pub mod FactBatches
+pub mod EachInsert
+pub mod InsertedRows

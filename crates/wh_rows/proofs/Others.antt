@@ -26,7 +26,7 @@ use Rattle.wh_rows.specs.declared.rows.ProfileRow.{ProfileRow}
 use Rattle.wh_rows.specs.declared.rows.VoidRow.{VoidRow}
 use Rattle.wh_rows.specs.Rows as row
 
-rising_kept : (tables : List Table) (tree : ℕ) (old new : Trees) → AllByRecursion (λ t. t.tree ≢ tree → new t.tree ≡ old t.tree) tables → IsRising (new tree)
+pub rising_kept : (tables : List Table) (tree : ℕ) (old new : Trees) → AllByRecursion (λ t. t.tree ≢ tree → new t.tree ≡ old t.tree) tables → IsRising (new tree)
     → AllByRecursion (λ t. IsRising (old t.tree)) tables → AllByRecursion (λ t. IsRising (new t.tree)) tables
 rising_kept [] tree old new others here all = tt
 rising_kept (t ∷ ts) tree old new others here all =

@@ -1,13 +1,11 @@
 //! Rows as the values of their columns, to be bound to the parameters of a statement.
 
-ghost use Rattle.std.specs.Prelude.{◌≡◌, ◌≢◌, ◌++◌, false, pos, map, IfOk, IfErr};
-ghost use Rattle.std.specs.List.{list_all};
+ghost use Rattle.std.specs.Prelude.{◌≡◌, ◌≢◌, false, pos, IfOk, IfErr};
 ghost use Rattle.sqlite_value.specs.Value.{owned};
 ghost use Rattle.sqlite_value.specs.declared.value.Value.TheVariants.{Int, Text};
 ghost use Rattle.sqlite.specs.Values.{bound};
 ghost use Rattle.wh_rows.specs.declared.cause.Cause.TheVariants.{Memory, Size};
 ghost use Rattle.wh_rows.specs.Types.{is_number, dim_number, is_discount};
-ghost use Rattle.wh_rows.specs.Inserting.{bind_facts, bind_facts2};
 ghost use Rattle.wh_rows.specs.Rows.{flag, slot_column, slot_columns, encode_meta, encode_command, encode_member, encode_change, encode_dimension, encode_profile, encode_date, encode_fact, encode_fact2, encode_void, is_command, is_member, is_change, is_dimension, is_profile, has_good_columns, is_fact, is_fact2, is_void};
 
 use crate::cause::Cause;
@@ -301,41 +299,5 @@ pub fn void<'a>(alloc: Global, row: &'a VoidRow) -> Result<Vec<ValueRef<'a>>, Ca
         alloc,
         [text(&row.ticket), ValueRef::Int(row.line as i64), command],
     )?;
-    Ok(values)
-}
-
-/// Puts the values of one row behind those that are there.
-fn append<'a>(values: &mut Vec<ValueRef<'a>>, row: Vec<ValueRef<'a>>) -> Result<(), Cause>
-    ensures ok { IfOk result (λ _. bound values.new.items ≡ bound values.old.items ++ bound row.entry.items) }
-    ensures err { IfErr result (λ cause. cause ≡ Memory) }
-{
-    let mut row = row;
-    values.append(&mut row)?;
-    Ok(())
-}
-
-/// Facts, one after the other.
-pub fn facts<'a>(alloc: Global, rows: &[&'a Fact]) -> Result<Vec<ValueRef<'a>>, Cause>
-    ensures ok { IfOk result (λ values. bound values.items ≡ bind_facts (map (λ r. r.now) rows.now)) }
-    ensures err { IfErr result (λ cause. cause ≢ Memory → (cause ≡ Size) × (list_all is_fact (map (λ r. r.now) rows.now) ≡ false)) }
-{
-    let mut values = Vec::new(alloc);
-    for row in rows {
-        let columns = fact(alloc, row)?;
-        append(&mut values, columns)?;
-    }
-    Ok(values)
-}
-
-/// The same of the second format.
-pub fn facts2<'a>(alloc: Global, rows: &[&'a Fact]) -> Result<Vec<ValueRef<'a>>, Cause>
-    ensures ok { IfOk result (λ values. bound values.items ≡ bind_facts2 (map (λ r. r.now) rows.now)) }
-    ensures err { IfErr result (λ cause. cause ≢ Memory → (cause ≡ Size) × (list_all is_fact2 (map (λ r. r.now) rows.now) ≡ false)) }
-{
-    let mut values = Vec::new(alloc);
-    for row in rows {
-        let columns = fact2(alloc, row)?;
-        append(&mut values, columns)?;
-    }
     Ok(values)
 }

@@ -7,3 +7,4 @@ pub mod RowByRow
 pub mod Tallying
 mod Creating
 pub mod Worked
+pub mod BoundRows

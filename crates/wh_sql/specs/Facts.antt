@@ -1,12 +1,9 @@
 -- The texts about the facts of either format.
-use Rattle.std.specs.Prelude.{◌≢◌, ◌⊎◌, ℕ, List, Ok}
-use Rattle.sqlite.specs.Order.{Row}
-use Rattle.sqlite.specs.State.{State, Executes}
+use Rattle.std.specs.Prelude.{ℕ, List}
 use Rattle.wh_policy.specs.declared.format.Format.{Format}
 use Rattle.wh_policy.specs.declared.format.Format.TheVariants.{One, Two}
 use Rattle.wh_rows.specs.declared.keyed_sale.FactColumn.{FactColumn}
 use Rattle.wh_rows.specs.Facts.{facts_in, with_facts_in}
-use Rattle.wh_rows.specs.Inserting.{facts_at_once, BreaksRule}
 use Rattle.wh_rows.specs.KeyedSales.{keyed_sales, keyed_sales2}
 use Rattle.wh_rows.specs.Rekey.{Rekey, rekey_text, rekeyed, rekey2_text}
 use Rattle.wh_rows.specs.Tables.{Tables}
@@ -23,11 +20,3 @@ rekeying Two = rekey2_text
 
 abbrev pub with_rekeyed : Format → Rekey → Tables → Tables
 with_rekeyed format r t = with_facts_in format (rekeyed r (facts_in format t)) t
-
--- the statement was run
-abbrev pub HasRun : List ℕ → Row → State → State → Type 0
-HasRun text params old new = (count : ℕ) × Executes text params old new (Ok count)
-
--- facts were not put in: they are not sixteen, and all is the same; or that breaks a rule
-abbrev pub IsNotPut : List ℕ → Row → ℕ → Type 0 → State → State → Type 0
-IsNotPut text params count same old new = ((count ≢ facts_at_once) × same) ⊎ BreaksRule text params old new

@@ -5,3 +5,4 @@ pub mod Asked
 pub mod Page
 pub mod Tally
 pub mod Facts
+pub mod Batches

@@ -1,6 +1,8 @@
 //! The statements of the warehouse: each call runs one.
 #![tactic(auto)]
 
+mod batched;
+mod batches;
 mod dimension;
 mod facts;
 mod fault;
@@ -19,11 +21,12 @@ mod tables;
 mod tally;
 mod write;
 
+pub use batched::BatchedTable;
 pub use dimension::Dimension;
 pub use facts::Facts;
 pub use fault::ReadFault;
 pub use greatest::{Greatest, GreatestOf, greatest_anchor};
-pub use insert::{FACTS_AT_ONCE, insert_facts, insert_facts2};
+pub use insert::{ROWS_AT_ONCE, insert_new};
 pub use keeps::{KeyedTable, Statements};
 pub use part::Page;
 pub use question::{Question, ask};

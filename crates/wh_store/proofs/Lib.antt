@@ -1,5 +1,6 @@
 mod Transactions
 pub mod Looping
+mod InParts
 mod Refusals
 mod Reopened
 pub mod Opened

@@ -1,5 +1,5 @@
 -- Steps on one table, one after the other.
-use Rattle.std.proofs.Common.{◌≡◌, Bool, ℕ, ◌+◌, ◌<◌, ◌≤◌, List, [], ◌∷◌, length, drop, get_or, sym, ap, subst, ◌∙◌, arith, drop-cons}
+use Rattle.std.proofs.Common.{◌≡◌, Bool, ℕ, ◌+◌, ◌<◌, ◌≤◌, List, [], ◌∷◌, ◌++◌, length, drop, get_or, refl, sym, ap, subst, ◌∙◌, arith, drop-cons}
 use Rattle.std.proofs.lemmas.Grind.{common_steps}
 use Rattle.std.specs.List.{AllByRecursion}
 use Rattle.std.specs.FinMap.{FinMap}
@@ -17,6 +17,15 @@ next_is xs i x within is = next xs i x within ∙ ap (λ y. y ∷ drop (i + 1) x
 
 none_left : {X : Type 0} (xs : List X) (i : ℕ) → length xs ≤ i → drop i xs ≡ []
 none_left xs i over = grind (arith, common_steps)
+
+-- a part of the steps, and then the rest
+pub in_parts : {E M : Type 0} (step : E → M → M) (part rest : List E) (m : M) → after_all step (part ++ rest) m ≡ after_all step rest (after_all step part m)
+in_parts step [] rest m = refl
+in_parts step (e ∷ part) rest m = in_parts step part rest (step e m)
+
+pub all_parts : {E : Type 0} (may : E → Type 0) (part rest : List E) → AllByRecursion may (part ++ rest) → AllByRecursion may part × AllByRecursion may rest
+all_parts may [] rest all = (tt, all)
+all_parts may (e ∷ part) rest all = let both = all_parts may part rest all.1 in ((all.0, both.0), both.1)
 
 -- tables on the way to a whole: each step that is left may be taken, and they lead there
 pub record IsOnTheWay {E M : Type 0} (step : E → M → M) (may : E → Type 0) (rows : Tables → M) (with_rows : M → Tables → Tables) (left : List E) (now whole : Tables) : Type 0 where
@@ -40,6 +49,20 @@ module _ {K V E : Type 0} (layout : Layout K V) (step : E → FinMap layout.orde
         record {
           may_all = here.may_all.1;
           leads = ap (λ n. with_rows (after_all step (drop (i + 1) es) n) (with_rows m now)) (placed.put_in m now) ∙ placed.put_again (after_all step (drop (i + 1) es) m) m now ∙ here.leads;
+        }
+
+  module _ (part rest : List E) (now whole : Tables) (way : IsOnTheWay step may rows with_rows (part ++ rest) now whole) where
+    -- the next steps may be taken
+    pub part_may : AllByRecursion may part
+    part_may = (all_parts may part rest way.may_all).0
+
+    -- and leave the rest
+    pub part_way : IsOnTheWay step may rows with_rows rest (with_rows (after_all step part (rows now)) now) whole
+    part_way =
+        let m = after_all step part (rows now) in
+        record {
+          may_all = (all_parts may part rest way.may_all).1;
+          leads = ap (λ n. with_rows (after_all step rest n) (with_rows m now)) (placed.put_in m now) ∙ placed.put_again (after_all step rest m) m now ∙ ap (λ n. with_rows n now) (sym (in_parts step part rest (rows now))) ∙ way.leads;
         }
 
   -- where none is left, the whole is there

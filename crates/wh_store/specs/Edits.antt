@@ -1,10 +1,11 @@
 -- Edits of one table, one after the other.
-use Rattle.std.specs.Prelude.{◌≡◌, ℕ, List, IsTrue, ⊤}
+use Rattle.std.specs.Prelude.{◌≡◌, ℕ, List, [], ◌∷◌, map, flat_map, take, IsTrue, ⊤}
 use Rattle.std.specs.FinMap.{FinMap, remove}
 use Rattle.sqlite.specs.Order.{Row}
 use Rattle.wh_history.specs.declared.plan.Edit.{Edit}
 use Rattle.wh_history.specs.declared.plan.Edit.TheVariants.{Put, Remove}
 use Rattle.wh_rows.specs.Holds.{Layout}
+use Rattle.wh_rows.specs.Inserting.{rows_at_once, bind_rows}
 use Rattle.wh_rows.specs.Steps.{with_row}
 use Rattle.wh_rows.specs.Texts.{Texts}
 
@@ -31,3 +32,24 @@ IsOfTypes layout (Remove key) = (row : _) × IsTrue (layout.is_valid row) × (la
 abbrev pub statement_of : {K V : Type 0} (layout : Layout K V) (texts : Texts) (bind : K → Row) → Edit V K → List ℕ × Row
 statement_of layout texts bind (Put row) = (texts.put, layout.encode row)
 statement_of layout texts bind (Remove key) = (texts.remove, bind key)
+
+-- ---- edits in parts
+
+-- the rows that edits put
+abbrev pub rows_put : {K V : Type 0} → List (Edit V K) → List V
+rows_put [] = []
+rows_put (Put row ∷ edits) = row ∷ rows_put edits
+rows_put (Remove key ∷ edits) = rows_put edits
+
+-- from each edit on, it and those that follow it, up to sixteen
+abbrev pub runs_of : {E : Type 0} → List E → List (List E)
+runs_of [] = []
+runs_of (edit ∷ edits) = take rows_at_once (edit ∷ edits) ∷ runs_of edits
+
+-- the statements that may make a part of some edits: one that puts in all rows, and one for each edit
+abbrev pub part_statements : {K V : Type 0} (layout : Layout K V) (texts : Texts) (bind : K → Row) (insert : List ℕ) → List (Edit V K) → List (List ℕ × Row)
+part_statements layout texts bind insert part = (insert, bind_rows layout (rows_put part)) ∷ map (statement_of layout texts bind) part
+
+-- those that may make all of them
+abbrev pub statements_in_parts : {K V : Type 0} (layout : Layout K V) (texts : Texts) (bind : K → Row) (insert : List ℕ) → List (Edit V K) → List (List ℕ × Row)
+statements_in_parts layout texts bind insert edits = flat_map (part_statements layout texts bind insert) (runs_of edits)

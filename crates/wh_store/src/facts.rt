@@ -1,20 +1,24 @@
 //! The facts of a format, whichever table they stand in. Where tables are of another, a call is refused by the store, or finds none.
 
-ghost use Rattle.std.specs.Prelude.{◌≡◌, ◌≢◌, ◌+◌, ◌<◌, [], ◌∷◌, pos, filter, length, true, IsTrue, IfOk, IfErr, OnOk, ⊤};
+ghost use Rattle.std.specs.Prelude.{◌≡◌, ◌≢◌, ◌⊎◌, ◌+◌, ◌<◌, ◌≤◌, [], ◌∷◌, pos, map, filter, length, true, false, if◌then◌else◌, Option, Some, IsTrue, IfOk, IfErr, OnOk, ⊤};
+ghost use Rattle.std.specs.List.{AllByRecursion};
 ghost use Rattle.std.specs.FinMap.{get, len, values};
 ghost use Rattle.sqlite.specs.State.{HasCleanDisk};
 ghost use Rattle.sqlite_value.specs.declared.value.Value.TheVariants.{Int};
 ghost use Rattle.wh_rows.specs.declared.cause.Cause.TheVariants.{Memory};
-ghost use Rattle.wh_rows.specs.AtRest.{IsCauseOf};
+ghost use Rattle.wh_rows.specs.AtRest.{IsWriting, IsCauseOf};
 ghost use Rattle.wh_rows.specs.Facts.{facts_in, with_facts_in, facts_table, fact_layout};
+ghost use Rattle.wh_rows.specs.Inserting.{rows_at_once, bind_rows, BreaksRule};
 ghost use Rattle.wh_rows.specs.Keys.{bind_line, stands_at_line};
 ghost use Rattle.wh_rows.specs.Questions.{is_sale_between, is_sold_between};
 ghost use Rattle.wh_rows.specs.Raw.{AreRows, IsLastOf};
 ghost use Rattle.wh_rows.specs.Rows as row;
+ghost use Rattle.wh_rows.specs.Steps.{with_rows};
+ghost use Rattle.wh_rows.specs.Tables.{Tables as TypedTables};
 ghost use Rattle.wh_rows.specs.Types.{is_number};
 ghost use Rattle.wh_sql.specs.Reads.{FailsToShow, FailsToCount};
 ghost use Rattle.wh_store.specs.Edits.{with_edit, statement_of, IsOfTypes, IsValid, Puts};
-ghost use Rattle.wh_store.specs.FactTexts.{fact_texts, sales_asked};
+ghost use Rattle.wh_store.specs.FactTexts.{fact_texts, sales_asked, inserting};
 ghost use Rattle.wh_store.specs.Reads.{state_of, ReadsOnly, SaysAtRest, SaysAsStored, IsOfDamage};
 ghost use Rattle.wh_store.specs.Writes.{WritesOnly, Makes, NotesRefusals};
 
@@ -102,6 +106,30 @@ impl<'t, S: Alter> Writing<'t, S> {
         match format {
             Format::One => self.edit::<tables::Fact>(alloc, edit),
             Format::Two => self.edit::<tables::Fact2>(alloc, edit),
+        }
+    }
+    /// Puts facts of a format in that aren't there yet, sixteen in one statement. Where there are not sixteen of them, or one of their lines is taken,
+    /// also by another of them, nothing changes, and the answer is false.
+    pub fn insert_new_facts(
+        &mut self,
+        alloc: Global,
+        format: Format,
+        facts: &[&Fact],
+    ) -> Result<bool, Cause>
+        ensures same_reference { self.new.tables.ghost_name ≡ self.old.tables.ghost_name }
+        ensures writes { WritesOnly (state_of S.Store self.old.tables.now) (state_of S.Store self.new.tables.now) ⊤ }
+        ensures inserted { HasCleanDisk (state_of S.Store self.new.tables.now) → (before : Option TypedTables) (made : TypedTables) → IsWriting before (Some made) (state_of S.Store self.old.tables.now) → AllByRecursion (IsValid (fact_layout format)) (map (λ f. f.now) facts.now)
+            → IfOk result (λ inserted. IsWriting before (Some (if inserted then with_facts_in format (with_rows row.fact (map (λ f. f.now) facts.now) (facts_in format made)) made else made)) (state_of S.Store self.new.tables.now)) }
+        ensures sixteen { IfOk result (λ inserted. IsTrue inserted → length facts.now ≡ rows_at_once) }
+        ensures refused { HasCleanDisk (state_of S.Store self.new.tables.now) → IfOk result (λ inserted. inserted ≡ false → (length facts.now ≢ rows_at_once) ⊎ BreaksRule (inserting format) (bind_rows (fact_layout format) (map (λ f. f.now) facts.now)) (state_of S.Store self.old.tables.now) (state_of S.Store self.new.tables.now)) }
+        ensures counted { IfOk result (λ inserted. self.new.writes ≡ self.old.writes + (if inserted then length facts.now else 0)) }
+        ensures cause { HasCleanDisk (state_of S.Store self.new.tables.now) → IsTrue (state_of S.Store self.old.tables.now).in_transaction → self.old.writes + length facts.now ≤ u64.MAX → AllByRecursion (IsValid (fact_layout format)) (map (λ f. f.now) facts.now)
+            → IfErr result (λ cause. cause ≢ Memory → IsCauseOf (inserting format) (bind_rows (fact_layout format) (map (λ f. f.now) facts.now)) (state_of S.Store self.old.tables.now) (state_of S.Store self.new.tables.now) cause) }
+        ensures noted { NotesRefusals self.old.refused self.new.refused result }
+    {
+        match format {
+            Format::One => self.insert_new::<tables::Fact>(alloc, facts),
+            Format::Two => self.insert_new::<tables::Fact2>(alloc, facts),
         }
     }
 }

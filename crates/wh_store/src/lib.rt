@@ -4,6 +4,7 @@
 mod facts;
 mod fault;
 mod meta;
+mod parts;
 mod reopen;
 mod scan;
 mod scratch;
@@ -19,8 +20,8 @@ pub use tables::Tables;
 pub use wh_policy::Format;
 pub use wh_rows::{Cause, Limits, Table};
 pub use wh_sql::{
-    CommandOf, Dimension, FACTS_AT_ONCE, FactAggregate, Facts, Greatest, GreatestOf, KeyedTable,
-    LastPolicy, MemberOf, PagedTable, ProfileOf, Question, ReadFault, RecordsOf, RowsOf,
-    SalesBetween,
+    BatchedTable, CommandOf, Dimension, FactAggregate, Facts, Greatest, GreatestOf, KeyedTable,
+    LastPolicy, MemberOf, PagedTable, ProfileOf, Question, ROWS_AT_ONCE, ReadFault, RecordsOf,
+    RowsOf, SalesBetween,
 };
 pub use writing::Writing;

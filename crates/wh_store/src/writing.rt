@@ -3,25 +3,22 @@
 ghost use Rattle.std.specs.Prelude.{◌≡◌, ◌≢◌, ◌⊎◌, ◌+◌, ◌<◌, ◌≤◌, [], pos, codes, map, Option, None, Some, IsTrue, IfOk, IfErr, OnOk, length, ⊤, false, Err, if◌then◌else◌};
 ghost use Rattle.std.specs.FinMap.{empty, insert, len, remove};
 ghost use Rattle.std.specs.List.{AllByRecursion};
-ghost use Rattle.sqlite.specs.Held.{state};
 ghost use Rattle.sqlite.specs.State.{HasCleanDisk, Survives};
 ghost use Rattle.sqlite_rules.specs.Lists.{Has};
 ghost use Rattle.wh_rows.specs.declared.cause.Cause.TheVariants.{Disk, Memory, Size};
 ghost use Rattle.wh_rows.specs.Types.{is_number};
 ghost use Rattle.wh_rows.specs.Rows.{encode_meta};
-ghost use Rattle.wh_rows.specs.Rows as row;
 ghost use Rattle.wh_rows.specs.Texts as texts;
 ghost use Rattle.wh_rows.specs.AtRest.{AreTrees, IsAtRest, IsWriting, Leaves, IsCauseOf};
 ghost use Rattle.wh_rows.specs.Tables.{Tables as TypedTables};
-ghost use Rattle.wh_rows.specs.Facts.{facts_in, with_facts_in, fact_layout};
-ghost use Rattle.wh_rows.specs.Inserting.{facts_at_once, BreaksRule};
+ghost use Rattle.wh_rows.specs.Facts.{facts_in, with_facts_in};
+ghost use Rattle.wh_rows.specs.Inserting.{rows_at_once, bind_rows, BreaksRule};
 ghost use Rattle.wh_rows.specs.Rekey.{bind_rekey, are_keys, rekeyed};
 ghost use Rattle.wh_rows.specs.Steps.{with_row, with_rows, after_all};
 ghost use Rattle.wh_policy.specs.declared.format.Format.TheVariants.{One, Two};
 ghost use Rattle.wh_rows.specs.Making.{upgrading_texts};
 ghost use Rattle.wh_sql.specs.Facts.{rekeying};
 ghost use Rattle.wh_sql.specs.Refused.{IsOneRefused, bare};
-ghost use Rattle.wh_store.specs.FactTexts.{inserting, inserted_facts};
 ghost use Rattle.wh_store.specs.Reads.{state_of};
 ghost use Rattle.wh_store.specs.Writes.{WritesOnly, Makes, NotesRefusals, Undoes};
 ghost use Rattle.wh_store.specs.Edits.{with_edit, IsValid, Puts, IsOfTypes, statement_of};
@@ -30,39 +27,16 @@ ghost use Rattle.wh_store.specs.Meta.{made_with, with_number, making};
 use crate::meta;
 use crate::tables::Tables;
 use crate::transaction::{commit, roll_back};
-use sqlite::{Alter, Connection};
+use sqlite::Alter;
 use std::alloc::Global;
 use std::mem::replace;
-use wh_history::{Edit, Fact, FactKeys};
+use wh_history::{Edit, FactKeys};
 use wh_policy::Format;
 use wh_rows::tables::Meta;
 use wh_rows::{Cause, Limits, LineKey};
 use wh_sql::{
-    KeyedTable, add_second, clear_facts, create, insert_facts, insert_facts2, put, rekey, remove,
+    BatchedTable, KeyedTable, add_second, clear_facts, create, insert_new, put, rekey, remove,
 };
-
-/// Puts facts of a format in that aren't there yet, sixteen in one statement, or none of them.
-fn insert<S: Alter>(
-    alloc: Global,
-    conn: &mut Connection<S>,
-    format: Format,
-    facts: &[&Fact],
-) -> Result<bool, Cause>
-    ensures clean { HasCleanDisk (state S.Store conn.new) → HasCleanDisk (state S.Store conn.old) }
-    ensures counts { (state S.Store conn.old).faults ≤ (state S.Store conn.new).faults }
-    ensures sixteen { IfOk result (λ done. IsTrue done → length facts.now ≡ facts_at_once) }
-    ensures put { HasCleanDisk (state S.Store conn.new) → (before : Option TypedTables) (made : TypedTables) → IsWriting before (Some made) (state S.Store conn.old) → AllByRecursion (IsValid (fact_layout format)) (map (λ f. f.now) facts.now)
-        → IfOk result (λ done. IsWriting before (Some (if done then with_facts_in format (with_rows row.fact (map (λ f. f.now) facts.now) (facts_in format made)) made else made)) (state S.Store conn.new)) }
-    ensures refused { HasCleanDisk (state S.Store conn.new) → IfOk result (λ done. done ≡ false → (length facts.now ≢ facts_at_once) ⊎ BreaksRule (inserting format) (inserted_facts format (map (λ f. f.now) facts.now)) (state S.Store conn.old) (state S.Store conn.new)) }
-    ensures left { HasCleanDisk (state S.Store conn.new) → (before : Option TypedTables) (made : TypedTables) → IsWriting before (Some made) (state S.Store conn.old) → Leaves before (state S.Store conn.new) }
-    ensures cause { HasCleanDisk (state S.Store conn.new) → IsTrue (state S.Store conn.old).in_transaction → AllByRecursion (IsValid (fact_layout format)) (map (λ f. f.now) facts.now)
-        → IfErr result (λ cause. cause ≢ Memory → IsCauseOf (inserting format) (inserted_facts format (map (λ f. f.now) facts.now)) (state S.Store conn.old) (state S.Store conn.new) cause) }
-{
-    match format {
-        Format::One => insert_facts(alloc, conn, facts),
-        Format::Two => insert_facts2(alloc, conn, facts),
-    }
-}
 
 /// Edits of the tables. They are kept by `commit` alone: where it is dropped before that, it leaves nothing.
 pub struct Writing<'t, S: Alter> {
@@ -190,28 +164,27 @@ impl<'t, S: Alter> Writing<'t, S> {
         Ok(count)
     }
 
-    /// Puts facts in that aren't there yet, sixteen in one statement. Where there are not sixteen of them, or one of their lines is taken, also by
-    /// another of them, nothing changes, and the answer is false.
-    pub fn insert_new_facts(
+    /// Puts rows in that aren't there yet, sixteen in one statement. Where there are not sixteen of them, or they break a rule of the schema, as where
+    /// one of their keys is taken, also by another of them, nothing changes, and the answer is false.
+    pub fn insert_new<T: BatchedTable>(
         &mut self,
         alloc: Global,
-        format: Format,
-        facts: &[&Fact],
+        rows: &[&T::Row],
     ) -> Result<bool, Cause>
         ensures same_reference { self.new.tables.ghost_name ≡ self.old.tables.ghost_name }
         ensures writes { WritesOnly (state_of S.Store self.old.tables.now) (state_of S.Store self.new.tables.now) ⊤ }
-        ensures inserted { HasCleanDisk (state_of S.Store self.new.tables.now) → (before : Option TypedTables) (made : TypedTables) → IsWriting before (Some made) (state_of S.Store self.old.tables.now) → AllByRecursion (IsValid (fact_layout format)) (map (λ f. f.now) facts.now)
-            → IfOk result (λ inserted. IsWriting before (Some (if inserted then with_facts_in format (with_rows row.fact (map (λ f. f.now) facts.now) (facts_in format made)) made else made)) (state_of S.Store self.new.tables.now)) }
-        ensures sixteen { IfOk result (λ inserted. IsTrue inserted → length facts.now ≡ facts_at_once) }
-        ensures refused { HasCleanDisk (state_of S.Store self.new.tables.now) → IfOk result (λ inserted. inserted ≡ false → (length facts.now ≢ facts_at_once) ⊎ BreaksRule (inserting format) (inserted_facts format (map (λ f. f.now) facts.now)) (state_of S.Store self.old.tables.now) (state_of S.Store self.new.tables.now)) }
-        ensures counted { IfOk result (λ inserted. self.new.writes ≡ self.old.writes + (if inserted then length facts.now else 0)) }
-        ensures cause { HasCleanDisk (state_of S.Store self.new.tables.now) → IsTrue (state_of S.Store self.old.tables.now).in_transaction → self.old.writes + length facts.now ≤ u64.MAX → AllByRecursion (IsValid (fact_layout format)) (map (λ f. f.now) facts.now)
-            → IfErr result (λ cause. cause ≢ Memory → IsCauseOf (inserting format) (inserted_facts format (map (λ f. f.now) facts.now)) (state_of S.Store self.old.tables.now) (state_of S.Store self.new.tables.now) cause) }
+        ensures inserted { HasCleanDisk (state_of S.Store self.new.tables.now) → (before : Option TypedTables) (made : TypedTables) → IsWriting before (Some made) (state_of S.Store self.old.tables.now) → AllByRecursion (IsValid T.layout) (map (λ r. r.now) rows.now)
+            → IfOk result (λ inserted. IsWriting before (Some (if inserted then T.with_rows (with_rows T.layout (map (λ r. r.now) rows.now) (T.rows made)) made else made)) (state_of S.Store self.new.tables.now)) }
+        ensures sixteen { IfOk result (λ inserted. IsTrue inserted → length rows.now ≡ rows_at_once) }
+        ensures refused { HasCleanDisk (state_of S.Store self.new.tables.now) → IfOk result (λ inserted. inserted ≡ false → (length rows.now ≢ rows_at_once) ⊎ BreaksRule T.insert_means (bind_rows T.layout (map (λ r. r.now) rows.now)) (state_of S.Store self.old.tables.now) (state_of S.Store self.new.tables.now)) }
+        ensures counted { IfOk result (λ inserted. self.new.writes ≡ self.old.writes + (if inserted then length rows.now else 0)) }
+        ensures cause { HasCleanDisk (state_of S.Store self.new.tables.now) → IsTrue (state_of S.Store self.old.tables.now).in_transaction → self.old.writes + length rows.now ≤ u64.MAX → AllByRecursion (IsValid T.layout) (map (λ r. r.now) rows.now)
+            → IfErr result (λ cause. cause ≢ Memory → IsCauseOf T.insert_means (bind_rows T.layout (map (λ r. r.now) rows.now)) (state_of S.Store self.old.tables.now) (state_of S.Store self.new.tables.now) cause) }
         ensures noted { NotesRefusals self.old.refused self.new.refused result }
     {
         let refused = replace(&mut self.refused, true);
-        let writes = self.and(facts.len() as u64)?;
-        let inserted = insert(alloc, &mut self.tables.conn, format, facts)?;
+        let writes = self.and(rows.len() as u64)?;
+        let inserted = insert_new::<T, S>(alloc, &mut self.tables.conn, rows)?;
         self.writes = self.now_written(inserted, writes);
         self.refused = refused;
         Ok(inserted)

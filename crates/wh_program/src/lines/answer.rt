@@ -1,6 +1,6 @@
 //! What a run answers.
 
-ghost use Rattle.std.specs.Prelude.{◌≡◌};
+ghost use Rattle.std.specs.Prelude.{◌≡◌, ◌==◌};
 ghost use Rattle.wh_program.specs.Answer.{status_code};
 
 use std::marker::Model;
@@ -51,6 +51,13 @@ impl Answer {
         ensures { status_code result ≡ self.now.status }
     {
         self.status
+    }
+
+    /// Whether it is the answer of a run that failed.
+    pub fn has_failed(&self) -> bool
+        ensures { result ≡ (self.now.status == 3) }
+    {
+        self.status == Status::Failed
     }
 
     pub fn text(&self) -> &[u8]

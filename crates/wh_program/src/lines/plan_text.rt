@@ -3,25 +3,18 @@
 ghost use Rattle.std.specs.Prelude.{◌≡◌, ◌++◌, ℕ, List, IfOk, OnOk, codes, flat_map};
 ghost use Rattle.std.specs.Fmt.{decimal};
 ghost use Rattle.wh_program.specs.PlanText.{member_words, change_words, line_words, key_line, edit_line, fact_line, commands_text, dimensions_text, facts_text, count_line, plan_text};
-ghost use Rattle.wh_program.specs.Room.{Fits};
 ghost use Rattle.wh_plan.specs.Edits.{edit_count};
 
 use itoa::Buffer;
 use std::alloc::{AllocError, Global};
 use wh_day::{DateRow, Day, Value};
+use wh_explain::push_number;
 use wh_history::{DimRow, Edit, Fact};
 use wh_plan::{Edits, FactEdit};
 use wh_rows::{
     ChangeKey, ChangeRow, CommandRow, LineKey, MemberKey, MemberRow, MetaRow, ProfileRow, Table,
     VoidRow, dim_number,
 };
-
-pub fn push_number(text: &mut Vec<u8>, number: u64) -> Result<(), AllocError>
-    ensures added { OnOk result (text.new.items ≡ text.old.items ++ decimal number) }
-    ensures fits { Fits 20 result text.old text.new }
-{
-    text.extend_from_slice(Buffer::new().format(number).as_bytes())
-}
 
 /// Two numbers with a space between them.
 fn push_pair(text: &mut Vec<u8>, first: u64, second: u64) -> Result<(), AllocError>

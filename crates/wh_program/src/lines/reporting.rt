@@ -3,11 +3,11 @@
 ghost use Rattle.std.specs.Prelude.{◌≡◌, ◌++◌, codes, string_bytes, IfOk};
 ghost use Rattle.std.specs.Fmt.{decimal};
 ghost use Rattle.wh_report.specs.Words.{mode_word};
-ghost use Rattle.wh_program.specs.Answer.{failed, refused, line, write_line};
+ghost use Rattle.wh_program.specs.Answer.{failed, refused, line, write_line, no_mode_line};
 ghost use Rattle.wh_program.specs.Reply.{no_reading_line, request_line, report_fault_answer, report_answer};
 
 use crate::lines::answer::{Answer, Status};
-use crate::lines::{WRITE_LINE, damaged, fault_answer, fixed_line};
+use crate::lines::{MODES, WRITE_LINE, damaged, fault_answer, fixed_line, wrong_word_line};
 use std::alloc::{AllocError, Global};
 use wh_policy::AttributeType;
 use wh_report::{Mode, ReportFault, RequestFault};
@@ -33,6 +33,14 @@ fn no_date_reading(alloc: Global, mode: Mode) -> Result<Answer, AllocError>
 {
     let word = mode.word();
     let line = format!(in alloc; "refused: G2 no reading, date {word}\n")?;
+    Ok(Answer::new(Status::Refused, line.into_bytes()))
+}
+
+/// The answer to a report whose mode is no word for one.
+pub fn no_mode(alloc: Global, word: &str) -> Result<Answer, AllocError>
+    ensures { IfOk result (λ answer. answer ≡ refused (no_mode_line word.now)) }
+{
+    let line = wrong_word_line(alloc, "MODE", word, MODES)?;
     Ok(Answer::new(Status::Refused, line.into_bytes()))
 }
 

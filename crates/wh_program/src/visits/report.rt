@@ -1,14 +1,12 @@
 //! The reports of a warehouse in a file.
 
 ghost use Rattle.std.specs.Prelude.{List};
-ghost use Rattle.sqlite.specs.State.{HasCleanDisk};
-ghost use Rattle.wh_history.specs.Accepted.{Accepted};
-ghost use Rattle.wh_history.specs.Tables.{Limits};
-ghost use Rattle.wh_engine.specs.Answered.{IsReady};
-ghost use Rattle.wh_store.specs.Reads.{state_of};
-ghost use Rattle.wh_program.specs.Readings.{IsReported, AnswersReport};
+ghost use Rattle.wh_admission.specs.Admission.{current_policy};
+ghost use Rattle.wh_engine.specs.Scanned.{WasClean, WhenReady};
+ghost use Rattle.wh_program.specs.Readings.{IsReported, AnswersReport, asked_answer, asked_under};
+ghost use Rattle.wh_program.specs.ReportsRead.{IsReadFor};
 ghost use Rattle.wh_program.specs.Request.{report_words};
-ghost use Rattle.wh_program.specs.Standing.{DatabaseContent, Standing, Rests, Stands};
+ghost use Rattle.wh_program.specs.Standing.{DatabaseContent, Rests};
 
 use crate::host::Host;
 use crate::lines::answer::Answer;
@@ -22,14 +20,13 @@ use wh_engine::Engine;
 use wh_report::{Request, report};
 
 /// The answer to the words of a report, over a warehouse that is open.
-fn asked_answer<S: Alter>(
+pub fn asked_answer<S: Alter>(
     alloc: Global,
     engine: &mut Engine<S>,
     asked: &AskedReport,
 ) -> Result<Answer, AllocError>
-    ensures clean { HasCleanDisk (state_of S.Store engine.new.tables) → HasCleanDisk (state_of S.Store engine.old.tables) }
-    ensures reported { HasCleanDisk (state_of S.Store engine.new.tables) → (limits : Limits) (commands : List Accepted) → IsReady limits commands engine.old.session (state_of S.Store engine.old.tables)
-        → (after : Standing) × IsReported (report_words asked.now) limits commands result after × Stands after (state_of S.Store engine.new.tables) }
+    ensures clean { WasClean S.Store engine.old.tables engine.new.tables }
+    ensures reported { WhenReady S.Store engine.old engine.new (λ limits commands. IsReadFor (asked_answer commands (asked_under (current_policy commands) (report_words asked.now))) result limits commands) }
 {
     let policy = engine.policy();
     let from = asked.from.as_bytes();

@@ -151,7 +151,7 @@ pub fn init<H: Host>(
 }
 
 /// What is had of the input of a command, if its file is there. It is read as far as it has to be; that of an upgrade isn't, and has no bytes.
-fn input_of<H: Host>(
+pub fn input_of<H: Host>(
     alloc: Global,
     kind: CommandKind,
     path: &str,

@@ -4,13 +4,13 @@ ghost use Rattle.std.specs.Prelude.{◌≡◌, IfOk, IfErr, IsErr, Some, Ok, Err
 ghost use Rattle.clap.specs.Words.{FailsBy, HasKind, Kinds, first_of, found_of, rows_of, subcommand_rows_of, kind_of, takes, subcommand_of};
 ghost use Rattle.clap.specs.declared.error.ErrorKind.TheVariants.{OutOfMemory};
 ghost use Rattle.wh_rows.specs.Names.{table_named};
-ghost use Rattle.wh_program.specs.CommandLine.{CommandLine, program_app, words_of, has_operands, named, named_trial, named_init, named_sent, named_load, named_migrate, named_upgrade, named_deliver, named_plan, named_report, named_dump, named_check, named_status};
+ghost use Rattle.wh_program.specs.Answer.{wrong_word_line};
+ghost use Rattle.wh_program.specs.CommandLine.{CommandLine, program_app, words_of, has_operands, named, named_trial, named_explain, named_init, named_sent, named_load, named_migrate, named_upgrade, named_deliver, named_plan, named_report, named_reports, named_dump, named_check, named_status};
 ghost use Rattle.wh_program.specs.Request.{text_of, sent_of, line_of, asked_in, Asks, IsDeclined, IsReadAs};
-ghost use Rattle.wh_program.specs.Task.{trial_asked, load_asked, plan_asked, report_asked, dump_asked, faults_in, asked_by};
+ghost use Rattle.wh_program.specs.Task.{trial_asked, load_asked, plan_asked, explain_asked, report_asked, dump_asked, faults_in, asked_by};
 
 use crate::lines::{
-    NO_COMMAND_KIND_LINE, NO_COMMAND_LINE, NO_DIMENSION_LINE, NO_KIND_LINE, NO_MODE_LINE,
-    NO_TABLE_LINE,
+    COMMAND_KINDS, DIMENSIONS, KINDS, MODES, NO_COMMAND_LINE, TABLES, wrong_word_line,
 };
 use crate::words::program_command;
 use clap::ArgMatches;
@@ -66,10 +66,21 @@ pub enum Task<'a> {
         id: &'a str,
         path: &'a str,
     },
+    /// What the input in the file `path` would be answered under a new id, and why; or what a kind takes.
+    Explain {
+        file: &'a str,
+        kind: CommandKind,
+        path: Option<&'a str>,
+    },
     /// What was sold, by an attribute of the warehouse in `file`.
     Report {
         file: &'a str,
         asked: AskedReport<'a>,
+    },
+    /// The reports that the file `list` lists, of the warehouse in `file`.
+    Reports {
+        file: &'a str,
+        list: &'a str,
     },
     /// A table of the warehouse in `file`.
     Dump {
@@ -99,7 +110,7 @@ pub struct AskedReport<'a> {
 #[derive(Debug, Drop)]
 pub enum Request<'a> {
     Task(Task<'a>),
-    /// Help that was asked for.
+    /// Help, or the version, that was asked for.
     Help(String),
     /// What is wrong with the words.
     Usage(String),
@@ -160,7 +171,16 @@ enum Operands<'a> {
         manifest: &'a str,
     },
     Plan(SentOperands<'a>),
+    Explain {
+        file: &'a str,
+        kind: &'a str,
+        path: Option<&'a str>,
+    },
     Report(ReportOperands<'a>),
+    Reports {
+        file: &'a str,
+        list: &'a str,
+    },
     Dump {
         file: &'a str,
         table: &'a str,
@@ -251,6 +271,16 @@ fn plan_operands<'a>(inner: &ArgMatches<'a>) -> Option<Operands<'a>>
     Some(Operands::Plan(sent_operands(inner, "INPUT")?))
 }
 
+fn explain_operands<'a>(inner: &ArgMatches<'a>) -> Option<Operands<'a>>
+    ensures { option_map line_of result ≡ named_explain (rows_of (found_of inner.now)) }
+{
+    Some(Operands::Explain {
+        file: value_of(inner, "FILE")?,
+        kind: value_of(inner, "KIND")?,
+        path: value_of(inner, "INPUT"),
+    })
+}
+
 fn report_operands<'a>(inner: &ArgMatches<'a>) -> Option<Operands<'a>>
     ensures { option_map line_of result ≡ named_report (rows_of (found_of inner.now)) }
 {
@@ -261,6 +291,15 @@ fn report_operands<'a>(inner: &ArgMatches<'a>) -> Option<Operands<'a>>
         from: value_of(inner, "FROM")?,
         to: value_of(inner, "TO")?,
     }))
+}
+
+fn reports_operands<'a>(inner: &ArgMatches<'a>) -> Option<Operands<'a>>
+    ensures { option_map line_of result ≡ named_reports (rows_of (found_of inner.now)) }
+{
+    Some(Operands::Reports {
+        file: value_of(inner, "FILE")?,
+        list: value_of(inner, "LIST")?,
+    })
 }
 
 fn dump_operands<'a>(inner: &ArgMatches<'a>) -> Option<Operands<'a>>
@@ -295,6 +334,7 @@ fn operands_of<'a>(matches: &ArgMatches<'a>) -> Option<Operands<'a>>
     let (name, inner) = matches.subcommand()?;
     match name {
         "trial" => trial_operands(inner),
+        "explain" => explain_operands(inner),
         "init" => init_operands(inner),
         "load" => load_operands(inner),
         "migrate" => migrate_operands(inner),
@@ -302,6 +342,7 @@ fn operands_of<'a>(matches: &ArgMatches<'a>) -> Option<Operands<'a>>
         "deliver" => deliver_operands(inner),
         "plan" => plan_operands(inner),
         "report" => report_operands(inner),
+        "reports" => reports_operands(inner),
         "dump" => dump_operands(inner),
         "check" => check_operands(inner),
         "status" => status_operands(inner),
@@ -309,14 +350,16 @@ fn operands_of<'a>(matches: &ArgMatches<'a>) -> Option<Operands<'a>>
     }
 }
 
-/// The request that an error of `clap` stands for: help, or a mistake in the words.
+/// The request that an error of `clap` stands for: help, the version, or a mistake in the words.
 fn declined<'a>(alloc: Global, error: &clap::Error) -> Result<Request<'a>, AllocError>
     ensures memory { kind_of error.now ≡ OutOfMemory → IsErr result }
     ensures declined { (faults : Kinds) → HasKind faults error.now → IfOk result (IsDeclined faults) }
 {
     match error.kind() {
         ErrorKind::OutOfMemory => Err(AllocError),
-        ErrorKind::DisplayHelp => Ok(Request::Help(error.to_string(alloc)?)),
+        ErrorKind::DisplayHelp | ErrorKind::DisplayVersion => {
+            Ok(Request::Help(error.to_string(alloc)?))
+        }
         _ => Ok(Request::Usage(error.to_string(alloc)?)),
     }
 }
@@ -325,6 +368,19 @@ fn mistake<'a>(alloc: Global, line: &str) -> Result<Request<'a>, AllocError>
     ensures { IfOk result (λ request. asked_in request ≡ Some (Err line.now)) }
 {
     Ok(Request::Usage(String::from_str(alloc, line)?))
+}
+
+/// The mistake of a word that is none of those that are possible for the operand.
+fn wrong_word<'a>(
+    alloc: Global,
+    operand: &str,
+    word: &str,
+    possible: &str,
+) -> Result<Request<'a>, AllocError>
+    ensures { IfOk result (λ request. asked_in request ≡ Some (Err (wrong_word_line operand.now word.now possible.now))) }
+{
+    let line = wrong_word_line(alloc, operand, word, possible)?;
+    Ok(Request::Usage(line))
 }
 
 /// The trial of a batch of a dimension.
@@ -338,7 +394,7 @@ fn trial_request<'a>(
 {
     match Dim::from_word(dimension) {
         Some(dim) => Ok(Request::Task(Task::Trial { dim, path, policy })),
-        None => mistake(alloc, NO_DIMENSION_LINE),
+        None => wrong_word(alloc, "DIMENSION", dimension, DIMENSIONS),
     }
 }
 
@@ -353,7 +409,7 @@ fn load_request<'a>(alloc: Global, sent: SentOperands<'a>) -> Result<Request<'a>
             id: sent.id,
             path: sent.path,
         })),
-        None => mistake(alloc, NO_KIND_LINE),
+        None => wrong_word(alloc, "KIND", sent.kind, KINDS),
     }
 }
 
@@ -368,7 +424,22 @@ fn plan_request<'a>(alloc: Global, sent: SentOperands<'a>) -> Result<Request<'a>
             id: sent.id,
             path: sent.path,
         })),
-        None => mistake(alloc, NO_COMMAND_KIND_LINE),
+        None => wrong_word(alloc, "KIND", sent.kind, COMMAND_KINDS),
+    }
+}
+
+/// The explanation of a command of a kind.
+fn explain_request<'a>(
+    alloc: Global,
+    file: &'a str,
+    kind: &str,
+    path: Option<&'a str>,
+) -> Result<Request<'a>, AllocError>
+    ensures { IfOk result (λ request. asked_in request ≡ Some (explain_asked file.now kind.now (text_of path.entry))) }
+{
+    match CommandKind::from_word(kind) {
+        Some(kind) => Ok(Request::Task(Task::Explain { file, kind, path })),
+        None => wrong_word(alloc, "KIND", kind, COMMAND_KINDS),
     }
 }
 
@@ -386,7 +457,7 @@ fn report_request<'a>(alloc: Global, words: ReportOperands<'a>) -> Result<Reques
                 to: words.to,
             },
         })),
-        None => mistake(alloc, NO_MODE_LINE),
+        None => wrong_word(alloc, "MODE", words.mode, MODES),
     }
 }
 
@@ -403,7 +474,7 @@ fn dump_request<'a>(alloc: Global, file: &'a str, table: &str) -> Result<Request
 {
     match table_of_word(table) {
         Some(table) => Ok(Request::Task(Task::Dump { file, table })),
-        None => mistake(alloc, NO_TABLE_LINE),
+        None => wrong_word(alloc, "TABLE", table, TABLES),
     }
 }
 
@@ -427,7 +498,9 @@ fn requested<'a>(alloc: Global, operands: Operands<'a>) -> Result<Request<'a>, A
             Ok(Request::Task(Task::Deliver { file, manifest }))
         }
         Operands::Plan(sent) => plan_request(alloc, sent),
+        Operands::Explain { file, kind, path } => explain_request(alloc, file, kind, path),
         Operands::Report(words) => report_request(alloc, words),
+        Operands::Reports { file, list } => Ok(Request::Task(Task::Reports { file, list })),
         Operands::Dump { file, table } => dump_request(alloc, file, table),
         Operands::Check { file } => Ok(Request::Task(Task::Check { file })),
         Operands::Status { file } => Ok(Request::Task(Task::Status { file })),

@@ -6,7 +6,8 @@ use Rattle.wh_rows.specs.AtRest.{IsWriting}
 use Rattle.wh_rows.specs.Tables.{Tables as TenTables}
 use Rattle.wh_plan.specs.Writable.{IsValidFactEdit}
 use Rattle.wh_engine.specs.Writing.{AreValidFactEdits, with_fact_edits}
-use Rattle.wh_engine.proofs.PutFacts.{put_none, parts_put, all_parts}
+use Rattle.wh_store.proofs.Looping.{all_parts}
+use Rattle.wh_engine.proofs.PutFacts.{put_none, parts_put}
 use Rattle.wh_engine.proofs.write.edit_all_facts.Goals as goal
 
 pub loop-part-init : goal.loop-part-init

@@ -27,16 +27,16 @@ returns-in_err-edit_all-2-clause-writes g c = record {
       left clean before _ (edited one before made at valid.meta) valid.commands;
 }
 
-pub returns-in_err-edit_all-3-clause-writes : goal.returns-in_err-edit_all-3-clause-writes
-returns-in_err-edit_all-3-clause-writes g c = record {
-  clean = λ clean. c.edit_all.ensures.writes.clean (c.edit_all-2.ensures.writes.clean (c.edit_all-3.ensures.writes.clean clean));
-  counts = omega (arith, c.edit_all.ensures.writes.counts, c.edit_all-2.ensures.writes.counts, c.edit_all-3.ensures.writes.counts);
+pub returns-in_err-edit_in_parts-clause-writes : goal.returns-in_err-edit_in_parts-clause-writes
+returns-in_err-edit_in_parts-clause-writes g c = record {
+  clean = λ clean. c.edit_all.ensures.writes.clean (c.edit_all-2.ensures.writes.clean (c.edit_in_parts.ensures.writes.clean clean));
+  counts = omega (arith, c.edit_all.ensures.writes.counts, c.edit_all-2.ensures.writes.counts, c.edit_in_parts.ensures.writes.counts);
   left = λ clean before made at may.
       let valid = subst AreValidCommands (sym c.edits.view_is) may in
       let edited_1 = rw c.deref.ensures.value at c.in_ok-edit_all.ensures.edited in
       let edited_2 = rw c.deref-2.ensures.value at c.in_ok-edit_all-2.ensures.edited in
-      let left = rw c.deref-3.ensures.value at c.edit_all-3.ensures.writes.left in
-      let two = c.edit_all-3.ensures.writes.clean clean in
+      let left = rw c.deref-3.ensures.value at c.edit_in_parts.ensures.writes.left in
+      let two = c.edit_in_parts.ensures.writes.clean clean in
       let one = c.edit_all-2.ensures.writes.clean two in
       left clean before _ (edited_2 two before _ (edited_1 one before made at valid.meta) valid.commands) valid.members;
 }
@@ -46,26 +46,26 @@ returns-clause-edited g c clean before made at may =
     let valid = subst AreValidCommands (sym c.edits.view_is) may in
     let edited_1 = rw c.deref.ensures.value at c.in_ok-edit_all.ensures.edited in
     let edited_2 = rw c.deref-2.ensures.value at c.in_ok-edit_all-2.ensures.edited in
-    let edited_3 = rw c.deref-3.ensures.value at c.in_ok-edit_all-3.ensures.edited in
-    let edited_4 = rw c.deref-4.ensures.value at c.edit_all-4.ensures.edited in
-    let three = c.edit_all-4.ensures.writes.clean clean in
-    let two = c.edit_all-3.ensures.writes.clean three in
+    let edited_3 = rw c.deref-3.ensures.value at c.in_ok-edit_in_parts.ensures.edited in
+    let edited_4 = rw c.deref-4.ensures.value at c.edit_in_parts-2.ensures.edited in
+    let three = c.edit_in_parts-2.ensures.writes.clean clean in
+    let two = c.edit_in_parts.ensures.writes.clean three in
     let one = c.edit_all-2.ensures.writes.clean two in
-    subst (λ e. OnOk c.edit_all-4.result (IsWriting before (Some (with_commands e made)) (state g.S.Store c.edit_all-4.new.self.tables.now.conn))) c.edits.view_is
+    subst (λ e. OnOk c.edit_in_parts-2.result (IsWriting before (Some (with_commands e made)) (state g.S.Store c.edit_in_parts-2.new.self.tables.now.conn))) c.edits.view_is
     (edited_4 clean before _ (edited_3 three before _ (edited_2 two before _ (edited_1 one before made at valid.meta) valid.commands) valid.members) valid.changes)
 
 pub returns-clause-writes : goal.returns-clause-writes
 returns-clause-writes g c = record {
-  clean = λ clean. c.edit_all.ensures.writes.clean (c.edit_all-2.ensures.writes.clean (c.edit_all-3.ensures.writes.clean (c.edit_all-4.ensures.writes.clean clean)));
-  counts = omega (arith, c.edit_all.ensures.writes.counts, c.edit_all-2.ensures.writes.counts, c.edit_all-3.ensures.writes.counts, c.edit_all-4.ensures.writes.counts);
+  clean = λ clean. c.edit_all.ensures.writes.clean (c.edit_all-2.ensures.writes.clean (c.edit_in_parts.ensures.writes.clean (c.edit_in_parts-2.ensures.writes.clean clean)));
+  counts = omega (arith, c.edit_all.ensures.writes.counts, c.edit_all-2.ensures.writes.counts, c.edit_in_parts.ensures.writes.counts, c.edit_in_parts-2.ensures.writes.counts);
   left = λ clean before made at may.
       let valid = subst AreValidCommands (sym c.edits.view_is) may in
       let edited_1 = rw c.deref.ensures.value at c.in_ok-edit_all.ensures.edited in
       let edited_2 = rw c.deref-2.ensures.value at c.in_ok-edit_all-2.ensures.edited in
-      let edited_3 = rw c.deref-3.ensures.value at c.in_ok-edit_all-3.ensures.edited in
-      let left = rw c.deref-4.ensures.value at c.edit_all-4.ensures.writes.left in
-      let three = c.edit_all-4.ensures.writes.clean clean in
-      let two = c.edit_all-3.ensures.writes.clean three in
+      let edited_3 = rw c.deref-3.ensures.value at c.in_ok-edit_in_parts.ensures.edited in
+      let left = rw c.deref-4.ensures.value at c.edit_in_parts-2.ensures.writes.left in
+      let three = c.edit_in_parts-2.ensures.writes.clean clean in
+      let two = c.edit_in_parts.ensures.writes.clean three in
       let one = c.edit_all-2.ensures.writes.clean two in
       left clean before _ (edited_3 three before _ (edited_2 two before _ (edited_1 one before made at valid.meta) valid.commands) valid.members) valid.changes;
 }

@@ -1,7 +1,7 @@
-use Rattle.std.proofs.Common.{◌≡◌, ◌+◌, drop}
-use Rattle.wh_program.specs.Room.{longest_answers, longest_delivery}
+use Rattle.std.proofs.Common.{◌≡◌, max, drop}
+use Rattle.wh_program.specs.Room.{longest_reply}
 use Rattle.wh_program.proofs.lines.room_for_delivery.Given as goal
 
--- the bytes so far, and those for the commands that are left, are all of them
+-- the longest so far, or of those that are left, is that of all
 abbrev pub invariant-loop-command : goal.invariant-loop-command
-invariant-loop-command l = l.bytes + longest_answers (drop l.command-index l.commands) ≡ longest_delivery l.commands
+invariant-loop-command l = max l.longest (longest_reply (drop l.command-index l.commands)) ≡ longest_reply l.commands

@@ -1,9 +1,9 @@
 use Rattle.std.proofs.Common.{◌≡◌, ◌∙◌, refl, inl, inr, Some, ap, map, subst, sym}
 use Rattle.wh_program.specs.Request.{IsReadAs}
-use Rattle.wh_program.specs.Run.{Prints}
+use Rattle.wh_program.specs.Run.{GoesOut, Prints, out_of_memory}
 use Rattle.wh_program.specs.Task.{faults_in}
 use Rattle.wh_program.specs.Warehouse.{printed}
-use Rattle.wh_program.proofs.RunLemmas.{is_no_usage, not_run}
+use Rattle.wh_program.proofs.RunLemmas.{is_no_usage, not_run, parted}
 use Rattle.wh_program.proofs.program.run.Goals as goal
 
 pub returns-in-Ok-clause-runs : goal.returns-in-Ok-clause-runs
@@ -19,7 +19,9 @@ returns-in-Ok-clause-wrong_words g c = λ line wrong says is.
 pub returns-in-Err-clause-runs : goal.returns-in-Err-clause-runs
 returns-in-Err-clause-runs g c = λ line task says is.
     not_run (g.H.Host.holds c.args.host.now) (g.H.Host.refuses c.args.host.now) (g.H.Host.stores c.args.host.now) (c.args.host.now ≡ c.args.host.now)
-    (λ told. Prints (g.W.Write.contents c.args.out.now) (g.W.Write.contents c.print.new.out) c.code.result (printed told)) c.in-Err.field-0 task refl (rw (← c.code.ensures) at c.print.ensures)
+    (λ told. Prints (g.W.Write.contents c.args.out.now) (g.W.Write.contents c.print.new.out) c.code.result (printed told))
+    (λ cut told. GoesOut cut (g.W.Write.contents c.args.out.now) (g.W.Write.contents c.print.new.out) c.code.result (printed told)) c.in-Err.field-0 task refl (rw (← c.code.ensures) at c.print.ensures)
+    (parted (g.W.Write.contents c.args.out.now) (g.W.Write.contents c.print.new.out) c.code.result out_of_memory (rw (← c.code.ensures) at c.print.ensures))
 
 pub returns-in-Err-clause-right_words : goal.returns-in-Err-clause-right_words
 returns-in-Err-clause-right_words g c = λ line task says is e. is_no_usage c.print.result (sym c.code.ensures ∙ e)
@@ -41,7 +43,9 @@ returns-in-Ok-clause-declines g c = λ is.
 pub returns-in-Err-clause-reads : goal.returns-in-Err-clause-reads
 returns-in-Err-clause-reads g c = λ task is. (
   not_run (g.H.Host.holds c.args.host.now) (g.H.Host.refuses c.args.host.now) (g.H.Host.stores c.args.host.now) (c.args.host.now ≡ c.args.host.now)
-      (λ told. Prints (g.W.Write.contents c.args.out.now) (g.W.Write.contents c.print.new.out) c.code.result (printed told)) c.in-Err.field-0 task refl (rw (← c.code.ensures) at c.print.ensures),
+      (λ told. Prints (g.W.Write.contents c.args.out.now) (g.W.Write.contents c.print.new.out) c.code.result (printed told))
+      (λ cut told. GoesOut cut (g.W.Write.contents c.args.out.now) (g.W.Write.contents c.print.new.out) c.code.result (printed told)) c.in-Err.field-0 task refl (rw (← c.code.ensures) at c.print.ensures)
+      (parted (g.W.Write.contents c.args.out.now) (g.W.Write.contents c.print.new.out) c.code.result out_of_memory (rw (← c.code.ensures) at c.print.ensures)),
   (λ e. is_no_usage c.print.result (sym c.code.ensures ∙ e)),
 )
 

@@ -1,12 +1,27 @@
-use Rattle.std.proofs.Common.{◌≤◌}
-use Rattle.std.specs.Prelude.{vec_capacity}
-use Rattle.wh_program.specs.Delivery.{IsDelivered}
-use Rattle.wh_program.specs.Room.{longest_delivery}
-use Rattle.wh_program.proofs.RoomLemmas.{worked_with}
+use Rattle.std.proofs.Common.{inr, Err}
+use Rattle.std.proofs.lemmas.Result.{IfOk-weaker}
+use Rattle.wh_program.specs.Answer.{status_code}
+use Rattle.wh_program.specs.Delivery.{AnswersSent}
+use Rattle.wh_program.specs.Standing.{Rests}
+use Rattle.wh_program.proofs.RunLemmas.{printed_so}
 use Rattle.wh_program.proofs.visits.delivery.deliver_commands.Goals as goal
 
-pub returns : goal.returns
-returns g c = λ content stood.
-    worked_with (longest_delivery c.args.commands.items ≤ vec_capacity c.in_ok-room.room) (IsDelivered c.args.commands.items) content
-    (g.H.Host.refuses c.args.host.now) (g.H.Host.stores c.work_on.new.host c.args.file.now) c.args.file.now c.work_on.result
-    (rw c.deref.ensures.value at c.in_ok-room.ensures) (c.work_on.ensures content stood)
+pub returns-in_default : goal.returns-in_default
+returns-in_default g c = λ content stood.
+    printed_so (λ cut. AnswersSent (g.H.Host.refuses c.args.host.now) (g.H.Host.stores c.args.host.now c.args.file.now) cut content c.args.file.now c.args.commands.items) (g.W.Write.contents c.args.out.now) (g.W.Write.contents c.print_answer.new.out) (status_code c.print_answer.result) (Err _)
+    (λ cut. inr (record { same = stood; tells = tt })) c.print_answer.ensures
+
+pub returns-in-Err-NoFile : goal.returns-in-Err-NoFile
+returns-in-Err-NoFile g c = λ content stood.
+    printed_so (λ cut. AnswersSent (g.H.Host.refuses c.args.host.now) (g.H.Host.stores c.with_existing.new.self c.args.file.now) cut content c.args.file.now c.args.commands.items) (g.W.Write.contents c.args.out.now) (g.W.Write.contents c.print_answer-in-Err-NoFile.new.out) (status_code c.print_answer-in-Err-NoFile.result) c.no_file.result
+    (λ cut. inr (record {
+      same = c.in-Err-NoFile.ensures.not_visited c.args.file.now (Rests content) stood;
+      tells = IfOk-weaker c.no_file.result _ _ (λ a is. (c.in-Err-NoFile.ensures.refused c.in-Err-NoFile.field-0-is, is)) c.no_file.ensures;
+    }))
+    (rw c.in-Err-NoFile.ensures.not_printed at c.print_answer-in-Err-NoFile.ensures)
+
+pub returns-in-Err-Memory : goal.returns-in-Err-Memory
+returns-in-Err-Memory g c = λ content stood.
+    printed_so (λ cut. AnswersSent (g.H.Host.refuses c.args.host.now) (g.H.Host.stores c.with_existing.new.self c.args.file.now) cut content c.args.file.now c.args.commands.items) (g.W.Write.contents c.args.out.now) (g.W.Write.contents c.print_answer-in-Err-Memory.new.out) (status_code c.print_answer-in-Err-Memory.result) (Err _)
+    (λ cut. inr (record { same = c.in-Err-Memory.ensures.not_visited c.args.file.now (Rests content) stood; tells = tt }))
+    (rw c.in-Err-Memory.ensures.not_printed at c.print_answer-in-Err-Memory.ensures)

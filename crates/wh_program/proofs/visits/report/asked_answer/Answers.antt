@@ -30,4 +30,4 @@ returns-in-Err-Fault-clause-reported g c = λ clean limits commands ready.
 
 pub returns-in-Err-Memory-clause-reported : goal.returns-in-Err-Memory-clause-reported
 returns-in-Err-Memory-clause-reported g c = λ clean limits commands ready.
-    not_read (report_words c.args.asked.now) limits commands _ c.args.engine.now.session (state_of g.S.Store c.args.engine.now.tables) ready
+    not_read _ _ limits commands c.args.engine.now.session (state_of g.S.Store c.args.engine.now.tables) ready

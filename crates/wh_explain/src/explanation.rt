@@ -1,0 +1,118 @@
+//! What is added below an answer. A clause says no more of a text than that it goes on.
+
+ghost use Rattle.std.specs.Prelude.{◌≡◌, OnOk};
+ghost use Rattle.wh_explain.specs.Added.{Continues};
+
+use crate::kind::push_kind;
+use crate::line::Source;
+use crate::members::push_first_mentions;
+use crate::refused::push_refusal;
+use crate::row::push_column;
+use crate::shown::push_text;
+use crate::wanted::push_wanted;
+use std::alloc::{AllocError, Global};
+use wh_admission::Refused;
+use wh_batch::{Column, CommandKind};
+use wh_history::Edit;
+use wh_policy::{Format, Policy, Years};
+use wh_rows::{MemberKey, MemberRow};
+
+/// What was sent, and what it is judged by.
+#[derive(Drop)]
+pub struct Sent<'a> {
+    pub kind: CommandKind,
+    /// The policy in force.
+    pub policy: &'a Policy,
+    pub format: Format,
+    pub bytes: &'a [u8],
+    /// The command that sold or withdrew the line of a refusal, if one was found.
+    pub source: Option<Source>,
+}
+
+fn columns_text(alloc: Global, columns: &[Column], years: Years) -> Result<Vec<u8>, AllocError> {
+    let mut text = Vec::new(alloc);
+    for place in 0..columns.len() {
+        push_column(&mut text, columns, place)?;
+        push_wanted(&mut text, columns[place].holds(), years)?;
+        push_text(&mut text, "\n")?;
+    }
+    Ok(text)
+}
+
+/// A line a column: what its fields may hold.
+pub fn add_columns(
+    text: &mut Vec<u8>,
+    alloc: Global,
+    columns: &[Column],
+    years: Years,
+) -> Result<(), AllocError>
+    ensures { OnOk result (Continues text.old.items text.new.items) }
+{
+    let lines = columns_text(alloc, columns, years)?;
+    text.extend_from_slice(&lines)
+}
+
+fn kind_text(
+    alloc: Global,
+    kind: CommandKind,
+    policy: &Policy,
+    format: Format,
+) -> Result<Vec<u8>, AllocError> {
+    let mut text = Vec::new(alloc);
+    push_kind(&mut text, kind, policy, format)?;
+    Ok(text)
+}
+
+/// The lines on what a command takes that is no batch, or a batch that the format doesn't have.
+pub fn add_kind(
+    text: &mut Vec<u8>,
+    alloc: Global,
+    kind: CommandKind,
+    policy: &Policy,
+    format: Format,
+) -> Result<(), AllocError>
+    ensures { OnOk result (Continues text.old.items text.new.items) }
+{
+    let lines = kind_text(alloc, kind, policy, format)?;
+    text.extend_from_slice(&lines)
+}
+
+fn mentions_text(
+    alloc: Global,
+    members: &[Edit<MemberRow, MemberKey>],
+) -> Result<Vec<u8>, AllocError> {
+    let mut text = Vec::new(alloc);
+    push_first_mentions(&mut text, members)?;
+    Ok(text)
+}
+
+/// A line a dimension: the members that sales mention for the first time, whose rows their edits put.
+pub fn add_first_mentions(
+    text: &mut Vec<u8>,
+    alloc: Global,
+    members: &[Edit<MemberRow, MemberKey>],
+) -> Result<(), AllocError>
+    ensures { OnOk result (Continues text.old.items text.new.items) }
+{
+    let lines = mentions_text(alloc, members)?;
+    text.extend_from_slice(&lines)
+}
+
+fn refusal_text(alloc: Global, why: &Refused, sent: &Sent) -> Result<Vec<u8>, AllocError> {
+    let mut text = Vec::new(alloc);
+    push_refusal(&mut text, alloc, why, sent)?;
+    Ok(text)
+}
+
+/// The lines on a refusal: where and why, as far as there is more to say than its own line does.
+pub fn add_refusal(
+    text: &mut Vec<u8>,
+    alloc: Global,
+    why: &Refused,
+    sent: &Sent,
+) -> Result<(), AllocError>
+    ensures { OnOk result (Continues text.old.items text.new.items) }
+{
+    let lines = refusal_text(alloc, why, sent)?;
+    text.extend_from_slice(&lines)
+}

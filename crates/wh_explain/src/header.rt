@@ -1,0 +1,110 @@
+//! A header that isn't the one that is wanted.
+
+ghost use Rattle.std.specs.Prelude.{◌≡◌, ◌++◌, codes, OnOk};
+ghost use Rattle.std.specs.List.{join_by};
+
+use crate::encoding::{other_separator, push_encoding_line};
+use crate::row::{first_row, push_column};
+use crate::shown::{push_header, push_place, push_quoted, push_text};
+use std::alloc::AllocError;
+use wh_batch::{Column, FaultyField};
+
+/// The header that is wanted: the columns' names, parted by commas.
+pub fn push_names(text: &mut Vec<u8>, columns: &[Column]) -> Result<(), AllocError>
+    ensures { OnOk result (text.new.items ≡ text.old.items ++ join_by (λ column. column.name) (codes ",") columns.now) }
+{
+    let [first, others @ ..] = columns else {
+        return Ok(());
+    };
+    text.extend_from_slice(first.name().as_bytes())?;
+    for column in others {
+        text.push(b',')?;
+        text.extend_from_slice(column.name().as_bytes())?;
+    }
+    Ok(())
+}
+
+/// The place of a column with this name.
+fn place_of(columns: &[Column], name: &[u8]) -> Option<usize> {
+    for place in 0..columns.len() {
+        if columns[place].name().as_bytes() == name {
+            return Some(place);
+        }
+    }
+    None
+}
+
+/// How a name in a header differs from the one that is wanted.
+fn push_difference(
+    text: &mut Vec<u8>,
+    columns: &[Column],
+    field: &FaultyField,
+) -> Result<(), AllocError> {
+    let found = field.text.as_bytes();
+    if found.is_empty() {
+        return push_text(text, "nothing stands there");
+    }
+    push_quoted(text, found)?;
+    push_text(text, " stands there")?;
+    if let Some(place) = place_of(columns, found) {
+        push_text(text, "; it belongs in column ")?;
+        return push_place(text, place);
+    }
+    match columns.get(field.place) {
+        Some(column) => push_slip(text, column.name().as_bytes(), found),
+        None => push_text(text, "; no column is wanted there"),
+    }
+}
+
+/// A slip that leaves a name as good as right.
+fn push_slip(text: &mut Vec<u8>, wanted: &[u8], found: &[u8]) -> Result<(), AllocError> {
+    let name = found.trim_ascii();
+    if !name.eq_ignore_ascii_case(wanted) {
+        return Ok(());
+    }
+    if name != wanted {
+        push_text(text, "; small letters are wanted")?;
+    }
+    if name.len() < found.len() {
+        push_text(text, "; it has blanks around it")?;
+    }
+    Ok(())
+}
+
+/// The header that is wanted, and below it the one that is there.
+fn push_both(text: &mut Vec<u8>, columns: &[Column], there: &[u8]) -> Result<(), AllocError> {
+    push_text(text, "wanted: ")?;
+    push_names(text, columns)?;
+    push_text(text, "\nthere: ")?;
+    if there.is_empty() {
+        push_text(text, "nothing")?;
+    }
+    push_header(text, there)?;
+    push_text(text, "\n")
+}
+
+/// A line on what parts the fields, where it isn't commas.
+fn push_separator_line(text: &mut Vec<u8>, there: &[u8]) -> Result<(), AllocError> {
+    let Some(separator) = other_separator(there) else {
+        return Ok(());
+    };
+    push_text(text, "the file seems to be separated by ")?;
+    push_text(text, separator)?;
+    push_text(text, "; commas are wanted\n")
+}
+
+/// The lines on a wrong header: where it first differs, the one that is wanted, the one that is there, and what that may come from.
+pub(crate) fn push_wrong_header(
+    text: &mut Vec<u8>,
+    columns: &[Column],
+    field: &FaultyField,
+    bytes: &[u8],
+) -> Result<(), AllocError> {
+    push_column(text, columns, field.place)?;
+    push_difference(text, columns, field)?;
+    push_text(text, "\n")?;
+    let there = first_row(bytes);
+    push_both(text, columns, there)?;
+    push_separator_line(text, there)?;
+    push_encoding_line(text, bytes)
+}

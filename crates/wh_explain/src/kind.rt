@@ -1,0 +1,64 @@
+//! What the commands take that columns don't tell.
+
+use crate::shown::{push_number, push_text};
+use crate::wanted::push_years;
+use std::alloc::AllocError;
+use wh_batch::{CommandKind, Kind};
+use wh_policy::{Attribute, Dim, Format, POLICY_LIMIT, Policy};
+
+/// Why there are no voids in format 1.
+pub(crate) const NO_VOIDS: &str =
+    "lines are withdrawn in format 2 alone; this warehouse has format 1\n";
+
+/// The names of attributes.
+fn push_attributes(text: &mut Vec<u8>, attributes: &[Attribute]) -> Result<(), AllocError> {
+    let [first, others @ ..] = attributes else {
+        return Ok(());
+    };
+    push_text(text, first.name.as_str())?;
+    for attribute in others {
+        push_text(text, ", ")?;
+        push_text(text, attribute.name.as_str())?;
+    }
+    Ok(())
+}
+
+/// A line a dimension: the attributes that have to stay.
+fn push_kept(text: &mut Vec<u8>, policy: &Policy) -> Result<(), AllocError> {
+    for dim in [Dim::Product, Dim::Store, Dim::Customer] {
+        push_text(text, dim.word())?;
+        push_text(text, " keeps in their places: ")?;
+        push_attributes(text, policy.attributes(dim))?;
+        push_text(text, "; more may follow\n")?;
+    }
+    Ok(())
+}
+
+/// What a migration takes.
+fn push_policy(text: &mut Vec<u8>, policy: &Policy) -> Result<(), AllocError> {
+    push_text(text, "a policy in TOML of at most ")?;
+    push_number(text, POLICY_LIMIT as u64)?;
+    push_text(text, " bytes\n")?;
+    push_kept(text, policy)?;
+    push_text(text, "the calendar keeps the years ")?;
+    push_years(text, policy.years)?;
+    push_text(text, "\n")
+}
+
+/// What a command of this kind takes, where columns don't tell it.
+pub(crate) fn push_kind(
+    text: &mut Vec<u8>,
+    kind: CommandKind,
+    policy: &Policy,
+    format: Format,
+) -> Result<(), AllocError> {
+    match (kind, format) {
+        (CommandKind::Migration, _) => push_policy(text, policy),
+        (CommandKind::Upgrade, Format::One) => push_text(text, "an upgrade takes no file\n"),
+        (CommandKind::Upgrade, Format::Two) => {
+            push_text(text, "the warehouse has format 2 already\n")
+        }
+        (CommandKind::Batch(Kind::Voids), Format::One) => push_text(text, NO_VOIDS),
+        _ => Ok(()),
+    }
+}

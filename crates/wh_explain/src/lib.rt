@@ -1,0 +1,24 @@
+//! What `explain` says below its answer: where and why a command would be refused, and what it may hold.
+#![tactic(auto)]
+
+mod batch;
+mod encoding;
+mod explanation;
+mod field;
+mod header;
+mod kind;
+mod line;
+mod members;
+mod number;
+mod policy;
+mod policy_keys;
+mod policy_place;
+mod refused;
+mod row;
+mod shown;
+mod wanted;
+
+pub use explanation::{Sent, add_columns, add_first_mentions, add_kind, add_refusal};
+pub use header::push_names;
+pub use line::{RefusedLine, Source, refused_line};
+pub use shown::push_number;

@@ -1,0 +1,77 @@
+//! The members that sales mention for the first time.
+
+use crate::shown::{push_number, push_text};
+use std::alloc::AllocError;
+use wh_history::Edit;
+use wh_policy::Dim;
+use wh_rows::{MemberKey, MemberRow};
+
+/// The most members of a dimension whose keys are told.
+const MOST_MEMBERS: u64 = 20;
+
+/// The row of a member of this dimension.
+fn member_of(edit: &Edit<MemberRow, MemberKey>, dim: Dim) -> Option<&MemberRow> {
+    match edit {
+        Edit::Put(row) if row.dim == dim => Some(row),
+        _ => None,
+    }
+}
+
+/// What stands before a dimension's member with this number.
+fn push_before(text: &mut Vec<u8>, dim: Dim, number: u64) -> Result<(), AllocError> {
+    if number > 0 {
+        return push_text(text, ", ");
+    }
+    push_text(text, "mentioned for the first time: ")?;
+    push_text(text, dim.word())?;
+    push_text(text, " ")
+}
+
+/// The natural keys of a dimension's first members, and how many there are.
+fn push_keys(
+    text: &mut Vec<u8>,
+    members: &[Edit<MemberRow, MemberKey>],
+    dim: Dim,
+) -> Result<u64, AllocError> {
+    let mut found: u64 = 0;
+    for edit in members {
+        let Some(member) = member_of(edit, dim) else {
+            continue;
+        };
+        if found < MOST_MEMBERS {
+            push_before(text, dim, found)?;
+            push_text(text, member.natural.as_str())?;
+        }
+        found = found.saturating_add(1);
+    }
+    Ok(found)
+}
+
+/// A line on the members of a dimension, if there are some.
+fn push_members(
+    text: &mut Vec<u8>,
+    members: &[Edit<MemberRow, MemberKey>],
+    dim: Dim,
+) -> Result<(), AllocError> {
+    let found = push_keys(text, members, dim)?;
+    if found > MOST_MEMBERS {
+        push_text(text, " and ")?;
+        push_number(text, found - MOST_MEMBERS)?;
+        push_text(text, " more")?;
+    }
+    if found == 0 {
+        return Ok(());
+    }
+    push_text(text, "\n")
+}
+
+/// A line a dimension: the members whose rows are new.
+pub(crate) fn push_first_mentions(
+    text: &mut Vec<u8>,
+    members: &[Edit<MemberRow, MemberKey>],
+) -> Result<(), AllocError> {
+    for dim in [Dim::Product, Dim::Store, Dim::Customer] {
+        push_members(text, members, dim)?;
+    }
+    Ok(())
+}

@@ -1,0 +1,96 @@
+//! The lines on a refusal.
+
+use crate::batch::{Batch, push_faults};
+use crate::explanation::Sent;
+use crate::line::{push_refused_line, refused_line};
+use crate::policy::{push_bad_policy, push_unfit};
+use crate::shown::push_text;
+use std::alloc::{AllocError, Global};
+use wh_admission::{Limit, Refused};
+use wh_batch::{CommandKind, Kind, columns, faults};
+use wh_day::ParseError;
+use wh_policy::Policy;
+
+/// The most faults that are listed.
+const MOST_FAULTS: usize = 20;
+
+/// The faults of a batch.
+fn push_batch(
+    text: &mut Vec<u8>,
+    alloc: Global,
+    kind: Kind,
+    sent: &Sent,
+) -> Result<(), AllocError> {
+    let found = faults(
+        alloc,
+        kind,
+        sent.policy,
+        sent.format,
+        sent.bytes,
+        MOST_FAULTS,
+    )?;
+    let columns = columns(alloc, kind, sent.policy, sent.format)?;
+    let batch = Batch {
+        columns: &columns,
+        years: sent.policy.years,
+        bytes: sent.bytes,
+    };
+    push_faults(text, &batch, &found)
+}
+
+/// What a policy that doesn't fit lacks.
+fn push_unfit_policy(text: &mut Vec<u8>, alloc: Global, sent: &Sent) -> Result<(), AllocError> {
+    match Policy::read(alloc, sent.bytes) {
+        Ok(newer) => push_unfit(text, sent.policy, &newer),
+        Err(ParseError::Fault(fault)) => push_bad_policy(text, alloc, fault, sent.bytes),
+        Err(ParseError::Memory) => Err(AllocError),
+    }
+}
+
+/// The line that a refusal is about, and where it comes from.
+fn push_line_of(
+    text: &mut Vec<u8>,
+    alloc: Global,
+    why: &Refused,
+    sent: &Sent,
+) -> Result<(), AllocError> {
+    match refused_line(alloc, why, sent)? {
+        Some(line) => push_refused_line(text, &line, &sent.source),
+        None => Ok(()),
+    }
+}
+
+fn push_full(text: &mut Vec<u8>, limit: Limit) -> Result<(), AllocError> {
+    push_text(text, "the limit stands in meta, as ")?;
+    push_text(
+        text,
+        match limit {
+            Limit::Commands => "commands_max\n",
+            Limit::Changes => "changes_max\n",
+            Limit::Facts => "facts_max\n",
+        },
+    )
+}
+
+/// The lines on a refusal, where there is more to say than its own line does.
+pub(crate) fn push_refusal(
+    text: &mut Vec<u8>,
+    alloc: Global,
+    why: &Refused,
+    sent: &Sent,
+) -> Result<(), AllocError> {
+    match (why, sent.kind) {
+        (Refused::Batch(_), CommandKind::Batch(kind)) => push_batch(text, alloc, kind, sent),
+        (Refused::LineThere(_), _) => push_line_of(text, alloc, why, sent),
+        (Refused::NoLine(_), _) => push_line_of(text, alloc, why, sent),
+        (Refused::Policy(fault), _) => push_bad_policy(text, alloc, *fault, sent.bytes),
+        (Refused::Unfit, _) => push_unfit_policy(text, alloc, sent),
+        (Refused::Upgraded, _) => push_text(text, "the warehouse has format 2 already\n"),
+        (Refused::NameTaken, _) => push_text(
+            text,
+            "a table, an index or a view of another program has the name fact2 or void\n",
+        ),
+        (Refused::Full(limit), _) => push_full(text, *limit),
+        _ => Ok(()),
+    }
+}

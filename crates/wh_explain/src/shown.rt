@@ -1,0 +1,124 @@
+//! Numbers, and texts of a file, as an explanation shows them.
+
+ghost use Rattle.std.specs.Prelude.{◌≡◌, ◌++◌, OnOk};
+ghost use Rattle.std.specs.Fmt.{decimal};
+ghost use Rattle.wh_explain.specs.Added.{Fits};
+
+use itoa::Buffer;
+use std::alloc::AllocError;
+
+/// How many characters of a field are shown.
+const FIELD_SHOWN: usize = 60;
+
+/// How many of a header.
+const HEADER_SHOWN: usize = 200;
+
+/// The decimal digits of a number.
+pub fn push_number(text: &mut Vec<u8>, number: u64) -> Result<(), AllocError>
+    ensures added { OnOk result (text.new.items ≡ text.old.items ++ decimal number) }
+    ensures fits { Fits 20 result text.old text.new }
+{
+    text.extend_from_slice(Buffer::new().format(number).as_bytes())
+}
+
+pub(crate) fn push_text(text: &mut Vec<u8>, more: &str) -> Result<(), AllocError> {
+    text.extend_from_slice(more.as_bytes())
+}
+
+/// A place, which the text counts from 1.
+pub(crate) fn push_place(text: &mut Vec<u8>, place: usize) -> Result<(), AllocError> {
+    push_number(text, (place as u64).saturating_add(1))
+}
+
+/// How many bytes the first character has. A byte that begins none counts as one.
+fn first_length(shown: &[u8]) -> usize {
+    for length in 1..5 {
+        if length <= shown.len() && std::str::from_utf8(&shown[..length]).is_ok() {
+            return length;
+        }
+    }
+    shown.len().min(1)
+}
+
+/// Whether a character is shown as it stands: not one that is no UTF-8, nor one that controls a terminal or can't be seen.
+fn is_seen(first: &[u8]) -> bool {
+    match first {
+        [b'\\'] => false,
+        [byte] => matches!(byte, b' '..=b'~'),
+        [0xC2, second] => *second > 0xA0,
+        [0xE2, 0x80, third] => !matches!(third, 0x80..=0x8F | 0xA8..=0xAF),
+        [0xEF, 0xBB, 0xBF] => false,
+        _ => true,
+    }
+}
+
+/// A hexadecimal digit.
+fn digit(number: u8) -> u8 {
+    match number {
+        0..=9 => b'0' + number,
+        10..=15 => b'a' + (number - 10),
+        _ => b'?',
+    }
+}
+
+fn push_escaped(text: &mut Vec<u8>, byte: u8) -> Result<(), AllocError> {
+    match byte {
+        b'\n' => push_text(text, "\\n"),
+        b'\r' => push_text(text, "\\r"),
+        b'\t' => push_text(text, "\\t"),
+        b'\\' => push_text(text, "\\\\"),
+        _ => {
+            push_text(text, "\\x")?;
+            text.extend_from_slice(&[digit(byte >> 4), digit(byte & 15)])
+        }
+    }
+}
+
+fn push_all_escaped(text: &mut Vec<u8>, bytes: &[u8]) -> Result<(), AllocError> {
+    for byte in bytes {
+        push_escaped(text, *byte)?;
+    }
+    Ok(())
+}
+
+/// Shows the first character, and hands out what is left.
+fn push_first<'a>(text: &mut Vec<u8>, shown: &'a [u8]) -> Result<&'a [u8], AllocError> {
+    let (first, left) = shown.split_at(first_length(shown).min(shown.len()));
+    if is_seen(first) {
+        text.extend_from_slice(first)?;
+    } else {
+        push_all_escaped(text, first)?;
+    }
+    Ok(left)
+}
+
+/// Up to so many characters of a text, and a sign where it goes on.
+fn push_shown(text: &mut Vec<u8>, shown: &[u8], most: usize) -> Result<(), AllocError> {
+    let mut left = shown;
+    for _ in 0..most {
+        left = push_first(text, left)?;
+    }
+    if left.is_empty() {
+        return Ok(());
+    }
+    push_text(text, " ..")
+}
+
+/// A header, as it stands.
+pub(crate) fn push_header(text: &mut Vec<u8>, header: &[u8]) -> Result<(), AllocError> {
+    push_shown(text, header, HEADER_SHOWN)
+}
+
+/// The text of a field or a line, between quotes.
+pub(crate) fn push_quoted(text: &mut Vec<u8>, field: &[u8]) -> Result<(), AllocError> {
+    push_text(text, "'")?;
+    push_shown(text, field, FIELD_SHOWN)?;
+    push_text(text, "'")
+}
+
+/// The first character of a text, between quotes.
+pub(crate) fn push_character(text: &mut Vec<u8>, field: &[u8]) -> Result<(), AllocError> {
+    push_text(text, "'")?;
+    push_first(text, field)?;
+    push_text(text, "'")
+}

@@ -1,0 +1,10 @@
+use Rattle.std.proofs.Common.{◌≡◌, ◌∙◌, refl, ap, subst, None, Ok}
+use Rattle.std.specs.Prelude.{IfOk}
+use Rattle.wh_report.specs.Words.{mode_of_word}
+use Rattle.wh_program.specs.ReportLists.{answer_in}
+use Rattle.wh_program.proofs.visits.reports.listed_answer.Goals as goal
+
+pub returns-in-None-clause-reported : goal.returns-in-None-clause-reported
+returns-in-None-clause-reported g c = λ clean limits commands ready.
+    let none : None ≡ mode_of_word c.args.listed.now.mode = c.in-None.ensures ∙ ap mode_of_word c.as_str-word.ensures in
+    record { read = Ok tt; serves = (refl, ready); tells = subst (λ o. IfOk c.no_mode.result (λ a. a ≡ answer_in commands c.args.listed.now o)) none (rw c.as_str-word.ensures at c.no_mode.ensures) }

@@ -1,0 +1,150 @@
+//! The answers that explain an input, or what a kind takes.
+
+ghost use Rattle.std.specs.Prelude.{◌≡◌, IfOk, OnOk, [], string_bytes};
+ghost use Rattle.wh_batch.specs.Layouts.{columns_of};
+ghost use Rattle.wh_explain.specs.Added.{Continues};
+ghost use Rattle.wh_program.specs.Answer.{done, refused};
+ghost use Rattle.wh_program.specs.Explained.{Begins, acceptable_line, preview_answer, header_line, first_of_batch, first_of_kind};
+ghost use Rattle.wh_program.specs.Reply.{refused_line};
+
+use crate::lines::answer::{Answer, Status};
+use crate::lines::{fault_answer, push_refused};
+use std::alloc::{AllocError, Global};
+use wh_batch::{Column, CommandKind, Kind, columns};
+use wh_engine::{Fault, Preview, Receipt, Refused};
+use wh_explain::{Sent, add_columns, add_first_mentions, add_kind, add_refusal, push_names};
+use wh_plan::Edits;
+use wh_policy::{Format, Policy};
+
+/// The line of an input that would be accepted.
+fn acceptable_line(alloc: Global, receipt: &Receipt) -> Result<String, AllocError>
+    ensures { IfOk result (λ line. string_bytes line ≡ acceptable_line receipt.now) }
+{
+    let records = receipt.records;
+    let placeholders = receipt.placeholders;
+    format!(in alloc; "would be accepted: {records} records, {placeholders} placeholders\n")
+}
+
+/// The members that sales would mention for the first time: a mistyped key is one of them.
+fn add_mentions(
+    text: &mut Vec<u8>,
+    alloc: Global,
+    kind: CommandKind,
+    edits: &Edits,
+) -> Result<(), AllocError>
+    ensures { OnOk result (Continues text.old.items text.new.items) }
+{
+    match kind {
+        CommandKind::Batch(Kind::Sales) => add_first_mentions(text, alloc, &edits.members),
+        _ => Ok(()),
+    }
+}
+
+/// The answer to an input that would be accepted.
+fn acceptable(alloc: Global, kind: CommandKind, preview: &Preview) -> Result<Answer, AllocError>
+    ensures { IfOk result (Begins (done (acceptable_line preview.now.receipt))) }
+{
+    let mut text = acceptable_line(alloc, &preview.receipt)?.into_bytes();
+    add_mentions(&mut text, alloc, kind, &preview.edits)?;
+    Ok(Answer::new(Status::Done, text))
+}
+
+/// The answer to an input that would be refused.
+fn unacceptable(alloc: Global, why: &Refused, sent: &Sent) -> Result<Answer, AllocError>
+    ensures { IfOk result (Begins (refused (refused_line why.now))) }
+{
+    let mut text = Vec::new(alloc);
+    push_refused(&mut text, why)?;
+    add_refusal(&mut text, alloc, why, sent)?;
+    Ok(Answer::new(Status::Refused, text))
+}
+
+/// The answer to an input of which this is foreseen.
+pub fn explained(
+    alloc: Global,
+    preview: Result<Preview, Fault>,
+    sent: &Sent,
+) -> Result<Answer, AllocError>
+    ensures { IfOk result (Begins (preview_answer preview)) }
+{
+    match preview {
+        Ok(preview) => acceptable(alloc, sent.kind, &preview),
+        Err(Fault::Refused(why)) => unacceptable(alloc, &why, sent),
+        Err(fault) => fault_answer(alloc, fault),
+    }
+}
+
+/// The header of a batch with these columns.
+fn header_line(alloc: Global, columns: &[Column]) -> Result<Vec<u8>, AllocError>
+    ensures { IfOk result (λ text. text.items ≡ header_line columns.now) }
+{
+    let mut text = Vec::new(alloc);
+    push_names(&mut text, columns)?;
+    text.push(b'\n')?;
+    Ok(text)
+}
+
+/// What a batch of this kind takes: its header, and what each column may hold.
+fn columns_described(
+    alloc: Global,
+    kind: Kind,
+    policy: &Policy,
+    format: Format,
+) -> Result<Answer, AllocError>
+    ensures { IfOk result (Begins (done (header_line (columns_of kind policy.now format)))) }
+{
+    let columns = columns(alloc, kind, policy, format)?;
+    let mut text = header_line(alloc, &columns)?;
+    add_columns(&mut text, alloc, &columns, policy.years)?;
+    Ok(Answer::new(Status::Done, text))
+}
+
+/// What a command takes that has no columns.
+fn kind_described(
+    alloc: Global,
+    kind: CommandKind,
+    policy: &Policy,
+    format: Format,
+) -> Result<Answer, AllocError>
+    ensures { IfOk result (Begins (done [])) }
+{
+    let mut text = Vec::new(alloc);
+    add_kind(&mut text, alloc, kind, policy, format)?;
+    Ok(Answer::new(Status::Done, text))
+}
+
+/// What a batch of this kind takes, if the format has such batches.
+fn batch_described(
+    alloc: Global,
+    kind: Kind,
+    policy: &Policy,
+    format: Format,
+) -> Result<Answer, AllocError>
+    ensures { IfOk result (Begins (done (first_of_batch kind policy.now format))) }
+{
+    match (kind, format) {
+        (Kind::Voids, Format::One) => {
+            kind_described(alloc, CommandKind::Batch(kind), policy, format)
+        }
+        (Kind::Voids, Format::Two) => columns_described(alloc, kind, policy, format),
+        (Kind::Dimension(_), _) => columns_described(alloc, kind, policy, format),
+        (Kind::Sales, _) => columns_described(alloc, kind, policy, format),
+    }
+}
+
+/// What a command of this kind takes.
+pub fn described(
+    alloc: Global,
+    kind: CommandKind,
+    policy: &Policy,
+    format: Format,
+) -> Result<Answer, AllocError>
+    ensures { IfOk result (Begins (done (first_of_kind kind policy.now format))) }
+{
+    match kind {
+        CommandKind::Batch(batch) => batch_described(alloc, batch, policy, format),
+        CommandKind::Migration | CommandKind::Upgrade => {
+            kind_described(alloc, kind, policy, format)
+        }
+    }
+}

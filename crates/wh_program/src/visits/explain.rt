@@ -1,0 +1,170 @@
+//! What an input would be answered, and why; or what a kind takes.
+
+ghost use Rattle.wh_engine.specs.Previewed.{IsPreviewed};
+ghost use Rattle.wh_engine.specs.Scanned.{EngineReadsThrough, WasClean, WhenReady};
+ghost use Rattle.wh_program.specs.Explained.{IsExplained, IsDescribed, Explains, AnswersExplanation};
+ghost use Rattle.wh_program.specs.Inputs.{as_input};
+ghost use Rattle.wh_program.specs.Request.{text_of};
+ghost use Rattle.wh_program.specs.Standing.{DatabaseContent, Rests};
+ghost use Rattle.wh_program.specs.Warehouse.{AnswersWith};
+
+use crate::host::Host;
+use crate::lines::answer::Answer;
+use crate::lines::explaining::{described, explained};
+use crate::lines::no_file;
+use crate::visits::opened::{Work, work_on};
+use crate::visits::warehouse::input_of;
+use sqlite::Alter;
+use std::alloc::{AllocError, Global};
+use wh_engine::{CommandKind, Engine, Fault, Preview, Refused};
+use wh_explain::{RefusedLine, Sent, Source, refused_line};
+use wh_policy::{Format, Policy};
+use wh_rows::tables;
+use wh_store::Cursor;
+
+/// The first command in order of number that sold a line, or withdrew it; none where none did.
+fn first_with<S: Alter>(
+    alloc: Global,
+    engine: &mut Engine<S>,
+    line: &RefusedLine,
+) -> Result<Option<Source>, Fault>
+    ensures { EngineReadsThrough S.Store engine.old engine.new result }
+{
+    let mut cursor = Cursor::new(alloc);
+    'commands: for _ in 0..u64::MAX {
+        let Some(row) = engine.next_row::<tables::Command>(alloc, &mut cursor)? else {
+            return Ok(None);
+        };
+        if line.is_of(alloc, engine.policy(), &row)? {
+            return Ok(Some(Source::of(row)));
+        }
+    }
+    Err(Fault::Memory)
+}
+
+/// The line that a refusal of these bytes is about, if it is about one.
+fn line_in<'a>(
+    alloc: Global,
+    why: &Refused,
+    kind: CommandKind,
+    policy: &'a Policy,
+    format: Format,
+    bytes: &'a [u8],
+) -> Result<Option<RefusedLine>, AllocError> {
+    let sent = Sent {
+        kind,
+        policy,
+        format,
+        bytes,
+        source: None,
+    };
+    refused_line(alloc, why, &sent)
+}
+
+/// The command that sold or withdrew the line that a refusal of these bytes is about, if it is about one.
+fn source_of<S: Alter>(
+    alloc: Global,
+    engine: &mut Engine<S>,
+    why: &Refused,
+    kind: CommandKind,
+    bytes: &[u8],
+) -> Result<Option<Source>, Fault>
+    ensures { EngineReadsThrough S.Store engine.old engine.new result }
+{
+    match line_in(alloc, why, kind, engine.policy(), engine.format(), bytes)? {
+        Some(line) => first_with(alloc, engine, &line),
+        None => Ok(None),
+    }
+}
+
+/// What these bytes would be answered, and for a refused line the command that sold or withdrew it. Where the kept commands
+/// can't be read, that is told in place of the refusal.
+fn traced<S: Alter>(
+    alloc: Global,
+    engine: &mut Engine<S>,
+    kind: CommandKind,
+    bytes: &[u8],
+) -> (Result<Preview, Fault>, Option<Source>)
+    ensures clean { WasClean S.Store engine.old.tables engine.new.tables }
+    ensures previewed { WhenReady S.Store engine.old engine.new (λ limits commands. IsPreviewed limits commands kind bytes.now result.0) }
+{
+    match engine.preview(alloc, kind, bytes) {
+        Ok(preview) => (Ok(preview), None),
+        Err(Fault::Refused(why)) => match source_of(alloc, engine, &why, kind, bytes) {
+            Ok(source) => (Err(Fault::Refused(why)), source),
+            Err(fault) => (Err(fault), None),
+        },
+        Err(fault) => (Err(fault), None),
+    }
+}
+
+/// Explains what these bytes would be answered, as the input of a command of this kind.
+#[derive(Drop)]
+struct Explaining {
+    kind: CommandKind,
+    bytes: Vec<u8>,
+}
+
+impl Work for Explaining {
+    ghost does = { λ explaining. IsExplained explaining.kind explaining.bytes.items };
+
+    fn work<S: Alter>(self, alloc: Global, engine: &mut Engine<S>) -> Result<Answer, AllocError> {
+        let (preview, source) = traced(alloc, engine, self.kind, &self.bytes);
+        let sent = Sent {
+            kind: self.kind,
+            policy: engine.policy(),
+            format: engine.format(),
+            bytes: &self.bytes,
+            source,
+        };
+        explained(alloc, preview, &sent)
+    }
+}
+
+/// Describes what a command of this kind takes.
+#[derive(Clone, Copy, Drop)]
+struct Describing {
+    kind: CommandKind,
+}
+
+impl Work for Describing {
+    ghost does = { λ describing. IsDescribed describing.kind };
+
+    fn work<S: Alter>(self, alloc: Global, engine: &mut Engine<S>) -> Result<Answer, AllocError> {
+        described(alloc, self.kind, engine.policy(), engine.format())
+    }
+}
+
+/// Explains the input in a file, which is read first.
+fn explain_input<H: Host>(
+    alloc: Global,
+    file: &str,
+    kind: CommandKind,
+    path: &str,
+    host: &mut H,
+) -> Result<Answer, AllocError>
+    ensures { (content : DatabaseContent) → H.stores host.old file.now (Rests content)
+        → AnswersWith (as_input kind (H.holds host.old)) (H.refuses host.old) (H.stores host.new file.now) (Explains kind) content file.now path.now result }
+{
+    let Some(bytes) = input_of(alloc, kind, path, host)? else {
+        return no_file(alloc, path);
+    };
+    work_on(alloc, file, Explaining { kind, bytes }, host)
+}
+
+/// Tells what the input in a file would be answered by the warehouse in another, and why; or, with no input, what the kind takes there.
+pub fn explain<H: Host>(
+    alloc: Global,
+    file: &str,
+    kind: CommandKind,
+    path: Option<&str>,
+    host: &mut H,
+) -> Result<Answer, AllocError>
+    ensures { (content : DatabaseContent) → H.stores host.old file.now (Rests content)
+        → AnswersExplanation (H.holds host.old) (H.refuses host.old) (H.stores host.new file.now) content file.now kind (text_of path.entry) result }
+{
+    match path {
+        Some(path) => explain_input(alloc, file, kind, path, host),
+        None => work_on(alloc, file, Describing { kind }, host),
+    }
+}

@@ -1,0 +1,84 @@
+//! Edits that are made in parts: sixteen new rows in one statement, all others one by one.
+
+ghost use Rattle.std.specs.Prelude.{◌≡◌, ◌≢◌, ◌+◌, ◌≤◌, map, length, Option, Some, IfOk, IfErr, OnOk};
+ghost use Rattle.std.specs.List.{AllByRecursion};
+ghost use Rattle.sqlite.specs.State.{HasCleanDisk};
+ghost use Rattle.sqlite_rules.specs.Lists.{Has};
+ghost use Rattle.wh_history.specs.declared.plan.Edit.TheVariants.{Put};
+ghost use Rattle.wh_rows.specs.declared.cause.Cause.TheVariants.{Memory};
+ghost use Rattle.wh_rows.specs.AtRest.{IsWriting, IsCauseOf};
+ghost use Rattle.wh_rows.specs.Tables.{Tables as TypedTables};
+ghost use Rattle.wh_rows.specs.Steps.{after_all};
+ghost use Rattle.wh_sql.specs.Refused.{IsOneRefused};
+ghost use Rattle.wh_store.specs.Reads.{state_of};
+ghost use Rattle.wh_store.specs.Writes.{WritesOnly, Makes, NotesRefusals};
+ghost use Rattle.wh_store.specs.Edits.{with_edit, IsValid, Puts, IsOfTypes, part_statements, statements_in_parts};
+
+use crate::writing::Writing;
+use sqlite::Alter;
+use std::alloc::{AllocError, Global};
+use wh_history::Edit;
+use wh_rows::Cause;
+use wh_sql::{BatchedTable, ROWS_AT_ONCE};
+
+/// The rows of edits that each put one, or none where one of them doesn't.
+fn new_rows<'e, R: Drop, K: Drop>(
+    alloc: Global,
+    edits: &'e [Edit<R, K>],
+) -> Result<Option<Vec<&'e R>>, AllocError>
+    ensures { IfOk result (λ put. (rows : _) → put ≡ Some rows → edits.now ≡ map Put (map (λ r. r.now) rows.items)) }
+{
+    let mut rows = Vec::new(alloc);
+    for edit in edits {
+        match edit {
+            Edit::Put(row) => rows.push(row)?,
+            Edit::Remove(_) => return Ok(None),
+        }
+    }
+    Ok(Some(rows))
+}
+
+impl<'t, S: Alter> Writing<'t, S> {
+    /// Makes a part of some edits, in one statement where they put sixteen new rows.
+    fn edit_part<T: BatchedTable>(
+        &mut self,
+        alloc: Global,
+        edits: &[Edit<T::Row, T::Key>],
+    ) -> Result<(), Cause>
+        ensures same_reference { self.new.tables.ghost_name ≡ self.old.tables.ghost_name }
+        ensures writes { WritesOnly (state_of S.Store self.old.tables.now) (state_of S.Store self.new.tables.now) (AllByRecursion (Puts (IsValid T.layout)) edits.now) }
+        ensures edited { Makes (state_of S.Store self.old.tables.now) (state_of S.Store self.new.tables.now) result (AllByRecursion (Puts (IsValid T.layout)) edits.now) (λ made. T.with_rows (after_all (with_edit T.layout) edits.now (T.rows made)) made) }
+        ensures cause { HasCleanDisk (state_of S.Store self.new.tables.now) → (before : Option TypedTables) (made : TypedTables) → IsWriting before (Some made) (state_of S.Store self.old.tables.now) → AllByRecursion (Puts (IsValid T.layout)) edits.now → ((edit : _) → Has edits.now edit → IsOfTypes T.layout edit) → self.old.writes + length edits.now ≤ u64.MAX
+            → IfErr result (λ cause. cause ≢ Memory → IsOneRefused S.Store IsCauseOf (part_statements T.layout T.texts T.bind T.insert_means edits.now) self.old.tables.now.conn self.new.tables.now.conn cause) }
+        ensures counted { OnOk result (self.new.writes ≡ self.old.writes + length edits.now) }
+        ensures noted { NotesRefusals self.old.refused self.new.refused result }
+    {
+        let Ok(Some(rows)) = new_rows(alloc, edits) else {
+            return self.edit_all::<T>(alloc, edits);
+        };
+        if self.insert_new::<T>(alloc, &rows)? {
+            return Ok(());
+        }
+        self.edit_all::<T>(alloc, edits)
+    }
+
+    /// Makes edits, one part of sixteen after the other: where they put new rows, in one statement.
+    pub fn edit_in_parts<T: BatchedTable>(
+        &mut self,
+        alloc: Global,
+        edits: &[Edit<T::Row, T::Key>],
+    ) -> Result<(), Cause>
+        ensures same_reference { self.new.tables.ghost_name ≡ self.old.tables.ghost_name }
+        ensures writes { WritesOnly (state_of S.Store self.old.tables.now) (state_of S.Store self.new.tables.now) (AllByRecursion (Puts (IsValid T.layout)) edits.now) }
+        ensures edited { Makes (state_of S.Store self.old.tables.now) (state_of S.Store self.new.tables.now) result (AllByRecursion (Puts (IsValid T.layout)) edits.now) (λ made. T.with_rows (after_all (with_edit T.layout) edits.now (T.rows made)) made) }
+        ensures cause { HasCleanDisk (state_of S.Store self.new.tables.now) → (before : Option TypedTables) (made : TypedTables) → IsWriting before (Some made) (state_of S.Store self.old.tables.now) → AllByRecursion (Puts (IsValid T.layout)) edits.now → ((edit : _) → Has edits.now edit → IsOfTypes T.layout edit) → self.old.writes + length edits.now ≤ u64.MAX
+            → IfErr result (λ cause. cause ≢ Memory → IsOneRefused S.Store IsCauseOf (statements_in_parts T.layout T.texts T.bind T.insert_means edits.now) self.old.tables.now.conn self.new.tables.now.conn cause) }
+        ensures counted { OnOk result (self.new.writes ≡ self.old.writes + length edits.now) }
+        ensures noted { NotesRefusals self.old.refused self.new.refused result }
+    {
+        for part in edits.chunks(ROWS_AT_ONCE) {
+            self.edit_part::<T>(alloc, part)?;
+        }
+        Ok(())
+    }
+}
