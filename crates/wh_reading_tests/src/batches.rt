@@ -10,51 +10,34 @@
 //! - `cuts BYTES`: to each beginning of a batch of customers. An answer is written once, after the length from which it holds.
 //! - `many KIND NUMBER TEXT`: to a batch of so many records and this text; of its records the number alone.
 //! - `long KIND LENGTH BYTES`: the answer to these bytes with line ends after them, in all so many bytes.
+//! - `faults KIND MOST BYTES`: the first faults of a batch of these bytes, one a line: its number, its line in the file, the place
+//!   of the field (`-` where there is none), the fault and the field's text; and how many more there are.
+//! - `crowd KIND NUMBER TEXT`: all faults of a batch of so many records and this text.
+//! - `columns KIND`: the names of the columns, and what each holds.
 //! - `made KIND`: a record that is made by hand.
 //! - `manifest BYTES`: the commands that a manifest of these bytes lists, one a line, or the number of the record that is none.
+//! - `reports BYTES`: the reports that a list of these bytes asks for, in the same way, the words of each parted by `|`.
 
-mod dimensions;
-mod manifests;
-mod sales;
-mod voids;
-
-use crate::check::check;
 use crate::words::{dim, number, push_next, push_number, push_values};
 use std::alloc::{AllocError, Global};
 use std::fmt::Write;
-use std::test::Fail;
 use wh_batch::{
-    BatchFault, DimensionRecords, Kind, Manifest, ManifestEntry, Records, SaleRecords, VoidRecords,
-    dimension_records, read, sale_records, void_records,
+    BadManifest, BatchFault, DimensionRecords, Faults, Kind, ListedFault, ListedReport, Manifest,
+    ManifestEntry, Records, ReportList, SaleRecords, VoidRecords, columns, dimension_records,
+    faults, read, sale_records, void_records,
 };
 use wh_day::{Day, NaturalKey, ParseError, Values};
 use wh_policy::{DimensionRecord, Format, Policy, SaleRecord, VoidRecord};
 use wh_scenarios::{Driver, NotMade, Step, bytes_of, parted};
 
 #[derive(Drop)]
-struct BatchDriver;
-
-#[test]
-fn batches_for_dimensions(rt: HostRuntime) -> Result<(), Fail> {
-    check(&rt, rt.alloc(), BatchDriver, dimensions::SCENARIO)
-}
-
-#[test]
-fn batches_of_sales(rt: HostRuntime) -> Result<(), Fail> {
-    check(&rt, rt.alloc(), BatchDriver, sales::SCENARIO)
-}
-
-#[test]
-fn batches_of_voids(rt: HostRuntime) -> Result<(), Fail> {
-    check(&rt, rt.alloc(), BatchDriver, voids::SCENARIO)
-}
-
-#[test]
-fn manifests_of_deliveries(rt: HostRuntime) -> Result<(), Fail> {
-    check(&rt, rt.alloc(), BatchDriver, manifests::SCENARIO)
-}
+pub struct BatchDriver;
 
 impl Driver for BatchDriver {
+    fn start(_alloc: Global) -> Result<BatchDriver, NotMade> {
+        Ok(BatchDriver)
+    }
+
     fn perform(
         self,
         alloc: Global,
@@ -76,8 +59,12 @@ fn batch_step(alloc: Global, words: &str, answer: &mut String) -> Result<(), All
         "cuts" => push_cuts(alloc, answer, &bytes_of(alloc, rest)?),
         "many" => push_many(alloc, answer, word, text),
         "long" => push_long(alloc, answer, word, text),
+        "faults" => push_faults(alloc, answer, word, text),
+        "crowd" => push_crowd(alloc, answer, word, text),
+        "columns" => push_columns(alloc, answer, word),
         "made" => push_made(alloc, answer, word),
         "manifest" => push_manifest(alloc, answer, &bytes_of(alloc, rest)?),
+        "reports" => push_reports(alloc, answer, &bytes_of(alloc, rest)?),
         _ => answer.push_str("no such step"),
     }
 }
@@ -262,14 +249,104 @@ fn push_row(text: &mut String, word: &str, number: u64) -> Result<(), AllocError
     }
 }
 
-fn push_many(alloc: Global, answer: &mut String, word: &str, rest: &str) -> Result<(), AllocError> {
+/// The header, as many rows as the first word says, and the text after it.
+fn many_rows(alloc: Global, word: &str, rest: &str) -> Result<String, AllocError> {
     let (count, after) = parted(rest, ' ');
     let mut text = String::from_str(alloc, header(word))?;
     for at in 0..number(count) {
         push_row(&mut text, word, at)?;
     }
     text.push_str(after)?;
+    Ok(text)
+}
+
+fn push_many(alloc: Global, answer: &mut String, word: &str, rest: &str) -> Result<(), AllocError> {
+    let text = many_rows(alloc, word, rest)?;
     push_any(alloc, answer, word, text.as_str().as_bytes())
+}
+
+fn push_crowd(
+    alloc: Global,
+    answer: &mut String,
+    word: &str,
+    rest: &str,
+) -> Result<(), AllocError> {
+    let text = many_rows(alloc, word, rest)?;
+    push_first(alloc, answer, word, text.as_str().as_bytes(), usize::MAX)
+}
+
+fn push_faults(
+    alloc: Global,
+    answer: &mut String,
+    word: &str,
+    rest: &str,
+) -> Result<(), AllocError> {
+    let (most, text) = parted(rest, ' ');
+    let bytes = bytes_of(alloc, text)?;
+    push_first(alloc, answer, word, &bytes, number(most) as usize)
+}
+
+/// The first faults of a batch, at most so many.
+fn push_first(
+    alloc: Global,
+    answer: &mut String,
+    word: &str,
+    bytes: &[u8],
+    most: usize,
+) -> Result<(), AllocError> {
+    let policy = Policy::trial(alloc)?;
+    let found = faults(alloc, kind(word), &policy, format_of(word), bytes, most)?;
+    push_found(answer, &found)
+}
+
+fn push_found(answer: &mut String, found: &Faults) -> Result<(), AllocError> {
+    if found.listed.is_empty() && found.more == 0 {
+        return answer.push_str("no fault");
+    }
+    for listed in &found.listed {
+        push_located(answer, listed)?;
+    }
+    if found.more > 0 {
+        push_number(answer, found.more as i128)?;
+        answer.push_str(" more")?;
+    }
+    Ok(())
+}
+
+fn push_located(answer: &mut String, listed: &ListedFault) -> Result<(), AllocError> {
+    let fault = &listed.fault.fault;
+    push_number(answer, fault.number as i128)?;
+    push_next(answer, listed.line as i128)?;
+    match &listed.fault.field {
+        None => write!(answer, " - {:?}", fault.kind)?,
+        Some(field) => {
+            push_next(answer, field.place as i128)?;
+            write!(answer, " {:?}|", fault.kind)?;
+            push_bytes(answer, field.text.as_bytes())?;
+        }
+    }
+    answer.push_str("\n")
+}
+
+/// The bytes, with `\x` and two digits for those that a line can't have.
+fn push_bytes(answer: &mut String, bytes: &[u8]) -> Result<(), AllocError> {
+    for byte in bytes {
+        match byte {
+            32..=126 => answer.push(*byte as char)?,
+            _ => write!(answer, "\\x{byte:02X}")?,
+        }
+    }
+    Ok(())
+}
+
+fn push_columns(alloc: Global, answer: &mut String, word: &str) -> Result<(), AllocError> {
+    let policy = Policy::trial(alloc)?;
+    let found = columns(alloc, kind(word), &policy, format_of(word))?;
+    for column in &found {
+        answer.push_str(column.name())?;
+        write!(answer, " {:?}\n", column.holds())?;
+    }
+    Ok(())
 }
 
 fn push_long(alloc: Global, answer: &mut String, word: &str, rest: &str) -> Result<(), AllocError> {
@@ -335,8 +412,14 @@ fn push_made_void(alloc: Global, answer: &mut String) -> Result<(), AllocError> 
 fn push_manifest(alloc: Global, answer: &mut String, text: &[u8]) -> Result<(), AllocError> {
     match Manifest::read(alloc, text) {
         Ok(manifest) => push_entries(answer, manifest.as_slice()),
-        Err(ParseError::Fault(fault)) => write!(answer, "{} is none", fault.number),
-        Err(ParseError::Memory) => Err(AllocError),
+        Err(e) => push_bad(answer, e),
+    }
+}
+
+fn push_bad(answer: &mut String, e: ParseError<BadManifest>) -> Result<(), AllocError> {
+    match e {
+        ParseError::Fault(bad) => write!(answer, "{} is none", bad.number),
+        ParseError::Memory => Err(AllocError),
     }
 }
 
@@ -347,6 +430,25 @@ fn push_entries(answer: &mut String, entries: &[ManifestEntry]) -> Result<(), Al
     for entry in entries {
         let (word, id, path) = (entry.kind.word(), entry.id.as_str(), entry.path.as_str());
         write!(answer, "{word} {id} {path}\n")?;
+    }
+    Ok(())
+}
+
+fn push_reports(alloc: Global, answer: &mut String, text: &[u8]) -> Result<(), AllocError> {
+    match ReportList::read(alloc, text) {
+        Ok(list) => push_listed(answer, list.as_slice()),
+        Err(e) => push_bad(answer, e),
+    }
+}
+
+fn push_listed(answer: &mut String, reports: &[ListedReport]) -> Result<(), AllocError> {
+    if reports.is_empty() {
+        return answer.push_str("no report");
+    }
+    for report in reports {
+        let (attribute, mode) = (report.attribute.as_str(), report.mode.as_str());
+        let (from, to) = (report.from.as_str(), report.to.as_str());
+        write!(answer, "{attribute}|{mode}|{from}|{to}\n")?;
     }
     Ok(())
 }

@@ -17,109 +17,20 @@
 
 ghost use Rattle.std.specs.Prelude.{◌≡◌, ◌∷◌, ◌<◌, ◌≤◌, ◌↔◌, [], IsTrue, IfSome, All};
 
-use crate::check::check;
 use crate::words::{day, number, push_day, push_next, push_value, push_values};
 use std::alloc::{AllocError, Global};
 use std::fmt::Write;
-use std::test::Fail;
 use wh_day::{DateRow, Day, Holiday, Holidays, NaturalKey, Value, Values, date_row};
 use wh_scenarios::{Driver, NotMade, Step, parted};
 
-const DAYS: &str = r#"
-day 2024-02-29
-= 20240229
-day 2023-02-29
-= none
-day 2024-2-01
-= none
-day 1899-12-31
-= none
-day 9999-12-31
-= 99991231
-day last
-= 99991231
-compare 9999-12-31 last
-= same
-
-before 20240301
-= 20240229
-day 20240229
-= 20240229
-before first
-= none
-day -1
-= none
-
-written first
-= from 1900-01-01
-
-compare 2024-03-01 2024-02-29
-= later
-compare 2024-02-29 2024-03-01
-= earlier
-latest 2024-02-29 2024-03-01 2024-02-29
-= 20240301
-"#;
-
-const TEXTS: &str = r#"
-value Cola 1l
-= Cola 1l
-value
-= (none) for none
-value (x
-= no value
-
-special
-= (none)|(unknown)|(no card)||
-slots Acme Drinks
-= Acme|Drinks|
-
-# 32 bytes are the most.
-key 99 P1234567890123456789012345678901
-= P1234567890123456789012345678901, copied
-key 99 P12345678901234567890123456789012
-= no key
-key 31 P1234567890123456789012345678901
-= no key
-key 32
-= no key
-key 32 S 1
-= no key
-debug 4 P.-_
-= Some("P.-_")
-"#;
-
-const CALENDAR: &str = r#"
-holiday 20241225
-= Christmas Day
-holiday first
-= none
-
-row 20240229
-= 2024-02-29|Thursday|(none)| 20240229 2024 1 2 29 60 4
-row 20241225
-= 2024-12-25|Wednesday|Christmas Day| 20241225 2024 4 12 25 360 3
-"#;
-
 #[derive(Drop)]
-struct DayDriver;
-
-#[test]
-fn days(rt: HostRuntime) -> Result<(), Fail> {
-    check(&rt, rt.alloc(), DayDriver, DAYS)
-}
-
-#[test]
-fn texts(rt: HostRuntime) -> Result<(), Fail> {
-    check(&rt, rt.alloc(), DayDriver, TEXTS)
-}
-
-#[test]
-fn calendar(rt: HostRuntime) -> Result<(), Fail> {
-    check(&rt, rt.alloc(), DayDriver, CALENDAR)
-}
+pub struct DayDriver;
 
 impl Driver for DayDriver {
+    fn start(_alloc: Global) -> Result<DayDriver, NotMade> {
+        Ok(DayDriver)
+    }
+
     fn perform(
         self,
         alloc: Global,
@@ -283,7 +194,12 @@ fn row(alloc: Global, answer: &mut String, day: Option<Day>) -> Result<(), Alloc
     }
 }
 
+/// The columns of a row.
+const HEADER: &str =
+    "iso|weekday_name|holiday| date_key year quarter month day day_of_year weekday\n";
+
 fn push_row(answer: &mut String, row: &DateRow) -> Result<(), AllocError> {
+    answer.push_str(HEADER)?;
     push_value(answer, &row.iso)?;
     push_value(answer, &row.weekday_name)?;
     push_value(answer, &row.holiday)?;

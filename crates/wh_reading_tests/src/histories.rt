@@ -19,16 +19,12 @@
 //! - `record NATURAL DAY VALUES`: the next record of a batch.
 //! - `trial DIM`, `table DIM`: the table after that batch, under the policy of a trial or under POLICY.
 
-mod scenarios;
-
-use crate::check::check;
 use crate::words::{attribute_type, day, dim, number, push_number};
 use std::alloc::{AllocError, Global};
-use std::test::Fail;
 use wh_day::{Day, NaturalKey, Value, Values};
 use wh_history::{
     Change, Changes, DimRow, DimensionShape, Edit, Fact, FactKeys, Member, Profiles, latest,
-    original, plan_rows, prior, profile_texts, row_at, trial_table, value_at,
+    original, prior, profile_texts, render, row_at, trial_table, value_at,
 };
 use wh_policy::{AttributeType, Dim, DimensionRecord, Policy};
 use wh_scenarios::{Driver, NotMade, Step, parted};
@@ -51,7 +47,7 @@ customer = [{ name = "a", type = 2 }, { name = "b", type = 5 }, { name = "c", ty
 
 /// What is known so far.
 #[derive(Drop)]
-struct HistoryDriver {
+pub struct HistoryDriver {
     types: Vec<AttributeType>,
     member: Member,
     profiles: Profiles,
@@ -60,27 +56,11 @@ struct HistoryDriver {
     records: Vec<DimensionRecord>,
 }
 
-#[test]
-fn histories(rt: HostRuntime) -> Result<(), Fail> {
-    check(
-        &rt,
-        rt.alloc(),
-        HistoryDriver::new(rt.alloc())?,
-        scenarios::HISTORIES,
-    )
-}
-
-#[test]
-fn tables_and_plans(rt: HostRuntime) -> Result<(), Fail> {
-    check(
-        &rt,
-        rt.alloc(),
-        HistoryDriver::new(rt.alloc())?,
-        scenarios::TABLES_AND_PLANS,
-    )
-}
-
 impl Driver for HistoryDriver {
+    fn start(alloc: Global) -> Result<HistoryDriver, NotMade> {
+        Ok(HistoryDriver::new(alloc)?)
+    }
+
     fn perform(
         self,
         alloc: Global,
@@ -174,8 +154,7 @@ impl HistoryDriver {
     }
 
     fn rendered(&self, alloc: Global, dim: Dim) -> Result<Vec<DimRow>, AllocError> {
-        let types = policy(alloc)?.types(alloc, dim)?;
-        self.dimension(dim, &types).rows_of(alloc, &self.member)
+        render(alloc, &policy(alloc)?, dim, &self.member, &self.profiles)
     }
 
     fn store(&mut self, alloc: Global) -> Result<(), AllocError> {
@@ -246,10 +225,8 @@ impl HistoryDriver {
     fn push_plan(&self, alloc: Global, answer: &mut String) -> Result<(), AllocError> {
         let types = policy(alloc)?.types(alloc, Dim::Product)?;
         let dimension = self.dimension(Dim::Product, &types);
-        let after = dimension.rendered(alloc, &self.member)?;
-        let rows = plan_rows(alloc, &self.stored, &after.rows)?;
-        let facts = dimension.rekeyed_facts(alloc, &after, &self.facts)?;
-        push_edits(answer, &rows, &facts)
+        let plan = dimension.plan_member(alloc, &self.stored, &self.facts, &self.member)?;
+        push_edits(answer, &plan.rows, &plan.facts)
     }
 }
 
@@ -319,7 +296,13 @@ fn fact(alloc: Global, ticket: &str, day: Day, product_key: u64) -> Result<Fact,
     })
 }
 
+/// The columns of a row, without those of its member.
+const HEADER: &str =
+    "surrogate,from_day,to_day,is_current,a1,a2,a3,a4,a5,a6,b1,b2,b3,b4,b5,b6,profile_now\n";
+
+/// Rows below their columns' names.
 fn push_rows(answer: &mut String, rows: &[DimRow]) -> Result<(), AllocError> {
+    answer.push_str(HEADER)?;
     for row in rows {
         push_row(answer, row)?;
     }

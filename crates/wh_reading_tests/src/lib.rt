@@ -6,12 +6,14 @@
 #[cfg(test)]
 mod batches;
 #[cfg(test)]
-mod check;
-#[cfg(test)]
 mod days;
+#[cfg(test)]
+mod echo;
 #[cfg(test)]
 mod histories;
 #[cfg(test)]
 mod policies;
+#[cfg(test)]
+mod scenarios;
 #[cfg(test)]
 mod words;

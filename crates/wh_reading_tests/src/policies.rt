@@ -17,44 +17,21 @@
 //! - `fits CHANGES`: whether FLAT with them fits FLAT, and whether FLAT fits it.
 //! - `type NUMBER`: the type of attributes that has the number, and its number.
 
-mod bytes;
-mod contents;
-mod faults;
-mod order;
-
-use crate::check::check;
 use crate::words::{attribute_type, dim, number, push_day, push_next, push_number};
 use std::alloc::{AllocError, Global};
 use std::fmt::Write;
-use std::test::Fail;
 use wh_day::{Holiday, ParseError};
 use wh_policy::{Policy, PolicyFault};
 use wh_scenarios::{Driver, FLAT, NotMade, Step, bytes_of, changed_flat, parted};
 
 #[derive(Drop)]
-struct PolicyDriver;
-
-#[test]
-fn contents_of_policies(rt: HostRuntime) -> Result<(), Fail> {
-    check(&rt, rt.alloc(), PolicyDriver, contents::SCENARIO)
-}
-
-#[test]
-fn faults_of_policies(rt: HostRuntime) -> Result<(), Fail> {
-    check(&rt, rt.alloc(), PolicyDriver, faults::SCENARIO)
-}
-
-#[test]
-fn order_of_faults(rt: HostRuntime) -> Result<(), Fail> {
-    check(&rt, rt.alloc(), PolicyDriver, order::SCENARIO)
-}
-
-#[test]
-fn bytes_of_files(rt: HostRuntime) -> Result<(), Fail> {
-    check(&rt, rt.alloc(), PolicyDriver, bytes::SCENARIO)
-}
+pub struct PolicyDriver;
 
 impl Driver for PolicyDriver {
+    fn start(_alloc: Global) -> Result<PolicyDriver, NotMade> {
+        Ok(PolicyDriver)
+    }
+
     fn perform(
         self,
         alloc: Global,

@@ -8,19 +8,20 @@
 //!     > S1,2024-01-01,Bern
 //!     = accepted 2: 1 records, 0 placeholders
 //!
-//! What the words mean is a [`Driver`]'s to say, and [`difference`] tells the first line that it answers otherwise. So a further case is
-//! a few lines more. The scenarios stand here too, in `store`, `engine` and `program`, and the crates with their drivers run each as a
-//! test: a text costs less in a library than in a crate with tests. Beside them stands what the words of several drivers are written in:
-//! bytes that a line can't have, and a policy with changes.
+//! What the words mean is a [`Driver`]'s to say, and [`check`] fails with the first line that it answers otherwise. So a further case is
+//! a few lines more. The scenarios stand here too, in `reading`, `store`, `engine` and `program`, and the crates with their drivers run
+//! each as a test, under `scenarios`: a text costs less in a library than in a crate with tests. Beside them stands what the words of
+//! several drivers are written in: bytes that a line can't have, and a policy with changes.
 #![tactic(auto)]
 
 mod bytes;
 pub mod engine;
 mod policy;
 pub mod program;
+pub mod reading;
 mod scenario;
 pub mod store;
 
 pub use bytes::bytes_of;
 pub use policy::{FLAT, changed_flat};
-pub use scenario::{Driver, NotMade, Step, difference, parted, push_line};
+pub use scenario::{Driver, NotMade, Step, check, difference, parted, push_line};

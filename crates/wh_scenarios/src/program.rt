@@ -4,6 +4,10 @@
 pub mod answers;
 pub mod checks;
 pub mod deliveries;
+pub mod dumps;
+pub mod explained;
+pub mod lists;
+pub mod refused_reports;
 pub mod reports;
 pub mod trials;
 pub mod upgrades;

@@ -1,6 +1,7 @@
 //! The steps of a scenario, and their run.
 
 use std::alloc::{AllocError, AllocFailed, Global};
+use std::test::Fail;
 
 /// A step that could not be made: its words mean nothing where it stands, or memory, a store or a file refused it.
 #[derive(Clone, Copy, Debug, PartialEq, Eq, Drop)]
@@ -32,6 +33,9 @@ pub struct Step<'a> {
 
 /// What makes the steps of a scenario, one after the other.
 pub trait Driver: Drop + Sized {
+    /// A driver that has made no step.
+    fn start(alloc: Global) -> Result<Self, NotMade>;
+
     /// Makes a step, and writes the lines that it answers into `answer`, which is empty.
     fn perform(self, alloc: Global, step: &Step<'_>, answer: &mut String) -> Result<Self, NotMade>;
 }
@@ -124,12 +128,9 @@ fn told_not_made(alloc: Global, step: &Step<'_>) -> Result<String, AllocError> {
 
 /// Makes the steps of a scenario in turn, up to the first that answers otherwise than it must, and tells how its first such line
 /// differs. A scenario is one text, or several that follow one another; one that begins with an answer is none.
-pub fn difference<D: Driver>(
-    alloc: Global,
-    mut driver: D,
-    texts: &[&str],
-) -> Result<Option<String>, NotMade> {
+pub fn difference<D: Driver>(alloc: Global, texts: &[&str]) -> Result<Option<String>, NotMade> {
     let steps = steps_of(alloc, texts)?;
+    let mut driver = D::start(alloc)?;
     for step in &steps {
         let mut answer = String::new(alloc);
         driver = match driver.perform(alloc, step, &mut answer) {
@@ -142,4 +143,12 @@ pub fn difference<D: Driver>(
         }
     }
     Ok(None)
+}
+
+/// Fails where [`difference`] tells a line, with that line.
+pub fn check<D: Driver>(alloc: Global, texts: &[&str]) -> Result<(), Fail> {
+    match difference::<D>(alloc, texts)? {
+        None => Ok(()),
+        Some(line) => Err(Fail::new(line)),
+    }
 }

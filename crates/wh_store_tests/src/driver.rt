@@ -1,7 +1,7 @@
 //! What the words of a step mean over the store.
 //!
 //! A row is written as the name of its table and the values of its columns in SQL, `profile 2, '', '30-39', 'high', '', '', ''`, in
-//! steps and in answers. A key is written as its columns, as in `get fact T-1 9999` or `get member store 1`. A step that is not
+//! steps and in answers, where the names of the columns stand above a table's rows. A key is written as its columns, as in `get fact T-1 9999` or `get member store 1`. A step that is not
 //! made answers why: `refused disk`, `damaged fact`.
 //!
 //! These begin anew:
@@ -24,13 +24,14 @@
 //!   `past`, `rekey` and `clear`, as above; `rekey2`, the same of the second format, and `insert2 COUNT TICKET VALUES`, so many facts of it at
 //!   once, on the lines 1, 2 and so on, with these values for the other columns, which tells whether they went in;
 //!   `make COMMANDS CHANGES FACTS`, which makes the tables for these limits; `rows 1 Cola, 2 Tea`,
-//!   `edit 1 Cola` and `edits 1 Cola, 2` for products, of which those with no text go; `days FIRST PAST` for the days of a calendar;
+//!   `edit 1 Cola`, `edits 1 Cola, 2` and, sixteen at a time, `parts 1 Cola, 2` for products, of which those with no text go;
+//!   `records COMMAND FIRST COUNT VALUES`, so many records of a command, sixteen at a time; `days FIRST PAST` for the days of a calendar;
 //!   `tries EDIT`, after whose refusal the others are still made.
 //! - `limits` tells them. `show` tells them and all rows of all tables.
 //! - `format` tells the format, and whether a name that the second adds is taken. `second` makes the tables of the second, and keeps them.
 //!   `upgrade` makes it the second format, into which all facts go without a discount.
 //! - `tally2 KEY` counts the facts of the second format by a key: `surrogate DIMENSION`, `durable DIMENSION`, `profile` or `day`. It
-//!   tells their number, and the sums of their keys, quantities, amounts and costs.
+//!   tells their number, and the sums of their keys, quantities, amounts and costs, below what each is of.
 //! - `scan TABLE MOST` hands out up to so many rows of a table one at a time, tells their number and the last of them, and lets the scan go.
 //!
 //! On both, questions:
@@ -62,15 +63,13 @@ pub struct StoreDriver {
     place: Place,
 }
 
-impl StoreDriver {
-    pub fn new() -> StoreDriver {
-        StoreDriver {
-            place: Place::Nothing,
-        }
-    }
-}
-
 impl Driver for StoreDriver {
+    fn start(_alloc: Global) -> Result<StoreDriver, NotMade> {
+        Ok(StoreDriver {
+            place: Place::Nothing,
+        })
+    }
+
     fn perform(
         self,
         alloc: Global,

@@ -1,11 +1,9 @@
 //! The tests of `wh_store`, `wh_sql` and `wh_rows`, as scenarios: what is done with a warehouse, and what it then answers.
-//! `driver` says what their words mean. The tests are in `cases`.
+//! `driver` says what their words mean. The tests are in `scenarios`.
 #![tactic(auto)]
 
 #[cfg(test)]
 mod calendar;
-#[cfg(test)]
-mod cases;
 #[cfg(test)]
 mod columns;
 #[cfg(test)]
@@ -21,6 +19,8 @@ mod held;
 #[cfg(test)]
 mod opening;
 #[cfg(test)]
+mod parts;
+#[cfg(test)]
 mod place;
 #[cfg(test)]
 mod questions;
@@ -28,6 +28,8 @@ mod questions;
 mod rows;
 #[cfg(test)]
 mod scans;
+#[cfg(test)]
+mod scenarios;
 #[cfg(test)]
 mod second;
 #[cfg(test)]

@@ -1,4 +1,5 @@
-//! Rows as a scenario writes them, `product 1, 1, 'M1', ..` for the values of SQL, and as its answers write them.
+//! Rows as a scenario writes them, `product 1, 1, 'M1', ..` for the values of SQL, and as its answers write them, below the names of their
+//! columns.
 
 use crate::held::{Reads, Writes};
 use crate::told::Told;
@@ -39,7 +40,19 @@ pub fn member_values(alloc: Global, words: &str) -> Result<String, AllocError> {
     )
 }
 
-fn push_row<T: Told>(out: &mut String, row: &T::Row) -> Result<(), Trouble> {
+/// The names of a table's columns, as the library lists them.
+fn push_header(out: &mut String, table: Table) -> Result<(), AllocError> {
+    out.push_str(table.name())?;
+    let mut sign = " ";
+    for name in table.columns() {
+        out.push_str(sign)?;
+        out.push_str(name)?;
+        sign = ", ";
+    }
+    out.push_str("\n")
+}
+
+fn push_values<T: Told>(out: &mut String, row: &T::Row) -> Result<(), Trouble> {
     out.push_str(T::table().name())?;
     out.push_str(" ")?;
     T::push(out, row)?;
@@ -47,9 +60,20 @@ fn push_row<T: Told>(out: &mut String, row: &T::Row) -> Result<(), Trouble> {
     Ok(())
 }
 
+/// A row below its columns' names.
+fn push_row<T: Told>(out: &mut String, row: &T::Row) -> Result<(), Trouble> {
+    push_header(out, T::table())?;
+    push_values::<T>(out, row)
+}
+
+/// Rows below their columns' names, and nothing where there is none.
 pub fn push_rows<T: Told>(out: &mut String, rows: &[T::Row]) -> Result<(), Trouble> {
+    if rows.is_empty() {
+        return Ok(());
+    }
+    push_header(out, T::table())?;
     for row in rows {
-        push_row::<T>(out, row)?;
+        push_values::<T>(out, row)?;
     }
     Ok(())
 }

@@ -105,6 +105,7 @@ impl FactAggregate for Sums {
 
 impl Sums {
     fn push(&self, out: &mut String) -> Result<(), Trouble> {
+        push_answer(out, "sales, keys, quantity, amount, cost")?;
         push_count(out, self.sales)?;
         push_count(out, self.keys)?;
         push_number(out, self.quantity)?;

@@ -4,6 +4,7 @@ use crate::calendar::put_days;
 use crate::facts::edit as edit_fact;
 use crate::held::Writes;
 use crate::opening::limits_of;
+use crate::parts::{edit_products, put_records};
 use crate::rows::{clear, edit_table, member_values, rekey, row_of};
 use crate::second::insert;
 use crate::trouble::Trouble;
@@ -87,6 +88,8 @@ fn make_edit<S: Alter>(
         "rows" => put_all(alloc, writing, rest),
         "edit" => edit(alloc, writing, rest),
         "edits" => edit_each(alloc, writing, rest),
+        "parts" => edit_products(alloc, writing, rest),
+        "records" => put_records(alloc, writing, rest),
         "past" => put_past(alloc, writing, out),
         "rekey" => rekey(alloc, writing, Format::One, rest),
         "rekey2" => rekey(alloc, writing, Format::Two, rest),
@@ -145,7 +148,7 @@ fn edit_of(alloc: Global, words: &str) -> Result<Edit<DimRow, u64>, Trouble> {
     }
 }
 
-fn edits_of(alloc: Global, words: &str) -> Result<Vec<Edit<DimRow, u64>>, Trouble> {
+pub fn edits_of(alloc: Global, words: &str) -> Result<Vec<Edit<DimRow, u64>>, Trouble> {
     let mut edits = Vec::new(alloc);
     for word in words.split(',') {
         edits.push(edit_of(alloc, word.trim_start())?)?;

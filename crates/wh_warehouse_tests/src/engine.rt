@@ -16,7 +16,7 @@
 //!   accepted;
 //! - `plan KIND ID`: what such a command would write, a line an edit; `writes`: how many keys the last command wrote;
 //! - `counts`; `check`; `policy`: the last year, and how many attributes a product has;
-//! - `table NAME`: the rows of a table; `command NUMBER`: the row of a command;
+//! - `table NAME`: the rows of a table, below the names of its columns; `command NUMBER`: the row of a command;
 //! - `mark`: remembers all tables; `same`: whether they are as they were then;
 //! - `close`, which leaves the database.
 //!
@@ -79,16 +79,14 @@ pub struct EngineDriver {
     marked: String,
 }
 
-impl EngineDriver {
-    pub fn new(alloc: Global) -> EngineDriver {
-        EngineDriver {
+impl Driver for EngineDriver {
+    fn start(alloc: Global) -> Result<EngineDriver, NotMade> {
+        Ok(EngineDriver {
             place: Place::Nothing,
             marked: String::new(alloc),
-        }
+        })
     }
-}
 
-impl Driver for EngineDriver {
     fn perform(
         self,
         alloc: Global,

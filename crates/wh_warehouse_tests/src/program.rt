@@ -10,6 +10,8 @@
 //!   the status, and whether anything was printed.
 //! - `breaks BYTES WORDS` makes the run again and again, on a page that takes so many bytes a call and fails from a call on, or at a call
 //!   alone. It answers how many calls there are, and what was written.
+//! - `fails BYTES FROM TO WORDS` makes the run once, on a page that takes so many bytes a call and fails from the call FROM, the first being 0, to before
+//!   the call TO. It answers what was written, and the status.
 //!
 //! `sql NAME TEXT` alters what stands under a name, `stands NAME` answers whether anything does, and `anew` forgets all warehouses.
 
@@ -23,7 +25,7 @@ mod scenarios;
 
 use crate::program::files::{add_file, add_large_file};
 use crate::program::host::alter;
-use crate::program::runs::{breaks, ended, lines, run_step};
+use crate::program::runs::{breaks, ended, fails, lines, run_step};
 use crate::trouble::Trouble;
 use std::alloc::Global;
 use wh_program::MemoryHost;
@@ -35,15 +37,13 @@ pub struct ProgramDriver {
     host: MemoryHost,
 }
 
-impl ProgramDriver {
-    pub fn new(alloc: Global) -> ProgramDriver {
-        ProgramDriver {
-            host: MemoryHost::new(alloc),
-        }
-    }
-}
-
 impl Driver for ProgramDriver {
+    fn start(alloc: Global) -> Result<ProgramDriver, NotMade> {
+        Ok(ProgramDriver {
+            host: MemoryHost::new(alloc),
+        })
+    }
+
     fn perform(
         self,
         alloc: Global,
@@ -69,6 +69,7 @@ fn perform(
         "lines" => lines(alloc, host, rest, handed, out),
         "ended" => ended(alloc, host, rest, handed, out),
         "breaks" => breaks(alloc, host, rest, out),
+        "fails" => fails(alloc, host, rest, out),
         "stands" => push_standing(host, rest, out),
         _ => prepare(alloc, host, step),
     }

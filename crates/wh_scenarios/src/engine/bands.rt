@@ -20,13 +20,16 @@ send product p9
 
 # A placeholder has the unknown profile.
 table customer
+= surrogate,durable,natural,from_day,to_day,is_current,a1,a2,a3,a4,a5,a6,b1,b2,b3,b4,b5,b6,profile_now
 = 0,0,(no card),19000101,99991231,1,(no card),,,,,,,,,,,,0
 = 1,1,C9,19000101,99991231,1,(unknown),,,,,,,,,,,,1
 table fact
+= ticket,line,day,store_key,product_key,customer_key,store_durable,product_durable,customer_durable,profile,quantity,amount,cost
 = T0,1,20231231,1,1,0,1,1,0,0,1,250,160
 = T1,1,20240205,1,3,0,1,1,0,0,2,500,320
 = T2,1,20240610,1,9,1,1,2,1,1,1,1000,700
 table profile
+= number,v1,v2,v3,v4,v5,v6
 = 0,,(no card),(no card),,,
 = 1,,(unknown),(unknown),,,
 
@@ -36,13 +39,16 @@ send customer c1
 > C9,2024-06-08,Gold,30-39,high
 = accepted 14: 1 records, 0 placeholders
 table customer
+= surrogate,durable,natural,from_day,to_day,is_current,a1,a2,a3,a4,a5,a6,b1,b2,b3,b4,b5,b6,profile_now
 = 0,0,(no card),19000101,99991231,1,(no card),,,,,,,,,,,,0
 = 1,1,C9,19000101,99991231,1,Gold,,,,,,,,,,,,2
 table fact
+= ticket,line,day,store_key,product_key,customer_key,store_durable,product_durable,customer_durable,profile,quantity,amount,cost
 = T0,1,20231231,1,1,0,1,1,0,0,1,250,160
 = T1,1,20240205,1,3,0,1,1,0,0,2,500,320
 = T2,1,20240610,1,9,1,1,2,1,2,1,1000,700
 table profile
+= number,v1,v2,v3,v4,v5,v6
 = 0,,(no card),(no card),,,
 = 1,,(unknown),(unknown),,,
 = 2,,30-39,high,,,
@@ -53,13 +59,16 @@ send customer c2
 > C9,2024-07-01,Gold,40-49,high
 = accepted 15: 1 records, 0 placeholders
 table customer
+= surrogate,durable,natural,from_day,to_day,is_current,a1,a2,a3,a4,a5,a6,b1,b2,b3,b4,b5,b6,profile_now
 = 0,0,(no card),19000101,99991231,1,(no card),,,,,,,,,,,,0
 = 1,1,C9,19000101,99991231,1,Gold,,,,,,,,,,,,3
 table fact
+= ticket,line,day,store_key,product_key,customer_key,store_durable,product_durable,customer_durable,profile,quantity,amount,cost
 = T0,1,20231231,1,1,0,1,1,0,0,1,250,160
 = T1,1,20240205,1,3,0,1,1,0,0,2,500,320
 = T2,1,20240610,1,9,1,1,2,1,2,1,1000,700
 table profile
+= number,v1,v2,v3,v4,v5,v6
 = 0,,(no card),(no card),,,
 = 1,,(unknown),(unknown),,,
 = 2,,30-39,high,,,
@@ -72,13 +81,16 @@ send customer c3
 > C9,2024-08-01,Gold,30-39,high
 = accepted 16: 2 records, 0 placeholders
 table customer
+= surrogate,durable,natural,from_day,to_day,is_current,a1,a2,a3,a4,a5,a6,b1,b2,b3,b4,b5,b6,profile_now
 = 0,0,(no card),19000101,99991231,1,(no card),,,,,,,,,,,,0
 = 1,1,C9,19000101,99991231,1,Gold,,,,,,,,,,,,2
 table fact
+= ticket,line,day,store_key,product_key,customer_key,store_durable,product_durable,customer_durable,profile,quantity,amount,cost
 = T0,1,20231231,1,1,0,1,1,0,0,1,250,160
 = T1,1,20240205,1,3,0,1,1,0,0,2,500,320
 = T2,1,20240610,1,9,1,1,2,1,3,1,1000,700
 table profile
+= number,v1,v2,v3,v4,v5,v6
 = 0,,(no card),(no card),,,
 = 1,,(unknown),(unknown),,,
 = 2,,30-39,high,,,
@@ -101,13 +113,16 @@ batch c1
 batch c2
 = accepted 15: 1 records, 0 placeholders
 table customer
+= surrogate,durable,natural,from_day,to_day,is_current,a1,a2,a3,a4,a5,a6,b1,b2,b3,b4,b5,b6,profile_now
 = 0,0,(no card),19000101,99991231,1,(no card),,,,,,,,,,,,0
 = 1,1,C9,19000101,99991231,1,Gold,,,,,,,,,,,,0
 table fact
+= ticket,line,day,store_key,product_key,customer_key,store_durable,product_durable,customer_durable,profile,quantity,amount,cost
 = T0,1,20231231,1,1,0,1,1,0,0,1,250,160
 = T1,1,20240205,1,3,0,1,1,0,0,2,500,320
 = T2,1,20240610,1,9,1,1,2,1,2,1,1000,700
 table profile
+= number,v1,v2,v3,v4,v5,v6
 = 0,,(no card),(no card),,,
 = 1,,(unknown),(unknown),,,
 = 2,,30-39,high,,,
@@ -124,15 +139,18 @@ send sales s3
 > T4,1,2024-07-01,S1,P9,C9,1,10.00,7.00
 = accepted 16: 2 records, 0 placeholders
 table customer
+= surrogate,durable,natural,from_day,to_day,is_current,a1,a2,a3,a4,a5,a6,b1,b2,b3,b4,b5,b6,profile_now
 = 0,0,(no card),19000101,99991231,1,(no card),,,,,,,,,,,,0
 = 1,1,C9,19000101,99991231,1,Gold,,,,,,,,,,,,3
 table fact
+= ticket,line,day,store_key,product_key,customer_key,store_durable,product_durable,customer_durable,profile,quantity,amount,cost
 = T0,1,20231231,1,1,0,1,1,0,0,1,250,160
 = T1,1,20240205,1,3,0,1,1,0,0,2,500,320
 = T2,1,20240610,1,9,1,1,2,1,2,1,1000,700
 = T3,1,20240630,1,9,1,1,2,1,2,1,1000,700
 = T4,1,20240701,1,9,1,1,2,1,3,1,1000,700
 table profile
+= number,v1,v2,v3,v4,v5,v6
 = 0,,(no card),(no card),,,
 = 1,,(unknown),(unknown),,,
 = 2,,30-39,high,,,

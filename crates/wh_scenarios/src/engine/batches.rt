@@ -79,11 +79,13 @@ send product p
 > P2,2024-01-10,,,,,,
 = accepted 2: 1 records, 0 placeholders
 table product
+= surrogate,durable,natural,from_day,to_day,is_current,a1,a2,a3,a4,a5,a6,b1,b2,b3,b4,b5,b6,profile_now
 = 1,1,P2,19000101,99991231,1,(none),(none),(none),(none),(none),(none),,,(none),,,(none),0
 
 # Two profiles at first.
 make flat
 table profile
+= number,v1,v2,v3,v4,v5,v6
 = 0,,,,,,
 = 1,,,,,,
 
@@ -106,9 +108,11 @@ counts
 = stores 2
 = customers 1
 table store
+= surrogate,durable,natural,from_day,to_day,is_current,a1,a2,a3,a4,a5,a6,b1,b2,b3,b4,b5,b6,profile_now
 = 1,1,S1,19000101,99991231,1,Bern,,,,,,,,,,,,0
 = 3,2,S2,19000101,99991231,1,Basel,,,,,,,,,,,,0
 table customer
+= surrogate,durable,natural,from_day,to_day,is_current,a1,a2,a3,a4,a5,a6,b1,b2,b3,b4,b5,b6,profile_now
 = 0,0,(no card),19000101,99991231,1,(no card),,,,,,,,,,,,0
 = 1,1,C9,19000101,99991231,1,Gold,,,,,,,,,,,,0
 
@@ -116,6 +120,7 @@ table customer
 batch p1
 = accepted 4: 1 records, 0 placeholders
 table member
+= dim,durable,natural,opening
 = 1,1,P1,1
 = 2,1,S1,1
 = 2,2,S2,3
@@ -123,6 +128,7 @@ table member
 
 # The first record of a customer brings a profile, and no other does.
 table profile
+= number,v1,v2,v3,v4,v5,v6
 = 0,,,,,,
 = 1,,,,,,
 = 2,,,,,,
@@ -132,6 +138,7 @@ send customer c2
 > C8,2024-07-01,Gold
 = accepted 5: 2 records, 0 placeholders
 table profile
+= number,v1,v2,v3,v4,v5,v6
 = 0,,,,,,
 = 1,,,,,,
 = 2,,,,,,

@@ -51,8 +51,10 @@ counts
 = stores 1
 = customers 1
 table product
+= surrogate,durable,natural,from_day,to_day,is_current,a1,a2,a3,a4,a5,a6,b1,b2,b3,b4,b5,b6,profile_now
 = 1,1,P1,19000101,99991231,1,Bolt,,,,,,,,,,,,0
 table fact
+= ticket,line,day,store_key,product_key,customer_key,store_durable,product_durable,customer_durable,profile,quantity,amount,cost
 = T1,1,20240305,1,1,1,1,1,1,2,1,250,160
 
 # The same again, and the same in another order.

@@ -21,10 +21,12 @@ send migrate m1
 writes
 = written 5
 table product
+= surrogate,durable,natural,from_day,to_day,is_current,a1,a2,a3,a4,a5,a6,b1,b2,b3,b4,b5,b6,profile_now
 = 1,1,P1,19000101,20240331,0,Cola 1 l,Cask,Drinks,Grocery,2019,South,,,Soft drinks,,,East,0
 = 6,1,P1,20240401,99991231,1,Cola 1 l,Cask,Soft drinks,Grocery,2019,South,,,Soft drinks,,,East,0
 = 9,2,P9,19000101,99991231,1,Tea 50,Leaf,Drinks,Grocery,2024,North,,,Drinks,,,(none),0
 table fact
+= ticket,line,day,store_key,product_key,customer_key,store_durable,product_durable,customer_durable,profile,quantity,amount,cost
 = T0,1,20231231,1,1,0,1,1,0,0,1,250,160
 = T1,1,20240205,1,1,0,1,1,0,0,2,500,320
 = T2,1,20240610,1,9,1,1,2,1,2,1,1000,700
@@ -44,12 +46,14 @@ send migrate m2
 > bands-of-rows
 = accepted 17: 0 records, 0 placeholders
 table product
+= surrogate,durable,natural,from_day,to_day,is_current,a1,a2,a3,a4,a5,a6,b1,b2,b3,b4,b5,b6,profile_now
 = 1,1,P1,19000101,20240119,0,Cola 1 l,Acme,Drinks,Grocery,2019,South,,,Soft drinks,,,East,0
 = 3,1,P1,20240201,20240331,0,Cola 1 l,Cask,Drinks,Grocery,2019,South,,,Soft drinks,,,East,0
 = 4,1,P1,20240120,20240131,0,Cola 1 l,Bolt,Drinks,Grocery,2019,South,,,Soft drinks,,,East,0
 = 6,1,P1,20240401,99991231,1,Cola 1 l,Cask,Soft drinks,Grocery,2019,South,,,Soft drinks,,,East,0
 = 9,2,P9,19000101,99991231,1,Tea 50,Leaf,Drinks,Grocery,2024,North,,,Drinks,,,(none),0
 table fact
+= ticket,line,day,store_key,product_key,customer_key,store_durable,product_durable,customer_durable,profile,quantity,amount,cost
 = T0,1,20231231,1,1,0,1,1,0,0,1,250,160
 = T1,1,20240205,1,3,0,1,1,0,0,2,500,320
 = T2,1,20240610,1,9,1,1,2,1,2,1,1000,700
@@ -68,11 +72,13 @@ batch s4
 = accepted 18: 1 records, 0 placeholders
 batch c3
 = accepted 19: 1 records, 0 placeholders
+# It tells what is known: the command and its record alone are written.
 writes
 = written 2
 batch c4
 = accepted 20: 1 records, 0 placeholders
 table customer
+= surrogate,durable,natural,from_day,to_day,is_current,a1,a2,a3,a4,a5,a6,b1,b2,b3,b4,b5,b6,profile_now
 = 0,0,(no card),19000101,99991231,1,(no card),,,,,,,,,,,,0
 = 1,1,C9,19000101,99991231,1,Gold,,,,,,,,,,,,3
 = 4,2,C8,19000101,99991231,1,V,,,,,,,,,,,,4
@@ -93,10 +99,12 @@ send migrate m4
 writes
 = written 9
 table customer
+= surrogate,durable,natural,from_day,to_day,is_current,a1,a2,a3,a4,a5,a6,b1,b2,b3,b4,b5,b6,profile_now
 = 0,0,(no card),19000101,99991231,1,(no card),(no card),,,,,,,,,,,0
 = 1,1,C9,19000101,99991231,1,Gold,40-49,,,,,,,,,,,2
 = 4,2,C8,19000101,99991231,1,V,(none),,,,,,,,,,,3
 table profile
+= number,v1,v2,v3,v4,v5,v6
 = 0,,,(no card),,,
 = 1,,,(unknown),,,
 = 2,,,high,,,
@@ -105,30 +113,36 @@ send migrate m5
 > bands-of-rows
 = accepted 22: 0 records, 0 placeholders
 table product
+= surrogate,durable,natural,from_day,to_day,is_current,a1,a2,a3,a4,a5,a6,b1,b2,b3,b4,b5,b6,profile_now
 = 1,1,P1,19000101,20240119,0,Cola 1 l,Acme,Drinks,Grocery,2019,South,,,Soft drinks,,,East,0
 = 3,1,P1,20240201,20240331,0,Cola 1 l,Cask,Drinks,Grocery,2019,South,,,Soft drinks,,,East,0
 = 4,1,P1,20240120,20240131,0,Cola 1 l,Bolt,Drinks,Grocery,2019,South,,,Soft drinks,,,East,0
 = 6,1,P1,20240401,99991231,1,Cola 1 l,Cask,Soft drinks,Grocery,2019,South,,,Soft drinks,,,East,0
 = 9,2,P9,19000101,99991231,1,Tea 50,Leaf,Drinks,Grocery,2024,North,,,Drinks,,,(none),0
 table store
+= surrogate,durable,natural,from_day,to_day,is_current,a1,a2,a3,a4,a5,a6,b1,b2,b3,b4,b5,b6,profile_now
 = 1,1,S1,19000101,99991231,1,(unknown),,,,,,,,,,,,0
 table member
+= dim,durable,natural,opening
 = 1,1,P1,1
 = 1,2,P9,9
 = 2,1,S1,1
 = 3,1,C9,1
 = 3,2,C8,4
 table customer
+= surrogate,durable,natural,from_day,to_day,is_current,a1,a2,a3,a4,a5,a6,b1,b2,b3,b4,b5,b6,profile_now
 = 0,0,(no card),19000101,99991231,1,(no card),,,,,,,,,,,,0
 = 1,1,C9,19000101,99991231,1,Gold,,,,,,,,,,,,3
 = 4,2,C8,19000101,99991231,1,V,,,,,,,,,,,,4
 table profile
+= number,v1,v2,v3,v4,v5,v6
 = 0,,(no card),(no card),,,
 = 1,,(unknown),(unknown),,,
 = 2,,30-39,high,,,
 = 3,,40-49,high,,,
 = 4,,(none),(none),,,
 table fact
+= ticket,line,day,store_key,product_key,customer_key,store_durable,product_durable,customer_durable,profile,quantity,amount,cost
 = T0,1,20231231,1,1,0,1,1,0,0,1,250,160
 = T1,1,20240205,1,3,0,1,1,0,0,2,500,320
 = T2,1,20240610,1,9,1,1,2,1,2,1,1000,700
@@ -144,14 +158,17 @@ send migrate m1
 = accepted 6: 0 records, 0 placeholders
 load p3 p3
 table product
+= surrogate,durable,natural,from_day,to_day,is_current,a1,a2,a3,a4,a5,a6,b1,b2,b3,b4,b5,b6,profile_now
 = 1,1,P1,19000101,99991231,1,Cola 1l,Bolt,Drinks,Grocery,2019,North,,,Drinks,,,(none),0
 send migrate m2
 > bands-of-rows
 = accepted 8: 0 records, 0 placeholders
 table product
+= surrogate,durable,natural,from_day,to_day,is_current,a1,a2,a3,a4,a5,a6,b1,b2,b3,b4,b5,b6,profile_now
 = 1,1,P1,19000101,20240119,0,Cola 1l,Acme,Drinks,Grocery,2019,North,,,Drinks,,,(none),0
 = 4,1,P1,20240120,99991231,1,Cola 1l,Bolt,Drinks,Grocery,2019,North,,,Drinks,,,(none),0
 table fact
+= ticket,line,day,store_key,product_key,customer_key,store_durable,product_durable,customer_durable,profile,quantity,amount,cost
 = T0,1,20231231,1,1,0,1,1,0,0,1,250,160
 = T1,1,20240205,1,4,0,1,1,0,0,2,500,320
 
@@ -171,12 +188,14 @@ send sales s2
 send migrate m4
 > region-and-2027
 = accepted 6: 0 records, 0 placeholders
+# The command, the store's row and the 365 days of 2027.
 writes
 = written 367
 policy
 = last year 2027
 = attributes of a product 6
 table store
+= surrogate,durable,natural,from_day,to_day,is_current,a1,a2,a3,a4,a5,a6,b1,b2,b3,b4,b5,b6,profile_now
 = 1,1,S1,19000101,99991231,1,(unknown),(unknown),,,,,,,,,,,0
 send sales s2
 > ticket,line,day,store,product,customer,quantity,amount,cost
@@ -237,17 +256,21 @@ send migrate m1
 > one-more-each
 = accepted 5: 0 records, 0 placeholders
 table product
+= surrogate,durable,natural,from_day,to_day,is_current,a1,a2,a3,a4,a5,a6,b1,b2,b3,b4,b5,b6,profile_now
 = 1,1,P1,19000101,99991231,1,Acme,(none),,,,,,,,,,,0
 table store
+= surrogate,durable,natural,from_day,to_day,is_current,a1,a2,a3,a4,a5,a6,b1,b2,b3,b4,b5,b6,profile_now
 = 1,1,S1,19000101,99991231,1,(unknown),(unknown),,,,,,(none),,,,,0
 send product p2
 > id,day,brand,supplier
 > P1,2024-02-15,Acme,North
 = accepted 6: 1 records, 0 placeholders
 table product
+= surrogate,durable,natural,from_day,to_day,is_current,a1,a2,a3,a4,a5,a6,b1,b2,b3,b4,b5,b6,profile_now
 = 1,1,P1,19000101,20240214,0,Acme,(none),,,,,,,,,,,0
 = 3,1,P1,20240215,99991231,1,Acme,North,,,,,,,,,,,0
 table fact
+= ticket,line,day,store_key,product_key,customer_key,store_durable,product_durable,customer_durable,profile,quantity,amount,cost
 = T1,1,20240301,1,3,1,1,1,1,2,1,250,160
 
 # A sale whose product and customer both move has one edit.
@@ -267,6 +290,7 @@ send sales s1
 > T1,1,2024-03-05,S1,P1,C1,1,2.50,1.60
 = accepted 4: 1 records, 1 placeholders
 table fact
+= ticket,line,day,store_key,product_key,customer_key,store_durable,product_durable,customer_durable,profile,quantity,amount,cost
 = T1,1,20240305,1,3,3,1,1,1,2,1,250,160
 plan migrate m1
 > first_year = 2024

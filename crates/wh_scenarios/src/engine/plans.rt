@@ -138,6 +138,7 @@ sql UPDATE product SET to_day = 99991231 WHERE surrogate = 9
 open
 = opened
 table product
+= surrogate,durable,natural,from_day,to_day,is_current,a1,a2,a3,a4,a5,a6,b1,b2,b3,b4,b5,b6,profile_now
 = 1,1,P1,19000101,20240119,0,Cola 1 l,Acme,Drinks,Grocery,2019,South,,,Soft drinks,,,East,0
 = 3,1,P1,20240201,20240229,0,Cola 1 l,Dash,Drinks,Grocery,2019,South,,,Soft drinks,,,East,0
 = 4,1,P1,20240120,20240131,0,Cola 1 l,Bolt,Drinks,Grocery,2019,South,,,Soft drinks,,,East,0
@@ -145,6 +146,7 @@ table product
 = 6,1,P1,20240401,99991231,1,Cola 1 l,Cask,Soft drinks,Grocery,2019,South,,,Soft drinks,,,East,0
 = 9,2,P9,19000101,99991231,1,Tea 50,Leaf,Drinks,Grocery,2024,North,,,Drinks,,,(none),0
 table fact
+= ticket,line,day,store_key,product_key,customer_key,store_durable,product_durable,customer_durable,profile,quantity,amount,cost
 = T0,1,20231231,1,1,0,1,1,0,0,1,250,160
 = T1,1,20240205,1,3,0,1,1,0,0,2,500,320
 = T2,1,20240610,1,9,1,1,2,1,2,1,1000,700

@@ -10,28 +10,33 @@ send sales s1
 > T0,1,2023-12-31,S1,P1,,1,2.5,1.60
 = accepted 5: 2 records, 1 placeholders
 table fact
+= ticket,line,day,store_key,product_key,customer_key,store_durable,product_durable,customer_durable,profile,quantity,amount,cost
 = T0,1,20231231,1,1,0,1,1,0,0,1,250,160
 = T1,1,20240205,1,3,0,1,1,0,0,2,500,320
 
 # A late record moves a sale.
 load p3 p3
 table fact
+= ticket,line,day,store_key,product_key,customer_key,store_durable,product_durable,customer_durable,profile,quantity,amount,cost
 = T0,1,20231231,1,1,0,1,1,0,0,1,250,160
 = T1,1,20240205,1,4,0,1,1,0,0,2,500,320
 
 # A later one moves it back.
 load p4 p4
 table fact
+= ticket,line,day,store_key,product_key,customer_key,store_durable,product_durable,customer_durable,profile,quantity,amount,cost
 = T0,1,20231231,1,1,0,1,1,0,0,1,250,160
 = T1,1,20240205,1,3,0,1,1,0,0,2,500,320
 
 # Records that make no row of its day leave a sale where it is.
 load p5 p5
 table fact
+= ticket,line,day,store_key,product_key,customer_key,store_durable,product_durable,customer_durable,profile,quantity,amount,cost
 = T0,1,20231231,1,1,0,1,1,0,0,1,250,160
 = T1,1,20240205,1,3,0,1,1,0,0,2,500,320
 load p6 p8
 table fact
+= ticket,line,day,store_key,product_key,customer_key,store_durable,product_durable,customer_durable,profile,quantity,amount,cost
 = T0,1,20231231,1,1,0,1,1,0,0,1,250,160
 = T1,1,20240205,1,3,0,1,1,0,0,2,500,320
 
@@ -41,17 +46,21 @@ send sales s2
 > T2,1,2024-06-10,S1,P9,C9,1,10.00,7.00
 = accepted 12: 1 records, 2 placeholders
 table fact
+= ticket,line,day,store_key,product_key,customer_key,store_durable,product_durable,customer_durable,profile,quantity,amount,cost
 = T0,1,20231231,1,1,0,1,1,0,0,1,250,160
 = T1,1,20240205,1,3,0,1,1,0,0,2,500,320
 = T2,1,20240610,1,9,1,1,2,1,1,1,1000,700
 table store
+= surrogate,durable,natural,from_day,to_day,is_current,a1,a2,a3,a4,a5,a6,b1,b2,b3,b4,b5,b6,profile_now
 = 1,1,S1,19000101,99991231,1,(unknown),,,,,,,,,,,,0
 table customer
+= surrogate,durable,natural,from_day,to_day,is_current,a1,a2,a3,a4,a5,a6,b1,b2,b3,b4,b5,b6,profile_now
 = 0,0,(no card),19000101,99991231,1,(no card),,,,,,,,,,,,0
 = 1,1,C9,19000101,99991231,1,(unknown),,,,,,,,,,,,0
 
 # The numbers 7 and 8 were drawn by days of the first product.
 table product
+= surrogate,durable,natural,from_day,to_day,is_current,a1,a2,a3,a4,a5,a6,b1,b2,b3,b4,b5,b6,profile_now
 = 1,1,P1,19000101,20240119,0,Cola 1 l,Acme,Drinks,Grocery,2019,South,,,Soft drinks,,,East,0
 = 3,1,P1,20240201,20240331,0,Cola 1 l,Cask,Drinks,Grocery,2019,South,,,Soft drinks,,,East,0
 = 4,1,P1,20240120,20240131,0,Cola 1 l,Bolt,Drinks,Grocery,2019,South,,,Soft drinks,,,East,0
@@ -60,9 +69,11 @@ table product
 
 # The unknown profile is there from the start.
 table profile
+= number,v1,v2,v3,v4,v5,v6
 = 0,,,,,,
 = 1,,,,,,
 table member
+= dim,durable,natural,opening
 = 1,1,P1,1
 = 1,2,P9,9
 = 2,1,S1,1
@@ -70,11 +81,13 @@ table member
 
 # A batch is kept to the byte, with its counts.
 command 5
+= number,id,kind,bytes,records,placeholders
 = 5,s1,sales,ticket,line,day,store,product,customer,quantity,amount,cost
 = T1,1,2024-02-05,S1,P1,,2,5.00,3.20
 = T0,1,2023-12-31,S1,P1,,1,2.5,1.60
 = ,2,1
 command 12
+= number,id,kind,bytes,records,placeholders
 = 12,s2,sales,ticket,line,day,store,product,customer,quantity,amount,cost
 = T2,1,2024-06-10,S1,P9,C9,1,10.00,7.00
 = ,1,2
@@ -93,6 +106,7 @@ send product p9
 > P9,2024-06-05,Tea 50,Leaf,Drinks,Grocery,2024,North
 = accepted 13: 1 records, 0 placeholders
 table fact
+= ticket,line,day,store_key,product_key,customer_key,store_durable,product_durable,customer_durable,profile,quantity,amount,cost
 = T0,1,20231231,1,1,0,1,1,0,0,1,250,160
 = T1,1,20240205,1,3,0,1,1,0,0,2,500,320
 = T2,1,20240610,1,9,1,1,2,1,1,1,1000,700
@@ -103,25 +117,30 @@ send customer c1
 > C9,2024-06-08,Gold
 = accepted 14: 1 records, 0 placeholders
 table fact
+= ticket,line,day,store_key,product_key,customer_key,store_durable,product_durable,customer_durable,profile,quantity,amount,cost
 = T0,1,20231231,1,1,0,1,1,0,0,1,250,160
 = T1,1,20240205,1,3,0,1,1,0,0,2,500,320
 = T2,1,20240610,1,9,1,1,2,1,2,1,1000,700
 
 # A placeholder is filled where it stands, and makes no member.
 table product
+= surrogate,durable,natural,from_day,to_day,is_current,a1,a2,a3,a4,a5,a6,b1,b2,b3,b4,b5,b6,profile_now
 = 1,1,P1,19000101,20240119,0,Cola 1 l,Acme,Drinks,Grocery,2019,South,,,Soft drinks,,,East,0
 = 3,1,P1,20240201,20240331,0,Cola 1 l,Cask,Drinks,Grocery,2019,South,,,Soft drinks,,,East,0
 = 4,1,P1,20240120,20240131,0,Cola 1 l,Bolt,Drinks,Grocery,2019,South,,,Soft drinks,,,East,0
 = 6,1,P1,20240401,99991231,1,Cola 1 l,Cask,Soft drinks,Grocery,2019,South,,,Soft drinks,,,East,0
 = 9,2,P9,19000101,99991231,1,Tea 50,Leaf,Drinks,Grocery,2024,North,,,Drinks,,,(none),0
 table customer
+= surrogate,durable,natural,from_day,to_day,is_current,a1,a2,a3,a4,a5,a6,b1,b2,b3,b4,b5,b6,profile_now
 = 0,0,(no card),19000101,99991231,1,(no card),,,,,,,,,,,,0
 = 1,1,C9,19000101,99991231,1,Gold,,,,,,,,,,,,0
 table profile
+= number,v1,v2,v3,v4,v5,v6
 = 0,,,,,,
 = 1,,,,,,
 = 2,,,,,,
 table member
+= dim,durable,natural,opening
 = 1,1,P1,1
 = 1,2,P9,9
 = 2,1,S1,1
@@ -133,6 +152,7 @@ send customer c2
 > C9,2024-06-10,Silver
 = accepted 15: 1 records, 0 placeholders
 table fact
+= ticket,line,day,store_key,product_key,customer_key,store_durable,product_durable,customer_durable,profile,quantity,amount,cost
 = T0,1,20231231,1,1,0,1,1,0,0,1,250,160
 = T1,1,20240205,1,3,0,1,1,0,0,2,500,320
 = T2,1,20240610,1,9,3,1,2,1,2,1,1000,700
@@ -158,6 +178,7 @@ send customer c2
 > C9,2024-06-10,Silver
 = accepted 15: 1 records, 0 placeholders
 table fact
+= ticket,line,day,store_key,product_key,customer_key,store_durable,product_durable,customer_durable,profile,quantity,amount,cost
 = T0,1,20231231,1,1,0,1,1,0,0,1,250,160
 = T1,1,20240205,1,3,0,1,1,0,0,2,500,320
 = T2,1,20240610,1,9,3,1,2,1,2,1,1000,700
@@ -175,6 +196,7 @@ send store b1
 > S1,2024-02-01,Basel
 = accepted 6: 2 records, 0 placeholders
 table fact
+= ticket,line,day,store_key,product_key,customer_key,store_durable,product_durable,customer_durable,profile,quantity,amount,cost
 = T0,1,20231231,1,1,0,1,1,0,0,1,250,160
 = T1,1,20240205,3,3,0,1,1,0,0,2,500,320
 
@@ -187,6 +209,7 @@ load p3 p4
 batch s4
 = accepted 8: 1 records, 0 placeholders
 table fact
+= ticket,line,day,store_key,product_key,customer_key,store_durable,product_durable,customer_durable,profile,quantity,amount,cost
 = T0,1,20231231,1,1,0,1,1,0,0,1,250,160
 = T1,1,20240205,1,3,0,1,1,0,0,2,500,320
 = T4,1,20240229,1,3,0,1,1,0,0,1,250,160
@@ -200,10 +223,12 @@ send sales s1
 > T1,3,2024-01-05,X1,X1,X1,1,1.00,0.50
 = accepted 2: 3 records, 3 placeholders
 table member
+= dim,durable,natural,opening
 = 1,1,X1,1
 = 2,1,X1,1
 = 3,1,X1,1
 table fact
+= ticket,line,day,store_key,product_key,customer_key,store_durable,product_durable,customer_durable,profile,quantity,amount,cost
 = T1,1,20240105,1,1,1,1,1,1,1,1,100,50
 = T1,2,20240105,1,1,0,1,1,0,0,1,100,50
 = T1,3,20240105,1,1,1,1,1,1,1,1,100,50
@@ -259,9 +284,11 @@ send sales s1
 > T02,1,2024-01-15,S1,P1,,2,2.05,1.20
 > T01,1,2024-02-05,S1,P1,,1,1.05,0.60
 = accepted 5: 35 records, 1 placeholders
+# The command, the store that nothing mentioned with its row, and 35 facts.
 writes
 = written 38
 table fact
+= ticket,line,day,store_key,product_key,customer_key,store_durable,product_durable,customer_durable,profile,quantity,amount,cost
 = T01,1,20240205,1,3,0,1,1,0,0,1,105,60
 = T02,1,20240115,1,1,0,1,1,0,0,2,205,120
 = T03,1,20240205,1,3,0,1,1,0,0,3,305,180

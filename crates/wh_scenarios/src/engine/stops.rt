@@ -43,6 +43,7 @@ stops either batch s2
 batch s2
 = accepted 12: 1 records, 2 placeholders
 table member
+= dim,durable,natural,opening
 = 1,1,P1,1
 = 1,2,P9,9
 = 2,1,S1,1
@@ -111,9 +112,11 @@ counts
 = stores 1
 = customers 1
 table product
+= surrogate,durable,natural,from_day,to_day,is_current,a1,a2,a3,a4,a5,a6,b1,b2,b3,b4,b5,b6,profile_now
 = 1,1,P1,19000101,99991231,1,Cola 1l,Bolt,Drinks,Grocery,2019,North,,,Drinks,,,(none),0
 = 5,2,P9,19000101,99991231,1,(unknown),(unknown),(unknown),(unknown),(unknown),(unknown),,,(unknown),,,(none),0
 table fact
+= ticket,line,day,store_key,product_key,customer_key,store_durable,product_durable,customer_durable,profile,quantity,amount,cost
 = T0,1,20231231,1,1,0,1,1,0,0,1,250,160
 = T1,1,20240205,1,1,0,1,1,0,0,2,500,320
 = T2,1,20240610,1,5,1,1,2,1,2,1,1000,700

@@ -38,6 +38,7 @@ writes
 = written 10
 table fact
 table fact2
+= ticket,line,day,store_key,product_key,customer_key,store_durable,product_durable,customer_durable,profile,quantity,amount,cost,discount
 = T0,1,20231231,1,1,0,1,1,0,0,1,250,160,0
 = T1,1,20240205,1,3,0,1,1,0,0,2,500,320,0
 = T2,1,20240610,1,9,1,1,2,1,2,1,1000,700,0
@@ -99,10 +100,12 @@ send sales s5
 > ticket,line,day,store,product,customer,quantity,amount,cost,discount
 > T5,1,2024-07-05,S1,P1,C9,2,5.00,3.20,0.5
 = accepted 22: 1 records, 0 placeholders
+# The command and the fact.
 writes
 = written 2
 table fact
 table fact2
+= ticket,line,day,store_key,product_key,customer_key,store_durable,product_durable,customer_durable,profile,quantity,amount,cost,discount
 = T0,1,20231231,1,1,0,1,1,0,0,1,250,160,0
 = T1,1,20240205,1,3,0,1,1,0,0,2,500,320,0
 = T2,1,20240610,1,9,1,1,2,1,2,1,1000,700,0
@@ -149,6 +152,7 @@ send sales s1
 = accepted 3: 2 records, 1 placeholders
 send upgrade u1
 = accepted 4: 0 records, 0 placeholders
+# The format, the command, and two facts that leave one table for the other.
 writes
 = written 6
 send sales s2
@@ -171,6 +175,7 @@ send product p2
 > P1,2024-03-01,Bolt
 = accepted 6: 1 records, 0 placeholders
 table fact2
+= ticket,line,day,store_key,product_key,customer_key,store_durable,product_durable,customer_durable,profile,quantity,amount,cost,discount
 = T0,1,20240214,1,1,0,1,1,0,0,1,250,160,0
 = T1,1,20240305,1,3,0,1,1,0,0,1,250,160,0
 = T2,1,20240220,1,1,0,1,1,0,0,1,250,160,999999999
@@ -181,13 +186,16 @@ send product p3
 > id,day,brand
 > P1,2024-02-15,Cask
 = accepted 7: 1 records, 0 placeholders
+# The command, its record, the row that ends earlier, the new one, and the fact T2.
 writes
 = written 5
 table product
+= surrogate,durable,natural,from_day,to_day,is_current,a1,a2,a3,a4,a5,a6,b1,b2,b3,b4,b5,b6,profile_now
 = 1,1,P1,19000101,20240214,0,Acme,,,,,,,,,,,,0
 = 3,1,P1,20240301,99991231,1,Bolt,,,,,,,,,,,,0
 = 4,1,P1,20240215,20240229,0,Cask,,,,,,,,,,,,0
 table fact2
+= ticket,line,day,store_key,product_key,customer_key,store_durable,product_durable,customer_durable,profile,quantity,amount,cost,discount
 = T0,1,20240214,1,1,0,1,1,0,0,1,250,160,0
 = T1,1,20240305,1,3,0,1,1,0,0,1,250,160,0
 = T2,1,20240220,1,4,0,1,1,0,0,1,250,160,999999999
@@ -207,6 +215,7 @@ send migrate m1
 = accepted 8: 0 records, 0 placeholders
 table fact
 table fact2
+= ticket,line,day,store_key,product_key,customer_key,store_durable,product_durable,customer_durable,profile,quantity,amount,cost,discount
 = T0,1,20240214,1,1,0,1,1,0,0,1,250,160,0
 = T1,1,20240305,1,1,0,1,1,0,0,1,250,160,0
 = T2,1,20240220,1,1,0,1,1,0,0,1,250,160,999999999
@@ -215,6 +224,7 @@ send migrate m2
 > small
 = accepted 9: 0 records, 0 placeholders
 table fact2
+= ticket,line,day,store_key,product_key,customer_key,store_durable,product_durable,customer_durable,profile,quantity,amount,cost,discount
 = T0,1,20240214,1,1,0,1,1,0,0,1,250,160,0
 = T1,1,20240305,1,3,0,1,1,0,0,1,250,160,0
 = T2,1,20240220,1,4,0,1,1,0,0,1,250,160,999999999
@@ -238,6 +248,7 @@ send sales s2
 make small
 send upgrade u1
 = accepted 2: 0 records, 0 placeholders
+# The format and the command.
 writes
 = written 2
 send sales s1
@@ -245,6 +256,7 @@ send sales s1
 > T1,1,2024-03-05,S1,P1,,1,2.50,1.60,0.01
 = accepted 3: 1 records, 2 placeholders
 table fact2
+= ticket,line,day,store_key,product_key,customer_key,store_durable,product_durable,customer_durable,profile,quantity,amount,cost,discount
 = T1,1,20240305,1,1,0,1,1,0,0,1,250,160,1
 check
 = clean
@@ -273,6 +285,7 @@ deliver
 = refused: Upgraded
 = accepted 5: 1 records, 0 placeholders
 table fact2
+= ticket,line,day,store_key,product_key,customer_key,store_durable,product_durable,customer_durable,profile,quantity,amount,cost,discount
 = T1,1,20240305,1,1,0,1,1,0,0,1,250,160,0
 = T2,1,20240306,1,1,0,1,1,0,0,1,250,160,25
 check

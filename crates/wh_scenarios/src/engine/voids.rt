@@ -56,11 +56,13 @@ send void v1
 writes
 = written 3
 table fact2
+= ticket,line,day,store_key,product_key,customer_key,store_durable,product_durable,customer_durable,profile,quantity,amount,cost,discount
 = T0,1,20231231,1,1,0,1,1,0,0,1,250,160,0
 = T2,1,20240610,1,9,1,1,2,1,2,1,1000,700,0
 = T4,1,20240229,1,3,0,1,1,0,0,1,250,160,0
 = T5,1,20240705,1,6,1,1,1,1,3,2,500,320,50
 table void
+= ticket,line,command
 = T1,1,23
 counts
 = format 2
@@ -148,9 +150,11 @@ send product p2
 writes
 = written 5
 table fact2
+= ticket,line,day,store_key,product_key,customer_key,store_durable,product_durable,customer_durable,profile,quantity,amount,cost,discount
 = T3,1,20240105,1,1,0,1,1,0,0,1,250,160,0
 = T4,1,20240306,1,3,0,1,1,0,0,1,250,160,0
 table void
+= ticket,line,command
 = T1,1,5
 
 # So it is under another policy.
@@ -167,9 +171,11 @@ send migrate m2
 > small
 = accepted 8: 0 records, 0 placeholders
 table fact2
+= ticket,line,day,store_key,product_key,customer_key,store_durable,product_durable,customer_durable,profile,quantity,amount,cost,discount
 = T3,1,20240105,1,1,0,1,1,0,0,1,250,160,0
 = T4,1,20240306,1,3,0,1,1,0,0,1,250,160,0
 table void
+= ticket,line,command
 = T1,1,5
 check
 = clean
@@ -208,9 +214,11 @@ send sales s3
 > T6,1,2024-04-02,S1,P9,,1,1.00,0.50,0
 = accepted 11: 1 records, 0 placeholders
 table fact2
+= ticket,line,day,store_key,product_key,customer_key,store_durable,product_durable,customer_durable,profile,quantity,amount,cost,discount
 = T3,1,20240105,1,1,0,1,1,0,0,1,250,160,0
 = T6,1,20240402,1,4,0,1,2,0,0,1,100,50,0
 table void
+= ticket,line,command
 = T1,1,5
 = T4,1,10
 = T5,1,10
@@ -227,6 +235,7 @@ table fact2
 send void v4
 > ticket,line
 = accepted 13: 0 records, 0 placeholders
+# The command.
 writes
 = written 1
 check
@@ -264,8 +273,10 @@ deliver
 = refused: NoLine(1)
 = refused: LineThere(1)
 table fact2
+= ticket,line,day,store_key,product_key,customer_key,store_durable,product_durable,customer_durable,profile,quantity,amount,cost,discount
 = T1,1,20240305,1,1,0,1,1,0,0,1,250,160,0
 table void
+= ticket,line,command
 = T1,2,4
 check
 = clean

@@ -29,6 +29,7 @@ counts
 = stores 0
 = customers 0
 table product
+= surrogate,durable,natural,from_day,to_day,is_current,a1,a2,a3,a4,a5,a6,b1,b2,b3,b4,b5,b6,profile_now
 = 1,1,P1,19000101,20240119,0,Cola 1 l,Acme,Drinks,Grocery,2019,South,,,Soft drinks,,,East,0
 = 3,1,P1,20240201,20240331,0,Cola 1 l,Cask,Drinks,Grocery,2019,South,,,Soft drinks,,,East,0
 = 4,1,P1,20240120,20240131,0,Cola 1 l,Bolt,Drinks,Grocery,2019,South,,,Soft drinks,,,East,0
@@ -43,26 +44,31 @@ table product
 # The earliest day draws the number 2, which names no row.
 load p1 p2
 table product
+= surrogate,durable,natural,from_day,to_day,is_current,a1,a2,a3,a4,a5,a6,b1,b2,b3,b4,b5,b6,profile_now
 = 1,1,P1,19000101,20240131,0,Cola 1l,Acme,Drinks,Grocery,2019,North,,,Drinks,,,(none),0
 = 3,1,P1,20240201,99991231,1,Cola 1l,Bolt,Drinks,Grocery,2019,North,,,Drinks,,,(none),0
 
 # The brand came earlier.
 load p3 p3
 table product
+= surrogate,durable,natural,from_day,to_day,is_current,a1,a2,a3,a4,a5,a6,b1,b2,b3,b4,b5,b6,profile_now
 = 1,1,P1,19000101,20240119,0,Cola 1l,Acme,Drinks,Grocery,2019,North,,,Drinks,,,(none),0
 = 4,1,P1,20240120,99991231,1,Cola 1l,Bolt,Drinks,Grocery,2019,North,,,Drinks,,,(none),0
 table member
+= dim,durable,natural,opening
 = 1,1,P1,1
 
 # A day is told again, and a row is there again under its number.
 load p4 p4
 table product
+= surrogate,durable,natural,from_day,to_day,is_current,a1,a2,a3,a4,a5,a6,b1,b2,b3,b4,b5,b6,profile_now
 = 1,1,P1,19000101,20240119,0,Cola 1l,Acme,Drinks,Grocery,2019,North,,,Drinks,,,(none),0
 = 3,1,P1,20240201,99991231,1,Cola 1l,Cask,Drinks,Grocery,2019,North,,,Drinks,,,(none),0
 = 4,1,P1,20240120,20240131,0,Cola 1l,Bolt,Drinks,Grocery,2019,North,,,Drinks,,,(none),0
 
 # All accepted records are kept, two of them of one day.
 table change
+= command,record,dim,durable,day,anchor,v1,v2,v3,v4,v5,v6
 = 3,1,1,1,20240110,2,Cola 1l,Acme,Drinks,Grocery,2019,North
 = 4,1,1,1,20240201,3,Cola 1l,Bolt,Drinks,Grocery,2019,North
 = 5,1,1,1,20240120,4,Cola 1l,Bolt,Drinks,Grocery,2019,North
@@ -71,6 +77,7 @@ table change
 # Every row shows the latest description.
 load p5 p5
 table product
+= surrogate,durable,natural,from_day,to_day,is_current,a1,a2,a3,a4,a5,a6,b1,b2,b3,b4,b5,b6,profile_now
 = 1,1,P1,19000101,20240119,0,Cola 1 l,Acme,Drinks,Grocery,2019,North,,,Drinks,,,(none),0
 = 3,1,P1,20240201,99991231,1,Cola 1 l,Cask,Drinks,Grocery,2019,North,,,Drinks,,,(none),0
 = 4,1,P1,20240120,20240131,0,Cola 1 l,Bolt,Drinks,Grocery,2019,North,,,Drinks,,,(none),0
@@ -78,6 +85,7 @@ table product
 # Every row shows the latest category beside its own.
 load p6 p6
 table product
+= surrogate,durable,natural,from_day,to_day,is_current,a1,a2,a3,a4,a5,a6,b1,b2,b3,b4,b5,b6,profile_now
 = 1,1,P1,19000101,20240119,0,Cola 1 l,Acme,Drinks,Grocery,2019,North,,,Soft drinks,,,(none),0
 = 3,1,P1,20240201,20240331,0,Cola 1 l,Cask,Drinks,Grocery,2019,North,,,Soft drinks,,,(none),0
 = 4,1,P1,20240120,20240131,0,Cola 1 l,Bolt,Drinks,Grocery,2019,North,,,Soft drinks,,,(none),0
@@ -86,6 +94,7 @@ table product
 # Every row shows the latest supplier and the prior one, and the first year of launch.
 load p7 p7
 table product
+= surrogate,durable,natural,from_day,to_day,is_current,a1,a2,a3,a4,a5,a6,b1,b2,b3,b4,b5,b6,profile_now
 = 1,1,P1,19000101,20240119,0,Cola 1 l,Acme,Drinks,Grocery,2019,South,,,Soft drinks,,,North,0
 = 3,1,P1,20240201,20240331,0,Cola 1 l,Cask,Drinks,Grocery,2019,South,,,Soft drinks,,,North,0
 = 4,1,P1,20240120,20240131,0,Cola 1 l,Bolt,Drinks,Grocery,2019,South,,,Soft drinks,,,North,0
@@ -94,6 +103,7 @@ table product
 # A backdated record may change the prior supplier.
 load p8 p8
 table product
+= surrogate,durable,natural,from_day,to_day,is_current,a1,a2,a3,a4,a5,a6,b1,b2,b3,b4,b5,b6,profile_now
 = 1,1,P1,19000101,20240119,0,Cola 1 l,Acme,Drinks,Grocery,2019,South,,,Soft drinks,,,East,0
 = 3,1,P1,20240201,20240331,0,Cola 1 l,Cask,Drinks,Grocery,2019,South,,,Soft drinks,,,East,0
 = 4,1,P1,20240120,20240131,0,Cola 1 l,Bolt,Drinks,Grocery,2019,South,,,Soft drinks,,,East,0

@@ -416,6 +416,7 @@ ended check w x
 run init w policy.toml
 = accepted 1 init: 0 records, 0 placeholders
 = status 0
+# The six bytes of a line `clean`.
 breaks 5 check w
 = status 0
 = 2 calls

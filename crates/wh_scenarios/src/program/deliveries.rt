@@ -526,6 +526,105 @@ run deliver w good.csv
 = status 0
 "#;
 
+/// Deliveries whose writer fails.
+pub const CUT_OFF: &str = r#"
+policy flat.toml
+bytes p1.csv id,day,description,brand,category,department,launched,supplier\nP1,2024-01-10,Cola 1l,Acme,Drinks,Grocery,2019,North\n
+bytes p2.csv id,day,description,brand,category,department,launched,supplier\nP1,2024-02-01,Cola 1l,Bolt,Drinks,Grocery,2019,North\n
+file s1.csv
+> ticket,line,day,store,product,customer,quantity,amount,cost
+> T1,1,2024-02-05,S1,P1,,2,5.00,3.20
+> T0,1,2023-12-31,S1,P1,,1,2.5,1.60
+file three.csv
+> product,p1,p1.csv
+> sales,s1,s1.csv
+> product,p2,p2.csv
+
+# The writer fails within the second line: two commands are kept, and the third isn't begun.
+run init w flat.toml
+= accepted 1 init: 0 records, 0 placeholders
+= status 0
+fails 10 7 8 deliver w three.csv
+= accepted 2 p1: 1 records, 0 placeholders
+= accepted 3 s1: 2 recfailed: G4 write
+= status 3
+run status w
+= format 1
+= commands 3
+= changes 1
+= facts 2
+= members product 1 store 1 customer 0
+= status 0
+
+# It fails from the last byte of the second line on: no byte of the line of the failure can be written.
+anew
+run init w flat.toml
+= accepted 1 init: 0 records, 0 placeholders
+= status 0
+fails 10 9 2048 deliver w three.csv
+= accepted 2 p1: 1 records, 0 placeholders
+= accepted 3 s1: 2 records, 1 placeholders
+= and no end of the line
+= status 3
+run status w
+= format 1
+= commands 3
+= changes 1
+= facts 2
+= members product 1 store 1 customer 0
+= status 0
+
+# It fails at once: the first command alone is kept. The delivery sent again takes up the others.
+anew
+run init w flat.toml
+= accepted 1 init: 0 records, 0 placeholders
+= status 0
+fails 10 0 1 deliver w three.csv
+= failed: G4 write
+= status 3
+run deliver w three.csv
+= already 2 p1: 1 records, 0 placeholders
+= accepted 3 s1: 2 records, 1 placeholders
+= accepted 4 p2: 1 records, 0 placeholders
+= status 0
+# Three lines of 40 bytes.
+breaks 10 deliver w three.csv
+= status 0
+= 12 calls
+= a beginning, and then failed: G4 write where it can be written, status 3
+
+# It fails within the line of a refusal, and within that of what stops the delivery. Nothing behind is begun.
+anew
+run init w flat.toml
+= accepted 1 init: 0 records, 0 placeholders
+= status 0
+file refused.csv
+> store,bad id,p1.csv
+> product,p1,p1.csv
+fails 10 1 2 deliver w refused.csv
+= refused: Efailed: G4 write
+= status 3
+run load w product p1 p1.csv
+= accepted 2 p1: 1 records, 0 placeholders
+= status 0
+sql w UPDATE product SET from_day = 20240632
+file stopped.csv
+> product,p1,p1.csv
+> product,p2,p2.csv
+> sales,s1,s1.csv
+fails 10 5 6 deliver w stopped.csv
+= already 2 p1: 1 records, 0 placeholders
+= failed: E7failed: G4 write
+= status 3
+run status w
+= format 1
+= commands 2
+= changes 1
+= facts 0
+= members product 1 store 0 customer 0
+= status 0
+"#;
+
 pub const UNDELIVERED: &str = r#"
 policy flat.toml
 bytes p1.csv id,day,description,brand,category,department,launched,supplier\nP1,2024-01-10,Cola 1l,Acme,Drinks,Grocery,2019,North\n

@@ -63,7 +63,7 @@ run trial product p.csv
 = 3,1,P1,20240201,99991231,1,Cola 1.0l,Bolt,,,,,,,,,,,0
 = status 0
 
-# Five thousand records are the most.
+# Five thousand records are the most. Each is a row, below the header.
 many p.csv 5000
 lines trial product p.csv
 = 5001 lines
@@ -205,8 +205,8 @@ ended trial
 ended trial product
 = a text
 = status 4
-ended trial shop p.csv
-= a text
+run trial shop p.csv
+= error: DIMENSION is 'shop', and none of product, store and customer
 = status 4
 ended trial product p.csv more
 = a text
@@ -223,8 +223,14 @@ ended trial product p.csv --policy
 ended init w
 = a text
 = status 4
-ended load w shop p1 p1.csv
-= a text
+run load w shop p1 p1.csv
+= error: KIND is 'shop', and none of product, store, customer, sales and void
+= status 4
+run load w migrate p1 p1.csv
+= error: KIND is 'migrate', and none of product, store, customer, sales and void
+= status 4
+run plan w it's p1 p1.csv
+= error: KIND is 'it's', and none of product, store, customer, sales, void, migrate and upgrade
 = status 4
 ended load w product -p1 p1.csv
 = a text
@@ -236,10 +242,51 @@ ended status w v
 = a text
 = status 4
 
-# Help.
+run explain w shop p.csv
+= error: KIND is 'shop', and none of product, store, customer, sales, void, migrate and upgrade
+= status 4
+run explain w shop
+= error: KIND is 'shop', and none of product, store, customer, sales, void, migrate and upgrade
+= status 4
+ended explain w
+= a text
+= status 4
+ended explain w product p.csv more
+= a text
+= status 4
+
+# An explanation reads its input first, if it has one, and makes no warehouse.
+run explain w product none.csv
+= failed: F1 file, none.csv
+= status 3
+run explain w product p.csv
+= failed: N1 not a warehouse
+= status 3
+run explain w upgrade none.csv
+= failed: N1 not a warehouse
+= status 3
+run explain w product
+= failed: N1 not a warehouse
+= status 3
+stands w
+= no
+
+# Help, and the version.
 ended --help
 = a text
 = status 0
+ended help
+= a text
+= status 0
+run --version
+= wh 1.0, for warehouses of the formats 1 and 2
+= status 0
+run -V
+= wh 1.0, for warehouses of the formats 1 and 2
+= status 0
+ended load --version
+= a text
+= status 4
 ended help trial
 = a text
 = status 0
@@ -247,7 +294,7 @@ ended trial --help
 = a text
 = status 0
 
-# A writer that takes ten bytes a call, and fails from a call on, or at a call alone.
+# A writer that takes ten bytes a call, and fails from a call on, or at a call alone: the table of p.csv has 209 bytes.
 breaks 10 trial product p.csv
 = status 0
 = 21 calls

@@ -1,6 +1,8 @@
 //! Values out of their types, values at their edges, and columns that are missing.
 
+/// The answer is how many values were tried, each read if it is good and else told to be damaged.
 pub const SMALL_TABLES: &str = "
+# Values: 10 of number_key, 14 of id, 17 of kind, 10 of bytes, 2 times 14 of number.
 columns command (7, 'c-7', 'sales', x'00ff', 3, 1)
 > number number_key
 > id id
@@ -10,6 +12,7 @@ columns command (7, 'c-7', 'sales', x'00ff', 3, 1)
 > placeholders number
 = 79
 
+# Values: 13 of dim, 2 times 14 of number, 19 of natural.
 columns member (2, 5, 'S5', 8)
 > dim dim
 > durable number
@@ -17,6 +20,7 @@ columns member (2, 5, 'S5', 8)
 > opening number
 = 60
 
+# Values: 4 times 14 of number, 13 of dim, 26 of day, 6 times 27 of slot.
 columns change (7, 3, 2, 5, 20240229, 8, 'Bern', '(none)', '', '', '', '')
 > command number
 > record number
@@ -32,6 +36,7 @@ columns change (7, 3, 2, 5, 20240229, 8, 'Bern', '(none)', '', '', '', '')
 > v6 slot
 = 257
 
+# Values: 10 of number_key, 6 times 27 of slot.
 columns profile (2, '', '30-39', 'high', '', '', '')
 > number number_key
 > v1 slot
@@ -43,7 +48,9 @@ columns profile (2, '', '30-39', 'high', '', '', '')
 = 172
 ";
 
+/// The answer is how many values were tried, each read if it is good and else told to be damaged.
 pub const DIMENSIONS: &str = "
+# Values: 10 of number_key, 2 times 14 of number, 19 of natural, 2 times 26 of day, 11 of flag, 12 times 27 of slot.
 columns product (3, 1, 'P1', 20240201, 99991231, 1, 'Cola', '(none)', '', '', '', '', '', '', '', '', '', '', 0)
 > surrogate number_key
 > durable number
@@ -66,6 +73,7 @@ columns product (3, 1, 'P1', 20240201, 99991231, 1, 'Cola', '(none)', '', '', ''
 > profile_now number
 = 444
 
+# Values: 10 of number_key, 2 times 14 of number, 19 of natural, 2 times 26 of day, 11 of flag, 12 times 27 of slot.
 columns store (3, 1, 'P1', 20240201, 99991231, 1, 'Cola', '(none)', '', '', '', '', '', '', '', '', '', '', 0)
 > surrogate number_key
 > durable number
@@ -88,6 +96,7 @@ columns store (3, 1, 'P1', 20240201, 99991231, 1, 'Cola', '(none)', '', '', '', 
 > profile_now number
 = 444
 
+# Values: 10 of number_key, 2 times 14 of number, 19 of natural, 2 times 26 of day, 11 of flag, 12 times 27 of slot.
 columns customer (3, 1, 'P1', 20240201, 99991231, 1, 'Cola', '(none)', '', '', '', '', '', '', '', '', '', '', 0)
 > surrogate number_key
 > durable number
@@ -122,7 +131,9 @@ columns store (0, 0, 'C1', 19000101, 99991231, 1, '(no card)', '', '', '', '', '
 = 1
 ";
 
+/// The answer is how many values were tried, each read if it is good and else told to be damaged.
 pub const DAYS_AND_FACTS: &str = "
+# Values: 15 of day_key, 3 times 10 of any_text, 6 times 11 of any_number, 11 of flag.
 columns calendar (20240229, '2024-02-29', 2024, 1, 2, 29, 60, 4, 'Thursday', 0, '(none)')
 > date_key day_key
 > iso any_text
@@ -137,6 +148,7 @@ columns calendar (20240229, '2024-02-29', 2024, 1, 2, 29, 60, 4, 'Thursday', 0, 
 > holiday any_text
 = 122
 
+# Values: 14 of ticket, 12 of line, 26 of day, 7 times 14 of number, 12 of quantity, 2 times 14 of amount.
 columns fact ('T1', 1, 20240610, 1, 9, 1, 1, 2, 1, 1, -1, 1000, 700)
 > ticket ticket
 > line line
@@ -154,6 +166,7 @@ columns fact ('T1', 1, 20240610, 1, 9, 1, 1, 2, 1, 1, -1, 1000, 700)
 = 190
 ";
 
+/// Without each of its columns no warehouse is found, so often as a table has columns, and with all of them one is.
 pub const MISSED: &str = "
 missed meta name value
 = 2
@@ -233,6 +246,7 @@ length meta
 = damaged meta
 
 # Meta with good values.
+# Two beside the format and the three limits.
 opens INSERT INTO meta VALUES ('', -9223372036854775808), ('Any, (é)', 9223372036854775807)
 = opened
 length meta

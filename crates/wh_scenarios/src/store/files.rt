@@ -5,6 +5,7 @@ files
 show
 = empty, and then
 = limits 10, 200, 3000
+= meta name, value
 = meta 'changes_max', 200
 = meta 'commands_max', 10
 = meta 'facts_max', 3000
@@ -12,6 +13,7 @@ show
 stops log
 = at each call what was there, or all
 = limits 10, 200, 3000
+= meta name, value
 = meta 'changes_max', 200
 = meta 'commands_max', 10
 = meta 'facts_max', 3000
@@ -28,11 +30,14 @@ write
 = 2 written
 show
 = limits 10, 200, 3000
+= meta name, value
 = meta 'changes_max', 200
 = meta 'commands_max', 10
 = meta 'facts_max', 3000
 = meta 'format', 1
+= product surrogate, durable, natural, from_day, to_day, is_current, a1, a2, a3, a4, a5, a6, b1, b2, b3, b4, b5, b6, profile_now
 = product 1, 1, 'M1', 19000101, 99991231, 1, 'Cola 1l', '', '', '', '', '', '', '', '', '', '', '', 0
+= fact ticket, line, day, store_key, product_key, customer_key, store_durable, product_durable, customer_durable, profile, quantity, amount, cost
 = fact 'T1', 1, 20240610, 1, 1, 0, 1, 1, 0, 0, 1, 150, 100
 stops log
 > row product 1 Cola 1.0l
@@ -44,14 +49,18 @@ stops log
 > commit
 = at each call what was there, or all
 = limits 10, 200, 3000
+= meta name, value
 = meta 'changes_max', 200
 = meta 'commands_max', 10
 = meta 'facts_max', 3000
 = meta 'format', 1
+= product surrogate, durable, natural, from_day, to_day, is_current, a1, a2, a3, a4, a5, a6, b1, b2, b3, b4, b5, b6, profile_now
 = product 1, 1, 'M1', 19000101, 99991231, 1, 'Cola 1.0l', '', '', '', '', '', '', '', '', '', '', '', 0
 = product 2, 2, 'M2', 19000101, 99991231, 1, 'Tea', '', '', '', '', '', '', '', '', '', '', '', 0
 = product 3, 3, 'M3', 19000101, 99991231, 1, 'Milk', '', '', '', '', '', '', '', '', '', '', '', 0
+= store surrogate, durable, natural, from_day, to_day, is_current, a1, a2, a3, a4, a5, a6, b1, b2, b3, b4, b5, b6, profile_now
 = store 1, 1, 'M1', 19000101, 99991231, 1, 'Bern', '', '', '', '', '', '', '', '', '', '', '', 0
+= fact ticket, line, day, store_key, product_key, customer_key, store_durable, product_durable, customer_durable, profile, quantity, amount, cost
 = fact 'T2', 1, 20240610, 1, 1, 0, 1, 1, 0, 0, 1, 150, 100
 ";
 
@@ -60,6 +69,7 @@ files
 show
 = empty, and then
 = limits 10, 200, 3000
+= meta name, value
 = meta 'changes_max', 200
 = meta 'commands_max', 10
 = meta 'facts_max', 3000
@@ -67,6 +77,7 @@ show
 stops database
 = at each call what was there, or all
 = limits 10, 200, 3000
+= meta name, value
 = meta 'changes_max', 200
 = meta 'commands_max', 10
 = meta 'facts_max', 3000
@@ -83,11 +94,14 @@ write
 = 2 written
 show
 = limits 10, 200, 3000
+= meta name, value
 = meta 'changes_max', 200
 = meta 'commands_max', 10
 = meta 'facts_max', 3000
 = meta 'format', 1
+= product surrogate, durable, natural, from_day, to_day, is_current, a1, a2, a3, a4, a5, a6, b1, b2, b3, b4, b5, b6, profile_now
 = product 1, 1, 'M1', 19000101, 99991231, 1, 'Cola 1l', '', '', '', '', '', '', '', '', '', '', '', 0
+= fact ticket, line, day, store_key, product_key, customer_key, store_durable, product_durable, customer_durable, profile, quantity, amount, cost
 = fact 'T1', 1, 20240610, 1, 1, 0, 1, 1, 0, 0, 1, 150, 100
 stops database
 > row product 1 Cola 1.0l
@@ -99,14 +113,18 @@ stops database
 > commit
 = at each call what was there, or all
 = limits 10, 200, 3000
+= meta name, value
 = meta 'changes_max', 200
 = meta 'commands_max', 10
 = meta 'facts_max', 3000
 = meta 'format', 1
+= product surrogate, durable, natural, from_day, to_day, is_current, a1, a2, a3, a4, a5, a6, b1, b2, b3, b4, b5, b6, profile_now
 = product 1, 1, 'M1', 19000101, 99991231, 1, 'Cola 1.0l', '', '', '', '', '', '', '', '', '', '', '', 0
 = product 2, 2, 'M2', 19000101, 99991231, 1, 'Tea', '', '', '', '', '', '', '', '', '', '', '', 0
 = product 3, 3, 'M3', 19000101, 99991231, 1, 'Milk', '', '', '', '', '', '', '', '', '', '', '', 0
+= store surrogate, durable, natural, from_day, to_day, is_current, a1, a2, a3, a4, a5, a6, b1, b2, b3, b4, b5, b6, profile_now
 = store 1, 1, 'M1', 19000101, 99991231, 1, 'Bern', '', '', '', '', '', '', '', '', '', '', '', 0
+= fact ticket, line, day, store_key, product_key, customer_key, store_durable, product_durable, customer_durable, profile, quantity, amount, cost
 = fact 'T2', 1, 20240610, 1, 1, 0, 1, 1, 0, 0, 1, 150, 100
 ";
 
@@ -120,14 +138,17 @@ write left
 = 1 written
 show
 = limits 10, 200, 3000
+= meta name, value
 = meta 'changes_max', 200
 = meta 'commands_max', 10
 = meta 'facts_max', 3000
 = meta 'format', 1
+= store surrogate, durable, natural, from_day, to_day, is_current, a1, a2, a3, a4, a5, a6, b1, b2, b3, b4, b5, b6, profile_now
 = store 1, 1, 'M1', 19000101, 99991231, 1, 'Leeds', '', '', '', '', '', '', '', '', '', '', '', 0
 ask left
 > get store 1
 > count store
+= store surrogate, durable, natural, from_day, to_day, is_current, a1, a2, a3, a4, a5, a6, b1, b2, b3, b4, b5, b6, profile_now
 = store 1, 1, 'M1', 19000101, 99991231, 1, 'Leeds', '', '', '', '', '', '', '', '', '', '', '', 0
 = 1
 
@@ -136,25 +157,31 @@ restart
 > BEGIN; DELETE FROM store
 show
 = limits 10, 200, 3000
+= meta name, value
 = meta 'changes_max', 200
 = meta 'commands_max', 10
 = meta 'facts_max', 3000
 = meta 'format', 1
+= store surrogate, durable, natural, from_day, to_day, is_current, a1, a2, a3, a4, a5, a6, b1, b2, b3, b4, b5, b6, profile_now
 = store 1, 1, 'M1', 19000101, 99991231, 1, 'Leeds', '', '', '', '', '', '', '', '', '', '', '', 0
 ask
 > get store 1
 > count store
+= store surrogate, durable, natural, from_day, to_day, is_current, a1, a2, a3, a4, a5, a6, b1, b2, b3, b4, b5, b6, profile_now
 = store 1, 1, 'M1', 19000101, 99991231, 1, 'Leeds', '', '', '', '', '', '', '', '', '', '', '', 0
 = 1
 ";
 
 pub const AT_PATH: &str = "1 written
 limits 10, 200, 3000
+meta name, value
 meta 'changes_max', 200
 meta 'commands_max', 10
 meta 'facts_max', 3000
 meta 'format', 1
+store surrogate, durable, natural, from_day, to_day, is_current, a1, a2, a3, a4, a5, a6, b1, b2, b3, b4, b5, b6, profile_now
 store 1, 1, 'M1', 19000101, 99991231, 1, 'Leeds', '', '', '', '', '', '', '', '', '', '', '', 0
+store surrogate, durable, natural, from_day, to_day, is_current, a1, a2, a3, a4, a5, a6, b1, b2, b3, b4, b5, b6, profile_now
 store 1, 1, 'M1', 19000101, 99991231, 1, 'Leeds', '', '', '', '', '', '', '', '', '', '', '', 0
 1
 ";

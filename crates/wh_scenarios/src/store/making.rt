@@ -9,6 +9,7 @@ write
 > commit
 = 4 written
 all meta
+= meta name, value
 = meta 'changes_max', 200
 = meta 'commands_max', 10
 = meta 'facts_max', 3000
@@ -19,6 +20,7 @@ close
 open
 = opened
 all meta
+= meta name, value
 = meta 'changes_max', 200
 = meta 'commands_max', 10
 = meta 'facts_max', 3000
@@ -38,6 +40,7 @@ write
 limits
 = limits 100000, 1000000, 1000000
 all meta
+= meta name, value
 = meta 'changes_max', 1000000
 = meta 'commands_max', 100000
 = meta 'facts_max', 1000000

@@ -66,6 +66,7 @@ opens CREATE TABLE notes (x); CREATE INDEX a ON fact (day)
 # The connection that is handed back is as it was.
 opens DROP TABLE fact
 = no warehouse
+# 200 and 10 and 3000, the limits, and 1, the format.
 number SELECT sum(value) FROM meta
 = 3211
 

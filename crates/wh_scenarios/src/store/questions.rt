@@ -13,10 +13,12 @@ put change 8, 1, 2, 6, 20240229, 10, 'Bern', '(none)', '', '', '', '(unknown)'
 
 # Those of one member.
 records store 5
+= change command, record, dim, durable, day, anchor, v1, v2, v3, v4, v5, v6
 = change 6, 4, 2, 5, 20240229, 8, 'Bern', '(none)', '', '', '', '(unknown)'
 = change 6, 5, 2, 5, 20240229, 9, 'Bern', '(none)', '', '', '', '(unknown)'
 = change 7, 3, 2, 5, 20240229, 8, 'Bern', '(none)', '', '', '', '(unknown)'
 records store 6
+= change command, record, dim, durable, day, anchor, v1, v2, v3, v4, v5, v6
 = change 8, 1, 2, 6, 20240229, 10, 'Bern', '(none)', '', '', '', '(unknown)'
 records product 5
 records store 7
@@ -35,6 +37,7 @@ put command 1, 'first', 'sales', x'00ff2c0a', 0, 2
 put command 3, 'third', 'sales', x'00ff2c0a', 0, 2
 put command 2, 'second', 'sales', x'00ff2c0a', 0, 2
 command third
+= command number, id, kind, bytes, records, placeholders
 = command 3, 'third', 'sales', x'00ff2c0a', 0, 2
 command Third
 ";
@@ -46,14 +49,18 @@ put member 2, 2, 'S2', 1
 put member 2, 1, 'M1', 1
 put member 1, 7, 'M1', 1
 member store M1
+= member dim, durable, natural, opening
 = member 2, 1, 'M1', 1
 member product M1
+= member dim, durable, natural, opening
 = member 1, 7, 'M1', 1
 member product S2
 member customer M1
 greatest member store
+= member dim, durable, natural, opening
 = member 2, 2, 'S2', 1
 greatest member product
+= member dim, durable, natural, opening
 = member 1, 7, 'M1', 1
 greatest member customer
 ";
@@ -65,11 +72,14 @@ put fact 'T-1', 30, 20240610, 1, 9, 0, 2, 1, 3, 3, -9999, -999999999, 999999999
 put fact 'T-1', 2, 20240610, 1, 9, 0, 3, 1, 2, 3, -9999, -999999999, 999999999
 put fact 'T-1', 10, 20240610, 1, 9, 0, 1, 2, 3, 3, -9999, -999999999, 999999999
 sales product 1 20240610 20240610
+= fact ticket, line, day, store_key, product_key, customer_key, store_durable, product_durable, customer_durable, profile, quantity, amount, cost
 = fact 'T-1', 2, 20240610, 1, 9, 0, 3, 1, 2, 3, -9999, -999999999, 999999999
 = fact 'T-1', 30, 20240610, 1, 9, 0, 2, 1, 3, 3, -9999, -999999999, 999999999
 sales store 1 20240610 20240610
+= fact ticket, line, day, store_key, product_key, customer_key, store_durable, product_durable, customer_durable, profile, quantity, amount, cost
 = fact 'T-1', 10, 20240610, 1, 9, 0, 1, 2, 3, 3, -9999, -999999999, 999999999
 sales customer 3 20240610 20240610
+= fact ticket, line, day, store_key, product_key, customer_key, store_durable, product_durable, customer_durable, profile, quantity, amount, cost
 = fact 'T-1', 10, 20240610, 1, 9, 0, 1, 2, 3, 3, -9999, -999999999, 999999999
 = fact 'T-1', 30, 20240610, 1, 9, 0, 2, 1, 3, 3, -9999, -999999999, 999999999
 sales customer 1 20240610 20240610
@@ -81,43 +91,55 @@ put fact 'T-1', 3, 20240611, 1, 9, 0, 1, 1, 1, 3, -9999, -999999999, 999999999
 put fact 'T-1', 2, 20240610, 1, 9, 0, 1, 1, 1, 3, -9999, -999999999, 999999999
 put fact 'T-1', 1, 20240609, 1, 9, 0, 1, 1, 1, 3, -9999, -999999999, 999999999
 sales product 1 20240609 20240611
+= fact ticket, line, day, store_key, product_key, customer_key, store_durable, product_durable, customer_durable, profile, quantity, amount, cost
 = fact 'T-1', 1, 20240609, 1, 9, 0, 1, 1, 1, 3, -9999, -999999999, 999999999
 = fact 'T-1', 2, 20240610, 1, 9, 0, 1, 1, 1, 3, -9999, -999999999, 999999999
 = fact 'T-1', 3, 20240611, 1, 9, 0, 1, 1, 1, 3, -9999, -999999999, 999999999
 sales product 1 20240609 20240610
+= fact ticket, line, day, store_key, product_key, customer_key, store_durable, product_durable, customer_durable, profile, quantity, amount, cost
 = fact 'T-1', 1, 20240609, 1, 9, 0, 1, 1, 1, 3, -9999, -999999999, 999999999
 = fact 'T-1', 2, 20240610, 1, 9, 0, 1, 1, 1, 3, -9999, -999999999, 999999999
 sales product 1 20240610 20240610
+= fact ticket, line, day, store_key, product_key, customer_key, store_durable, product_durable, customer_durable, profile, quantity, amount, cost
 = fact 'T-1', 2, 20240610, 1, 9, 0, 1, 1, 1, 3, -9999, -999999999, 999999999
 sales product 1 20240611 99991231
+= fact ticket, line, day, store_key, product_key, customer_key, store_durable, product_durable, customer_durable, profile, quantity, amount, cost
 = fact 'T-1', 3, 20240611, 1, 9, 0, 1, 1, 1, 3, -9999, -999999999, 999999999
 sales product 1 20240612 99991231
 sales product 1 19000101 20240608
 sales product 1 20240611 20240610
 sales store 1 20240609 20240611
+= fact ticket, line, day, store_key, product_key, customer_key, store_durable, product_durable, customer_durable, profile, quantity, amount, cost
 = fact 'T-1', 1, 20240609, 1, 9, 0, 1, 1, 1, 3, -9999, -999999999, 999999999
 = fact 'T-1', 2, 20240610, 1, 9, 0, 1, 1, 1, 3, -9999, -999999999, 999999999
 = fact 'T-1', 3, 20240611, 1, 9, 0, 1, 1, 1, 3, -9999, -999999999, 999999999
 sales store 1 20240609 20240610
+= fact ticket, line, day, store_key, product_key, customer_key, store_durable, product_durable, customer_durable, profile, quantity, amount, cost
 = fact 'T-1', 1, 20240609, 1, 9, 0, 1, 1, 1, 3, -9999, -999999999, 999999999
 = fact 'T-1', 2, 20240610, 1, 9, 0, 1, 1, 1, 3, -9999, -999999999, 999999999
 sales store 1 20240610 20240610
+= fact ticket, line, day, store_key, product_key, customer_key, store_durable, product_durable, customer_durable, profile, quantity, amount, cost
 = fact 'T-1', 2, 20240610, 1, 9, 0, 1, 1, 1, 3, -9999, -999999999, 999999999
 sales store 1 20240611 99991231
+= fact ticket, line, day, store_key, product_key, customer_key, store_durable, product_durable, customer_durable, profile, quantity, amount, cost
 = fact 'T-1', 3, 20240611, 1, 9, 0, 1, 1, 1, 3, -9999, -999999999, 999999999
 sales store 1 20240612 99991231
 sales store 1 19000101 20240608
 sales store 1 20240611 20240610
 sales customer 1 20240609 20240611
+= fact ticket, line, day, store_key, product_key, customer_key, store_durable, product_durable, customer_durable, profile, quantity, amount, cost
 = fact 'T-1', 1, 20240609, 1, 9, 0, 1, 1, 1, 3, -9999, -999999999, 999999999
 = fact 'T-1', 2, 20240610, 1, 9, 0, 1, 1, 1, 3, -9999, -999999999, 999999999
 = fact 'T-1', 3, 20240611, 1, 9, 0, 1, 1, 1, 3, -9999, -999999999, 999999999
 sales customer 1 20240609 20240610
+= fact ticket, line, day, store_key, product_key, customer_key, store_durable, product_durable, customer_durable, profile, quantity, amount, cost
 = fact 'T-1', 1, 20240609, 1, 9, 0, 1, 1, 1, 3, -9999, -999999999, 999999999
 = fact 'T-1', 2, 20240610, 1, 9, 0, 1, 1, 1, 3, -9999, -999999999, 999999999
 sales customer 1 20240610 20240610
+= fact ticket, line, day, store_key, product_key, customer_key, store_durable, product_durable, customer_durable, profile, quantity, amount, cost
 = fact 'T-1', 2, 20240610, 1, 9, 0, 1, 1, 1, 3, -9999, -999999999, 999999999
 sales customer 1 20240611 99991231
+= fact ticket, line, day, store_key, product_key, customer_key, store_durable, product_durable, customer_durable, profile, quantity, amount, cost
 = fact 'T-1', 3, 20240611, 1, 9, 0, 1, 1, 1, 3, -9999, -999999999, 999999999
 sales customer 1 20240612 99991231
 sales customer 1 19000101 20240608
@@ -131,8 +153,10 @@ greatest profile
 put profile 2, '', '30-39', 'high', '', '', ''
 put profile 1, '', '30-39', 'low', '', '', ''
 profile ,30-39,low,,,
+= profile number, v1, v2, v3, v4, v5, v6
 = profile 1, '', '30-39', 'low', '', '', ''
 profile ,30-39,high,,,x
 greatest profile
+= profile number, v1, v2, v3, v4, v5, v6
 = profile 2, '', '30-39', 'high', '', '', ''
 ";

@@ -12,8 +12,10 @@ count meta
 = 0
 put meta 'Any name, (even this) é', -9223372036854775807 - 1
 all meta
+= meta name, value
 = meta 'Any name, (even this) é', -9223372036854775808
 get meta Any name, (even this) é
+= meta name, value
 = meta 'Any name, (even this) é', -9223372036854775808
 count meta
 = 1
@@ -31,8 +33,10 @@ count command
 = 0
 put command 9999999, '2024-06-10_1.sales', 'sales', x'00ff2c0a', 0, 2
 all command
+= command number, id, kind, bytes, records, placeholders
 = command 9999999, '2024-06-10_1.sales', 'sales', x'00ff2c0a', 0, 2
 get command 9999999
+= command number, id, kind, bytes, records, placeholders
 = command 9999999, '2024-06-10_1.sales', 'sales', x'00ff2c0a', 0, 2
 count command
 = 1
@@ -50,8 +54,10 @@ count member
 = 0
 put member 3, 12, 'C-9', 34
 all member
+= member dim, durable, natural, opening
 = member 3, 12, 'C-9', 34
 get member customer 12
+= member dim, durable, natural, opening
 = member 3, 12, 'C-9', 34
 count member
 = 1
@@ -69,8 +75,10 @@ count change
 = 0
 put change 7, 3, 2, 5, 20240229, 8, 'Bern', '(none)', '', '', '', '(unknown)'
 all change
+= change command, record, dim, durable, day, anchor, v1, v2, v3, v4, v5, v6
 = change 7, 3, 2, 5, 20240229, 8, 'Bern', '(none)', '', '', '', '(unknown)'
 get change 7 3
+= change command, record, dim, durable, day, anchor, v1, v2, v3, v4, v5, v6
 = change 7, 3, 2, 5, 20240229, 8, 'Bern', '(none)', '', '', '', '(unknown)'
 count change
 = 1
@@ -88,8 +96,10 @@ count profile
 = 0
 put profile 2, '', '30-39', 'high', '', '', '(none)'
 all profile
+= profile number, v1, v2, v3, v4, v5, v6
 = profile 2, '', '30-39', 'high', '', '', '(none)'
 get profile 2
+= profile number, v1, v2, v3, v4, v5, v6
 = profile 2, '', '30-39', 'high', '', '', '(none)'
 count profile
 = 1
@@ -107,8 +117,10 @@ count calendar
 = 0
 put calendar 20240229, '2024-02-29', 2024, 1, 2, 29, 60, 4, 'Thursday', 0, '(none)'
 all calendar
+= calendar date_key, iso, year, quarter, month, day, day_of_year, weekday, weekday_name, weekend, holiday
 = calendar 20240229, '2024-02-29', 2024, 1, 2, 29, 60, 4, 'Thursday', 0, '(none)'
 get calendar 20240229
+= calendar date_key, iso, year, quarter, month, day, day_of_year, weekday, weekday_name, weekend, holiday
 = calendar 20240229, '2024-02-29', 2024, 1, 2, 29, 60, 4, 'Thursday', 0, '(none)'
 count calendar
 = 1
@@ -126,8 +138,10 @@ count fact
 = 0
 put fact 'T-1', 9999, 20240610, 1, 9, 0, 4, 5, 0, 3, -9999, -999999999, 999999999
 all fact
+= fact ticket, line, day, store_key, product_key, customer_key, store_durable, product_durable, customer_durable, profile, quantity, amount, cost
 = fact 'T-1', 9999, 20240610, 1, 9, 0, 4, 5, 0, 3, -9999, -999999999, 999999999
 get fact T-1 9999
+= fact ticket, line, day, store_key, product_key, customer_key, store_durable, product_durable, customer_durable, profile, quantity, amount, cost
 = fact 'T-1', 9999, 20240610, 1, 9, 0, 4, 5, 0, 3, -9999, -999999999, 999999999
 count fact
 = 1

@@ -14,20 +14,25 @@ format
 facts 1 count
 = 2
 facts 1 line T1 2
+= fact ticket, line, day, store_key, product_key, customer_key, store_durable, product_durable, customer_durable, profile, quantity, amount, cost
 = fact 'T1', 2, 20240611, 1, 1, 0, 1, 1, 0, 0, -1, -150, -100
 facts 1 line T1 3
 facts 1 between product 1 20240611 20240612
+= fact ticket, line, day, store_key, product_key, customer_key, store_durable, product_durable, customer_durable, profile, quantity, amount, cost
 = fact 'T1', 2, 20240611, 1, 1, 0, 1, 1, 0, 0, -1, -150, -100
 upgrade
 format
 = second, taken
 show
 = limits 10, 200, 3000
+= meta name, value
 = meta 'changes_max', 200
 = meta 'commands_max', 10
 = meta 'facts_max', 3000
 = meta 'format', 2
+= store surrogate, durable, natural, from_day, to_day, is_current, a1, a2, a3, a4, a5, a6, b1, b2, b3, b4, b5, b6, profile_now
 = store 1, 1, 'M1', 19000101, 99991231, 1, 'Bern', '', '', '', '', '', '', '', '', '', '', '', 0
+= fact2 ticket, line, day, store_key, product_key, customer_key, store_durable, product_durable, customer_durable, profile, quantity, amount, cost, discount
 = fact2 'T1', 1, 20240610, 1, 1, 0, 1, 1, 0, 0, 2, 300, 200, 0
 = fact2 'T1', 2, 20240611, 1, 1, 0, 1, 1, 0, 0, -1, -150, -100, 0
 
@@ -41,11 +46,14 @@ write
 = inserted
 = 19 written
 get fact2 T2 16
+= fact2 ticket, line, day, store_key, product_key, customer_key, store_durable, product_durable, customer_durable, profile, quantity, amount, cost, discount
 = fact2 'T2', 16, 20240612, 2, 3, 4, 1, 1, 0, 5, 1, 150, 100, 25
 get fact2 T2 15
+= fact2 ticket, line, day, store_key, product_key, customer_key, store_durable, product_durable, customer_durable, profile, quantity, amount, cost, discount
 = fact2 'T2', 15, 20240612, 1, 1, 0, 1, 1, 0, 0, 1, 150, 100, 25
 get fact2 T1 2
 get void T1 2
+= void ticket, line, command
 = void 'T1', 2, 3
 get void T1 1
 
@@ -64,16 +72,22 @@ count fact2
 
 # Sales, the sums of their keys, quantities, amounts and costs: T1 is of 2 pieces, each line of T2 of one.
 tally2 surrogate store
+= sales, keys, quantity, amount, cost
 = 17, 18, 18, 2700, 1800
 tally2 surrogate customer
+= sales, keys, quantity, amount, cost
 = 17, 4, 18, 2700, 1800
 tally2 durable product
+= sales, keys, quantity, amount, cost
 = 17, 17, 18, 2700, 1800
 tally2 profile
+= sales, keys, quantity, amount, cost
 = 17, 5, 18, 2700, 1800
 tally2 day
+= sales, keys, quantity, amount, cost
 = 17, 344090402, 18, 2700, 1800
 sales2 store 1 20240610 20240611
+= fact2 ticket, line, day, store_key, product_key, customer_key, store_durable, product_durable, customer_durable, profile, quantity, amount, cost, discount
 = fact2 'T1', 1, 20240610, 1, 1, 0, 1, 1, 0, 0, 2, 300, 200, 0
 sales store 1 20240610 20240612
 
@@ -83,9 +97,11 @@ facts 2 count
 facts 1 count
 = 0
 facts 2 line T2 16
+= fact2 ticket, line, day, store_key, product_key, customer_key, store_durable, product_durable, customer_durable, profile, quantity, amount, cost, discount
 = fact2 'T2', 16, 20240612, 2, 3, 4, 1, 1, 0, 5, 1, 150, 100, 25
 facts 1 line T2 16
 facts 2 between store 1 20240610 20240611
+= fact2 ticket, line, day, store_key, product_key, customer_key, store_durable, product_durable, customer_durable, profile, quantity, amount, cost, discount
 = fact2 'T1', 1, 20240610, 1, 1, 0, 1, 1, 0, 0, 2, 300, 200, 0
 facts 1 between store 1 20240610 20240611
 write
@@ -93,6 +109,7 @@ write
 > commit
 = 1 written
 facts 2 line T9 1
+= fact2 ticket, line, day, store_key, product_key, customer_key, store_durable, product_durable, customer_durable, profile, quantity, amount, cost, discount
 = fact2 'T9', 1, 20240613, 1, 1, 0, 1, 1, 0, 0, 1, 150, 100, 7
 write
 > fact 2 remove T9 1
@@ -122,10 +139,12 @@ open
 all fact2
 = damaged fact2
 get fact2 T1 1
+= fact2 ticket, line, day, store_key, product_key, customer_key, store_durable, product_durable, customer_durable, profile, quantity, amount, cost, discount
 = fact2 'T1', 1, 20240610, 1, 1, 0, 1, 1, 0, 0, 2, 300, 200, 0
 all void
 = damaged void
 tally2 profile
+= sales, keys, quantity, amount, cost
 = 17, 5, 18, 2700, 1800
 close
 sql UPDATE fact2 SET amount = 1000000000 WHERE ticket = 'T1'
@@ -163,6 +182,7 @@ write
 > commit
 = 1 written
 facts 1 line T1 1
+= fact ticket, line, day, store_key, product_key, customer_key, store_durable, product_durable, customer_durable, profile, quantity, amount, cost
 = fact 'T1', 1, 20240610, 1, 1, 0, 1, 1, 0, 0, 2, 300, 200
 write
 > tries fact 2 remove T1 1
@@ -191,6 +211,7 @@ format
 count fact
 = 1
 get meta format
+= meta name, value
 = meta 'format', 1
 ";
 
@@ -223,9 +244,11 @@ write
 = 0
 = 6 written
 all fact
+= fact ticket, line, day, store_key, product_key, customer_key, store_durable, product_durable, customer_durable, profile, quantity, amount, cost
 = fact 'T2', 1, 20240612, 1, 1, 0, 1, 1, 0, 0, 1, 150, 100
 sales store 1 20240610 20240611
 get store 1
+= store surrogate, durable, natural, from_day, to_day, is_current, a1, a2, a3, a4, a5, a6, b1, b2, b3, b4, b5, b6, profile_now
 = store 1, 1, 'M1', 19000101, 99991231, 1, 'Bern', '', '', '', '', '', '', '', '', '', '', '', 0
 ";
 
@@ -243,22 +266,28 @@ stops log
 > upgrade
 = at each call what was there, or all
 = limits 10, 200, 3000
+= meta name, value
 = meta 'changes_max', 200
 = meta 'commands_max', 10
 = meta 'facts_max', 3000
 = meta 'format', 2
+= store surrogate, durable, natural, from_day, to_day, is_current, a1, a2, a3, a4, a5, a6, b1, b2, b3, b4, b5, b6, profile_now
 = store 1, 1, 'M1', 19000101, 99991231, 1, 'Bern', '', '', '', '', '', '', '', '', '', '', '', 0
+= fact2 ticket, line, day, store_key, product_key, customer_key, store_durable, product_durable, customer_durable, profile, quantity, amount, cost, discount
 = fact2 'T1', 1, 20240610, 1, 1, 0, 1, 1, 0, 0, 2, 300, 200, 0
 = fact2 'T1', 2, 20240611, 1, 1, 0, 1, 1, 0, 0, -1, -150, -100, 0
 stops database
 > upgrade
 = at each call what was there, or all
 = limits 10, 200, 3000
+= meta name, value
 = meta 'changes_max', 200
 = meta 'commands_max', 10
 = meta 'facts_max', 3000
 = meta 'format', 2
+= store surrogate, durable, natural, from_day, to_day, is_current, a1, a2, a3, a4, a5, a6, b1, b2, b3, b4, b5, b6, profile_now
 = store 1, 1, 'M1', 19000101, 99991231, 1, 'Bern', '', '', '', '', '', '', '', '', '', '', '', 0
+= fact2 ticket, line, day, store_key, product_key, customer_key, store_durable, product_durable, customer_durable, profile, quantity, amount, cost, discount
 = fact2 'T1', 1, 20240610, 1, 1, 0, 1, 1, 0, 0, 2, 300, 200, 0
 = fact2 'T1', 2, 20240611, 1, 1, 0, 1, 1, 0, 0, -1, -150, -100, 0
 
@@ -276,7 +305,9 @@ ask
 > all void
 = second, taken
 = 0
+= fact2 ticket, line, day, store_key, product_key, customer_key, store_durable, product_durable, customer_durable, profile, quantity, amount, cost, discount
 = fact2 'T1', 1, 20240610, 2, 3, 4, 1, 1, 0, 5, 2, 300, 200, 0
 = fact2 'T1', 2, 20240611, 1, 1, 0, 1, 1, 0, 0, -1, -150, -100, 0
+= void ticket, line, command
 = void 'T9', 1, 2
 ";

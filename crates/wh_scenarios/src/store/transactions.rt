@@ -31,6 +31,7 @@ sql COMMIT
 rekey T-1 9999 11 12 13 14
 = refused disk
 get fact T-1 9999
+= fact ticket, line, day, store_key, product_key, customer_key, store_durable, product_durable, customer_durable, profile, quantity, amount, cost
 = fact 'T-1', 9999, 20240610, 1, 9, 0, 4, 5, 0, 3, -9999, -999999999, 999999999
 
 # No facts are taken out.
@@ -88,12 +89,14 @@ bound UPDATE fact SET store_key = ?3, product_key = ?4, customer_key = ?5, profi
 > 'T-1', 9999, 11, 12, 13, 14
 = 1
 get fact T-1 9999
+= fact ticket, line, day, store_key, product_key, customer_key, store_durable, product_durable, customer_durable, profile, quantity, amount, cost
 = fact 'T-1', 9999, 20240610, 11, 12, 13, 4, 5, 0, 14, -9999, -999999999, 999999999
 
 # It is given other keys, and one that isn't there is not.
 rekey T-1 9999 21 22 23 24
 rekey T-1 1 31 32 33 34
 all fact
+= fact ticket, line, day, store_key, product_key, customer_key, store_durable, product_durable, customer_durable, profile, quantity, amount, cost
 = fact 'T-1', 9999, 20240610, 21, 22, 23, 4, 5, 0, 24, -9999, -999999999, 999999999
 
 # All facts are taken out, and then there is none.

@@ -1,4 +1,4 @@
-//! The rows of the tables as text: a line a row, its columns parted by commas.
+//! The rows of the tables as text: the names of the columns, and one line for each row, with commas between the columns.
 
 use crate::trouble::Trouble;
 use crate::words::push_number;
@@ -164,10 +164,31 @@ impl Columns for VoidRow {
     }
 }
 
-/// Rows, each after a word.
-pub fn push_rows<R: Columns>(out: &mut String, word: &str, rows: &[R]) -> Result<(), AllocError> {
+/// The names of a table's columns, as the library lists them.
+pub fn push_header(out: &mut String, table: Table) -> Result<(), AllocError> {
+    let mut sign = "";
+    for name in table.columns() {
+        out.push_str(sign)?;
+        out.push_str(name)?;
+        sign = ",";
+    }
+    out.push_str("\n")
+}
+
+/// A row below its columns' names.
+pub fn push_row<R: Columns>(out: &mut String, table: Table, row: &R) -> Result<(), AllocError> {
+    push_header(out, table)?;
+    row.push(out)?;
+    out.push_str("\n")
+}
+
+/// Rows below their columns' names, and nothing where there is none.
+pub fn push_rows<R: Columns>(out: &mut String, table: Table, rows: &[R]) -> Result<(), AllocError> {
+    if rows.is_empty() {
+        return Ok(());
+    }
+    push_header(out, table)?;
     for row in rows {
-        out.push_str(word)?;
         row.push(out)?;
         out.push_str("\n")?;
     }
@@ -183,19 +204,27 @@ where
     T::Row: Columns,
 {
     let rows = tables.all::<T>(alloc)?;
-    Ok(push_rows(out, "", &rows)?)
+    Ok(push_rows(out, T::table(), &rows)?)
 }
 
-/// Facts of the second format, each with its discount.
-fn push_discounted<S: Alter>(
+/// A fact of the second format, with its discount.
+fn push_discounted(out: &mut String, fact: &Fact) -> Result<(), AllocError> {
+    fact.push(out)?;
+    push_numbers(out, &[fact.discount])?;
+    out.push_str("\n")
+}
+
+fn push_facts2<S: Alter>(
     alloc: Global,
     tables: &mut Tables<S>,
     out: &mut String,
 ) -> Result<(), Trouble> {
-    for fact in tables.all::<tables::Fact2>(alloc)? {
-        fact.push(out)?;
-        push_numbers(out, &[fact.discount])?;
-        out.push_str("\n")?;
+    let facts = tables.all::<tables::Fact2>(alloc)?;
+    if !facts.is_empty() {
+        push_header(out, Table::Fact2)?;
+    }
+    for fact in &facts {
+        push_discounted(out, fact)?;
     }
     Ok(())
 }
@@ -228,7 +257,7 @@ fn push_more<S: Alter>(
         Table::Customer => push_all::<Customer, S>(alloc, tables, out),
         Table::Profile => push_all::<Profile, S>(alloc, tables, out),
         Table::Calendar => push_all::<Calendar, S>(alloc, tables, out),
-        Table::Fact2 => push_discounted(alloc, tables, out),
+        Table::Fact2 => push_facts2(alloc, tables, out),
         Table::Void => push_all::<tables::Void, S>(alloc, tables, out),
         _ => push_all::<tables::Fact, S>(alloc, tables, out),
     }

@@ -9,7 +9,7 @@
 //! - `new-members GIVEN`: the members that are after the first so many; `new-changes NUMBER RECORD`: the row of a record in a batch;
 //!   `rendered`: the rows of the product.
 
-use crate::engine::columns::{Columns, push_rows};
+use crate::engine::columns::{Columns, push_header, push_row, push_rows};
 use crate::engine::tables::show_table;
 use crate::trouble::Trouble;
 use crate::words::{number, push_number};
@@ -24,8 +24,8 @@ use wh_plan::reading::{command_of, last_member, stored_changes, stored_member, s
 use wh_plan::{Edits, FactEdit, Terms, plan_batch};
 use wh_policy::{Dim, DimensionRecord, Format, Policy};
 use wh_rows::tables::{Calendar, Product, Profile};
-use wh_rows::{Cause, CommandRow, Limits};
-use wh_scenarios::parted;
+use wh_rows::{Cause, CommandRow, Limits, Table};
+use wh_scenarios::{parted, push_line};
 use wh_store::Tables;
 
 type InMemory = Tables<MemStore>;
@@ -90,6 +90,12 @@ fn read(
     }
 }
 
+/// Numbers below what each is.
+fn push_named(out: &mut String, names: &str, numbers: &[u64]) -> Result<(), AllocError> {
+    push_line(out, names)?;
+    push_numbers(out, numbers)
+}
+
 /// Numbers, and a line's end.
 fn push_numbers(out: &mut String, numbers: &[u64]) -> Result<(), AllocError> {
     for (place, number) in numbers.iter().enumerate() {
@@ -118,10 +124,7 @@ fn push_count(
 fn find(alloc: Global, tables: &mut InMemory, id: &str, out: &mut String) -> Result<(), Trouble> {
     let id = Value::new(alloc, id)?;
     match command_of(tables, alloc, &id)? {
-        Some(row) => {
-            row.push(out)?;
-            Ok(out.push_str("\n")?)
-        }
+        Some(row) => Ok(push_row(out, Table::Command, &row)?),
         None => Err(Trouble),
     }
 }
@@ -135,7 +138,8 @@ fn push_member(
     let natural = Value::new(alloc, natural)?;
     let member = stored_member(tables, alloc, Dim::Product, &natural)?;
     let changes = member.changes.as_slice().len() as u64;
-    Ok(push_numbers(out, &[member.durable, member.opening, changes])?)
+    let numbers = [member.durable, member.opening, changes];
+    Ok(push_named(out, "durable,opening,records", &numbers)?)
 }
 
 fn push_kept(
@@ -148,7 +152,8 @@ fn push_kept(
     let changes = stored_changes(tables, alloc, Dim::Product, key)?;
     let rows = stored_rows(tables, alloc, Dim::Product, key)?;
     let changes = changes.as_slice().len() as u64;
-    Ok(push_numbers(out, &[changes, rows.len() as u64])?)
+    let numbers = [changes, rows.len() as u64];
+    Ok(push_named(out, "records,rows", &numbers)?)
 }
 
 fn push_given(
@@ -163,7 +168,8 @@ fn push_given(
         _ => return Err(Trouble),
     };
     let last = last_member(tables, alloc, dim)?;
-    Ok(push_numbers(out, &[last.durable, last.opening])?)
+    let numbers = [last.durable, last.opening];
+    Ok(push_named(out, "durable,opening", &numbers)?)
 }
 
 fn day_of(word: &str) -> Result<Day, Trouble> {
@@ -232,7 +238,7 @@ fn touched(alloc: Global, handed: &str) -> Result<Vec<Member>, Trouble> {
 fn push_members(alloc: Global, given: &str, handed: &str, out: &mut String) -> Result<(), Trouble> {
     let members = touched(alloc, handed)?;
     let rows = new_members(alloc, Dim::Product, number(given)?, &members)?;
-    Ok(push_rows(out, "", &rows)?)
+    Ok(push_rows(out, Table::Member, &rows)?)
 }
 
 fn push_changes(alloc: Global, words: &str, handed: &str, out: &mut String) -> Result<(), Trouble> {
@@ -240,7 +246,7 @@ fn push_changes(alloc: Global, words: &str, handed: &str, out: &mut String) -> R
     let records = records_of(alloc, record)?;
     let members = touched(alloc, handed)?;
     let rows = new_changes(alloc, Dim::Product, number(command)?, &members, &records)?;
-    Ok(push_rows(out, "", &rows)?)
+    Ok(push_rows(out, Table::Change, &rows)?)
 }
 
 fn push_rendered(alloc: Global, handed: &str, out: &mut String) -> Result<(), Trouble> {
@@ -252,7 +258,7 @@ fn push_rendered(alloc: Global, handed: &str, out: &mut String) -> Result<(), Tr
         profiles: &profiles,
     };
     let rows = rows_of_members(alloc, &dimension, &touched(alloc, handed)?)?;
-    Ok(push_rows(out, "", &rows)?)
+    Ok(push_rows(out, Table::Product, &rows)?)
 }
 
 /// The row of a batch of products: `NUMBER ID`.
@@ -288,16 +294,35 @@ fn write(alloc: Global, tables: &mut InMemory, edits: &Edits) -> Result<u64, Cau
 
 /// The edits of a command, in the order in which they are made.
 fn push_edits(out: &mut String, edits: &Edits) -> Result<(), AllocError> {
-    push_row_edits(out, "command ", &edits.commands)?;
-    push_puts(out, "member ", &edits.members)?;
-    push_puts(out, "change ", &edits.changes)?;
-    push_row_edits(out, "product ", &edits.products)?;
-    push_row_edits(out, "store ", &edits.stores)?;
-    push_row_edits(out, "customer ", &edits.customers)?;
-    push_row_edits(out, "profile ", &edits.profiles)?;
-    push_puts(out, "calendar ", &edits.calendar)?;
-    for edit in &edits.facts {
-        out.push_str("fact ")?;
+    push_row_edits(out, Table::Command, &edits.commands)?;
+    push_puts(out, Table::Member, &edits.members)?;
+    push_puts(out, Table::Change, &edits.changes)?;
+    push_row_edits(out, Table::Product, &edits.products)?;
+    push_row_edits(out, Table::Store, &edits.stores)?;
+    push_row_edits(out, Table::Customer, &edits.customers)?;
+    push_row_edits(out, Table::Profile, &edits.profiles)?;
+    push_puts(out, Table::Calendar, &edits.calendar)?;
+    push_facts(out, &edits.facts)
+}
+
+fn push_name(out: &mut String, table: Table) -> Result<(), AllocError> {
+    out.push_str(table.name())?;
+    out.push_str(" ")
+}
+
+/// The names of a table's columns where it has edits, each edit and they after the table's name.
+fn push_heading<E>(out: &mut String, table: Table, edits: &[E]) -> Result<(), AllocError> {
+    if edits.is_empty() {
+        return Ok(());
+    }
+    push_name(out, table)?;
+    push_header(out, table)
+}
+
+fn push_facts(out: &mut String, edits: &[FactEdit]) -> Result<(), AllocError> {
+    push_heading(out, Table::Fact, edits)?;
+    for edit in edits {
+        push_name(out, Table::Fact)?;
         push_fact_edit(out, edit)?;
         out.push_str("\n")?;
     }
@@ -322,11 +347,12 @@ fn push_fact_edit(out: &mut String, edit: &FactEdit) -> Result<(), AllocError> {
 
 fn push_row_edits<R: Columns>(
     out: &mut String,
-    word: &str,
+    table: Table,
     edits: &[Edit<R, u64>],
 ) -> Result<(), AllocError> {
+    push_heading(out, table, edits)?;
     for edit in edits {
-        out.push_str(word)?;
+        push_name(out, table)?;
         match edit {
             Edit::Put(row) => row.push(out)?,
             Edit::Remove(key) => {
@@ -342,11 +368,12 @@ fn push_row_edits<R: Columns>(
 /// The rows that are put of a table whose rows are never taken out.
 fn push_puts<R: Columns, K>(
     out: &mut String,
-    word: &str,
+    table: Table,
     edits: &[Edit<R, K>],
 ) -> Result<(), AllocError> {
+    push_heading(out, table, edits)?;
     for edit in edits {
-        out.push_str(word)?;
+        push_name(out, table)?;
         match edit {
             Edit::Put(row) => row.push(out)?,
             Edit::Remove(_) => out.push_str("taken out")?,

@@ -15,14 +15,3 @@ mod stops;
 mod upgrades;
 mod voids;
 mod worked;
-
-use crate::check::check;
-use crate::engine::EngineDriver;
-use std::alloc::Global;
-use std::process::Abort;
-use std::test::Fail;
-
-/// Fails where a step of a scenario answers something else.
-fn check_engine(rt: &impl Abort, alloc: Global, text: &str) -> Result<(), Fail> {
-    check(rt, alloc, EngineDriver::new(alloc), &[text])
-}

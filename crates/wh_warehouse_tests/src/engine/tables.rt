@@ -1,6 +1,6 @@
 //! What a database holds, with no engine over it. The functions are generic in the store, so that few proofs carry the state of one.
 
-use crate::engine::columns::{Columns, push_table, push_tables};
+use crate::engine::columns::{push_row, push_table, push_tables};
 use crate::trouble::Trouble;
 use crate::words::number;
 use sqlite::{Alter, Connection};
@@ -58,10 +58,7 @@ fn show_command<S: Alter>(
     out: &mut String,
 ) -> Result<(), Trouble> {
     match tables.get::<tables::Command>(alloc, &number(word)?)? {
-        Some(row) => {
-            row.push(out)?;
-            Ok(out.push_str("\n")?)
-        }
+        Some(row) => Ok(push_row(out, Table::Command, &row)?),
         None => Err(Trouble),
     }
 }

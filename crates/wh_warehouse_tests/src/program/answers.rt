@@ -26,6 +26,10 @@ use wh_scenarios::{Driver, NotMade, Step, parted, push_line};
 pub struct AnswerDriver;
 
 impl Driver for AnswerDriver {
+    fn start(_alloc: Global) -> Result<AnswerDriver, NotMade> {
+        Ok(AnswerDriver)
+    }
+
     fn perform(
         self,
         alloc: Global,

@@ -156,6 +156,31 @@ pub fn breaks(
     Ok(push_line(out, broken.each(alloc, host, whole.calls()))?)
 }
 
+/// A page that takes so many bytes a call, and fails from a call to before another, and the words behind these three numbers.
+fn failing_page(text: &str) -> Result<(Page, &str), Trouble> {
+    let (bytes, rest) = parted(text, ' ');
+    let (from, rest) = parted(rest, ' ');
+    let (to, words) = parted(rest, ' ');
+    let bytes = number(bytes)? as usize;
+    let from = number(from)? as usize;
+    let to = number(to)? as usize;
+    Ok((Page::new(bytes, from, to), words))
+}
+
+/// `fails BYTES FROM TO WORDS`.
+pub fn fails(
+    alloc: Global,
+    host: &mut MemoryHost,
+    rest: &str,
+    out: &mut String,
+) -> Result<(), Trouble> {
+    let (mut page, line) = failing_page(rest)?;
+    let words = words_of(alloc, line, "")?;
+    let status = on_page(alloc, host, &words, &mut page);
+    push_printed(out, page.text())?;
+    Ok(push_status(out, status)?)
+}
+
 /// A run on a page that fails at some call.
 #[derive(Clone, Copy)]
 struct Broken<'a> {

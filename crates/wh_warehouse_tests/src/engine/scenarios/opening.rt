@@ -1,22 +1,23 @@
 //! Which databases are opened, and in which a warehouse is made.
 
-use crate::engine::scenarios::check_engine;
+use crate::engine::EngineDriver;
 use std::test::Fail;
+use wh_scenarios::check;
 use wh_scenarios::engine::opening;
 
 #[test]
 fn other_databases(rt: HostRuntime) -> Result<(), Fail> {
-    check_engine(&rt, rt.alloc(), opening::OTHER_DATABASES)
+    check::<EngineDriver>(rt.alloc(), &[opening::OTHER_DATABASES])
 }
 
 #[test]
 fn opened(rt: HostRuntime) -> Result<(), Fail> {
-    check_engine(&rt, rt.alloc(), opening::OPENED)?;
-    check_engine(&rt, rt.alloc(), opening::DAMAGED)?;
-    check_engine(&rt, rt.alloc(), opening::EXCHANGED)
+    check::<EngineDriver>(rt.alloc(), &[opening::OPENED])?;
+    check::<EngineDriver>(rt.alloc(), &[opening::DAMAGED])?;
+    check::<EngineDriver>(rt.alloc(), &[opening::EXCHANGED])
 }
 
 #[test]
 fn making(rt: HostRuntime) -> Result<(), Fail> {
-    check_engine(&rt, rt.alloc(), opening::MAKING)
+    check::<EngineDriver>(rt.alloc(), &[opening::MAKING])
 }

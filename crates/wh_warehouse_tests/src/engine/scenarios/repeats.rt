@@ -1,10 +1,11 @@
 //! Commands that come again, and others under their ids.
 
-use crate::engine::scenarios::check_engine;
+use crate::engine::EngineDriver;
 use std::test::Fail;
+use wh_scenarios::check;
 use wh_scenarios::engine::repeats;
 
 #[test]
 fn repeats(rt: HostRuntime) -> Result<(), Fail> {
-    check_engine(&rt, rt.alloc(), repeats::REPEATS)
+    check::<EngineDriver>(rt.alloc(), &[repeats::REPEATS])
 }

@@ -2,51 +2,51 @@
 //! or that and the next command, and the same again leads to what it leads to with no stop. A load is of a record of an earlier day of a product
 //! and of a new product, or of a sale of a product and to a customer that nothing mentioned; a migration takes a row away, and moves a sale.
 
-use crate::engine::scenarios::check_engine;
+use crate::engine::EngineDriver;
 use std::test::Fail;
 use wh_scenarios::engine::stops;
 
 #[test]
 fn making(rt: HostRuntime) -> Result<(), Fail> {
-    check_engine(&rt, rt.alloc(), stops::MAKING)
+    wh_scenarios::check::<EngineDriver>(rt.alloc(), &[stops::MAKING])
 }
 
 #[test]
 fn opening(rt: HostRuntime) -> Result<(), Fail> {
-    check_engine(&rt, rt.alloc(), stops::OPENING)
+    wh_scenarios::check::<EngineDriver>(rt.alloc(), &[stops::OPENING])
 }
 
 #[test]
 fn products(rt: HostRuntime) -> Result<(), Fail> {
-    check_engine(&rt, rt.alloc(), stops::PRODUCTS)
+    wh_scenarios::check::<EngineDriver>(rt.alloc(), &[stops::PRODUCTS])
 }
 
 #[test]
 fn sales(rt: HostRuntime) -> Result<(), Fail> {
-    check_engine(&rt, rt.alloc(), stops::SALES)
+    wh_scenarios::check::<EngineDriver>(rt.alloc(), &[stops::SALES])
 }
 
 #[test]
 fn migrations(rt: HostRuntime) -> Result<(), Fail> {
-    check_engine(&rt, rt.alloc(), stops::MIGRATIONS)
+    wh_scenarios::check::<EngineDriver>(rt.alloc(), &[stops::MIGRATIONS])
 }
 
 #[test]
 fn check(rt: HostRuntime) -> Result<(), Fail> {
-    check_engine(&rt, rt.alloc(), stops::CHECK)
+    wh_scenarios::check::<EngineDriver>(rt.alloc(), &[stops::CHECK])
 }
 
 #[test]
 fn night(rt: HostRuntime) -> Result<(), Fail> {
-    check_engine(&rt, rt.alloc(), stops::NIGHT)
+    wh_scenarios::check::<EngineDriver>(rt.alloc(), &[stops::NIGHT])
 }
 
 #[test]
 fn making_again(rt: HostRuntime) -> Result<(), Fail> {
-    check_engine(&rt, rt.alloc(), stops::MAKING_AGAIN)
+    wh_scenarios::check::<EngineDriver>(rt.alloc(), &[stops::MAKING_AGAIN])
 }
 
 #[test]
 fn delivery_again(rt: HostRuntime) -> Result<(), Fail> {
-    check_engine(&rt, rt.alloc(), stops::DELIVERY_AGAIN)
+    wh_scenarios::check::<EngineDriver>(rt.alloc(), &[stops::DELIVERY_AGAIN])
 }

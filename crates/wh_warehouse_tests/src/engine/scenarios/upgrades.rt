@@ -1,35 +1,36 @@
 //! Warehouses whose facts get a discount, by one command.
 
-use crate::engine::scenarios::check_engine;
+use crate::engine::EngineDriver;
 use std::test::Fail;
+use wh_scenarios::check;
 use wh_scenarios::engine::upgrades;
 
 #[test]
 fn worked_upgrade(rt: HostRuntime) -> Result<(), Fail> {
-    check_engine(&rt, rt.alloc(), upgrades::WORKED)
+    check::<EngineDriver>(rt.alloc(), &[upgrades::WORKED])
 }
 
 #[test]
 fn batches_and_policies_after_an_upgrade(rt: HostRuntime) -> Result<(), Fail> {
-    check_engine(&rt, rt.alloc(), upgrades::LATER)
+    check::<EngineDriver>(rt.alloc(), &[upgrades::LATER])
 }
 
 #[test]
 fn upgrades_that_are_refused(rt: HostRuntime) -> Result<(), Fail> {
-    check_engine(&rt, rt.alloc(), upgrades::REFUSED)
+    check::<EngineDriver>(rt.alloc(), &[upgrades::REFUSED])
 }
 
 #[test]
 fn changed_files_of_the_second_format(rt: HostRuntime) -> Result<(), Fail> {
-    check_engine(&rt, rt.alloc(), upgrades::DAMAGED)
+    check::<EngineDriver>(rt.alloc(), &[upgrades::DAMAGED])
 }
 
 #[test]
 fn stops_of_an_upgrade(rt: HostRuntime) -> Result<(), Fail> {
-    check_engine(&rt, rt.alloc(), upgrades::STOPS)
+    check::<EngineDriver>(rt.alloc(), &[upgrades::STOPS])
 }
 
 #[test]
 fn stops_of_a_night_with_an_upgrade(rt: HostRuntime) -> Result<(), Fail> {
-    check_engine(&rt, rt.alloc(), upgrades::NIGHTS)
+    check::<EngineDriver>(rt.alloc(), &[upgrades::NIGHTS])
 }

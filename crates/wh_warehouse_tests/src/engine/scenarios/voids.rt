@@ -1,25 +1,26 @@
 //! Lines of tickets that are withdrawn.
 
-use crate::engine::scenarios::check_engine;
+use crate::engine::EngineDriver;
 use std::test::Fail;
+use wh_scenarios::check;
 use wh_scenarios::engine::voids;
 
 #[test]
 fn worked_void(rt: HostRuntime) -> Result<(), Fail> {
-    check_engine(&rt, rt.alloc(), voids::WORKED)
+    check::<EngineDriver>(rt.alloc(), &[voids::WORKED])
 }
 
 #[test]
 fn batches_and_policies_after_voids(rt: HostRuntime) -> Result<(), Fail> {
-    check_engine(&rt, rt.alloc(), voids::LATER)
+    check::<EngineDriver>(rt.alloc(), &[voids::LATER])
 }
 
 #[test]
 fn voids_that_are_refused(rt: HostRuntime) -> Result<(), Fail> {
-    check_engine(&rt, rt.alloc(), voids::REFUSED)
+    check::<EngineDriver>(rt.alloc(), &[voids::REFUSED])
 }
 
 #[test]
 fn stops_of_a_void(rt: HostRuntime) -> Result<(), Fail> {
-    check_engine(&rt, rt.alloc(), voids::STOPS)
+    check::<EngineDriver>(rt.alloc(), &[voids::STOPS])
 }

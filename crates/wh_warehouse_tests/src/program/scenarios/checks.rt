@@ -1,23 +1,19 @@
 //! Checks of a warehouse's file.
 
-use crate::program::scenarios::check_program;
+use crate::program::ProgramDriver;
 use std::test::Fail;
+use wh_scenarios::check;
 use wh_scenarios::program::checks;
 use wh_scenarios::program::reports::FILES;
 
 #[test]
 fn changed_rows(rt: HostRuntime) -> Result<(), Fail> {
-    check_program(
-        &rt,
-        rt.alloc(),
-        &[FILES, checks::NIGHT, checks::CHANGED_ROWS],
-    )
+    check::<ProgramDriver>(rt.alloc(), &[FILES, checks::NIGHT, checks::CHANGED_ROWS])
 }
 
 #[test]
 fn changed_commands(rt: HostRuntime) -> Result<(), Fail> {
-    check_program(
-        &rt,
+    check::<ProgramDriver>(
         rt.alloc(),
         &[FILES, checks::NIGHT, checks::CHANGED_COMMANDS],
     )
@@ -25,5 +21,5 @@ fn changed_commands(rt: HostRuntime) -> Result<(), Fail> {
 
 #[test]
 fn other_files(rt: HostRuntime) -> Result<(), Fail> {
-    check_program(&rt, rt.alloc(), &[FILES, checks::OTHERS])
+    check::<ProgramDriver>(rt.alloc(), &[FILES, checks::OTHERS])
 }

@@ -1,20 +1,21 @@
 //! Reports and dumps of a warehouse.
 
-use crate::program::scenarios::check_program;
+use crate::program::ProgramDriver;
 use std::test::Fail;
-use wh_scenarios::program::reports;
+use wh_scenarios::check;
+use wh_scenarios::program::{dumps, refused_reports, reports};
 
 #[test]
 fn worked(rt: HostRuntime) -> Result<(), Fail> {
-    check_program(&rt, rt.alloc(), &[reports::FILES, reports::WORKED])
+    check::<ProgramDriver>(rt.alloc(), &[reports::FILES, reports::WORKED])
 }
 
 #[test]
 fn refused(rt: HostRuntime) -> Result<(), Fail> {
-    check_program(&rt, rt.alloc(), &[reports::REFUSED])
+    check::<ProgramDriver>(rt.alloc(), &[refused_reports::REFUSED])
 }
 
 #[test]
 fn tables(rt: HostRuntime) -> Result<(), Fail> {
-    check_program(&rt, rt.alloc(), &[reports::TABLES])
+    check::<ProgramDriver>(rt.alloc(), &[dumps::TABLES])
 }

@@ -1,14 +1,14 @@
 //! Voids of a warehouse's file.
 
-use crate::program::scenarios::check_program;
+use crate::program::ProgramDriver;
 use std::test::Fail;
+use wh_scenarios::check;
 use wh_scenarios::program::reports::FILES;
 use wh_scenarios::program::{checks, upgrades, voids};
 
 #[test]
 fn voids(rt: HostRuntime) -> Result<(), Fail> {
-    check_program(
-        &rt,
+    check::<ProgramDriver>(
         rt.alloc(),
         &[FILES, checks::NIGHT, upgrades::UPGRADE, voids::VOIDS],
     )
@@ -16,5 +16,5 @@ fn voids(rt: HostRuntime) -> Result<(), Fail> {
 
 #[test]
 fn delivered_voids(rt: HostRuntime) -> Result<(), Fail> {
-    check_program(&rt, rt.alloc(), &[voids::DELIVERED])
+    check::<ProgramDriver>(rt.alloc(), &[voids::DELIVERED])
 }

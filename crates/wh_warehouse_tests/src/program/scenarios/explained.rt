@@ -1,0 +1,36 @@
+//! What inputs would be answered, and why.
+
+use crate::program::ProgramDriver;
+use std::test::Fail;
+use wh_scenarios::check;
+use wh_scenarios::program::explained;
+
+#[test]
+fn wanted(rt: HostRuntime) -> Result<(), Fail> {
+    check::<ProgramDriver>(rt.alloc(), &[explained::WANTED])
+}
+
+#[test]
+fn sources(rt: HostRuntime) -> Result<(), Fail> {
+    check::<ProgramDriver>(rt.alloc(), &[explained::SOURCES])
+}
+
+#[test]
+fn headers(rt: HostRuntime) -> Result<(), Fail> {
+    check::<ProgramDriver>(rt.alloc(), &[explained::HEADERS])
+}
+
+#[test]
+fn records(rt: HostRuntime) -> Result<(), Fail> {
+    check::<ProgramDriver>(rt.alloc(), &[explained::RECORDS])
+}
+
+#[test]
+fn sales(rt: HostRuntime) -> Result<(), Fail> {
+    check::<ProgramDriver>(rt.alloc(), &[explained::SALES])
+}
+
+#[test]
+fn policies(rt: HostRuntime) -> Result<(), Fail> {
+    check::<ProgramDriver>(rt.alloc(), &[explained::POLICIES])
+}
