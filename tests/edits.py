@@ -1,7 +1,7 @@
 #!/usr/bin/env python3
-"""Tries wrong bodies: the prover has to refuse each edit of a crate's edits/, with --must-fail those of must-fail/ too.
+"""Tries wrong bodies: the prover has to refuse each edit of a crate's edits/.
 
-Usage: tests/edits.py [--must-fail] [--copies] CRATE..     (as tests/edits.py wh_day wh_policy)
+Usage: tests/edits.py [--copies] CRATE..     (as tests/edits.py wh_day wh_policy)
        tests/edits.py --rules [CRATE..]
 
 A function is proved from its own body and from the contracts of what it calls. So an edit is made in a copy of its function,
@@ -22,8 +22,8 @@ nothing. All is done on a copy of the repository; a crate with no kept work in o
 the edits, and the status is 1 where one is bad or not refused.
 
 --rules tries those edits alone that have a line `rule:`, which says in words the wrong body that the rules of the warehouse name.
-It is the gate's, in which nothing is kept: so it checks the copies alone and what they call, first without an edit, where
-each has to be proved.
+It is the gate's, in which nothing is kept but the libraries: so it checks the copies alone, first without an edit, where each
+has to be proved. Of what they call it takes the contract, with a hole in place of the proof, since the gate has proved it before.
 """
 
 import argparse
@@ -48,7 +48,14 @@ ERROR = re.compile(r"^(?:\./)?(src/\S+?):(\d+):\d+: error", re.M)
 ENSURES = re.compile(r" *ensures(?: (\w+))? ?\{")
 CLAUSE = re.compile(r" +(?:ensures|requires|ghost|//)")
 GOAL = re.compile(r"(?:abbrev )?(?:pub )?([a-z][^ :]*)")
+HOLE = """use {module}.Statement.{{statement}}
+
+pub {name}_spec : {{M : Type 1}} → statement M
+{name}_spec = ?
+"""
 ANSWER_FOR_ALL = re.compile(r"^pub returns(?:(?!-clause-)[^ :])* :", re.M)
+OWN = re.compile(r"did not prove")
+OWN_OVER_HOLES = re.compile(r"did not prove|Answers\.[^`]*`, which antt refuses")
 WAITS = re.compile(r"it calls `|it passes the block `|a call of `|waits for the proof of `")
 
 
@@ -222,6 +229,19 @@ def copy_answers(crate, edit):
     return target
 
 
+def take_contracts(crate, proved):
+    """Puts a hole in place of each proof that has files, but for those in these folders: so what they call is taken by its contract.
+    A function's files name its goals, by which they are told from lemmas in files of the same names."""
+    files = [it for it in crate.glob("proofs/**/*.antt") if it.name in ("Answers.antt", "Invariants.antt")]
+    for folder in {it.parent for it in files}.difference(proved):
+        names, own = folder.relative_to(crate).parts, [it for it in files if it.parent == folder]
+        module = ".".join(["Rattle", crate.name, *names])
+        if not names[-1].startswith("+") and all(re.search(rf"{re.escape(module)}\.(Goals|Given)\b", it.read_text()) for it in own):
+            (folder / "Proof.antt").write_text(HOLE.format(module=module, name=names[-1]))
+            for it in own:
+                it.unlink()
+
+
 def copy_work(source, target):
     """Copies the prover's work: links to the files of checked modules, which it never writes to, and copies of others."""
     shutil.copytree(source, target, copy_function=lambda old, new: (os.link if old.endswith(".oantt") else shutil.copy2)(old, new))
@@ -234,13 +254,42 @@ class Said(NamedTuple):
     places: dict
 
 
+def libraries_of(root):
+    """The libraries that each crate uses, by its name."""
+    lines = [line.partition("#")[0] for line in (root / "crates.txt").read_text().split("\n")]
+    return {name.strip(): used.split() for name, colon, used in (line.partition(":") for line in lines) if colon}
+
+
+def all_below(used, name):
+    """The repository's libraries that a crate uses, and those that they use."""
+    own = [it for it in used[name] if it in used]
+    return {*own, *(below for it in own for below in all_below(used, it))}
+
+
+def prover_over_libraries(crate):
+    """The prover itself, over the libraries as they lie there: `rt check` would first prove those again that `rt ci` left."""
+    kit, crates = Path(shutil.which("rt")).resolve().parent.parent, crate.parent
+    used = libraries_of(crates.parent)
+    folders = {name: crates / name / "out/rlib" for name in sorted(all_below(used, crate.name))}
+    words = ["rattle", "check", "--crate-name", crate.name, "src/lib.rt", "--incremental", "out/incremental"]
+    for name in ["std", *used[crate.name]]:
+        words += ["--extern", f"{name}={folders.get(name, kit / 'rlibs')}/{name}.rlib"]
+    words += [word for folder in [kit / "rlibs", *folders.values()] for word in ("-L", f"dependency={folder}")]
+    return [str(kit / "bin" / words[0]), *words[1:], "--antt-project", f"{kit}/rattle/logic/antt-project.json", "--logic-built", f"{kit}/logic_built"]
+
+
 def check(crate, edits):
     """What the check says of a crate with edits whose lines don't meet. It begins with what was proved of the crate without
     any, where that is kept: else it would prove again each function that was edited in the check before. All is put back."""
     if (crate / "out/kept").exists():
         shutil.rmtree(crate / "out/incremental")
         copy_work(crate / "out/kept", crate / "out/incremental")
-    answers = [copy_answers(crate, it) for it in edits if it.copy and answers_of(crate, it)]
+    kept = crate / "out/proofs"
+    shutil.copytree(crate / "proofs", kept)
+    own = {copy_answers(crate, it) if it.copy else answers_of(crate, it) for it in edits if it.function and answers_of(crate, it)}
+    alone = [word for it in edits if it.is_alone for word in ("--only", name_of(crate, it))]
+    if alone:
+        take_contracts(crate, own)
     files = {it.file: (crate / it.file).read_text() for it in edits}
     places = {}
     for file, text in files.items():
@@ -248,19 +297,26 @@ def check(crate, edits):
         (crate / file).write_text("\n".join(made))
         places.update(found)
     how = {"stdin": subprocess.DEVNULL, "stdout": subprocess.PIPE, "stderr": subprocess.STDOUT}
-    alone = [word for it in edits if it.is_alone for word in ("--only", name_of(crate, it))]
-    said = subprocess.run(["rt", "check", "--jobs", "1", *alone], cwd=crate, text=True, errors="replace", **how).stdout
+    prover = [*prover_over_libraries(crate), "--allow-holes"] if alone else ["rt", "check"]
+    said = subprocess.run([*prover, "--jobs", "1", *alone], cwd=crate, text=True, errors="replace", **how).stdout
     for file, text in files.items():
         (crate / file).write_text(text)
-    for folder in answers:
-        shutil.rmtree(folder)
+    shutil.rmtree(crate / "proofs")
+    kept.rename(crate / "proofs")
     return Said(said, places)
 
 
-def is_refusal(reason):
-    """Whether a function's answer is the prover's refusal of the function itself: a goal of its own isn't proved, or
-    nothing is and it waits for no other. Goals rest on contracts, so they fail alike where another isn't proved."""
-    return reason.startswith(("not proved", "no proof")) and ("did not prove" in reason or not WAITS.search(reason))
+def is_refusal(edit, reason):
+    """Whether an answer is the prover's refusal of the edited function itself: a goal of its own isn't proved, or nothing is and
+    it waits for no other. Goals rest on contracts, so they fail alike where another isn't proved. Over holes, where each callee
+    counts as not proved, an answer of its own that is refused says so too."""
+    own = OWN_OVER_HOLES if edit.is_alone else OWN
+    return reason.startswith(("not proved", "no proof")) and bool(own.search(reason) or not WAITS.search(reason))
+
+
+def is_proof(reason):
+    """Whether an answer says that a function is proved, be it over holes in the place of other proofs."""
+    return reason in ("proved", "no holes") or reason.startswith("depends on a hole in ")
 
 
 def is_of(answer, name):
@@ -316,7 +372,7 @@ def try_round(crate, edits):
     """Tries edits together."""
     said = check(crate, edits)
     if ANSWER.search(said.text):
-        return Round([it for it in edits if any(is_refusal(reason) for reason in answers_for(crate, it, said))], [], 1)
+        return Round([it for it in edits if any(is_refusal(it, reason) for reason in answers_for(crate, it, said))], [], 1)
     if len(edits) == 1:
         return Round([], [(edits[0], said)], 1)
     some, others = (try_round(crate, part) for part in parted(edits, said))
@@ -345,10 +401,11 @@ def try_together(crate, edits):
 
 def try_alone(crate, edit):
     """Whether an edit is refused, alone and in its place, and whether it is bad."""
-    said = check(crate, [edit._replace(copy="")])
+    in_place = edit._replace(copy="")
+    said = check(crate, [in_place])
     answers = ANSWER.findall(said.text)
-    refused = any(is_refusal(reason) for _, reason in answers)
-    return refused, [] if answers else [(edit, said)]
+    reasons = answers_for(crate, in_place, said) if edit.is_alone else [reason for _, reason in answers]
+    return any(is_refusal(edit, it) for it in reasons), [] if answers else [(edit, said)]
 
 
 def seconds():
@@ -384,16 +441,17 @@ def try_copies(crate, edits):
         label, body = f"{function.name} of {crate.name}, {clause or 'all clauses'}", function.past - 1
         unedited += [it._replace(label=label, first=body, past=body, lines=[], copy=f"_unedited_{clause}".rstrip("_"))]
     said = check(crate, unedited)
-    missed = [it for it in unedited if set(answers_for(crate, it, said)) != {"proved"}]
+    answers = [answers_for(crate, it, said) for it in unedited]
+    missed = [it for it, reasons in zip(unedited, answers) if not reasons or not all(map(is_proof, reasons))]
     print(f"{crate.name}: {len(unedited) - len(missed)} of {len(unedited)} copies without an edit are proved", flush=True)
     for edit in missed:
-        print(f"NOT PROVED AS A COPY: {edit.label}", flush=True)
+        print(f"NOT PROVED AS A COPY: {edit.label}: {why_bad(said)}", flush=True)
     return len(missed)
 
 
-def try_crate(crate, folders, tried):
+def try_crate(crate, tried):
     """How many edits there are, and how many were missed."""
-    start, paths = seconds(), sorted(it for folder in folders for it in (crate / folder).glob("*.edit"))
+    start, paths = seconds(), sorted(crate.glob("edits/*.edit"))
     if "\nlogic=proved " not in check(crate, []).text:
         sys.exit(f"{crate.name} is not proved, so its edits say nothing")
     print(f"{crate.name}: {seconds() - start:.0f} s for the check without an edit", flush=True)
@@ -440,19 +498,17 @@ def copy_to(room, names):
 
 def main():
     words = argparse.ArgumentParser(description="Tries wrong bodies, each of which the prover has to refuse.")
-    words.add_argument("--must-fail", action="store_true", help="those of must-fail/ too")
     words.add_argument("--copies", action="store_true", help="try copies of the functions without an edit, which have to be proved")
     words.add_argument("--rules", action="store_true", help="those that the rules of the warehouse name, of all crates where none is named")
     words.add_argument("crate", nargs="*")
     given = words.parse_args()
-    folders = ["edits", "must-fail"] if given.must_fail else ["edits"]
     with_rules = sorted({it.parts[-3] for it in ROOT.glob("crates/*/edits/*.edit") if is_rule(it)})
     names = given.crate or (with_rules if given.rules else words.error("no crate is named"))
     with tempfile.TemporaryDirectory(prefix="wh-edits-") as room:
         copy_to(Path(room, "wh"), names)
         tried = try_copies if given.copies else try_edits
         crates = [Path(room, "wh", "crates", name) for name in names]
-        counts = [try_rules(it) if given.rules else try_crate(it, folders, tried) for it in crates]
+        counts = [try_rules(it) if given.rules else try_crate(it, tried) for it in crates]
     edits, missed = (sum(it) for it in zip(*counts))
     if given.copies:
         print(f"{missed} copies not proved, {seconds():.0f} s of processor time")

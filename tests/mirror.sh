@@ -1,10 +1,10 @@
 #!/usr/bin/env bash
 # The mirror in PostgreSQL: the tests of mirror/tests, on three servers that this script starts in a folder of its own, and then the page
-# docs/mirror.md; tests/page.sh says how. Where PostgreSQL isn't there and can't be installed, nothing is tried, and the script says so.
+# docs/mirror.md; tests/lib/page.sh says how. Where PostgreSQL isn't there and can't be installed, nothing is tried, and the script says so.
 # mirror.sh [TEST..]: all tests and the page, or the named ones, as test_nights. WH names another program than crates/wh/out/wh.
 set -eu
 cd "$(dirname "$0")/.."
-. tests/postgresql.sh
+. tests/lib/postgresql.sh
 if ! install_postgresql; then
     echo "passed over: PostgreSQL and python3-psycopg aren't there, and can't be installed"
     echo "0 passed, 0 failed"
@@ -34,7 +34,7 @@ count() {
 }
 
 page() (
-    . tests/page.sh
+    . tests/lib/page.sh
     run_page docs/mirror.md
 )
 

@@ -1,7 +1,7 @@
 #!/usr/bin/env bash
-# Runs the commands of docs/operations.md with the built program, and compares what each prints with what stands below it there; tests/page.sh says
+# Runs the commands of docs/operations.md with the built program, and compares what each prints with what stands below it there; tests/lib/page.sh says
 # how. WH names another program than crates/wh/out/wh.
 set -eu
 cd "$(dirname "$0")/.."
-. tests/page.sh
+. tests/lib/page.sh
 run_page docs/operations.md
