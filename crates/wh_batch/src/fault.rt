@@ -42,6 +42,7 @@ pub enum FaultKind {
 #[derive(Clone, Copy, Debug, PartialEq, Eq, Error)]
 #[error("record {number}: {kind}")]
 pub struct BatchFault {
+    /// What is wrong.
     pub kind: FaultKind,
     /// The number of the record, from 1. The header, and the batch as a whole, have the number 0.
     pub number: u32,

@@ -8,7 +8,9 @@ use wh_policy::Dim;
 /// What the records of a batch are of.
 #[derive(Clone, Copy, Debug, PartialEq, Eq)]
 pub enum Kind {
+    /// Records of the members of a dimension.
     Dimension(Dim),
+    /// Sales, which are lines of tickets.
     Sales,
     /// Lines of tickets that are withdrawn.
     Voids,

@@ -29,6 +29,7 @@ impl FieldText {
         })
     }
 
+    /// Its bytes, which need not be UTF-8.
     pub fn as_bytes(&self) -> &[u8]
         ensures { result.now ≡ self.now }
     {
@@ -48,6 +49,7 @@ pub struct FaultyField {
 /// A fault of a batch, and where in its row it is.
 #[derive(Debug, Drop)]
 pub struct RecordFault {
+    /// What is wrong, and in which record.
     pub fault: BatchFault,
     /// `None` for a fault of a row as a whole (its length, its key, which an earlier one has), or of the batch.
     pub field: Option<FaultyField>,
@@ -56,6 +58,7 @@ pub struct RecordFault {
 /// A fault of a batch, and the line on which its row begins.
 #[derive(Debug, Drop)]
 pub struct ListedFault {
+    /// The fault, with its field.
     pub fault: RecordFault,
     /// The line of the file, from 1, where lines end with LF, or with CR and LF. No contract says which: it is counted by the CSV
     /// reader. A fault of the batch as a whole has line 1.
@@ -65,6 +68,7 @@ pub struct ListedFault {
 /// The first faults of a batch, in the order of its records.
 #[derive(Debug, Drop)]
 pub struct Faults {
+    /// Those that are listed.
     pub listed: Vec<ListedFault>,
     /// How many more there are.
     pub more: u64,

@@ -14,6 +14,7 @@ use wh_day::Value;
 /// One command of a delivery, and where its input is.
 #[derive(Debug, Drop)]
 pub struct ManifestEntry {
+    /// What the command is.
     pub kind: CommandKind,
     /// What the sender calls the command. Any text: it is judged when the command is sent.
     pub id: Value,

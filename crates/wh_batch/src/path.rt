@@ -20,6 +20,7 @@ impl Model for FilePath {
 }
 
 impl FilePath {
+    /// The path of this text, which isn't judged. The error comes where memory ran out.
     pub fn new(alloc: Global, text: &str) -> Result<FilePath, AllocError>
         ensures { IfOk result (λ path. path ≡ text.now) }
     {
@@ -28,6 +29,7 @@ impl FilePath {
         })
     }
 
+    /// Its text, to open the file and for printing.
     pub fn as_str(&self) -> &str
         ensures { result.now ≡ self.now }
     {

@@ -37,7 +37,7 @@ pub fn read(
 }
 
 /// The columns of a batch of this kind, in order: its header has their names, and each of its records a field for each. Voids
-/// have theirs in the first format too, which takes none.
+/// have theirs in the first format too, which takes none. The error comes where memory ran out.
 pub fn columns<'a>(
     alloc: Global,
     kind: Kind,

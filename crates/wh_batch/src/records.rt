@@ -30,6 +30,7 @@ impl<R: Drop> Model for RecordList<R> {
 }
 
 impl<R: Drop> RecordList<R> {
+    /// No record yet.
     pub fn new(alloc: Global) -> RecordList<R>
         ensures { result ≡ [] }
     {
@@ -64,7 +65,10 @@ impl<R: Drop> RecordList<R> {
 /// The records of a batch of any kind.
 #[derive(Debug, Drop)]
 pub enum Records {
+    /// Of a batch for a dimension.
     Dimension(DimensionRecords),
+    /// Of a batch of sales.
     Sales(SaleRecords),
+    /// Of a batch of voids.
     Voids(VoidRecords),
 }

@@ -11,9 +11,13 @@ use wh_day::Value;
 /// One report of a list, in the words that ask for it. Any texts: they are judged when the report is made.
 #[derive(Debug, Drop)]
 pub struct ListedReport {
+    /// What the sales are summed by.
     pub attribute: Value,
+    /// The word of a mode.
     pub mode: Value,
+    /// The first day, as `YYYY-MM-DD` where it is good.
     pub from: Value,
+    /// The last day, in the same form.
     pub to: Value,
 }
 

@@ -14,27 +14,43 @@ use wh_policy::Dim;
 
 /// The keys of a fact that follow its members' rows: the surrogate keys of the rows that hold the sale day, and the number
 /// of the customer's profile on that day. Without a card the customer's are 0.
+///
+/// Kimball & Ross, *The Data Warehouse Toolkit*, 3rd edition, chapter 3, "Dimension Surrogate Keys"; chapter 5, "Type 4: Add
+/// Mini-Dimension", for the profile.
 #[derive(Clone, Copy, Debug, PartialEq, Eq, Drop)]
 pub struct FactKeys {
+    /// Of the store's row.
     pub store_key: u64,
+    /// Of the product's row.
     pub product_key: u64,
+    /// Of the customer's row; 0, the row of sales without a card, where there is no card.
     pub customer_key: u64,
+    /// The number of the customer's profile: 0 without a card, 1 where no record of the customer is there.
     pub profile: u64,
 }
 
 /// A fact of the grain: one line of a ticket.
+///
+/// Kimball & Ross, *The Data Warehouse Toolkit*, 3rd edition, chapter 3, "Declare the Grain" and "Degenerate Dimensions for
+/// Transaction Numbers". It keeps the durable keys beside the surrogate ones: chapter 5, "Type 7: Dual Type 1 and Type 2
+/// Dimensions".
 #[derive(Debug, Drop)]
 pub struct Fact {
     /// The ticket, which has no table of its own.
     pub ticket: Value,
     /// The line's number on the ticket, 1 to 9999.
     pub line: u32,
+    /// The day of sale, which is the key of the calendar (YYYYMMDD).
     pub day: Day,
+    /// The keys that a late record can move.
     pub keys: FactKeys,
+    /// The durable key of the store.
     pub store_durable: u64,
+    /// The durable key of the product.
     pub product_durable: u64,
-    /// 0 without a card.
+    /// The durable key of the customer; 0 without a card.
     pub customer_durable: u64,
+    /// How many were sold: -9,999 to 9,999 in a stored fact.
     pub quantity: i64,
     /// In hundredths.
     pub amount: i64,
@@ -49,6 +65,7 @@ pub struct Fact {
 pub struct MemberKeys {
     /// The surrogate key of its row that holds the day.
     pub key: u64,
+    /// Its durable key.
     pub durable: u64,
     /// The number of a customer's profile on the day, and 0 for other members.
     pub profile: u64,
@@ -63,7 +80,7 @@ fn is_same_keys(a: FactKeys, b: FactKeys) -> bool
         && a.profile == b.profile
 }
 
-/// The surrogate key of the row that holds a day.
+/// The surrogate key of the first row that holds a day; 0 where no row holds it.
 pub fn key_in(rows: &[DimRow], day: Day) -> u64
     ensures { result ≡ key_in rows.now day }
 {
@@ -108,7 +125,7 @@ impl DimensionShape<'_> {
         }
     }
 
-    /// What a member gives a fact of a day.
+    /// What a member gives a fact of a day. The error comes where memory ran out.
     pub fn keys_on(
         &self,
         alloc: Global,
@@ -165,7 +182,7 @@ impl DimensionShape<'_> {
         }))
     }
 
-    /// Of some facts of a member those whose keys change, with their new keys, in their order.
+    /// The facts among a member's whose keys change, with their new keys, in their order. The error comes where memory ran out.
     pub fn rekeyed_facts(
         &self,
         alloc: Global,

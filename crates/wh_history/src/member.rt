@@ -8,6 +8,9 @@ use std::marker::Model;
 use wh_day::{Day, Value, Values};
 
 /// What a dimension record says of its member from a day on.
+///
+/// Kimball & Ross, *The Data Warehouse Toolkit*, 3rd edition, chapter 5, "Slowly Changing Dimension Basics". A change may come
+/// late, after others of later days.
 #[derive(Debug, Drop)]
 pub struct Change {
     /// The effective day.
@@ -47,6 +50,7 @@ impl Model for Changes {
 }
 
 impl Changes {
+    /// No change yet.
     pub fn new(alloc: Global) -> Changes
         ensures { result ≡ [] }
     {
@@ -83,16 +87,19 @@ impl Changes {
     }
 }
 
-/// A member of a dimension.
+/// A member of a dimension, with its natural and its durable key.
+///
+/// Kimball & Ross, *The Data Warehouse Toolkit*, 3rd edition, chapter 2, "Natural, Durable, and Supernatural Keys". A member
+/// without changes is a placeholder: a sale was the first to mention it.
 #[derive(Debug, Drop)]
 pub struct Member {
     /// The durable key: its place, from 1, among the dimension's members in order of first mention.
     pub durable: u64,
     /// The natural key: its name in the source.
     pub natural: Value,
-    /// The surrogate key of its opening.
+    /// The surrogate key of its opening, the row from 1900-01-01 on.
     pub opening: u64,
-    /// All that was accepted of it.
+    /// All that was accepted of it, in order of acceptance.
     pub changes: Changes,
 }
 

@@ -16,7 +16,9 @@ use crate::rows::DimRow;
 use std::alloc::{AllocError, Global};
 use wh_policy::{Dim, Policy};
 
-/// The rows of a member under a policy, in order of their starts. Each day has one. Source: Kimball, chapter 5, types 0 to 7.
+/// The rows of a member under a policy, in order of their starts. Each day has one. The error comes where memory ran out.
+///
+/// Kimball & Ross, *The Data Warehouse Toolkit*, 3rd edition, chapter 5, types 0 to 7.
 pub fn render(
     alloc: Global,
     policy: &Policy,
@@ -45,8 +47,10 @@ pub struct MemberPlan {
 }
 
 impl DimensionShape<'_> {
-    /// What leads from the rows and facts of a member that are stored to those that it has now. Source: Kimball, chapter 5,
-    /// late-arriving dimension data.
+    /// What leads from the rows and facts of a member that are stored to those that it has now. A record that comes late may split a
+    /// row and move facts of its days. The error comes where memory ran out.
+    ///
+    /// Kimball & Ross, *The Data Warehouse Toolkit*, 3rd edition, chapter 2, "Late Arriving Dimensions".
     pub fn plan_member(
         &self,
         alloc: Global,

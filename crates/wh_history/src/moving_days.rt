@@ -60,7 +60,7 @@ fn has_earlier(changes: &[Change], first: Day) -> bool
 }
 
 /// The day since which a member's facts can move, by its changes before a batch and with it: the first of the new ones,
-/// where an older one is of an earlier day.
+/// where an older one is of an earlier day, else the first day of all.
 pub fn moves_since(stored: &[Change], changes: &[Change]) -> Day
     ensures { result ≡ moves_since stored.now changes.now }
 {
@@ -102,8 +102,8 @@ fn before_record(kept: Option<&Change>) -> Day
 }
 
 impl DimensionShape<'_> {
-    /// The last day whose facts can move, of a member as it is stored and as it is after a batch. Where none of its records
-    /// is of a later day than the new ones, it isn't rendered as it is stored.
+    /// The last day whose facts can move, of a member as it is stored and as it is after a batch. Where no stored record has a later
+    /// day than all new ones, this is the last day of all, and the stored rows aren't made. The error comes where memory ran out.
     pub fn moves_until(
         &self,
         alloc: Global,

@@ -18,11 +18,17 @@ use wh_policy::AttributeType;
 /// A combination of profile values with its number.
 #[derive(Debug, Drop)]
 pub struct Numbered {
+    /// The values, each in its slot.
     pub texts: Values,
+    /// The number of its row in the table profile.
     pub number: u64,
 }
 
-/// What is known of combinations of profile values: some, with their numbers.
+/// What is known of combinations of profile values: some, with their numbers. Combinations begin with 2: profile 0 is that of sales
+/// without a card, and 1 that of customers without a record.
+///
+/// Kimball & Ross, *The Data Warehouse Toolkit*, 3rd edition, chapter 5, "Type 4: Add Mini-Dimension" and "Type 5: Mini-Dimension and
+/// Type 1 Outrigger".
 #[derive(Debug, Drop)]
 pub struct Profiles {
     known: Vec<Numbered>,
@@ -71,7 +77,7 @@ impl Profiles {
         number_known(self.known.as_slice(), texts)
     }
 
-    /// Adds a combination with its number.
+    /// Adds a combination with its number. After an `Err` all is as before.
     pub fn add(&mut self, texts: Values, number: u64) -> Result<(), AllocError>
         ensures ok { OnOk result (self.new ≡ self.old ++ record { texts = texts; number = number } ∷ []) }
         ensures err { OnErr result (self.new ≡ self.old) }

@@ -13,14 +13,22 @@ use wh_day::{Day, Value, Values};
 pub const GREATEST_NUMBER: u64 = 9_999_999;
 
 /// A row of a dimension's table: a member from one day to another.
+///
+/// Kimball & Ross, *The Data Warehouse Toolkit*, 3rd edition, chapter 5, "Type 2: Add New Row", with the columns of types 3, 5 and 6.
+/// A placeholder's only row says `(unknown)`: chapter 2, "Late Arriving Dimensions".
 #[derive(Debug, Drop)]
 pub struct DimRow {
+    /// The surrogate key, from 1; 0 is the row of sales without a card.
     pub surrogate: u64,
+    /// The durable key of the member; 0 in the row of sales without a card.
     pub durable: u64,
+    /// The natural key of the member.
     pub natural: Value,
+    /// The first day; 1900-01-01 in the opening.
     pub from_day: Day,
     /// The last day, 9999-12-31 in the current row.
     pub to_day: Day,
+    /// Whether it is the last of its member's rows.
     pub is_current: bool,
     /// The main texts of the six slots, empty where there is no attribute.
     pub a: Values,
@@ -31,6 +39,7 @@ pub struct DimRow {
 }
 
 impl DimRow {
+    /// The same row, in memory of its own.
     pub fn copy(&self, alloc: Global) -> Result<DimRow, AllocError>
         ensures { IfOk result (λ r. r ≡ self.now) }
     {

@@ -20,7 +20,7 @@ fn pad(values: &mut Values, text: &Value) -> Result<(), AllocError>
     Ok(())
 }
 
-/// Fills texts up to the six columns of a table.
+/// Fills texts up to the six columns of a table with empty ones. After an `Err` some may have been added.
 pub fn fill_columns(alloc: Global, texts: &mut Values) -> Result<(), AllocError>
     ensures { OnOk result (texts.new ≡ six texts.old) }
 {

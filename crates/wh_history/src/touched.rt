@@ -211,7 +211,7 @@ fn touch<S: MemberSource>(
 }
 
 /// The members that a batch touches, as they are after it, where so many members have durable keys and so many anchors
-/// surrogate keys before it.
+/// surrogate keys before it. The error is that of [`MemberSource::member`], or `Memory`.
 pub fn touch_all<S: MemberSource>(
     alloc: Global,
     stored: &S,

@@ -119,7 +119,9 @@ fn no_card_seconds(alloc: Global, types: &[AttributeType]) -> Result<Values, All
     Ok(texts)
 }
 
-/// The row of the customer table that stands for sales without a card.
+/// The row of the customer table that stands for sales without a card. Its keys are 0.
+///
+/// Kimball & Ross, *The Data Warehouse Toolkit*, 3rd edition, chapter 3, "Null Foreign Keys, Attributes, and Facts".
 pub fn no_card_row(alloc: Global, types: &[AttributeType]) -> Result<DimRow, AllocError>
     ensures { IfOk result (λ r. r ≡ no_card_row types.now) }
 {

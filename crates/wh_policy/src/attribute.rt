@@ -8,11 +8,14 @@ use std::alloc::{AllocError, Global};
 use std::marker::Model;
 use wh_day::Value;
 
-/// A dimension that has members.
+/// A dimension that has members. The calendar, which has none, isn't among them.
 #[derive(Clone, Copy, Debug, PartialEq, Eq)]
 pub enum Dim {
+    /// What is sold.
     Product,
+    /// Where it is sold.
     Store,
+    /// Who owns the card. It alone has a profile.
     Customer,
 }
 
@@ -41,7 +44,10 @@ impl Dim {
     }
 }
 
-/// How an attribute follows its changes: the types 0 to 7 of Kimball's chapter 5, in their order.
+/// How an attribute follows its changes: types 0 to 7 of slowly changing dimensions, in their order.
+///
+/// Kimball & Ross, *The Data Warehouse Toolkit*, 3rd edition, chapter 5, "Slowly Changing Dimension Basics" and
+/// "Hybrid Slowly Changing Dimension Techniques".
 #[derive(Clone, Copy, Debug, PartialEq, Eq)]
 pub enum AttributeType {
     /// Type 0: the first value that was given stays.
@@ -79,7 +85,7 @@ impl AttributeType {
         }
     }
 
-    /// The type of a number, 0 to 7.
+    /// The type of a number, 0 to 7; `None` for any other number.
     pub fn from_number(number: i64) -> Option<AttributeType>
         ensures { result ≡ type_of_number number }
     {
@@ -139,7 +145,9 @@ impl AttributeType {
 /// An attribute of a dimension.
 #[derive(Debug, Drop)]
 pub struct Attribute {
+    /// Its name in policies, batch headers and reports: 1 to 24 bytes in a policy that was read.
     pub name: Value,
+    /// How it follows its changes.
     pub kind: AttributeType,
 }
 
@@ -159,6 +167,7 @@ impl Model for Attributes {
 }
 
 impl Attributes {
+    /// No attribute yet.
     pub fn new(alloc: Global) -> Attributes
         ensures { result ≡ [] }
     {
@@ -183,7 +192,7 @@ impl Attributes {
         Ok(())
     }
 
-    /// The types by slot.
+    /// The types by slot. The error comes where memory ran out.
     pub fn types(&self, alloc: Global) -> Result<Vec<AttributeType>, AllocError>
         ensures { IfOk result (λ types. types.items ≡ kinds_of self.now) }
     {

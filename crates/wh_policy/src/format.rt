@@ -6,7 +6,9 @@ ghost use Rattle.wh_policy.specs.Formats.{format_number};
 /// A format of a warehouse: of ten tables, or of twelve, whose sales have a discount and whose lines may be withdrawn.
 #[derive(Clone, Copy, Debug, PartialEq, Eq)]
 pub enum Format {
+    /// Format 1, of ten tables.
     One,
+    /// Format 2, of twelve: fact2 and void come with it.
     Two,
 }
 

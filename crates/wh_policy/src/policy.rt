@@ -31,7 +31,9 @@ const TOP_KEYS: [&str; 6] = [
 /// The years of a calendar, from the first to the last.
 #[derive(Clone, Copy, Debug, PartialEq, Eq)]
 pub struct Years {
+    /// The first year; 1900 to 2199 where [`Policy::read`] made it.
     pub first: u16,
+    /// The last year, which is one of them.
     pub last: u16,
 }
 
@@ -44,7 +46,7 @@ impl Years {
         self.first as u32 <= year && year <= self.last as u32
     }
 
-    /// The numbers from the key of their first day to that of the last, in which those lie that are no day's too.
+    /// The numbers YYYYMMDD from 1 January of the first year to 31 December of the last. Numbers between that are no day's key lie in them too.
     pub fn keys(self) -> Range<u32>
         ensures first { result.start ≡ first_key self }
         ensures end { result.end ≡ end_key self }
@@ -56,10 +58,15 @@ impl Years {
 /// Which attributes the dimensions have, by slot and with their types, and the calendar's years and holidays.
 #[derive(Debug, Drop)]
 pub struct Policy {
+    /// The attributes of products, by slot.
     pub product: Attributes,
+    /// The attributes of stores, by slot.
     pub store: Attributes,
+    /// The attributes of customers, by slot. In a policy that was read, types 4 and 5 stand here alone, and not side by side.
     pub customer: Attributes,
+    /// The years of the calendar.
     pub years: Years,
+    /// The holidays of the calendar.
     pub holidays: Holidays,
 }
 
@@ -170,7 +177,7 @@ impl Policy {
         }
     }
 
-    /// The types of a dimension's attributes, by slot.
+    /// The types of a dimension's attributes, by slot. The error comes where memory ran out.
     pub fn types(&self, alloc: Global, dim: Dim) -> Result<Vec<AttributeType>, AllocError>
         ensures { IfOk result (λ types. types.items ≡ types_of self.now dim) }
     {

@@ -17,7 +17,7 @@ use wh_day::{DateRow, Day, Value, Values};
 use wh_history::{DimRow, Fact};
 use wh_policy::Dim;
 
-/// A key, a number or a count.
+/// A key, a number or a count. `Size`: it is above 9,999,999.
 pub fn number(number: u64) -> Result<ValueRef<'static>, Cause>
     ensures ok { IfOk result (λ value. owned value ≡ Int (pos number)) }
     ensures err { IfErr result (λ cause. (cause ≡ Size) × (is_number number ≡ false)) }
@@ -28,7 +28,7 @@ pub fn number(number: u64) -> Result<ValueRef<'static>, Cause>
     }
 }
 
-/// A discount.
+/// A discount, in hundredths. `Size`: it is above 999,999,999.
 fn discount(discount: u64) -> Result<ValueRef<'static>, Cause>
     ensures ok { IfOk result (λ value. owned value ≡ Int (pos discount)) }
     ensures err { IfErr result (λ cause. (cause ≡ Size) × (is_discount discount ≡ false)) }
@@ -39,14 +39,14 @@ fn discount(discount: u64) -> Result<ValueRef<'static>, Cause>
     }
 }
 
-/// A day.
+/// A day, as the number YYYYMMDD.
 pub fn day(day: Day) -> ValueRef<'static>
     ensures { owned result ≡ Int (pos day) }
 {
     ValueRef::Int(day.key() as i64)
 }
 
-/// The number of a dimension, as a column.
+/// The number of a dimension, as a column: [`dim_number`].
 pub fn dim(dim: Dim) -> ValueRef<'static>
     ensures { owned result ≡ Int (pos (dim_number dim)) }
 {
@@ -76,7 +76,7 @@ fn slot<'a>(texts: &'a Values, slot: usize) -> ValueRef<'a>
     }
 }
 
-/// The texts of the six slots.
+/// The texts of the six slots; a slot that isn't there is empty. `Memory`: a growth was refused.
 pub fn slots<'a>(alloc: Global, texts: &'a Values) -> Result<Vec<ValueRef<'a>>, Cause>
     ensures ok { IfOk result (λ values. bound values.items ≡ slot_columns texts.now) }
     ensures err { IfErr result (λ cause. cause ≡ Memory) }
@@ -95,6 +95,7 @@ pub fn slots<'a>(alloc: Global, texts: &'a Values) -> Result<Vec<ValueRef<'a>>, 
     Ok(values)
 }
 
+/// A row of meta. `Memory`: a growth was refused; nothing else is an error.
 pub fn meta<'a>(alloc: Global, row: &'a MetaRow) -> Result<Vec<ValueRef<'a>>, Cause>
     ensures ok { IfOk result (λ values. bound values.items ≡ encode_meta row.now) }
     ensures err { IfErr result (λ cause. cause ≡ Memory) }
@@ -103,6 +104,7 @@ pub fn meta<'a>(alloc: Global, row: &'a MetaRow) -> Result<Vec<ValueRef<'a>>, Ca
     Ok(values)
 }
 
+/// A row of command. `Size`: its number, its records or its placeholders are above 9,999,999. `Memory`: a growth was refused.
 pub fn command<'a>(alloc: Global, row: &'a CommandRow) -> Result<Vec<ValueRef<'a>>, Cause>
     ensures ok { IfOk result (λ values. bound values.items ≡ encode_command row.now) }
     ensures err { IfErr result (λ cause. cause ≢ Memory → (cause ≡ Size) × (is_command row.now ≡ false)) }
@@ -124,6 +126,7 @@ pub fn command<'a>(alloc: Global, row: &'a CommandRow) -> Result<Vec<ValueRef<'a
     Ok(values)
 }
 
+/// A row of member. `Size`: its durable key or its opening is above 9,999,999. `Memory`: a growth was refused.
 pub fn member<'a>(alloc: Global, row: &'a MemberRow) -> Result<Vec<ValueRef<'a>>, Cause>
     ensures ok { IfOk result (λ values. bound values.items ≡ encode_member row.now) }
     ensures err { IfErr result (λ cause. cause ≢ Memory → (cause ≡ Size) × (is_member row.now ≡ false)) }
@@ -134,6 +137,7 @@ pub fn member<'a>(alloc: Global, row: &'a MemberRow) -> Result<Vec<ValueRef<'a>>
     Ok(values)
 }
 
+/// A row of change. `Size`: its command, its place, its durable key or its anchor is above 9,999,999. `Memory`: a growth was refused.
 pub fn change<'a>(alloc: Global, row: &'a ChangeRow) -> Result<Vec<ValueRef<'a>>, Cause>
     ensures ok { IfOk result (λ values. bound values.items ≡ encode_change row.now) }
     ensures err { IfErr result (λ cause. cause ≢ Memory → (cause ≡ Size) × (is_change row.now ≡ false)) }
@@ -162,7 +166,8 @@ pub fn change<'a>(alloc: Global, row: &'a ChangeRow) -> Result<Vec<ValueRef<'a>>
     Ok(values)
 }
 
-/// A row of product, store or customer.
+/// A row of product, store or customer. `Size`: one of its keys or the number of its profile is above 9,999,999. `Memory`: a growth was
+/// refused.
 pub fn dimension<'a>(alloc: Global, of: Dim, row: &'a DimRow) -> Result<Vec<ValueRef<'a>>, Cause>
     ensures ok { IfOk result (λ values. bound values.items ≡ encode_dimension row.now) }
     ensures err { IfErr result (λ cause. cause ≢ Memory → (cause ≡ Size) × (is_dimension of row.now ≡ false)) }
@@ -197,6 +202,7 @@ pub fn dimension<'a>(alloc: Global, of: Dim, row: &'a DimRow) -> Result<Vec<Valu
     Ok(values)
 }
 
+/// A row of profile. `Size`: its number is above 9,999,999. `Memory`: a growth was refused.
 pub fn profile<'a>(alloc: Global, row: &'a ProfileRow) -> Result<Vec<ValueRef<'a>>, Cause>
     ensures ok { IfOk result (λ values. bound values.items ≡ encode_profile row.now) }
     ensures err { IfErr result (λ cause. cause ≢ Memory → (cause ≡ Size) × (is_profile row.now ≡ false)) }
@@ -217,6 +223,7 @@ pub fn profile<'a>(alloc: Global, row: &'a ProfileRow) -> Result<Vec<ValueRef<'a
     Ok(values)
 }
 
+/// A row of calendar. `Memory`: a growth was refused; nothing else is an error.
 pub fn date<'a>(alloc: Global, row: &'a DateRow) -> Result<Vec<ValueRef<'a>>, Cause>
     ensures ok { IfOk result (λ values. bound values.items ≡ encode_date row.now) }
     ensures err { IfErr result (λ cause. cause ≡ Memory) }
@@ -273,6 +280,8 @@ fn common_columns<'a>(alloc: Global, row: &'a Fact) -> Result<Vec<ValueRef<'a>>,
     Ok(values)
 }
 
+/// A row of fact, whose table has no column for the discount. `Size`: one of its keys or the number of its profile is above 9,999,999.
+/// `Memory`: a growth was refused.
 pub fn fact<'a>(alloc: Global, row: &'a Fact) -> Result<Vec<ValueRef<'a>>, Cause>
     ensures ok { IfOk result (λ values. bound values.items ≡ encode_fact row.now) }
     ensures err { IfErr result (λ cause. cause ≢ Memory → (cause ≡ Size) × (is_fact row.now ≡ false)) }
@@ -280,6 +289,8 @@ pub fn fact<'a>(alloc: Global, row: &'a Fact) -> Result<Vec<ValueRef<'a>>, Cause
     common_columns(alloc, row)
 }
 
+/// A row of fact2. `Size`: one of its keys or the number of its profile is above 9,999,999, or the discount above 999,999,999 hundredths.
+/// `Memory`: a growth was refused.
 pub fn fact2<'a>(alloc: Global, row: &'a Fact) -> Result<Vec<ValueRef<'a>>, Cause>
     ensures ok { IfOk result (λ values. bound values.items ≡ encode_fact2 row.now) }
     ensures err { IfErr result (λ cause. cause ≢ Memory → (cause ≡ Size) × (is_fact2 row.now ≡ false)) }
@@ -290,6 +301,7 @@ pub fn fact2<'a>(alloc: Global, row: &'a Fact) -> Result<Vec<ValueRef<'a>>, Caus
     Ok(values)
 }
 
+/// A row of void. `Size`: the number of its command is above 9,999,999. `Memory`: a growth was refused.
 pub fn void<'a>(alloc: Global, row: &'a VoidRow) -> Result<Vec<ValueRef<'a>>, Cause>
     ensures ok { IfOk result (λ values. bound values.items ≡ encode_void row.now) }
     ensures err { IfErr result (λ cause. cause ≢ Memory → (cause ≡ Size) × (is_void row.now ≡ false)) }

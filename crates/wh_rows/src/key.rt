@@ -20,20 +20,26 @@ pub fn dim_number(dim: Dim) -> u64
 /// The key of member: a dimension, and a durable key of it.
 #[derive(Clone, Copy, Debug, PartialEq, Eq)]
 pub struct MemberKey {
+    /// The dimension.
     pub dim: Dim,
+    /// The durable key of the member.
     pub durable: u64,
 }
 
 /// The key of change: a command's number, and the place of a record in it, from 1.
 #[derive(Clone, Copy, Debug, PartialEq, Eq)]
 pub struct ChangeKey {
+    /// The number of the command.
     pub command: u64,
+    /// The place of the record in it.
     pub place: u64,
 }
 
 /// The key of fact: a ticket and one of its lines.
 #[derive(Debug, Drop)]
 pub struct LineKey {
+    /// The number of the ticket, up to 20 bytes where it is stored.
     pub ticket: Value,
+    /// The line's number on it, 1 to 9999.
     pub line: u32,
 }

@@ -29,8 +29,11 @@ pub enum FactColumn {
 /// A sale by one of its fact's keys: what a sum of sales needs of it, and no text.
 #[derive(Clone, Copy, Debug, PartialEq, Eq)]
 pub struct KeyedSale {
+    /// The day of sale.
     pub day: Day,
+    /// The key by which it is summed: a number, or a day as YYYYMMDD.
     pub key: u64,
+    /// How many were sold.
     pub quantity: i64,
     /// In hundredths.
     pub amount: i64,

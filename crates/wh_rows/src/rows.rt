@@ -12,7 +12,9 @@ use wh_policy::Dim;
 /// A row of meta: a limit or the format, under its name.
 #[derive(Debug, Drop)]
 pub struct MetaRow {
+    /// `format`, `commands_max`, `changes_max` or `facts_max` in a sound warehouse.
     pub name: Value,
+    /// The number of the format, or the limit.
     pub value: i64,
 }
 
@@ -36,8 +38,11 @@ pub struct CommandRow {
 /// A row of member: what the source calls a member of a dimension.
 #[derive(Debug, Drop)]
 pub struct MemberRow {
+    /// The dimension.
     pub dim: Dim,
+    /// The durable key: its place, from 1, in order of first mention.
     pub durable: u64,
+    /// The natural key: its name in the source.
     pub natural: Value,
     /// The surrogate key of the member's first row.
     pub opening: u64,
@@ -50,7 +55,9 @@ pub struct ChangeRow {
     pub command: u64,
     /// The record's place in that command, from 1. The column is called `record`.
     pub place: u64,
+    /// The dimension of the member.
     pub dim: Dim,
+    /// The durable key of the member.
     pub durable: u64,
     /// The day from which on the values hold.
     pub day: Day,
@@ -65,6 +72,7 @@ pub struct ChangeRow {
 /// After Kimball & Ross, *The Data Warehouse Toolkit*, 3rd edition, chapter 5, "Type 4: Add Mini-Dimension".
 #[derive(Debug, Drop)]
 pub struct ProfileRow {
+    /// From 1. Row 1 is that of customers without a record, and combinations begin with 2.
     pub number: u64,
     /// The texts of the six slots, empty where the attribute is of another type.
     pub values: Values,
@@ -108,8 +116,9 @@ impl PlannedRow for ProfileRow {
 /// A row of void: a line that was withdrawn.
 #[derive(Debug, Drop)]
 pub struct VoidRow {
-    /// The ticket and the line on it.
+    /// The number of the ticket.
     pub ticket: Value,
+    /// The line's number on it, 1 to 9999.
     pub line: u32,
     /// The number of the command that withdrew it.
     pub command: u64,
@@ -128,6 +137,7 @@ pub enum TableRow {
     Profile(ProfileRow),
     Calendar(DateRow),
     Fact(Fact),
+    /// With the discount, which a row of fact hasn't.
     Fact2(Fact),
     Void(VoidRow),
 }
