@@ -14,6 +14,7 @@ use wh_policy::PolicyFault;
 pub struct Command {
     /// What the sender calls it. The same command may come again under the same id.
     pub id: Value,
+    /// What the command is.
     pub kind: CommandKind,
     /// The batch, or the policy file. Of an upgrade none are kept, and none compared.
     pub bytes: Bytes,
@@ -36,14 +37,18 @@ impl Command {
 pub struct Receipt {
     /// Its number among the accepted commands, from 1. The making has the number 1.
     pub number: u64,
+    /// How many records its batch has; 0 where it is no batch.
     pub records: u64,
-    /// How many members a sale of this command was the first to mention.
+    /// How many members a sale of this command was the first to mention: each got a placeholder row.
+    ///
+    /// Kimball & Ross, *The Data Warehouse Toolkit*, 3rd edition, chapter 2, "Late Arriving Dimensions".
     pub placeholders: u64,
 }
 
 /// The answer to a command that is kept.
 #[derive(Clone, Copy, Debug, PartialEq, Eq)]
 pub enum Reply {
+    /// The command was accepted now.
     Accepted(Receipt),
     /// The command came again; nothing was read or written further.
     Already(Receipt),
@@ -52,8 +57,11 @@ pub enum Reply {
 /// What a warehouse can be full of.
 #[derive(Clone, Copy, Debug, PartialEq, Eq)]
 pub enum Limit {
+    /// The accepted commands, with the making.
     Commands,
+    /// The accepted records of members.
     Changes,
+    /// The accepted sales, with those that were withdrawn.
     Facts,
 }
 

@@ -34,7 +34,8 @@ pub fn sound_is_each_right()
     ensures { SoundIsEachRight }
 {}
 
-/// What is stored is sound exactly where it is the ten tables of commands that were admitted, in whatever order the rows are stored.
+/// What is stored is sound exactly where it is the tables of commands that were admitted, ten in format 1 and twelve in format 2, in whatever order the
+/// rows are stored.
 pub fn sound_is_of_commands()
     ensures { SoundIsOfCommands }
 {}

@@ -66,7 +66,8 @@ fn is_end<T: Plain, M: Alter>(
 }
 
 /// Whether a table of a format stores what the same table of the second warehouse holds, and nothing else. Both are read a part at a time, what
-/// is stored to its end, so that a damaged row is met wherever it stands.
+/// is stored to its end, so that a damaged row is met wherever it stands. `Damaged`: the table stores such a row. `Memory` and `Store`: as reading has
+/// them.
 pub fn holds_the_same<T: Plain, S: Alter, M: Alter>(
     tables: &mut Tables<S>,
     alloc: Global,

@@ -2,7 +2,7 @@
 
 use wh_rows::Table;
 
-/// What a check finds of the ten tables.
+/// What a check finds of the tables: ten in format 1, twelve in format 2.
 #[derive(Clone, Copy, Debug, PartialEq, Eq)]
 pub enum Verdict {
     /// They are those of the commands that they hold.

@@ -230,7 +230,7 @@ pub(crate) fn number_for_records<S: Alter>(
     records: u64,
 ) -> Result<u64, Fault>
     ensures reads { Reads S.Store tables.old tables.new result }
-    // No stored command has the answered number, whoever wrote the rows.
+    // No stored command has the answered number, whatever rows are stored.
     ensures free { WhenStored S.Store tables.old tables.new (λ stored. IfOk result (HasNoCommand stored)) }
     ensures number { WhenAccepted S.Store tables.old tables.new limits (λ commands. (content : Content) → sold_by content ≡ [] → withdrawn_by content ≡ [] → changes_in content ≡ records → upgrades_again commands content ≡ false → Judges (λ number next. number ≡ next) result (number_for limits commands content)) }
 {
@@ -254,7 +254,7 @@ pub(crate) fn number_for_sales<S: Alter>(
     sales: &[SaleRecord],
 ) -> Result<u64, Fault>
     ensures reads { Reads S.Store tables.old tables.new result }
-    // No stored command has the answered number, whoever wrote the rows.
+    // No stored command has the answered number, whatever rows are stored.
     ensures free { WhenStored S.Store tables.old tables.new (λ stored. IfOk result (HasNoCommand stored)) }
     ensures number { WhenAccepted S.Store tables.old tables.new limits (λ commands. format ≡ format_of commands → Judges (λ number next. number ≡ next) result (number_for limits commands (Sells sales.now))) }
 {
@@ -281,7 +281,7 @@ pub(crate) fn number_for_voids<S: Alter>(
     voids: &[VoidRecord],
 ) -> Result<u64, Fault>
     ensures reads { Reads S.Store tables.old tables.new result }
-    // No stored command has the answered number, whoever wrote the rows.
+    // No stored command has the answered number, whatever rows are stored.
     ensures free { WhenStored S.Store tables.old tables.new (λ stored. IfOk result (HasNoCommand stored)) }
     ensures number { WhenAccepted S.Store tables.old tables.new limits (λ commands. format_of commands ≡ Two → Judges (λ number next. number ≡ next) result (number_for limits commands (Withdraws voids.now))) }
 {

@@ -21,14 +21,19 @@ use wh_store::Tables;
 /// How much a warehouse holds.
 #[derive(Clone, Copy, Debug, PartialEq, Eq)]
 pub struct Counts {
+    /// The number of the format: 1 or 2.
     pub format: u64,
+    /// Accepted commands, with the making.
     pub commands: u64,
     /// Accepted records of products, stores and customers.
     pub changes: u64,
-    /// Accepted sales.
+    /// The sales that stand: withdrawn ones aren't counted, although they count for the limit of facts.
     pub facts: u64,
+    /// Products that were mentioned: the greatest durable key.
     pub products: u64,
+    /// Stores, in the same way.
     pub stores: u64,
+    /// Customers, in the same way.
     pub customers: u64,
 }
 
@@ -69,11 +74,12 @@ fn counts_of<S: Alter>(
 }
 
 impl<S: Alter> Engine<S> {
-    /// How much the warehouse holds. After a refusal of the store it answers `Reopen`.
+    /// How much the warehouse holds. `Damaged`: the last member of a dimension is out of its type. `Memory` and `Store`: as reading has them. After a
+    /// refusal of the store it answers `Reopen`.
     pub fn counts(&mut self, alloc: Global) -> Result<Counts, Fault>
         ensures reads { EngineReads S.Store self.old self.new result }
         ensures counted { WhenReady S.Store self.old self.new (λ limits commands. IsCounted limits commands result) }
-        // Of any rows, whoever wrote them: how many are stored, damaged or not.
+        // Of any stored rows: how many are stored, damaged or not.
         ensures stored { WhenStored S.Store self.old.tables self.new.tables (λ stored. IfOk result (CountsStored self.old.session.format stored)) }
     {
         if self.session.must_reopen {

@@ -35,13 +35,13 @@ impl<S: Alter> Engine<S> {
     /// first: where that is refused, no command is begun. After a refusal of the store, in this call or an earlier one, the warehouse has
     /// to be opened again.
     pub fn deliver(&mut self, alloc: Global, commands: &[Command]) -> Replies
-        // Any tables stay as they were, where nothing was accepted and the store refused no call, and any rows, whoever wrote them.
+        // Any tables, and any stored rows, stay as they were where nothing was accepted and the store refused no call.
         ensures keeps { Keeps S.Store self.old.tables self.new.tables (AcceptNothing result.answers.items × (is_of_the_store result.stop ≡ false)) }
         ensures delivered { WhenReady S.Store self.old self.new (λ limits accepted. IsDelivered limits accepted commands.now result.answers.items result.stop) }
         // On any tables: how many are answered, and that no refusal of a command is a stop.
         ensures many { AreAsMany commands.now result.answers.items result.stop }
         ensures faults { IsNoRefusal result.stop }
-        // The table that is named as damaged stores a damaged row, whoever wrote it, where nothing was accepted before.
+        // The table that is named as damaged stores a damaged row, where nothing was accepted before.
         ensures blames { WhenStored S.Store self.old.tables self.new.tables (λ stored. AcceptNothing result.answers.items → BlamesStored stored result.stop) }
         ensures shuts { Shuts self.old self.new (result.stop ≡ Some Fault.Reopen) }
         // As many keys are written as the last command writes, and none where the delivery was stopped or nothing was accepted.

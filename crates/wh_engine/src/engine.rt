@@ -96,13 +96,13 @@ impl<S: Alter> Engine<S> {
         self.tables.close()
     }
 
-    /// Answers a command. An accepted one is kept, once, in one transaction whose commit is the last call of the store. After a
-    /// refusal of the store every call answers `Reopen`.
+    /// Answers a command. An accepted one is kept, once, in one transaction whose commit is the last call of the store. `Refused`: it isn't
+    /// accepted. `Damaged`, `Memory`: nothing was written. `Store`: the store refused a call. After that every call answers `Reopen`.
     pub fn apply(&mut self, alloc: Global, command: &Command) -> Result<Reply, Fault>
-        // Any tables stay as they were, where nothing was accepted, and any rows, whoever wrote them.
+        // Any tables, and any stored rows, stay as they were where nothing was accepted.
         ensures keeps { Keeps S.Store self.old.tables self.new.tables (KeepsNothing result) }
         ensures answered { WhenReady S.Store self.old self.new (λ limits commands. IsAnswered limits commands command.now result) }
-        // The table that is named as damaged stores a damaged row, whoever wrote it.
+        // The table that is named as damaged stores a damaged row.
         ensures blames { WhenStored S.Store self.old.tables self.new.tables (λ stored. BlamesDamage stored result) }
         // That a command came again is answered only where an undamaged row is stored with its id, kind and bytes; the receipt is that row's.
         ensures again { WhenStored S.Store self.old.tables self.new.tables (λ stored. IsAgain stored command.now result) }

@@ -83,7 +83,7 @@ fn policy_of(alloc: Global, commands: &[CommandRow]) -> Result<Policy, OpenFault
 fn policy_in<S: Alter>(tables: &mut Tables<S>, alloc: Global) -> Result<Policy, OpenFault>
     ensures reads { SparesIn S.Store tables.old tables.new (IsServed result) }
     ensures read { WhenAtRest S.Store tables.old tables.new (λ t. IsRead result (of_command (last_policy_in t)) t (state_of S.Store tables.new)) }
-    // The same of any rows, whoever wrote them: by the last that gives a policy.
+    // The same of any stored rows: by the last that gives a policy.
     ensures stored { WhenStored S.Store tables.old tables.new (λ stored. IfOk result (λ policy. PolicyIs stored (Ok policy))) }
     ensures policyless { WhenStored S.Store tables.old tables.new (λ stored. IfErr result (IsPolicyless stored)) }
 {
@@ -99,7 +99,7 @@ fn session_of<S: Alter>(
 ) -> Result<Session, OpenFault>
     ensures reads { SparesIn S.Store tables.old tables.new (IsServed result) }
     ensures read { WhenAtRest S.Store tables.old tables.new (λ t. IsRead result (session_in format t) t (state_of S.Store tables.new)) }
-    // The same of any rows, whoever wrote them: by the limits, and then by the last row that gives a policy.
+    // The same of any stored rows: by the limits, and then by the last row that gives a policy.
     ensures stored { WhenStored S.Store tables.old tables.new (λ stored. FormatIs Two (is_two stored.format) stored (Ok format) → IfOk result (SessionIs stored)) }
     ensures sessionless { WhenStored S.Store tables.old tables.new (λ stored. IfErr result (IsSessionless stored)) }
     ensures fresh { IfOk result (λ session. session.must_reopen ≡ false) }
@@ -167,7 +167,7 @@ impl<S: Alter> Engine<S> {
         ensures clean_left { IfHandedBack S.Store conn result (λ old new _. HasCleanDisk new → HasCleanDisk old) }
         ensures ready { IfOpened S.Store conn result (λ old new engine. WhenAdmitted old new (λ limits commands. IsReady limits commands engine.session)) }
         ensures refused { IfHandedBack S.Store conn result (λ old new why. WhenAdmitted old new (λ limits commands. IsNotOpened limits commands why)) }
-        // The same of any ten tables, whoever wrote their rows, as far as all of these are of their types.
+        // The same of any tables of either format all of whose rows are of their types, admitted or not.
         ensures found { IfOpened S.Store conn result (λ old new engine. SaysAtRest old new (λ t. (opened t ≡ Ok engine.session) × IsAtRest (Some t) new)) }
         ensures fault { IfHandedBack S.Store conn result (λ old new why. SaysAtRest old new (λ t. IsRead (Err why) (opened t) t new)) }
         // The same of any rows that are stored under the schema of a making: a damaged row that isn't asked for keeps nothing from opening.

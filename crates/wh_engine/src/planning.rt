@@ -36,7 +36,8 @@ fn foretell<S: Alter>(
 
 impl<S: Alter> Engine<S> {
     /// What a command would write, were it sent now: its edits of all tables, and none where it is the same as an accepted one.
-    /// It is refused as `apply` would refuse it. Nothing is written. After a refusal of the store it answers `Reopen`.
+    /// It is refused as `apply` would refuse it, by `Refused`, `Damaged`, `Memory` or `Store`. Nothing is written. After a refusal of the store it answers
+    /// `Reopen`.
     pub fn plan(&mut self, alloc: Global, command: &Command) -> Result<Edits, Fault>
         ensures reads { EngineReads S.Store self.old self.new result }
         ensures foretold { WhenReady S.Store self.old self.new (λ limits commands. IsForetold limits commands command.now result) }

@@ -28,7 +28,9 @@ use wh_store::{ReadFault, Tables};
 /// What a command would be answered, and what it would write.
 #[derive(Debug, Drop)]
 pub struct Preview {
+    /// What it would be answered.
     pub receipt: Receipt,
+    /// What it would write.
     pub edits: Edits,
 }
 

@@ -40,7 +40,7 @@ pub fn restart<D: Crash + Drop>(
         → IfOk result (IsReadyForEither over_files limits before after)) }
     ensures refused { OfAnyTwo (λ limits before after. (HasCleanDisk (file_state engine.tables.conn) → LeavesOneOf limits before after (file_state engine.tables.conn))
         → IfErr result (IsNotReady limits before after (HasCleanDisk (file_state engine.tables.conn)))) }
-    // The same of any rows, whoever wrote them.
+    // The same of any stored rows.
     ensures refused_stored { (stored : Stored) → LeavesStored stored (file_state engine.tables.conn) → IfErr result (IsNotReadyOn stored) }
     ensures fresh { IfOk result (λ again. (again.session.must_reopen ≡ false) × (again.writes ≡ 0)) }
 {

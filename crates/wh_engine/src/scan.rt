@@ -28,7 +28,7 @@ fn row_after<T: PagedTable, S: Alter>(
     cursor: &mut Cursor<T::Key, T::Row>,
 ) -> Result<Option<T::Row>, Fault>
     ensures reads { Reads S.Store tables.old tables.new result }
-    // The row is the next of the table's, and of its type, whoever wrote it.
+    // The row is the next of any that the table stores, and of its type.
     ensures hands { HandsNext S.Store T.KeyedTable.name T.StoredTable.layout T.KeyedTable.bind T.StoredTable.rows format tables.old tables.new cursor.old cursor.new result }
     ensures sound { WhenAtRest S.Store tables.old tables.new (λ _. IfErr result IsWanting) }
     ensures ends { Ends tables.old tables.new cursor.old cursor.new result }
@@ -59,7 +59,7 @@ impl<'e, S: Alter, T: PagedTable> Scan<'e, S, T> {
     pub fn next_row(&mut self, alloc: Global) -> Result<Option<T::Row>, Fault>
         ensures same_reference { self.new.engine.ghost_name ≡ self.old.engine.ghost_name }
         ensures reads { EngineReadsThrough S.Store self.old.engine.now self.new.engine.now result }
-        // The row is the next of the table's, and of its type, whoever wrote it.
+        // The row is the next of any that the table stores, and of its type.
         ensures hands { HandsNext S.Store T.KeyedTable.name T.StoredTable.layout T.KeyedTable.bind T.StoredTable.rows self.old.engine.now.session.format self.old.engine.now.tables self.new.engine.now.tables self.old.cursor self.new.cursor result }
         ensures ends { Ends self.old.engine.now.tables self.new.engine.now.tables self.old.cursor self.new.cursor result }
         ensures writes { self.new.engine.now.writes ≡ self.old.engine.now.writes }
@@ -79,7 +79,7 @@ impl<S: Alter> Engine<S> {
         cursor: &mut Cursor<T::Key, T::Row>,
     ) -> Result<Option<T::Row>, Fault>
         ensures reads { EngineReadsThrough S.Store self.old self.new result }
-        // The row is the next of the table's, and of its type, whoever wrote it.
+        // The row is the next of any that the table stores, and of its type.
         ensures hands { HandsNext S.Store T.KeyedTable.name T.StoredTable.layout T.KeyedTable.bind T.StoredTable.rows self.old.session.format self.old.tables self.new.tables cursor.old cursor.new result }
         ensures ends { Ends self.old.tables self.new.tables cursor.old cursor.new result }
         ensures writes { self.new.writes ≡ self.old.writes }
@@ -100,7 +100,7 @@ impl<S: Alter> Engine<S> {
     ) -> Result<Option<T::Row>, Fault>
         ensures reads { EngineReads S.Store self.old self.new result }
         ensures serves { WhenReady S.Store self.old self.new (λ limits commands. IsServing limits commands result) }
-        // The row is the next of the table's, and of its type, whoever wrote it.
+        // The row is the next of any that the table stores, and of its type.
         ensures hands { HandsNext S.Store T.KeyedTable.name T.StoredTable.layout T.KeyedTable.bind T.StoredTable.rows self.old.session.format self.old.tables self.new.tables cursor.old cursor.new result }
         ensures unread { IsTrue self.old.session.must_reopen → cursor.new ≡ cursor.old }
         ensures ends { self.old.session.must_reopen ≡ false → Ends self.old.tables self.new.tables cursor.old cursor.new result }

@@ -10,6 +10,7 @@ use wh_rows::Limits;
 /// What an engine knows of its warehouse while it is open.
 #[derive(Debug, Drop)]
 pub struct Session {
+    /// The limits that were chosen at the making.
     pub limits: Limits,
     /// The format of its tables.
     pub format: Format,

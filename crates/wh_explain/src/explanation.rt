@@ -20,10 +20,13 @@ use wh_rows::{MemberKey, MemberRow};
 /// What was sent, and what it is judged by.
 #[derive(Drop)]
 pub struct Sent<'a> {
+    /// What the command is.
     pub kind: CommandKind,
     /// The policy in force.
     pub policy: &'a Policy,
+    /// The format of the warehouse.
     pub format: Format,
+    /// The batch, or the policy file.
     pub bytes: &'a [u8],
     /// The command that sold or withdrew the line of a refusal, if one was found.
     pub source: Option<Source>,
@@ -39,7 +42,7 @@ fn columns_text(alloc: Global, columns: &[Column], years: Years) -> Result<Vec<u
     Ok(text)
 }
 
-/// A line a column: what its fields may hold.
+/// A line for each column: what its fields may hold. The error comes where memory ran out.
 pub fn add_columns(
     text: &mut Vec<u8>,
     alloc: Global,
@@ -86,7 +89,7 @@ fn mentions_text(
     Ok(text)
 }
 
-/// A line a dimension: the members that sales mention for the first time, whose rows their edits put.
+/// A line for each dimension: the members that sales mention for the first time, whose rows their edits put. The error comes where memory ran out.
 pub fn add_first_mentions(
     text: &mut Vec<u8>,
     alloc: Global,

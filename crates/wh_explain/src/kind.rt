@@ -23,7 +23,7 @@ fn push_attributes(text: &mut Vec<u8>, attributes: &[Attribute]) -> Result<(), A
     Ok(())
 }
 
-/// A line a dimension: the attributes that have to stay.
+/// A line for each dimension: the attributes that have to stay.
 fn push_kept(text: &mut Vec<u8>, policy: &Policy) -> Result<(), AllocError> {
     for dim in [Dim::Product, Dim::Store, Dim::Customer] {
         push_text(text, dim.word())?;

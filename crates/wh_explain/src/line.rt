@@ -12,7 +12,9 @@ use wh_rows::CommandRow;
 /// A command that sold or withdrew a line.
 #[derive(Debug, Drop)]
 pub struct Source {
+    /// Its number among the accepted commands, from 1.
     pub number: u64,
+    /// What its sender calls it.
     pub id: Value,
 }
 

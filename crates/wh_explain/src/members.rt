@@ -65,7 +65,7 @@ fn push_members(
     push_text(text, "\n")
 }
 
-/// A line a dimension: the members whose rows are new.
+/// A line for each dimension: the members whose rows are new.
 pub(crate) fn push_first_mentions(
     text: &mut Vec<u8>,
     members: &[Edit<MemberRow, MemberKey>],

@@ -35,7 +35,8 @@ fn upgrade_edits(alloc: Global, command: CommandRow, facts: FactTables) -> Resul
     Ok(edits)
 }
 
-/// What an upgrade of a warehouse of the first format writes. All facts are read.
+/// What an upgrade of a warehouse of the first format writes. All facts are read. The error is that of a read: `Memory`, `Damaged` with the table
+/// whose row is out of its type, or `Store`.
 pub fn plan_upgrade<S: Alter>(
     tables: &mut Tables<S>,
     alloc: Global,

@@ -25,14 +25,23 @@ pub enum FactEdit {
 pub struct Edits {
     /// The tables of the second format are made first, and no fact of the first format stays.
     pub upgrades: bool,
+    /// Of meta: an upgrade alone has one.
     pub meta: Vec<Edit<MetaRow, Value>>,
+    /// Of command: the command's own row.
     pub commands: Vec<Edit<CommandRow, u64>>,
+    /// Of member.
     pub members: Vec<Edit<MemberRow, MemberKey>>,
+    /// Of change.
     pub changes: Vec<Edit<ChangeRow, ChangeKey>>,
+    /// Of product, by surrogate key.
     pub products: Vec<Edit<DimRow, u64>>,
+    /// Of store, by surrogate key.
     pub stores: Vec<Edit<DimRow, u64>>,
+    /// Of customer, by surrogate key.
     pub customers: Vec<Edit<DimRow, u64>>,
+    /// Of profile, by number.
     pub profiles: Vec<Edit<ProfileRow, u64>>,
+    /// Of calendar, by day.
     pub calendar: Vec<Edit<DateRow, Day>>,
     /// Of the facts of the first format.
     pub facts: Vec<FactEdit>,

@@ -126,7 +126,9 @@ pub fn fact_rekeys(alloc: Global, facts: Vec<Fact>) -> Result<Vec<FactEdit>, All
 /// The edits of the facts in the table of each format.
 #[derive(Drop)]
 pub struct FactTables {
+    /// Of the table of format 1.
     pub one: Vec<FactEdit>,
+    /// Of the table of format 2.
     pub two: Vec<FactEdit>,
 }
 

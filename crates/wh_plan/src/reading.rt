@@ -30,7 +30,7 @@ pub fn command_of<S: Alter>(
 ) -> Result<Option<CommandRow>, ReadFault>
     ensures reads { ReadsOnly (state_of S.Store tables.old) (state_of S.Store tables.new) result }
     ensures command { Finds (state_of S.Store tables.old) (state_of S.Store tables.new) (λ _ commands. HaveDistinctIds commands → IfOk result (λ row. row ≡ command_with commands id.now)) }
-    // The same of any rows, whoever wrote them.
+    // The same of any stored rows.
     ensures stored { SaysAsStored (state_of S.Store tables.old) (state_of S.Store tables.new) (λ stored. IfOk result (IsLastOf row.command (filter (has_id id.now) (stored.rows Command)))) }
 {
     let mut found = tables.ask::<tables::Command, CommandOf<'_>>(alloc, &CommandOf { id })?;
@@ -140,6 +140,7 @@ pub fn stored_rows<S: Alter>(
 pub struct LastMember {
     /// How many members have durable keys.
     pub durable: u64,
+    /// The surrogate key of its opening.
     pub opening: u64,
 }
 

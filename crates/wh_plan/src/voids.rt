@@ -73,7 +73,7 @@ fn void_edits(alloc: Global, command: CommandRow, rows: Vec<VoidRow>) -> Result<
 }
 
 /// What a batch of voids writes: its own row, and for each line a removal of its fact and a row of void with the
-/// command's number. Nothing is read.
+/// command's number. Nothing is read. The error comes where memory ran out.
 pub fn plan_voids(
     alloc: Global,
     command: CommandRow,

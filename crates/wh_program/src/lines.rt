@@ -114,6 +114,7 @@ fn push_batch_line(text: &mut Vec<u8>, fault: BatchFault) -> Result<(), AllocErr
     push_record_line(text, "refused: E3 batch, ", name, u64::from(fault.number))
 }
 
+/// The line of a batch that has a fault.
 pub fn batch_line(alloc: Global, fault: BatchFault) -> Result<Vec<u8>, AllocError>
     ensures { IfOk result (λ line. line.items ≡ batch_line fault) }
 {
@@ -321,6 +322,7 @@ fn push_damaged_line(text: &mut Vec<u8>, table: Table) -> Result<(), AllocError>
     push_named_line(text, "failed: E7 damaged, ", table.name())
 }
 
+/// The answer where this table has a row out of its type.
 pub fn damaged(alloc: Global, table: Table) -> Result<Answer, AllocError>
     ensures { IfOk result (λ answer. answer ≡ failed (damaged_line table)) }
 {

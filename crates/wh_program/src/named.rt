@@ -9,7 +9,9 @@ use std::mem;
 /// A value under a name.
 #[derive(Drop)]
 pub struct Named<T: Drop> {
+    /// The name.
     pub name: String,
+    /// The value.
     pub value: T,
 }
 

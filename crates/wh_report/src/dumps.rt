@@ -78,7 +78,7 @@ pub fn write_table<T: DumpedTable + PagedTable, S: Alter, W: Write>(
     ensures reads { ReadsThrough engine.old.session engine.new.session (state_of S.Store engine.old.tables) (state_of S.Store engine.new.tables) (of_warehouse result) }
     ensures writes { engine.new.writes ≡ engine.old.writes }
     ensures out { SaysInFormat S.Store T.KeyedTable.name engine.old.session.format engine.old.tables engine.new.tables (λ t. IsOutInLines result (W.contents out.old) (W.contents out.new) (table_lines T.StoredTable.layout (values (T.StoredTable.rows t)))) }
-    // Of any rows, whoever wrote them: all are of their types and went out, or those that come first by key.
+    // Of any stored rows: all are of their types and went out, or those that come first by key.
     ensures stored { SaysAsStoredIn S.Store T.KeyedTable.name engine.old.session.format engine.old.tables engine.new.tables (λ stored. IsDumpOf T.StoredTable.layout T.KeyedTable.name (stored.rows T.KeyedTable.name) result (W.contents out.old) (W.contents out.new)) }
     ensures reopen { IsTrue engine.old.session.must_reopen → (result ≡ Err (report.Warehouse faults.Reopen)) × (engine.new.tables ≡ engine.old.tables) × (engine.new.session ≡ engine.old.session) × (W.contents out.new ≡ W.contents out.old) }
     ensures only { result ≡ Err (report.Warehouse faults.Reopen) → IsTrue engine.old.session.must_reopen }

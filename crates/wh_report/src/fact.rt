@@ -8,6 +8,7 @@ use thiserror::Error;
 /// Why facts weren't counted.
 #[derive(Clone, Copy, Debug, PartialEq, Eq, Error)]
 pub enum FactFault {
+    /// A growth was refused.
     #[error("memory ran out")]
     Memory,
     /// The row that a fact names for its label isn't there.

@@ -17,6 +17,7 @@ pub enum ReportFault {
     /// The writer failed, or took nothing.
     #[error("the text can't be written")]
     Write,
+    /// The warehouse can't be read, by this fault.
     #[error("the warehouse can't be read")]
     Warehouse(Fault),
     /// The warehouse can't be read, and the writer failed as well, at the lines of the rows that were read before.

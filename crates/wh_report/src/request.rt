@@ -49,7 +49,7 @@ impl Model for Request {
 
 impl Request {
     /// The request for a report by the attribute of these words, in this mode, on the sales from one day to another, both
-    /// included; or the first fault.
+    /// included and written `YYYY-MM-DD`; or the first fault. `Memory`: a growth was refused.
     #[tactic(auto, unfolding(crate::specs::Request::asked))]
     pub fn read(
         alloc: Global,
@@ -102,6 +102,7 @@ impl Request {
         self.words.as_str()
     }
 
+    /// The mode that was asked for.
     pub fn mode(&self) -> Mode
         ensures { result ≡ self.now.mode }
     {

@@ -62,7 +62,8 @@ fn report_over<S: Alter>(
 }
 
 /// The text of the report that is asked for. Whether its attribute has a reading under the policy in force is what
-/// `Request::reads` answers.
+/// `Request::reads` answers. `Warehouse`: the tables can't be read, and after a refusal of the store it is `Reopen`. `Inconsistent`: a row that a fact
+/// names is missing, or there are more facts than can be counted.
 pub fn report<S: Alter>(
     alloc: Global,
     engine: &mut Engine<S>,
@@ -74,7 +75,7 @@ pub fn report<S: Alter>(
     // Of any tables whose rows have values of their types, also of those that no warehouse made.
     ensures tables { SaysAtRest (state_of S.Store engine.old.tables) (state_of S.Store engine.new.tables) (λ t. (subject : Subject) (which : Reading)
         → subject_in engine.old.session.policy request.now.words ≡ Some subject → reading_of subject request.now.mode ≡ Some which → ReportsTables engine.old.session.format request.now (column_of subject which) t result) }
-    // And of any rows, whoever wrote them: of those that it reads none is damaged, in the columns that it reads.
+    // And of any stored rows: of those that it reads none is damaged, in the columns that it reads.
     ensures stored { SaysAsStored (state_of S.Store engine.old.tables) (state_of S.Store engine.new.tables) (λ stored. (subject : Subject) (which : Reading)
         → subject_in engine.old.session.policy request.now.words ≡ Some subject → reading_of subject request.now.mode ≡ Some which → ReportsStored engine.old.session.format request.now (column_of subject which) stored result) }
     // Of the tables of accepted commands the text is that of the history.

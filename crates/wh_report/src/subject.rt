@@ -22,9 +22,11 @@ pub enum Reading {
 /// An attribute of a dimension under a policy.
 #[derive(Clone, Copy, Debug, PartialEq, Eq)]
 pub struct SlotAttribute {
+    /// The dimension.
     pub dim: Dim,
     /// Its place among the dimension's slots, from 0.
     pub place: usize,
+    /// Its type.
     pub kind: AttributeType,
 }
 

@@ -17,6 +17,7 @@ use thiserror::Error;
 /// Why sales weren't counted.
 #[derive(Clone, Copy, Debug, PartialEq, Eq, Error)]
 pub enum AddError {
+    /// A growth was refused.
     #[error("memory ran out")]
     Memory,
     /// There are more than 4,294,967,295 sales, or the measures of one are out of range: no warehouse keeps such ones.

@@ -81,7 +81,7 @@ fn line(alloc: Global, label: &str, totals: Totals) -> Result<String, AllocError
 }
 
 impl Summary {
-    /// A line a label, and that of the total.
+    /// A line for each label, and one for the total.
     #[tactic(auto, unfolding(crate::specs::Text::summed_text))]
     pub fn text(&self, alloc: Global) -> Result<String, AllocError>
         ensures { IfOk result (λ s. string_bytes s ≡ summed_text self.now) }

@@ -29,8 +29,8 @@ impl Model for Measures {
 }
 
 impl Measures {
-    /// The measures, where they are within what a sale may have: a quantity up to 9,999, and an amount and a cost up to
-    /// 9,999,999.99, each with either sign.
+    /// The measures, with the amount and the cost in hundredths, where they are within what a sale may have: a quantity up to 9,999, and an
+    /// amount and a cost up to 999,999,999 hundredths, each with either sign.
     pub fn new(quantity: i64, amount: i64, cost: i64) -> Option<Measures>
         ensures some { IsSome result ↔ IsMeasured (record { quantity = quantity; amount = amount; cost = cost }) }
         ensures value { IfSome result (λ m. m ≡ record { quantity = quantity; amount = amount; cost = cost }) }
@@ -60,7 +60,7 @@ fn is_money(money: i64) -> bool
 }
 
 /// How many lines of tickets there are, and what their measures come to. No figure overflows: so many lines as a `u32`
-/// counts come to less than an `i64` holds, whatever their measures are.
+/// counts come to less than an `i64` holds, whatever their measures are. Amounts and costs are in hundredths.
 #[derive(Clone, Copy, Debug, PartialEq, Eq)]
 pub struct Totals {
     lines: u32,
@@ -142,20 +142,21 @@ impl Totals {
         self.lines
     }
 
+    /// What their quantities come to.
     pub fn quantity(self) -> i64
         ensures { result ≡ self.quantity }
     {
         self.quantity
     }
 
-    /// In hundredths.
+    /// What their amounts come to, in hundredths.
     pub fn amount(self) -> i64
         ensures { result ≡ self.amount }
     {
         self.amount
     }
 
-    /// In hundredths.
+    /// What their costs come to, in hundredths.
     pub fn cost(self) -> i64
         ensures { result ≡ self.cost }
     {

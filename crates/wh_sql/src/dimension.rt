@@ -23,16 +23,18 @@ pub trait Dimension: KeyedTable<Row = DimRow, Key = u64> {
 
     ghost rows_of_means: { List ℕ };
 
+    /// Which dimension it is.
     fn dim() -> Dim
         ensures { result ≡ dimension };
 
+    /// The text that shows the rows of one member, in the order of their surrogate keys.
     fn rows_of_text() -> &'static str
         ensures { result.now ≡ rows_of_means };
 
     // What the text means.
     ghost finds_rows: { (format : Format) (durable : ℕ) → Means (is_there Self.KeyedTable.name format) (ReadsSome (schema_in format) Self.StoredTable.layout (Int (pos durable) ∷ []) (λ row. eq_by_cmp nat_cmp durable row.durable) rows_of_means) (understood (schema_in format) rows_of_means) };
 
-    // The same, whoever wrote the rows.
+    // The same of any stored rows.
     ghost finds_rows_stored: { (format : Format) (durable : ℕ) → Means (is_there Self.KeyedTable.name format) (ReadsStored (schema_in format) Self.StoredTable.layout (Int (pos durable) ∷ []) (has_durable durable) (λ row. eq_by_cmp nat_cmp durable row.durable) rows_of_means) (understood (schema_in format) rows_of_means) };
 }
 

@@ -31,7 +31,7 @@ pub trait Facts: KeyedTable {
     // What the text means.
     ghost finds_sales: { (format : Format) (dim : Dim) (durable from to : ℕ) → Means (is_there Self.KeyedTable.name format) (ReadsSome (schema_in format) Self.StoredTable.layout (Int (pos durable) ∷ Int (pos from) ∷ Int (pos to) ∷ []) (λ row. is_sold_between dim durable from to (fact row)) (sales_means dim)) (understood (schema_in format) (sales_means dim)) };
 
-    // The same, whoever wrote the rows.
+    // The same of any stored rows.
     ghost finds_sales_stored: { (format : Format) (dim : Dim) (durable from to : ℕ) → Means (is_there Self.KeyedTable.name format) (ReadsStored (schema_in format) Self.StoredTable.layout (Int (pos durable) ∷ Int (pos from) ∷ Int (pos to) ∷ []) (is_sale_between dim durable from to) (λ row. is_sold_between dim durable from to (fact row)) (sales_means dim)) (understood (schema_in format) (sales_means dim)) };
 }
 

@@ -14,9 +14,10 @@ pub enum ReadFault {
     /// A growth was refused outside the store, and the store refused nothing.
     #[error("memory ran out")]
     Memory,
-    /// A row of this table is out of its type.
+    /// A row of this table that the call reads is out of its type.
     #[error("a row of a table is out of its type")]
     Damaged(Table),
+    /// The store refused the statement, for this cause.
     #[error("the store refused the statement")]
     Store(Cause),
 }

@@ -63,6 +63,7 @@ impl Question<tables::Profile> for Greatest {
 /// The member of a dimension that has the greatest durable key.
 #[derive(Clone, Copy, Debug, PartialEq, Eq)]
 pub struct GreatestOf {
+    /// The dimension.
     pub dim: Dim,
 }
 
@@ -102,7 +103,7 @@ impl Question<tables::Member> for GreatestOf {
 }
 
 /// The greatest anchor of the dimension's records; 0 where it has none. It is no `Question`, whose rows are one list: records of a member and day share
-/// their anchor, and any of them may be shown.
+/// their anchor, and any of them may be shown. `Damaged`: the record that was shown is out of its type.
 pub fn greatest_anchor<S: Alter>(
     alloc: Global,
     conn: &mut Connection<S>,
@@ -111,7 +112,7 @@ pub fn greatest_anchor<S: Alter>(
     ensures reads { ReadsOnly (state S.Store conn.old) (state S.Store conn.new) result }
     ensures anchor { SaysOfTables (state S.Store conn.old) (state S.Store conn.new) (λ t. IfOk result (λ anchor. anchor ≡ greatest_of (map (λ r. r.anchor) (filter (λ r. eq_by_cmp nat_cmp (dim_number dim) (dim_number r.dim)) (values t.change))))) }
     ensures sound { SaysOfTables (state S.Store conn.old) (state S.Store conn.new) (λ _. IsUndamaged result) }
-    // The same of any rows, whoever wrote them: none of the dimension's has a greater anchor.
+    // The same of any stored rows: none of the dimension's has a greater anchor.
     ensures stored { SaysOfStored (state S.Store conn.old) (state S.Store conn.new) (λ stored. IfOk result (IsGreatestAnchor (filter (is_record_of dim) (stored.rows OfChange)))) }
     ensures damaged { SaysOfStored (state S.Store conn.old) (state S.Store conn.new) (λ stored. IfErr result (IsOfGreatestDamage (filter (is_record_of dim) (stored.rows OfChange)))) }
     ensures refused { HasCleanDisk (state S.Store conn.new) → IfErr result (FailsToShow change OfChange texts.greatest_anchor (Number (pos (dim_number dim)) ∷ []) (state S.Store conn.old) (state S.Store conn.new)) }

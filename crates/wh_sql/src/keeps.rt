@@ -23,14 +23,18 @@ use wh_history::DimRow;
 use wh_policy::{Dim, Format};
 use wh_rows::{Cause, StoredTable, Table, bound};
 
-/// The texts of a table's statements: to put a row, to remove the row of a key, to show all rows in the order of their keys, to
-/// show the row of a key, and to count the rows.
+/// The texts of a table's statements.
 #[derive(Drop)]
 pub struct Statements {
+    /// Puts a row, in place of one at its key.
     pub put: &'static str,
+    /// Removes the row of a key.
     pub remove: &'static str,
+    /// Shows all rows in the order of their keys.
     pub all: &'static str,
+    /// Shows the row of a key.
     pub get: &'static str,
+    /// Counts the rows.
     pub count: &'static str,
 }
 
@@ -41,11 +45,12 @@ pub trait KeyedTable: StoredTable {
 
     ghost name: { Table };
 
-    // Which stored rows stand at a key, whoever wrote them.
+    // Which of any stored rows stand at a key.
     ghost stands_at: { Self.Key → Columns → Bool };
 
     ghost texts: { Texts };
 
+    /// Which table it is.
     fn table() -> Table
         ensures { result ≡ name };
 
@@ -53,15 +58,16 @@ pub trait KeyedTable: StoredTable {
     fn is_in(format: Format) -> bool
         ensures { result ≡ is_there name format };
 
+    /// The texts of its statements.
     fn statements() -> Statements
         ensures { (result.put.now ≡ texts.put) × (result.remove.now ≡ texts.remove) × (result.all.now ≡ texts.all) × (result.get.now ≡ texts.get) × (result.count.now ≡ texts.count) };
 
-    /// The row as the parameters of a statement. `Size`: a number is greater than any that can be stored.
+    /// The row as the parameters of a statement. `Size`: a number is greater than any that can be stored. `Memory`: a growth was refused.
     fn row<'a>(alloc: Global, row: &'a Self::Row) -> Result<Vec<ValueRef<'a>>, Cause>
         ensures ok { IfOk result (λ values. bound values.items ≡ Self.layout.encode row.now) }
         ensures err { IfErr result (λ cause. cause ≢ Memory → (cause ≡ Size) × (Self.layout.is_valid row.now ≡ false)) };
 
-    /// The key as the parameters of a statement.
+    /// The key as the parameters of a statement. `Size` and `Memory`: as of a row.
     fn key<'a>(alloc: Global, key: &'a Self::Key) -> Result<Vec<ValueRef<'a>>, Cause>
         ensures ok { IfOk result (λ values. bound values.items ≡ bind key.now) }
         ensures err { IfErr result (λ cause. cause ≢ Memory → (cause ≡ Size) × ((row : Self.Row) → Self.layout.is_valid row ≡ true → Self.layout.key row ≢ key.now)) };
@@ -77,7 +83,7 @@ pub trait KeyedTable: StoredTable {
 
     ghost counts: { (format : Format) → Means (is_there name format) (CountsAll (schema_in format) Self.layout texts.count) (understood (schema_in format) texts.count) };
 
-    // The same, whoever wrote the rows.
+    // The same of any stored rows.
     ghost lists_stored: { (format : Format) → Means (is_there name format) (ReadsStored (schema_in format) Self.layout [] (λ row. true) (λ row. true) texts.all) (understood (schema_in format) texts.all) };
 
     ghost finds_stored: { (format : Format) (key : Self.Key) → Means (is_there name format) (ReadsStored (schema_in format) Self.layout (bind key) (stands_at key) (λ row. eq_by_cmp Self.layout.order key (Self.layout.key row)) texts.get) (understood (schema_in format) texts.get) };

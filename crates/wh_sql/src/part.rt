@@ -10,6 +10,7 @@ use wh_rows::Cause;
 /// The part of a table that stands after a key, or its first part: some rows in the order of their keys.
 #[derive(Debug, Drop)]
 pub struct Page<K> {
+    /// The key before the part; `None` asks for the first part.
     pub after: Option<K>,
 }
 

@@ -31,7 +31,7 @@ pub trait Question<T: KeyedTable> {
 
     ghost front: { Option Front };
 
-    // Which stored rows answer it, whoever wrote them.
+    // Which of any stored rows answer it.
     ghost stands: { Self → Columns → Bool };
 
     // What it asks for as the parameters of a statement, and whether it can be asked.
@@ -41,10 +41,11 @@ pub trait Question<T: KeyedTable> {
 
     ghost means: { Self → List ℕ };
 
+    /// The text of its statement.
     fn text(&self) -> &'static str
         ensures { result.now ≡ means self.now };
 
-    /// What is asked for, as the parameters of a statement. `Size`: a number is greater than any that is stored.
+    /// What is asked for, as the parameters of a statement. `Size`: a number is greater than any that is stored. `Memory`: a growth was refused.
     fn values<'a>(&'a self, alloc: Global) -> Result<Vec<ValueRef<'a>>, Cause>
         ensures ok { IfOk result (λ values. bound values.items ≡ bind self.now) }
         ensures err { IfErr result (λ cause. cause ≢ Memory → (cause ≡ Size) × ¬ can_be_asked self.now) };
@@ -55,7 +56,8 @@ pub trait Question<T: KeyedTable> {
     ghost reads_stored: { (format : Format) (question : Self) → Means (is_there T.name format) (ReadsPartStored (schema_in format) front T.layout (bind question) (stands question) (keep question) (means question)) (understood (schema_in format) (means question)) };
 }
 
-/// The rows that answer the question, in the order of their keys.
+/// The rows that answer the question, in the order of their keys. `Damaged`: one of them is out of its type. `Store(Size)`: the question has a
+/// number that is greater than any that is stored.
 pub fn ask<T: KeyedTable, Q: Question<T>, S: Alter>(
     alloc: Global,
     conn: &mut Connection<S>,
@@ -64,7 +66,7 @@ pub fn ask<T: KeyedTable, Q: Question<T>, S: Alter>(
     ensures reads { ReadsOnly (state S.Store conn.old) (state S.Store conn.new) result }
     ensures rows { SaysOfTables (state S.Store conn.old) (state S.Store conn.new) (λ t. IfOk result (λ rows. rows.items ≡ part Q.front (filter (Q.keep question.now) (values (T.rows t))))) }
     ensures sound { SaysOfTables (state S.Store conn.old) (state S.Store conn.new) (λ _. IsUndamaged result) }
-    // The same of any rows, whoever wrote them: no other row keeps these from being read.
+    // The same of any stored rows: no other row keeps these from being read.
     ensures stored { SaysOfStored (state S.Store conn.old) (state S.Store conn.new) (λ stored. IfOk result (λ rows. AreAsked Q.front T.layout (filter (Q.stands question.now) (stored.rows T.name)) rows.items)) }
     ensures damaged { SaysOfStored (state S.Store conn.old) (state S.Store conn.new) (λ stored. IfErr result (IsOfAskedDamage Q.front T.layout T.name (filter (Q.stands question.now) (stored.rows T.name)))) }
     ensures shows { HasCleanDisk (state S.Store conn.new) → IfOk result (λ rows. Shows T.layout (Q.means question.now) (Q.bind question.now) (state S.Store conn.old) (state S.Store conn.new) rows.items) }

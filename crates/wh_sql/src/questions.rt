@@ -13,7 +13,9 @@ use wh_rows::{Cause, bound, tables};
 /// The accepted records of one member, in order of acceptance.
 #[derive(Clone, Copy, Debug, PartialEq, Eq)]
 pub struct RecordsOf {
+    /// The dimension of the member.
     pub dim: Dim,
+    /// The durable key of the member.
     pub durable: u64,
 }
 
@@ -54,6 +56,7 @@ impl Question<tables::Change> for RecordsOf {
 /// The rows of one member, in the order of their keys.
 #[derive(Clone, Copy, Debug, PartialEq, Eq)]
 pub struct RowsOf {
+    /// The durable key of the member.
     pub durable: u64,
 }
 
@@ -92,6 +95,7 @@ impl<D: Dimension> Question<D> for RowsOf {
 /// The command of an id.
 #[derive(Clone, Copy, Debug)]
 pub struct CommandOf<'q> {
+    /// The id.
     pub id: &'q Value,
 }
 
@@ -167,7 +171,9 @@ impl Question<tables::Command> for LastPolicy {
 /// The member that its source calls so.
 #[derive(Clone, Copy, Debug)]
 pub struct MemberOf<'q> {
+    /// The dimension of the member.
     pub dim: Dim,
+    /// The natural key of the member.
     pub natural: &'q Value,
 }
 
@@ -209,9 +215,13 @@ impl<'q> Question<tables::Member> for MemberOf<'q> {
 /// The facts of one member of a dimension from one day to another, these two included, in the order of their keys.
 #[derive(Clone, Copy, Debug, PartialEq, Eq)]
 pub struct SalesBetween {
+    /// The dimension of the member.
     pub dim: Dim,
+    /// The durable key of the member.
     pub durable: u64,
+    /// The first day of sale.
     pub from: Day,
+    /// The last day of sale.
     pub to: Day,
 }
 
@@ -250,6 +260,7 @@ impl<F: Facts> Question<F> for SalesBetween {
 /// The profile of a combination of values.
 #[derive(Clone, Copy, Debug)]
 pub struct ProfileOf<'q> {
+    /// The texts of the six slots.
     pub values: &'q Values,
 }
 

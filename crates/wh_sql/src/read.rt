@@ -78,7 +78,7 @@ pub(crate) fn rows_shown<T: KeyedTable, S: Alter>(
     Err(ReadFault::Memory)
 }
 
-/// All rows of the table.
+/// All rows of the table. `Damaged`: one of them is out of its type. `Store`: the format hasn't the table, or the store refused for another cause.
 pub fn all<T: KeyedTable, S: Alter>(
     alloc: Global,
     conn: &mut Connection<S>,
@@ -86,7 +86,7 @@ pub fn all<T: KeyedTable, S: Alter>(
     ensures reads { ReadsOnly (state S.Store conn.old) (state S.Store conn.new) result }
     ensures rows { SaysOfTables (state S.Store conn.old) (state S.Store conn.new) (λ t. IfOk result (λ rows. rows.items ≡ values (T.rows t))) }
     ensures sound { SaysOfTables (state S.Store conn.old) (state S.Store conn.new) (λ _. IsUndamaged result) }
-    // The same of any rows, whoever wrote them: all that is stored is read, or a row of it is out of its type.
+    // The same of any stored rows: all that is stored is read, or a row of it is out of its type.
     ensures stored { SaysOfStored (state S.Store conn.old) (state S.Store conn.new) (λ stored. IfOk result (λ rows. AreRows T.layout (stored.rows T.name) rows.items)) }
     ensures damaged { SaysOfStored (state S.Store conn.old) (state S.Store conn.new) (λ stored. IfErr result (IsOfDamage T.layout T.name (stored.rows T.name))) }
     ensures shows { HasCleanDisk (state S.Store conn.new) → IfOk result (λ rows. Shows T.layout T.texts.all [] (state S.Store conn.old) (state S.Store conn.new) rows.items) }
@@ -95,7 +95,8 @@ pub fn all<T: KeyedTable, S: Alter>(
     rows_shown::<T, S>(alloc, conn, T::statements().all, &[])
 }
 
-/// The row at the key, if one is there.
+/// The row at the key, if one is there. `Damaged`: it is out of its type. `Store(Size)`: the key has a number that is greater than any that is
+/// stored.
 pub fn get<T: KeyedTable, S: Alter>(
     alloc: Global,
     conn: &mut Connection<S>,
@@ -105,7 +106,7 @@ pub fn get<T: KeyedTable, S: Alter>(
     ensures counts { (state S.Store conn.old).faults ≤ (state S.Store conn.new).faults }
     ensures row { SaysOfTables (state S.Store conn.old) (state S.Store conn.new) (λ t. IfOk result (λ row. row ≡ get (T.rows t) key.now)) }
     ensures sound { SaysOfTables (state S.Store conn.old) (state S.Store conn.new) (λ _. IsUndamaged result) }
-    // The same of any rows, whoever wrote them: of those that are stored at the key.
+    // The same of any stored rows: of those that are stored at the key.
     ensures stored { SaysOfStored (state S.Store conn.old) (state S.Store conn.new) (λ stored. IfOk result (IsLastOf T.layout (filter (T.stands_at key.now) (stored.rows T.name)))) }
     ensures damaged { SaysOfStored (state S.Store conn.old) (state S.Store conn.new) (λ stored. IfErr result (IsOfDamage T.layout T.name (filter (T.stands_at key.now) (stored.rows T.name)))) }
     ensures refused { HasCleanDisk (state S.Store conn.new) → (row : T.Row) → IsTrue (T.layout.is_valid row) → T.layout.key row ≡ key.now → IfErr result (FailsToShow T.layout T.name T.texts.get (T.bind key.now) (state S.Store conn.old) (state S.Store conn.new)) }
@@ -123,7 +124,7 @@ pub fn count<T: KeyedTable, S: Alter>(
     ensures reads { ReadsOnly (state S.Store conn.old) (state S.Store conn.new) result }
     ensures count { SaysOfTables (state S.Store conn.old) (state S.Store conn.new) (λ t. IfOk result (λ count. count ≡ len (T.rows t))) }
     ensures sound { SaysOfTables (state S.Store conn.old) (state S.Store conn.new) (λ _. IsUndamaged result) }
-    // The same of any rows, whoever wrote them: all that are stored are counted, damaged or not.
+    // The same of any stored rows: all that are stored are counted, damaged or not.
     ensures stored { SaysOfStored (state S.Store conn.old) (state S.Store conn.new) (λ stored. IfOk result (λ count. count ≡ length (stored.rows T.name))) }
     ensures refused { SaysOfTables (state S.Store conn.old) (state S.Store conn.new) (λ t. IfErr result (FailsToCount (len (T.rows t)) T.texts.count (state S.Store conn.old) (state S.Store conn.new))) }
 {

@@ -12,11 +12,14 @@ ghost use Rattle.wh_rows.specs.Parts.{PartTexts, forward, part_text, bind_part, 
 use crate::keeps::KeyedTable;
 use std::alloc::AllocError;
 
-/// The texts that show the first part of a table, and the part after a key, and how many rows are a part at the most.
+/// The texts that show a table part by part.
 #[derive(Drop)]
 pub struct PartStatements {
+    /// Shows the first part.
     pub first: &'static str,
+    /// Shows the part after a key.
     pub after: &'static str,
+    /// The most rows of a part.
     pub most: usize,
 }
 
@@ -24,14 +27,15 @@ pub struct PartStatements {
 pub trait PagedTable: KeyedTable {
     ghost part_texts: { PartTexts };
 
+    /// The texts that show its parts.
     fn part_statements() -> PartStatements
         ensures { (result.first.now ≡ part_texts.first) × (result.after.now ≡ part_texts.after) × (result.most ≡ part_texts.most) };
 
-    /// The key at which the row stands.
+    /// The key at which the row stands. The error comes where memory ran out.
     fn key_of(row: &Self::Row) -> Result<Self::Key, AllocError>
         ensures { IfOk result (λ key. key ≡ Self.StoredTable.layout.key row.now) };
 
-    // What the texts mean, whoever wrote the rows.
+    // What the texts mean over any stored rows.
     ghost shows_parts: { (format : Format) (after : Option Self.Key) → Means (is_there Self.KeyedTable.name format)
         (ReadsFrontStored (schema_in format) (forward part_texts.most) Self.StoredTable.layout (bind_part Self.KeyedTable.bind after) (stands_behind Self.StoredTable.layout Self.KeyedTable.bind after) (is_behind Self.StoredTable.layout after) (part_text part_texts after))
         (understood (schema_in format) (part_text part_texts after)) };

@@ -88,7 +88,7 @@ fn create_all<S: Alter>(conn: &mut Connection<S>, texts: &[&str]) -> Result<(), 
     Ok(())
 }
 
-/// Makes the ten tables and their indexes, inside a transaction on a database with no object. Outside a transaction it is refused.
+/// Makes the ten tables of format 1 and their indexes, inside a transaction on a database with no object. Outside a transaction the error is `Disk`.
 pub fn create<S: Alter>(conn: &mut Connection<S>) -> Result<(), Cause>
     ensures clean { HasCleanDisk (state S.Store conn.new) → HasCleanDisk (state S.Store conn.old) }
     ensures counts { (state S.Store conn.old).faults ≤ (state S.Store conn.new).faults }
@@ -170,7 +170,7 @@ fn has_each(schema: &Schema, tables: &[Table]) -> bool
     tables.iter().all(|table| has_table(schema, *table))
 }
 
-/// Whether each of the ten tables is there, with its columns.
+/// Whether each of the ten tables that both formats have is there, with its columns.
 pub fn has_tables<S: Alter>(conn: &Connection<S>) -> bool
     ensures { result ≡ are_all_there (state S.Store conn.now).now.schema }
 {

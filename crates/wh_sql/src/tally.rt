@@ -25,6 +25,7 @@ pub trait FactAggregate {
     // What it comes to by some sales, from what it was before the first of them.
     ghost counts: { Self → List KeyedSale → Self → Type 0 };
 
+    /// Counts a sale.
     fn count(&mut self, sale: KeyedSale)
         ensures { (first : Self) (sales : List KeyedSale) → counts first sales self.old → counts first (sales ++ sale ∷ []) self.new };
 }
@@ -119,7 +120,8 @@ fn count_row<C: FactAggregate>(tally: &mut C, format: Format, row: &Row) -> Resu
 }
 
 /// Has a tally count each fact of a format by one of its keys, in whatever order they are stored. `Memory`: also where there are more
-/// facts than a `u64` counts. Those of the second format are refused in a warehouse of the first.
+/// facts than a `u64` counts. `Damaged`: a column that is read of a fact is out of its type. `Store`: also for facts of the second format in
+/// a warehouse of the first.
 pub fn tally_facts<C: FactAggregate, S: Alter>(
     conn: &mut Connection<S>,
     format: Format,
@@ -130,7 +132,7 @@ pub fn tally_facts<C: FactAggregate, S: Alter>(
     ensures reads { ReadsOnly (state S.Store conn.old) (state S.Store conn.new) result }
     ensures counted { SaysOfTables (state S.Store conn.old) (state S.Store conn.new) (λ t. IfOk result (λ _. HasCounted C.counts which tally.old tally.new (values (facts_in format t)))) }
     ensures sound { SaysOfTables (state S.Store conn.old) (state S.Store conn.new) (λ _. IsUndamaged result) }
-    // The same of any rows, whoever wrote them, by the columns that are read of them: each was counted, or one is damaged.
+    // The same of any stored rows, by the columns that are read of them: each was counted, or one is damaged.
     ensures stored { SaysOfStored (state S.Store conn.old) (state S.Store conn.new) (λ stored. IfOk result (λ _. HasCountedStored C.counts which tally.old tally.new (stored.rows (facts_table format)))) }
     ensures damaged { SaysOfStored (state S.Store conn.old) (state S.Store conn.new) (λ stored. IfErr result (IsOfDamage (fact_layout format) (facts_table format) (stored.rows (facts_table format)))) }
     ensures refused { HasCleanDisk (state S.Store conn.new) → IfErr result (λ fault. (why : Cause) → fault ≡ Store why → IsCauseOfQuery (facts_by format which) [] (state S.Store conn.old) (state S.Store conn.new) why) }

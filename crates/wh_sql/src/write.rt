@@ -19,7 +19,8 @@ use wh_history::FactKeys;
 use wh_policy::Format;
 use wh_rows::{Cause, LineKey};
 
-/// Puts the row at its key, in place of the one that was there. Outside a transaction it is refused.
+/// Puts the row at its key, in place of the one that was there. `Size`: a number of it is greater than any that can be stored. Outside a transaction
+/// the error is `Disk`.
 pub fn put<T: KeyedTable, S: Alter>(
     alloc: Global,
     conn: &mut Connection<S>,

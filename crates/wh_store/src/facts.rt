@@ -1,4 +1,7 @@
-//! The facts of a format, whichever table they stand in. Where tables are of another, a call is refused by the store, or finds none.
+//! The facts of a format: those of the first stand in the table `fact`, those of the second in `fact2`.
+//!
+//! Over tables of the first format the store refuses each call for the second, as `fact2` isn't there. Over tables of the second a call for the first
+//! goes to `fact`, which an upgrade leaves empty.
 
 ghost use Rattle.std.specs.Prelude.{◌≡◌, ◌≢◌, ◌⊎◌, ◌+◌, ◌<◌, ◌≤◌, [], ◌∷◌, pos, map, filter, length, true, false, if◌then◌else◌, Option, Some, IsTrue, IfOk, IfErr, OnOk, ⊤};
 ghost use Rattle.std.specs.List.{AllByRecursion};
@@ -32,7 +35,7 @@ use wh_rows::{Cause, LineKey, tables};
 use wh_sql::{ReadFault, SalesBetween, ask, count, get};
 
 impl<S: Alter> Tables<S> {
-    /// The fact of a line, if it is there.
+    /// The fact of a line, if it is there. `Damaged`: it is out of its type.
     pub fn fact(
         &mut self,
         alloc: Global,
@@ -52,7 +55,7 @@ impl<S: Alter> Tables<S> {
         }
     }
 
-    /// How many facts there are.
+    /// How many facts of the format there are: sales that stand, as withdrawn ones have no row. `Store(Size)`: more than the store counts.
     pub fn count_facts(&mut self, alloc: Global, format: Format) -> Result<u64, ReadFault>
         ensures reads { ReadsOnly (state_of S.Store self.old) (state_of S.Store self.new) result }
         ensures count { SaysAtRest (state_of S.Store self.old) (state_of S.Store self.new) (λ t. IfOk result (λ count. count ≡ len (facts_in format t))) }
@@ -66,7 +69,8 @@ impl<S: Alter> Tables<S> {
         }
     }
 
-    /// The facts of one member of a dimension from one day to another, in the order of their lines.
+    /// The facts of one member of a dimension from one day to another, both included, in the order of their lines. `Damaged`: one of them is out of
+    /// its type.
     pub fn facts_between(
         &mut self,
         alloc: Global,
@@ -88,7 +92,7 @@ impl<S: Alter> Tables<S> {
 }
 
 impl<'t, S: Alter> Writing<'t, S> {
-    /// Makes one edit of a fact.
+    /// Makes one edit of a fact. `Size`: a number or the discount is greater than any that can be stored.
     pub fn edit_fact(
         &mut self,
         alloc: Global,

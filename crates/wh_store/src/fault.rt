@@ -15,7 +15,7 @@ pub enum MakeFault {
     /// A table, an index or a view has the name of one of the twelve tables.
     #[error("a name of the twelve tables is taken")]
     NotEmpty,
-    /// The connection is inside a transaction.
+    /// The connection is inside a transaction; the cause is `Disk`.
     #[error("the connection is inside a transaction")]
     Store(Cause),
 }
@@ -38,6 +38,7 @@ pub enum OpenFault {
     /// A growth was refused outside the store, and the store refused nothing.
     #[error("memory ran out")]
     Memory,
+    /// The store refused a statement, for this cause.
     #[error("the store refused a statement")]
     Store(Cause),
 }

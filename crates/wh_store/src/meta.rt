@@ -35,7 +35,7 @@ pub(crate) fn number<S: Alter>(
     ensures reads { ReadsOnly (state S.Store conn.old) (state S.Store conn.new) result }
     ensures counts { (state S.Store conn.old).faults ≤ (state S.Store conn.new).faults }
     ensures number { SaysAtRest (state S.Store conn.old) (state S.Store conn.new) (λ t. IfOk result (λ number. number ≡ number_in t name.now)) }
-    // The same of any rows, whoever wrote them: of those under the name.
+    // The same of any stored rows: of those under the name.
     ensures stored { SaysAsStored (state S.Store conn.old) (state S.Store conn.new) (λ stored. IfOk result (IsNumberIn stored name.now)) }
     ensures damaged { SaysAsStored (state S.Store conn.old) (state S.Store conn.new) (λ stored. IfErr result (IsOfDamage meta OfMeta (rows_named stored name.now))) }
     ensures unread { HasCleanDisk (state S.Store conn.new) → IfErr result (FailsToShow meta OfMeta texts.meta.get (Text name.now ∷ []) (state S.Store conn.old) (state S.Store conn.new)) }
@@ -63,7 +63,7 @@ pub(crate) fn find_format<S: Alter>(
     ensures taken { SaysAtRest (state S.Store conn.old) (state S.Store conn.new) (λ t. IfOk result (IsTaken newest second t)) }
     ensures refused { SaysAtRest (state S.Store conn.old) (state S.Store conn.new) (λ t. IfErr result (IsRefusedWith newest second t (state S.Store conn.old) (state S.Store conn.new))) }
     ensures known { IfOk result (λ format. format_number format ≤ format_number newest) }
-    // The same of any rows, whoever wrote them: by those of the format.
+    // The same of any stored rows: by those of the format.
     ensures taken_stored { SaysAsStored (state S.Store conn.old) (state S.Store conn.new) (λ stored. IfOk result (λ format. FormatIs newest second stored (Ok format))) }
     ensures refused_stored { SaysAsStored (state S.Store conn.old) (state S.Store conn.new) (λ stored. IfErr result (IsRefusedOn newest second stored)) }
 {

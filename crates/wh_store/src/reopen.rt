@@ -34,14 +34,14 @@ pub fn into_files<D: Disk + Drop>(conn: Connection<FileStore<D>>) -> Files<D>
 }
 
 /// Opens the files at a path, or makes them. What they held, or nothing where there was no database, the connection holds. An error comes
-/// with what is left of the files, once they were opened.
+/// with what is left of the files, once they were opened. The path `:memory:` is refused with `CannotOpen`.
 pub fn open_path<S: Start>(
     rt: &HostRuntime,
     path: &str,
     start: S,
 ) -> Result<Connection<FileStore<FileFrom<S>>>, (Error, Option<Leftover<FileFrom<S>>>)>
     ensures held { (held : Option Tables) → AreInFiles held (image_at S.Start) → IfOk result (λ conn. HasCleanDisk (file_state conn) → ∥ IsAtRest held (file_state conn) ∥₁) }
-    // The same of any rows, whoever wrote them.
+    // The same of any stored rows.
     ensures stored { (stored : Stored) → AreStoredIn stored (image_at S.Start) → IfOk result (λ conn. HasCleanDisk (file_state conn) → ∥ RestsOn stored (file_state conn) ∥₁) }
     ensures nothing { IsNothing (image_at S.Start) → IfOk result (λ conn. HasCleanDisk (file_state conn) → IsAtRest None (file_state conn)) }
     ensures memory { path.now ≡ codes ":memory:" → IsErrAnd result (λ e. e.0 ≡ Error.SqliteFailure ErrorCode.CannotOpen) }

@@ -68,7 +68,7 @@ fn read_ahead<T: PagedTable, S: Alter>(
 ) -> Result<(), ReadFault>
     ensures reads { ReadsOnly (state_of S.Store tables.old) (state_of S.Store tables.new) result }
     ensures rows { SaysAtRest (state_of S.Store tables.old) (state_of S.Store tables.new) (λ t. IfOk result (λ _. cursor.old.is_over ≡ false → into_iter_items cursor.old.ahead ≡ [] → rows_left T.StoredTable.layout (T.StoredTable.rows t) cursor.new ≡ rows_left T.StoredTable.layout (T.StoredTable.rows t) cursor.old)) }
-    // Of any rows, whoever wrote them, none is missed and none comes twice.
+    // Of any stored rows none is missed and none comes twice.
     ensures stored { SaysAsStored (state_of S.Store tables.old) (state_of S.Store tables.new) (λ stored. IfOk result (λ _. cursor.old.is_over ≡ false → into_iter_items cursor.old.ahead ≡ [] → (left : List Columns)
         → AreLeft T.StoredTable.layout T.KeyedTable.bind (stored.rows T.KeyedTable.name) cursor.new left → AreLeft T.StoredTable.layout T.KeyedTable.bind (stored.rows T.KeyedTable.name) cursor.old left)) }
     // A row of the part that is damaged is reported.
@@ -100,7 +100,7 @@ pub fn next_row<T: PagedTable, S: Alter>(
 ) -> Result<Option<T::Row>, ReadFault>
     ensures reads { ReadsOnly (state_of S.Store tables.old) (state_of S.Store tables.new) result }
     ensures rows { SaysInFormat S.Store T.KeyedTable.name format tables.old tables.new (λ t. IfOk result (λ found. HandsOut (rows_left T.StoredTable.layout (T.StoredTable.rows t) cursor.old) found (rows_left T.StoredTable.layout (T.StoredTable.rows t) cursor.new))) }
-    // Of any rows, whoever wrote them, none is missed and none comes twice.
+    // Of any stored rows none is missed and none comes twice.
     ensures stored { SaysAsStoredIn S.Store T.KeyedTable.name format tables.old tables.new (λ stored. IfOk result (λ found. HandsOutOf T.StoredTable.layout T.KeyedTable.bind (stored.rows T.KeyedTable.name) cursor.old found cursor.new)) }
     // What is handed out is of its type.
     ensures valid { SaysAsStoredIn S.Store T.KeyedTable.name format tables.old tables.new (λ _. AreValid T.StoredTable.layout cursor.old → IfOk result (λ found. IfSome found (λ row. IsTrue (T.StoredTable.layout.is_valid row)) × AreValid T.StoredTable.layout cursor.new)) }
@@ -143,7 +143,7 @@ impl<'t, S: Alter, T: PagedTable> Scan<'t, S, T> {
         ensures same_format { self.new.format ≡ self.old.format }
         ensures reads { ReadsOnly (state_of S.Store self.old.tables.now) (state_of S.Store self.new.tables.now) result }
         ensures rows { SaysInFormat S.Store T.KeyedTable.name self.old.format self.old.tables.now self.new.tables.now (λ t. IfOk result (λ found. HandsOut (rows_left T.StoredTable.layout (T.StoredTable.rows t) self.old.cursor) found (rows_left T.StoredTable.layout (T.StoredTable.rows t) self.new.cursor))) }
-        // Of any rows, whoever wrote them, none is missed and none comes twice.
+        // Of any stored rows none is missed and none comes twice.
         ensures stored { SaysAsStoredIn S.Store T.KeyedTable.name self.old.format self.old.tables.now self.new.tables.now (λ stored. IfOk result (λ found. HandsOutOf T.StoredTable.layout T.KeyedTable.bind (stored.rows T.KeyedTable.name) self.old.cursor found self.new.cursor)) }
         // A damaged row is reported with the part that it is in.
         ensures damaged { SaysAsStored (state_of S.Store self.old.tables.now) (state_of S.Store self.new.tables.now) (λ stored. IfErr result (IsOfAskedDamage (Some (forward T.part_texts.most)) T.StoredTable.layout T.KeyedTable.name (filter (stands_behind T.StoredTable.layout T.KeyedTable.bind self.old.cursor.unread.after) (stored.rows T.KeyedTable.name)))) }

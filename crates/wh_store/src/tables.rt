@@ -55,7 +55,8 @@ pub struct Tables<S: Alter> {
 impl<S: Alter> Tables<S> {
     ghost use Rattle.wh_store.specs.contracts.tables.Tables.{the_row};
 
-    /// Takes a connection to a database in which the names of the twelve tables are free. `Writing::make` then makes them.
+    /// Takes a connection to a database in which the names of the twelve tables are free. `Writing::make` then makes ten. `NotEmpty`: one of the
+    /// names is taken. An error hands the connection back.
     pub fn make(conn: Connection<S>) -> Result<Tables<S>, (MakeFault, Connection<S>)>
         ensures same { IfOk result (λ tables. tables.conn ≡ conn) }
         ensures back { IfErr result (λ e. e.1 ≡ conn) }
@@ -73,7 +74,7 @@ impl<S: Alter> Tables<S> {
     }
 
     /// Takes a connection to a warehouse, and answers its format too, by meta's number. `newest`: the newest format that the caller knows; one that came
-    /// after it is refused.
+    /// after it is refused. An error is any [`OpenFault`], and hands the connection back; `Damaged` names meta. Inside a transaction it is `Store(Disk)`.
     pub fn open(
         alloc: Global,
         mut conn: Connection<S>,
@@ -83,7 +84,7 @@ impl<S: Alter> Tables<S> {
         ensures taken { SaysAtRest (state S.Store conn) (state S.Store (connection_after result)) (λ t. IfOk result (λ opened. IsTaken newest (is_second_there (state S.Store conn).now.schema) t opened.1)) }
         ensures refused { SaysAtRest (state S.Store conn) (state S.Store (connection_after result)) (λ t. are_all_there (state S.Store conn).now.schema ≡ true → IfErr result (λ e. IsRefusedWith newest (is_second_there (state S.Store conn).now.schema) t (state S.Store conn) (state S.Store e.1) e.0)) }
         ensures known { IfOk result (λ opened. format_number opened.1 ≤ format_number newest) }
-        // The same of any rows, whoever wrote them: by those of the format.
+        // The same of any stored rows: by those of the format.
         ensures taken_stored { SaysAsStored (state S.Store conn) (state S.Store (connection_after result)) (λ stored. IfOk result (λ opened. FormatIs newest (is_second_there (state S.Store conn).now.schema) stored (Ok opened.1))) }
         ensures refused_stored { SaysAsStored (state S.Store conn) (state S.Store (connection_after result)) (λ stored. are_all_there (state S.Store conn).now.schema ≡ true → IfErr result (λ e. IsRefusedOn newest (is_second_there (state S.Store conn).now.schema) stored e.0)) }
         ensures within { IsTrue conn.in_transaction → result ≡ Err (OpenFault.Store Cause.Disk, conn) }
@@ -102,19 +103,20 @@ impl<S: Alter> Tables<S> {
         }
     }
 
-    /// Whether a name that the second format needs is taken, by a table, an index or a view of somebody else's. Then no upgrade is possible.
+    /// Whether a table, an index or a view has one of the two names that the second format adds: over format 2 its own tables have them. Over
+    /// format 1 somebody else's object has one, and no upgrade is possible.
     pub fn is_second_taken(&self) -> bool
         ensures { result ≡ is_second_taken (state_of S.Store self.now).now.schema }
     {
         has_second_name(&self.conn)
     }
 
-    /// The limits that were chosen at the making. Damaged is meta where one of the three isn't there or isn't good.
+    /// The limits that were chosen at the making. `Damaged` names meta where one of the three isn't there or isn't good.
     pub fn limits(&mut self, alloc: Global) -> Result<Limits, ReadFault>
         ensures reads { Spares (state_of S.Store self.old) (state_of S.Store self.new) (IsServed result) }
         ensures limits { SaysAtRest (state_of S.Store self.old) (state_of S.Store self.new) (λ t. IfOk result (λ limits. limits_in t ≡ Some limits)) }
         ensures damaged { SaysAtRest (state_of S.Store self.old) (state_of S.Store self.new) (λ t. (table : Table) → result ≡ Err (Damaged table) → (table ≡ Table.Meta) × (limits_in t ≡ None)) }
-        // The same of any rows, whoever wrote them: by those of the three names.
+        // The same of any stored rows: by those of the three names.
         ensures stored { SaysAsStored (state_of S.Store self.old) (state_of S.Store self.new) (λ stored. IfOk result (λ limits. LimitsAre stored (Some limits))) }
         ensures limitless { SaysAsStored (state_of S.Store self.old) (state_of S.Store self.new) (λ stored. IfErr result (IsLimitless stored)) }
         ensures refused { HasCleanDisk (state_of S.Store self.new) → (cause : Cause) → result ≡ Err (Refused cause) → IsOneRefused S.Store IsCauseOfQuery limits_asked self.old.conn self.new.conn cause }
@@ -128,11 +130,11 @@ impl<S: Alter> Tables<S> {
         }
     }
 
-    /// All rows of a table, in the order of their keys.
+    /// All rows of a table, in the order of their keys. `Damaged`: one of them is out of its type.
     pub fn all<T: KeyedTable>(&mut self, alloc: Global) -> Result<Vec<T::Row>, ReadFault>
         ensures reads { ReadsOnly (state_of S.Store self.old) (state_of S.Store self.new) result }
         ensures rows { SaysAtRest (state_of S.Store self.old) (state_of S.Store self.new) (λ t. IfOk result (λ rows. rows.items ≡ values (T.rows t))) }
-        // The same of any rows, whoever wrote them: all that is stored is read, or a row of it is out of its type.
+        // The same of any stored rows: all that is stored is read, or a row of it is out of its type.
         ensures stored { SaysAsStored (state_of S.Store self.old) (state_of S.Store self.new) (λ stored. IfOk result (λ rows. AreRows T.layout (stored.rows T.name) rows.items)) }
         ensures damaged { SaysAsStored (state_of S.Store self.old) (state_of S.Store self.new) (λ stored. IfErr result (IsOfDamage T.layout T.name (stored.rows T.name))) }
         ensures refused { HasCleanDisk (state_of S.Store self.new) → IfErr result (FailsToShow T.layout T.name T.texts.all [] (state_of S.Store self.old) (state_of S.Store self.new)) }
@@ -140,7 +142,7 @@ impl<S: Alter> Tables<S> {
         all::<T, S>(alloc, &mut self.conn)
     }
 
-    /// The row at a key, if one is there.
+    /// The row at a key, if one is there. `Damaged`: it is out of its type. `Store(Size)`: the key has a number that is greater than any that is stored.
     pub fn get<T: KeyedTable>(
         &mut self,
         alloc: Global,
@@ -148,7 +150,7 @@ impl<S: Alter> Tables<S> {
     ) -> Result<Option<T::Row>, ReadFault>
         ensures reads { ReadsOnly (state_of S.Store self.old) (state_of S.Store self.new) result }
         ensures row { SaysAtRest (state_of S.Store self.old) (state_of S.Store self.new) (λ t. IfOk result (λ row. row ≡ get (T.rows t) key.now)) }
-        // The same of any rows, whoever wrote them: of those that are stored at the key.
+        // The same of any stored rows: of those that are stored at the key.
         ensures stored { SaysAsStored (state_of S.Store self.old) (state_of S.Store self.new) (λ stored. IfOk result (IsLastOf T.layout (filter (T.stands_at key.now) (stored.rows T.name)))) }
         ensures damaged { SaysAsStored (state_of S.Store self.old) (state_of S.Store self.new) (λ stored. IfErr result (IsOfDamage T.layout T.name (filter (T.stands_at key.now) (stored.rows T.name)))) }
         ensures refused { HasCleanDisk (state_of S.Store self.new) → (row : T.Row) → IsTrue (T.layout.is_valid row) → T.layout.key row ≡ key.now → IfErr result (FailsToShow T.layout T.name T.texts.get (T.bind key.now) (state_of S.Store self.old) (state_of S.Store self.new)) }
@@ -156,18 +158,19 @@ impl<S: Alter> Tables<S> {
         get::<T, S>(alloc, &mut self.conn, key)
     }
 
-    /// How many rows a table has.
+    /// How many rows a table has. `Store(Size)`: more than the store counts.
     pub fn count<T: KeyedTable>(&mut self, alloc: Global) -> Result<u64, ReadFault>
         ensures reads { ReadsOnly (state_of S.Store self.old) (state_of S.Store self.new) result }
         ensures count { SaysAtRest (state_of S.Store self.old) (state_of S.Store self.new) (λ t. IfOk result (λ count. count ≡ len (T.rows t))) }
-        // The same of any rows, whoever wrote them: all that are stored are counted, damaged or not.
+        // The same of any stored rows: all that are stored are counted, damaged or not.
         ensures stored { SaysAsStored (state_of S.Store self.old) (state_of S.Store self.new) (λ stored. IfOk result (λ count. count ≡ length (stored.rows T.name))) }
         ensures refused { SaysAtRest (state_of S.Store self.old) (state_of S.Store self.new) (λ t. IfErr result (FailsToCount (len (T.rows t)) T.texts.count (state_of S.Store self.old) (state_of S.Store self.new))) }
     {
         count::<T, S>(alloc, &mut self.conn)
     }
 
-    /// The rows that answer a question about one table.
+    /// The rows that answer a question about one table, in the order of their keys. `Damaged`: one of them is out of its type. `Store(Size)`: the
+    /// question has a number that is greater than any that is stored.
     pub fn ask<T: KeyedTable, Q: Question<T>>(
         &mut self,
         alloc: Global,
@@ -175,7 +178,7 @@ impl<S: Alter> Tables<S> {
     ) -> Result<Vec<T::Row>, ReadFault>
         ensures reads { ReadsOnly (state_of S.Store self.old) (state_of S.Store self.new) result }
         ensures rows { SaysAtRest (state_of S.Store self.old) (state_of S.Store self.new) (λ t. IfOk result (λ rows. rows.items ≡ part Q.front (filter (Q.keep question.now) (values (T.rows t))))) }
-        // The same of any rows, whoever wrote them: no other row keeps these from being read.
+        // The same of any stored rows: no other row keeps these from being read.
         ensures stored { SaysAsStored (state_of S.Store self.old) (state_of S.Store self.new) (λ stored. IfOk result (λ rows. AreAsked Q.front T.layout (filter (Q.stands question.now) (stored.rows T.name)) rows.items)) }
         ensures damaged { SaysAsStored (state_of S.Store self.old) (state_of S.Store self.new) (λ stored. IfErr result (IsOfAskedDamage Q.front T.layout T.name (filter (Q.stands question.now) (stored.rows T.name)))) }
         ensures refused { HasCleanDisk (state_of S.Store self.new) → Q.can_be_asked question.now → IfErr result (FailsToShow T.layout T.name (Q.means question.now) (Q.bind question.now) (state_of S.Store self.old) (state_of S.Store self.new)) }
@@ -194,7 +197,7 @@ impl<S: Alter> Tables<S> {
         requires { C.counts tally.old [] tally.old }
         ensures reads { ReadsOnly (state_of S.Store self.old) (state_of S.Store self.new) result }
         ensures counted { SaysAtRest (state_of S.Store self.old) (state_of S.Store self.new) (λ t. IfOk result (λ _. HasCounted C.counts which tally.old tally.new (values (facts_in format t)))) }
-        // The same of any rows, whoever wrote them, by the columns that are read of them: each was counted, or one is damaged.
+        // The same of any stored rows, by the columns that are read of them: each was counted, or one is damaged.
         ensures stored { SaysAsStored (state_of S.Store self.old) (state_of S.Store self.new) (λ stored. IfOk result (λ _. HasCountedStored C.counts which tally.old tally.new (stored.rows (facts_table format)))) }
         ensures damaged { SaysAsStored (state_of S.Store self.old) (state_of S.Store self.new) (λ stored. IfErr result (IsOfDamage (fact_layout format) (facts_table format) (stored.rows (facts_table format)))) }
         ensures refused { HasCleanDisk (state_of S.Store self.new) → IfErr result (λ fault. (why : Cause) → fault ≡ Refused why → IsCauseOfQuery (facts_by format which) [] (state_of S.Store self.old) (state_of S.Store self.new) why) }
@@ -206,7 +209,7 @@ impl<S: Alter> Tables<S> {
     pub fn greatest_anchor(&mut self, alloc: Global, dim: Dim) -> Result<u64, ReadFault>
         ensures reads { ReadsOnly (state_of S.Store self.old) (state_of S.Store self.new) result }
         ensures anchor { SaysAtRest (state_of S.Store self.old) (state_of S.Store self.new) (λ t. IfOk result (λ anchor. anchor ≡ greatest_of (map (λ r. r.anchor) (filter (λ r. eq_by_cmp nat_cmp (dim_number dim) (dim_number r.dim)) (values t.change))))) }
-        // The same of any rows, whoever wrote them: none of the dimension's has a greater anchor.
+        // The same of any stored rows: none of the dimension's has a greater anchor.
         ensures stored { SaysAsStored (state_of S.Store self.old) (state_of S.Store self.new) (λ stored. IfOk result (IsGreatestAnchor (filter (is_record_of dim) (stored.rows OfChange)))) }
         ensures damaged { SaysAsStored (state_of S.Store self.old) (state_of S.Store self.new) (λ stored. IfErr result (IsOfGreatestDamage (filter (is_record_of dim) (stored.rows OfChange)))) }
         ensures refused { HasCleanDisk (state_of S.Store self.new) → IfErr result (FailsToShow change OfChange texts.greatest_anchor (Number (pos (dim_number dim)) ∷ []) (state_of S.Store self.old) (state_of S.Store self.new)) }
@@ -214,7 +217,7 @@ impl<S: Alter> Tables<S> {
         greatest_anchor(alloc, &mut self.conn, dim)
     }
 
-    /// Begins a transaction, to which the tables belong until it ends.
+    /// Begins a transaction, to which the tables belong until it ends. The error is the cause for which the store refused it.
     pub fn begin(&mut self) -> Result<Writing<'_, S>, Cause>
         ensures* refused { sem 𝓛 (RestsIfErr (the_row S.row S.Store) self.entry (λ writing. writing.tables.ghost_name) result (λ last. FailsToBegin (state S.Store self.old.conn) (state S.Store last.conn) result)) }
         ensures same_reference { IfOk result (λ writing. writing.tables.ghost_name ≡ self.entry.ghost_name) }

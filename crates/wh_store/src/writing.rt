@@ -86,7 +86,7 @@ impl<'t, S: Alter> Writing<'t, S> {
         if inserted { writes } else { self.writes }
     }
 
-    /// Puts the row at its key, in place of the one that was there.
+    /// Puts the row at its key, in place of the one that was there. `Size`: a number of it is greater than any that can be stored.
     pub fn put<T: KeyedTable>(&mut self, alloc: Global, row: &T::Row) -> Result<(), Cause>
         ensures same_reference { self.new.tables.ghost_name ≡ self.old.tables.ghost_name }
         ensures writes { WritesOnly (state_of S.Store self.old.tables.now) (state_of S.Store self.new.tables.now) ⊤ }
@@ -104,7 +104,7 @@ impl<'t, S: Alter> Writing<'t, S> {
         Ok(())
     }
 
-    /// Takes out the row at the key, if one is there.
+    /// Takes out the row at the key, if one is there. It counts as a written key all the same.
     pub fn remove<T: KeyedTable>(&mut self, alloc: Global, key: &T::Key) -> Result<(), Cause>
         ensures same_reference { self.new.tables.ghost_name ≡ self.old.tables.ghost_name }
         ensures writes { WritesOnly (state_of S.Store self.old.tables.now) (state_of S.Store self.new.tables.now) ⊤ }
@@ -246,7 +246,7 @@ impl<'t, S: Alter> Writing<'t, S> {
         Ok(())
     }
 
-    /// Makes the ten tables, and the rows of meta for these limits.
+    /// Makes the ten tables of format 1, and the rows of meta for that format and these limits.
     pub fn make(&mut self, alloc: Global, limits: Limits) -> Result<(), Cause>
         ensures same_reference { self.new.tables.ghost_name ≡ self.old.tables.ghost_name }
         ensures clean { HasCleanDisk (state_of S.Store self.new.tables.now) → HasCleanDisk (state_of S.Store self.old.tables.now) }
@@ -303,7 +303,8 @@ impl<'t, S: Alter> Writing<'t, S> {
         self.put::<Meta>(alloc, &row)
     }
 
-    /// Keeps the edits, and answers how many keys they wrote. Where one of them was refused, it keeps none, also of those that were made.
+    /// Keeps the edits, and answers how many keys they wrote. Where one of them was refused, it keeps none, also of those that were made, and the
+    /// error is `Disk`.
     pub fn commit(self) -> Result<u64, Cause>
         ensures clean { HasCleanDisk (state_of S.Store self.exit.0.now) → HasCleanDisk (state_of S.Store self.entry.tables.now) }
         ensures cause { HasCleanDisk (state_of S.Store self.exit.0.now) → self.entry.refused ≡ false → IfErr result (IsCauseOf (codes "COMMIT") [] (state_of S.Store self.entry.tables.now) (state_of S.Store self.exit.0.now)) }

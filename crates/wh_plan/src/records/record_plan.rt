@@ -211,7 +211,11 @@ fn rows_of_batch(
 }
 
 /// What a batch of dimension records writes, from reads of the members that it touches alone: its own row and its edits of
-/// the other tables.
+/// the other tables. Records that come late may split rows and move facts. The error is that of a read: `Memory`, `Damaged` with the table
+/// whose row is out of its type, or `Store`.
+///
+/// Kimball & Ross, *The Data Warehouse Toolkit*, 3rd edition, chapter 5, "Slowly Changing Dimension Basics"; chapter 2, "Late Arriving
+/// Dimensions".
 pub fn plan_batch<S: Alter>(
     tables: &mut Tables<S>,
     alloc: Global,

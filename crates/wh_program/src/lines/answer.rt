@@ -8,12 +8,16 @@ use std::marker::Model;
 /// How a run ends whose words are those of a command.
 #[derive(Clone, Copy, Debug, PartialEq, Eq)]
 pub enum Status {
+    /// It did what was asked for: status 0.
     Done,
+    /// It was refused: status 2.
     Refused,
+    /// It failed: status 3.
     Failed,
 }
 
 impl Status {
+    /// The status to exit with.
     pub fn code(self) -> u8
         ensures { result ≡ status_code self }
     {
@@ -41,12 +45,14 @@ impl Model for Answer {
 }
 
 impl Answer {
+    /// The answer that prints this text and ends so.
     pub fn new(status: Status, text: Vec<u8>) -> Answer
         ensures { result ≡ record { status = status_code status; text = text.items } }
     {
         Answer { status, text }
     }
 
+    /// How the run ends.
     pub fn status(&self) -> Status
         ensures { status_code result ≡ self.now.status }
     {
@@ -60,6 +66,7 @@ impl Answer {
         self.status == Status::Failed
     }
 
+    /// What it prints.
     pub fn text(&self) -> &[u8]
         ensures { result.now ≡ self.now.text }
     {
