@@ -97,7 +97,8 @@ fn is_undamaged<S: Alter>(tables: &mut Tables<S>, alloc: Global) -> Result<(), R
     Ok(())
 }
 
-/// The limits that meta says, where it is as it should be by itself: the four names, the format of the tables and good limits.
+/// The limits that meta says, where it is as it should be by itself: the four names, the format of the tables and good limits. `Damaged`: a row of
+/// meta is out of its type.
 pub fn limits_said<S: Alter>(
     tables: &mut Tables<S>,
     alloc: Global,

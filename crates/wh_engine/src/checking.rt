@@ -125,8 +125,8 @@ fn check_tables<S: Alter>(
 
 impl<S: Alter> Engine<S> {
     /// Whether the tables are what their commands define: clean, or the first table that is wrong. `Damaged` names that table where it
-    /// stores a row out of its type. Anybody may have written the rows. A second warehouse is made anew in memory for it, and dropped. After a refusal of the store
-    /// it answers `Reopen`.
+    /// stores a row out of its type. Anybody may have written the rows. A second warehouse is made anew in memory for it, and dropped:
+    /// `Memory` may come of that too. After a refusal of the store it answers `Reopen`.
     pub fn check(&mut self, alloc: Global) -> Result<Verdict, Fault>
         ensures reads { EngineReads S.Store self.old self.new result }
         ensures checked { self.old.session.must_reopen ≡ false → WhenStored S.Store self.old.tables self.new.tables (λ stored. stored.format ≡ self.old.session.format → IsChecked stored result) }

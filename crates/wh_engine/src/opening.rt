@@ -117,8 +117,9 @@ fn session_of<S: Alter>(
 }
 
 impl<S: Alter> Engine<S> {
-    /// Makes a warehouse of these limits under the policy of a policy file, in a database in which the names of the twelve tables are
-    /// free. The making is its first command. A refusal hands the connection back, as it was where a name is taken.
+    /// Makes a warehouse of format 1 and of these limits under the policy of a policy file, in a database in which the names of the twelve
+    /// tables are free. The making is its first command. A refusal is any [`InitFault`], and hands the connection back, as it was where a name
+    /// is taken or a transaction is open.
     pub fn init(
         alloc: Global,
         conn: Connection<S>,
@@ -161,7 +162,14 @@ impl<S: Alter> Engine<S> {
         }
     }
 
-    /// Opens the warehouse of a connection. A refusal hands the connection back.
+    /// Opens the warehouse of a connection, of either format. A refusal hands the connection back:
+    ///
+    /// - `NotAWarehouse`: a table of the format or one of its columns is missing, or meta has no row `format`.
+    /// - `OldFormat`, `NewFormat`: meta says a format below 1, or above 2.
+    /// - `Damaged`: of meta, the format or a limit is out of its type, or a limit is missing or out of its range; of command, the last row that
+    ///   gives a policy is missing, out of its type, or holds no policy.
+    /// - `Memory`: a growth was refused outside the store.
+    /// - `Store`: the store refused a call, or a transaction is open (`Store(Disk)`).
     pub fn open(alloc: Global, conn: Connection<S>) -> Result<Engine<S>, (OpenFault, Connection<S>)>
         ensures clean { IfOpened S.Store conn result (λ old new _. HasCleanDisk new → HasCleanDisk old) }
         ensures clean_left { IfHandedBack S.Store conn result (λ old new _. HasCleanDisk new → HasCleanDisk old) }

@@ -55,7 +55,8 @@ pub struct Scan<'e, S: Alter, T: PagedTable> {
 }
 
 impl<'e, S: Alter, T: PagedTable> Scan<'e, S, T> {
-    /// The next row. After a fault none comes; after a refusal of the store the engine has to be opened again.
+    /// The next row. `Damaged`: a row of the part that is read with it is out of its type. After a fault none comes; after a refusal of the
+    /// store the engine has to be opened again.
     pub fn next_row(&mut self, alloc: Global) -> Result<Option<T::Row>, Fault>
         ensures same_reference { self.new.engine.ghost_name ≡ self.old.engine.ghost_name }
         ensures reads { EngineReadsThrough S.Store self.old.engine.now self.new.engine.now result }
@@ -91,8 +92,8 @@ impl<S: Alter> Engine<S> {
     }
 
     /// The next row of a table after those that the cursor handed out; of a new cursor the first. It is for a reader that goes
-    /// through several tables, or hands the engine on between two rows. After a refusal of the store it answers `Reopen`, and
-    /// after another fault no row comes any more.
+    /// through several tables, or hands the engine on between two rows. `Damaged`: a row of the part that is read with it is out of its type.
+    /// After a refusal of the store it answers `Reopen`, and after another fault no row comes any more.
     pub fn next_row<T: PagedTable>(
         &mut self,
         alloc: Global,

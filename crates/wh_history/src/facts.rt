@@ -52,11 +52,11 @@ pub struct Fact {
     pub customer_durable: u64,
     /// How many were sold: -9,999 to 9,999 in a stored fact.
     pub quantity: i64,
-    /// In hundredths.
+    /// The amount in hundredths, of either sign.
     pub amount: i64,
-    /// In hundredths.
+    /// The cost in hundredths, of either sign.
     pub cost: i64,
-    /// In hundredths; 0 in the first format.
+    /// The discount in hundredths, which isn't taken from the amount; 0 in the first format.
     pub discount: u64,
 }
 

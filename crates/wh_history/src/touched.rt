@@ -22,7 +22,8 @@ pub trait MemberSource {
 
     ghost stored: { Self → List ℕ → Member };
 
-    /// The member with a natural key, as it is stored. Of one that isn't all numbers are 0, and no change is there.
+    /// The member with a natural key, as it is stored. Of one that isn't all numbers are 0, and no change is there. The error says why it can't be
+    /// read, or is `Memory`.
     fn member(&self, alloc: Global, natural: &Value) -> Result<Member, ParseError<Self::Fault>>
         ensures member { IfOk result (λ m. m ≡ stored self.now natural.now) }
         ensures natural { IfOk result (λ m. m.natural ≡ natural.now) };

@@ -22,7 +22,7 @@ use wh_policy::Dim;
 use wh_rows::{ChangeRow, CommandRow, tables};
 use wh_store::{CommandOf, GreatestOf, MemberOf, ReadFault, RecordsOf, RowsOf, Tables};
 
-/// The row of the command of an id, if one was accepted.
+/// The row of the command of an id, if one was accepted. `Damaged`: it is out of its type.
 pub fn command_of<S: Alter>(
     tables: &mut Tables<S>,
     alloc: Global,
@@ -79,7 +79,7 @@ fn changes_in(alloc: Global, rows: &[ChangeRow]) -> Result<Changes, AllocError>
     Ok(changes)
 }
 
-/// All that was accepted of the member with a durable key, in order of acceptance.
+/// All that was accepted of the member with a durable key, in order of acceptance. `Damaged`: a row of change of it is out of its type.
 pub fn stored_changes<S: Alter>(
     tables: &mut Tables<S>,
     alloc: Global,
@@ -93,7 +93,8 @@ pub fn stored_changes<S: Alter>(
     Ok(changes_in(alloc, &rows)?)
 }
 
-/// A member as it is stored. Of one that isn't all numbers are 0, and no change is there.
+/// A member as it is stored. Of one that isn't all numbers are 0, and no change is there. `Damaged`: its row of member, or a row of change of it, is
+/// out of its type.
 pub fn stored_member<S: Alter>(
     tables: &mut Tables<S>,
     alloc: Global,
@@ -115,7 +116,7 @@ pub fn stored_member<S: Alter>(
     }
 }
 
-/// The rows of a dimension's table that have a durable key.
+/// The rows of a dimension's table that have a durable key. `Damaged`: one of them is out of its type.
 pub fn stored_rows<S: Alter>(
     tables: &mut Tables<S>,
     alloc: Global,
@@ -144,7 +145,7 @@ pub struct LastMember {
     pub opening: u64,
 }
 
-/// The numbers of the last member of a dimension.
+/// The numbers of the last member of a dimension. `Damaged`: its row is out of its type.
 pub fn last_member<S: Alter>(
     tables: &mut Tables<S>,
     alloc: Global,

@@ -32,11 +32,11 @@ pub struct SaleRecord {
     pub customer: Option<NaturalKey>,
     /// How many were sold: -9,999 to 9,999 where a batch was read.
     pub quantity: i64,
-    /// In hundredths.
+    /// The amount in hundredths, of either sign.
     pub amount: i64,
-    /// In hundredths.
+    /// The cost in hundredths, of either sign.
     pub cost: i64,
-    /// In hundredths; 0 in the first format.
+    /// The discount in hundredths, which isn't taken from the amount; 0 in the first format.
     pub discount: u64,
 }
 

@@ -92,7 +92,7 @@ pub fn write_table<T: DumpedTable + PagedTable, S: Alter, W: Write>(
     write_rows::<T, S, W>(alloc, engine, &mut part, out)
 }
 
-/// Writes the text of any of the tables, as `write_table` does.
+/// Writes the text of any of the tables, as `write_table` does. `Write`: the writer failed. `Warehouse`: the tables can't be read. `Unwritten`: both.
 pub fn dump<S: Alter, W: Write>(
     alloc: Global,
     engine: &mut Engine<S>,

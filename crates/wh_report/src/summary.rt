@@ -20,7 +20,7 @@ pub enum AddError {
     /// A growth was refused.
     #[error("memory ran out")]
     Memory,
-    /// There are more than 4,294,967,295 sales, or the measures of one are out of range: no warehouse keeps such ones.
+    /// There are more than 4,294,967,295 sales, or the measures of one are out of range. No warehouse of accepted commands has such sales.
     #[error("a sale is out of range, or there are too many")]
     Damaged,
 }

@@ -6,7 +6,7 @@ ghost use Rattle.wh_rows.specs.Types.{dim_number};
 use wh_day::Value;
 use wh_policy::Dim;
 
-/// The number of a dimension, by which the tables member and change name it.
+/// The number of a dimension, by which the tables member and change name it: 1 for product, 2 for store, 3 for customer.
 pub fn dim_number(dim: Dim) -> u64
     ensures { result ≡ dim_number dim }
 {

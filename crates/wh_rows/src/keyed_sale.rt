@@ -14,6 +14,9 @@ use wh_day::{Day, ParseError};
 use wh_policy::Dim;
 
 /// The keys by which a fact names rows of other tables.
+///
+/// Kimball & Ross, *The Data Warehouse Toolkit*, 3rd edition, chapter 5, "Type 7: Dual Type 1 and Type 2 Dimensions": the surrogate key leads to
+/// what was so on the day of sale, the durable key to what is so now.
 #[derive(Clone, Copy, Debug, PartialEq, Eq)]
 pub enum FactColumn {
     /// The surrogate key of the row of a dimension that holds the day of sale.
@@ -35,9 +38,9 @@ pub struct KeyedSale {
     pub key: u64,
     /// How many were sold.
     pub quantity: i64,
-    /// In hundredths.
+    /// The amount in hundredths.
     pub amount: i64,
-    /// In hundredths.
+    /// The cost in hundredths.
     pub cost: i64,
 }
 

@@ -5,7 +5,8 @@ ghost use Rattle.wh_rows.specs.Limits.{is_limit, limits_of, greatest_limits};
 
 use std::marker::Model;
 
-/// How many commands, changes of members and facts a warehouse takes. They are chosen at its making, and kept.
+/// How many commands (with the making), changes of members and facts (with withdrawn ones) a warehouse takes. They are chosen at its making, and
+/// kept.
 #[derive(Clone, Copy, Debug, PartialEq, Eq)]
 pub struct Limits {
     commands: u64,
@@ -28,7 +29,7 @@ impl Model for Limits {
 }
 
 impl Limits {
-    /// These limits, where each is from 1 to its greatest: 100,000 commands, 1,000,000 changes, 1,000,000 facts.
+    /// These limits, where each is from 1 to its greatest: 100,000 commands, 1,000,000 changes, 1,000,000 facts; else `None`.
     pub fn new(commands: u64, changes: u64, facts: u64) -> Option<Limits>
         ensures { result ≡ limits_of commands changes facts }
     {

@@ -36,6 +36,8 @@ pub struct CommandRow {
 }
 
 /// A row of member: what the source calls a member of a dimension.
+///
+/// Kimball & Ross, *The Data Warehouse Toolkit*, 3rd edition, chapter 3, "Dimension Natural and Durable Supernatural Keys".
 #[derive(Debug, Drop)]
 pub struct MemberRow {
     /// The dimension.

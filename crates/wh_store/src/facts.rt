@@ -1,7 +1,7 @@
 //! The facts of a format: those of the first stand in the table `fact`, those of the second in `fact2`.
 //!
-//! Over tables of the first format the store refuses each call for the second, as `fact2` isn't there. Over tables of the second a call for the first
-//! goes to `fact`, which an upgrade leaves empty.
+//! Over tables of the first format the store refuses statements on `fact2`, which isn't there. Over tables of the second a call for the first goes to
+//! `fact`, which an upgrade leaves empty.
 
 ghost use Rattle.std.specs.Prelude.{◌≡◌, ◌≢◌, ◌⊎◌, ◌+◌, ◌<◌, ◌≤◌, [], ◌∷◌, pos, map, filter, length, true, false, if◌then◌else◌, Option, Some, IsTrue, IfOk, IfErr, OnOk, ⊤};
 ghost use Rattle.std.specs.List.{AllByRecursion};

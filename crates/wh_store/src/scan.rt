@@ -91,7 +91,8 @@ fn read_ahead<T: PagedTable, S: Alter>(
     Ok(())
 }
 
-/// The next row of the table after those that the cursor handed out. After a fault none comes, and of a table that the format hasn't none is asked.
+/// The next row of the table after those that the cursor handed out. `Damaged`: a row of the part that is read with it is out of its type. After a
+/// fault none comes, and of a table that the format hasn't none is asked.
 pub fn next_row<T: PagedTable, S: Alter>(
     tables: &mut Tables<S>,
     alloc: Global,
@@ -137,7 +138,7 @@ pub struct Scan<'t, S: Alter, T: PagedTable> {
 }
 
 impl<'t, S: Alter, T: PagedTable> Scan<'t, S, T> {
-    /// The next row. After a fault none comes.
+    /// The next row. `Damaged`: a row of the part that is read with it is out of its type. After a fault none comes.
     pub fn next_row(&mut self, alloc: Global) -> Result<Option<T::Row>, ReadFault>
         ensures same_reference { self.new.tables.ghost_name ≡ self.old.tables.ghost_name }
         ensures same_format { self.new.format ≡ self.old.format }

@@ -103,8 +103,8 @@ impl<S: Alter> Tables<S> {
         }
     }
 
-    /// Whether a table, an index or a view has one of the two names that the second format adds: over format 2 its own tables have them. Over
-    /// format 1 somebody else's object has one, and no upgrade is possible.
+    /// Whether a table, an index or a view has one of the two names that the second format adds. It is so over format 2, whose own tables have
+    /// them. Where it is so over format 1, somebody else's object has one, and no upgrade is possible.
     pub fn is_second_taken(&self) -> bool
         ensures { result ≡ is_second_taken (state_of S.Store self.now).now.schema }
     {

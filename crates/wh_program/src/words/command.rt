@@ -100,9 +100,13 @@ pub enum Task<'a> {
 /// The words of a report, of which only the one for the mode was looked at.
 #[derive(Clone, Copy, Debug, Drop)]
 pub struct AskedReport<'a> {
+    /// What the sales are summed by.
     pub attribute: &'a str,
+    /// The mode.
     pub mode: Mode,
+    /// The first day, as it was given.
     pub from: &'a str,
+    /// The last day, as it was given.
     pub to: &'a str,
 }
 
