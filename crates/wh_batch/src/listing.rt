@@ -25,7 +25,7 @@ use std::alloc::{AllocError, Global};
 use wh_day::ParseError;
 use wh_policy::{Format, Policy};
 
-/// The first faults of a batch of this kind, at most so many, in the order of its records, and how many more there are. A batch
+/// The first faults of a batch of this kind, at most `most`, in the order of its records, and how many more there are. A batch
 /// that is read has none. The error comes where a growth was refused, or where the CSV reader gave up.
 pub fn faults(
     alloc: Global,

@@ -32,7 +32,7 @@ impl Model for NaturalKey {
 }
 
 impl NaturalKey {
-    /// The key of at most so many bytes that a field writes, if it writes one. None has more than 32.
+    /// The key that a field writes, if it writes one of at most `most` bytes. No key has more than 32.
     pub fn read(most: usize, field: &[u8]) -> Option<NaturalKey>
         ensures { result ≡ (if is_key (min most 32) field.now then Some field.now else None) }
     {

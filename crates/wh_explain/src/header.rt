@@ -9,7 +9,7 @@ use crate::shown::{push_header, push_place, push_quoted, push_text};
 use std::alloc::AllocError;
 use wh_batch::{Column, FaultyField};
 
-/// The header that is wanted: the columns' names, parted by commas.
+/// Adds the header that is wanted: the columns' names, separated by commas. The error comes where memory ran out.
 pub fn push_names(text: &mut Vec<u8>, columns: &[Column]) -> Result<(), AllocError>
     ensures { OnOk result (text.new.items ≡ text.old.items ++ join_by (λ column. column.name) (codes ",") columns.now) }
 {

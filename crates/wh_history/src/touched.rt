@@ -211,8 +211,8 @@ fn touch<S: MemberSource>(
     Ok(())
 }
 
-/// The members that a batch touches, as they are after it, where so many members have durable keys and so many anchors
-/// surrogate keys before it. The error is that of [`MemberSource::member`], or `Memory`.
+/// The members that a batch touches, as they are after it. `members` and `anchors` are how many durable and surrogate keys are given before
+/// it. The error is that of [`MemberSource::member`], or `Memory`.
 pub fn touch_all<S: MemberSource>(
     alloc: Global,
     stored: &S,

@@ -164,7 +164,7 @@ pub fn bad_policy(alloc: Global, fault: PolicyFault) -> Result<Answer, AllocErro
     Ok(Answer::new(Status::Refused, policy_line(alloc, fault)?))
 }
 
-/// The answer to a manifest that is a bad one.
+/// The answer to a manifest of which a record is no entry.
 pub fn bad_manifest(alloc: Global, bad: BadManifest) -> Result<Answer, AllocError>
     ensures { IfOk result (λ answer. answer ≡ refused (manifest_line bad)) }
 {

@@ -85,7 +85,7 @@ fn run_request<H: Host, W: Write>(alloc: Global, request: Request, host: &mut H,
     }
 }
 
-/// One run of the program: answers the words after its name, and gives the status to exit with.
+/// One run of the program: answers the words after its name, and gives the status to exit with: 0 done, 2 refused, 3 failed, 4 wrong words.
 pub fn run<S: AsStr, H: Host, W: Write>(alloc: Global, words: &[S], host: &mut H, out: &mut W) -> u8
     // What each command prints, with its status, and what it leaves under the name of a warehouse.
     ensures runs { (line : CommandLine) (task : TaskAsked) → Says (map S.text words.now) line → task_of line ≡ Ok task
@@ -109,7 +109,7 @@ pub fn run<S: AsStr, H: Host, W: Write>(alloc: Global, words: &[S], host: &mut H
     }
 }
 
-/// A run whose words could not be had: they are no text, or memory ran out.
+/// A run whose words could not be had: they are no text (status 4), or memory ran out (status 3).
 pub fn run_without_words<W: Write>(error: &io::Error, out: &mut W) -> u8
     ensures { Prints (W.contents out.old) (W.contents out.new) result out_of_memory ⊎ Prints (W.contents out.old) (W.contents out.new) result (wrong_words no_text_line) }
 {

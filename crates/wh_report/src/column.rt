@@ -26,8 +26,7 @@ pub enum LabelColumn {
     CalendarHoliday,
 }
 
-/// Where the labels of a reading of a subject stand. A reading that the subject hasn't got stands nowhere, and some column
-/// is answered.
+/// Where the labels of a reading of a subject stand. Where the subject hasn't the reading, any column may be answered.
 pub fn column_of(subject: Subject, reading: Reading) -> LabelColumn
     ensures { result ≡ column_of subject reading }
 {
@@ -57,7 +56,7 @@ fn attribute_column(attribute: SlotAttribute, reading: Reading) -> LabelColumn
 }
 
 impl LabelColumn {
-    /// The table that has it. Where a fact's key leads to no label, a row of this table is wanting.
+    /// The table that has it. Where a fact's key leads to no label, a row of this table is missing.
     pub fn table(self) -> Table
         ensures { result ≡ table_of self }
     {

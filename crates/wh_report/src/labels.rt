@@ -69,7 +69,7 @@ impl Labels {
     }
 
     /// Adds the label of a further row of the column's dimension, where facts look for the row and it has one. The labels of
-    /// profiles are needed where the column stands there. After an error the labels are of no use, as with the other two.
+    /// profiles are needed where the column stands there. After an error the labels are of no use.
     pub fn add_row(
         &mut self,
         column: LabelColumn,
@@ -81,14 +81,14 @@ impl Labels {
         self.put_entry(column.row_key(row), column.row_text(profiles, row))
     }
 
-    /// Adds the label of a further profile.
+    /// Adds the label of a further profile. After an error the labels are of no use.
     pub fn add_profile(&mut self, column: LabelColumn, row: &ProfileRow) -> Result<(), AllocError>
         ensures { (profiles : List ProfileRow) → AreLabels self.old (profile_labels column profiles) → OnOk result (AreLabels self.new (profile_labels column (profiles ++ row.now ∷ []))) }
     {
         self.put_entry(Some(row.number), column.value_text(&row.values))
     }
 
-    /// Adds the label of a further day of the calendar.
+    /// Adds the label of a further day of the calendar. After an error the labels are of no use.
     pub fn add_date(&mut self, column: LabelColumn, row: &DateRow) -> Result<(), AllocError>
         ensures { (days : List DateRow) → AreLabels self.old (date_labels column days) → OnOk result (AreLabels self.new (date_labels column (days ++ row.now ∷ []))) }
     {

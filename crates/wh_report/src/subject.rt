@@ -33,7 +33,7 @@ pub struct SlotAttribute {
 /// What the labels of sales are taken from.
 #[derive(Clone, Copy, Debug, PartialEq, Eq)]
 pub enum Subject {
-    /// An attribute of what was sold, of where, or of to whom.
+    /// An attribute of the product, the store or the customer of a sale.
     Attribute(SlotAttribute),
     /// The month of the day of sale.
     Month,

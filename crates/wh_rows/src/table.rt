@@ -81,17 +81,29 @@ const FACT2: [&str; 14] = [
 /// A table, in the order in which plans and checks go through them.
 #[derive(Clone, Copy, Debug, PartialEq, Eq)]
 pub enum Table {
+    /// The format and the limits.
     Meta,
+    /// The accepted commands.
     Command,
+    /// The durable and the natural keys of members.
     Member,
+    /// The accepted records of members.
     Change,
+    /// The rows of products.
     Product,
+    /// The rows of stores.
     Store,
+    /// The rows of customers, and row 0 of sales without a card.
     Customer,
+    /// The mini-dimension of customers.
     Profile,
+    /// The days of the policy's years.
     Calendar,
+    /// The sales that stand, in format 1; in format 2 it is empty.
     Fact,
+    /// The sales that stand, in format 2.
     Fact2,
+    /// The lines that were withdrawn, in format 2.
     Void,
 }
 
