@@ -74,7 +74,7 @@ pub struct ChangeRow {
 /// After Kimball & Ross, *The Data Warehouse Toolkit*, 3rd edition, chapter 5, "Type 4: Add Mini-Dimension".
 #[derive(Debug, Drop)]
 pub struct ProfileRow {
-    /// From 1. Row 1 is that of customers without a record, and combinations begin with 2.
+    /// 0 for sales without a card, 1 for customers without a record, and from 2 on for combinations.
     pub number: u64,
     /// The texts of the six slots, empty where the attribute is of another type.
     pub values: Values,
