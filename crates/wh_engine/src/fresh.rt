@@ -1,10 +1,11 @@
 //! A warehouse from nothing: made, given commands, and closed.
 
-ghost use Rattle.std.specs.Prelude.{IfOk};
+ghost use Rattle.std.specs.Prelude.{IfOk, IfErr, false};
 ghost use Rattle.sqlite.specs.Held.{state};
 ghost use Rattle.sqlite.specs.State.{HasCleanDisk};
 ghost use Rattle.sqlite.specs.Steps.{over_memory};
 ghost use Rattle.wh_engine.specs.Fresh.{IsDeliveredFresh};
+ghost use Rattle.wh_engine.specs.Opened.{IsNotMade};
 
 use crate::delivery::Replies;
 use crate::engine::Engine;
@@ -23,7 +24,9 @@ pub fn deliver_fresh(
     limits: Limits,
     commands: &[Command],
 ) -> Result<(Replies, Connection<MemStore>), InitFault>
-    ensures { IfOk result (λ it. HasCleanDisk (state over_memory it.1) → IsDeliveredFresh limits policy.now commands.now it.0.answers.items it.0.stop (state over_memory it.1)) }
+    ensures made { IfOk result (λ it. HasCleanDisk (state over_memory it.1) → IsDeliveredFresh limits policy.now commands.now it.0.answers.items it.0.stop (state over_memory it.1)) }
+    // No name is taken, so only the policy's fault, memory or the store stands in the way.
+    ensures refused { IfErr result (IsNotMade policy.now false) }
 {
     let Ok(connection) = open_fresh(alloc) else {
         return Err(InitFault::Memory);
