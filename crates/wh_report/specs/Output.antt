@@ -83,6 +83,13 @@ IsOfTables (Warehouse fault) = ⊤
 IsOfTables (Unwritten fault) = ⊥
 IsOfTables (Inconsistent table) = ⊤
 
+-- the writer failed, or the warehouse can't be read or lacks a row: each alone
+abbrev pub IsOfReport : ReportFault → Type 0
+IsOfReport Write = ⊤
+IsOfReport (Warehouse fault) = ⊤
+IsOfReport (Unwritten fault) = ⊥
+IsOfReport (Inconsistent table) = ⊤
+
 -- the answer as that of the warehouse, which answered where the writer alone failed or its tables don't fit together
 abbrev pub of_warehouse : {A : Type 0} → Result A ReportFault → Result (Unit {0}) Fault
 of_warehouse (Ok done) = Ok tt

@@ -8,7 +8,7 @@ ghost use Rattle.wh_engine.specs.Answered.{IsReady};
 ghost use Rattle.wh_engine.specs.Scanned.{ReadsThrough};
 ghost use Rattle.wh_store.specs.Reads.{SaysAtRest, SaysAsStored, state_of};
 ghost use Rattle.wh_report.specs.Joined.{column_of};
-ghost use Rattle.wh_report.specs.Output.{GoesOut, IsWorkedOut, IsOfTables, of_warehouse};
+ghost use Rattle.wh_report.specs.Output.{GoesOut, IsWorkedOut, IsOfTables, IsOfReport, of_warehouse};
 ghost use Rattle.wh_report.specs.Reported.{ReportsTables, ReportsStored, Reports, column_asked};
 ghost use Rattle.wh_report.specs.Request.{has_reading};
 ghost use Rattle.wh_report.specs.Subject.{subject_in, reading_of};
@@ -102,6 +102,7 @@ fn write_worked<W: Write>(
     ensures out { GoesOut worked result (W.contents out.old) (W.contents out.new) }
     ensures same { of_warehouse result ≡ of_warehouse worked }
     ensures only { result ≡ Err (report.Warehouse faults.Reopen) → worked ≡ Err (report.Warehouse faults.Reopen) }
+    ensures kinds { IfErr worked IsOfTables → IfErr result IsOfReport }
 {
     let text = worked?;
     write_whole(out, &text)?;
@@ -119,11 +120,16 @@ pub fn write<S: Alter, W: Write>(
     requires { has_reading engine.old.session.policy request.now ≡ true }
     ensures reads { ReadsThrough engine.old.session engine.new.session (state_of S.Store engine.old.tables) (state_of S.Store engine.new.tables) (of_warehouse result) }
     ensures writes { engine.new.writes ≡ engine.old.writes }
+    ensures tables { SaysAtRest (state_of S.Store engine.old.tables) (state_of S.Store engine.new.tables) (λ t. (subject : Subject) (which : Reading)
+        → subject_in engine.old.session.policy request.now.words ≡ Some subject → reading_of subject request.now.mode ≡ Some which → IsWorkedOut (ReportsTables engine.old.session.format request.now (column_of subject which) t) result (W.contents out.old) (W.contents out.new)) }
     ensures stored { SaysAsStored (state_of S.Store engine.old.tables) (state_of S.Store engine.new.tables) (λ stored. (subject : Subject) (which : Reading)
         → subject_in engine.old.session.policy request.now.words ≡ Some subject → reading_of subject request.now.mode ≡ Some which → IsWorkedOut (ReportsStored engine.old.session.format request.now (column_of subject which) stored) result (W.contents out.old) (W.contents out.new)) }
     ensures reported { HasCleanDisk (state_of S.Store engine.new.tables) → (limits : Limits) (commands : List Accepted) → IsReady limits commands engine.old.session (state_of S.Store engine.old.tables)
         → IsWorkedOut (Reports commands request.now) result (W.contents out.old) (W.contents out.new) }
+    ensures reopen { IsTrue engine.old.session.must_reopen
+        → (result ≡ Err (report.Warehouse faults.Reopen)) × (engine.new.tables ≡ engine.old.tables) × (engine.new.session ≡ engine.old.session) × (W.contents out.new ≡ W.contents out.old) }
     ensures only { result ≡ Err (report.Warehouse faults.Reopen) → IsTrue engine.old.session.must_reopen }
+    ensures kinds { IfErr result IsOfReport }
 {
     let worked = report(alloc, engine, request);
     write_worked(worked, out)

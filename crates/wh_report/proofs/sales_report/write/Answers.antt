@@ -1,4 +1,13 @@
+use Rattle.std.proofs.Common.{subst}
+use Rattle.wh_report.specs.Output.{GoesOut}
 use Rattle.wh_report.proofs.sales_report.write.Goals as goal
+
+pub returns-clause-tables : goal.returns-clause-tables
+returns-clause-tables g c clean tables rests subject which names reads = record {
+  worked = c.report-worked.result;
+  due = c.report-worked.ensures.tables clean tables rests subject which names reads;
+  out = c.write_worked.ensures.out;
+}
 
 pub returns-clause-stored : goal.returns-clause-stored
 returns-clause-stored g c clean stored rests subject which names reads = record {
@@ -13,3 +22,9 @@ returns-clause-reported g c clean limits commands ready = record {
   due = c.report-worked.ensures.reported clean limits commands ready;
   out = c.write_worked.ensures.out;
 }
+
+pub returns-clause-reopen : goal.returns-clause-reopen
+returns-clause-reopen g c must =
+    let same = c.report-worked.ensures.reopen must in
+    let out = subst (λ worked. GoesOut worked c.write_worked.result (g.W.Write.contents c.args.out.now) (g.W.Write.contents c.write_worked.new.out)) same.0 c.write_worked.ensures.out in
+    (out.0, same.1, same.2, out.1)
