@@ -1,6 +1,8 @@
 //! One run of the program.
 
 ghost use Rattle.std.specs.Prelude.{◌≡◌, ◌≢◌, ◌⊎◌, ℕ, List, Some, None, Ok, Err, map};
+ghost use Rattle.std.specs.IoError.{error_kind};
+ghost use Rattle.std.specs.declared.io.ErrorKind.TheVariants.{OutOfMemory};
 ghost use Rattle.clap.specs.Words.{Kinds};
 ghost use Rattle.wh_program.specs.Answer.{Printed, status_code, wrong_words, no_text_line};
 ghost use Rattle.wh_program.specs.CommandLine.{CommandLine, Says};
@@ -111,7 +113,8 @@ pub fn run<S: AsStr, H: Host, W: Write>(alloc: Global, words: &[S], host: &mut H
 
 /// A run whose words could not be had: they are no text (status 4), or memory ran out (status 3).
 pub fn run_without_words<W: Write>(error: &io::Error, out: &mut W) -> u8
-    ensures { Prints (W.contents out.old) (W.contents out.new) result out_of_memory ⊎ Prints (W.contents out.old) (W.contents out.new) result (wrong_words no_text_line) }
+    ensures memory { error_kind error.now ≡ OutOfMemory → Prints (W.contents out.old) (W.contents out.new) result out_of_memory }
+    ensures no_text { error_kind error.now ≢ OutOfMemory → Prints (W.contents out.old) (W.contents out.new) result (wrong_words no_text_line) }
 {
     match error.kind() {
         io::ErrorKind::OutOfMemory => print(out, Status::Failed, MEMORY_LINE).code(),
