@@ -1,4 +1,4 @@
--- A command that came before, as any stored rows tell it, whoever wrote them.
+-- A command that came before, as any stored rows tell it.
 use Rattle.std.specs.Prelude.{◌≡◌, IsTrue}
 use Rattle.sqlite_rules.specs.Lists.{Has}
 use Rattle.wh_batch.specs.Kind.{command_word}

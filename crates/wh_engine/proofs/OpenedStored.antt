@@ -1,4 +1,4 @@
--- What an engine reads of any rows when it opens a warehouse, whoever wrote them.
+-- What an engine reads of any stored rows when it opens a warehouse.
 use Rattle.std.proofs.Common.{◌≡◌, inl, inr, List, slice_get, Option, Some, None, Result, Ok, Err, IfOk, IfErr, ap, ◌∙◌}
 use Rattle.sqlite.specs.State.{State}
 use Rattle.wh_policy.specs.Policy.{policy_at}

@@ -156,7 +156,7 @@ module _ (limits : Limits) (commands : List Accepted) (t : Tables) (accepted : I
       let same : record { limits = limits; format = format_of commands; policy = current_policy commands; must_reopen = false } ≡ session = same_ok (opened t) _ session opened_there is in
       record { admitted = admitted; rests = record { tables = t; are = are; rests = rests }; session_is = sym same }
 
-  -- and refused by the store, or for want of memory, alone
+  -- and refused by the store, or because memory ran out, alone
   pub opened_refused : (fault : OpenFault) (s : State) → IsRead {A = Session} (Err fault) (opened t) t s → IsNotOpened limits commands fault s
   opened_refused faults.Memory s read = record { tables = t; are = are; rests = read.1 }
   opened_refused (faults.Store cause) s read = record { each = λ trees may. inl (record { tables = t; are = are; trees_are = read.each trees may }) }

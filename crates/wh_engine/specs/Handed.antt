@@ -15,7 +15,7 @@ use Rattle.wh_engine.specs.Faults.{NamesTable}
 use Rattle.wh_engine.specs.Scanned.{WhenStored}
 use Rattle.wh_engine.specs.declared.fault.Fault.{Fault}
 
--- Where a warehouse of this format has the table: the row is the table's next one in any tables at rest, so in those of the accepted commands. A scan of any rows, whoever wrote them, misses none and
+-- Where a warehouse of this format has the table: the row is the table's next one in any tables at rest, so in those of the accepted commands. A scan of any rows, misses none and
 -- hands out none twice. Each row handed out is of its type; a row that isn't is reported with this table's name.
 pub record HandsNext {S K V : Type 0} (g : Ghosts S) (name : Table) (layout : Layout K V) (bind : K → Row) (rows_of : TypedTables → FinMap layout.order V) (format : Format) (old new : Tables S) (before after : Cursor K V) (result : Result (Option V) Fault) : Type 0 where
   pub rows : SaysInFormat g name format old new (λ t. IfOk result (λ found. HandsOut (rows_left layout (rows_of t) before) found (rows_left layout (rows_of t) after)))

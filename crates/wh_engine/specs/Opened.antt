@@ -89,7 +89,7 @@ abbrev pub IsRead : {A : Type 0} → Result A OpenFault → Result A OpenFault �
 IsRead (Err (faults.Store cause)) told t s = Leaves (Some t) s
 IsRead result told t s = IsTold result told × IsAtRest (Some t) s
 
--- ---- the same, whoever wrote the rows
+-- ---- the same of any stored rows
 
 -- the stored rows of commands that give a policy
 abbrev pub policies_stored : Stored → List Row

@@ -46,7 +46,7 @@ IsNotReady limits before after Known (left.Files error rest) = AreUnopened (λ i
 IsNotReady limits before after Known (left.Warehouse fault conn) =
     HasCleanDisk (file_state conn) → Known × ∥ IsNotOpened limits before fault (file_state conn) ⊎ IsNotOpened limits after fault (file_state conn) ∥₁
 
--- The same of any rows that are stored, whoever wrote them: that it is none or is damaged is answered only where it is so by these rows, which are still there.
+-- The same of any rows that are stored: that it is none or is damaged is answered only where it is so by these rows, which are still there.
 abbrev pub IsNotReadyOn : {D : Type 0} {g : Ghosts D} → Stored → NotReopened D g → Type 0
 IsNotReadyOn stored (left.Files error rest) = AreUnopened (AreStoredIn stored) rest error
 IsNotReadyOn stored (left.Warehouse fault conn) =

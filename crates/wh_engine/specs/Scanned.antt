@@ -27,7 +27,7 @@ use Rattle.wh_engine.specs.declared.session.Session.{Session}
 abbrev pub WhenAtRest : {S : Type 0} → Ghosts S → Tables S → Tables S → (TypedTables → Type 0) → Type 0
 WhenAtRest g old new fact = SaysAtRest (state_of g old) (state_of g new) fact
 
--- where this was stored, whoever wrote it
+-- where this was stored
 abbrev pub WhenStored : {S : Type 0} → Ghosts S → Tables S → Tables S → (Stored → Type 0) → Type 0
 WhenStored g old new fact = SaysAsStored (state_of g old) (state_of g new) fact
 

@@ -66,7 +66,7 @@ all_pass : (params : Row) (rows : List Row) → filter (passes params []) rows �
 all_pass params [] = refl
 all_pass params (r ∷ rows) = ap (λ l. r ∷ l) (all_pass params rows)
 
--- the number of all rows, whoever wrote them
+-- the number of all rows
 pub counts_stored : {under : Schema} {K V : Type 0} (layout : Layout K V) (text : List ℕ) (names : List (List ℕ)) (old new : State) (rows : List Row)
     → command_of (understood under text) ≡ Select (record { lets = []; body = counting layout.table.tree [] }) names → IsPlain (understood under text) → reads_listing under text ≡ false
     → old.now.schema ≡ under → Shown text [] old new rows → (stored : List Row) → IsPermutation (rows_in layout.table old.now.trees) stored → rows ≡ (count (length stored) ∷ []) ∷ []

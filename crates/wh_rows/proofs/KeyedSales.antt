@@ -176,7 +176,7 @@ module _ (which : FactColumn) (old new : State) (answer : List Row) (shown : Sho
       map-map first output_of _ ∙ ap (map (λ r. first (output_of r))) (filter_all db) ∙ ap (λ f. map f db) (λ i r. it.shows r i) ∙ sym (map-map (shown_of which) (values_of row.fact.table) db) in
       subst₂ IsPermutation each (sym found.shown) (IsPermutation-map first _ _ found.same)
 
-  -- of any rows, whoever wrote them
+  -- of any rows
   pub shows_stored_sales : (stored : Stored) → IsStored stored old.now → IsPermutation (map (shown_of which) (stored.rows tables.Fact)) answer
   shows_stored_sales stored is = IsPermutation-trans _ _ _ (IsPermutation-map (shown_of which) _ _ (IsPermutation-sym _ _ (is.rows tables.Fact))) (shows_each stored.format is.schema)
 
@@ -224,7 +224,7 @@ module _ (which : FactColumn) (old new : State) (answer : List Row) (shown : Sho
       map-map first output_of _ ∙ ap (map (λ r. first (output_of r))) (filter_all db) ∙ ap (λ f. map f db) (λ i r. it.shows r i) ∙ sym (map-map (shown_of which) (values_of row.fact2.table) db) in
       subst₂ IsPermutation each (sym found.shown) (IsPermutation-map first _ _ found.same)
 
-  -- of any rows, whoever wrote them
+  -- of any rows
   pub shows_stored_sales2 : (stored : Stored) → IsStored stored old.now → IsPermutation (map (shown_of which) (stored.rows tables.Fact2)) answer
   shows_stored_sales2 stored is = IsPermutation-trans _ _ _ (IsPermutation-map (shown_of which) _ _ (IsPermutation-sym _ _ (is.rows tables.Fact2))) (shows_each2 stored.format is.schema)
 

@@ -1,4 +1,4 @@
--- The stored rows of a table, whoever wrote them.
+-- The stored rows of a table.
 use Rattle.std.proofs.Common.{Option, None, Some, IsSome, ◌++◌, ◌↔◌, add-one, Result, Ok, Err, ◌⊎◌, ◌≡◌, ℕ, zero, suc, ◌+◌, ◌<◌, List, [], ◌∷◌, map, filter, take, length, Bool, true, false, inl, inr, refl, sym, ap, subst, subst₂, ◌∙◌, arith, Ordering, Less, Equal, Greater, is_lt}
 use Rattle.std.specs.Prelude.{IsTrue, slice_get, unwrap_or, option_map}
 use Rattle.std.specs.List.{AllByRecursion, list_all}

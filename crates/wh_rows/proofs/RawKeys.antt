@@ -1,4 +1,4 @@
--- At a key at most one row is stored, whoever wrote it.
+-- At a key at most one row is stored.
 use Rattle.std.proofs.Common.{not, subst, ap, ap₂, Some, Ordering, Greater, ◌≡◌, ℕ, ℤ, ◌≤◌, Bool, true, false, ◌&&◌, List, [], ◌∷◌, filter, take, length, inl, inr, refl, sym, ◌∙◌, arith, Less, Equal}
 use Rattle.std.specs.Prelude.{IsTrue}
 use Rattle.std.specs.List.{AllByRecursion, list_any}

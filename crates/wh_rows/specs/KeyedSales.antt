@@ -77,7 +77,7 @@ place_of (Durable Customer) = 8
 place_of Profile = 9
 place_of Day = 2
 
--- what is shown of a stored row of the facts, whoever wrote it
+-- what is shown of a stored row of the facts
 abbrev pub shown_of : FactColumn → Row → Row
 shown_of which r = column r 2 ∷ column r (place_of which) ∷ column r 10 ∷ column r 11 ∷ column r 12 ∷ []
 

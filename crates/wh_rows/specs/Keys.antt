@@ -1,4 +1,4 @@
--- The keys of the tables: as the parameters of a statement, and as the first columns of a stored row, whoever wrote it.
+-- The keys of the tables: as the parameters of a statement, and as the first columns of a stored row.
 use Rattle.std.specs.Prelude.{ℕ, List, [], ◌∷◌, Bool, true, ◌&&◌, pos}
 use Rattle.sqlite_value.specs.declared.value.Value.TheVariants.{Int, Text}
 use Rattle.sqlite_schema.specs.Rules.{equal}

@@ -39,7 +39,7 @@ abbrev pub is_behind : {K V : Type 0} → Layout K V → Option K → V → Bool
 is_behind layout None row = true
 is_behind layout (Some key) row = is_gt (layout.order (layout.key row) key)
 
--- so is the stored row, whoever wrote it: by its first columns, as SQL orders any values
+-- so is the stored row: by its first columns, as SQL orders any values
 abbrev pub stands_behind : {K V : Type 0} → Layout K V → (K → Row) → Option K → Row → Bool
 stands_behind layout bind None row = true
 stands_behind layout bind (Some key) row = is_gt (stored_cmp layout.table false row (bind key))
@@ -56,7 +56,7 @@ pub record IsKeyed {K V : Type 0} (layout : Layout K V) (bind : K → Row) (stan
   pub led : (r : Row) (v : V) → stored_cmp layout.table false r (layout.encode v) ≡ stored_cmp layout.table false r (bind (layout.key v))
   pub tied : (r : Row) (k : K) → stored_cmp layout.table false r (bind k) ≡ Equal → stands_at k r ≡ true
 
--- at a key at most one row is stored, whoever wrote it
+-- at a key at most one row is stored
 abbrev pub StandsOnce : {K : Type 0} → (K → Row → Bool) → Table → Type 0
 StandsOnce {K = K} stands_at table = (db : Database) (stored : Stored) → IsStored stored db → (k : K) → length (filter (stands_at k) (stored.rows table)) ≤ 1
 

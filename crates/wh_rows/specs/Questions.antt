@@ -1,4 +1,4 @@
--- Which stored rows answer a question, whoever wrote them.
+-- Which stored rows answer a question.
 use Rattle.std.specs.Prelude.{ℕ, List, [], Bool, true, ◌&&◌, ◌||◌, pos, slice_index_or, bytes_eq, codes}
 use Rattle.std.specs.Ordering.{eq_by_cmp, is_ge, is_le, nat_cmp}
 use Rattle.sqlite_value.specs.declared.value.Value.{Value}

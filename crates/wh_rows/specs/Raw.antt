@@ -1,4 +1,4 @@
--- What is stored in the tables, whoever wrote it: rows of values of their types, and rows that are damaged.
+-- What is stored in the tables: rows of values of their types, and rows that are damaged.
 use Rattle.std.specs.Prelude.{◌≡◌, ◌≢◌, ◌⊎◌, ℕ, Bool, false, List, [], ◌∷◌, ◌++◌, map, take, Option, None, Some, IsTrue, if◌then◌else◌}
 use Rattle.std.specs.declared.cmp.Ordering.{Ordering}
 use Rattle.std.specs.Ordering.{is_gt}

@@ -70,7 +70,7 @@ module _ (old new : State) (survives : Survives old new (λ _. ⊥)) (clean : Ha
       left = leaves_same;
     }
 
-  -- so it is of stored rows, whoever wrote them
+  -- so it is of stored rows
   module _ (stored : Stored) (at : RestsOn stored old) where
     leaves_stored : LeavesStored stored new
     leaves_stored = record { each = λ trees may. elim (survives.crash clean trees may) [ inl before ↦ at.left.each trees before | inr none ↦ absurd none ] }
@@ -98,7 +98,7 @@ reads_unchanged old new survives result same sound named = record {
   named = named;
 }
 
--- ---- a text that shows stored rows, whoever wrote them
+-- ---- a text that shows stored rows
 
 -- the rows of a table that is there
 pub shown_there : (format : Format) (table : Table) (trees : Trees) (rows : List Row) → is_there table format ≡ true → IsPermutation (rows_shown format table trees) rows → IsPermutation (rows_in (table_of table) trees) rows

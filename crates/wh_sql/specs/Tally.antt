@@ -12,7 +12,7 @@ use Rattle.wh_rows.specs.declared.keyed_sale.KeyedSale.{KeyedSale}
 abbrev pub HasCounted : {C : Type 0} → (C → List KeyedSale → C → Type 0) → FactColumn → C → C → List Fact → Type 0
 HasCounted Counts which old new facts = (ordered : List Fact) × IsPermutation ordered facts × Counts old (map (keyed which) ordered) new
 
--- the same of stored rows, whoever wrote them
+-- the same of stored rows
 abbrev pub HasCountedStored : {C : Type 0} → (C → List KeyedSale → C → Type 0) → FactColumn → C → C → List Row → Type 0
 HasCountedStored Counts which old new stored = (sales : List KeyedSale) × IsPermutation (map columns_of sales) (map (shown_of which) stored) × Counts old sales new
 

@@ -20,7 +20,7 @@ pub none_typed : {K V : Type 0} (layout : Layout K V) (rows : Tables → FinMap 
     → (s : State) (t : Tables) → IsAtRest (Some t) s → is_there name t.format ≡ false → values (rows t) ≡ []
 none_typed layout rows with_rows name placed s t at absent = ap values (placed.absent s.now t at.now.tables absent) ∙ ap (map (λ e. e.1)) (no_values layout.order)
 
--- whoever wrote the rows, none is stored in it
+-- whatever rows are stored, none is in it
 pub none_there : (name : Table) (s : State) (stored : Stored) → RestsOn stored s → is_there name stored.format ≡ false → stored.rows name ≡ []
 none_there name s stored at absent = no_rows (stored.rows name) (length_permutation _ _ (subst (λ is. IsPermutation (if is then rows_in (table_of name) s.now.trees else []) (stored.rows name)) absent (at.now.rows name)))
   where

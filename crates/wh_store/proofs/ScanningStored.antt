@@ -1,4 +1,4 @@
--- What a part of a table leaves to be read, and what is handed out of it, whoever wrote the rows.
+-- What a part of a table leaves to be read, and what is handed out of it.
 use Rattle.std.proofs.Common.{◌≡◌, ℕ, ◌-◌, ◌<◌, ◌≤◌, List, [], ◌∷◌, ◌++◌, map, filter, length, slice_get, Bool, true, false, Option, None, Some, option_map, refl, sym, ap, subst, ◌∙◌, arith, nat_lt}
 use Rattle.std.specs.Option.{option_to_list}
 use Rattle.std.proofs.lemmas.List.Sorted.{IsPermutation-refl}

@@ -19,7 +19,7 @@ use Rattle.wh_rows.specs.Tables.{Tables}
 abbrev pub AreInFiles : Option Tables → Image → Type 0
 AreInFiles held image = ∥ ((trees : Trees) × HoldsDatabase image trees × AreTrees held trees) ∥₁
 
--- the trees are those of a database of the making's schema in which this is stored, whoever wrote it
+-- the trees are those of a database of the making's schema in which this is stored
 abbrev pub AreTreesOn : Stored → Trees → Type 0
 AreTreesOn stored trees = IsStored stored (record { schema = schema_in stored.format; trees = trees })
 

@@ -1,4 +1,4 @@
--- What meta says, whoever wrote its rows.
+-- What any stored rows of meta say.
 use Rattle.std.specs.Prelude.{◌≡◌, ◌⊎◌, ℕ, ℤ, Bool, codes, List, [], ◌∷◌, filter, Option, None, Result, Err, ⊤}
 use Rattle.sqlite.specs.Order.{Row}
 use Rattle.sqlite_rules.specs.Lists.{Has}

@@ -19,7 +19,7 @@ pub use Rattle.wh_sql.specs.Present.{is_any_taken, is_second_taken, are_all_ther
 abbrev pub state_of : {S : Type 0} → Ghosts S → Tables S → State
 state_of g tables = state g tables.conn
 
--- what is so where these tables were at rest, and where this was stored, whoever wrote it
+-- what is so where these tables were at rest, and where this was stored
 abbrev pub SaysAtRest : State → State → (TypedTables → Type 0) → Type 0
 SaysAtRest old new fact = HasCleanDisk new → (t : TypedTables) → IsAtRest (Some t) old → fact t
 

@@ -21,7 +21,7 @@ HandsOut left (Some row) rest = left ≡ row ∷ rest
 abbrev pub IsOver : {K V : Type 0} → Cursor K V → Type 0
 IsOver cursor = (into_iter_items cursor.ahead ≡ []) × IsTrue cursor.is_over
 
--- ---- of any rows that are stored, whoever wrote them
+-- ---- of any rows that are stored
 
 -- those after the key of the last that was read, in the order of their keys; none where nothing is read any more
 abbrev pub AreUnread : {K V : Type 0} → Layout K V → (K → Row) → List Row → Option K → Bool → List Row → Type 0

@@ -133,7 +133,7 @@ get format k = record {
   in_order = λ v w. then-Equal _ ∙ sorted-Nat v.date_key w.date_key;
 }
 
--- ---- read, whoever wrote the rows
+-- ---- read, of any stored rows
 
 pub all_stored : (format : Format) → ReadsStored (schema_in format) row.calendar [] (λ r. true) (λ r. true) texts.calendar.all
 unfolding all

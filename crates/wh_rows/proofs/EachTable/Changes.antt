@@ -175,7 +175,7 @@ greatest_anchor format dim = record {
   in_order = λ v w. then-Equal _ ∙ sorted-Nat w.anchor v.anchor;
 }
 
--- ---- read, whoever wrote the rows
+-- ---- read, of any stored rows
 
 pub all_stored : (format : Format) → ReadsStored (schema_in format) row.change [] (λ r. true) (λ r. true) texts.change.all
 unfolding all

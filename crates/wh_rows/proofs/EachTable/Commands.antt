@@ -187,7 +187,7 @@ last_policy format = record {
   in_order = λ v w. then-Equal _ ∙ sorted-Nat w.number v.number;
 }
 
--- ---- read, whoever wrote the rows
+-- ---- read, of any stored rows
 
 pub all_stored : (format : Format) → ReadsStored (schema_in format) row.command [] (λ r. true) (λ r. true) texts.command.all
 unfolding all

@@ -268,7 +268,7 @@ of_sales_between format Product durable from to = of_product_between format dura
 of_sales_between format Store durable from to = of_store_between format durable from to
 of_sales_between format Customer durable from to = of_customer_between format durable from to
 
--- ---- read, whoever wrote the rows
+-- ---- read, of any stored rows
 
 pub all_stored : (format : Format) → ReadsStored (schema_in format) row.fact [] (λ r. true) (λ r. true) texts.fact.all
 unfolding all

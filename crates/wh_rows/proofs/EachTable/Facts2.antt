@@ -211,7 +211,7 @@ of_sales_between Product durable from to = of_product_between durable from to
 of_sales_between Store durable from to = of_store_between durable from to
 of_sales_between Customer durable from to = of_customer_between durable from to
 
--- ---- read, whoever wrote the rows
+-- ---- read, of any stored rows
 
 pub all_stored : ReadsStored (schema_in Two) row.fact2 [] (λ r. true) (λ r. true) texts.fact2.all
 unfolding all

@@ -189,7 +189,7 @@ greatest format dim = record {
   in_order = λ v w. ap₂ ordering_then (sorted-Nat (dim_number w.dim) (dim_number v.dim)) (then-Equal _ ∙ sorted-Nat w.durable v.durable);
 }
 
--- ---- read, whoever wrote the rows
+-- ---- read, of any stored rows
 
 pub all_stored : (format : Format) → ReadsStored (schema_in format) row.member [] (λ r. true) (λ r. true) texts.member.all
 unfolding all

@@ -130,7 +130,7 @@ get format k = record {
   in_order = λ v w. then-Equal _ ∙ value_cmp-Text v.name w.name;
 }
 
--- ---- read, whoever wrote the rows
+-- ---- read, of any stored rows
 
 pub all_stored : (format : Format) → ReadsStored (schema_in format) row.meta [] (λ r. true) (λ r. true) texts.meta.all
 unfolding all

@@ -175,7 +175,7 @@ of_values format values = record {
   in_order = λ v w. then-Equal _ ∙ sorted-Nat v.number w.number;
 }
 
--- ---- read, whoever wrote the rows
+-- ---- read, of any stored rows
 
 pub all_stored : (format : Format) → ReadsStored (schema_in format) row.profile [] (λ r. true) (λ r. true) texts.profile.all
 unfolding all

@@ -156,7 +156,7 @@ of_durable format durable = record {
   in_order = λ v w. then-Equal _ ∙ sorted-Nat v.surrogate w.surrogate;
 }
 
--- ---- read, whoever wrote the rows
+-- ---- read, of any stored rows
 
 pub all_stored : (format : Format) → ReadsStored (schema_in format) row.store [] (λ r. true) (λ r. true) texts.store.all
 unfolding all

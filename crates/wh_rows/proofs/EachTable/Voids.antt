@@ -111,7 +111,7 @@ get k = record {
   in_order = λ v w. ap₂ ordering_then (value_cmp-Text v.ticket w.ticket) (then-Equal _ ∙ sorted-Nat v.line w.line);
 }
 
--- ---- read, whoever wrote the rows
+-- ---- read, of any stored rows
 
 pub all_stored : ReadsStored (schema_in Two) row.void [] (λ r. true) (λ r. true) texts.void.all
 unfolding all

@@ -22,7 +22,7 @@ returns-clause-read g c clean t rests =
     read_of_told c.policy_of.result (of_command (last_policy_in t)) t new
     (subst (λ rows. IsTold c.policy_of.result (of_command (slice_get rows 0))) rows c.policy_of.ensures.told) c.policy_of.ensures.pure (c.in_ok-last.ensures.reads.same clean t rests tt)
 
--- ---- whoever wrote the rows
+-- ---- of any stored rows
 
 pub returns-in_err-last-clause-reads : goal.returns-in_err-last-clause-reads
 returns-in_err-last-clause-reads g c =

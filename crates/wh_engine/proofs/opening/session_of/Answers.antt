@@ -26,7 +26,7 @@ returns-in-Err-clause-read g c clean t rests =
     let still = c.in_ok-limits.ensures.reads.same before t rests tt in
     fault_goes_on c.in-Err.fault (of_command (last_policy_in t)) (session_in c.args.format t) t (state_of g.S.Store c.policy_in.new.tables) (λ e. policy_fault t c.args.format c.in_ok-limits.limits e first) (c.in-Err.ensures.read clean t still)
 
--- ---- whoever wrote the rows
+-- ---- of any stored rows
 
 pub returns-in_err-limits-clause-reads : goal.returns-in_err-limits-clause-reads
 returns-in_err-limits-clause-reads g c =

@@ -60,7 +60,7 @@ returns-clause-reads g c =
     let here = c.in_ok-rows.ensures.reads it.quiet (λ clean t at. tt) (λ clean stored at. tt) in
     record { clean = here.clean; sound = λ clean t at. tt; same = here.same; left = here.left; rests = here.rests; leaves = here.leaves; named = λ clean stored at. tt }
 
--- ---- whoever wrote the rows
+-- ---- of any stored rows
 
 pub returns-clause-stored : goal.returns-clause-stored
 returns-clause-stored g c clean stored is =

@@ -42,7 +42,7 @@ returns-clause-reads g c =
     part_named g.T.StoredTable.layout g.T.KeyedTable.name g.met.T.KeyedTable.named g.met.T.KeyedTable.harmed (q.means of) (q.bind of) (state g.S.Store c.args.conn.now) (state g.S.Store c.rows_shown.new.conn)
     q.front (q.keep of) (λ format. g.met.Q.Question.reads format of) c.rows_shown.result (refused clean) stored at.now)
 
--- ---- whoever wrote the rows
+-- ---- of any stored rows
 
 pub returns-clause-stored : goal.returns-clause-stored
 returns-clause-stored g c clean stored is =

@@ -49,7 +49,7 @@ returns-clause-reads g c =
     let here = reads (some_quiet g.T.KeyedTable.name g.T.StoredTable.layout (g.T.KeyedTable.bind c.args.key.now) (λ row. eq_by_cmp g.T.StoredTable.layout.order c.args.key.now (g.T.StoredTable.layout.key row)) g.T.KeyedTable.texts.get (λ format. g.met.T.KeyedTable.finds format c.args.key.now)) (λ clean t at. tt) (λ clean stored at. tt) in
     record { clean = here.clean; sound = λ clean t at. tt; same = here.same; left = here.left; rests = here.rests; leaves = here.leaves; named = λ clean stored at. tt }
 
--- ---- whoever wrote the rows
+-- ---- of any stored rows
 
 pub returns-in_err-rows-clause-damaged : goal.returns-in_err-rows-clause-damaged
 returns-in_err-rows-clause-damaged g c clean stored is =

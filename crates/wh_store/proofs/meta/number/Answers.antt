@@ -13,7 +13,7 @@ returns-clause-unread g c clean =
     let refused = c.in-Err-get.ensures.refused clean row (is_utf8-from_IsUtf8 c.args.name.now c.utf8.name) (sym c.in-Ok.ensures) in
     rw c.in-Ok.ensures at refused
 
--- ---- whoever wrote the rows
+-- ---- of any stored rows
 
 pub returns-in-Ok-Some-clause-stored : goal.returns-in-Ok-Some-clause-stored
 returns-in-Ok-Some-clause-stored g c clean stored at =

@@ -60,7 +60,7 @@ returns-in-Err-session_of-clause-refused g c clean limits commands admitted rest
     let read = c.in-Err-session_of.ensures.read here t still in
     rw c.close.ensures (opened_refused limits commands t accepted rests.are c.in-Err-session_of.fault (state g.S.Store c.session_of.new.tables.conn) (rw (format_known t c.in-Ok.opened.1 taken) read))
 
--- ---- whoever wrote the rows
+-- ---- of any stored rows
 
 pub returns-in-Err-clause-fault_stored : goal.returns-in-Err-clause-fault_stored
 returns-in-Err-clause-fault_stored g c clean stored rests =

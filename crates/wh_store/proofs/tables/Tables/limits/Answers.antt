@@ -43,7 +43,7 @@ returns-in-None-clause-damaged g c clean t at table is =
     let found : None ≡ limits_of_numbers c.in_ok-commands.commands c.in_ok-changes.changes c.in_ok-facts.facts = c.in-None.ensures in
     (cc, sym (rw (c.in_ok-commands.ensures.number first t at, c.in_ok-changes.ensures.number second t one, c.in_ok-facts.ensures.number clean t two) at found))
 
--- ---- whoever wrote the rows
+-- ---- of any stored rows
 
 pub returns-in-None-clause-limitless : goal.returns-in-None-clause-limitless
 returns-in-None-clause-limitless g c clean stored at =
