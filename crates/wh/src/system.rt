@@ -18,8 +18,11 @@ const HEADER: &[u8] = b"SQLite format 3\0";
 /// How many bytes a page of a new file has.
 const PAGE: u64 = 4096;
 
-/// The most pages of a file that stay in memory, and the most written ones before they go to the log: 32 MB each.
-const MOST_PAGES: u64 = 8192;
+/// The most pages of a file that stay in memory: 256 MB.
+const MOST_PAGES: u64 = 65_536;
+
+/// As many where memory is short, and the most written ones before they go to the log: 32 MB.
+const FEW_PAGES: usize = 8192;
 
 /// How many pages a file has room for to grow.
 const SPARE_PAGES: u64 = 500;
@@ -61,7 +64,7 @@ fn of_connecting(error: Error) -> HostError {
     }
 }
 
-/// How many pages of a file stay in memory: all of them, as far as memory is granted.
+/// How many pages of a file stay in memory: all of a smaller one.
 fn pages_kept(runtime: &HostRuntime, name: &str) -> usize {
     let bytes = match fs::metadata(runtime, name) {
         Ok(found) => found.len(),
@@ -75,7 +78,7 @@ fn options_for(runtime: &HostRuntime, name: &str) -> Result<Options, HostError> 
     let state = RandomState::new(runtime).map_err(of_io)?;
     Ok(Options {
         cache_pages: pages_kept(runtime, name),
-        spill_pages: MOST_PAGES as usize,
+        spill_pages: FEW_PAGES,
         ..Options::new(state.hash_one(&0u8))
     })
 }
@@ -93,6 +96,44 @@ fn visited<D: Disk + Drop, V: Visitor, W: Write>(
     output
 }
 
+/// The database in two files that an open gave back for lack of memory. Fewer of its pages stay in memory.
+fn connected_with_few<D: Disk + Drop>(
+    alloc: Global,
+    files: Files<D>,
+    options: Options,
+) -> Result<Connection<FileStore<D>>, HostError> {
+    if !files.may_be_used() {
+        return Err(HostError::Memory);
+    }
+    let few = Options {
+        cache_pages: FEW_PAGES,
+        ..options
+    };
+    match Connection::open_files(alloc, files, few) {
+        Ok(connection) => Ok(connection),
+        Err((error, _)) => Err(of_connecting(error)),
+    }
+}
+
+/// The database in two files, on whatever disk they lie.
+fn connected<D: Disk + Drop>(
+    alloc: Global,
+    files: Files<D>,
+    options: Options,
+) -> Result<Connection<FileStore<D>>, HostError>
+    requires log { IsTrue (D.Disk.is_usable files.log) }
+    requires db { IsTrue (D.Disk.is_usable files.db) }
+{
+    match Connection::open_files(alloc, files, options) {
+        Ok(connection) => Ok(connection),
+        Err((Error::SqliteFailure(ErrorCode::OutOfMemory), left))
+            if options.cache_pages > FEW_PAGES => {
+            connected_with_few(alloc, left.into_files(), options)
+        }
+        Err((error, _)) => Err(of_connecting(error)),
+    }
+}
+
 /// What a visitor answers over the database in two files, on whatever disk they lie, which is then closed.
 fn on_files<D: Disk + Drop, V: Visitor, W: Write>(
     alloc: Global,
@@ -105,10 +146,8 @@ fn on_files<D: Disk + Drop, V: Visitor, W: Write>(
     requires db { IsTrue (D.Disk.is_usable files.db) }
     ensures not_printed { OnErr result (W.contents out.new ≡ W.contents out.old) }
 {
-    match Connection::open_files(alloc, files, options) {
-        Ok(connection) => Ok(visited(alloc, connection, visitor, out)),
-        Err((error, _)) => Err(of_connecting(error)),
-    }
+    let connection = connected(alloc, files, options)?;
+    Ok(visited(alloc, connection, visitor, out))
 }
 
 /// What a visitor answers over the database in a file, or in a new one of that name, whose pages get no check sums: the `sqlite3` program
