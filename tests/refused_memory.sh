@@ -3,7 +3,7 @@
 # Build the program first (`rt run` in crates/wh). refused_memory.sh [STEP] [PROGRAM] [NAME]: every growth of a load of records, of a load of sales and of
 # a load of a late record that moves a sale, of a migration, of an upgrade and of a load of sales after it, of a delivery of these three loads, of a report, of a dump and
 # of a check, or one in STEP of them, and of the making, which has more, one in ten times as many; with NAME (making, load, sales, late, migration, upgrade, discounted,
-# delivery, report, dump, check) of that one alone.
+# delivery, report, dump, check, pages) of that one alone. Of pages, those of an open of a file of over 32 MB, three are refused.
 #
 # A run is answered as with ample memory, with `failed: E8 memory`, or with `failed: E9 store, memory`. After E8 the file holds what it
 # held; the same words again are answered as accepted. After E9 they are answered as accepted or, of a load that was kept, as already
@@ -168,3 +168,17 @@ cp "$work/late.before" "$work/check.before"
 refuse_each report "$step" judge_reading report "$work/file" product.brand was 2024-01-01 2024-12-31
 refuse_each dump "$step" judge_reading dump "$work/file" product
 refuse_each check "$step" judge_reading check "$work/file"
+
+# Another table makes the file larger than the pages that stay in memory at the least. Where one of the others is refused, those stay, and the answer is that of ample memory.
+if [ -z "$alone" ] || [ "$alone" = pages ]; then
+    restore late
+    sqlite3 "$work/file" 'CREATE TABLE other (bytes BLOB); INSERT INTO other VALUES (zeroblob(40000000))'
+    "$program" status "$work/file" > "$work/ample" || fail "pages: $(cat "$work/ample")"
+    for number in 3000 6000 9000; do
+        rm -f "$work/refused"
+        LD_PRELOAD="$work/refuse.so" REFUSED_ALLOCATION=$number REFUSED_NOTE="$work/refused" "$program" status "$work/file" > "$work/text" || fail "pages, growth $number refused: $(cat "$work/text")"
+        [ -e "$work/refused" ] || fail "pages: no growth $number"
+        cmp -s "$work/text" "$work/ample" || fail "pages, growth $number refused: $(cat "$work/text")"
+    done
+    echo "pages: 3 growths refused, all as with ample memory"
+fi
