@@ -30,7 +30,7 @@ Make and load:
   init     Makes a warehouse
   load     Loads a batch into a warehouse
   migrate  Puts a newer policy in force
-  upgrade  Makes a warehouse one of the second format, in which sales have a discount
+  upgrade  Makes a warehouse one of the second format, with discounts and voids
   deliver  Sends the commands of a manifest, in order
 
 Look:
@@ -129,7 +129,7 @@ const SUBCOMMANDS: &[Subcommand<'static>] = &[
     },
     Subcommand {
         name: "upgrade",
-        about: "Makes a warehouse one of the second format, in which sales have a discount",
+        about: "Makes a warehouse one of the second format, with discounts and voids",
         example: "Example: wh upgrade shop.wh u1",
         operands: &[FILE, ID],
     },
