@@ -2,7 +2,7 @@
 """Times `wh load` of 5,000 late product records over 5,000 members, into warehouses of 5,000 and of 50,000 members (build the program
 first: `rt run` in crates/wh). load.py [--instructions] [PROGRAM]. Prints the least processor time of fifteen runs of the load, of fifteen
 that are refused for their id right after the open, and the ratio of what the load takes more than the open; or, in place of times, the
-instructions of one run each, in thousand millions, as valgrind counts them (some four minutes), which don't vary with the machine's load.
+instructions of one run each, in billions, as valgrind counts them (some four minutes), which don't vary with the machine's load.
 
 The late members came in one batch (`together`), or one in ten of the 50,000 is late (`spread`)."""
 import os
@@ -41,7 +41,7 @@ def run(*words, told="accepted"):
 
 
 def count(*words, told="accepted"):
-    """Instructions of a run that is answered so, in thousand millions."""
+    """Instructions of a run that is answered so, in billions."""
     done = subprocess.run(["valgrind", "--tool=callgrind", "--callgrind-out-file=/dev/null", PROGRAM, *words], stdout=subprocess.PIPE, stderr=subprocess.PIPE)
     if not done.stdout.decode().startswith(told):
         sys.exit(done.stdout.decode())

@@ -6,7 +6,7 @@ usage: waits.py [--facts N] [--runs K] [--instructions] [--program PATH] PEER
 PEER is a program with the words `init`, `load`, `migrate`, `report` and `status` of `wh`, which works on the same files. `sqlite3` stands beside an
 upgrade, which PEER hasn't: it copies the facts by `INSERT .. SELECT` and deletes them. One warehouse of N facts is made by `wh deliver`
 (bench/deliver.py says of what), and each command works on a copy of it. Printed is a table in Markdown: the least processor time of K runs, in
-seconds, of an open and, less that, of each command; with --instructions what valgrind counts in one run each, in thousand millions."""
+seconds, of an open and, less that, of each command; with --instructions what valgrind counts in one run each, in billions."""
 import argparse
 import os
 import re
@@ -110,7 +110,7 @@ def main():
     words.add_argument("--program", default=os.path.join(deliver.TOP, "crates", "wh", "out", "wh"))
     words.add_argument("peer")
     given = words.parse_args()
-    unit, count = ("thousand million instructions", 1) if given.instructions else ("s", given.runs)
+    unit, count = ("billions of instructions", 1) if given.instructions else ("s", given.runs)
     with tempfile.TemporaryDirectory() as folder:
         path, copy, manifest = (os.path.join(folder, name) for name in ("shop.wh", "copy.wh", "night.csv"))
         with open(manifest, "w", encoding="ascii") as out:
