@@ -1,21 +1,32 @@
 -- Whether any stored rows are what the accepted commands define, table by table.
-use Rattle.std.specs.Prelude.{◌≡◌, ◌<◌, ℕ, true, List, map, Option, None, IsTrue}
+use Rattle.std.specs.Prelude.{◌≡◌, ◌<◌, ℕ, true, List, [], map, Option, None, IsTrue, ⊤, if◌then◌else◌}
 use Rattle.std.specs.List.{list_all}
 use Rattle.std.specs.FinMap.{FinMap, get, values}
 use Rattle.std.specs.List.Sorted.{IsPermutation}
 use Rattle.sqlite.specs.Order.{Row}
 use Rattle.wh_policy.specs.declared.attribute.Dim.TheVariants.{Product as Products, Store as Stores, Customer as Customers}
+use Rattle.wh_policy.specs.declared.format.Format.{Format}
 use Rattle.wh_policy.specs.declared.format.Format.TheVariants.{One, Two}
 use Rattle.wh_history.specs.Accepted.{Accepted, format_of}
 use Rattle.wh_history.specs.Tables.{Limits, dimension_row}
 use Rattle.wh_model.specs.Defined.{meta_at, command_at, member_at, change_at, profile_at, calendar_at, fact_in, void_at}
 use Rattle.wh_rows.specs.Holds.{Layout}
 use Rattle.wh_rows.specs.Limits.{are_limits}
+use Rattle.wh_rows.specs.Names.{is_there}
 use Rattle.wh_rows.specs.Raw.{Stored, HasDamageIn}
 use Rattle.wh_rows.specs.Rows as row
 use Rattle.wh_rows.specs.declared.table.Table.{Table}
 use Rattle.wh_rows.specs.declared.table.Table.TheVariants.{Meta, Command, Member, Change, Product, Store, Customer, Profile, Calendar, Fact, Fact2, Void}
 use Rattle.wh_admission.specs.Admission.{AreAdmitted}
+
+-- What is stored in the tables of a format. Others are somebody else's, and are taken for empty.
+abbrev pub stored_in : Format → Stored → Stored
+stored_in format stored = record { format = format; rows = λ table. if is_there table format then stored.rows table else [] }
+
+-- a schema of the one format has the tables of the other
+abbrev pub Covers : (has said : Format) → Type 0
+Covers has One = ⊤
+Covers has Two = has ≡ Two
 
 -- The stored rows are those that a function gives its keys, of values of their types: none is missing, none is more, and none is damaged.
 pub record AreRowsAt {K V : Type 0} (layout : Layout K V) (row_at : K → Option V) (stored : List Row) : Type 0 where

@@ -6,6 +6,8 @@ use Rattle.std.specs.declared.cmp.Ordering.{Ordering}
 use Rattle.std.specs.declared.cmp.Ordering.TheVariants.{Equal, Greater}
 use Rattle.std.specs.FinMap.{FinMap, entries, values, get, find, is_sorted, entries_sorted, get-entries}
 use Rattle.std.specs.FinMap.Entries.{below_all}
+use Rattle.std.specs.List.Sorted.{IsPermutation}
+use Rattle.std.proofs.lemmas.List.Sorted.{IsPermutation-refl}
 use Rattle.std.specs.List.{AllByRecursion, list_all}
 use Rattle.wh_rows.specs.Holds.{Layout}
 use Rattle.sqlite.specs.Order.{Row}
@@ -84,3 +86,12 @@ or_not_so layout f g stored false so told = (λ are. told.0 (rows_so layout g f 
 pub told_so : {K V : Type 0} {E : Type 0} (layout : Layout K V) (f g : K → Option V) (stored : List Row) (result : Result Bool E) → ((key : K) → f key ≡ g key) → IfOk result (AreRowsOrNot layout f stored) → IfOk result (AreRowsOrNot layout g stored)
 told_so layout f g stored (Ok same) so told = or_not_so layout f g stored same so told
 told_so layout f g stored (Err why) so told = tt
+
+-- a map without rows is what is stored where nothing is
+pub none_listed : {K V : Type 0} (layout : Layout K V) (held : FinMap layout.order V) → values held ≡ [] → AreRowsAt layout (get held) []
+none_listed layout held none = record {
+  rows = held;
+  are = λ key. refl;
+  valid = subst (λ vs. IsTrue (list_all layout.is_valid vs)) (sym none) refl;
+  same = subst (λ vs. IsPermutation [] (map layout.encode vs)) (sym none) (IsPermutation-refl []);
+}

@@ -1,6 +1,6 @@
 //! The stored rows of a table against those of a second warehouse, whose store never fails to tell what was written.
 
-ghost use Rattle.std.specs.Prelude.{◌≡◌, Some, IfOk, IfErr, OnOk};
+ghost use Rattle.std.specs.Prelude.{◌≡◌, true, Some, IfOk, IfErr, OnOk};
 ghost use Rattle.std.specs.FinMap.{get};
 ghost use Rattle.wh_rows.specs.Names.{is_there};
 ghost use Rattle.wh_rows.specs.Tables.{Tables as TypedTables};
@@ -8,6 +8,7 @@ ghost use Rattle.wh_sql.specs.Reads.{IsOfDamage};
 ghost use Rattle.wh_store.specs.Faithful.{RestsFaithfully};
 ghost use Rattle.wh_store.specs.Reads.{ReadsOnly, state_of, SaysAsStored};
 ghost use Rattle.wh_store.specs.Scan.{rows_left, HandsOut};
+ghost use Rattle.wh_admission.specs.Checked.{stored_in};
 ghost use Rattle.wh_check.specs.Compared.{IsNext, IsEnd, AreRowsOrNot};
 
 use crate::alike::{Plain, are_alike};
@@ -65,10 +66,9 @@ fn is_end<T: Plain, M: Alter>(
     Ok(found.is_none())
 }
 
-/// Whether a table of a format stores what the same table of the second warehouse holds, and nothing else. Both are read a part at a time, what
-/// is stored to its end, so that a damaged row is met wherever it stands. `Damaged`: the table stores such a row. `Memory` and `Store`: as reading has
-/// them.
-pub fn holds_the_same<T: Plain, S: Alter, M: Alter>(
+/// Whether a table that the format has stores what the same table of the second warehouse holds, and nothing else. Both are read a part at a time,
+/// what is stored to its end, so that a damaged row is met wherever it stands.
+pub(crate) fn has_the_same_rows<T: Plain, S: Alter, M: Alter>(
     tables: &mut Tables<S>,
     alloc: Global,
     format: Format,
@@ -100,4 +100,24 @@ pub fn holds_the_same<T: Plain, S: Alter, M: Alter>(
         }
     }
     Err(ReadFault::Memory)
+}
+
+/// Whether a table of a format stores what the same table of the second warehouse holds, and nothing else. A table that the format hasn't is empty,
+/// whatever stands under its name. `Damaged`: the table stores a damaged row. `Memory` and `Store`: as reading has them.
+pub fn holds_the_same<T: Plain, S: Alter, M: Alter>(
+    tables: &mut Tables<S>,
+    alloc: Global,
+    format: Format,
+    expected: &mut Tables<M>,
+) -> Result<bool, ReadFault>
+    ensures reads { ReadsOnly (state_of S.Store tables.old) (state_of S.Store tables.new) result }
+    ensures rests { (t : TypedTables) → RestsFaithfully M.Store (Some t) expected.old.conn → OnOk result (RestsFaithfully M.Store (Some t) expected.new.conn) }
+    ensures same { SaysAsStored (state_of S.Store tables.old) (state_of S.Store tables.new) (λ stored. (is_there T.KeyedTable.name format ≡ true → is_there T.KeyedTable.name stored.format ≡ true) → (t : TypedTables) → is_there T.KeyedTable.name t.format ≡ is_there T.KeyedTable.name format
+        → RestsFaithfully M.Store (Some t) expected.old.conn → IfOk result (AreRowsOrNot T.StoredTable.layout (get (T.StoredTable.rows t)) ((stored_in format stored).rows T.KeyedTable.name))) }
+    ensures damaged { SaysAsStored (state_of S.Store tables.old) (state_of S.Store tables.new) (λ stored. IfErr result (IsOfDamage T.StoredTable.layout T.KeyedTable.name ((stored_in format stored).rows T.KeyedTable.name))) }
+{
+    if !T::is_in(format) {
+        return Ok(true);
+    }
+    has_the_same_rows::<T, S, M>(tables, alloc, format, expected)
 }

@@ -10,12 +10,13 @@ ghost use Rattle.wh_rows.specs.Rows as row;
 ghost use Rattle.wh_rows.specs.declared.table.Table.TheVariants.{Meta};
 ghost use Rattle.wh_sql.specs.Reads.{IsOfDamage, IsServed, Spares};
 ghost use Rattle.wh_store.specs.Reads.{ReadsOnly, state_of, SaysAsStored};
+ghost use Rattle.wh_admission.specs.Checked.{stored_in};
 ghost use Rattle.wh_check.specs.Compared.{AreRowsOrNot};
 ghost use Rattle.wh_check.specs.Meta.{AreLimitsSaid, made_saying, made_in};
 ghost use Rattle.wh_policy.specs.Formats.{format_number};
 ghost use Rattle.wh_rows.specs.Rows.{meta};
 
-use crate::compare::holds_the_same;
+use crate::compare::has_the_same_rows;
 use sqlite::{Alter, MemStore};
 use std::alloc::{AllocError, Global};
 use wh_day::Value;
@@ -83,7 +84,7 @@ fn holds_limits<S: Alter>(
     // Each is from 1 to its greatest, as these calls say.
     let _each = (limits.commands(), limits.changes(), limits.facts());
     let mut made = made_tables(alloc, format, limits)?;
-    let same = holds_the_same::<tables::Meta, S, MemStore>(tables, alloc, format, &mut made)?;
+    let same = has_the_same_rows::<tables::Meta, S, MemStore>(tables, alloc, format, &mut made)?;
     Ok(same)
 }
 
@@ -105,7 +106,7 @@ pub fn limits_said<S: Alter>(
     format: Format,
 ) -> Result<Option<Limits>, ReadFault>
     ensures reads { Spares (state_of S.Store tables.old) (state_of S.Store tables.new) (IsServed result) }
-    ensures said { SaysAsStored (state_of S.Store tables.old) (state_of S.Store tables.new) (λ stored. stored.format ≡ format → IfOk result (AreLimitsSaid stored)) }
+    ensures said { SaysAsStored (state_of S.Store tables.old) (state_of S.Store tables.new) (λ stored. IfOk result (AreLimitsSaid (stored_in format stored))) }
     ensures damaged { SaysAsStored (state_of S.Store tables.old) (state_of S.Store tables.new) (λ stored. IfErr result (IsOfDamage row.meta Meta (stored.rows Meta))) }
     ensures good { IfOk result (λ said. IfSome said (λ limits. are_limits limits ≡ true)) }
 {

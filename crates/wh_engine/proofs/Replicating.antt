@@ -7,7 +7,6 @@ use Rattle.std.specs.FinMap.{nat_cmp-IsAntisymmetric}
 use Rattle.std.proofs.lemmas.Bool.{and_parts}
 use Rattle.std.proofs.lemmas.Cmp.{nat_cmp_total}
 use Rattle.sqlite.specs.Order.{Row}
-use Rattle.wh_policy.specs.declared.format.Format.{Format}
 use Rattle.wh_history.specs.Accepted.{Accepted, format_of}
 use Rattle.wh_history.specs.Tables.{Limits}
 use Rattle.wh_history.proofs.Basics.{some_is}
@@ -137,7 +136,7 @@ module _ (stored : List Row) (limits : Limits) (Left : List Row → Type 0) wher
 
 -- ---- at the end
 
-module _ (stored : Stored) (limits : Limits) (format : Format) (same_format : stored.format ≡ format) (keyed : IsKeyed row.command bind_number stands_at_number) (once : (k : ℕ) → length (filter (stands_at_number k) (stored.rows Command)) ≤ 1) (Left : List Row → Type 0) (ends : Left []) where
+module _ (stored : Stored) (limits : Limits) (keyed : IsKeyed row.command bind_number stands_at_number) (once : (k : ℕ) → length (filter (stands_at_number k) (stored.rows Command)) ≤ 1) (Left : List Row → Type 0) (ends : Left []) where
   whole : (replay : Replica) (is_list : Bool) (it : HasReplicated (stored.rows Command) limits Left replay is_list) → IsArranged row.command.table (stored.rows Command) (map row.command.encode it.seen)
   whole replay is_list it = subst (IsArranged row.command.table (stored.rows Command)) (append-nil (map row.command.encode it.seen)) (it.before [] ends)
 
@@ -158,15 +157,15 @@ module _ (stored : Stored) (limits : Limits) (format : Format) (same_format : st
     format_is : engine.session.format ≡ format_of held.commands
     format_is = ap (λ (s : Session). s.format) for_them.1.session_is
 
-    told_list : engine.session.format ≡ format → IsReplicated over_files stored limits (Some engine.tables)
-    told_list made = (held.commands, same_format ∙ sym made ∙ format_is, for_them.1.admitted, own_rows, (for_them.0, for_them.1.rests))
+    told_list : engine.session.format ≡ stored.format → IsReplicated over_files stored limits (Some engine.tables)
+    told_list made = (held.commands, sym made ∙ format_is, for_them.1.admitted, own_rows, (for_them.0, for_them.1.rests))
 
     -- they make another format, and are the only ones
-    told_other : engine.session.format ≢ format → TellsNone stored limits
+    told_other : engine.session.format ≢ stored.format → TellsNone stored limits
     told_other other = (
       λ commands formatted admitted are.
           let one = commands_told stored limits commands held.commands admitted for_them.1.admitted are own_rows in
-          other (format_is ∙ ap format_of (sym one) ∙ sym formatted ∙ same_format),
+          other (format_is ∙ ap format_of (sym one) ∙ sym formatted),
       no_damage row.command (stored.rows Command) it.seen it.valid (whole replay true it).same,
     )
 
@@ -196,7 +195,7 @@ module _ (stored : Stored) (limits : Limits) (format : Format) (same_format : st
   told_wrong replay it = no_list replay false it (λ commands admitted same. it.wrong refl commands admitted [] (append-nil it.seen ∙ same))
 
   -- what is told of the list at the end
-  pub told_of : (replay : Replica) (is_list : Bool) (result : _) → IsEndOf format is_list replay.engine result → HasReplicated (stored.rows Command) limits Left replay is_list → IsReplicated over_files stored limits result
+  pub told_of : (replay : Replica) (is_list : Bool) (result : _) → IsEndOf stored.format is_list replay.engine result → HasReplicated (stored.rows Command) limits Left replay is_list → IsReplicated over_files stored limits result
   told_of replay is_list (Some tables) is it =
       subst (λ t. IsReplicated over_files stored limits (Some t)) (sym is.4) (told_list replay is.0 is.1 (subst (HasReplicated (stored.rows Command) limits Left replay) is.2 it) is.3)
   told_of replay false None other it = told_wrong replay it

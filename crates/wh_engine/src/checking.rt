@@ -6,7 +6,7 @@ ghost use Rattle.wh_history.specs.Tables.{Limits as LimitCounts};
 ghost use Rattle.wh_rows.specs.Tables.{Tables as TenTables};
 ghost use Rattle.wh_store.specs.Faithful.{RestsFaithfully};
 ghost use Rattle.wh_store.specs.Reads.{IsServed, NamesDamage};
-ghost use Rattle.wh_admission.specs.Checked.{SaysCommands, table_place};
+ghost use Rattle.wh_admission.specs.Checked.{Covers, SaysCommands, stored_in, table_place};
 ghost use Rattle.wh_check.specs.Judged.{IsJudged};
 ghost use Rattle.wh_engine.specs.Checked.{IsChecked, IsCheckedOf};
 ghost use Rattle.wh_engine.specs.Replica.{HoldsAll};
@@ -33,8 +33,8 @@ fn is_defined_in<S: Alter, M: Alter>(
 ) -> Result<bool, ReadFault>
     ensures reads { ReadsOnlyIn S.Store tables.old tables.new result }
     ensures rests { (t : TenTables) → RestsFaithfully M.Store (Some t) replica.old.conn → IfOk result (λ _. RestsFaithfully M.Store (Some t) replica.new.conn) }
-    ensures defined { WhenStored S.Store tables.old tables.new (λ stored. stored.format ≡ format → (limits : LimitCounts) (commands : List Accepted) → format ≡ format_of commands → HoldsAll M.Store limits commands replica.old → IfOk result (IsDefinedIn limits commands stored table)) }
-    ensures damaged { WhenStored S.Store tables.old tables.new (λ stored. IfErr result (IsOfDamageIn stored table)) }
+    ensures defined { WhenStored S.Store tables.old tables.new (λ stored. Covers stored.format format → (limits : LimitCounts) (commands : List Accepted) → format ≡ format_of commands → HoldsAll M.Store limits commands replica.old → IfOk result (IsDefinedIn limits commands (stored_in format stored) table)) }
+    ensures damaged { WhenStored S.Store tables.old tables.new (λ stored. IfErr result (IsOfDamageIn (stored_in format stored) table)) }
 {
     match table {
         Table::Meta => holds_the_same::<tables::Meta, S, M>(tables, alloc, format, replica),
@@ -80,7 +80,7 @@ fn judge_tables<S: Alter, M: Alter>(
     replica: &mut Tables<M>,
 ) -> Result<Verdict, ReadFault>
     ensures reads { ReadsOnlyIn S.Store tables.old tables.new result }
-    ensures judged { WhenStored S.Store tables.old tables.new (λ stored. stored.format ≡ format → (limits : LimitCounts) (commands : List Accepted) → HoldsAll M.Store limits commands replica.old → SaysCommands stored limits commands → IsJudged stored result) }
+    ensures judged { WhenStored S.Store tables.old tables.new (λ stored. Covers stored.format format → (limits : LimitCounts) (commands : List Accepted) → HoldsAll M.Store limits commands replica.old → SaysCommands (stored_in format stored) limits commands → IsJudged (stored_in format stored) result) }
 {
     'tables: for place in 2..12u8 {
         let table = table_at(place);
@@ -98,7 +98,7 @@ fn judge<S: Alter>(
     format: Format,
 ) -> Result<Verdict, ReadFault>
     ensures reads { SparesIn S.Store tables.old tables.new (IsServed result) }
-    ensures judged { WhenStored S.Store tables.old tables.new (λ stored. stored.format ≡ format → IsJudged stored result) }
+    ensures judged { WhenStored S.Store tables.old tables.new (λ stored. Covers stored.format format → IsJudged (stored_in format stored) result) }
     ensures named { WhenStored S.Store tables.old tables.new (λ stored. IfErr result (NamesDamage stored)) }
 {
     let Some(limits) = limits_said(tables, alloc, format)? else {
@@ -117,7 +117,7 @@ fn check_tables<S: Alter>(
     format: Format,
 ) -> Result<Verdict, Fault>
     ensures reads { Reads S.Store tables.old tables.new result }
-    ensures checked { WhenStored S.Store tables.old tables.new (λ stored. stored.format ≡ format → IsChecked stored result) }
+    ensures checked { WhenStored S.Store tables.old tables.new (λ stored. Covers stored.format format → IsChecked (stored_in format stored) result) }
 {
     let verdict = judge(tables, alloc, format)?;
     Ok(verdict)
@@ -129,7 +129,7 @@ impl<S: Alter> Engine<S> {
     /// `Memory` may come of that too. After a refusal of the store it answers `Reopen`.
     pub fn check(&mut self, alloc: Global) -> Result<Verdict, Fault>
         ensures reads { EngineReads S.Store self.old self.new result }
-        ensures checked { self.old.session.must_reopen ≡ false → WhenStored S.Store self.old.tables self.new.tables (λ stored. stored.format ≡ self.old.session.format → IsChecked stored result) }
+        ensures checked { self.old.session.must_reopen ≡ false → WhenStored S.Store self.old.tables self.new.tables (λ stored. Covers stored.format self.old.session.format → IsChecked (stored_in self.old.session.format stored) result) }
         ensures sound { WhenReady S.Store self.old self.new (λ limits commands. IsCheckedOf limits commands result) }
     {
         if self.session.must_reopen {

@@ -3,6 +3,7 @@
 
 ghost use Rattle.std.specs.Prelude.{◌≡◌, ◌&&◌, ◌==◌, List, [], true, Some, bytes_eq, IfOk, IfErr};
 ghost use Rattle.wh_admission.specs.Admission.{bytes_kept};
+ghost use Rattle.wh_admission.specs.Checked.{stored_in};
 ghost use Rattle.sqlite.specs.Files.{over_files};
 ghost use Rattle.wh_history.specs.Accepted.{Accepted};
 ghost use Rattle.wh_history.specs.Tables.{Limits as LimitCounts};
@@ -159,7 +160,7 @@ pub(crate) fn make_replica<S: Alter>(
     limits: Limits,
 ) -> Result<Option<Tables<Scratch>>, ReadFault>
     ensures reads { ReadsOnlyIn S.Store tables.old tables.new result }
-    ensures replicated { WhenStored S.Store tables.old tables.new (λ stored. stored.format ≡ format → IfOk result (IsReplicated over_files stored limits)) }
+    ensures replicated { WhenStored S.Store tables.old tables.new (λ stored. IfOk result (IsReplicated over_files (stored_in format stored) limits)) }
     ensures damaged { WhenStored S.Store tables.old tables.new (λ stored. IfErr result (IsOfDamage row.command OfCommand (stored.rows OfCommand))) }
 {
     // Each is from 1 to its greatest, as these calls say.

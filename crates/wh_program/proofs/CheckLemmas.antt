@@ -15,6 +15,7 @@ use Rattle.wh_store.specs.Raw.{FormatIs}
 use Rattle.wh_store.specs.declared.fault.OpenFault.{OpenFault}
 use Rattle.wh_store.specs.declared.fault.OpenFault.TheVariants as opening
 use Rattle.wh_admission.specs.Admission.{AreAdmitted}
+use Rattle.wh_admission.specs.Checked.{Covers, stored_in}
 use Rattle.wh_check.specs.declared.verdict.Verdict.{Verdict}
 use Rattle.wh_check.specs.declared.verdict.Verdict.TheVariants.{Clean}
 use Rattle.wh_engine.specs.Answered as engine
@@ -25,7 +26,7 @@ use Rattle.wh_engine.specs.Opened.{SessionIs, IsNotOpened, IsUnopened as Unopene
 use Rattle.wh_engine.specs.declared.fault.Fault.{Fault}
 use Rattle.wh_engine.specs.declared.fault.Fault.TheVariants as fault
 use Rattle.wh_engine.specs.declared.session.Session.{Session}
-use Rattle.wh_program.specs.Check.{IsFoundClean, SaysItsFormat, IsVerdictOn, Checks}
+use Rattle.wh_program.specs.Check.{IsFoundClean, IsVerdictOn, Checks}
 use Rattle.wh_program.specs.Reply.{opening_answer, verdict_answer}
 use Rattle.wh_program.specs.Standing.{DatabaseContent, Nothing, Holds, Keeps, Standing, Rests, LeftAt, IsAt, Stands}
 use Rattle.wh_program.specs.Warehouse.{Told, IsOpenedBy}
@@ -52,14 +53,16 @@ says_the_first : (number : Option ℤ) (said : Format) → format_of Two false n
 says_the_first None said is = absurd (cc)
 says_the_first (Some number) said is = no_second (int_lt number (pos 1)) (int_lt (pos 2) number) (int_lt number (pos 2)) said is
 
--- so what is said is the tables' format, where meta says it
-says_its_own : (stored : Stored) (has said : Format) → FormatIs Two (is_two has) stored (Ok said) → SaysItsFormat has said → has ≡ said
-says_its_own stored One said says its = sym (says_the_first says.0 said says.2)
-says_its_own stored Two said says its = sym its
+-- so the schema has the tables of the format that meta says
+covers : (stored : Stored) (has said : Format) → FormatIs Two (is_two has) stored (Ok said) → Covers has said
+covers stored One One says = tt
+covers stored One Two says = sym (says_the_first says.0 Two says.2)
+covers stored Two One says = tt
+covers stored Two Two says = refl
 
 module _ (stored : Stored) (told : Told) (opened : IsOpenedBy stored) where
   judged : (verdict : Result Verdict Fault) (s : State)
-      → IfOk told (λ a. a ≡ verdict_answer verdict) → (SaysItsFormat stored.format opened.session.format → IsChecked stored verdict) → (IsServed verdict → RestsOn stored s) → LeavesStored stored s
+      → IfOk told (λ a. a ≡ verdict_answer verdict) → IsChecked (stored_in opened.session.format stored) verdict → (IsServed verdict → RestsOn stored s) → LeavesStored stored s
       → (after : Standing) × IsVerdictOn stored told after × Stands after s
   judged (Ok verdict) s tells due rests left = (Rests (Keeps stored), record { opened = opened; verdict = Ok verdict; due = due; leaves = refl; tells = tells }, rests tt)
   judged (Err (fault.Refused why)) s tells due rests left = (Rests (Keeps stored), record { opened = opened; verdict = Err (fault.Refused why); due = due; leaves = refl; tells = tells }, rests tt)
@@ -76,7 +79,7 @@ module _ (content : DatabaseContent) (told : Told) where
       → ((limits : Limits) (commands : List Accepted) → IsReady limits commands first s1 → IsCheckedOf limits commands verdict last s2)
       → (IsAtRest None s0 → ⊥)
       → ((stored : Stored) → RestsOn stored s0 → SessionIs stored first × RestsOn stored s1)
-      → ((stored : Stored) → RestsOn stored s1 → stored.format ≡ first.format → IsChecked stored verdict)
+      → ((stored : Stored) → RestsOn stored s1 → Covers stored.format first.format → IsChecked (stored_in first.format stored) verdict)
       → ((stored : Stored) → RestsOn stored s1 → IsServed verdict → RestsOn stored s2)
       → ((stored : Stored) → RestsOn stored s1 → LeavesStored stored s2)
       → IfOk told (λ a. a ≡ verdict_answer verdict)
@@ -88,7 +91,7 @@ module _ (content : DatabaseContent) (told : Told) where
         (it.0, inl it.1, it.2)
     | Keeps stored ↦ λ at.
         let here = found stored at in
-        let it = judged stored told (record { session = first; says = here.0 }) verdict s2 tells (λ its. due stored here.1 (says_its_own stored stored.format first.format here.0.0 its)) (rests stored here.1) (left stored here.1) in
+        let it = judged stored told (record { session = first; says = here.0 }) verdict s2 tells (due stored here.1 (covers stored stored.format first.format here.0.0)) (rests stored here.1) (left stored here.1) in
         (it.0, inl it.1, it.2)
   ] at
 

@@ -140,7 +140,7 @@ delivered sent limits commands told answers None session s tells (are, ready) =
 delivered sent limits commands told answers (Some (fault.Refused why)) session s tells none = absurd none
 delivered sent limits commands told answers (Some (fault.Damaged table)) session s tells none = absurd none
 delivered sent limits commands told answers (Some fault.Memory) session s tells (are, few, ready) =
-    (Rests (Holds limits (accepted_after_all limits commands (take (length answers) sent))), record { answers = answers; stop = Some fault.Memory; leaves = (are, refl); tells = tells }, (ready.admitted, ready.rests))
+    (Rests (Holds limits (accepted_after_all limits commands (take (length answers) sent))), record { answers = answers; stop = Some fault.Memory; leaves = (are, few, refl); tells = tells }, (ready.admitted, ready.rests))
 delivered sent limits commands told answers (Some (fault.Store cause)) session s tells (are, few, stopped) = (
   LeftAt (Holds limits (accepted_after_all limits commands (take (length answers) sent))) (Holds limits (accepted_after_all limits commands (take (suc (length answers)) sent))),
   record { answers = answers; stop = Some (fault.Store cause); leaves = (are, few, refl); tells = tells },

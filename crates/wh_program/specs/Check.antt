@@ -1,10 +1,9 @@
 -- What a check of a warehouse's file answers and leaves.
-use Rattle.std.specs.Prelude.{◌≡◌, ◌⊎◌, ⊤, ℕ, List, Result, Ok, Err, IfOk}
-use Rattle.wh_policy.specs.declared.format.Format.{Format}
-use Rattle.wh_policy.specs.declared.format.Format.TheVariants.{One, Two}
+use Rattle.std.specs.Prelude.{◌≡◌, ◌⊎◌, ℕ, List, Result, Ok, Err, IfOk}
 use Rattle.wh_history.specs.Accepted.{Accepted}
 use Rattle.wh_history.specs.Tables.{Limits}
 use Rattle.wh_rows.specs.Raw.{Stored}
+use Rattle.wh_admission.specs.Checked.{stored_in}
 use Rattle.wh_check.specs.declared.verdict.Verdict.{Verdict}
 use Rattle.wh_check.specs.declared.verdict.Verdict.TheVariants.{Clean}
 use Rattle.wh_engine.specs.Checked.{IsChecked}
@@ -34,16 +33,11 @@ abbrev pub LeavesJudged : Stored → Result Verdict Fault → Standing → Type 
 LeavesJudged stored (Err (fault.Store cause)) after = after ≡ LeftAt (Keeps stored) (Keeps stored)
 LeavesJudged stored verdict after = after ≡ Rests (Keeps stored)
 
--- Meta says the format that the tables have. So it does where tables of the first are opened; over those of the second it may say the first.
-abbrev pub SaysItsFormat : (has said : Format) → Type 0
-SaysItsFormat One said = ⊤
-SaysItsFormat Two said = said ≡ Two
-
--- they are opened, the verdict is the one that is due, where meta says the tables' format, and just that is printed
+-- they are opened, the verdict is the one that is due of the tables of the format that meta says, and just that is printed
 pub record IsVerdictOn (stored : Stored) (told : Told) (after : Standing) : Type 0 where
   pub opened : IsOpenedBy stored
   pub verdict : Result Verdict Fault
-  pub due : SaysItsFormat stored.format opened.session.format → IsChecked stored verdict
+  pub due : IsChecked (stored_in opened.session.format stored) verdict
   pub leaves : LeavesJudged stored verdict after
   pub tells : IfOk told (λ a. a ≡ verdict_answer verdict)
 

@@ -11,7 +11,7 @@ use Rattle.wh_batch.specs.declared.manifest.ManifestEntry.{ManifestEntry}
 use Rattle.wh_history.specs.Accepted.{Accepted}
 use Rattle.wh_history.specs.Tables.{Limits}
 use Rattle.wh_admission.specs.Admission.{accepted_after_all}
-use Rattle.wh_engine.specs.Delivered.{answers_to, AreAnswers}
+use Rattle.wh_engine.specs.Delivered.{answers_to, AreAnswers, AreFewer}
 use Rattle.wh_admission.specs.declared.command.Command.{Command}
 use Rattle.wh_admission.specs.declared.command.Refused.{Refused as Refusal}
 use Rattle.wh_admission.specs.declared.command.Reply.{Reply}
@@ -64,7 +64,7 @@ abbrev pub LeavesDelivered : Limits → List Accepted → List Command → List 
 LeavesDelivered limits commands sent answers None after =
     (answers ≡ answers_to limits commands sent) × (after ≡ Rests (Holds limits (accepted_after_all limits commands sent)))
 LeavesDelivered limits commands sent answers (Some fault.Memory) after =
-    AreAnswers limits commands sent answers × (after ≡ Rests (Holds limits (accepted_after_all limits commands (take (length answers) sent))))
+    AreAnswers limits commands sent answers × AreFewer sent answers × (after ≡ Rests (Holds limits (accepted_after_all limits commands (take (length answers) sent))))
 LeavesDelivered limits commands sent answers (Some (fault.Store cause)) after =
     AreAnswers limits commands sent answers × (length answers < length sent)
     × (after ≡ LeftAt (Holds limits (accepted_after_all limits commands (take (length answers) sent))) (Holds limits (accepted_after_all limits commands (take (suc (length answers)) sent))))

@@ -124,6 +124,41 @@ check
 = clean
 ";
 
+/// The same night with an upgrade before the migration.
+pub const UPGRADED_NIGHT: &str = "\
+files
+stops either night bands-of-rows p1 p2 s1 p3 s2 c1 u1 m1 p1
+= as acknowledged, or with the next
+init bands-of-rows
+= made
+deliver p1 p2 s1 p3 s2 c1 u1 m1 p1
+= accepted 2: 1 records, 0 placeholders
+= accepted 3: 1 records, 0 placeholders
+= accepted 4: 2 records, 1 placeholders
+= accepted 5: 1 records, 0 placeholders
+= accepted 6: 1 records, 2 placeholders
+= accepted 7: 1 records, 0 placeholders
+= accepted 8: 0 records, 0 placeholders
+= accepted 9: 0 records, 0 placeholders
+= already 2: 1 records, 0 placeholders
+counts
+= format 2
+= commands 9
+= changes 4
+= facts 3
+= products 2
+= stores 1
+= customers 1
+table fact
+table fact2
+= ticket,line,day,store_key,product_key,customer_key,store_durable,product_durable,customer_durable,profile,quantity,amount,cost,discount
+= T0,1,20231231,1,1,0,1,1,0,0,1,250,160,0
+= T1,1,20240205,1,1,0,1,1,0,0,2,500,320,0
+= T2,1,20240610,1,5,1,1,2,1,2,1,1000,700,0
+check
+= clean
+";
+
 /// Files that stop, and stop once more in what is done again after the crash: a making, and a delivery.
 pub const MAKING_AGAIN: &str = "\
 files

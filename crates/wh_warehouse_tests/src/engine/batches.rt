@@ -29,6 +29,7 @@ m2 migrate bands-of-rows
 s4 sales T4,1,2024-02-29,S1,P1,,1,2.50,1.60
 c3 customer C9,2024-07-01,Gold,40-49,high
 c4 customer C8,2024-07-01,V,,
+u1 upgrade
 ";
 
 /// The line before the records of a batch.

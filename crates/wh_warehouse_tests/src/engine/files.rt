@@ -20,7 +20,7 @@ use wh_engine::{
 use wh_rows::Limits;
 use wh_scenarios::{parted, push_line};
 
-/// What a crash left of a work: all ten tables as they were before the work and as they are after each part of it with no stop, empty
+/// What a crash left of a work: all twelve tables as they were before the work and as they are after each part of it with no stop, empty
 /// where there is no warehouse, and how many parts were acknowledged.
 #[derive(Clone, Copy)]
 struct Left<'a> {
@@ -37,7 +37,7 @@ enum Task<'a> {
     Init(&'a str),
     /// What a table holds is told.
     Look(&'a str),
-    /// All ten tables are told, which must be clean, and nothing where there is no warehouse.
+    /// All twelve tables are told, which must be clean, and nothing where there is no warehouse.
     Find,
     /// A work is tried: `done`, `refused`, `stopped` by the store, or `served` in spite of that, and how many parts were acknowledged.
     Attempt(Work<'a>),
@@ -453,7 +453,7 @@ fn push_handed<'a>(parts: &mut Vec<Work<'a>>, handed: &'a str) -> Result<(), Tro
     Ok(())
 }
 
-/// What a work leads to over these files with no stop: all ten tables before it, and after each of its parts.
+/// What a work leads to over these files with no stop: all twelve tables before it, and after each of its parts.
 fn stages_of(alloc: Global, files: &Files<Memory>, work: Work<'_>) -> Result<Vec<String>, Trouble> {
     let (mut left, before) = on_files(alloc, copy_files(alloc, files)?, Task::Find);
     let mut stages = Vec::new(alloc);

@@ -1,37 +1,38 @@
 use Rattle.std.proofs.Common.{subst}
 use Rattle.std.proofs.lemmas.Result.{err_from_is_err_and}
 use Rattle.sqlite.specs.Files.{over_files}
+use Rattle.wh_admission.specs.Checked.{stored_in}
 use Rattle.wh_check.specs.Meta.{AreLimitsSaid}
 use Rattle.wh_engine.specs.Replica.{IsReplicated}
 use Rattle.wh_engine.proofs.JudgedTables.{meta_fault, command_fault, command_none, rest_judged}
 use Rattle.wh_engine.proofs.checking.judge.Goals as goal
 
 pub returns-in_err-limits-clause-judged : goal.returns-in_err-limits-clause-judged
-returns-in_err-limits-clause-judged g c clean stored rests format_is =
+returns-in_err-limits-clause-judged g c clean stored rests covers =
     let p = err_from_is_err_and c.from_residual.result c.from_residual.ensures.1 in
-    rw (p.1, p.2) (meta_fault stored c.in_err-limits.field-0.0 (c.in_err-limits.ensures.damaged clean stored rests))
+    rw (p.1, p.2) (meta_fault (stored_in c.args.format stored) c.in_err-limits.field-0.0 (c.in_err-limits.ensures.damaged clean stored rests))
 
 pub returns-in_err-replica-clause-judged : goal.returns-in_err-replica-clause-judged
-returns-in_err-replica-clause-judged g c clean stored rests format_is =
+returns-in_err-replica-clause-judged g c clean stored rests covers =
     let first = c.in_ok-limits.ensures in
     let second = c.in_err-replica.ensures in
     let before = second.reads.clean clean in
     let at = first.reads.rests before stored rests tt in
-    let meta = subst (AreLimitsSaid stored) c.in-Some.is (first.said before stored rests format_is) in
+    let meta = subst (AreLimitsSaid (stored_in c.args.format stored)) c.in-Some.is (first.said before stored rests) in
     let p = err_from_is_err_and c.from_residual-in_err-replica.result c.from_residual-in_err-replica.ensures.1 in
-    rw (p.1, p.2) (command_fault stored c.in-Some.limits meta c.in_err-replica.field-0.0 (second.damaged clean stored at))
+    rw (p.1, p.2) (command_fault (stored_in c.args.format stored) c.in-Some.limits meta c.in_err-replica.field-0.0 (second.damaged clean stored at))
 
 pub returns-in_default-2-clause-judged : goal.returns-in_default-2-clause-judged
-returns-in_default-2-clause-judged g c clean stored rests format_is =
+returns-in_default-2-clause-judged g c clean stored rests covers =
     let first = c.in_ok-limits.ensures in
     let second = c.in_ok-replica.ensures in
     let before = second.reads.clean clean in
     let at = first.reads.rests before stored rests tt in
-    let meta = subst (AreLimitsSaid stored) c.in-Some.is (first.said before stored rests format_is) in
-    command_none stored c.in-Some.limits meta (subst (IsReplicated over_files stored c.in-Some.limits) c.in_default-2.is (second.replicated clean stored at format_is))
+    let meta = subst (AreLimitsSaid (stored_in c.args.format stored)) c.in-Some.is (first.said before stored rests) in
+    command_none (stored_in c.args.format stored) c.in-Some.limits meta (subst (IsReplicated over_files (stored_in c.args.format stored) c.in-Some.limits) c.in_default-2.is (second.replicated clean stored at))
 
 pub returns-clause-judged : goal.returns-clause-judged
-returns-clause-judged g c clean stored rests format_is =
+returns-clause-judged g c clean stored rests covers =
     let first = c.in_ok-limits.ensures in
     let second = c.in_ok-replica.ensures in
     let third = c.judge_tables.ensures in
@@ -39,9 +40,9 @@ returns-clause-judged g c clean stored rests format_is =
     let before = second.reads.clean after in
     let at = first.reads.rests before stored rests tt in
     let then_at = second.reads.rests after stored at tt in
-    let meta = subst (AreLimitsSaid stored) c.in-Some.is (first.said before stored rests format_is) in
-    rest_judged stored c.in-Some.limits meta over_files c.in-Some-2.replica c.judge_tables.result (subst (IsReplicated over_files stored c.in-Some.limits) c.in-Some-2.is (second.replicated after stored at format_is))
-    (λ limits commands holds said. third.judged clean stored then_at format_is limits commands holds said)
+    let meta = subst (AreLimitsSaid (stored_in c.args.format stored)) c.in-Some.is (first.said before stored rests) in
+    rest_judged (stored_in c.args.format stored) c.in-Some.limits meta over_files c.in-Some-2.replica c.judge_tables.result (subst (IsReplicated over_files (stored_in c.args.format stored) c.in-Some.limits) c.in-Some-2.is (second.replicated after stored at))
+    (λ limits commands holds said. third.judged clean stored then_at covers limits commands holds said)
 
 pub returns-clause-reads : goal.returns-clause-reads
 returns-clause-reads g c =

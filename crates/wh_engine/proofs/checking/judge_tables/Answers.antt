@@ -1,5 +1,6 @@
-use Rattle.std.proofs.Common.{◌≡◌, ◌∙◌, ◌+◌, suc, sym, subst, arith}
+use Rattle.std.proofs.Common.{◌≡◌, ◌+◌, suc, sym, subst, arith}
 use Rattle.std.proofs.lemmas.Result.{err_from_is_err_and}
+use Rattle.wh_admission.specs.Checked.{stored_in}
 use Rattle.wh_check.proofs.ReadsOn.{answers_other, reads_on, fails_other}
 use Rattle.wh_engine.specs.Judging.{IsDefinedIn}
 use Rattle.wh_engine.proofs.JudgedTables.{AreDefinedTo, still_holds, one_more, clean_judged, wrong_judged, fault_judged}
@@ -13,29 +14,29 @@ returns-in_err-is_defined_in-clause-reads g c =
 pub returns-in_err-is_defined_in-clause-judged : goal.returns-in_err-is_defined_in-clause-judged
 returns-in_err-is_defined_in-clause-judged g c clean stored rests same limits commands holds said =
     let kept = c.tables.invariant in
-    let of = sym same ∙ said.formatted in
+    let of = said.formatted in
     let read = c.in_err-is_defined_in.ensures in
     let p = err_from_is_err_and c.from_residual.result c.from_residual.ensures.1 in
     let before = read.reads.clean clean in
     let at = kept.reads.rests before stored rests tt in
     let less = c.tables-test.true in
     let is = c.table_at-table.ensures (omega (arith, less)) in
-    let defined = subst (AreDefinedTo limits commands stored) (sym is) (kept.defined before stored rests same limits commands of holds) in
-    rw (p.1, p.2) (fault_judged limits commands stored said c.table_at-table.result defined c.in_err-is_defined_in.field-0.0 (read.damaged clean stored at))
+    let defined = subst (AreDefinedTo limits commands (stored_in c.args.format stored)) (sym is) (kept.defined before stored rests same limits commands of holds) in
+    rw (p.1, p.2) (fault_judged limits commands (stored_in c.args.format stored) said c.table_at-table.result defined c.in_err-is_defined_in.field-0.0 (read.damaged clean stored at))
 
 pub returns-then-not-branch-clause-judged : goal.returns-then-not-branch-clause-judged
 returns-then-not-branch-clause-judged g c clean stored rests same limits commands holds said =
     let kept = c.tables.invariant in
-    let of = sym same ∙ said.formatted in
+    let of = said.formatted in
     let read = c.in_ok-is_defined_in.ensures in
     let table = c.table_at-table.result in
     let before = read.reads.clean clean in
     let at = kept.reads.rests before stored rests tt in
     let less = c.tables-test.true in
     let is = c.table_at-table.ensures (omega (arith, less)) in
-    let defined = subst (AreDefinedTo limits commands stored) (sym is) (kept.defined before stored rests same limits commands of holds) in
+    let defined = subst (AreDefinedTo limits commands (stored_in c.args.format stored)) (sym is) (kept.defined before stored rests same limits commands of holds) in
     let told = read.defined clean stored at same limits commands of (still_holds g.M.Store limits commands c.args.replica.now c.tables.replica holds (kept.still holds.1.tables (holds.0, holds.1.rests)).1) in
-    wrong_judged limits commands stored said table defined (subst (IsDefinedIn limits commands stored table) c.if-not-branch.true told)
+    wrong_judged limits commands (stored_in c.args.format stored) said table defined (subst (IsDefinedIn limits commands (stored_in c.args.format stored) table) c.if-not-branch.true told)
 
 pub tables-preserved : goal.tables-preserved
 tables-preserved g c =
@@ -55,14 +56,14 @@ tables-preserved g c =
           let at = kept.reads.rests before stored rests tt in
           let told = read.defined clean stored at same limits commands of (still_holds g.M.Store limits commands c.args.replica.now c.tables.replica holds (kept.still holds.1.tables (holds.0, holds.1.rests)).1) in
           let follows : c.tables.place + 1 ≡ suc c.tables.place = omega arith in
-          one_more limits commands stored c.tables.place (c.tables.place + 1) table follows is (kept.defined before stored rests same limits commands of holds) (subst (IsDefinedIn limits commands stored table) c.if-not-branch.false told);
+          one_more limits commands (stored_in c.args.format stored) c.tables.place (c.tables.place + 1) table follows is (kept.defined before stored rests same limits commands of holds) (subst (IsDefinedIn limits commands (stored_in c.args.format stored) table) c.if-not-branch.false told);
     }
 
 pub returns-clause-judged : goal.returns-clause-judged
 returns-clause-judged g c clean stored rests same limits commands holds said =
     let kept = c.tables.invariant in
-    let of = sym same ∙ said.formatted in
+    let of = said.formatted in
     let past = c.tables-test.false in
     let upto = kept.to in
     let is : c.tables.place ≡ 12 = omega (arith, past, upto) in
-    clean_judged limits commands stored said (subst (AreDefinedTo limits commands stored) is (kept.defined clean stored rests same limits commands of holds))
+    clean_judged limits commands (stored_in c.args.format stored) said (subst (AreDefinedTo limits commands (stored_in c.args.format stored)) is (kept.defined clean stored rests same limits commands of holds))

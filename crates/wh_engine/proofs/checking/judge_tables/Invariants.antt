@@ -3,7 +3,7 @@ use Rattle.wh_history.specs.Accepted.{Accepted, format_of}
 use Rattle.wh_history.specs.Tables.{Limits}
 use Rattle.wh_rows.specs.Tables.{Tables as TenTables}
 use Rattle.wh_rows.specs.declared.table.Table.{Table}
-use Rattle.wh_admission.specs.Checked.{IsDefined, table_place}
+use Rattle.wh_admission.specs.Checked.{Covers, IsDefined, stored_in, table_place}
 use Rattle.wh_store.specs.Faithful.{RestsFaithfully}
 use Rattle.wh_store.specs.Reads.{ReadsOnly, state_of, SaysAsStored}
 use Rattle.wh_engine.specs.Replica.{HoldsAll}
@@ -16,6 +16,6 @@ invariant-tables g l = record {
   from : 2 ≤ l.place;
   to : l.place ≤ 12;
   still : (t : TenTables) → RestsFaithfully g.M.Store (Some t) l.fn.replica.conn → RestsFaithfully g.M.Store (Some t) l.replica.conn;
-  defined : SaysAsStored (state_of g.S.Store l.fn.tables) (state_of g.S.Store l.tables) (λ stored. stored.format ≡ l.format → (limits : Limits) (commands : List Accepted) → l.format ≡ format_of commands → HoldsAll g.M.Store limits commands l.fn.replica
-      → (earlier : Table) → 2 ≤ table_place earlier → table_place earlier < l.place → IsDefined limits commands stored earlier);
+  defined : SaysAsStored (state_of g.S.Store l.fn.tables) (state_of g.S.Store l.tables) (λ stored. Covers stored.format l.format → (limits : Limits) (commands : List Accepted) → l.format ≡ format_of commands → HoldsAll g.M.Store limits commands l.fn.replica
+      → (earlier : Table) → 2 ≤ table_place earlier → table_place earlier < l.place → IsDefined limits commands (stored_in l.format stored) earlier);
 }

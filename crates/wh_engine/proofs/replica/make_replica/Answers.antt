@@ -11,6 +11,7 @@ use Rattle.wh_rows.specs.declared.rows.CommandRow.{CommandRow}
 use Rattle.wh_rows.specs.declared.table.Table.TheVariants.{Command}
 use Rattle.wh_rows.proofs.Once as once
 use Rattle.wh_rows.proofs.Parts.{command_keyed}
+use Rattle.wh_admission.specs.Checked.{stored_in}
 use Rattle.wh_store.specs.Reads.{state_of}
 use Rattle.wh_store.specs.Scan.{AreLeft, HandsOutOf}
 use Rattle.wh_check.proofs.Comparing.{part_damaged}
@@ -56,13 +57,13 @@ pub returns-in-None-clause-reads : goal.returns-in-None-clause-reads
 returns-in-None-clause-reads g c = answers_other _ _ _ _ (reads_on _ _ _ _ _ c.rows.invariant.reads c.in_ok-row.ensures.reads)
 
 pub returns-in-None-clause-replicated : goal.returns-in-None-clause-replicated
-returns-in-None-clause-replicated g c clean stored at same =
+returns-in-None-clause-replicated g c clean stored at =
     let kept = c.rows.invariant in
     let read = c.in_ok-row.ensures in
     let before = read.reads.clean clean in
     let Left = AreLeft row.command bind_number (stored.rows Command) c.rows.cursor in
     let ends : Left [] = subst (λ (found : Option CommandRow). HandsOutOf row.command bind_number (stored.rows Command) c.rows.cursor found c.next_row.new.cursor) c.in-None.is (read.stored clean stored refl (kept.reads.rests before stored at tt)) in
-    told_of stored c.args.limits c.args.format same command_keyed (once.command (state_of g.S.Store c.args.tables.now).now stored at.now) Left ends c.rows.replica c.rows.is_list c.tables_of.result c.tables_of.ensures (kept.replicated before stored at)
+    told_of (stored_in c.args.format stored) c.args.limits command_keyed (once.command (state_of g.S.Store c.args.tables.now).now stored at.now) Left ends c.rows.replica c.rows.is_list c.tables_of.result c.tables_of.ensures (kept.replicated before stored at)
 
 pub rows-preserved : goal.rows-preserved
 rows-preserved g c =

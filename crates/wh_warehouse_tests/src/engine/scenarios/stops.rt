@@ -42,6 +42,11 @@ fn night(rt: HostRuntime) -> Result<(), Fail> {
 }
 
 #[test]
+fn upgraded_night(rt: HostRuntime) -> Result<(), Fail> {
+    wh_scenarios::check::<EngineDriver>(rt.alloc(), &[stops::UPGRADED_NIGHT])
+}
+
+#[test]
 fn making_again(rt: HostRuntime) -> Result<(), Fail> {
     wh_scenarios::check::<EngineDriver>(rt.alloc(), &[stops::MAKING_AGAIN])
 }

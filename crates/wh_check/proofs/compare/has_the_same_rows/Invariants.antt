@@ -6,7 +6,7 @@ use Rattle.wh_store.specs.Faithful.{RestsFaithfully}
 use Rattle.wh_store.specs.Reads.{ReadsOnly, state_of, SaysAsStored}
 use Rattle.wh_store.specs.Scan.{AreLeft, AreValid, rows_left}
 use Rattle.wh_check.proofs.Comparing.{HasSeen}
-use Rattle.wh_check.proofs.compare.holds_the_same.Given as goal
+use Rattle.wh_check.proofs.compare.has_the_same_rows.Given as goal
 
 -- what was handed out so far of any stored rows, against those that the second warehouse holds
 abbrev pub invariant-rows : goal.invariant-rows
