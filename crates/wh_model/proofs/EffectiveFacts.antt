@@ -42,7 +42,7 @@ module _ (limits : Limits) (commands : List Accepted) (ok : IsAccepted limits co
         ap (λ o. unwrap_or (option_map (profile_at commands s.day) o) 0) card,
       )
 
-  members_named : NamesItsMembers commands s (fact_of commands s)
+  pub members_named : NamesItsMembers commands s (fact_of commands s)
   members_named = record {
     day = refl;
     product = member_named Product s.product refl;

@@ -20,6 +20,7 @@ pub mod Following
 pub mod ValidCalendar
 pub mod ValidFacts
 pub mod EffectiveFacts
+pub mod WholeFacts
 pub mod QuietLists
 pub mod GovernedLists
 pub mod Formatted

@@ -10,7 +10,7 @@ use Rattle.wh_policy.specs.declared.attribute.Dim.TheVariants.{Product, Store, C
 use Rattle.wh_policy.specs.declared.record.DimensionRecord.{DimensionRecord}
 use Rattle.wh_policy.specs.declared.record.SaleRecord.{SaleRecord}
 use Rattle.wh_policy.specs.declared.record.VoidRecord.{VoidRecord}
-use Rattle.wh_history.specs.Accepted.{Accepted, Describes, Withdraws, policy_after, types_in, durable_key, member_of, member_of_sale, sold, standing, withdrawn, withdraws_line}
+use Rattle.wh_history.specs.Accepted.{Accepted, Describes, Withdraws, policy_after, format_of, types_in, durable_key, member_of, member_of_sale, sold, standing, withdrawn, withdraws_line}
 use Rattle.wh_history.specs.Facts.{new_keys}
 use Rattle.wh_history.specs.Shapes.{shape_after, rendered_in}
 use Rattle.wh_history.specs.Keys.{at_place}
@@ -26,7 +26,7 @@ use Rattle.wh_rows.specs.declared.rows.CommandRow.{CommandRow}
 use Rattle.wh_rows.specs.declared.rows.MemberRow.{MemberRow}
 use Rattle.wh_rows.specs.Limits.{are_limits}
 use Rattle.wh_rows.specs.Tables.{Tables}
-use Rattle.wh_model.specs.Defined.{member_at, change_at, profile_at as profile_row_at, fact_at, AreOf}
+use Rattle.wh_model.specs.Defined.{member_at, change_at, profile_at as profile_row_at, fact_at, fact_in, AreOf}
 use Rattle.wh_model.specs.Sound.{making_of, same_line, IsAccepted}
 
 -- the rows of a dimension show no profile
@@ -136,3 +136,27 @@ FactsAreEffective = (limits : Limits) (commands : List Accepted) (key : LineKey)
     → IsAccepted limits commands
     → fact_at commands key ≡ Some f
     → (s : SaleRecord) × IsSoldAt commands key s × NamesItsMembers commands s f
+
+-- the fact has the line, the day and the figures with which the sale was sold
+pub record HasItsFigures (s : SaleRecord) (f : Fact) : Type 0 where
+  pub ticket : f.ticket ≡ s.ticket
+  pub line : f.line ≡ s.line
+  pub day : f.day ≡ s.day
+  pub quantity : f.quantity ≡ s.quantity
+  pub amount : f.amount ≡ s.amount
+  pub cost : f.cost ≡ s.cost
+  pub discount : f.discount ≡ s.discount
+
+-- the sale has its fact: in the table of the format in force one stands under its ticket and line, with its figures and the rows of its members
+pub record HasItsFact (commands : List Accepted) (key : LineKey) (s : SaleRecord) : Type 0 where
+  pub fact : Fact
+  pub there : fact_in (format_of commands) commands key ≡ Some fact
+  pub figures : HasItsFigures s fact
+  pub names : NamesItsMembers commands s fact
+
+-- Each accepted sale whose line was not withdrawn has its fact: none is lost, and none has other figures.
+abbrev pub FactsAreWhole : Type 0
+FactsAreWhole = (limits : Limits) (commands : List Accepted) (key : LineKey) (s : SaleRecord)
+    → IsAccepted limits commands
+    → IsSoldAt commands key s
+    → HasItsFact commands key s

@@ -1,6 +1,6 @@
 //! Laws of the tables that accepted commands define. They speak of the definitions alone and do nothing.
 
-ghost use Rattle.wh_model.specs.Laws.{AcceptedListsBegin, FactsAreEffective, LateRecordsMoveFacts, LateRecordsMoveStandingFacts, SecondKeysAreApart, SoundPoliciesShowNone, UntouchedMembersKeep, VoidsTakeOutFacts, WithdrawnLinesStaySold};
+ghost use Rattle.wh_model.specs.Laws.{AcceptedListsBegin, FactsAreEffective, FactsAreWhole, LateRecordsMoveFacts, LateRecordsMoveStandingFacts, SecondKeysAreApart, SoundPoliciesShowNone, UntouchedMembersKeep, VoidsTakeOutFacts, WithdrawnLinesStaySold};
 
 /// Under a sound policy no row of a product or a store shows a profile, as a batch of customers asks.
 pub fn sound_policies_show_none()
@@ -39,6 +39,13 @@ pub fn late_records_move_standing_facts()
 /// and its one row that holds the sale's day, whatever came late; without a card it names the customer row 0.
 pub fn facts_are_effective()
     ensures { FactsAreEffective }
+{}
+
+/// Each sale that was accepted and not withdrawn has its fact, in the table of the format in force, under its ticket and line: with its
+/// day, quantity, amount, cost and discount as sold, and the rows of its members (Kimball & Ross, chapter 3). So no sale that stands is
+/// lost from the facts.
+pub fn facts_are_whole()
+    ensures { FactsAreWhole }
 {}
 
 /// A batch of voids takes out the facts of its lines and no others. It changes no member, no number and no key: members
