@@ -14,5 +14,6 @@ pub mod StoredMaps
 pub mod CheckedTables
 pub mod SoundTables
 pub mod AnswersByCases
+pub mod SoldLines
 pub mod KeptRows
 pub mod KeptBytes

@@ -1,16 +1,17 @@
 -- Admission, case by case: the first case that applies gives the answer.
-use Rattle.std.specs.Prelude.{◌≡◌, ◌≢◌, ◌<◌, ◌≤◌, ℕ, suc, ◌+◌, ◌-◌, Bool, true, false, not, List, [], ◌∷◌, ◌++◌, length, map, take, Some, bytes_eq, Result, Ok, Err}
+use Rattle.std.specs.Prelude.{◌≡◌, ◌≢◌, ◌⊎◌, ◌<◌, ◌≤◌, ℕ, suc, ◌+◌, ◌-◌, Bool, true, false, not, List, [], ◌∷◌, ◌++◌, length, map, take, Some, bytes_eq, Result, Ok, Err}
 use Rattle.std.specs.List.{list_any, AllByRecursion, IsDistinct}
 use Rattle.wh_policy.specs.declared.record.SaleRecord.{SaleRecord}
 use Rattle.wh_policy.specs.declared.record.VoidRecord.{VoidRecord}
 use Rattle.wh_batch.specs.Kind.{command_word}
-use Rattle.wh_history.specs.Accepted.{Accepted, Content, sold, sold_by, standing, withdrawn_by, format_of}
+use Rattle.wh_history.specs.Accepted.{Accepted, Content, Sells, Withdraws, sold, sold_by, standing, withdrawn, withdrawn_by, withdraws_line, format_of}
 use Rattle.wh_history.specs.Keys.{at_place}
 use Rattle.wh_history.specs.Tables.{Limits}
-use Rattle.wh_model.specs.Sound.{changes_kept, same_line, is_sold_line}
+use Rattle.wh_model.specs.Sound.{IsAccepted, changes_kept, same_line, is_sold_line}
 use Rattle.wh_rows.specs.Types.{is_key}
 use Rattle.wh_admission.specs.Admission.{current_policy, content_of, accepted_as, receipt_of, changes_in, answer, bytes_kept, upgrades_again}
 use Rattle.wh_admission.specs.declared.command.Command.{Command}
+use Rattle.wh_admission.specs.declared.command.Receipt.{Receipt}
 use Rattle.wh_admission.specs.declared.command.Reply.{Reply}
 use Rattle.wh_admission.specs.declared.command.Reply.TheVariants.{Accepted as Accepts, Already}
 use Rattle.wh_admission.specs.declared.command.Refused.{Refused}
@@ -100,3 +101,32 @@ AnswerIsByCases = (limits : Limits) (commands : List Accepted) (c : Command) →
 -- And where no two accepted commands have one id, there is no other.
 abbrev pub AnswersAreOne : Type 0
 AnswersAreOne = (limits : Limits) (commands : List Accepted) (c : Command) (said : Result Reply Refused) → IsDistinct bytes_eq (map (λ (a : Accepted). a.id) commands) → IsAnswer limits commands c said → said ≡ answer limits commands c
+
+-- admission does not accept the command
+abbrev pub IsNotAccepted : Limits → List Accepted → Command → Type 0
+IsNotAccepted limits commands c = (receipt : Receipt) → answer limits commands c ≢ Ok (Accepts receipt)
+
+-- A batch of sales is not accepted where the line of one of them was sold before, withdrawn or not.
+abbrev pub SoldLinesAreRefused : Type 0
+SoldLinesAreRefused = (limits : Limits) (commands : List Accepted) (c : Command) (sales : List SaleRecord) (number : ℕ) (s : SaleRecord)
+    → content_of c.kind (format_of commands) (current_policy commands) c.bytes ≡ Ok (Sells sales)
+    → at_place number sales ≡ Some s
+    → is_sold commands s ≡ true
+    → IsNotAccepted limits commands c
+
+-- So a line that was withdrawn is never sold again.
+abbrev pub WithdrawnLinesAreNotSold : Type 0
+WithdrawnLinesAreNotSold = (limits : Limits) (commands : List Accepted) (c : Command) (sales : List SaleRecord) (number : ℕ) (s : SaleRecord)
+    → IsAccepted limits commands
+    → content_of c.kind (format_of commands) (current_policy commands) c.bytes ≡ Ok (Sells sales)
+    → at_place number sales ≡ Some s
+    → withdraws_line s.ticket s.line (withdrawn commands) ≡ true
+    → IsNotAccepted limits commands c
+
+-- Nor is a batch of voids accepted where the line of one of them was withdrawn before, or never sold.
+abbrev pub WithdrawnLinesAreRefused : Type 0
+WithdrawnLinesAreRefused = (limits : Limits) (commands : List Accepted) (c : Command) (lines : List VoidRecord) (number : ℕ) (v : VoidRecord)
+    → content_of c.kind (format_of commands) (current_policy commands) c.bytes ≡ Ok (Withdraws lines)
+    → at_place number lines ≡ Some v
+    → (withdraws_line v.ticket v.line (withdrawn commands) ≡ true) ⊎ (is_sold_line (sold commands) v ≡ false)
+    → IsNotAccepted limits commands c

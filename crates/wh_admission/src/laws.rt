@@ -1,7 +1,7 @@
 //! Laws of admission and of what is stored. They speak of the definitions alone and do nothing.
 
 ghost use Rattle.wh_admission.specs.Admission.{ActsOnceAtOnce, ActsOnceLater};
-ghost use Rattle.wh_admission.specs.Answers.{AnswerIsByCases, AnswersAreOne};
+ghost use Rattle.wh_admission.specs.Answers.{AnswerIsByCases, AnswersAreOne, SoldLinesAreRefused, WithdrawnLinesAreNotSold, WithdrawnLinesAreRefused};
 ghost use Rattle.wh_admission.specs.Steps.{AdmittedIsStepped};
 ghost use Rattle.wh_admission.specs.Checked.{SoundIsEachRight, DamageIsWrong, CommandsAreOne};
 ghost use Rattle.wh_admission.specs.Sound.{SoundIsOfCommands};
@@ -10,6 +10,14 @@ ghost use Rattle.wh_admission.specs.Sound.{SoundIsOfCommands};
 pub fn answers_are_by_cases()
     ensures first { AnswerIsByCases }
     ensures only { AnswersAreOne }
+{}
+
+/// No batch of sales is accepted that has a line which was sold before, withdrawn or not: so no line is ever sold twice, nor again once
+/// it was withdrawn. And no batch of voids that has a line which was withdrawn before, or never sold.
+pub fn sold_lines_are_refused()
+    ensures sold { SoldLinesAreRefused }
+    ensures not_again { WithdrawnLinesAreNotSold }
+    ensures withdrawn { WithdrawnLinesAreRefused }
 {}
 
 /// A command that comes again acts once: at once, whatever it was answered; and where it was accepted or had been before, whatever
