@@ -25,6 +25,14 @@ durable_stays dim old new natural given = ap (place bytes_eq natural) (members-a
 pub surrogate_stays : (dim : Dim) (old new : List Accepted) (anchor : Anchor) → 0 < surrogate_key dim old anchor → surrogate_key dim (old ++ new) anchor ≡ surrogate_key dim old anchor
 surrogate_stays dim old new anchor given = ap (place same_anchor anchor) (anchors-append dim old new) ∙ place-append_front same_anchor anchor (anchors dim old) _ given
 
+pub durable_next : (dim : Dim) (old new : List Accepted) (natural : List ℕ) → durable_key dim old natural ≡ 0 → 0 < durable_key dim (old ++ new) natural → length (members dim old) < durable_key dim (old ++ new) natural
+durable_next dim old new natural absent given =
+    let later = fresh bytes_eq (map (λ (a : Anchor). a.natural) (mentions dim old)) (members dim new) in
+    let whole = ap (place bytes_eq natural) (members-append dim old new) in
+    let there : 0 < place bytes_eq natural (members dim old ++ later) = subst (λ (n : ℕ). 0 < n) whole given in
+    let behind = place-none_from_append bytes_eq natural (members dim old) later absent there in
+    rw whole (rw (place-append_behind bytes_eq natural (members dim old) later absent behind) (omega arith))
+
 pub surrogate_next : (dim : Dim) (old new : List Accepted) (anchor : Anchor) → surrogate_key dim old anchor ≡ 0 → 0 < surrogate_key dim (old ++ new) anchor → length (anchors dim old) < surrogate_key dim (old ++ new) anchor
 surrogate_next dim old new anchor absent given =
     let later = fresh same_anchor (mentions dim old) (anchors dim new) in

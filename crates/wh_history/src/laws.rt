@@ -49,9 +49,11 @@ pub fn numbers_of_profiles()
 {}
 
 /// A number that was given to a member or an anchor stays, whatever is accepted after; numbers that are
-/// given later are greater than all before. Under one policy so it is with the numbers of profiles.
+/// given later are greater than all before: durable and surrogate keys (Kimball & Ross, chapter 3). Under one policy so it is with
+/// the numbers of profiles.
 pub fn numbers_stay()
     ensures durable { (dim : Dim) (old new : List Accepted) (natural : List ℕ) → 0 < durable_key dim old natural → durable_key dim (old ++ new) natural ≡ durable_key dim old natural }
+    ensures next_durable { (dim : Dim) (old new : List Accepted) (natural : List ℕ) → durable_key dim old natural ≡ 0 → 0 < durable_key dim (old ++ new) natural → length (members dim old) < durable_key dim (old ++ new) natural }
     ensures surrogate { (dim : Dim) (old new : List Accepted) (anchor : Anchor) → 0 < surrogate_key dim old anchor → surrogate_key dim (old ++ new) anchor ≡ surrogate_key dim old anchor }
     ensures next { (dim : Dim) (old new : List Accepted) (anchor : Anchor) → surrogate_key dim old anchor ≡ 0 → 0 < surrogate_key dim (old ++ new) anchor → length (anchors dim old) < surrogate_key dim (old ++ new) anchor }
     // And the number of a combination of profile values, as long as no policy is given.
