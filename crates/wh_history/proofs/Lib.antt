@@ -16,6 +16,7 @@ pub mod Standing
 pub mod Knowing
 pub mod Members
 pub mod Shown
+pub mod ShownTypes
 pub mod Walks
 pub mod Since
 pub mod Until

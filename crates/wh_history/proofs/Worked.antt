@@ -1,6 +1,6 @@
 -- The definitions on a small history: each lemma computes.
 use Rattle.std.proofs.Common.{◌≡◌, ℕ, Bool, true, false, List, [], ◌∷◌, ◌++◌, Option, Some, None, refl}
-use Rattle.std.specs.Prelude.{codes, pos, take}
+use Rattle.std.specs.Prelude.{codes, pos, take, length}
 use Rattle.wh_day.specs.Day.{day_before}
 use Rattle.wh_day.specs.Value.{none_text, unknown_text, no_card_text}
 use Rattle.wh_policy.specs.Policy.{described, trial_policy}
@@ -10,8 +10,9 @@ use Rattle.wh_policy.specs.declared.attribute.AttributeType.{AttributeType}
 use Rattle.wh_policy.specs.declared.attribute.AttributeType.TheVariants.{RetainOriginal, Overwrite, NewRow, NewAttribute, MiniDimension, MiniDimensionOutrigger, NewRowAndOverwrite, DualKeys}
 use Rattle.wh_policy.specs.declared.record.DimensionRecord.{DimensionRecord}
 use Rattle.wh_policy.specs.declared.record.SaleRecord.{SaleRecord}
-use Rattle.wh_history.specs.Accepted.{Accepted, Content, Governs, Describes, Sells, Withdraws}
-use Rattle.wh_history.specs.Tables.{dimension_row, member_row, change_row, profile_row, fact_row, void_row, command_row, dimension_table, trial_commands}
+use Rattle.wh_history.specs.Accepted.{Accepted, Content, Governs, Describes, Sells, Withdraws, durable_key, members}
+use Rattle.wh_history.specs.Keys.{at_place}
+use Rattle.wh_history.specs.Tables.{dimension_row, member_row, change_row, profile_row, fact_row, void_row, command_row, member_rows, dimension_table, trial_commands}
 use Rattle.wh_history.specs.declared.rows.DimRow.{DimRow}
 use Rattle.wh_history.specs.declared.facts.Fact.{Fact}
 
@@ -312,6 +313,25 @@ row-51 = refl
 row-52 : fact_row (take 22 commands) (codes "T2") 1 ≡ Some (fact (codes "T2") 20240610 (1, 9, 1) (1, 2, 1) 2 1 1000 700)
 unfolding none_text unknown_text no_card_text day_before
 row-52 = refl
+
+-- the first row of a member's rows is the one above, with attributes of types 0, 1, 3, 6 and 7 in it; and that of a customer, with those of type 5
+row-57 : at_place 1 (member_rows (take 16 commands) Product (codes "P1")) ≡ dimension_row (take 16 commands) Product 1
+unfolding none_text unknown_text no_card_text day_before
+row-57 = refl
+
+row-58 : at_place 1 (member_rows (take 15 commands) Customer (codes "C9")) ≡ dimension_row (take 15 commands) Customer 1
+unfolding none_text unknown_text no_card_text day_before
+row-58 = refl
+
+-- a member that a sale is the first to mention gets a greater number than those before it
+number-1 : durable_key Product (take 11 commands) (codes "P9") ≡ 0
+number-1 = refl
+
+number-2 : length (members Product (take 11 commands)) ≡ 1
+number-2 = refl
+
+number-3 : durable_key Product (take 12 commands) (codes "P9") ≡ 2
+number-3 = refl
 
 -- a line that is withdrawn has no fact, and the row of the command that withdrew it; the other facts and all members stay
 abbrev voided : List Accepted

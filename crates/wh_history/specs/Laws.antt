@@ -2,11 +2,15 @@
 use Rattle.std.specs.Prelude.{◌≡◌, ◌≢◌, ◌⊎◌, ◌↔◌, ◌<◌, ◌≤◌, ◌==◌, ⊤, ℕ, List, [], ◌∷◌, count_by, find, reverse, slice_get, Bool, true, false, Some, None, bytes_eq}
 use Rattle.std.specs.List.{list_any, AllByRecursion}
 use Rattle.wh_day.specs.Day.{first_day, is_day}
-use Rattle.wh_policy.specs.Types.{is_tracked}
+use Rattle.wh_policy.specs.Types.{is_tracked, is_profile, is_outrigger}
 use Rattle.wh_policy.specs.declared.attribute.Dim.{Dim}
 use Rattle.wh_policy.specs.declared.attribute.AttributeType.{AttributeType}
-use Rattle.wh_history.specs.Dated.{dated, at, value_at}
+use Rattle.wh_policy.specs.declared.attribute.AttributeType.TheVariants.{RetainOriginal, Overwrite, NewRow, NewAttribute, MiniDimension, MiniDimensionOutrigger, NewRowAndOverwrite, DualKeys}
+use Rattle.wh_history.specs.Dated.{dated, at, value_at, newest, latest, original, prior}
+use Rattle.wh_history.specs.Keys.{at_place}
+use Rattle.wh_history.specs.Profiles.{profile_number}
 use Rattle.wh_history.specs.Rows.{holds, rows}
+use Rattle.wh_history.specs.Slots.{picks}
 use Rattle.wh_history.specs.Accepted.{Accepted, Content, Governs, Describes, Sells, Upgrades, Withdraws, anchors_by, described, mentions, same_anchor, opening_of}
 use Rattle.wh_history.specs.Tables.{dimension_row}
 use Rattle.wh_history.specs.declared.member.Change.{Change}
@@ -91,6 +95,40 @@ BeginsAt day rows = list_any (λ r. r.from_day == day) rows ≡ true
 abbrev pub RowsBeginWhereATrackedValueDiffers : Type 0
 RowsBeginWhereATrackedValueDiffers = (kinds : List AttributeType) (combinations : List (List (List ℕ))) (m : Member) (day : ℕ) → ChangesHaveDays m.changes
     → BeginsAt day (rows kinds combinations m) ↔ ((day ≡ first_day) ⊎ BringsAnew kinds m.changes day)
+
+-- the row shows these texts of the attribute at a place, in its columns a and b
+pub record Shows (r : DimRow) (place : ℕ) (main second : List ℕ) : Type 0 where
+  pub a : slice_get r.a place ≡ Some main
+  pub b : slice_get r.b place ≡ Some second
+
+-- what a row shows of an attribute of each type, 0 to 7, on every row, old or current
+abbrev pub ShowsByType : Member → DimRow → ℕ → AttributeType → Type 0
+ShowsByType m r place RetainOriginal = Shows r place (original place m.changes) []
+ShowsByType m r place Overwrite = Shows r place (latest place m.changes) []
+ShowsByType m r place NewRow = Shows r place (value_at r.from_day place m.changes) []
+ShowsByType m r place NewAttribute = Shows r place (latest place m.changes) (prior place m.changes)
+ShowsByType m r place MiniDimension = Shows r place [] []
+ShowsByType m r place MiniDimensionOutrigger = Shows r place [] []
+ShowsByType m r place NewRowAndOverwrite = Shows r place (value_at r.from_day place m.changes) (latest place m.changes)
+ShowsByType m r place DualKeys = Shows r place (value_at r.from_day place m.changes) []
+
+-- Each row of a member shows each attribute as the attribute's type has it.
+abbrev pub RowsShowTheirTypes : Type 0
+RowsShowTheirTypes = (kinds : List AttributeType) (combinations : List (List (List ℕ))) (m : Member) (number : ℕ) (r : DimRow) (place : ℕ) (kind : AttributeType)
+    → at_place number (rows kinds combinations m) ≡ Some r
+    → slice_get kinds place ≡ Some kind
+    → ShowsByType m r place kind
+
+-- the row names the profile of the member's newest record, or that of unknown values where it has no record
+pub record NamesTheNewest (kinds : List AttributeType) (combinations : List (List (List ℕ))) (m : Member) (r : DimRow) : Type 0 where
+  pub known : (c : Change) (profile : ℕ) → newest (dated m.changes) ≡ Some c → profile_number combinations (picks is_profile kinds c.values) ≡ Some profile → r.profile_now ≡ profile
+  pub unknown : newest (dated m.changes) ≡ None → r.profile_now ≡ 1
+
+-- Where an attribute is of type 5 each row of a member names the newest profile; elsewhere none names one.
+abbrev pub RowsNameTheNewestProfile : Type 0
+RowsNameTheNewestProfile = (kinds : List AttributeType) (combinations : List (List (List ℕ))) (m : Member) (number : ℕ) (r : DimRow)
+    → at_place number (rows kinds combinations m) ≡ Some r
+    → (list_any is_outrigger kinds ≡ true → NamesTheNewest kinds combinations m r) × (list_any is_outrigger kinds ≡ false → r.profile_now ≡ 0)
 
 -- whether a command mentions a member
 abbrev pub mentions_member : Dim → Accepted → List ℕ → Bool

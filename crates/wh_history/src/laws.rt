@@ -17,7 +17,7 @@ ghost use Rattle.wh_history.specs.Plan.{row_of};
 ghost use Rattle.wh_history.specs.Accepted.{Accepted, Anchor, durable_key, surrogate_key, anchors, members, member_of, types_in, profiles_of};
 ghost use Rattle.wh_history.specs.Tables.{key_at, member_rows, numbered_row};
 ghost use Rattle.wh_history.specs.Touched.{touched, untouched, touched_by, with_batch};
-ghost use Rattle.wh_history.specs.Laws.{ChangesHaveDays, DatedListsAreExact, ChangesInForce, RecordsHaveDays, EachDayHasOneRow, OneRowIsCurrent, is_of, mentions_member, IsMember, IsEffective, governs, RowsBeginWhereATrackedValueDiffers};
+ghost use Rattle.wh_history.specs.Laws.{ChangesHaveDays, DatedListsAreExact, ChangesInForce, RecordsHaveDays, EachDayHasOneRow, OneRowIsCurrent, is_of, mentions_member, IsMember, IsEffective, governs, RowsBeginWhereATrackedValueDiffers, RowsShowTheirTypes, RowsNameTheNewestProfile};
 ghost use Rattle.wh_history.specs.declared.member.Change.{Change};
 ghost use Rattle.wh_history.specs.declared.member.Member.{Member};
 ghost use Rattle.wh_history.specs.declared.rows.DimRow.{DimRow};
@@ -84,6 +84,14 @@ pub fn rows_by_member()
 /// The row that holds a day shows in each tracked slot the value in force on that day.
 pub fn shows_the_day()
     ensures { (kinds : List AttributeType) (combinations : List (List (List ℕ))) (m : Member) (day : ℕ) (r : DimRow) (place : ℕ) (kind : AttributeType) → ChangesHaveDays m.changes → find (holds day) (rows kinds combinations m) ≡ Some r → slice_get kinds place ≡ Some kind → is_tracked kind ≡ true → slice_get r.a place ≡ Some (value_at day place m.changes) }
+{}
+
+/// Each row of a member, an old one too, shows each attribute as its type has it (Kimball & Ross, chapter 5): type 0 the original
+/// value, types 1 and 3 the latest, types 2, 6 and 7 the value at the row's start, types 4 and 5 nothing; and in its second column
+/// type 3 the prior value and type 6 the latest. Under type 5 it names the profile of the member's newest record.
+pub fn rows_show_their_types()
+    ensures attributes { RowsShowTheirTypes }
+    ensures profile { RowsNameTheNewestProfile }
 {}
 
 /// Of a member with a change of an earlier day, more changes that are all since a day leave the days before it as they
