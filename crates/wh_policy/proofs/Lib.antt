@@ -1,4 +1,5 @@
 pub mod AttributeLaws
+pub mod BetweenKeys
 pub mod DocumentLemmas
 pub mod FileLaws
 pub mod HolidayLaws

@@ -12,7 +12,7 @@ use Rattle.wh_policy.specs.Attributes.{is_name, name_at, kind_at, attributes_at}
 use Rattle.wh_policy.specs.Holidays.{day_at, title_at, holidays_at}
 use Rattle.wh_policy.specs.Names.{slot_from, fits}
 use Rattle.wh_policy.specs.Policy.{described, trial_policy, policy_in}
-use Rattle.wh_policy.specs.Years.{years_at}
+use Rattle.wh_policy.specs.Years.{is_within, first_key, end_key, years_at}
 use Rattle.wh_policy.proofs.OnLiterals.{policy_on_literals}
 
 -- an array of tables, and what stands in one
@@ -171,6 +171,18 @@ type_as_text = refl
 years_of_the_trial : years_at (integer (pos 2023)) (integer (pos 2026)) ≡ Ok (record { first = 2023; last = 2026 })
 unfolding policy_on_literals
 years_of_the_trial = refl
+
+last_day_within : is_within four_years 20261231 ≡ true
+last_day_within = refl
+
+next_day_outside : is_within four_years 20270101 ≡ false
+next_day_outside = refl
+
+first_of_years : first_key four_years ≡ 20230101
+first_of_years = refl
+
+past_years : end_key four_years ≡ 20261232
+past_years = refl
 
 thirty_years : years_at (integer (pos 2023)) (integer (pos 2052)) ≡ Ok (record { first = 2023; last = 2052 })
 unfolding policy_on_literals

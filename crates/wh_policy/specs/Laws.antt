@@ -1,15 +1,18 @@
 -- The laws of policy files.
-use Rattle.std.specs.Prelude.{◌≡◌, ◌≢◌, ℕ, ◌+◌, ◌≤◌, ℤ, pos, ◌↔◌, IsTrue, List, ◌++◌, map, Some, None, Ok, Err, IsOk, All, slice_get}
+use Rattle.std.specs.Prelude.{◌≡◌, ◌≢◌, ℕ, ◌+◌, ◌<◌, ◌≤◌, true, ℤ, pos, ◌↔◌, IsTrue, List, ◌++◌, map, Some, None, Ok, Err, IsOk, All, slice_get}
 use Rattle.toml.specs.Data.{Members}
+use Rattle.wh_day.specs.Day.{is_day}
 use Rattle.wh_policy.specs.declared.attribute.Attribute.{Attribute}
 use Rattle.wh_policy.specs.declared.attribute.AttributeType.{AttributeType}
 use Rattle.wh_policy.specs.declared.attribute.Dim.{Dim}
 use Rattle.wh_policy.specs.declared.fault.PolicyFault.{PolicyFault}
 use Rattle.wh_policy.specs.declared.fault.PolicyFault.TheVariants.{NotToml}
 use Rattle.wh_policy.specs.declared.policy.Policy.{Policy}
+use Rattle.wh_policy.specs.declared.policy.Years.{Years}
 use Rattle.wh_policy.specs.Names.{slot_from, fits}
 use Rattle.wh_policy.specs.Policy.{attributes_of, policy_at}
 use Rattle.wh_policy.specs.Types.{type_number, type_of_number}
+use Rattle.wh_policy.specs.Years.{is_within, first_key, end_key}
 use Rattle.wh_policy.specs.Written.{IsDocument, IsFreeOf, Writes, IsSound}
 
 -- a file is accepted exactly where it is a TOML table that is free of every fault
@@ -66,3 +69,7 @@ pub record IsFit (old new : Policy) : Type 0 where
 -- that is what fits
 abbrev pub FitsExactly : Type 0
 FitsExactly = (old new : Policy) → IsTrue (fits old new) ↔ IsFit old new
+
+-- a day lies in some years exactly where it is between their two keys: from the first, and before the second
+abbrev pub DaysLieBetweenTheKeys : Type 0
+DaysLieBetweenTheKeys = (years : Years) (day : ℕ) → is_day day ≡ true → (is_within years day ≡ true) ↔ ((first_key years ≤ day) × (day < end_key years))

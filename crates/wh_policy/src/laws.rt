@@ -1,6 +1,6 @@
 //! What holds of every policy file.
 
-ghost use Rattle.wh_policy.specs.Laws.{IsAcceptedExactly, FaultsAreThere, IsNotTomlExactly, IsReadAsWritten, PoliciesAreSound, TypesHaveNumbers, NamesAreFound, NoOthersAreFound, FitsExactly};
+ghost use Rattle.wh_policy.specs.Laws.{IsAcceptedExactly, FaultsAreThere, IsNotTomlExactly, IsReadAsWritten, PoliciesAreSound, TypesHaveNumbers, NamesAreFound, NoOthersAreFound, FitsExactly, DaysLieBetweenTheKeys};
 
 /// A file is accepted exactly where it is a TOML table in which none of the faults is.
 pub fn accepted_exactly()
@@ -38,4 +38,10 @@ pub fn names_are_found()
 /// A newer policy fits exactly where each dimension's names begin with the old ones, and its years hold the old ones.
 pub fn fits_exactly()
     ensures { FitsExactly }
+{}
+
+/// A day lies in some years exactly where it is between their two keys. So the calendar's rows of these years are those of the days
+/// between them.
+pub fn between_the_keys()
+    ensures { DaysLieBetweenTheKeys }
 {}
