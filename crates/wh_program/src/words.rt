@@ -254,7 +254,7 @@ fn trial_command<'a>(alloc: Global) -> Result<Command<'a>, AllocError>
     subcommand_of(alloc, &TRIAL)?.arg(policy)
 }
 
-/// An explanation, the one command of which an operand can be left out.
+/// An explanation, the one command with an operand that can be left out.
 fn explain_command<'a>(alloc: Global) -> Result<Command<'a>, AllocError>
     ensures app { IfOk result (λ c. app_of c ≡ explain_app) }
     ensures local { IfOk result (λ c. (out-Command c).has_globals ≡ false) }

@@ -1,4 +1,4 @@
-//! The rows of the tables. Those of the dimensions are `wh_history`'s [`DimRow`], those of the facts its [`Fact`], and those of the
+//! The rows of the tables. The dimensions' are `wh_history`'s [`DimRow`], the facts' its [`Fact`], and those of the
 //! calendar `wh_day`'s [`DateRow`].
 
 ghost use Rattle.std.specs.Prelude.{◌≡◌, IfOk};
