@@ -168,6 +168,7 @@ columns fact ('T1', 1, 20240610, 1, 9, 1, 1, 2, 1, 1, -1, 1000, 700)
 
 /// Without each of its columns no warehouse is found, so often as a table has columns, and with all of them one is.
 pub const MISSED: &str = "
+# How many columns a table has: without each in turn there is no warehouse.
 missed meta name value
 = 2
 = whole
