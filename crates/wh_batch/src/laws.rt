@@ -43,7 +43,7 @@ pub fn first_fault_is_read()
     ensures { (kind : Kind) (policy : Policy) (format : Format) → FirstIsRead (faults_of_kind kind policy format) (records_of kind policy format) }
 {}
 
-/// Each of the first 5,000 rows is listed with the fault that reading it gives after the keys of the rows before it, if any; of all rows behind
+/// Each of the first 5,000 rows is listed with the fault that reading it gives after the keys of the rows before it, if any; of all rows after
 /// them it is listed that they are too many.
 pub fn each_row_is_listed()
     ensures dimensions { (attributes : List Attribute) → ListsEachRow (dimension_layout attributes) }

@@ -1,5 +1,5 @@
-//! The rows of the tables. The dimensions' are `wh_history`'s [`DimRow`], the facts' its [`Fact`], and those of the
-//! calendar `wh_day`'s [`DateRow`].
+//! The rows of the tables. The dimensions' are `wh_history`'s [`DimRow`], the facts' its [`Fact`], and the calendar's
+//! `wh_day`'s [`DateRow`].
 
 ghost use Rattle.std.specs.Prelude.{◌≡◌, IfOk};
 
