@@ -1,6 +1,6 @@
 #!/usr/bin/env bash
 # Runs the examples of docs/cli.md and docs/batches.md with the built program (`rt run` in crates/wh builds it), and compares what they print with
-# the texts of examples/; then it runs README.md, as tests/lib/page.sh says. WH names another program than crates/wh/out/wh.
+# the texts of examples/; it runs the examples of the help, and README.md as tests/lib/page.sh says. WH names another program than crates/wh/out/wh.
 set -eu
 cd "$(dirname "$0")/.."
 . tests/lib/page.sh
@@ -66,6 +66,23 @@ else
     failed=$((failed + 1))
     echo "status, check, load, deliver or reports of a name that isn't there left a file"
 fi
+# The examples of the help work in this order, over one shop; the batch that is explained has a fault.
+rm -f "$folder/shop.wh" "$folder/shop.wh-wal"
+cp -R examples "$folder"
+named=$(realpath "$program")
+for word in init load explain plan deliver report reports dump status check migrate upgrade trial; do
+    words=$("$named" help "$word" | sed -n 's/^Example: wh //p')
+    answered=0
+    # Each of the words is one.
+    # shellcheck disable=SC2086
+    (cd "$folder" && "$named" $words > said) || answered=$?
+    if [ -n "$words" ] && [ "$answered" = "$([ "$word" = explain ] && echo 2 || echo 0)" ]; then
+        passed=$((passed + 1))
+    else
+        failed=$((failed + 1))
+        echo "wh $words: status $answered, $(cat "$folder/said")"
+    fi
+done
 rm -rf "$folder"
 # Each word stands in the help with what its own help says of it.
 for word in init load migrate upgrade deliver report reports dump status explain plan trial check; do
@@ -77,5 +94,5 @@ for word in init load migrate upgrade deliver report reports dump status explain
         echo "wh --help does not say of $word: $said"
     fi
 done
-line "wh 1.0, for warehouses of the formats 1 and 2" 0 --version
+line "wh 1.0, reads warehouse formats 1 and 2" 0 --version
 run_page README.md

@@ -222,7 +222,7 @@ class Servers(MirrorTest):
         self.shop.night()
         with psycopg.connect(self.dsn) as connection:
             connection.execute("SELECT pg_advisory_xact_lock(hashtextextended('wh-mirror wh', 0))")
-            self.unchanged(2, "refused: another mirror, or a reader, was waited for in vain; .*", "--wait", "1")
+            self.unchanged(2, "refused: timed out waiting for another mirror, or for a reader; .*", "--wait", "1")
         self.mirrors(self.shop.path, self.dsn, "--wait", "1")
 
     def test_a_view_that_others_stand_on(self) -> None:

@@ -112,7 +112,7 @@ class Server:
         try:
             yield
         except psycopg.errors.LockNotAvailable as error:
-            raise Refused("another mirror, or a reader, was waited for in vain; --wait tells how long") from error
+            raise Refused("timed out waiting for another mirror, or for a reader; --wait tells how long") from error
         except (psycopg.errors.IntegrityError, psycopg.errors.DataError) as error:
             raise Failed(f"a row isn't what the star promises: {_first_line(error)}") from error
         except psycopg.Error as error:

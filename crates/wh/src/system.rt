@@ -217,7 +217,7 @@ fn has_log(runtime: &HostRuntime, alloc: Global, name: &str) -> io::Result<bool>
     }
 }
 
-/// Whether a file begins as that of a database does.
+/// Whether a file begins as a database does.
 fn has_header(runtime: &HostRuntime, alloc: Global, name: &str) -> io::Result<bool> {
     let bytes = bytes_of(runtime, alloc, name, HEADER.len())?;
     Ok(bytes.as_slice() == HEADER)

@@ -89,7 +89,7 @@ pub enum Refused {
     /// A table, an index or a view of somebody else's has a name that the second format needs. No list of commands says so: it is found in the file.
     #[error("a name of the second format is taken")]
     NameTaken,
-    /// The first sale, from 1, whose ticket and line are those of a stored fact, or were withdrawn.
+    /// The first sale, from 1, whose line has a stored fact or was withdrawn.
     #[error("the line of the ticket was sold before")]
     LineThere(u64),
     /// The first void, from 1, whose ticket and line no stored fact has.

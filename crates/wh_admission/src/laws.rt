@@ -6,7 +6,7 @@ ghost use Rattle.wh_admission.specs.Steps.{AdmittedIsStepped};
 ghost use Rattle.wh_admission.specs.Checked.{SoundIsEachRight, DamageIsWrong, CommandsAreOne};
 ghost use Rattle.wh_admission.specs.Sound.{SoundIsOfCommands};
 
-/// The answer to a command is that of the first case that applies; where no two accepted commands have one id, there is no other.
+/// The first case that applies gives the answer to a command; where no two accepted commands have one id, there is no other.
 pub fn answers_are_by_cases()
     ensures first { AnswerIsByCases }
     ensures only { AnswersAreOne }

@@ -19,7 +19,7 @@ pub enum Holds {
     Line,
     /// Up to four digits, with a minus in front or without.
     Quantity,
-    /// Up to seven digits, perhaps with a point and one or two digits behind it, with a minus in front or without.
+    /// Optionally a minus, then up to seven digits, then perhaps a point and one or two digits.
     Amount,
     /// As an amount, without a sign.
     Discount,

@@ -17,7 +17,7 @@ pub enum Kind {
 }
 
 impl Kind {
-    /// The word for it, in commands: that of the dimension, `sales` or `void`.
+    /// The word for it, in commands: the dimension's, `sales` or `void`.
     pub fn word(self) -> &'static str
         ensures { result.now ≡ kind_word self }
     {
@@ -57,7 +57,7 @@ pub enum CommandKind {
 }
 
 impl CommandKind {
-    /// The word for it, in commands and among those that are kept: that of the batch, `migrate` or `upgrade`.
+    /// The word for it, in commands and in those that are kept: the batch's, `migrate` or `upgrade`.
     pub fn word(self) -> &'static str
         ensures { result.now ≡ command_word self }
     {

@@ -43,8 +43,8 @@ pub fn first_fault_is_read()
     ensures { (kind : Kind) (policy : Policy) (format : Format) → FirstIsRead (faults_of_kind kind policy format) (records_of kind policy format) }
 {}
 
-/// Of each of the first 5,000 rows just the fault is listed that reading it gives after the keys of the rows before it, if it gives
-/// one, and of all rows behind them that they are too many.
+/// Each of the first 5,000 rows is listed with the fault that reading it gives after the keys of the rows before it, if any; of all rows after
+/// them it is listed that they are too many.
 pub fn each_row_is_listed()
     ensures dimensions { (attributes : List Attribute) → ListsEachRow (dimension_layout attributes) }
     ensures sales { (format : Format) (years : Years) → ListsEachRow (sales_layout format years) }
@@ -59,14 +59,14 @@ pub fn faults_in_order()
 {}
 
 /// Fields write a record exactly where they are as many as the columns, and each writes what its column holds. Else the fault is
-/// their number, or that of the first field that doesn't.
+/// their number, or the first field that doesn't.
 pub fn faults_by_columns()
     ensures dimensions { (attributes : List Attribute) → FaultsByColumns (dimension_layout attributes) }
     ensures sales { (format : Format) (years : Years) → FaultsByColumns (sales_layout format years) }
     ensures voids { FaultsByColumns voids_layout }
 {}
 
-/// A fault of a field is told with the place of that field: what stands there is at fault in its column, by just that fault.
+/// A fault of a field has the place of that field: what stands there is at fault in its column, by just that fault.
 pub fn faults_of_fields()
     ensures dimensions { (attributes : List Attribute) → PointsAtField (dimension_layout attributes) }
     ensures sales { (format : Format) (years : Years) → PointsAtField (sales_layout format years) }

@@ -36,7 +36,7 @@ pub fn sale_records(
     Ok(SaleRecords::of(batch_of(alloc, &layout, bytes)?))
 }
 
-/// The columns of a sale, of which the first format has nine.
+/// The columns of a sale; the first format has nine of them.
 pub(crate) fn sale_columns<'a>(alloc: Global, format: Format) -> Result<Vec<Column<'a>>, AllocError>
     ensures { IfOk result (λ columns. columns.items ≡ sales_columns format) }
 {

@@ -12,7 +12,7 @@ use std::marker::Model;
 /// A day with a name.
 #[derive(Debug, Drop)]
 pub struct Holiday {
-    /// The day, of which a contract sees the number YYYYMMDD.
+    /// The day. A contract sees its number YYYYMMDD.
     pub day: Day,
     /// What the calendar calls it.
     pub name: Value,

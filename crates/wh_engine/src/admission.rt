@@ -43,8 +43,7 @@ fn has_room_left(limit: u64, kept: u64, records: u64) -> bool
     records <= limit.saturating_sub(kept)
 }
 
-/// Whether there is room for so many more rows of a table that a limit counts. They are counted only where full batches
-/// could have left too little.
+/// Whether `records` more rows fit under `limit`. The rows are counted only where full batches could have left too little room.
 fn has_room_for<T: KeyedTable, S: Alter>(
     tables: &mut Tables<S>,
     alloc: Global,
@@ -63,7 +62,7 @@ fn has_room_for<T: KeyedTable, S: Alter>(
     Ok(has_room_left(limit, kept, records))
 }
 
-/// How many lines of tickets were sold: those of the stored facts, and those that were withdrawn.
+/// How many lines of tickets were sold: the stored facts, and the withdrawn lines.
 fn count_lines<S: Alter>(
     tables: &mut Tables<S>,
     alloc: Global,
@@ -145,7 +144,7 @@ fn is_line_there<S: Alter>(
     is_withdrawn(tables, alloc, format, &key)
 }
 
-/// The first sale, from 1, whose ticket and line are those of a stored fact, or were withdrawn.
+/// The first sale, from 1, whose line has a stored fact or was withdrawn.
 fn first_line_there<S: Alter>(
     tables: &mut Tables<S>,
     alloc: Global,

@@ -349,7 +349,7 @@ pub(crate) fn decide_new<S: Alter>(
     }
 }
 
-/// What is to be done about a command whose id is that of an accepted one.
+/// What is to be done about a command with the id of an accepted one.
 fn decide_known(row: &CommandRow, command: &Command) -> Result<Decision, Fault>
     ensures work { IsWorkedOut result }
     ensures brings { (policy : Policy) → IfOk result (Brings policy command.now) }

@@ -16,8 +16,8 @@ use wh_admission::Command;
 use wh_rows::Limits;
 use wh_store::open_fresh;
 
-/// Makes a warehouse in memory, where nothing is yet, delivers commands to it and closes it. What it holds then is asked of no state
-/// before: it is what the making and the commands define. The error is why no warehouse was made; a fault of a command stops the delivery.
+/// Makes a warehouse in memory, where nothing is yet, delivers commands to it and closes it. What it holds then depends on no
+/// earlier state: it is what the making and the commands define. The error is why no warehouse was made; a fault of a command stops the delivery.
 pub fn deliver_fresh(
     alloc: Global,
     policy: &[u8],

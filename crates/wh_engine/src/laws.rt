@@ -28,13 +28,13 @@ pub fn contents_are_read()
     ensures { ContentsAreRead }
 {}
 
-/// Commands that are delivered in two parts lead to what they lead to together.
+/// Commands that are delivered in two parts give the same result as in one.
 pub fn deliveries_join()
     ensures { DeliveriesJoin }
 {}
 
-/// However many nights a delivery takes, delivering the commands that aren't acknowledged leads to what a delivery without a stop leads to;
-/// and so does delivering all of them again, where none of them is refused without a stop.
+/// However many nights a delivery takes, delivering the commands that aren't acknowledged gives the result of a delivery without a stop;
+/// so does delivering all of them again, where none of them is refused without a stop.
 pub fn redelivery()
     ensures { RedeliveryEndsTheSame }
 {}

@@ -79,7 +79,7 @@ fn policy_of(alloc: Global, commands: &[CommandRow]) -> Result<Policy, OpenFault
     }
 }
 
-/// The policy in force, which is that of the last command that gives one.
+/// The policy in force: the last command that gives one gives it.
 fn policy_in<S: Alter>(tables: &mut Tables<S>, alloc: Global) -> Result<Policy, OpenFault>
     ensures reads { SparesIn S.Store tables.old tables.new (IsServed result) }
     ensures read { WhenAtRest S.Store tables.old tables.new (λ t. IsRead result (of_command (last_policy_in t)) t (state_of S.Store tables.new)) }

@@ -28,8 +28,8 @@ pub enum NotReopened<D: Disk> {
     Warehouse(OpenFault, Connection<FileStore<D>>),
 }
 
-/// The machine stops and comes back, and the warehouse is opened again. What it has accepted then is one of what a crash could leave, and so
-/// it is of what is handed back where it can't be opened.
+/// The machine stops and comes back, and the warehouse is opened again. It then has one of the states that the crash could leave; so has what is
+/// handed back where it can't be opened.
 pub fn restart<D: Crash + Drop>(
     alloc: Global,
     engine: Engine<FileStore<D>>,
@@ -55,8 +55,8 @@ pub fn restart<D: Crash + Drop>(
 }
 
 /// Sends a command, stops the machine whatever was answered, opens the warehouse again and sends the command once more. It has acted once,
-/// and is answered with the receipt that it has where nothing stops it. Where the warehouse can't be opened, what is handed back has the
-/// tables before it or after it.
+/// and gets the receipt that it would get without the crash. Where the warehouse can't be opened, what is handed back has the tables before it
+/// or after it.
 pub fn redeliver<D: Crash + Drop>(
     alloc: Global,
     mut engine: Engine<FileStore<D>>,
@@ -76,8 +76,8 @@ pub fn redeliver<D: Crash + Drop>(
 }
 
 /// Delivers commands, stops the machine whatever was answered, opens the warehouse again and delivers those that weren't acknowledged. It
-/// hands out the answers before the stop, those after it, and the warehouse. Where nothing stops it then, the tables are those of a
-/// delivery without a stop, and each command has the receipt that it has there. Where the warehouse can't be opened, it hands out the
+/// hands out the answers before the stop, those after it, and the warehouse. Where nothing stops it then, it ends as a
+/// delivery without a stop: with its tables, and its receipt for each command. Where the warehouse can't be opened, it hands out the
 /// answers before the stop with what is left.
 pub fn deliver_again<D: Crash + Drop>(
     alloc: Global,

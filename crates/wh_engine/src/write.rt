@@ -22,7 +22,7 @@ use wh_policy::Format;
 use wh_rows::{Cause, tables};
 use wh_store::{ROWS_AT_ONCE, Tables, Writing};
 
-/// Makes the tables of the second format, where the edits are those of an upgrade.
+/// Makes the tables of the second format, where the edits are an upgrade's.
 fn edit_format<S: Alter>(writing: &mut Writing<'_, S>, edits: &Edits) -> Result<(), Cause>
     ensures same_reference { writing.new.tables.ghost_name ≡ writing.old.tables.ghost_name }
     ensures clean { WasClean S.Store writing.old.tables.now writing.new.tables.now }
@@ -161,7 +161,7 @@ fn edit_all_facts<S: Alter>(
     Ok(())
 }
 
-/// Takes out all facts of the first format, of which there are to be so many.
+/// Takes out all facts of the first format; there have to be so many.
 fn clear_facts<S: Alter>(writing: &mut Writing<'_, S>, count: u64) -> Result<(), Cause>
     ensures same_reference { writing.new.tables.ghost_name ≡ writing.old.tables.ghost_name }
     ensures writes { WritesIn S.Store writing.old writing.new ⊤ }

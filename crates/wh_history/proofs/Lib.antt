@@ -10,7 +10,6 @@ pub mod Plans
 pub mod Places
 pub mod Joins
 pub mod Effective
-pub mod Combinations
 pub mod Stays
 pub mod Standing
 pub mod Knowing

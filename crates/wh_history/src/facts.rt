@@ -90,7 +90,7 @@ pub fn key_in(rows: &[DimRow], day: Day) -> u64
     }
 }
 
-/// A fact's keys with those of a member of a dimension.
+/// A fact's keys, with a member's in their places.
 fn keys_with(dim: Dim, own: MemberKeys, keys: FactKeys) -> FactKeys
     ensures { result ≡ keys_with dim own keys }
 {

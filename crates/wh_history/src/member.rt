@@ -116,7 +116,7 @@ impl Member {
         })
     }
 
-    /// A member of which nothing is stored: all its numbers are 0, and no change is there.
+    /// A member that isn't stored: all its numbers are 0, and it has no changes.
     pub fn absent(alloc: Global, natural: &Value) -> Result<Member, AllocError>
         ensures { IfOk result (λ member. member ≡ nothing_stored natural.now) }
     {

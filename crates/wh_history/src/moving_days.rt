@@ -91,7 +91,7 @@ fn first_kept<'a>(stored: &Rendered<'a>, after: &Rendered, last: Day) -> Option<
     None
 }
 
-/// The day before that of a record, and the last day of all where there is none.
+/// The day before a record's, and the last day of all where there is no record.
 fn before_record(kept: Option<&Change>) -> Day
     ensures { result ≡ before_record (option_copied kept.entry) }
 {

@@ -24,8 +24,8 @@ pub struct Numbered {
     pub number: u64,
 }
 
-/// What is known of combinations of profile values: some, with their numbers. Combinations begin with 2: profile 0 is that of sales
-/// without a card, and 1 that of customers without a record.
+/// What is known of combinations of profile values: some, with their numbers. Combinations begin with 2: profile 0 is for sales
+/// without a card, and 1 for customers without a record.
 ///
 /// Kimball & Ross, *The Data Warehouse Toolkit*, 3rd edition, chapter 5, "Type 4: Add Mini-Dimension" and "Type 5: Mini-Dimension and
 /// Type 1 Outrigger".

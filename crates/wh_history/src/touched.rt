@@ -22,8 +22,8 @@ pub trait MemberSource {
 
     ghost stored: { Self → List ℕ → Member };
 
-    /// The member with a natural key, as it is stored. Of one that isn't all numbers are 0, and no change is there. The error says why it can't be
-    /// read, or is `Memory`.
+    /// The stored member with a natural key; if there is none, one with zeros and no changes. The error says why it can't be read, or is
+    /// `Memory`.
     fn member(&self, alloc: Global, natural: &Value) -> Result<Member, ParseError<Self::Fault>>
         ensures member { IfOk result (λ m. m ≡ stored self.now natural.now) }
         ensures natural { IfOk result (λ m. m.natural ≡ natural.now) };
@@ -62,7 +62,7 @@ impl Touched {
     }
 }
 
-/// What was touched so far. The place of a natural key in the set is that of its member in the list.
+/// What was touched so far. A natural key has the same place in the set as its member in the list.
 #[derive(Drop)]
 struct Touching {
     naturals: IndexSet<String>,
@@ -212,7 +212,7 @@ fn touch<S: MemberSource>(
 }
 
 /// The members that a batch touches, as they are after it. `members` and `anchors` are how many durable and surrogate keys are given before
-/// it. The error is that of [`MemberSource::member`], or `Memory`.
+/// it. The error is what [`MemberSource::member`] answers, or `Memory`.
 pub fn touch_all<S: MemberSource>(
     alloc: Global,
     stored: &S,

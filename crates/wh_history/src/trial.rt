@@ -138,7 +138,7 @@ pub fn no_card_row(alloc: Global, types: &[AttributeType]) -> Result<DimRow, All
     })
 }
 
-/// The rows that a dimension's table has before the first key: that of sales without a card among the customers.
+/// The rows that a dimension's table has before the first key: among the customers the one for sales without a card.
 pub fn first_rows(
     alloc: Global,
     dim: Dim,
@@ -169,7 +169,7 @@ fn member_rows(
     Ok(found)
 }
 
-/// The row under a key among those of the member with a durable key.
+/// The row under a key, of the member with a durable key.
 fn owned_row(rows: &[DimRows], key: u64, owner: u64) -> Option<&DimRow>
     ensures { option_copied result ≡ owned_row rows.now key owner }
 {

@@ -35,7 +35,7 @@ fn upgrade_edits(alloc: Global, command: CommandRow, facts: FactTables) -> Resul
     Ok(edits)
 }
 
-/// What an upgrade of a warehouse of the first format writes. All facts are read. The error is that of a read: `Memory`, `Damaged` with the table
+/// What an upgrade of a warehouse of the first format writes. All facts are read. The error is a read's: `Memory`, `Damaged` with the table
 /// whose row is out of its type, or `Store`.
 pub fn plan_upgrade<S: Alter>(
     tables: &mut Tables<S>,

@@ -46,7 +46,6 @@ module _ (commands : List Accepted) (c : Accepted) (dim : Dim) (records : List D
 
 pub late_records_move_standing_facts : LateRecordsMoveStandingFacts
 late_records_move_standing_facts commands c dim records key is shown = record {
-  stood = refl;
   moved = moved commands c dim records is shown key;
   none = none commands c dim records is shown key;
 }

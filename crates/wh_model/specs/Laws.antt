@@ -93,7 +93,6 @@ standing_at commands key = find (λ s. bytes_eq s.ticket key.ticket && (s.line =
 
 -- what holds of a line after a batch of records: the fact of the sale that stands there moved, and where there was no fact there is none
 pub record MovesStandingFact (before after : List Accepted) (dim : Dim) (key : LineKey) : Type 0 where
-  pub stood : fact_at before key ≡ option_map (fact_of before) (standing_at before key)
   pub moved : fact_at after key ≡ option_map (λ s. followed after dim s (fact_of before s)) (standing_at before key)
   pub none : fact_at before key ≡ None → fact_at after key ≡ None
 

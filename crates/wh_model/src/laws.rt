@@ -24,7 +24,7 @@ pub fn second_keys_are_apart()
 {}
 
 /// After a batch of records each stored fact has the keys that its member's rows of that dimension then give it, and its
-/// other keys as they were. A late record moves facts of its own member alone.
+/// other keys as they were. That facts of other members stay is a law of `wh_plan`.
 pub fn late_records_move_facts()
     ensures { LateRecordsMoveFacts }
 {}
@@ -35,7 +35,7 @@ pub fn late_records_move_standing_facts()
     ensures { LateRecordsMoveStandingFacts }
 {}
 
-/// Each fact of the table is that of an accepted sale of its line, and names, in each dimension, the member that this sale names
+/// Each fact of the table belongs to an accepted sale of its line, and names, in each dimension, the member that this sale names
 /// and its one row that holds the sale's day, whatever came late; without a card it names the customer row 0.
 pub fn facts_are_effective()
     ensures { FactsAreEffective }

@@ -150,7 +150,7 @@ pub fn in_tables(alloc: Global, format: Format, edits: Vec<FactEdit>) -> FactTab
     }
 }
 
-/// The edits that carry all facts from the table of the first format to that of the second, each in order of their lines.
+/// The edits that carry all facts from the first format's table to the second's, each in order of their lines.
 pub fn carried_over(alloc: Global, facts: Vec<Fact>) -> Result<FactTables, AllocError>
     ensures one { (kept : Facts) → AreFacts (λ _. None) kept facts.items → IfOk result (λ edits. IsFactPlan kept (λ _. None) edits.one.items) }
     ensures two { (kept : Facts) → AreFacts (λ _. None) kept facts.items → IfOk result (λ edits. IsFactPlan (λ _. None) kept edits.two.items) }

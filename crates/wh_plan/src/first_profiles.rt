@@ -38,7 +38,7 @@ fn profile_of(
     Ok(ProfileRow { number, values })
 }
 
-/// The profiles that no record says: those of sales without a card, and of customers that no record describes.
+/// The profiles that no record says: for sales without a card, and for customers that no record describes.
 pub fn first_profiles(alloc: Global, types: &[AttributeType]) -> Result<Vec<ProfileRow>, AllocError>
     ensures { IfOk result (λ rows. rows.items ≡ first_profiles types.now) }
 {

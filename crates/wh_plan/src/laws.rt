@@ -3,7 +3,7 @@
 ghost use Rattle.wh_plan.specs.MovedFacts.{FactsOutsideTheDaysStay, MovedFactsAreExact};
 ghost use Rattle.wh_plan.specs.Laws.{CommandsMayBeWritten, EditsAreWritten, ExactEditsAreOne, NoEditsStay, SalesAreFacts, SalesPutPlaceholders, TouchedRowsAfter, TouchedRowsAreThePlan, TouchedRowsBefore};
 
-/// From the tables of some accepted commands the exact edits lead to those of others, in all tables.
+/// Exact edits lead from the tables of some accepted commands to the tables of others, all of them.
 pub fn edits_are_written()
     ensures { EditsAreWritten }
 {}
@@ -31,7 +31,7 @@ pub fn touched_rows_are_the_plan()
 {}
 
 /// The facts of the touched members whose keys change with a batch of records, with their new keys, are exactly what leads
-/// from the facts of the commands so far to those of the commands with it; nothing but its keys changes of any.
+/// from the facts of the commands so far to the facts with it; of each only the keys change.
 pub fn moved_facts_are_exact()
     ensures { MovedFactsAreExact }
 {}

@@ -27,7 +27,7 @@ fn row_of_member(dim: Dim, member: &Member) -> Result<MemberRow, AllocError>
     })
 }
 
-/// The rows of the touched members whose durable keys come after those of the members before the batch.
+/// The rows of the touched members that are new: their durable keys come after all before the batch.
 pub fn new_members(
     alloc: Global,
     dim: Dim,

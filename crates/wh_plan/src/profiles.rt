@@ -168,7 +168,7 @@ fn is_unknown(known: &Profiles, texts: &Values) -> bool
     }
 }
 
-/// The combinations of which nothing is known.
+/// The combinations that aren't known.
 fn unknown(
     alloc: Global,
     known: &Profiles,

@@ -93,8 +93,8 @@ pub fn stored_changes<S: Alter>(
     Ok(changes_in(alloc, &rows)?)
 }
 
-/// A member as it is stored. Of one that isn't all numbers are 0, and no change is there. `Damaged`: its row of member, or a row of change of it, is
-/// out of its type.
+/// The stored member; if there is none, one with zeros and no changes. `Damaged`: its row of member, or one of its rows of change, is out of its
+/// type.
 pub fn stored_member<S: Alter>(
     tables: &mut Tables<S>,
     alloc: Global,

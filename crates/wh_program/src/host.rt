@@ -53,13 +53,13 @@ pub trait Host {
     /// The names under which it keeps no warehouse. A host that says nothing of them may refuse any.
     ghost refuses: { Self → List ℕ → Type 0 } = { λ _ _. ⊤ };
 
-    /// Reads a file of which no more than `most` bytes are wanted: a longer one is read a byte further, and no more.
+    /// Reads a file up to `most` bytes; a longer one is read a byte further, and no more.
     fn read(&self, alloc: Global, path: &str, most: usize) -> Result<Vec<u8>, HostError>
         ensures ok { IfOk result (λ bytes. up_to most (holds self.now) path.now (Some bytes.items)) }
         ensures err { IfErr result (λ e. e ≡ NoFile → holds self.now path.now None) };
 
-    /// Lends a visitor the connection of the warehouse under a name, with a writer, and takes it back. Where no file has the name, the
-    /// connection is that of a new one. None is lent under a name that is refused.
+    /// Lends a visitor the connection of the warehouse under a name, with a writer, and takes it back. Where no file has the name, a new one
+    /// is connected. None is lent under a name that is refused.
     fn with_connection<V: Visitor, W: Write>(
         &mut self,
         alloc: Global,
@@ -74,8 +74,8 @@ pub trait Host {
         ensures not_visited { OnErr result ((any : List ℕ) (standing : Standing) → stores self.old any standing → stores self.new any standing) }
         ensures others { (other : List ℕ) (standing : Standing) → other ≢ name.now → stores self.old other standing → stores self.new other standing };
 
-    /// The same for a visitor that makes no warehouse. Where no file has the name, or one that can't be a database, the connection is
-    /// that of an empty database in memory, no file is made, and what is there stays as it is.
+    /// The same for a visitor that makes no warehouse. Where no file has the name, or one that can't be a database, it lends an empty database in
+    /// memory, makes no file, and leaves what is there as it is.
     fn with_existing<V: Visitor, W: Write>(
         &mut self,
         alloc: Global,
@@ -91,7 +91,7 @@ pub trait Host {
         ensures others { (other : List ℕ) (standing : Standing) → other ≢ name.now → stores self.old other standing → stores self.new other standing };
 }
 
-/// The bytes of a file of which no more than `most` are wanted, and one more where it is longer.
+/// The first `most` bytes of a file, and one more where it is longer.
 pub fn beginning_of(bytes: &[u8], most: usize) -> &[u8]
     ensures { result.now ≡ take (suc most) bytes.now }
 {
@@ -117,7 +117,7 @@ pub fn file_of<H: Host>(
     }
 }
 
-/// What counts of a manifest, of which these bytes were read. No text has the byte that stands for what follows.
+/// What counts of a manifest whose first bytes these are. No text has the byte that stands for what follows.
 fn part_of(mut bytes: Vec<u8>) -> Result<Vec<u8>, AllocError>
     ensures { IfOk result (λ part. (whole : List ℕ) → bytes.items ≡ take (suc manifest_limit) whole → part.items ≡ manifest_part whole) }
 {

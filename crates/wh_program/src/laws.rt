@@ -19,7 +19,7 @@ pub fn long_manifests_are_bad()
     ensures reports { LongListsAreBad reports_of }
 {}
 
-/// The words of a command ask for what it is to do. Of words none of which begins with a hyphen all others ask for nothing.
+/// The words of a command ask for what it is to do. All other words without a hyphen in front ask for nothing.
 pub fn words_of_commands_are_read()
     ensures read { WordsAreRead }
     ensures others { OtherWordsAreNone }

@@ -49,10 +49,10 @@ pub const MODES: &str = "was, is and prior";
 pub const TABLES: &str =
     "meta, command, member, change, product, store, customer, profile, calendar, fact, fact2 and void";
 
-/// What is wrong with words of which none names a command.
+/// The line where no word names a command.
 pub const NO_COMMAND_LINE: &str = "error: no command was given\n";
 
-/// What is wrong with words of which one is no text.
+/// The line where a word isn't text.
 pub const NO_TEXT_LINE: &[u8] = b"error: an argument is not valid UTF-8\n";
 
 /// A line of two texts.
@@ -164,7 +164,7 @@ pub fn bad_policy(alloc: Global, fault: PolicyFault) -> Result<Answer, AllocErro
     Ok(Answer::new(Status::Refused, policy_line(alloc, fault)?))
 }
 
-/// The answer to a manifest of which a record is no entry.
+/// The answer to a manifest with a record that is no entry.
 pub fn bad_manifest(alloc: Global, bad: BadManifest) -> Result<Answer, AllocError>
     ensures { IfOk result (λ answer. answer ≡ refused (manifest_line bad)) }
 {
@@ -391,7 +391,7 @@ fn fault_answer_in(mut room: Vec<u8>, fault: &Fault) -> Result<Answer, AllocErro
     Ok(Answer::new(fault_status(fault), room))
 }
 
-/// The same, with what memory there is.
+/// `fault_answer_in` without reserved room.
 pub fn fault_answer(alloc: Global, fault: Fault) -> Result<Answer, AllocError>
     ensures { IfOk result (λ answer. answer ≡ fault_answer fault) }
 {

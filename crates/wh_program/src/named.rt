@@ -1,4 +1,4 @@
-//! Values under names, of which the first of a name counts.
+//! Values under names. The first value of a name counts.
 
 ghost use Rattle.std.specs.Prelude.{◌≡◌, ◌≢◌, ℕ, List, Some, None, IfOk, IfErr, OnErr, option_map};
 ghost use Rattle.wh_program.specs.Named.{named};

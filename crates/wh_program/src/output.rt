@@ -13,7 +13,7 @@ use std::alloc::AllocError;
 use std::io::Write;
 use wh_report::write_whole;
 
-/// How a run ends whose words aren't those of a command.
+/// The status of words that are no command.
 const USAGE: u8 = 4;
 
 /// The writer failed: a line says so, as far as it can still be written.
@@ -25,7 +25,7 @@ pub fn write_failed<W: Write>(out: &mut W) -> Status
     Status::Failed
 }
 
-/// Prints a text, and answers the status. Where the writer fails the status is that of a failure.
+/// Prints a text, and answers the status, or that of a failure where the writer fails.
 pub fn print<W: Write>(out: &mut W, status: Status, text: &[u8]) -> Status
     ensures { Prints (W.contents out.old) (W.contents out.new) (status_code result) (record { status = status_code status; text = text.now }) }
 {

@@ -30,7 +30,7 @@ Make and load:
   init     Makes a warehouse
   load     Loads a batch into a warehouse
   migrate  Puts a newer policy in force
-  upgrade  Makes a warehouse one of the second format, with discounts and voids
+  upgrade  Turns a warehouse into format 2, which has discounts and voids
   deliver  Sends the commands of a manifest, in order
 
 Look:
@@ -40,10 +40,10 @@ Look:
   status   Prints how much a warehouse holds
 
 Check:
-  explain  Tells whether an input would be accepted, and where and why it would not
+  explain  Says whether a file would be accepted and, if not, where and why
   plan     Prints what a load, a migration or an upgrade would write, and writes nothing
-  trial    Prints a dimension's table as one batch makes it
-  check    Tells whether a warehouse is exactly what its commands define
+  trial    Prints the table that one batch would give, without a warehouse
+  check    Says whether a warehouse is exactly what its commands define
 
 Options:
   -h, --help     Print help; `wh help COMMAND` prints that of a command
@@ -58,28 +58,28 @@ Example:
 ";
 
 /// The version, with the formats that it reads.
-const VERSION: &str = "1.0, for warehouses of the formats 1 and 2";
+const VERSION: &str = "1.0, reads warehouse formats 1 and 2";
 
-const FILE: (&str, &str) = ("FILE", "the warehouse's file");
+const FILE: (&str, &str) = ("FILE", "the warehouse, a file that `wh init` made");
 
 const ID: (&str, &str) = (
     "ID",
     "an id of your choice, unique in this warehouse: 1 to 40 letters, digits, -, _ or .",
 );
 
-const CSV: (&str, &str) = ("CSV", "the batch's file, a CSV with a header");
+const CSV: (&str, &str) = ("CSV", "the batch, a CSV file with a header");
 
 const TRIAL: Subcommand<'static> = Subcommand {
     name: "trial",
-    about: "Prints a dimension's table as one batch makes it",
+    about: "Prints the table that one batch would give, without a warehouse",
     example: "Example: wh trial product examples/products.csv",
     operands: &[("DIMENSION", "product, store or customer"), CSV],
 };
 
 const EXPLAIN: Subcommand<'static> = Subcommand {
     name: "explain",
-    about: "Tells whether an input would be accepted, and where and why it would not",
-    example: "Example: wh explain shop.wh product examples/late.csv",
+    about: "Says whether a file would be accepted and, if not, where and why",
+    example: "Example: wh explain shop.wh sales examples/shop/torn.csv",
     operands: &[
         FILE,
         (
@@ -94,19 +94,16 @@ const SUBCOMMANDS: &[Subcommand<'static>] = &[
     Subcommand {
         name: "init",
         about: "Makes a warehouse",
-        example: "Example: wh init shop.wh examples/flat.toml",
+        example: "Example: wh init shop.wh examples/shop/policy.toml",
         operands: &[
-            (
-                "FILE",
-                "the file to make; one that is there must be no warehouse",
-            ),
-            ("POLICY", "the policy's file, in TOML"),
+            ("FILE", "the file to make; it must not be a warehouse yet"),
+            ("POLICY", "the policy, a TOML file"),
         ],
     },
     Subcommand {
         name: "load",
         about: "Loads a batch into a warehouse",
-        example: "Example: wh load shop.wh product p1 examples/late.csv",
+        example: "Example: wh load shop.wh product p1 examples/shop/products-1.csv",
         operands: &[
             FILE,
             ("KIND", "product, store, customer, sales or void"),
@@ -117,31 +114,31 @@ const SUBCOMMANDS: &[Subcommand<'static>] = &[
     Subcommand {
         name: "migrate",
         about: "Puts a newer policy in force",
-        example: "Example: wh migrate shop.wh m1 newer.toml",
+        example: "Example: wh migrate shop.wh m1 examples/shop/overwritten.toml",
         operands: &[
             FILE,
             ID,
             (
                 "POLICY",
-                "the newer policy's file, in TOML, which keeps each name and year",
+                "the new policy, a TOML file; it must keep all names and years",
             ),
         ],
     },
     Subcommand {
         name: "upgrade",
-        about: "Makes a warehouse one of the second format, with discounts and voids",
+        about: "Turns a warehouse into format 2, which has discounts and voids",
         example: "Example: wh upgrade shop.wh u1",
         operands: &[FILE, ID],
     },
     Subcommand {
         name: "deliver",
         about: "Sends the commands of a manifest, in order",
-        example: "Example: wh deliver shop.wh examples/night.csv",
+        example: "Example: wh deliver shop.wh examples/shop/nights.csv",
         operands: &[
             FILE,
             (
                 "MANIFEST",
-                "the manifest's file, a CSV without a header: a line KIND,ID,INPUT a command",
+                "the commands, a CSV file without a header; each line is KIND,ID,INPUT",
             ),
         ],
     },
@@ -160,18 +157,18 @@ const SUBCOMMANDS: &[Subcommand<'static>] = &[
                 "was: as things were on the day of sale; is: as they are now; prior: as they were before",
             ),
             ("FROM", "the first day of sale, as 2024-01-31"),
-            ("TO", "the last day of sale, likewise"),
+            ("TO", "the last day of sale, as 2024-12-31"),
         ],
     },
     Subcommand {
         name: "reports",
         about: "Prints the reports of a list, over one open of the warehouse",
-        example: "Example: wh reports shop.wh examples/reports.csv",
+        example: "Example: wh reports shop.wh examples/shop/reports.csv",
         operands: &[
             FILE,
             (
                 "LIST",
-                "the list's file, a CSV without a header: a line ATTRIBUTE,MODE,FROM,TO a report",
+                "the reports, a CSV file without a header; each line is ATTRIBUTE,MODE,FROM,TO",
             ),
         ],
     },
@@ -196,7 +193,7 @@ const SUBCOMMANDS: &[Subcommand<'static>] = &[
     Subcommand {
         name: "plan",
         about: "Prints what a load, a migration or an upgrade would write, and writes nothing",
-        example: "Example: wh plan shop.wh product p1 examples/late.csv",
+        example: "Example: wh plan shop.wh product p3 examples/shop/late.csv",
         operands: &[
             FILE,
             (
@@ -206,13 +203,13 @@ const SUBCOMMANDS: &[Subcommand<'static>] = &[
             ID,
             (
                 "INPUT",
-                "the batch's file, or the newer policy's; for an upgrade any word, and no file is read",
+                "the batch's file, or the new policy's; for an upgrade, any word (no file is read)",
             ),
         ],
     },
     Subcommand {
         name: "check",
-        about: "Tells whether a warehouse is exactly what its commands define",
+        about: "Says whether a warehouse is exactly what its commands define",
         example: "Example: wh check shop.wh",
         operands: &[FILE],
     },
@@ -252,18 +249,18 @@ fn trial_command<'a>(alloc: Global) -> Result<Command<'a>, AllocError>
     ensures local { IfOk result (λ c. (out-Command c).has_globals ≡ false) }
 {
     let policy = Arg::new(alloc, "POLICY").long("policy").help(
-        "the policy's file; without it a policy of a few attributes",
+        "the policy, a TOML file; leave it out for one with a few attributes",
     );
     subcommand_of(alloc, &TRIAL)?.arg(policy)
 }
 
-/// An explanation, the one command of which an operand can be left out.
+/// An explanation, the one command with an operand that can be left out.
 fn explain_command<'a>(alloc: Global) -> Result<Command<'a>, AllocError>
     ensures app { IfOk result (λ c. app_of c ≡ explain_app) }
     ensures local { IfOk result (λ c. (out-Command c).has_globals ≡ false) }
 {
     let input = Arg::new(alloc, "INPUT").help(
-        "the batch's file, or the newer policy's; without it the header that is wanted is printed, and what each column may hold",
+        "the batch's file, or the new policy's; leave it out to print the header and what each column may hold",
     );
     subcommand_of(alloc, &EXPLAIN)?.arg(input)
 }

@@ -27,7 +27,7 @@ pub(crate) struct CsvBuffer {
     lines: Vec<u8>,
 }
 
-/// Makes the line of these fields, behind those that were made. Over a buffer in memory `csv` fails only where memory runs out.
+/// Makes the line of these fields, after those that were made. Over a buffer in memory `csv` fails only where memory runs out.
 fn make_line(made: &mut Writer<Vec<u8>>, fields: &StringRecord) -> Result<(), AllocError>
     ensures { OnOk result ((text : List ℕ) → AreMade made.old text → AreMade made.new (text ++ row_text default_writer (fields_of fields.now))) }
 {
@@ -48,7 +48,7 @@ fn flush_lines(made: &mut Writer<Vec<u8>>) -> Result<(), AllocError>
     }
 }
 
-/// Adds what was made behind these lines, which it begins with.
+/// Adds what was made after these lines, with which it begins.
 fn catch_up(lines: &mut Vec<u8>, made: &[u8]) -> Result<(), AllocError>
     ensures caught { OnOk result ((line : List ℕ) → made.now ≡ lines.old.items ++ line → lines.new.items ≡ made.now) }
     ensures kept { OnErr result (lines.new.items ≡ lines.old.items) }

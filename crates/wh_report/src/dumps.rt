@@ -67,8 +67,8 @@ fn write_rows<T: DumpedTable + PagedTable, S: Alter, W: Write>(
 }
 
 /// Writes the text of a table, many lines at a time. Where the writer failed a beginning of it went out. After a fault of the
-/// warehouse what went out ends with the line of the last row that was read before it, or of the last for which there was
-/// memory; nothing went out where no row was asked for yet.
+/// warehouse the lines of some first rows went out, the header at least, unless memory ran out before; no clause says that
+/// all rows before the fault did. Nothing went out where no row was asked for yet.
 #[tactic(auto, using(crate::proofs::EngineReading::unread_memory))]
 pub fn write_table<T: DumpedTable + PagedTable, S: Alter, W: Write>(
     alloc: Global,

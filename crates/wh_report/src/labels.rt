@@ -111,7 +111,7 @@ impl LabelColumn {
         }
     }
 
-    /// The label that a row of the dimension has, by its own columns or by those of the profile that it names.
+    /// The label that a row of the dimension has, by its own columns or by the profile that it names.
     fn row_text<'a>(self, profiles: &'a Labels, row: &'a DimRow) -> Option<&'a Value>
         ensures { option_map (λ text. text.now) result ≡ row_text self (text_of profiles.now) row.now }
     {

@@ -35,8 +35,8 @@ pub fn sales_are_dated()
     ensures { AdmittedSalesAreDated }
 {}
 
-/// After a batch of voids a report counts the sales that it counted before, without those of the withdrawn lines; each
-/// other keeps its label.
+/// After a batch of voids a report counts the sales that it counted before, but the withdrawn lines; each other keeps its
+/// label.
 pub fn voids_take_their_sales()
     ensures { VoidsTakeTheirSales }
 {}

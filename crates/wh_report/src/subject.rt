@@ -69,7 +69,7 @@ fn type_reading(kind: AttributeType, mode: Mode) -> Option<Reading>
     }
 }
 
-/// What is shown of a subject in a mode, if it has this reading. Of a day there is one value, that of the day of sale.
+/// What is shown of a subject in a mode, if it has this reading. Of a day there is one value, the day of sale's.
 pub fn reading_of(subject: Subject, mode: Mode) -> Option<Reading>
     ensures { result ≡ reading_of subject mode }
 {

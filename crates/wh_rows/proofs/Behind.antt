@@ -9,7 +9,7 @@ use Rattle.sqlite_trees.specs.Tree.{IsAscending}
 use Rattle.sqlite_keyed.proofs.ListLemmas.{ascending-filter}
 use Rattle.wh_rows.specs.Holds.{Layout}
 use Rattle.wh_rows.specs.Parts.{is_behind}
-use Rattle.wh_rows.proofs.Selects.{rising}
+use Rattle.wh_rows.proofs.Statements.Selects.{rising}
 
 -- ---- lists
 

@@ -30,7 +30,7 @@ use Rattle.wh_rows.specs.Meaning.{passes}
 use Rattle.wh_rows.specs.Firsts.{reading_first, from_end, keys_cmp, greatest, ReadsSorted, ReadsFirst, ReadsGreatest}
 use Rattle.wh_rows.proofs.Answers.{overlay_none, one_each, map-map}
 use Rattle.wh_rows.proofs.Typed.{holds_filtered}
-use Rattle.wh_rows.proofs.Selects.{rising}
+use Rattle.wh_rows.proofs.Statements.Selects.{rising}
 
 pub record IsReadFirst (db : Trees) (params : Row) (most tree : ℕ) (tests project : List Term) (order : List (Term × Key)) (rows : List Row) : Type 0 where
   pub ordered : List Output

@@ -4,10 +4,7 @@ pub mod Edits
 pub mod Over
 pub mod Typed
 pub mod Maps
-pub mod Puts
-pub mod Removes
-pub mod Clears
-pub mod Selects
+pub mod Statements
 pub mod Raw
 pub mod RawTables
 pub mod RawKeys
@@ -18,7 +15,6 @@ pub mod Keys
 pub mod ShownColumns
 pub mod Counts
 pub mod Others
-pub mod Reopening
 pub mod EachTable
 pub mod KeyedSales
 pub mod ColumnLemmas

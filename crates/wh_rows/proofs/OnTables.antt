@@ -25,11 +25,11 @@ use Rattle.wh_rows.proofs.Counts.{counts_rows}
 use Rattle.std.proofs.lemmas.Bool.{and_parts, cases_Bool, both_ways}
 use Rattle.wh_rows.proofs.ColumnLemmas.{both}
 use Rattle.wh_rows.proofs.Maps.{filter-get}
-use Rattle.wh_rows.proofs.Removes.{holds_removed}
-use Rattle.wh_rows.proofs.Selects.{reads_rows}
+use Rattle.wh_rows.proofs.Statements.Removes.{holds_removed}
+use Rattle.wh_rows.proofs.Statements.Selects.{reads_rows}
 use Rattle.wh_rows.proofs.Queries.{query_keeps, query_commits_nothing}
 use Rattle.sqlite.specs.declared.error.Error.{Error}
-use Rattle.wh_rows.proofs.Puts.{holds_put, was_free, is_moved}
+use Rattle.wh_rows.proofs.Statements.Puts.{holds_put, was_free, is_moved}
 use Rattle.wh_rows.specs.Rows as row
 use Rattle.wh_policy.specs.Formats.{is_two}
 use Rattle.wh_rows.specs.Rekey.{Rekey, rekey_text, bind_rekey, are_keys, with_keys, rekeyed, rekey2_text}
@@ -37,9 +37,9 @@ use Rattle.wh_rows.specs.Texts.{clear_facts}
 use Rattle.wh_rows.proofs.EachTable.Facts.{rekey, clear, valid_rekeyed}
 use Rattle.wh_rows.proofs.EachTable.Facts2.{valid_rekeyed2}
 use Rattle.wh_rows.proofs.Places as places
-use Rattle.wh_rows.proofs.Puts
-use Rattle.wh_rows.proofs.Removes
-use Rattle.wh_rows.proofs.Clears
+use Rattle.wh_rows.proofs.Statements.Puts
+use Rattle.wh_rows.proofs.Statements.Removes
+use Rattle.wh_rows.proofs.Statements.Clears
 
 -- a statement that is refused leaves all as it was, unless the store failed, and then the transaction is undone
 pub stays_or_undone : (text : List ℕ) (params : Row) (old new : State) (e : Error) → Executes text params old new (Err e) → IsUnchanged old new ⊎ IsRolledBack old new

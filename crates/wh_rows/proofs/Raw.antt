@@ -38,7 +38,7 @@ use Rattle.wh_rows.specs.declared.rows.ChangeRow.{ChangeRow}
 use Rattle.wh_rows.proofs.ColumnLemmas.{both}
 use Rattle.wh_rows.proofs.Answers.{IsRead, is_read, map-map}
 use Rattle.wh_rows.proofs.Edits.{filter_same}
-use Rattle.wh_rows.proofs.Selects.{rising}
+use Rattle.wh_rows.proofs.Statements.Selects.{rising}
 
 -- ---- lists
 

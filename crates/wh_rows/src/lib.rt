@@ -17,6 +17,6 @@ pub use columns::Damaged;
 pub use key::{ChangeKey, LineKey, MemberKey, dim_number};
 pub use keyed_sale::{FactColumn, KeyedSale};
 pub use limits::Limits;
-pub use rows::{ChangeRow, CommandRow, MemberRow, MetaRow, ProfileRow, TableRow, VoidRow};
+pub use rows::{ChangeRow, CommandRow, MemberRow, MetaRow, ProfileRow, VoidRow};
 pub use table::Table;
 pub use tables::StoredTable;

@@ -1,12 +1,12 @@
-//! The rows of the tables. Those of the dimensions are `wh_history`'s [`DimRow`], those of the facts its [`Fact`], and those of the
-//! calendar `wh_day`'s [`DateRow`].
+//! The rows of the tables. The dimensions' are `wh_history`'s [`DimRow`], the facts' its [`Fact`], and the calendar's
+//! `wh_day`'s [`DateRow`].
 
 ghost use Rattle.std.specs.Prelude.{◌≡◌, IfOk};
 
 use sqlite_value::value::Bytes;
 use std::alloc::{AllocError, Global};
-use wh_day::{DateRow, Day, Value, Values};
-use wh_history::{DimRow, Fact, PlannedRow};
+use wh_day::{Day, Value, Values};
+use wh_history::PlannedRow;
 use wh_policy::Dim;
 
 /// A row of meta: a limit or the format, under its name.
@@ -124,22 +124,4 @@ pub struct VoidRow {
     pub line: u32,
     /// The number of the command that withdrew it.
     pub command: u64,
-}
-
-/// A row of any table.
-#[derive(Debug, Drop)]
-pub enum TableRow {
-    Meta(MetaRow),
-    Command(CommandRow),
-    Member(MemberRow),
-    Change(ChangeRow),
-    Product(DimRow),
-    Store(DimRow),
-    Customer(DimRow),
-    Profile(ProfileRow),
-    Calendar(DateRow),
-    Fact(Fact),
-    /// With the discount, which a row of fact hasn't.
-    Fact2(Fact),
-    Void(VoidRow),
 }

@@ -10,7 +10,7 @@ ghost use Rattle.wh_rows.specs.Meaning.{Means, InsertsEach};
 
 use crate::scanned::PagedTable;
 
-/// A table of which a command can write many new rows.
+/// A table to which a command can write many new rows.
 pub trait BatchedTable: PagedTable {
     ghost insert_means: { List ℕ };
 

@@ -33,7 +33,7 @@ fn is_broken_rule(error: &sqlite::Error) -> bool
     )
 }
 
-/// Puts the values of one row behind those that are there.
+/// Puts the values of one row after those that are there.
 fn append<'a>(values: &mut Vec<ValueRef<'a>>, row: Vec<ValueRef<'a>>) -> Result<(), Cause>
     ensures ok { IfOk result (λ _. bound values.new.items ≡ bound values.old.items ++ bound row.entry.items) }
     ensures err { IfErr result (λ cause. cause ≡ Memory) }

@@ -1,4 +1,4 @@
-//! The facts of a format: those of the first stand in the table `fact`, those of the second in `fact2`.
+//! The facts of a format: in format 1 they stand in the table `fact`, in format 2 in `fact2`.
 //!
 //! Over tables of the first format the store refuses statements on `fact2`, which isn't there. Over tables of the second a call for the first goes to
 //! `fact`, which an upgrade leaves empty.

@@ -75,7 +75,7 @@ pub(crate) fn find_format<S: Alter>(
     }
 }
 
-/// Whether a number is that of a format that came after this one.
+/// Whether a number stands for a format that came after this one.
 fn is_after(newest: Format, number: i64) -> bool
     ensures { result ≡ int_lt (pos (format_number newest)) number }
 {

@@ -26,7 +26,7 @@ pub fn open_fresh(alloc: Global) -> Result<Connection<MemStore>, AllocError>
     Connection::open_in_memory(alloc)
 }
 
-/// Ends the run with no more work on the files. Whatever a crash may leave of them holds one of what it could leave of the connection.
+/// Ends the run with no more work on the files. After a crash they hold one of the states that it could have left of the connection.
 pub fn into_files<D: Disk + Drop>(conn: Connection<FileStore<D>>) -> Files<D>
     ensures { AreClean D.Disk result.log result.db → (image : _) → outcomes D.Disk result.log result.db image → HoldsOneOf (file_state conn) image }
 {

@@ -111,7 +111,7 @@ impl<S: Alter> Tables<S> {
         has_second_name(&self.conn)
     }
 
-    /// The limits that were chosen at the making. `Damaged` names meta where one of the three isn't there or isn't good.
+    /// The limits that were chosen at the making. `Damaged` names meta if one of the three is missing or invalid.
     pub fn limits(&mut self, alloc: Global) -> Result<Limits, ReadFault>
         ensures reads { Spares (state_of S.Store self.old) (state_of S.Store self.new) (IsServed result) }
         ensures limits { SaysAtRest (state_of S.Store self.old) (state_of S.Store self.new) (λ t. IfOk result (λ limits. limits_in t ≡ Some limits)) }

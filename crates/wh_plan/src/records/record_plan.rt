@@ -211,7 +211,7 @@ fn rows_of_batch(
 }
 
 /// What a batch of dimension records writes, from reads of the members that it touches alone: its own row and its edits of
-/// the other tables. Records that come late may split rows and move facts. The error is that of a read: `Memory`, `Damaged` with the table
+/// the other tables. Records that come late may split rows and move facts. The error is a read's: `Memory`, `Damaged` with the table
 /// whose row is out of its type, or `Store`.
 ///
 /// Kimball & Ross, *The Data Warehouse Toolkit*, 3rd edition, chapter 5, "Slowly Changing Dimension Basics"; chapter 2, "Late Arriving

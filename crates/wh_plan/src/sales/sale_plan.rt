@@ -65,7 +65,7 @@ fn rows_of_sales(
 }
 
 /// What a batch of sales writes, from reads of the members that it mentions alone. The command's row counts the members
-/// that it is the first to mention, each with a placeholder row. A late sale gets the keys of its day. The error is that of a read: `Memory`,
+/// that it is the first to mention, each with a placeholder row. A late sale gets the keys of its day. The error is a read's: `Memory`,
 /// `Damaged` with the table whose row is out of its type, or `Store`.
 ///
 /// Kimball & Ross, *The Data Warehouse Toolkit*, 3rd edition, chapter 2, "Late Arriving Facts" and "Late Arriving Dimensions".

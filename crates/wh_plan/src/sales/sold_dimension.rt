@@ -52,7 +52,7 @@ fn members_with_numbers<S: Alter>(
     Ok(found)
 }
 
-/// The row of a member whose durable key comes after those of the members before the batch. No record describes it, so it
+/// The row of a member that is new with the batch: its durable key comes after all before. No record describes it, so it
 /// has one.
 fn placeholder(
     alloc: Global,

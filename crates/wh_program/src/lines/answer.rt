@@ -5,7 +5,7 @@ ghost use Rattle.wh_program.specs.Answer.{status_code};
 
 use std::marker::Model;
 
-/// How a run ends whose words are those of a command.
+/// How a run of a command ends.
 #[derive(Clone, Copy, Debug, PartialEq, Eq)]
 pub enum Status {
     /// It did what was asked for: status 0.

@@ -150,7 +150,7 @@ pub fn init<H: Host>(
     }
 }
 
-/// What is had of the input of a command, if its file is there. It is read as far as it has to be; that of an upgrade isn't, and has no bytes.
+/// The input's bytes, read to its limit, if its file is there; none for an upgrade, which reads no file.
 pub fn input_of<H: Host>(
     alloc: Global,
     kind: CommandKind,
@@ -197,7 +197,7 @@ pub fn command_of<H: Host>(
     Ok(Some(new_command(alloc, kind, id, &text)?))
 }
 
-/// Sends the warehouse in a file a command.
+/// Sends a command to the warehouse in a file.
 fn send_command<H: Host>(
     alloc: Global,
     file: &str,
@@ -210,8 +210,7 @@ fn send_command<H: Host>(
     work_on(alloc, file, Sending { command, room }, host)
 }
 
-/// Sends the warehouse in a file the command in another: loads its batch, or puts its policy in force. The command's file is read
-/// first.
+/// Sends the command in one file to the warehouse in another: loads its batch, or puts its policy in force. The command's file is read first.
 pub fn send<H: Host>(
     alloc: Global,
     file: &str,

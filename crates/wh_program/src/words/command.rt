@@ -97,7 +97,7 @@ pub enum Task<'a> {
     },
 }
 
-/// The words of a report, of which only the one for the mode was looked at.
+/// The words of a report. Only the mode was looked at.
 #[derive(Clone, Copy, Debug, Drop)]
 pub struct AskedReport<'a> {
     /// What the sales are summed by.
@@ -223,7 +223,7 @@ fn init_operands<'a>(inner: &ArgMatches<'a>) -> Option<Operands<'a>>
     })
 }
 
-/// Those of a command whose file has this name among them.
+/// The operands of `load` and `plan`; `input` names the input file's.
 fn sent_operands<'a>(inner: &ArgMatches<'a>, input: &str) -> Option<SentOperands<'a>>
     ensures { option_map sent_of result ≡ named_sent input.now (rows_of (found_of inner.now)) }
 {

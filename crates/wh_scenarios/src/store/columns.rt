@@ -1,6 +1,6 @@
 //! Values out of their types, values at their edges, and columns that are missing.
 
-/// The answer is how many values were tried, each read if it is good and else told to be damaged.
+/// The answer is how many values were tried: each is read if it is good, and else answered as damaged.
 pub const SMALL_TABLES: &str = "
 # Values: 10 of number_key, 14 of id, 17 of kind, 10 of bytes, 2 times 14 of number.
 columns command (7, 'c-7', 'sales', x'00ff', 3, 1)
@@ -48,7 +48,7 @@ columns profile (2, '', '30-39', 'high', '', '', '')
 = 172
 ";
 
-/// The answer is how many values were tried, each read if it is good and else told to be damaged.
+/// The answer is how many values were tried: each is read if it is good, and else answered as damaged.
 pub const DIMENSIONS: &str = "
 # Values: 10 of number_key, 2 times 14 of number, 19 of natural, 2 times 26 of day, 11 of flag, 12 times 27 of slot.
 columns product (3, 1, 'P1', 20240201, 99991231, 1, 'Cola', '(none)', '', '', '', '', '', '', '', '', '', '', 0)
@@ -131,7 +131,7 @@ columns store (0, 0, 'C1', 19000101, 99991231, 1, '(no card)', '', '', '', '', '
 = 1
 ";
 
-/// The answer is how many values were tried, each read if it is good and else told to be damaged.
+/// The answer is how many values were tried: each is read if it is good, and else answered as damaged.
 pub const DAYS_AND_FACTS: &str = "
 # Values: 15 of day_key, 3 times 10 of any_text, 6 times 11 of any_number, 11 of flag.
 columns calendar (20240229, '2024-02-29', 2024, 1, 2, 29, 60, 4, 'Thursday', 0, '(none)')
@@ -168,6 +168,7 @@ columns fact ('T1', 1, 20240610, 1, 9, 1, 1, 2, 1, 1, -1, 1000, 700)
 
 /// Without each of its columns no warehouse is found, so often as a table has columns, and with all of them one is.
 pub const MISSED: &str = "
+# How many columns a table has: without each in turn there is no warehouse.
 missed meta name value
 = 2
 = whole

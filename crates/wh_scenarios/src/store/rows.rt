@@ -4,6 +4,7 @@ pub const ROWS: &str = "
 empty BEGIN
 create
 
+# In each table no row, one, and none again.
 table meta
 = meta
 all meta

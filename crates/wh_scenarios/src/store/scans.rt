@@ -2,6 +2,7 @@
 
 pub const PARTS: &str = "
 warehouse
+# No row.
 scan calendar 9999
 = 0
 

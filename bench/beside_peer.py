@@ -1,7 +1,7 @@
 #!/usr/bin/env python3
 """Measures what people wait for, beside a program that does the same by hand, command by command in turns.
 
-usage: waits.py [--facts N] [--runs K] [--instructions] [--program PATH] PEER
+usage: beside_peer.py [--facts N] [--runs K] [--instructions] [--program PATH] PEER
 
 PEER is a program with the words `init`, `load`, `migrate`, `report` and `status` of `wh`, which works on the same files. `sqlite3` stands beside an
 upgrade, which PEER hasn't: it copies the facts by `INSERT .. SELECT` and deletes them. One warehouse of N facts is made by `wh deliver`

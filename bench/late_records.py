@@ -1,6 +1,6 @@
 #!/usr/bin/env python3
 """Times `wh load` of 5,000 late product records over 5,000 members, into warehouses of 5,000 and of 50,000 members (build the program
-first: `rt run` in crates/wh). load.py [--instructions] [PROGRAM]. Prints the least processor time of fifteen runs of the load, of fifteen
+first: `rt run` in crates/wh). late_records.py [--instructions] [PROGRAM]. Prints the least processor time of fifteen runs of the load, of fifteen
 that are refused for their id right after the open, and the ratio of what the load takes more than the open; or, in place of times, the
 instructions of one run each, in billions, as valgrind counts them (some four minutes), which don't vary with the machine's load.
 
@@ -13,20 +13,17 @@ import subprocess
 import sys
 import tempfile
 
-TOP = os.path.join(os.path.dirname(os.path.abspath(__file__)), "..")
+import deliver
+
 COUNTS = "--instructions" in sys.argv
 PATHS = [word for word in sys.argv[1:] if word != "--instructions"]
-PROGRAM = PATHS[0] if PATHS else os.path.join(TOP, "crates", "wh", "out", "wh")
-POLICY = os.path.join(TOP, "examples", "flat.toml")
-SIZE = 5000
+PROGRAM = PATHS[0] if PATHS else os.path.join(deliver.TOP, "crates", "wh", "out", "wh")
+SIZE = deliver.SIZE
 
 
 def batch(path, members, day, turn):
     """One record of each member, all of one day."""
-    with open(path, "w", encoding="ascii") as out:
-        out.write("id,day,description,brand,category,department,launched,supplier\n")
-        for number in members:
-            out.write(f"P{number:06},{day},Item {number % 17},Brand {number % 23} {turn},Category {number % 11},Department {number % 5},2019,North\n")
+    deliver.products(path, members, day, turn)
     return path
 
 
@@ -50,7 +47,7 @@ def count(*words, told="accepted"):
 
 def warehouse(folder, batches):
     path = os.path.join(folder, f"{len(batches)}.wh")
-    run("init", path, POLICY)
+    run("init", path, deliver.POLICY)
     for number, members in enumerate(batches):
         run("load", path, "product", f"b{number}", batch(os.path.join(folder, "b.csv"), members, "2024-06-01", 0))
     return path

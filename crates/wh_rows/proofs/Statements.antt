@@ -1,0 +1,5 @@
+-- What texts of each form do to one table.
+pub mod Puts
+pub mod Removes
+pub mod Clears
+pub mod Selects
