@@ -8,6 +8,7 @@ pub mod Keys
 pub mod Kind
 pub mod Laws
 pub mod Layouts
+pub mod Lines
 pub mod Manifest
 pub mod Numbers
 pub mod ReportList

@@ -3,6 +3,7 @@
 ghost use Rattle.std.specs.Prelude.{◌≡◌, IfOk};
 
 use crate::fault::BatchFault;
+use crate::row_place::RowPlace;
 use std::alloc::{AllocError, Global};
 use std::marker::Model;
 
@@ -55,14 +56,13 @@ pub struct RecordFault {
     pub field: Option<FaultyField>,
 }
 
-/// A fault of a batch, and the line on which its row begins.
+/// A fault of a batch, and where its row stands.
 #[derive(Debug, Drop)]
 pub struct ListedFault {
     /// The fault, with its field.
     pub fault: RecordFault,
-    /// The line of the file, from 1, where lines end with LF, or with CR and LF. No contract says which: it is counted by the CSV
-    /// reader. A fault of the batch as a whole has line 1.
-    pub line: u64,
+    /// The place of its row. A fault of the batch as a whole stands at its beginning.
+    pub row: RowPlace,
 }
 
 /// The first faults of a batch, in the order of its records.

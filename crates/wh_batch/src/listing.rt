@@ -17,6 +17,7 @@ use crate::kind::Kind;
 use crate::layout::RecordLayout;
 use crate::listed::{Faults, ListedFault, RecordFault};
 use crate::place::{field_of, first_difference, place_of};
+use crate::row_place::{RowPlace, place_of_row};
 use crate::rows::Rows;
 use crate::sale::SalesLayout;
 use crate::void::VoidsLayout;
@@ -70,7 +71,11 @@ fn all_faults(
             let years = policy.years;
             faults_of(alloc, &SalesLayout { format, years }, bytes)
         }
-        (Kind::Voids, Format::One) => only(alloc, whole(0, FaultKind::NotInFormat), 1),
+        (Kind::Voids, Format::One) => only(
+            alloc,
+            whole(0, FaultKind::NotInFormat),
+            RowPlace::of_none(),
+        ),
         (Kind::Voids, Format::Two) => faults_of(alloc, &VoidsLayout, bytes),
     }
 }
@@ -85,18 +90,19 @@ fn faults_of<L: RecordLayout>(
     ensures { IfOk result (λ all. map (λ l. l.fault) all.items ≡ faults_of (L.layout layout.now) bytes.now) }
 {
     if bytes.len() > BATCH_LIMIT {
-        return only(alloc, whole(0, FaultKind::TooLarge), 1);
+        return only(alloc, whole(0, FaultKind::TooLarge), RowPlace::of_none());
     }
     let columns = layout.columns(alloc)?;
     let mut rows = Rows::new(alloc, bytes);
     let mut row = ByteRecord::new(alloc);
     if !rows.next(&mut row)? {
-        return only(alloc, wrong_header(alloc, &columns, &[])?, 1);
+        let fault = wrong_header(alloc, &columns, &[])?;
+        return only(alloc, fault, RowPlace::of_none());
     }
     let header = fields_of(alloc, &row)?;
     if !is_header(&columns, &header) {
         let fault = wrong_header(alloc, &columns, &header)?;
-        return only(alloc, fault, line_of(bytes, &row));
+        return only(alloc, fault, place_of_row(bytes, &rows, &row));
     }
     faults_below(alloc, layout, &columns, bytes, &mut rows)
 }
@@ -120,22 +126,26 @@ fn faults_below<L: RecordLayout>(
             return Ok(all);
         }
         let fault = row_fault(alloc, layout, columns, &mut keys, number, &row)?;
-        add(&mut all, fault, line_of(bytes, &row))?;
+        add(&mut all, fault, place_of_row(bytes, rows, &row))?;
     }
     if !rows.next(&mut row)? {
         return Ok(all);
     }
     let fault = whole(MOST_RECORDS + 1, FaultKind::TooLarge);
-    add(&mut all, Some(fault), line_of(bytes, &row))?;
+    add(&mut all, Some(fault), place_of_row(bytes, rows, &row))?;
     Ok(all)
 }
 
 /// Adds a fault, if there is one.
-fn add(all: &mut Vec<ListedFault>, fault: Option<RecordFault>, line: u64) -> Result<(), AllocError>
+fn add(
+    all: &mut Vec<ListedFault>,
+    fault: Option<RecordFault>,
+    row: RowPlace,
+) -> Result<(), AllocError>
     ensures { OnOk result (map (λ l. l.fault) all.new.items ≡ map (λ l. l.fault) all.old.items ++ option_to_list fault) }
 {
     if let Some(fault) = fault {
-        all.push(ListedFault { fault, line })?;
+        all.push(ListedFault { fault, row })?;
     }
     Ok(())
 }
@@ -201,32 +211,10 @@ fn wrong_header(
     Ok(RecordFault { fault, field })
 }
 
-fn only(alloc: Global, fault: RecordFault, line: u64) -> Result<Vec<ListedFault>, AllocError>
+fn only(alloc: Global, fault: RecordFault, row: RowPlace) -> Result<Vec<ListedFault>, AllocError>
     ensures { IfOk result (λ all. map (λ l. l.fault) all.items ≡ fault ∷ []) }
 {
     let mut all = Vec::new(alloc);
-    all.push(ListedFault { fault, line })?;
+    all.push(ListedFault { fault, row })?;
     Ok(all)
-}
-
-/// The line on which a row begins. The reader stands before what is left of the end of the line above, and before empty lines; at
-/// first before a byte order mark.
-fn line_of(bytes: &[u8], row: &ByteRecord) -> u64 {
-    let Some(position) = row.position() else {
-        return 1;
-    };
-    let start = bytes.len().min(position.byte as usize);
-    let left = match &bytes[start..] {
-        [0xEF, 0xBB, 0xBF, left @ ..] if start == 0 => left,
-        left => left,
-    };
-    let mut line = position.line;
-    for byte in left {
-        match byte {
-            b'\n' => line = line.saturating_add(1),
-            b'\r' => {}
-            _ => break,
-        }
-    }
-    line
 }

@@ -1,10 +1,10 @@
 //! The lines on the faults of a batch.
 
-use crate::encoding::other_separator;
+use crate::encoding::{other_separator, push_encoding_line};
 use crate::field::push_reason;
-use crate::header::push_wrong_header;
+use crate::header::{Header, push_wrong_header};
 use crate::kind::NO_VOIDS;
-use crate::row::{count_of, lines_of, push_column, push_line, row_at};
+use crate::row::{count_of, first_line, lines_of, push_column, push_line, push_more};
 use crate::shown::{push_number, push_quoted, push_text};
 use crate::wanted::push_years;
 use std::alloc::AllocError;
@@ -28,7 +28,7 @@ fn push_too_large(text: &mut Vec<u8>, fault: &ListedFault, bytes: &[u8]) -> Resu
         push_number(text, BATCH_LIMIT as u64)?;
         return push_text(text, " bytes, which is the most that is allowed\n");
     }
-    push_line(text, fault.line)?;
+    push_line(text, bytes, fault.row.start)?;
     push_text(text, ": record ")?;
     push_number(text, u64::from(fault.fault.fault.number))?;
     push_text(text, ", at most ")?;
@@ -38,46 +38,65 @@ fn push_too_large(text: &mut Vec<u8>, fault: &ListedFault, bytes: &[u8]) -> Resu
     push_text(text, " lines\n")
 }
 
-/// How many fields a row has, where it has no quotes, and so can be told without reading it as a table.
-fn fields_of(row: &[u8]) -> Option<usize> {
-    if row.contains(&b'"') {
-        return None;
+/// How many commas end a row.
+fn commas_at_end(row: &[u8]) -> usize {
+    let mut left = row;
+    for found in 0..row.len() {
+        match left {
+            [others @ .., b','] => left = others,
+            _ => return found,
+        }
     }
-    Some(count_of(row, b',').saturating_add(1))
+    row.len()
 }
 
-/// Whether a quote is opened that isn't closed.
+/// Whether a quote is opened that isn't closed on the line.
 fn is_open(row: &[u8]) -> bool {
-    count_of(row, b'"') % 2 == 1
+    count_of(first_line(row), b'"') % 2 == 1
+}
+
+/// What too many fields come from.
+fn push_surplus(text: &mut Vec<u8>, row: &[u8], surplus: usize) -> Result<(), AllocError> {
+    match (surplus, commas_at_end(row)) {
+        (1, 1) => push_text(text, "; the last one is empty, behind a comma at the end"),
+        (_, commas) if commas >= surplus => {
+            push_text(text, "; the last ones are empty, behind commas at the end")
+        }
+        _ => push_text(text, "; a field with a comma needs quotes"),
+    }
 }
 
 /// What another number of fields may come from.
 fn push_hint(
     text: &mut Vec<u8>,
     row: &[u8],
-    found: Option<usize>,
+    found: usize,
     wanted: usize,
 ) -> Result<(), AllocError> {
     if let Some(separator) = other_separator(row) {
         push_text(text, "; they seem to be separated by ")?;
         return push_text(text, separator);
     }
-    match found {
-        Some(found) if found > wanted => push_text(text, "; a field with a comma needs quotes"),
-        None if is_open(row) => push_text(text, "; a quote is not closed on this line"),
-        _ => Ok(()),
+    if found > wanted {
+        return push_surplus(text, row, found - wanted);
     }
+    if is_open(row) {
+        return push_text(text, "; a quote is not closed on this line");
+    }
+    Ok(())
 }
 
 /// Another number of fields than the header has.
-fn push_wrong_length(text: &mut Vec<u8>, wanted: usize, row: &[u8]) -> Result<(), AllocError> {
-    let found = fields_of(row);
-    if let Some(found) = found {
-        push_text(text, ": the number of fields is ")?;
-        push_number(text, found as u64)?;
-    } else {
-        push_text(text, ": the number of fields is wrong")?;
-    }
+fn push_wrong_length(
+    text: &mut Vec<u8>,
+    batch: &Batch,
+    fault: &ListedFault,
+) -> Result<(), AllocError> {
+    let row = fault.row.bytes_in(batch.bytes);
+    let found = fault.row.fields;
+    let wanted = batch.columns.len();
+    push_text(text, ": the number of fields is ")?;
+    push_number(text, found as u64)?;
     push_text(text, ", ")?;
     push_number(text, wanted as u64)?;
     push_text(text, " are wanted")?;
@@ -129,20 +148,33 @@ fn push_field(
     }
 }
 
+/// What is said of a header, and of the file that begins so.
+fn push_header(
+    text: &mut Vec<u8>,
+    batch: &Batch,
+    fault: &ListedFault,
+    field: &FaultyField,
+) -> Result<(), AllocError> {
+    let header = Header {
+        row: fault.row.bytes_in(batch.bytes),
+        fields: fault.row.fields,
+    };
+    push_text(text, ", ")?;
+    push_wrong_header(text, batch.columns, field, &header)?;
+    push_encoding_line(text, batch.bytes, "CSV")
+}
+
 /// What is said of a row.
 fn push_row(text: &mut Vec<u8>, batch: &Batch, fault: &ListedFault) -> Result<(), AllocError> {
     let kind = fault.fault.fault.kind;
-    push_line(text, fault.line)?;
+    push_line(text, batch.bytes, fault.row.start)?;
     match (kind, &fault.fault.field) {
-        (FaultKind::WrongHeader, Some(field)) => {
-            push_text(text, ", ")?;
-            return push_wrong_header(text, batch.columns, field, batch.bytes);
-        }
+        (FaultKind::WrongHeader, Some(field)) => return push_header(text, batch, fault, field),
         (_, Some(field)) => push_field(text, batch, kind, field)?,
         (FaultKind::TwiceInBatch, None) => {
-            push_twice(text, batch.columns, row_at(batch.bytes, fault.line))?
+            push_twice(text, batch.columns, fault.row.bytes_in(batch.bytes))?
         }
-        _ => push_wrong_length(text, batch.columns.len(), row_at(batch.bytes, fault.line))?,
+        _ => push_wrong_length(text, batch, fault)?,
     }
     push_text(text, "\n")
 }
@@ -165,10 +197,5 @@ pub(crate) fn push_faults(
     for fault in &faults.listed {
         push_fault(text, batch, fault)?;
     }
-    if faults.more == 0 {
-        return Ok(());
-    }
-    push_text(text, "and ")?;
-    push_number(text, faults.more)?;
-    push_text(text, " more\n")
+    push_more(text, faults.more)
 }

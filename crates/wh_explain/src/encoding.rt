@@ -4,28 +4,100 @@ use crate::shown::{push_place, push_text};
 use std::alloc::AllocError;
 
 /// The place of the first byte that isn't UTF-8.
-fn no_utf8_at(bytes: &[u8]) -> Option<usize> {
+pub(crate) fn no_utf8_at(bytes: &[u8]) -> Option<usize> {
     match std::str::from_utf8(bytes) {
         Ok(_) => None,
         Err(error) => Some(error.valid_up_to()),
     }
 }
 
-/// Which byte is no UTF-8, and whether there is one.
+/// How many bytes a character has that begins with this one; 0 where none does.
+fn character_length(first: u8) -> usize {
+    match first {
+        0xC2..=0xDF => 2,
+        0xE0..=0xEF => 3,
+        0xF0..=0xF4 => 4,
+        _ => 0,
+    }
+}
+
+/// Whether a text ends within its first character.
+fn is_cut(text: &[u8]) -> bool {
+    match text {
+        [first, others @ ..] => {
+            text.len() < character_length(*first)
+                && others.iter().all(|byte| matches!(byte, 0x80..=0xBF))
+        }
+        [] => false,
+    }
+}
+
+/// Which byte of a field is no UTF-8, and whether there is one.
 pub(crate) fn push_no_utf8(text: &mut Vec<u8>, bytes: &[u8]) -> Result<bool, AllocError> {
     let Some(place) = no_utf8_at(bytes) else {
         return Ok(false);
     };
     push_text(text, " is no UTF-8 at byte ")?;
     push_place(text, place)?;
-    push_text(text, "; it looks like Latin-1")?;
+    if is_cut(&bytes[place.min(bytes.len())..]) {
+        push_text(text, "; it is cut within a character, or Latin-1")?;
+    } else {
+        push_text(text, "; it looks like Latin-1")?;
+    }
     Ok(true)
 }
 
-/// A line on which bytes the file has that are no UTF-8, if it has some.
-pub(crate) fn push_encoding_line(text: &mut Vec<u8>, bytes: &[u8]) -> Result<(), AllocError> {
+/// In how many pairs of bytes one is 0, and the other isn't.
+fn pairs_with_zero(bytes: &[u8]) -> usize {
+    let mut found: usize = 0;
+    for pair in 0..bytes.len() / 2 {
+        if (bytes[2 * pair] == 0) != (bytes[2 * pair + 1] == 0) {
+            found = found.saturating_add(1);
+        }
+    }
+    found
+}
+
+/// Whether a file begins with the mark of UTF-16, or has 0 as about every second byte.
+fn looks_like_utf16(bytes: &[u8]) -> bool {
+    let pairs = bytes.len() / 2;
+    match bytes {
+        [0xFF, 0xFE, ..] | [0xFE, 0xFF, ..] => true,
+        _ => pairs > 0 && pairs_with_zero(bytes) > pairs / 2,
+    }
+}
+
+/// Signs of bytes that no text has.
+fn push_no_text(text: &mut Vec<u8>, bytes: &[u8]) -> Result<bool, AllocError> {
     if looks_like_utf16(bytes) {
-        return push_text(text, "the file looks like UTF-16; UTF-8 is wanted\n");
+        push_text(text, "the file looks like UTF-16; UTF-8 is wanted\n")?;
+        return Ok(true);
+    }
+    let Some(place) = bytes.iter().position(|byte| *byte == 0) else {
+        return Ok(false);
+    };
+    push_text(text, "the file has a NUL byte, which no text has, at byte ")?;
+    push_place(text, place)?;
+    push_text(text, "\n")?;
+    Ok(true)
+}
+
+/// A line on what the bytes of a file are that should be in this form, where they are no text in UTF-8.
+pub(crate) fn push_encoding_line(
+    text: &mut Vec<u8>,
+    bytes: &[u8],
+    form: &str,
+) -> Result<(), AllocError> {
+    if matches!(bytes, [b'P', b'K', 3, 4, ..]) {
+        push_text(
+            text,
+            "the file is a zip or Excel file; it has to be exported as ",
+        )?;
+        push_text(text, form)?;
+        return push_text(text, "\n");
+    }
+    if push_no_text(text, bytes)? {
+        return Ok(());
     }
     let Some(place) = no_utf8_at(bytes) else {
         return Ok(());
@@ -33,11 +105,6 @@ pub(crate) fn push_encoding_line(text: &mut Vec<u8>, bytes: &[u8]) -> Result<(),
     push_text(text, "the file looks like Latin-1: it is no UTF-8 at byte ")?;
     push_place(text, place)?;
     push_text(text, "\n")
-}
-
-/// Whether a file begins with the mark of UTF-16, or has a byte that no text has.
-fn looks_like_utf16(bytes: &[u8]) -> bool {
-    matches!(bytes, [0xFF, 0xFE, ..] | [0xFE, 0xFF, ..]) || bytes.contains(&0)
 }
 
 /// What seems to part the fields of a header in place of commas.

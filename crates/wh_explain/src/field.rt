@@ -74,9 +74,14 @@ fn value_reason(field: &[u8]) -> Option<&'static str> {
     }
 }
 
-/// Whether a text begins about as days are written.
+/// Whether a text begins as days are written.
 fn begins_as_day(field: &[u8]) -> bool {
-    matches!(field, [_, _, _, _, b'-', _, _, b'-', _, _, ..])
+    match field {
+        [a, b, c, d, b'-', e, f, b'-', g, h, ..] => [*a, *b, *c, *d, *e, *f, *g, *h]
+            .iter()
+            .all(|byte| byte.is_ascii_digit()),
+        _ => false,
+    }
 }
 
 /// Why a text that begins as days are written is none.
@@ -130,6 +135,7 @@ fn push_bad(text: &mut Vec<u8>, field: &[u8]) -> Result<(), AllocError> {
     match field {
         [b'\n' | b'\r', ..] => push_text(text, "a line end (a quote not closed?)"),
         [b'\t', ..] => push_text(text, "a tab"),
+        [0, ..] => push_text(text, "a NUL byte"),
         [b' ', ..] => push_text(text, "a blank"),
         _ => push_character(text, field),
     }

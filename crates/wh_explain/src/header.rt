@@ -3,8 +3,8 @@
 ghost use Rattle.std.specs.Prelude.{◌≡◌, ◌++◌, codes, OnOk};
 ghost use Rattle.std.specs.List.{join_by};
 
-use crate::encoding::{other_separator, push_encoding_line};
-use crate::row::{first_row, push_column};
+use crate::encoding::other_separator;
+use crate::row::push_column;
 use crate::shown::{push_header, push_place, push_quoted, push_text};
 use std::alloc::AllocError;
 use wh_batch::{Column, FaultyField};
@@ -34,13 +34,34 @@ fn place_of(columns: &[Column], name: &[u8]) -> Option<usize> {
     None
 }
 
+/// The row that stands in place of the header.
+#[derive(Drop)]
+pub(crate) struct Header<'a> {
+    pub(crate) row: &'a [u8],
+    /// How many fields it has.
+    pub(crate) fields: usize,
+}
+
+/// A column too many, without a name.
+fn push_nameless(text: &mut Vec<u8>, header: &Header) -> Result<(), AllocError> {
+    push_text(text, "a further column without a name stands there")?;
+    if matches!(header.row, [.., b',']) {
+        push_text(text, " (the header ends with a comma)")?;
+    }
+    push_text(text, "; no column is wanted there")
+}
+
 /// How a name in a header differs from the one that is wanted.
 fn push_difference(
     text: &mut Vec<u8>,
     columns: &[Column],
     field: &FaultyField,
+    header: &Header,
 ) -> Result<(), AllocError> {
     let found = field.text.as_bytes();
+    if found.is_empty() && columns.len() <= field.place && field.place < header.fields {
+        return push_nameless(text, header);
+    }
     if found.is_empty() {
         return push_text(text, "nothing stands there");
     }
@@ -93,18 +114,16 @@ fn push_separator_line(text: &mut Vec<u8>, there: &[u8]) -> Result<(), AllocErro
     push_text(text, "; commas are wanted\n")
 }
 
-/// The lines on a wrong header: where it first differs, the one that is wanted, the one that is there, and what that may come from.
+/// The lines on a wrong header: where it first differs, the one that is wanted, and the one that is there.
 pub(crate) fn push_wrong_header(
     text: &mut Vec<u8>,
     columns: &[Column],
     field: &FaultyField,
-    bytes: &[u8],
+    header: &Header,
 ) -> Result<(), AllocError> {
     push_column(text, columns, field.place)?;
-    push_difference(text, columns, field)?;
+    push_difference(text, columns, field, header)?;
     push_text(text, "\n")?;
-    let there = first_row(bytes);
-    push_both(text, columns, there)?;
-    push_separator_line(text, there)?;
-    push_encoding_line(text, bytes)
+    push_both(text, columns, header.row)?;
+    push_separator_line(text, header.row)
 }

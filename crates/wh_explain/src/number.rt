@@ -27,7 +27,7 @@ fn digits_reason(holds: Holds, digits: &[u8]) -> Option<&'static str> {
         return Some(" has marks between thousands");
     }
     if commas == 1 {
-        return Some(" has a decimal comma");
+        return Some(comma_reason(digits));
     }
     if digits.contains(&b'-') {
         return Some(" has a - that is not in front");
@@ -45,10 +45,20 @@ fn digits_reason(holds: Holds, digits: &[u8]) -> Option<&'static str> {
     }
 }
 
+/// What a comma may stand for.
+fn comma_reason(digits: &[u8]) -> &'static str {
+    match digits {
+        [_, .., b',', _, _, _] => " has a comma, for thousands or for decimals",
+        _ => " has a decimal comma",
+    }
+}
+
 /// Why digits and points write no whole number.
 fn whole_reason(digits: &[u8]) -> Option<&'static str> {
-    if digits.contains(&b'.') {
-        return Some(" has decimals");
+    match digits {
+        [.., b'.'] => return Some(" ends with a point"),
+        _ if digits.contains(&b'.') => return Some(" has decimals"),
+        _ => {}
     }
     match digits {
         [] => Some(" has no digit"),

@@ -26,7 +26,7 @@ fn rule(fault: PolicyFault) -> &'static str {
         PolicyFault::ProfileOutside => "types 4 and 5 are for attributes of customer alone",
         PolicyFault::ProfileMixed => "customer has attributes of type 4 or of type 5, not of both",
         PolicyFault::BadYears => {
-            "first_year and last_year are whole numbers from 1900 to 2199 without quotes, and at most 30 years"
+            "first_year and last_year are whole numbers from 1900 to 2199 without quotes, the first not after the last, and at most 30 years"
         }
         PolicyFault::BadHoliday => {
             "a holiday's day is \"YYYY-MM-DD\" with quotes, within the years and on no other holiday's day, and its name has 1 to 60 bytes and doesn't begin with ("
@@ -50,7 +50,7 @@ pub(crate) fn push_bad_policy(
     push_text(text, rule(fault))?;
     push_text(text, "\n")?;
     match fault {
-        PolicyFault::NotToml => push_encoding_line(text, bytes),
+        PolicyFault::NotToml => push_encoding_line(text, bytes, "TOML"),
         _ => Ok(()),
     }
 }

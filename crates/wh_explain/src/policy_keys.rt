@@ -37,11 +37,42 @@ pub(crate) fn missing_key(table: &Table, needed: &[&'static str]) -> Option<&'st
     None
 }
 
+fn integer_at(table: &Table, key: &str) -> Option<i64> {
+    table.get(key)?.as_integer()
+}
+
 /// A whole number between two others.
-pub(crate) fn whole_number(table: &Table, key: &str, least: i64, most: i64) -> Option<i64> {
-    match table.get(key)?.as_integer() {
-        Some(number) if least <= number && number <= most => Some(number),
+fn whole_number(table: &Table, key: &str, least: i64, most: i64) -> Option<i64> {
+    match integer_at(table, key)? {
+        number if least <= number && number <= most => Some(number),
         _ => None,
+    }
+}
+
+/// What is wrong with a year by itself; nothing is said of what is no whole number.
+fn wrong_year(policy: &Table, key: &str) -> Option<&'static str> {
+    match integer_at(policy, key) {
+        Some(year) if year < 1900 => Some("it is too early; "),
+        Some(year) if year > 2199 => Some("it is too late; "),
+        Some(_) => None,
+        None => Some(""),
+    }
+}
+
+/// The key of the year at fault, and what is wrong with it.
+pub(crate) fn wrong_years(policy: &Table) -> (&'static str, &'static str) {
+    if let Some(why) = wrong_year(policy, "first_year") {
+        return ("first_year", why);
+    }
+    if let Some(why) = wrong_year(policy, "last_year") {
+        return ("last_year", why);
+    }
+    match (
+        integer_at(policy, "first_year"),
+        integer_at(policy, "last_year"),
+    ) {
+        (Some(first), Some(last)) if last < first => { ("last_year", "it is before first_year; ") }
+        _ => ("last_year", "that makes more than 30 years; "),
     }
 }
 

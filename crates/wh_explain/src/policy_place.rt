@@ -1,10 +1,11 @@
 //! Where in the text of a policy a fault stands.
 
+use crate::encoding::no_utf8_at;
 use crate::policy_keys::{
-    Search, key_of_attribute, key_of_holiday, missing_key, unknown_key, whole_number, years_of,
+    Search, key_of_attribute, key_of_holiday, missing_key, unknown_key, wrong_years, years_of,
 };
-use crate::row::{count_of, push_line};
-use crate::shown::{push_number, push_quoted, push_text};
+use crate::row::push_line;
+use crate::shown::{push_name, push_number, push_quoted, push_text};
 use std::alloc::{AllocError, Global};
 use toml::{Table, Value as TomlValue};
 use wh_policy::PolicyFault;
@@ -35,6 +36,8 @@ struct Place<'a> {
     key: &'a str,
     /// What stands there.
     found: Option<&'a TomlValue>,
+    /// What is wrong with that, where the rule doesn't tell it.
+    why: &'static str,
 }
 
 impl<'a> Place<'a> {
@@ -52,6 +55,7 @@ impl<'a> Place<'a> {
             number: 0,
             key: "",
             found: None,
+            why: "",
         }
     }
 
@@ -66,16 +70,16 @@ impl<'a> Place<'a> {
 
 /// The place among the keys of the file itself.
 fn place_at_top<'a>(policy: &'a Table, fault: PolicyFault) -> Option<Place<'a>> {
-    let key = match fault {
-        PolicyFault::UnknownKey => unknown_key(policy, &TOP_KEYS)?,
-        PolicyFault::Missing => missing_key(policy, &NEEDED_KEYS)?,
-        PolicyFault::BadYears => match whole_number(policy, "first_year", 1900, 2199) {
-            Some(_) => "last_year",
-            None => "first_year",
-        },
+    let (key, why) = match fault {
+        PolicyFault::UnknownKey => (unknown_key(policy, &TOP_KEYS)?, ""),
+        PolicyFault::Missing => (missing_key(policy, &NEEDED_KEYS)?, ""),
+        PolicyFault::BadYears => wrong_years(policy),
         _ => return None,
     };
-    Some(Place::at_top(policy, key))
+    Some(Place {
+        why,
+        ..Place::at_top(policy, key)
+    })
 }
 
 /// The place in one table of an array, the elements before which are `earlier`.
@@ -203,10 +207,10 @@ fn push_array(text: &mut Vec<u8>, array: &str, number: usize) -> Result<(), Allo
 }
 
 fn push_key(text: &mut Vec<u8>, alloc: Global, place: &Place) -> Result<(), AllocError> {
-    push_text(text, "key \"")?;
-    push_text(text, place.key)?;
-    push_text(text, "\"")?;
-    push_found(text, alloc, place.found)
+    push_text(text, "key ")?;
+    push_name(text, place.key)?;
+    push_found(text, alloc, place.found)?;
+    push_text(text, place.why)
 }
 
 fn push_place(text: &mut Vec<u8>, alloc: Global, place: &Place) -> Result<(), AllocError> {
@@ -231,16 +235,19 @@ fn push_syntax(
     error: &toml::de::Error,
 ) -> Result<(), AllocError> {
     let start = match error.span() {
-        Some(span) => span.start.min(bytes.len()),
+        Some(span) => span.start,
         None => return Ok(()),
     };
-    push_line(
-        text,
-        count_of(&bytes[..start], b'\n').saturating_add(1) as u64,
-    )?;
+    push_line(text, bytes, start)?;
     push_text(text, ": ")?;
     push_text(text, error.message())?;
     push_text(text, "; ")
+}
+
+/// The line on which a file has the first byte that is no UTF-8.
+fn push_no_text(text: &mut Vec<u8>, bytes: &[u8]) -> Result<(), AllocError> {
+    push_line(text, bytes, no_utf8_at(bytes).unwrap_or(0))?;
+    push_text(text, ": no UTF-8; ")
 }
 
 /// Where the fault of a policy stands, and what stands there, where that can be said.
@@ -251,7 +258,7 @@ pub(crate) fn push_policy_place(
     bytes: &[u8],
 ) -> Result<(), AllocError> {
     let Ok(policy) = std::str::from_utf8(bytes) else {
-        return Ok(());
+        return push_no_text(text, bytes);
     };
     let table = match toml::table_from_str(alloc, policy) {
         Ok(table) => table,

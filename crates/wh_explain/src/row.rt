@@ -2,12 +2,22 @@
 
 use crate::shown::{push_number, push_place, push_text};
 use std::alloc::AllocError;
-use wh_batch::Column;
+use wh_batch::{Column, lines_above};
 
-/// The beginning of what is said of a line.
-pub(crate) fn push_line(text: &mut Vec<u8>, line: u64) -> Result<(), AllocError> {
+/// The beginning of what is said of the line of a file on which something begins.
+pub(crate) fn push_line(text: &mut Vec<u8>, file: &[u8], start: usize) -> Result<(), AllocError> {
     push_text(text, "line ")?;
-    push_number(text, line)
+    push_number(text, (lines_above(file, start) as u64).saturating_add(1))
+}
+
+/// How many more there are than those that are listed.
+pub(crate) fn push_more(text: &mut Vec<u8>, more: u64) -> Result<(), AllocError> {
+    if more == 0 {
+        return Ok(());
+    }
+    push_text(text, "and ")?;
+    push_number(text, more)?;
+    push_text(text, " more\n")
 }
 
 /// The beginning of what is said of a column.
@@ -26,49 +36,12 @@ pub(crate) fn push_column(
     push_text(text, ": ")
 }
 
-/// A text to its first line end.
-fn to_line_end(text: &[u8]) -> &[u8] {
+/// A row to the end of the line on which it begins.
+pub(crate) fn first_line(text: &[u8]) -> &[u8] {
     match text.iter().position(|byte| matches!(byte, b'\n' | b'\r')) {
         Some(end) => &text[..end],
         None => text,
     }
-}
-
-/// A text from the first byte that is no line end.
-fn past_line_ends(text: &[u8]) -> &[u8] {
-    match text.iter().position(|byte| !matches!(byte, b'\n' | b'\r')) {
-        Some(start) => &text[start..],
-        None => &[],
-    }
-}
-
-/// The first line of a file that isn't empty.
-pub(crate) fn first_row(bytes: &[u8]) -> &[u8] {
-    let text = match bytes {
-        [0xEF, 0xBB, 0xBF, text @ ..] => text,
-        _ => bytes,
-    };
-    to_line_end(past_line_ends(text))
-}
-
-/// What stands behind the first line end.
-fn behind_line(text: &[u8]) -> &[u8] {
-    match text.iter().position(|byte| *byte == b'\n') {
-        Some(end) => &text[end + 1..],
-        None => &[],
-    }
-}
-
-/// The line of a file with this number, from 1.
-pub(crate) fn row_at(bytes: &[u8], line: u64) -> &[u8] {
-    let mut text = bytes;
-    for _ in 1..line {
-        if text.is_empty() {
-            return text;
-        }
-        text = behind_line(text);
-    }
-    to_line_end(text)
 }
 
 /// How often a text has a byte.
@@ -77,10 +50,10 @@ pub(crate) fn count_of(text: &[u8], wanted: u8) -> usize {
 }
 
 /// How many lines a file has.
-pub(crate) fn lines_of(bytes: &[u8]) -> usize {
-    let ended = count_of(bytes, b'\n');
-    match bytes.last() {
-        Some(byte) if *byte != b'\n' => ended.saturating_add(1),
-        _ => ended,
+pub(crate) fn lines_of(file: &[u8]) -> usize {
+    let ended = lines_above(file, file.len());
+    match file {
+        [.., b'\n' | b'\r'] | [] => ended,
+        _ => ended.saturating_add(1),
     }
 }

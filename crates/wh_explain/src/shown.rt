@@ -46,7 +46,9 @@ fn is_seen(first: &[u8]) -> bool {
         [b'\\'] => false,
         [byte] => matches!(byte, b' '..=b'~'),
         [0xC2, second] => *second > 0xA0,
+        [0xD8, 0x9C] => false,
         [0xE2, 0x80, third] => !matches!(third, 0x80..=0x8F | 0xA8..=0xAF),
+        [0xE2, 0x81, third] => !matches!(third, 0xA0..=0xAF),
         [0xEF, 0xBB, 0xBF] => false,
         _ => true,
     }
@@ -107,6 +109,13 @@ fn push_shown(text: &mut Vec<u8>, shown: &[u8], most: usize) -> Result<(), Alloc
 /// A header, as it stands.
 pub(crate) fn push_header(text: &mut Vec<u8>, header: &[u8]) -> Result<(), AllocError> {
     push_shown(text, header, HEADER_SHOWN)
+}
+
+/// A key of a policy, between quotes.
+pub(crate) fn push_name(text: &mut Vec<u8>, key: &str) -> Result<(), AllocError> {
+    push_text(text, "\"")?;
+    push_shown(text, key.as_bytes(), FIELD_SHOWN)?;
+    push_text(text, "\"")
 }
 
 /// The text of a field or a line, between quotes.

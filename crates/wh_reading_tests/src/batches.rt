@@ -24,7 +24,7 @@ use std::fmt::Write;
 use wh_batch::{
     BadManifest, BatchFault, DimensionRecords, Faults, Kind, ListedFault, ListedReport, Manifest,
     ManifestEntry, Records, ReportList, SaleRecords, VoidRecords, columns, dimension_records,
-    faults, read, sale_records, void_records,
+    faults, lines_above, read, sale_records, void_records,
 };
 use wh_day::{Day, NaturalKey, ParseError, Values};
 use wh_policy::{DimensionRecord, Format, Policy, SaleRecord, VoidRecord};
@@ -296,15 +296,15 @@ fn push_first(
 ) -> Result<(), AllocError> {
     let policy = Policy::trial(alloc)?;
     let found = faults(alloc, kind(word), &policy, format_of(word), bytes, most)?;
-    push_found(answer, &found)
+    push_found(answer, bytes, &found)
 }
 
-fn push_found(answer: &mut String, found: &Faults) -> Result<(), AllocError> {
+fn push_found(answer: &mut String, bytes: &[u8], found: &Faults) -> Result<(), AllocError> {
     if found.listed.is_empty() && found.more == 0 {
         return answer.push_str("no fault");
     }
     for listed in &found.listed {
-        push_located(answer, listed)?;
+        push_located(answer, bytes, listed)?;
     }
     if found.more > 0 {
         push_number(answer, found.more as i128)?;
@@ -313,10 +313,10 @@ fn push_found(answer: &mut String, found: &Faults) -> Result<(), AllocError> {
     Ok(())
 }
 
-fn push_located(answer: &mut String, listed: &ListedFault) -> Result<(), AllocError> {
+fn push_located(answer: &mut String, bytes: &[u8], listed: &ListedFault) -> Result<(), AllocError> {
     let fault = &listed.fault.fault;
     push_number(answer, fault.number as i128)?;
-    push_next(answer, listed.line as i128)?;
+    push_next(answer, lines_above(bytes, listed.row.start) as i128 + 1)?;
     match &listed.fault.field {
         None => write!(answer, " - {:?}", fault.kind)?,
         Some(field) => {

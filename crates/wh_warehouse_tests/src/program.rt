@@ -3,7 +3,8 @@
 //! Files and warehouses stay from step to step, all in memory. Files are written by
 //! - `file NAME`: the lines that it is handed; `bytes NAME TEXT`: a text in which `\n`, `\r` and `\x` with two hexadecimal digits are
 //!   bytes; `policy NAME CHANGES`: the policy of `wh_scenarios` with changes;
-//! - `many NAME NUMBER`: a batch of so many products; `long NAME NUMBER`: so many letters.
+//! - `many NAME NUMBER`: a batch of so many products; `undated NAME NUMBER`: the same, each from a day that no calendar has;
+//!   `long NAME NUMBER`: so many letters.
 //!
 //! A run has the words of its step, parted by blanks, and then those that it is handed, each a line. A file's name is no warehouse's.
 //! - `run WORDS` answers the lines that were printed, and the status, and, of a warehouse that it wrote to, what a check prints where it isn't clean; `lines WORDS` how many lines they are, and the status; `ended WORDS`
@@ -90,7 +91,7 @@ fn prepare(alloc: Global, host: &mut MemoryHost, step: &Step<'_>) -> Result<(), 
             Ok(())
         }
         "sql" => alter(alloc, host, name, rest),
-        "many" | "long" => add_large_file(alloc, host, verb, name, rest),
+        "many" | "undated" | "long" => add_large_file(alloc, host, verb, name, rest),
         _ => add_file(alloc, host, step),
     }
 }

@@ -94,6 +94,22 @@ run explain w sales s2.csv
 = the limit stands in meta, as facts_max
 = status 2
 sql w UPDATE meta SET value = 1000000 WHERE name = 'facts_max'
+sql w UPDATE meta SET value = 1 WHERE name = 'changes_max'
+file two.csv
+> id,day,city
+> S1,2024-01-01,Bern
+> S2,2024-01-01,Basel
+run explain w store two.csv
+= refused: E6 full, changes
+= the limit stands in meta, as changes_max
+= status 2
+sql w UPDATE meta SET value = 1000000 WHERE name = 'changes_max'
+sql w UPDATE meta SET value = 2 WHERE name = 'commands_max'
+run explain w store good.csv
+= refused: E6 full, commands
+= the limit stands in meta, as commands_max
+= status 2
+sql w UPDATE meta SET value = 100000 WHERE name = 'commands_max'
 file v1.csv
 > ticket,line
 > T9,3
@@ -126,6 +142,28 @@ run explain w void
 run explain w upgrade
 = the warehouse has format 2 already
 = status 0
+run explain w sales
+= ticket,line,day,store,product,customer,quantity,amount,cost,discount
+= column 1 "ticket": 1 to 20 letters A-Z or a-z, digits, -, _ and .
+= column 2 "line": a whole number from 1 to 9999
+= column 3 "day": a day as YYYY-MM-DD, of the years 2023 to 2026
+= column 4 "store": 1 to 32 letters A-Z or a-z, digits, -, _ and .
+= column 5 "product": 1 to 32 letters A-Z or a-z, digits, -, _ and .
+= column 6 "customer": nothing, or 1 to 32 letters A-Z or a-z, digits, -, _ and .
+= column 7 "quantity": a whole number from -9999 to 9999
+= column 8 "amount": a number such as 12.50 or -3, with up to 7 digits and up to 2 behind a point
+= column 9 "cost": a number such as 12.50 or -3, with up to 7 digits and up to 2 behind a point
+= column 10 "discount": a number such as 12.50, without a sign, with up to 7 digits and up to 2 behind a point
+= status 0
+file s3.csv
+> ticket,line,day,store,product,customer,quantity,amount,cost,discount
+> T3,1,2024-06-10,S9,P7,,1,2.50,1.60,-0.50
+> T3,2,2024-06-10,S9,P7,,1,2.50,1.60,
+run explain w sales s3.csv
+= refused: E3 batch, B7 bad number, record 1
+= line 2, column 10 "discount": '-0.50' has a - in front; wanted: a number such as 12.50, without a sign, with up to 7 digits and up to 2 behind a point
+= line 3, column 10 "discount": '' is empty; wanted: a number such as 12.50, without a sign, with up to 7 digits and up to 2 behind a point
+= status 2
 "#;
 
 /// Where the lines come from that are there already or don't stand, under the policy of `WANTED`.
@@ -271,6 +309,15 @@ run explain w store h.csv
 = the file seems to be separated by tabs; commas are wanted
 = status 2
 file h.csv
+> id|day|city
+run explain w store h.csv
+= refused: E3 batch, B2 wrong header, record 0
+= line 1, column 1 "id": 'id|day|city' stands there
+= wanted: id,day,city
+= there: id|day|city
+= the file seems to be separated by bars; commas are wanted
+= status 2
+file h.csv
 > id,Day,city
 run explain w store h.csv
 = refused: E3 batch, B2 wrong header, record 0
@@ -301,6 +348,31 @@ run explain w store h.csv
 = line 1, column 3 "city": nothing stands there
 = wanted: id,day,city
 = there: id,day
+= status 2
+file h.csv
+> id,day,city,
+> S1,2024-01-01,Bern,
+run explain w store h.csv
+= refused: E3 batch, B2 wrong header, record 0
+= line 1, column 4: a further column without a name stands there (the header ends with a comma); no column is wanted there
+= wanted: id,day,city
+= there: id,day,city,
+= status 2
+file h.csv
+> id,day,city,,size
+run explain w store h.csv
+= refused: E3 batch, B2 wrong header, record 0
+= line 1, column 4: a further column without a name stands there; no column is wanted there
+= wanted: id,day,city
+= there: id,day,city,,size
+= status 2
+file h.csv
+> id,,city
+run explain w store h.csv
+= refused: E3 batch, B2 wrong header, record 0
+= line 1, column 2 "day": nothing stands there
+= wanted: id,day,city
+= there: id,,city
 = status 2
 file h.csv
 > id, day,city
@@ -334,6 +406,30 @@ run explain w store h.csv
 = there: \xff\xfei\x00d\x00
 = the file looks like UTF-16; UTF-8 is wanted
 = status 2
+bytes h.csv i\x00d\x00\n\x00
+run explain w store h.csv
+= refused: E3 batch, B2 wrong header, record 0
+= line 1, column 1 "id": 'i\x00d\x00' stands there
+= wanted: id,day,city
+= there: i\x00d\x00
+= the file looks like UTF-16; UTF-8 is wanted
+= status 2
+bytes h.csv PK\x03\x04\x14\x00
+run explain w store h.csv
+= refused: E3 batch, B2 wrong header, record 0
+= line 1, column 1 "id": 'PK\x03\x04\x14\x00' stands there
+= wanted: id,day,city
+= there: PK\x03\x04\x14\x00
+= the file is a zip or Excel file; it has to be exported as CSV
+= status 2
+bytes h.csv id,day,city\x00\nS1,2024-01-01,Bern\n
+run explain w store h.csv
+= refused: E3 batch, B2 wrong header, record 0
+= line 1, column 3 "city": 'city\x00' stands there
+= wanted: id,day,city
+= there: id,day,city\x00
+= the file has a NUL byte, which no text has, at byte 12
+= status 2
 bytes h.csv id,day,Stra\xDFe\n
 run explain w store h.csv
 = refused: E3 batch, B2 wrong header, record 0
@@ -341,6 +437,29 @@ run explain w store h.csv
 = wanted: id,day,city
 = there: id,day,Stra\xdfe
 = the file looks like Latin-1: it is no UTF-8 at byte 12
+= status 2
+
+# Lines that end with CR alone; a sign that turns the direction of writing; more than 200 characters.
+bytes h.csv \r\rid,day,Stadt\rS1,2024-01-01,Bern\r
+run explain w store h.csv
+= refused: E3 batch, B2 wrong header, record 0
+= line 3, column 3 "city": 'Stadt' stands there
+= wanted: id,day,city
+= there: id,day,Stadt
+= status 2
+bytes h.csv id,day,\xE2\x81\xA6city\n
+run explain w store h.csv
+= refused: E3 batch, B2 wrong header, record 0
+= line 1, column 3 "city": '\xe2\x81\xa6city' stands there
+= wanted: id,day,city
+= there: id,day,\xe2\x81\xa6city
+= status 2
+long h.csv 201
+run explain w store h.csv
+= refused: E3 batch, B2 wrong header, record 0
+= line 1, column 1 "id": 'xxxxxxxxxxxxxxxxxxxxxxxxxxxxxxxxxxxxxxxxxxxxxxxxxxxxxxxxxxxx ..' stands there
+= wanted: id,day,city
+= there: xxxxxxxxxxxxxxxxxxxxxxxxxxxxxxxxxxxxxxxxxxxxxxxxxxxxxxxxxxxxxxxxxxxxxxxxxxxxxxxxxxxxxxxxxxxxxxxxxxxxxxxxxxxxxxxxxxxxxxxxxxxxxxxxxxxxxxxxxxxxxxxxxxxxxxxxxxxxxxxxxxxxxxxxxxxxxxxxxxxxxxxxxxxxxxxxxxxxxxxx ..
 = status 2
 
 # Over the limit of bytes.
@@ -443,9 +562,54 @@ run explain w store n.csv
 = line 2: the number of fields is 4, 3 are wanted; a field with a comma needs quotes: 'S1,2024-01-01,a,b'
 = line 3: the number of fields is 2, 3 are wanted: 'S2,2024-01-01'
 = line 4: the number of fields is 1, 3 are wanted; they seem to be separated by semicolons: 'S3;2024-01-01;x'
-= line 5: the number of fields is wrong, 3 are wanted: 'S4,"2024-01-01",a,"b"'
+= line 5: the number of fields is 4, 3 are wanted; a field with a comma needs quotes: 'S4,"2024-01-01",a,"b"'
 = line 7: an earlier record has the same id and day: 'S5,2024-01-01,b'
-= line 8: the number of fields is wrong, 3 are wanted; a quote is not closed on this line: '"S6,2024-01-01,x'
+= line 8: the number of fields is 1, 3 are wanted; a quote is not closed on this line: '"S6,2024-01-01,x'
+= status 2
+
+# Commas at the end; a quote that is closed lines below, and a record behind it.
+file n.csv
+> id,day,city
+> S1,2024-01-01,Bern,
+> S2,2024-01-01,Bern,,
+> S3,2024-01-01,,
+> S4,2024-01-01,a,b,
+> S5,"2024-01-01,Bern
+> S6,2024-01-01,Bern
+> S7",2024-01-01
+> S 8,2024-01-01,Bern
+run explain w store n.csv
+= refused: E3 batch, B3 wrong length, record 1
+= line 2: the number of fields is 4, 3 are wanted; the last one is empty, behind a comma at the end: 'S1,2024-01-01,Bern,'
+= line 3: the number of fields is 5, 3 are wanted; the last ones are empty, behind commas at the end: 'S2,2024-01-01,Bern,,'
+= line 4: the number of fields is 4, 3 are wanted; the last ones are empty, behind commas at the end: 'S3,2024-01-01,,'
+= line 5: the number of fields is 5, 3 are wanted; a field with a comma needs quotes: 'S4,2024-01-01,a,b,'
+= line 6, column 2 "day": '2024-01-01,Bern\nS6,2024-01-01,Bern\nS7' has more than a day; wanted: a day as YYYY-MM-DD, from 1900-01-01 to 2199-12-31
+= line 9, column 1 "id": 'S 8' has a blank at byte 2; wanted: 1 to 32 letters A-Z or a-z, digits, -, _ and .
+= status 2
+
+# Lines that end with CR alone, two of them empty, and one with LF.
+bytes c.csv id,day,city\rS1,2024-01-01\r\r\rS 2,2024-01-01,x\rS3,2024-13-01,x\nS4,2024-01-01,x\rS4,2024-01-01,y
+run explain w store c.csv
+= refused: E3 batch, B3 wrong length, record 1
+= line 2: the number of fields is 2, 3 are wanted: 'S1,2024-01-01'
+= line 5, column 1 "id": 'S 2' has a blank at byte 2; wanted: 1 to 32 letters A-Z or a-z, digits, -, _ and .
+= line 6, column 2 "day": '2024-13-01' is no real day; wanted: a day as YYYY-MM-DD, from 1900-01-01 to 2199-12-31
+= line 8: an earlier record has the same id and day: 'S4,2024-01-01,y'
+= status 2
+
+# Bytes that no text has; a value that was cut within its last character, and one in Latin-1; signs that turn the direction of writing.
+bytes u.csv id,day,city\nS1,2024-01-01,a\x00b\nS2,2024-01-01,Z\xC3\nS3,2024-01-01,5 \xE2\x82\nS4,2024-01-01,\xE9t\xE9\nS\xD8\x9C5,2024-01-01,x\nS\xE2\x81\xA96,2024-01-01,x\nS\xE2\x80\x8E7,2024-01-01,x\nS8,0abc-01-01,x\n
+run explain w store u.csv
+= refused: E3 batch, B6 bad value, record 1
+= line 2, column 3 "city": 'a\x00b' has a NUL byte at byte 2; wanted: nothing, or up to 60 bytes of UTF-8 without control characters and without ( in front
+= line 3, column 3 "city": 'Z\xc3' is no UTF-8 at byte 2; it is cut within a character, or Latin-1
+= line 4, column 3 "city": '5 \xe2\x82' is no UTF-8 at byte 3; it is cut within a character, or Latin-1
+= line 5, column 3 "city": '\xe9t\xe9' is no UTF-8 at byte 1; it looks like Latin-1
+= line 6, column 1 "id": 'S\xd8\x9c5' has '\xd8\x9c' at byte 2; wanted: 1 to 32 letters A-Z or a-z, digits, -, _ and .
+= line 7, column 1 "id": 'S\xe2\x81\xa96' has '\xe2\x81\xa9' at byte 2; wanted: 1 to 32 letters A-Z or a-z, digits, -, _ and .
+= line 8, column 1 "id": 'S\xe2\x80\x8e7' has '\xe2\x80\x8e' at byte 2; wanted: 1 to 32 letters A-Z or a-z, digits, -, _ and .
+= line 9, column 2 "day": '0abc-01-01' is written in another way; wanted: a day as YYYY-MM-DD, from 1900-01-01 to 2199-12-31
 = status 2
 "#;
 
@@ -506,6 +670,25 @@ run explain w sales a.csv
 = and 2 more
 = status 2
 
+# Commas that may be for thousands or for decimals, a point at the end, thousands without decimals in a whole number.
+file a.csv
+> ticket,line,day,store,product,customer,quantity,amount,cost
+> T1,1,2024-01-01,S1,P1,,1,"1,250",1.00
+> T1,1,2024-01-01,S1,P1,,1,"-1,250",1.00
+> T1,1,2024-01-01,S1,P1,,1,"1,2",1.00
+> T1,1,2024-01-01,S1,P1,,1.,1.00,1.00
+> T1,1,2024-01-01,S1,P1,,"1,250",1.00,1.00
+> T1,1.0,2024-01-01,S1,P1,,1,1.00,1.00
+run explain w sales a.csv
+= refused: E3 batch, B7 bad number, record 1
+= line 2, column 8 "amount": '1,250' has a comma, for thousands or for decimals; wanted: a number such as 12.50 or -3, with up to 7 digits and up to 2 behind a point
+= line 3, column 8 "amount": '-1,250' has a comma, for thousands or for decimals; wanted: a number such as 12.50 or -3, with up to 7 digits and up to 2 behind a point
+= line 4, column 8 "amount": '1,2' has a decimal comma; wanted: a number such as 12.50 or -3, with up to 7 digits and up to 2 behind a point
+= line 5, column 7 "quantity": '1.' ends with a point; wanted: a whole number from -9999 to 9999
+= line 6, column 7 "quantity": '1,250' has a comma, for thousands or for decimals; wanted: a whole number from -9999 to 9999
+= line 7, column 2 "line": '1.0' has decimals; wanted: a whole number from 1 to 9999
+= status 2
+
 # A decimal comma without quotes, a day outside the calendar, and a line twice, which also a sale outside makes.
 file b.csv
 > ticket,line,day,store,product,customer,quantity,amount,cost
@@ -533,11 +716,17 @@ run explain w migrate p.toml
 = refused: E4 policy, P1 not toml
 = line 7: invalid string; a policy is a text in TOML
 = status 2
-bytes p.toml # Z\xFCrich\n
+bytes p.toml # 1\r\n# Z\xFCrich\n
 run explain w migrate p.toml
 = refused: E4 policy, P1 not toml
-= a policy is a text in TOML
-= the file looks like Latin-1: it is no UTF-8 at byte 4
+= line 2: no UTF-8; a policy is a text in TOML
+= the file looks like Latin-1: it is no UTF-8 at byte 9
+= status 2
+bytes p.toml \xFF\xFEa\x00
+run explain w migrate p.toml
+= refused: E4 policy, P1 not toml
+= line 1: no UTF-8; a policy is a text in TOML
+= the file looks like UTF-16; UTF-8 is wanted
 = status 2
 long p.toml 65537
 run explain w migrate p.toml
@@ -553,6 +742,21 @@ policy p.toml first_year->first_yaer
 run explain w migrate p.toml
 = refused: E4 policy, P3 unknown key
 = key "first_yaer": the number 2023 stands there; the keys are first_year, last_year, product, store, customer and holiday, those of an attribute name and type, those of a holiday day and name
+= status 2
+policy p.toml first_year->"a\u001b[2J\nb"
+run explain w migrate p.toml
+= refused: E4 policy, P3 unknown key
+= key "a\x1b[2J\nb": the number 2023 stands there; the keys are first_year, last_year, product, store, customer and holiday, those of an attribute name and type, those of a holiday day and name
+= status 2
+policy p.toml first_year->kkkkkkkkkkkkkkkkkkkkkkkkkkkkkkkkkkkkkkkkkkkkkkkkkkkkkkkkkkkkk
+run explain w migrate p.toml
+= refused: E4 policy, P3 unknown key
+= key "kkkkkkkkkkkkkkkkkkkkkkkkkkkkkkkkkkkkkkkkkkkkkkkkkkkkkkkkkkkk ..": the number 2023 stands there; the keys are first_year, last_year, product, store, customer and holiday, those of an attribute name and type, those of a holiday day and name
+= status 2
+policy p.toml [[holiday]]->[[holidays]]
+run explain w migrate p.toml
+= refused: E4 policy, P3 unknown key
+= key "holidays": a TOML array stands there; the keys are first_year, last_year, product, store, customer and holiday, those of an attribute name and type, those of a holiday day and name
 = status 2
 policy p.toml name = "brand"->name = "Brand"
 run explain w migrate p.toml
@@ -587,7 +791,27 @@ run explain w migrate p.toml
 policy p.toml last_year = 2026->last_year = 2053
 run explain w migrate p.toml
 = refused: E4 policy, P10 bad years
-= key "last_year": the number 2053 stands there; first_year and last_year are whole numbers from 1900 to 2199 without quotes, and at most 30 years
+= key "last_year": the number 2053 stands there; that makes more than 30 years; first_year and last_year are whole numbers from 1900 to 2199 without quotes, the first not after the last, and at most 30 years
+= status 2
+policy p.toml first_year = 2023->first_year = 2030
+run explain w migrate p.toml
+= refused: E4 policy, P10 bad years
+= key "last_year": the number 2026 stands there; it is before first_year; first_year and last_year are whole numbers from 1900 to 2199 without quotes, the first not after the last, and at most 30 years
+= status 2
+policy p.toml first_year = 2023->first_year = 1899
+run explain w migrate p.toml
+= refused: E4 policy, P10 bad years
+= key "first_year": the number 1899 stands there; it is too early; first_year and last_year are whole numbers from 1900 to 2199 without quotes, the first not after the last, and at most 30 years
+= status 2
+policy p.toml last_year = 2026->last_year = 2200
+run explain w migrate p.toml
+= refused: E4 policy, P10 bad years
+= key "last_year": the number 2200 stands there; it is too late; first_year and last_year are whole numbers from 1900 to 2199 without quotes, the first not after the last, and at most 30 years
+= status 2
+policy p.toml last_year = 2026->last_year = "2026"
+run explain w migrate p.toml
+= refused: E4 policy, P10 bad years
+= key "last_year": the text '2026' stands there; first_year and last_year are whole numbers from 1900 to 2199 without quotes, the first not after the last, and at most 30 years
 = status 2
 policy p.toml day = "2024-12-25"->day = 2024-12-25
 run explain w migrate p.toml
@@ -600,6 +824,21 @@ policy p.toml name = "city"|type = 2->name = "city"|kind = 2
 run explain w migrate p.toml
 = refused: E4 policy, P3 unknown key
 = [[store]] number 1, key "kind": the number 2 stands there; the keys are first_year, last_year, product, store, customer and holiday, those of an attribute name and type, those of a holiday day and name
+= status 2
+policy p.toml name = "city"|type = 2->name = "city"|typ = 2
+run explain w migrate p.toml
+= refused: E4 policy, P3 unknown key
+= [[store]] number 1, key "typ": the number 2 stands there; the keys are first_year, last_year, product, store, customer and holiday, those of an attribute name and type, those of a holiday day and name
+= status 2
+bytes p.toml first_year = 2023\nlast_year = 2026\nproduct = []\n[[store]]\nname = "city"\ntype = 2\n[[customer]]\nname = "tier"\ntype = 2\n
+run explain w migrate p.toml
+= refused: E4 policy, P2 missing
+= [[product]]: wanted: first_year, last_year and at least one [[product]], [[store]] and [[customer]], each with name and type; a [[holiday]] with day and name
+= status 2
+bytes p.toml first_year = 2023\nlast_year = 2026\nproduct = [1]\n[[store]]\nname = "city"\ntype = 2\n[[customer]]\nname = "tier"\ntype = 2\n
+run explain w migrate p.toml
+= refused: E4 policy, P2 missing
+= [[product]] number 1: wanted: first_year, last_year and at least one [[product]], [[store]] and [[customer]], each with name and type; a [[holiday]] with day and name
 = status 2
 policy p.toml name = "city"|type = 2->name = "city"
 run explain w migrate p.toml
@@ -645,5 +884,57 @@ many many.csv 5001
 run explain v product many.csv
 = refused: E3 batch, B1 too large, record 5001
 = line 5002: record 5001, at most 5000 are allowed; the file has 5002 lines
+= status 2
+
+# A fault in each of 5,000 records, and then one record too many, which is a fault more.
+undated many.csv 5000
+run explain v product many.csv
+= refused: E3 batch, B5 bad day, record 1
+= line 2, column 2 "day": '2024-13-10' is no real day; wanted: a day as YYYY-MM-DD, from 1900-01-01 to 2199-12-31
+= line 3, column 2 "day": '2024-13-10' is no real day; wanted: a day as YYYY-MM-DD, from 1900-01-01 to 2199-12-31
+= line 4, column 2 "day": '2024-13-10' is no real day; wanted: a day as YYYY-MM-DD, from 1900-01-01 to 2199-12-31
+= line 5, column 2 "day": '2024-13-10' is no real day; wanted: a day as YYYY-MM-DD, from 1900-01-01 to 2199-12-31
+= line 6, column 2 "day": '2024-13-10' is no real day; wanted: a day as YYYY-MM-DD, from 1900-01-01 to 2199-12-31
+= line 7, column 2 "day": '2024-13-10' is no real day; wanted: a day as YYYY-MM-DD, from 1900-01-01 to 2199-12-31
+= line 8, column 2 "day": '2024-13-10' is no real day; wanted: a day as YYYY-MM-DD, from 1900-01-01 to 2199-12-31
+= line 9, column 2 "day": '2024-13-10' is no real day; wanted: a day as YYYY-MM-DD, from 1900-01-01 to 2199-12-31
+= line 10, column 2 "day": '2024-13-10' is no real day; wanted: a day as YYYY-MM-DD, from 1900-01-01 to 2199-12-31
+= line 11, column 2 "day": '2024-13-10' is no real day; wanted: a day as YYYY-MM-DD, from 1900-01-01 to 2199-12-31
+= line 12, column 2 "day": '2024-13-10' is no real day; wanted: a day as YYYY-MM-DD, from 1900-01-01 to 2199-12-31
+= line 13, column 2 "day": '2024-13-10' is no real day; wanted: a day as YYYY-MM-DD, from 1900-01-01 to 2199-12-31
+= line 14, column 2 "day": '2024-13-10' is no real day; wanted: a day as YYYY-MM-DD, from 1900-01-01 to 2199-12-31
+= line 15, column 2 "day": '2024-13-10' is no real day; wanted: a day as YYYY-MM-DD, from 1900-01-01 to 2199-12-31
+= line 16, column 2 "day": '2024-13-10' is no real day; wanted: a day as YYYY-MM-DD, from 1900-01-01 to 2199-12-31
+= line 17, column 2 "day": '2024-13-10' is no real day; wanted: a day as YYYY-MM-DD, from 1900-01-01 to 2199-12-31
+= line 18, column 2 "day": '2024-13-10' is no real day; wanted: a day as YYYY-MM-DD, from 1900-01-01 to 2199-12-31
+= line 19, column 2 "day": '2024-13-10' is no real day; wanted: a day as YYYY-MM-DD, from 1900-01-01 to 2199-12-31
+= line 20, column 2 "day": '2024-13-10' is no real day; wanted: a day as YYYY-MM-DD, from 1900-01-01 to 2199-12-31
+= line 21, column 2 "day": '2024-13-10' is no real day; wanted: a day as YYYY-MM-DD, from 1900-01-01 to 2199-12-31
+= and 4980 more
+= status 2
+undated many.csv 5001
+run explain v product many.csv
+= refused: E3 batch, B5 bad day, record 1
+= line 2, column 2 "day": '2024-13-10' is no real day; wanted: a day as YYYY-MM-DD, from 1900-01-01 to 2199-12-31
+= line 3, column 2 "day": '2024-13-10' is no real day; wanted: a day as YYYY-MM-DD, from 1900-01-01 to 2199-12-31
+= line 4, column 2 "day": '2024-13-10' is no real day; wanted: a day as YYYY-MM-DD, from 1900-01-01 to 2199-12-31
+= line 5, column 2 "day": '2024-13-10' is no real day; wanted: a day as YYYY-MM-DD, from 1900-01-01 to 2199-12-31
+= line 6, column 2 "day": '2024-13-10' is no real day; wanted: a day as YYYY-MM-DD, from 1900-01-01 to 2199-12-31
+= line 7, column 2 "day": '2024-13-10' is no real day; wanted: a day as YYYY-MM-DD, from 1900-01-01 to 2199-12-31
+= line 8, column 2 "day": '2024-13-10' is no real day; wanted: a day as YYYY-MM-DD, from 1900-01-01 to 2199-12-31
+= line 9, column 2 "day": '2024-13-10' is no real day; wanted: a day as YYYY-MM-DD, from 1900-01-01 to 2199-12-31
+= line 10, column 2 "day": '2024-13-10' is no real day; wanted: a day as YYYY-MM-DD, from 1900-01-01 to 2199-12-31
+= line 11, column 2 "day": '2024-13-10' is no real day; wanted: a day as YYYY-MM-DD, from 1900-01-01 to 2199-12-31
+= line 12, column 2 "day": '2024-13-10' is no real day; wanted: a day as YYYY-MM-DD, from 1900-01-01 to 2199-12-31
+= line 13, column 2 "day": '2024-13-10' is no real day; wanted: a day as YYYY-MM-DD, from 1900-01-01 to 2199-12-31
+= line 14, column 2 "day": '2024-13-10' is no real day; wanted: a day as YYYY-MM-DD, from 1900-01-01 to 2199-12-31
+= line 15, column 2 "day": '2024-13-10' is no real day; wanted: a day as YYYY-MM-DD, from 1900-01-01 to 2199-12-31
+= line 16, column 2 "day": '2024-13-10' is no real day; wanted: a day as YYYY-MM-DD, from 1900-01-01 to 2199-12-31
+= line 17, column 2 "day": '2024-13-10' is no real day; wanted: a day as YYYY-MM-DD, from 1900-01-01 to 2199-12-31
+= line 18, column 2 "day": '2024-13-10' is no real day; wanted: a day as YYYY-MM-DD, from 1900-01-01 to 2199-12-31
+= line 19, column 2 "day": '2024-13-10' is no real day; wanted: a day as YYYY-MM-DD, from 1900-01-01 to 2199-12-31
+= line 20, column 2 "day": '2024-13-10' is no real day; wanted: a day as YYYY-MM-DD, from 1900-01-01 to 2199-12-31
+= line 21, column 2 "day": '2024-13-10' is no real day; wanted: a day as YYYY-MM-DD, from 1900-01-01 to 2199-12-31
+= and 4981 more
 = status 2
 "#;

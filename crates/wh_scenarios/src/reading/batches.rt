@@ -417,7 +417,7 @@ faults sales 20 ticket,line,day,store,product,customer,quantity,amount,cost,disc
 faults discounted 20 ticket,line,day,store,product,customer,quantity,amount,cost\n
 = 0 1 9 WrongHeader|
 
-# A line ends with LF, or with CR and LF, also within quotes; blank lines and a byte order mark count in no record.
+# A line ends with LF, with CR, or with CR and LF, also within quotes; blank lines and a byte order mark count in no record.
 faults customer 20 id,day,tier\nC1,2024-07-01,"Go\nld\r\n"\nC2,2024-13-01,Gold\n
 = 1 2 2 BadValue|Go\x0Ald\x0D\x0A
 = 2 5 1 BadDay|2024-13-01
@@ -427,6 +427,10 @@ faults customer 20 id,day,tier\nC1,2024-07-01,Gold\n"C2","2024-07-01\n","Gold"\n
 faults customer 20 id,day,tier\r\nC1,x,Gold\r\n\r\nC2,y,Gold\r\n
 = 1 2 1 BadDay|x
 = 2 4 1 BadDay|y
+faults customer 20 id,day,tier\rC1,x,Gold\r\r\nC2,y,"Go\rld"\rC3,z,Gold\r
+= 1 2 1 BadDay|x
+= 2 4 1 BadDay|y
+= 3 6 1 BadDay|z
 faults customer 20 \xEF\xBB\xBF\n\r\nid,day,city\n
 = 0 3 2 WrongHeader|city
 faults customer 20 \xEF\xBB\xBFid,day,tier\n\n\nC1,x,Gold

@@ -19,7 +19,7 @@ pub fn add_file(alloc: Global, host: &mut MemoryHost, step: &Step<'_>) -> Result
     Ok(host.write(alloc, name, bytes)?)
 }
 
-/// `many NAME NUMBER` or `long NAME NUMBER`.
+/// `many NAME NUMBER`, `undated NAME NUMBER` or `long NAME NUMBER`.
 pub fn add_large_file(
     alloc: Global,
     host: &mut MemoryHost,
@@ -28,21 +28,23 @@ pub fn add_large_file(
     word: &str,
 ) -> Result<(), Trouble> {
     let count = number(word)?;
-    let bytes = if verb == "many" {
-        products(alloc, count)?.into_bytes()
-    } else {
-        letters(alloc, count)?
+    let bytes = match verb {
+        "many" => products(alloc, count, "2024-01-10")?.into_bytes(),
+        "undated" => products(alloc, count, "2024-13-10")?.into_bytes(),
+        _ => letters(alloc, count)?,
     };
     Ok(host.write(alloc, name, bytes)?)
 }
 
-/// The header of a batch of products and records of as many members, one each.
-fn products(alloc: Global, count: u64) -> Result<String, AllocError> {
+/// The header of a batch of products and records of as many members, one each, from a day.
+fn products(alloc: Global, count: u64, day: &str) -> Result<String, AllocError> {
     let mut text = String::from_str(alloc, "id,day,description,brand\n")?;
     for number in 0..count {
         text.push_str("P")?;
         push_number(&mut text, number)?;
-        text.push_str(",2024-01-10,a,b\n")?;
+        text.push_str(",")?;
+        text.push_str(day)?;
+        text.push_str(",a,b\n")?;
     }
     Ok(text)
 }
