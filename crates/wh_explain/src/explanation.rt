@@ -4,7 +4,7 @@ ghost use Rattle.std.specs.Prelude.{◌≡◌, OnOk};
 ghost use Rattle.wh_explain.specs.Added.{Continues};
 
 use crate::kind::push_kind;
-use crate::line::Source;
+use crate::line::TracedLines;
 use crate::members::push_first_mentions;
 use crate::refused::push_refusal;
 use crate::row::push_column;
@@ -28,8 +28,8 @@ pub struct Sent<'a> {
     pub format: Format,
     /// The batch, or the policy file.
     pub bytes: &'a [u8],
-    /// The command that sold or withdrew the line of a refusal, if one was found.
-    pub source: Option<Source>,
+    /// The lines of a batch that is refused for one of them, with the kept commands that were noted.
+    pub lines: Option<TracedLines>,
 }
 
 fn columns_text(alloc: Global, columns: &[Column], years: Years) -> Result<Vec<u8>, AllocError> {

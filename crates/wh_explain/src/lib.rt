@@ -8,6 +8,7 @@ mod field;
 mod header;
 mod kind;
 mod line;
+mod line_texts;
 mod members;
 mod number;
 mod policy;
@@ -20,5 +21,5 @@ mod wanted;
 
 pub use explanation::{Sent, add_columns, add_first_mentions, add_kind, add_refusal};
 pub use header::push_names;
-pub use line::{RefusedLine, Source, refused_line};
+pub use line::{TracedLines, refused_lines};
 pub use shown::push_number;

@@ -1,7 +1,7 @@
-//! The lines of tickets that refusals are about, and the commands that sold or withdrew them.
+//! The lines of tickets in a batch, and the commands that sold and withdrew them.
 
 use crate::explanation::Sent;
-use crate::shown::{push_number, push_text};
+use indexmap::IndexSet;
 use std::alloc::{AllocError, Global};
 use wh_admission::Refused;
 use wh_batch::{CommandKind, Kind, Records, read};
@@ -9,70 +9,200 @@ use wh_day::{NaturalKey, ParseError, Value};
 use wh_policy::{Format, Policy, SaleRecord, VoidRecord};
 use wh_rows::CommandRow;
 
-/// A command that sold or withdrew a line.
-#[derive(Debug, Drop)]
-pub struct Source {
-    /// Its number among the accepted commands, from 1.
-    pub number: u64,
-    /// What its sender calls it.
-    pub id: Value,
+/// A line of a ticket.
+#[derive(Debug, PartialEq, Eq, Hash, Drop)]
+pub(crate) struct TicketLine {
+    pub(crate) ticket: NaturalKey,
+    pub(crate) line: u32,
 }
 
-impl Source {
-    /// The command that is kept in this row.
-    pub fn of(row: CommandRow) -> Source {
-        Source {
-            number: row.number,
-            id: row.id,
+impl TicketLine {
+    fn of_sale(sale: &SaleRecord) -> TicketLine {
+        TicketLine {
+            ticket: sale.ticket.copy(),
+            line: sale.line,
+        }
+    }
+
+    fn of_void(void: &VoidRecord) -> TicketLine {
+        TicketLine {
+            ticket: void.ticket.copy(),
+            line: void.line,
         }
     }
 }
 
-/// A line of a ticket that a refusal is about.
-#[derive(Drop)]
-pub struct RefusedLine {
-    /// Sales, where it is there already; voids, where it doesn't stand.
-    kind: Kind,
-    ticket: NaturalKey,
-    line: u32,
+/// An accepted command.
+#[derive(Debug, Drop)]
+pub(crate) struct Source {
+    /// Its number, from 1.
+    pub(crate) number: u64,
+    /// What its sender calls it.
+    pub(crate) id: Value,
 }
 
-impl RefusedLine {
-    fn is(&self, ticket: &NaturalKey, line: u32) -> bool {
-        self.line == line && self.ticket == *ticket
+/// Which commands sold and withdrew a line: their places among those that are noted.
+#[derive(Clone, Copy, Debug, Drop)]
+pub(crate) struct Traces {
+    pub(crate) sold: Option<usize>,
+    pub(crate) withdrawn: Option<usize>,
+}
+
+/// The lines of a batch that is refused for one of them, and the commands that are known to have sold or withdrawn some.
+#[derive(Debug, Drop)]
+pub struct TracedLines {
+    /// Sales, where lines are there already; voids, where they don't stand.
+    kind: Kind,
+    /// The place of the line that is told in the refusal.
+    refused: usize,
+    lines: IndexSet<TicketLine>,
+    /// Those of each line.
+    traces: Vec<Traces>,
+    commands: Vec<Source>,
+    /// The place of the command with the bytes of the batch, if there is one.
+    same: Option<usize>,
+}
+
+impl TracedLines {
+    fn new(alloc: Global, kind: Kind, number: u64) -> Result<TracedLines, AllocError> {
+        Ok(TracedLines {
+            kind,
+            refused: number.saturating_sub(1) as usize,
+            lines: IndexSet::with_capacity(alloc, 0)?,
+            traces: Vec::new(alloc),
+            commands: Vec::new(alloc),
+            same: None,
+        })
     }
 
-    /// Whether a kept command sold the line, where sales were refused, or withdrew it, where voids were. The policy in force
+    fn add(&mut self, line: TicketLine) -> Result<(), AllocError> {
+        self.traces.push(Traces {
+            sold: None,
+            withdrawn: None,
+        })?;
+        self.lines.insert(line)?;
+        Ok(())
+    }
+
+    /// Which commands sold and withdrew a line, if it is one of these.
+    fn traces_of(&mut self, line: &TicketLine) -> Option<&mut Traces> {
+        let place = self.lines.get_index_of(line)?;
+        self.traces.get_mut(place)
+    }
+
+    /// Whether sales sold some of the lines; notes for each that the next command did.
+    fn note_sales(&mut self, sales: &[SaleRecord]) -> bool {
+        let command = self.commands.len();
+        let mut found = false;
+        for sale in sales {
+            let line = TicketLine::of_sale(sale);
+            if let Some(traces) = self.traces_of(&line) {
+                traces.sold = Some(command);
+                found = true;
+            }
+        }
+        found
+    }
+
+    /// Whether voids withdrew some of the lines; notes for each that the next command did.
+    fn note_voids(&mut self, voids: &[VoidRecord]) -> bool {
+        let command = self.commands.len();
+        let mut found = false;
+        for void in voids {
+            let line = TicketLine::of_void(void);
+            if let Some(traces) = self.traces_of(&line) {
+                traces.withdrawn = Some(command);
+                found = true;
+            }
+        }
+        found
+    }
+
+    fn note_records(&mut self, records: &Records) -> bool {
+        match records {
+            Records::Dimension(_) => false,
+            Records::Sales(sales) => self.note_sales(sales.as_slice()),
+            Records::Voids(voids) => self.note_voids(voids.as_slice()),
+        }
+    }
+
+    /// Notes which of the lines a kept command sold or withdrew, and whether its bytes are these of the batch. The policy in force
     /// reads the batches that were kept under those before, whose years it has.
-    pub fn is_of(
-        &self,
+    pub fn note(
+        &mut self,
         alloc: Global,
         policy: &Policy,
-        row: &CommandRow,
-    ) -> Result<bool, AllocError> {
-        if row.kind.as_str() != self.kind.word() {
-            return Ok(false);
+        bytes: &[u8],
+        row: CommandRow,
+    ) -> Result<(), AllocError> {
+        let Some(kind) = kind_of(&row) else {
+            return Ok(());
+        };
+        let Some(records) = kept_records(alloc, kind, policy, row.bytes.as_slice())? else {
+            return Ok(());
+        };
+        if !self.note_records(&records) {
+            return Ok(());
         }
-        match kept_records(alloc, self.kind, policy, row.bytes.as_slice())? {
-            Some(records) => Ok(is_among(self, &records)),
-            None => Ok(false),
+        if kind == self.kind && row.bytes.as_slice() == bytes {
+            self.same = Some(self.commands.len());
         }
+        self.commands.push(Source {
+            number: row.number,
+            id: row.id,
+        })?;
+        Ok(())
+    }
+
+    /// Whether the line in this place is one for which the batch is refused: a sale of a line that is there, or a void of one that
+    /// doesn't stand.
+    pub(crate) fn is_refused(&self, place: usize) -> bool {
+        if place == self.refused {
+            return true;
+        }
+        match (self.kind, self.traces.get(place)) {
+            (Kind::Voids, Some(traces)) => traces.sold.is_none() || traces.withdrawn.is_some(),
+            (_, Some(traces)) => traces.sold.is_some(),
+            (_, None) => false,
+        }
+    }
+
+    /// Whether they are of sales that are there already.
+    pub(crate) fn are_sales(&self) -> bool {
+        matches!(self.kind, Kind::Sales)
+    }
+
+    /// How many lines the batch has.
+    pub(crate) fn len(&self) -> usize {
+        self.traces.len()
+    }
+
+    /// The line in a place.
+    pub(crate) fn line_at(&self, place: usize) -> Option<&TicketLine> {
+        self.lines.get_index(place)
+    }
+
+    /// The command that sold the line in a place, if one is noted.
+    pub(crate) fn seller_of(&self, place: usize) -> Option<&Source> {
+        self.commands.get(self.traces.get(place)?.sold?)
+    }
+
+    /// The command that withdrew the line in a place, if one is noted.
+    pub(crate) fn withdrawer_of(&self, place: usize) -> Option<&Source> {
+        self.commands.get(self.traces.get(place)?.withdrawn?)
+    }
+
+    /// The command with the bytes of the batch, if one is noted.
+    pub(crate) fn same_command(&self) -> Option<&Source> {
+        self.commands.get(self.same?)
     }
 }
 
-fn is_sold(line: &RefusedLine, sales: &[SaleRecord]) -> bool {
-    sales.iter().any(|sale| line.is(&sale.ticket, sale.line))
-}
-
-fn is_withdrawn(line: &RefusedLine, voids: &[VoidRecord]) -> bool {
-    voids.iter().any(|void| line.is(&void.ticket, void.line))
-}
-
-fn is_among(line: &RefusedLine, records: &Records) -> bool {
-    match records {
-        Records::Dimension(_) => false,
-        Records::Sales(sales) => is_sold(line, sales.as_slice()),
-        Records::Voids(voids) => is_withdrawn(line, voids.as_slice()),
+/// The kind of a kept command that has lines of tickets.
+fn kind_of(row: &CommandRow) -> Option<Kind> {
+    match Kind::from_word(row.kind.as_str())? {
+        Kind::Dimension(_) => None,
+        kind => Some(kind),
     }
 }
 
@@ -104,111 +234,52 @@ fn kept_records(
     }
 }
 
-/// The place of a record, which is told from 1.
-fn place_of(number: u64) -> usize {
-    number.saturating_sub(1) as usize
-}
-
-fn sold_line(sale: &SaleRecord) -> RefusedLine {
-    RefusedLine {
-        kind: Kind::Sales,
-        ticket: sale.ticket.copy(),
-        line: sale.line,
+fn add_sales(lines: &mut TracedLines, sales: &[SaleRecord]) -> Result<(), AllocError> {
+    for sale in sales {
+        lines.add(TicketLine::of_sale(sale))?;
     }
+    Ok(())
 }
 
-fn withdrawn_line(void: &VoidRecord) -> RefusedLine {
-    RefusedLine {
-        kind: Kind::Voids,
-        ticket: void.ticket.copy(),
-        line: void.line,
+fn add_voids(lines: &mut TracedLines, voids: &[VoidRecord]) -> Result<(), AllocError> {
+    for void in voids {
+        lines.add(TicketLine::of_void(void))?;
     }
+    Ok(())
 }
 
-/// The line of the record with this number.
-fn line_of_record(records: &Records, number: u64) -> Option<RefusedLine> {
-    match records {
-        Records::Dimension(_) => None,
-        Records::Sales(sales) => match sales.as_slice().get(place_of(number)) {
-            Some(sale) => Some(sold_line(sale)),
-            None => None,
-        },
-        Records::Voids(voids) => match voids.as_slice().get(place_of(number)) {
-            Some(void) => Some(withdrawn_line(void)),
-            None => None,
-        },
-    }
-}
-
-fn line_sent(
+/// The lines of a batch, of which the record with this number is refused.
+fn lines_sent(
     alloc: Global,
     kind: Kind,
     sent: &Sent,
     number: u64,
-) -> Result<Option<RefusedLine>, AllocError> {
-    match records_in(alloc, kind, sent.policy, sent.format, sent.bytes)? {
-        Some(records) => Ok(line_of_record(&records, number)),
-        None => Ok(None),
+) -> Result<Option<TracedLines>, AllocError> {
+    let Some(records) = records_in(alloc, kind, sent.policy, sent.format, sent.bytes)? else {
+        return Ok(None);
+    };
+    let mut lines = TracedLines::new(alloc, kind, number)?;
+    match &records {
+        Records::Dimension(_) => return Ok(None),
+        Records::Sales(sales) => add_sales(&mut lines, sales.as_slice())?,
+        Records::Voids(voids) => add_voids(&mut lines, voids.as_slice())?,
     }
+    Ok(Some(lines))
 }
 
-/// The line that a refusal is about, if it is about one: it is there already, or doesn't stand.
-pub fn refused_line(
+/// The lines of a batch that is refused for one of them, which is there already or doesn't stand. No command is noted yet.
+pub fn refused_lines(
     alloc: Global,
     why: &Refused,
     sent: &Sent,
-) -> Result<Option<RefusedLine>, AllocError> {
+) -> Result<Option<TracedLines>, AllocError> {
     match (why, sent.kind) {
         (Refused::LineThere(number), CommandKind::Batch(kind)) => {
-            line_sent(alloc, kind, sent, *number)
+            lines_sent(alloc, kind, sent, *number)
         }
         (Refused::NoLine(number), CommandKind::Batch(kind)) => {
-            line_sent(alloc, kind, sent, *number)
+            lines_sent(alloc, kind, sent, *number)
         }
         _ => Ok(None),
-    }
-}
-
-fn push_source(text: &mut Vec<u8>, source: &Source) -> Result<(), AllocError> {
-    push_text(text, " by command ")?;
-    push_number(text, source.number)?;
-    push_text(text, ", ")?;
-    push_text(text, source.id.as_str())
-}
-
-/// What is said of a line that is there already.
-fn push_sold(text: &mut Vec<u8>, source: &Option<Source>) -> Result<(), AllocError> {
-    push_text(text, "sold")?;
-    match source {
-        Some(source) => push_source(text, source)?,
-        None => push_text(text, " before")?,
-    }
-    push_text(text, "; a line is sold once\n")
-}
-
-/// What is said of a line that doesn't stand.
-fn push_withdrawn(text: &mut Vec<u8>, source: &Option<Source>) -> Result<(), AllocError> {
-    let Some(source) = source else {
-        return push_text(text, "never sold\n");
-    };
-    push_text(text, "withdrawn")?;
-    push_source(text, source)?;
-    push_text(text, "\n")
-}
-
-/// The ticket and the line, and the command that sold or withdrew it, if one was found.
-pub(crate) fn push_refused_line(
-    text: &mut Vec<u8>,
-    line: &RefusedLine,
-    source: &Option<Source>,
-) -> Result<(), AllocError> {
-    push_text(text, "ticket ")?;
-    push_text(text, line.ticket.as_str())?;
-    push_text(text, ", line ")?;
-    push_number(text, u64::from(line.line))?;
-    push_text(text, ": ")?;
-    match line.kind {
-        Kind::Dimension(_) | Kind::Sales => push_sold(text, source),
-        Kind::Voids => push_withdrawn(text, source),
     }
 }

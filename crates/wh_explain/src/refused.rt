@@ -2,7 +2,7 @@
 
 use crate::batch::{Batch, push_faults};
 use crate::explanation::Sent;
-use crate::line::{push_refused_line, refused_line};
+use crate::line_texts::push_refused_lines;
 use crate::policy::{push_bad_policy, push_unfit};
 use crate::shown::push_text;
 use std::alloc::{AllocError, Global};
@@ -47,15 +47,10 @@ fn push_unfit_policy(text: &mut Vec<u8>, alloc: Global, sent: &Sent) -> Result<(
     }
 }
 
-/// The line that a refusal is about, and where it comes from.
-fn push_line_of(
-    text: &mut Vec<u8>,
-    alloc: Global,
-    why: &Refused,
-    sent: &Sent,
-) -> Result<(), AllocError> {
-    match refused_line(alloc, why, sent)? {
-        Some(line) => push_refused_line(text, &line, &sent.source),
+/// The lines of tickets for which a batch is refused.
+fn push_lines(text: &mut Vec<u8>, alloc: Global, sent: &Sent) -> Result<(), AllocError> {
+    match &sent.lines {
+        Some(lines) => push_refused_lines(text, alloc, lines, sent.bytes),
         None => Ok(()),
     }
 }
@@ -81,8 +76,8 @@ pub(crate) fn push_refusal(
 ) -> Result<(), AllocError> {
     match (why, sent.kind) {
         (Refused::Batch(_), CommandKind::Batch(kind)) => push_batch(text, alloc, kind, sent),
-        (Refused::LineThere(_), _) => push_line_of(text, alloc, why, sent),
-        (Refused::NoLine(_), _) => push_line_of(text, alloc, why, sent),
+        (Refused::LineThere(_), _) => push_lines(text, alloc, sent),
+        (Refused::NoLine(_), _) => push_lines(text, alloc, sent),
         (Refused::Policy(fault), _) => push_bad_policy(text, alloc, *fault, sent.bytes),
         (Refused::Unfit, _) => push_unfit_policy(text, alloc, sent),
         (Refused::Upgraded, _) => push_text(text, "the warehouse has format 2 already\n"),

@@ -17,81 +17,80 @@ use crate::visits::warehouse::input_of;
 use sqlite::Alter;
 use std::alloc::{AllocError, Global};
 use wh_engine::{CommandKind, Engine, Fault, Preview, Refused};
-use wh_explain::{RefusedLine, Sent, Source, refused_line};
+use wh_explain::{Sent, TracedLines, refused_lines};
 use wh_policy::{Format, Policy};
 use wh_rows::tables;
 use wh_store::Cursor;
 
-/// The first command in order of number that sold a line, or withdrew it; none where none did.
-fn first_with<S: Alter>(
+/// The lines of a batch, with the kept commands that sold and withdrew them.
+fn noted<S: Alter>(
     alloc: Global,
     engine: &mut Engine<S>,
-    line: &RefusedLine,
-) -> Result<Option<Source>, Fault>
+    mut lines: TracedLines,
+    bytes: &[u8],
+) -> Result<Option<TracedLines>, Fault>
     ensures { EngineReadsThrough S.Store engine.old engine.new result }
 {
     let mut cursor = Cursor::new(alloc);
     'commands: for _ in 0..u64::MAX {
         let Some(row) = engine.next_row::<tables::Command>(alloc, &mut cursor)? else {
-            return Ok(None);
+            return Ok(Some(lines));
         };
-        if line.is_of(alloc, engine.policy(), &row)? {
-            return Ok(Some(Source::of(row)));
-        }
+        lines.note(alloc, engine.policy(), bytes, row)?;
     }
     Err(Fault::Memory)
 }
 
-/// The line that a refusal of these bytes is about, if it is about one.
-fn line_in<'a>(
+/// The lines of a batch with these bytes, if it is refused for one of them.
+fn lines_in<'a>(
     alloc: Global,
     why: &Refused,
     kind: CommandKind,
     policy: &'a Policy,
     format: Format,
     bytes: &'a [u8],
-) -> Result<Option<RefusedLine>, AllocError> {
+) -> Result<Option<TracedLines>, AllocError> {
     let sent = Sent {
         kind,
         policy,
         format,
         bytes,
-        source: None,
+        lines: None,
     };
-    refused_line(alloc, why, &sent)
+    refused_lines(alloc, why, &sent)
 }
 
-/// The command that sold or withdrew the line that a refusal of these bytes is about, if it is about one.
-fn source_of<S: Alter>(
+/// The lines of a batch with these bytes, if it is refused for one of them, and the commands that sold and withdrew them.
+fn lines_of<S: Alter>(
     alloc: Global,
     engine: &mut Engine<S>,
     why: &Refused,
     kind: CommandKind,
     bytes: &[u8],
-) -> Result<Option<Source>, Fault>
+) -> Result<Option<TracedLines>, Fault>
     ensures { EngineReadsThrough S.Store engine.old engine.new result }
 {
-    match line_in(alloc, why, kind, engine.policy(), engine.format(), bytes)? {
-        Some(line) => first_with(alloc, engine, &line),
+    match lines_in(alloc, why, kind, engine.policy(), engine.format(), bytes)? {
+        Some(lines) => noted(alloc, engine, lines, bytes),
         None => Ok(None),
     }
 }
 
-/// What these bytes would be answered, and for a refused line the command that sold or withdrew it. Where the kept commands
+/// What these bytes would be answered, and for refused lines the commands that sold and withdrew them. Where the kept commands
 /// can't be read, that is told in place of the refusal.
 fn traced<S: Alter>(
     alloc: Global,
     engine: &mut Engine<S>,
     kind: CommandKind,
     bytes: &[u8],
-) -> (Result<Preview, Fault>, Option<Source>)
+) -> (Result<Preview, Fault>, Option<TracedLines>)
     ensures clean { WasClean S.Store engine.old.tables engine.new.tables }
     ensures previewed { WhenReady S.Store engine.old engine.new (λ limits commands. IsPreviewed limits commands kind bytes.now result.0) }
 {
     match engine.preview(alloc, kind, bytes) {
         Ok(preview) => (Ok(preview), None),
-        Err(Fault::Refused(why)) => match source_of(alloc, engine, &why, kind, bytes) {
-            Ok(source) => (Err(Fault::Refused(why)), source),
+        Err(Fault::Refused(why)) => match lines_of(alloc, engine, &why, kind, bytes) {
+            Ok(lines) => (Err(Fault::Refused(why)), lines),
             Err(fault) => (Err(fault), None),
         },
         Err(fault) => (Err(fault), None),
@@ -109,13 +108,13 @@ impl Work for Explaining {
     ghost does = { λ explaining. IsExplained explaining.kind explaining.bytes.items };
 
     fn work<S: Alter>(self, alloc: Global, engine: &mut Engine<S>) -> Result<Answer, AllocError> {
-        let (preview, source) = traced(alloc, engine, self.kind, &self.bytes);
+        let (preview, lines) = traced(alloc, engine, self.kind, &self.bytes);
         let sent = Sent {
             kind: self.kind,
             policy: engine.policy(),
             format: engine.format(),
             bytes: &self.bytes,
-            source,
+            lines,
         };
         explained(alloc, preview, &sent)
     }

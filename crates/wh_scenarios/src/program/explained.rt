@@ -83,7 +83,9 @@ run load w sales s1 s1.csv
 = status 0
 run explain w sales s1.csv
 = refused: E6 line there, record 1
-= ticket T1, line 1: sold by command 2, s1; a line is sold once
+= line 2: ticket T1, line 1: sold by command 2, s1; a line is sold once
+= line 3: ticket T1, line 2: sold by command 2, s1; a line is sold once
+= the same bytes are command 2, s1
 = status 2
 sql w UPDATE meta SET value = 2 WHERE name = 'facts_max'
 file s2.csv
@@ -132,7 +134,7 @@ run explain w upgrade none
 = status 2
 run explain w void v1.csv
 = refused: E6 no line, record 1
-= ticket T9, line 3: never sold
+= line 2: ticket T9, line 3: never sold
 = status 2
 run explain w void
 = ticket,line
@@ -194,14 +196,15 @@ file again.csv
 > T1,1,2024-06-10,S9,P7,,1,2.50,1.60
 run explain w sales again.csv
 = refused: E6 line there, record 2
-= ticket T2, line 1: sold by command 3, s2; a line is sold once
+= line 3: ticket T2, line 1: sold by command 3, s2; a line is sold once
+= line 4: ticket T1, line 1: sold by command 2, s1; a line is sold once
 = status 2
 file again.csv
 > ticket,line,day,store,product,customer,quantity,amount,cost
 > T1,2,2024-06-10,S9,P7,,1,2.50,1.60
 run explain w sales again.csv
 = refused: E6 line there, record 1
-= ticket T1, line 2: sold by command 3, s2; a line is sold once
+= line 2: ticket T1, line 2: sold by command 3, s2; a line is sold once
 = status 2
 
 # In format 2, behind a policy with a year more: sold in format 1, and in that year.
@@ -217,7 +220,7 @@ file again.csv
 > T1,1,2024-06-10,S9,P7,,1,2.50,1.60,0
 run explain w sales again.csv
 = refused: E6 line there, record 1
-= ticket T1, line 1: sold by command 2, s1; a line is sold once
+= line 2: ticket T1, line 1: sold by command 2, s1; a line is sold once
 = status 2
 file s3.csv
 > ticket,line,day,store,product,customer,quantity,amount,cost,discount
@@ -227,7 +230,8 @@ run load w sales s3 s3.csv
 = status 0
 run explain w sales s3.csv
 = refused: E6 line there, record 1
-= ticket T3, line 1: sold by command 6, s3; a line is sold once
+= line 2: ticket T3, line 1: sold by command 6, s3; a line is sold once
+= the same bytes are command 6, s3
 = status 2
 
 # Withdrawn by the second of two voids, and still sold by its sales.
@@ -250,36 +254,192 @@ file v3.csv
 > T3,1
 run explain w void v3.csv
 = refused: E6 no line, record 2
-= ticket T3, line 1: withdrawn by command 8, v2
+= line 3: ticket T3, line 1: withdrawn by command 8, v2
 = status 2
 run explain w void v1.csv
 = refused: E6 no line, record 1
-= ticket T2, line 1: withdrawn by command 7, v1
+= line 2: ticket T2, line 1: withdrawn by command 7, v1
+= the same bytes are command 7, v1
 = status 2
 run explain w sales s3.csv
 = refused: E6 line there, record 1
-= ticket T3, line 1: sold by command 6, s3; a line is sold once
+= line 2: ticket T3, line 1: sold by command 6, s3; withdrawn by command 8, v2; a line is sold once
+= the same bytes are command 6, s3
 = status 2
 file v3.csv
 > ticket,line
 > T2,2
+> T1,1
+> T1,2
+> T8,1
 run explain w void v3.csv
 = refused: E6 no line, record 1
-= ticket T2, line 2: never sold
+= line 2: ticket T2, line 2: never sold
+= line 4: ticket T1, line 2: withdrawn by command 8, v2
+= line 5: ticket T8, line 1: never sold
 = status 2
 run check w
 = clean
 = status 0
 
-# A damaged row is met only where the commands before it haven't the line.
+# All kept commands are read: a damaged one is told, whichever has the line.
 sql w UPDATE command SET id = 's 2' WHERE number = 3
 run explain w sales again.csv
-= refused: E6 line there, record 1
-= ticket T1, line 1: sold by command 2, s1; a line is sold once
-= status 2
+= failed: E7 damaged, command
+= status 3
 run explain w sales s3.csv
 = failed: E7 damaged, command
 = status 3
+"#;
+
+/// Many lines that are there, as a till has them that sends its whole day each time, and many members; under the policy of `WANTED`.
+pub const CUMULATED: &str = r#"
+policy policy.toml
+run init w policy.toml
+= accepted 1 init: 0 records, 0 placeholders
+= status 0
+file day.csv
+> ticket,line,day,store,product,customer,quantity,amount,cost
+> T1,1,2024-06-10,S9,P01,,1,2.50,1.60
+> T1,2,2024-06-10,S9,P02,,1,2.50,1.60
+> T1,3,2024-06-10,S9,P03,,1,2.50,1.60
+> T1,4,2024-06-10,S9,P04,,1,2.50,1.60
+> T1,5,2024-06-10,S9,P05,,1,2.50,1.60
+> T1,6,2024-06-10,S9,P06,,1,2.50,1.60
+> T1,7,2024-06-10,S9,P07,,1,2.50,1.60
+> T1,8,2024-06-10,S9,P08,,1,2.50,1.60
+> T1,9,2024-06-10,S9,P09,,1,2.50,1.60
+> T1,10,2024-06-10,S9,P10,,1,2.50,1.60
+> T1,11,2024-06-10,S9,P11,,1,2.50,1.60
+> T1,12,2024-06-10,S9,P12,,1,2.50,1.60
+> T1,13,2024-06-10,S9,P13,,1,2.50,1.60
+> T1,14,2024-06-10,S9,P14,,1,2.50,1.60
+> T1,15,2024-06-10,S9,P15,,1,2.50,1.60
+> T1,16,2024-06-10,S9,P16,,1,2.50,1.60
+> T1,17,2024-06-10,S9,P17,,1,2.50,1.60
+> T1,18,2024-06-10,S9,P18,,1,2.50,1.60
+> T1,19,2024-06-10,S9,P19,,1,2.50,1.60
+> T1,20,2024-06-10,S9,P20,,1,2.50,1.60
+> T1,21,2024-06-10,S9,P21,,1,2.50,1.60
+> T1,22,2024-06-10,S9,P22,,1,2.50,1.60
+# Of 22 products and a store that are new the first 20 products are told.
+run explain w sales day.csv
+= would be accepted: 22 records, 23 placeholders
+= mentioned for the first time: product P01, P02, P03, P04, P05, P06, P07, P08, P09, P10, P11, P12, P13, P14, P15, P16, P17, P18, P19, P20 and 2 more
+= mentioned for the first time: store S9
+= status 0
+run load w sales s1 day.csv
+= accepted 2 s1: 22 records, 23 placeholders
+= status 0
+
+# The same lines behind a new one, with empty lines between.
+file evening.csv
+> ticket,line,day,store,product,customer,quantity,amount,cost
+> T2,1,2024-06-10,S9,P01,,1,2.50,1.60
+>
+> T1,1,2024-06-10,S9,P01,,1,2.50,1.60
+> T1,2,2024-06-10,S9,P02,,1,2.50,1.60
+> T1,3,2024-06-10,S9,P03,,1,2.50,1.60
+> T1,4,2024-06-10,S9,P04,,1,2.50,1.60
+> T1,5,2024-06-10,S9,P05,,1,2.50,1.60
+> T1,6,2024-06-10,S9,P06,,1,2.50,1.60
+> T1,7,2024-06-10,S9,P07,,1,2.50,1.60
+> T1,8,2024-06-10,S9,P08,,1,2.50,1.60
+> T1,9,2024-06-10,S9,P09,,1,2.50,1.60
+> T1,10,2024-06-10,S9,P10,,1,2.50,1.60
+> T1,11,2024-06-10,S9,P11,,1,2.50,1.60
+> T1,12,2024-06-10,S9,P12,,1,2.50,1.60
+> T1,13,2024-06-10,S9,P13,,1,2.50,1.60
+> T1,14,2024-06-10,S9,P14,,1,2.50,1.60
+> T1,15,2024-06-10,S9,P15,,1,2.50,1.60
+> T1,16,2024-06-10,S9,P16,,1,2.50,1.60
+> T1,17,2024-06-10,S9,P17,,1,2.50,1.60
+> T1,18,2024-06-10,S9,P18,,1,2.50,1.60
+> T1,19,2024-06-10,S9,P19,,1,2.50,1.60
+> T1,20,2024-06-10,S9,P20,,1,2.50,1.60
+> T1,21,2024-06-10,S9,P21,,1,2.50,1.60
+> T1,22,2024-06-10,S9,P22,,1,2.50,1.60
+run explain w sales evening.csv
+= refused: E6 line there, record 2
+= line 4: ticket T1, line 1: sold by command 2, s1; a line is sold once
+= line 5: ticket T1, line 2: sold by command 2, s1; a line is sold once
+= line 6: ticket T1, line 3: sold by command 2, s1; a line is sold once
+= line 7: ticket T1, line 4: sold by command 2, s1; a line is sold once
+= line 8: ticket T1, line 5: sold by command 2, s1; a line is sold once
+= line 9: ticket T1, line 6: sold by command 2, s1; a line is sold once
+= line 10: ticket T1, line 7: sold by command 2, s1; a line is sold once
+= line 11: ticket T1, line 8: sold by command 2, s1; a line is sold once
+= line 12: ticket T1, line 9: sold by command 2, s1; a line is sold once
+= line 13: ticket T1, line 10: sold by command 2, s1; a line is sold once
+= line 14: ticket T1, line 11: sold by command 2, s1; a line is sold once
+= line 15: ticket T1, line 12: sold by command 2, s1; a line is sold once
+= line 16: ticket T1, line 13: sold by command 2, s1; a line is sold once
+= line 17: ticket T1, line 14: sold by command 2, s1; a line is sold once
+= line 18: ticket T1, line 15: sold by command 2, s1; a line is sold once
+= line 19: ticket T1, line 16: sold by command 2, s1; a line is sold once
+= line 20: ticket T1, line 17: sold by command 2, s1; a line is sold once
+= line 21: ticket T1, line 18: sold by command 2, s1; a line is sold once
+= line 22: ticket T1, line 19: sold by command 2, s1; a line is sold once
+= line 23: ticket T1, line 20: sold by command 2, s1; a line is sold once
+= and 2 more
+= status 2
+
+# Twenty are told, and no more.
+file evening.csv
+> ticket,line,day,store,product,customer,quantity,amount,cost
+> T1,1,2024-06-10,S9,P01,,1,2.50,1.60
+> T1,2,2024-06-10,S9,P02,,1,2.50,1.60
+> T1,3,2024-06-10,S9,P03,,1,2.50,1.60
+> T1,4,2024-06-10,S9,P04,,1,2.50,1.60
+> T1,5,2024-06-10,S9,P05,,1,2.50,1.60
+> T1,6,2024-06-10,S9,P06,,1,2.50,1.60
+> T1,7,2024-06-10,S9,P07,,1,2.50,1.60
+> T1,8,2024-06-10,S9,P08,,1,2.50,1.60
+> T1,9,2024-06-10,S9,P09,,1,2.50,1.60
+> T1,10,2024-06-10,S9,P10,,1,2.50,1.60
+> T1,11,2024-06-10,S9,P11,,1,2.50,1.60
+> T1,12,2024-06-10,S9,P12,,1,2.50,1.60
+> T1,13,2024-06-10,S9,P13,,1,2.50,1.60
+> T1,14,2024-06-10,S9,P14,,1,2.50,1.60
+> T1,15,2024-06-10,S9,P15,,1,2.50,1.60
+> T1,16,2024-06-10,S9,P16,,1,2.50,1.60
+> T1,17,2024-06-10,S9,P17,,1,2.50,1.60
+> T1,18,2024-06-10,S9,P18,,1,2.50,1.60
+> T1,19,2024-06-10,S9,P19,,1,2.50,1.60
+> T1,20,2024-06-10,S9,P20,,1,2.50,1.60
+run explain w sales evening.csv
+= refused: E6 line there, record 1
+= line 2: ticket T1, line 1: sold by command 2, s1; a line is sold once
+= line 3: ticket T1, line 2: sold by command 2, s1; a line is sold once
+= line 4: ticket T1, line 3: sold by command 2, s1; a line is sold once
+= line 5: ticket T1, line 4: sold by command 2, s1; a line is sold once
+= line 6: ticket T1, line 5: sold by command 2, s1; a line is sold once
+= line 7: ticket T1, line 6: sold by command 2, s1; a line is sold once
+= line 8: ticket T1, line 7: sold by command 2, s1; a line is sold once
+= line 9: ticket T1, line 8: sold by command 2, s1; a line is sold once
+= line 10: ticket T1, line 9: sold by command 2, s1; a line is sold once
+= line 11: ticket T1, line 10: sold by command 2, s1; a line is sold once
+= line 12: ticket T1, line 11: sold by command 2, s1; a line is sold once
+= line 13: ticket T1, line 12: sold by command 2, s1; a line is sold once
+= line 14: ticket T1, line 13: sold by command 2, s1; a line is sold once
+= line 15: ticket T1, line 14: sold by command 2, s1; a line is sold once
+= line 16: ticket T1, line 15: sold by command 2, s1; a line is sold once
+= line 17: ticket T1, line 16: sold by command 2, s1; a line is sold once
+= line 18: ticket T1, line 17: sold by command 2, s1; a line is sold once
+= line 19: ticket T1, line 18: sold by command 2, s1; a line is sold once
+= line 20: ticket T1, line 19: sold by command 2, s1; a line is sold once
+= line 21: ticket T1, line 20: sold by command 2, s1; a line is sold once
+= status 2
+
+# A fact that no command sold is there all the same.
+sql w UPDATE fact SET ticket = 'T9' WHERE line = 22
+file found.csv
+> ticket,line,day,store,product,customer,quantity,amount,cost
+> T9,22,2024-06-10,S9,P01,,1,2.50,1.60
+run explain w sales found.csv
+= refused: E6 line there, record 1
+= line 2: ticket T9, line 22: sold before; a line is sold once
+= status 2
 "#;
 
 /// Headers, under the policy of `WANTED`.

@@ -16,6 +16,11 @@ fn sources(rt: HostRuntime) -> Result<(), Fail> {
 }
 
 #[test]
+fn cumulated(rt: HostRuntime) -> Result<(), Fail> {
+    check::<ProgramDriver>(rt.alloc(), &[explained::CUMULATED])
+}
+
+#[test]
 fn headers(rt: HostRuntime) -> Result<(), Fail> {
     check::<ProgramDriver>(rt.alloc(), &[explained::HEADERS])
 }

@@ -1,17 +1,17 @@
 use Rattle.std.specs.Prelude.{Option}
 use Rattle.wh_store.specs.Reads.{state_of}
-use Rattle.wh_explain.specs.declared.line.Source.{Source}
+use Rattle.wh_explain.specs.declared.line.TracedLines.{TracedLines}
 use Rattle.wh_program.proofs.ExplainLemmas.{told_in_place, of_refusal}
 use Rattle.wh_program.proofs.visits.explain.traced.Goals as goal
 
-pub returns-in-Ok-source_of-clause-previewed : goal.returns-in-Ok-source_of-clause-previewed
-returns-in-Ok-source_of-clause-previewed g c = λ clean limits commands ready.
-    let read = c.source_of.ensures in
+pub returns-in-Ok-lines_of-clause-previewed : goal.returns-in-Ok-lines_of-clause-previewed
+returns-in-Ok-lines_of-clause-previewed g c = λ clean limits commands ready.
+    let read = c.lines_of.ensures in
     let refused = of_refusal limits commands c.args.kind c.args.bytes.now _ c.in-Err-Refused.why _ _ c.in-Err-Refused.field-0-is (c.in-Err-Refused.ensures.previewed (read.spares.clean clean) limits commands ready) in
-    (refused.0, (c.in-Ok-source_of.ensures.serves clean limits commands refused.1).1)
+    (refused.0, (c.in-Ok-lines_of.ensures.serves clean limits commands refused.1).1)
 
-pub returns-in-Err-source_of-clause-previewed : goal.returns-in-Err-source_of-clause-previewed
-returns-in-Err-source_of-clause-previewed g c = λ clean limits commands ready.
-    let read = c.source_of.ensures in
+pub returns-in-Err-lines_of-clause-previewed : goal.returns-in-Err-lines_of-clause-previewed
+returns-in-Err-lines_of-clause-previewed g c = λ clean limits commands ready.
+    let read = c.lines_of.ensures in
     let refused = of_refusal limits commands c.args.kind c.args.bytes.now _ c.in-Err-Refused.why _ _ c.in-Err-Refused.field-0-is (c.in-Err-Refused.ensures.previewed (read.spares.clean clean) limits commands ready) in
-    told_in_place (Option Source) limits commands c.args.kind c.args.bytes.now _ c.source_of.new.engine.session (state_of g.S.Store c.source_of.new.engine.tables) (c.in-Err-source_of.ensures.serves clean limits commands refused.1)
+    told_in_place (Option TracedLines) limits commands c.args.kind c.args.bytes.now _ c.lines_of.new.engine.session (state_of g.S.Store c.lines_of.new.engine.tables) (c.in-Err-lines_of.ensures.serves clean limits commands refused.1)

@@ -1,6 +1,6 @@
 use Rattle.std.specs.Prelude.{Ok}
 use Rattle.wh_engine.specs.Scanned.{EngineReadsThrough}
-use Rattle.wh_program.proofs.visits.explain.first_with.Given as goal
+use Rattle.wh_program.proofs.visits.explain.noted.Given as goal
 
 -- the engine was read, and no more
 abbrev pub invariant-commands : goal.invariant-commands

@@ -1,7 +1,7 @@
 use Rattle.std.specs.Prelude.{Ok, Err}
 use Rattle.std.proofs.lemmas.Result.{err_from_is_err_and}
 use Rattle.wh_report.proofs.EngineReading.{through, unread, and_then, answered, faulted, handed_out, out_of_memory}
-use Rattle.wh_program.proofs.visits.explain.first_with.Goals as goal
+use Rattle.wh_program.proofs.visits.explain.noted.Goals as goal
 
 pub commands-init : goal.commands-init
 commands-init g c = unread _ _ tt
@@ -17,13 +17,10 @@ returns-in_err-row g c =
 pub returns-in_default : goal.returns-in_default
 returns-in_default g c = answered _ _ _ _ _ _ (and_then _ _ _ _ _ _ tt (Ok c.in_ok-row.field-0) c.commands.invariant (through g.S.Store _ _ _ c.in_ok-row.ensures.reads c.in_ok-row.ensures.serves))
 
-pub returns-in_err-is_of : goal.returns-in_err-is_of
-returns-in_err-is_of g c =
-    let p = err_from_is_err_and c.from_residual-in_err-is_of.result c.from_residual-in_err-is_of.ensures.1 in
+pub returns-in_err-note : goal.returns-in_err-note
+returns-in_err-note g c =
+    let p = err_from_is_err_and c.from_residual-in_err-note.result c.from_residual-in_err-note.ensures.1 in
     rw (p.1, p.2) (out_of_memory _ _ _ _ tt (handed_out _ _ _ _ _ _ _ c.in_ok-row.field-0 c.commands.invariant (through g.S.Store _ _ _ c.in_ok-row.ensures.reads c.in_ok-row.ensures.serves)))
-
-pub returns-then-branch : goal.returns-then-branch
-returns-then-branch g c = answered _ _ _ _ _ _ (and_then _ _ _ _ _ _ tt (Ok c.in_ok-row.field-0) c.commands.invariant (through g.S.Store _ _ _ c.in_ok-row.ensures.reads c.in_ok-row.ensures.serves))
 
 pub returns : goal.returns
 returns g c = out_of_memory _ _ _ _ _ c.commands.invariant
