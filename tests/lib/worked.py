@@ -91,6 +91,7 @@ FILES = {
     "policy": POLICY.encode(),
     "m1": POLICY.replace(BRAND, BRAND.replace("2", "1")).encode(),
     "m3": POLICY.replace(BRAND + CATEGORY, CATEGORY + BRAND).encode(),
+    "m5": POLICY.replace(BRAND, BRAND.replace("2", "8")).encode(),
     "p0": batch("product"),
     "p00": b"",
     "p1": batch("product", "P1,2024-01-10,Cola 1l,Acme,Drinks,Grocery,2019,North"),
@@ -165,6 +166,11 @@ refused: E3 batch, B2 wrong header, record 0
 line 1, column 1 "id": nothing stands there
 wanted: id,day,description,brand,category,department,launched,supplier
 there: nothing"""),
+    (2, "explain w store", """\
+id,day,city
+column 1 "id": 1 to 32 letters A-Z or a-z, digits, -, _ and .
+column 2 "day": a day as YYYY-MM-DD, from 1900-01-01 to 2199-12-31
+column 3 "city": nothing, or up to 60 bytes of UTF-8 without control characters and without ( in front"""),
     (2, "load w product p1 p1", "accepted 3 p1: 1 records, 0 placeholders"),
     (2, "load w product p2 p2", "accepted 4 p2: 1 records, 0 placeholders"),
     (2, "dump w product", """\
@@ -222,11 +228,24 @@ mentioned for the first time: customer C9"""),
     (12, "migrate w m2 policy", "accepted 17 m2: 0 records, 0 placeholders"),
     (12, "dump w product", PRODUCTS + "9,2,P9,19000101,99991231,1,Tea 50,Leaf,Drinks,Grocery,2024,North,,,Drinks,,,(none),0"),
     (12, "migrate w m3 m3", "refused: E5 policy does not fit"),
+    (12, "explain w migrate m3", """\
+refused: E5 policy does not fit
+product: attribute 2 "brand" has to stay in its place; "category" stands there
+product: attribute 3 "category" has to stay in its place; "brand" stands there"""),
+    (12, "explain w migrate m5", """\
+refused: E4 policy, P5 bad type
+[[product]] number 2, key "type": the number 8 stands there; a type is a whole number from 0 to 7, without quotes"""),
     (13, "load w product p1 p1", "already 3 p1: 1 records, 0 placeholders"),
     (13, "load w product p1 p1-longer", "refused: E2 id reused"),
     (13, "load w sales s3 s3", "refused: E6 line there, record 2"),
+    (13, "explain w sales s3", """\
+refused: E6 line there, record 2
+line 3: ticket T2, line 1: sold by command 12, s2; a line is sold once"""),
     (14, "load w sales s4 s4", "accepted 18 s4: 1 records, 0 placeholders"),
     (14, "load w sales s6 s6", "refused: E3 batch, B5 bad day, record 1"),
+    (14, "explain w sales s6", """\
+refused: E3 batch, B5 bad day, record 1
+line 2, column 3 "day": '2023-02-29' is no real day; wanted: a day as YYYY-MM-DD"""),
     (14, "load w sales s7 s7", "refused: E3 batch, B9 outside calendar, record 1"),
     (14, "dump w fact", "T0,1,20231231,1,1,0,1,1,0,0,1,250,160\nT1,1,20240205,1,3,0,1,1,0,0,2,500,320\nT2,1,20240610,1,9,1,1,2,1,2,1,1000,700\nT4,1,20240229,1,3,0,1,1,0,0,1,250,160"),
     (15, f"report w product.brand is {DAYS}", "refused: G2 no reading, type 2 is"),
