@@ -888,6 +888,12 @@ run explain w migrate p.toml
 = line 1: no UTF-8; a policy is a text in TOML
 = the file looks like UTF-16; UTF-8 is wanted
 = status 2
+bytes p.toml PK\x03\x04\xFF
+run explain w migrate p.toml
+= refused: E4 policy, P1 not toml
+= line 1: no UTF-8; a policy is a text in TOML
+= the file is a zip or Excel file; it has to be exported as TOML
+= status 2
 long p.toml 65537
 run explain w migrate p.toml
 = refused: E4 policy, P1 not toml
