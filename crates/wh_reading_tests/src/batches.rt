@@ -316,7 +316,10 @@ fn push_found(answer: &mut String, bytes: &[u8], found: &Faults) -> Result<(), A
 fn push_located(answer: &mut String, bytes: &[u8], listed: &ListedFault) -> Result<(), AllocError> {
     let fault = &listed.fault.fault;
     push_number(answer, fault.number as i128)?;
-    push_next(answer, lines_above(bytes, listed.row.start) as i128 + 1)?;
+    push_next(
+        answer,
+        lines_above(bytes, listed.row.start).saturating_add(1) as i128,
+    )?;
     match &listed.fault.field {
         None => write!(answer, " - {:?}", fault.kind)?,
         Some(field) => {
